@@ -1,0 +1,54 @@
+use crate::byte_list::Bytes;
+use crate::moments::{Moment, ObjectId};
+
+/// What a session may do, set by whoever opens it.
+#[derive(Clone, Copy, Debug, PartialEq, Eq)]
+pub enum Role {
+    /// Reads and changes objects.
+    Client,
+    /// Also sets the window and hides spans of moments.
+    Admin,
+}
+
+/// What a session asks of the drive. Sizes, offsets and lengths are in bytes.
+#[derive(Debug, Drop, PartialEq, Eq)]
+pub enum Request {
+    /// Makes the next object, empty, with this attribute.
+    Create { attribute: Bytes },
+    /// Makes the object absent from now on.
+    Delete { object: ObjectId },
+    /// At most `length` bytes from `offset` on, at a moment or, without one, at the present clock.
+    Read {
+        object: ObjectId,
+        offset: u64,
+        length: u32,
+        at: Option<Moment>,
+    },
+    /// Places bytes at `offset`, with zeros between the old end and the offset.
+    Write {
+        object: ObjectId,
+        offset: u64,
+        bytes: Bytes,
+    },
+    /// A write at the present size.
+    Append { object: ObjectId, bytes: Bytes },
+    /// Cuts the object to `size`, or lengthens it by zeros.
+    Truncate { object: ObjectId, size: u64 },
+    /// Size, moments and attribute, at a moment or, without one, at the present clock.
+    GetAttr {
+        object: ObjectId,
+        at: Option<Moment>,
+    },
+    /// Replaces the attribute.
+    SetAttr { object: ObjectId, attribute: Bytes },
+    /// Sets how many moments back from the clock are kept.
+    SetWindow { window: u64 },
+    /// Hides the moments from `first` to `last` of all objects.
+    Flush { first: Moment, last: Moment },
+    /// Hides the moments from `first` to `last` of one object.
+    FlushO {
+        object: ObjectId,
+        first: Moment,
+        last: Moment,
+    },
+}
