@@ -1,13 +1,8 @@
 -- The history that a drive stands for: what it began with, and what came since.
 use Rattle.std.specs.Prelude.{ℕ, List, [], ◌∷◌}
 use Rattle.s4_types.specs.declared.changes.Accepted.{Accepted}
+use Rattle.s4_types.specs.declared.spans.Span.{Span}
 use Rattle.s4_types.specs.declared.versions.Version.{Version}
-
--- A span of moments that are hidden, both ends in it: of one object, or of all objects where the object is 0.
-pub record Span : Type 0 where
-  pub object : ℕ
-  pub first : ℕ
-  pub last : ℕ
 
 -- What a drive begins with: for objects their versions, each with the moment from which it is current, by
 -- ascending moments; the four numbers; the spans.

@@ -1,3 +1,4 @@
 pub mod Pointer
 pub mod History
 pub mod RefusalNumber
+pub mod Sizes

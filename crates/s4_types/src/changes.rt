@@ -5,9 +5,14 @@ use crate::moments::{Moment, ObjectId};
 #[derive(Debug, Drop, PartialEq, Eq)]
 pub enum Change {
     /// The object becomes live and empty, with this attribute.
-    Create { object: ObjectId, attribute: Bytes },
+    Create {
+        object: ObjectId,
+        attribute: Bytes,
+    },
     /// The object becomes absent.
-    Delete { object: ObjectId },
+    Delete {
+        object: ObjectId,
+    },
     /// Bytes placed at an offset, in bytes.
     Write {
         object: ObjectId,
@@ -15,13 +20,24 @@ pub enum Change {
         bytes: Bytes,
     },
     /// Cut or lengthened to a size, in bytes.
-    Truncate { object: ObjectId, size: u64 },
+    Truncate {
+        object: ObjectId,
+        size: u64,
+    },
     /// The attribute replaced.
-    SetAttr { object: ObjectId, attribute: Bytes },
+    SetAttr {
+        object: ObjectId,
+        attribute: Bytes,
+    },
     /// The detection window, in moments.
-    SetWindow { window: u64 },
+    SetWindow {
+        window: u64,
+    },
     /// The moments from `first` to `last` hidden, of all objects.
-    Flush { first: Moment, last: Moment },
+    Flush {
+        first: Moment,
+        last: Moment,
+    },
     /// The moments from `first` to `last` hidden, of one object.
     FlushO {
         object: ObjectId,

@@ -15,6 +15,7 @@ mod pointers;
 mod refusals;
 mod replies;
 mod requests;
+mod spans;
 mod versions;
 
 pub use byte_list::Bytes;
@@ -24,4 +25,5 @@ pub use pointers::Ptr;
 pub use refusals::{Cause, Refusal};
 pub use replies::Reply;
 pub use requests::{Request, Role};
+pub use spans::Span;
 pub use versions::Version;

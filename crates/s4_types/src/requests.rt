@@ -14,9 +14,13 @@ pub enum Role {
 #[derive(Debug, Drop, PartialEq, Eq)]
 pub enum Request {
     /// Makes the next object, empty, with this attribute.
-    Create { attribute: Bytes },
+    Create {
+        attribute: Bytes,
+    },
     /// Makes the object absent from now on.
-    Delete { object: ObjectId },
+    Delete {
+        object: ObjectId,
+    },
     /// At most `length` bytes from `offset` on, at a moment or, without one, at the present clock.
     Read {
         object: ObjectId,
@@ -31,20 +35,34 @@ pub enum Request {
         bytes: Bytes,
     },
     /// A write at the present size.
-    Append { object: ObjectId, bytes: Bytes },
+    Append {
+        object: ObjectId,
+        bytes: Bytes,
+    },
     /// Cuts the object to `size`, or lengthens it by zeros.
-    Truncate { object: ObjectId, size: u64 },
+    Truncate {
+        object: ObjectId,
+        size: u64,
+    },
     /// Size, moments and attribute, at a moment or, without one, at the present clock.
     GetAttr {
         object: ObjectId,
         at: Option<Moment>,
     },
     /// Replaces the attribute.
-    SetAttr { object: ObjectId, attribute: Bytes },
+    SetAttr {
+        object: ObjectId,
+        attribute: Bytes,
+    },
     /// Sets how many moments back from the clock are kept.
-    SetWindow { window: u64 },
+    SetWindow {
+        window: u64,
+    },
     /// Hides the moments from `first` to `last` of all objects.
-    Flush { first: Moment, last: Moment },
+    Flush {
+        first: Moment,
+        last: Moment,
+    },
     /// Hides the moments from `first` to `last` of one object.
     FlushO {
         object: ObjectId,

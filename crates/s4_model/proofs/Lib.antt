@@ -1,0 +1,5 @@
+pub mod StateLemmas
+pub mod PlainLemmas
+pub mod StepLemmas
+pub mod CountLemmas
+pub mod RunLemmas

@@ -1,0 +1,11 @@
+pub mod Effect
+pub mod Numbers
+pub mod State
+pub mod VersionAt
+pub mod Visible
+pub mod Runs
+pub mod Refusals
+pub mod Step
+pub mod Limits
+pub mod Plain
+pub mod RunCounting
