@@ -3,3 +3,14 @@ pub mod PlainLemmas
 pub mod StepLemmas
 pub mod CountLemmas
 pub mod RunLemmas
+pub mod VersionLemmas
+pub mod OutcomeLemmas
+pub mod GrantedLemmas
+pub mod SoundLemmas
+pub mod EraseLaws
+pub mod ClockLaws
+pub mod FlushLaws
+pub mod NumberLaws
+pub mod TotalLaws
+pub mod RunLaws
+pub mod ListLaws

@@ -9,3 +9,6 @@ pub mod Step
 pub mod Limits
 pub mod Plain
 pub mod RunCounting
+pub mod Sound
+pub mod Exchanges
+pub mod Laws

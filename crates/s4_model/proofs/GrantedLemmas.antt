@@ -1,0 +1,125 @@
+-- What is known where no refusal applies.
+use Rattle.std.proofs.Common.{◌≡◌, ℕ, ◌<◌, ◌≤◌, ◌==◌, ◌&&◌, Bool, true, false, not, cond, leb, inl, inr, List, [], ◌∷◌, None, Some, refl, ap, sym, ◌∙◌, subst, true≢false, arith, find}
+use Rattle.std.proofs.lemmas.Bool.{not-false, and_parts, or_parts, leb-true, leb-false, eqb-true, cases_lt}
+use Rattle.std.specs.List.{AllByRecursion, cons_option}
+use Rattle.s4_types.specs.declared.changes.Change.{Change}
+use Rattle.s4_types.specs.declared.changes.Change.TheVariants as change
+use Rattle.s4_types.specs.declared.requests.Role.{Role}
+use Rattle.s4_types.specs.declared.requests.Role.TheVariants.{Client}
+use Rattle.s4_types.specs.declared.requests.Request.{Request}
+use Rattle.s4_types.specs.declared.requests.Request.TheVariants.{Create, Delete, Read, Write, Append, Truncate, GetAttr, SetAttr, SetWindow, Flush, FlushO}
+use Rattle.s4_types.specs.declared.versions.Version.TheVariants.{Absent}
+use Rattle.s4_model.specs.Effect.{is_change_of}
+use Rattle.s4_model.specs.Numbers.{next_by}
+use Rattle.s4_model.specs.State.{State}
+use Rattle.s4_model.specs.VersionAt.{version_of}
+use Rattle.s4_model.specs.Visible.{span_by}
+use Rattle.s4_model.specs.Refusals.{first_refusal, applies, checks, is_absent, is_of_no_object}
+use Rattle.s4_model.specs.Step.{change_of}
+use Rattle.s4_model.specs.Sound.{IsOfGiven}
+
+none_found : {X : Type 0} (p : X → Bool) (xs : List X) → find p xs ≡ None → AllByRecursion (λ x. p x ≡ false) xs
+none_found p [] e = tt
+none_found p (x ∷ xs) e =
+    (elim (p x) as (λ b. cond b (Some x) (find p xs) ≡ None → (b ≡ false) × AllByRecursion (λ y. p y ≡ false) xs) [
+      | true ↦ λ clash. absurd (cc)
+      | false ↦ λ rest. (refl, none_found p xs rest)
+    ]) e
+
+-- none of the checks applies
+pub none_applies : (s : State) (role : Role) (request : Request) → first_refusal s role request ≡ None → AllByRecursion (λ r. applies s role request r ≡ false) checks
+none_applies s role request e = none_found (applies s role request) checks e
+
+-- what holds of the change that is asked for holds of the one that is taken
+asked_change : (P : Change → Type 0) (asks takes : Change) → Some asks ≡ Some takes → P asks → P takes
+asked_change P asks takes e p = let same : asks ≡ takes = cc in subst P same p
+
+-- what is shown below of the changes that are granted
+abbrev IsBorn : State → ℕ → Change → Type 0
+IsBorn s o c = is_change_of o c ≡ true → o < next_by c s.next
+
+abbrev SpanEnds : State → Change → Type 0
+SpanEnds s c = AllByRecursion (λ span. span.last ≤ s.clock) (cons_option (span_by c) [])
+
+abbrev SpanIsOwned : State → Change → Type 0
+SpanIsOwned s c = AllByRecursion (IsOfGiven s.next) (cons_option (span_by c) [])
+
+abbrev HidesNothing : Change → Type 0
+HidesNothing c = span_by c ≡ None
+
+-- an object that is there has a number that was given
+there_is_born : (s : State) (o t : ℕ) → ((x u : ℕ) → s.next ≤ x → version_of s x u ≡ Absent) → is_absent (version_of s o t) ≡ false → o < s.next
+there_is_born s o t unborn e = elim (cases_lt o s.next) as (λ _. o < s.next) [
+  | inl lt ↦ lt
+  | inr ge ↦ absurd (true≢false (sym (ap is_absent (unborn o t ge)) ∙ e))
+]
+
+same_number : (a b next : ℕ) → (a == b) ≡ true → a < next → b < next
+same_number a b next e lt = subst (λ x. x < next) (eqb-true a b e) lt
+
+-- the check that refuses what is of no object
+pub object_is_there : (s : State) (role : Role) (request : Request) → first_refusal s role request ≡ None → is_of_no_object s request ≡ false
+object_is_there s role request e = (none_applies s role request e).1.1.1.1.1.1.1.0
+
+-- a change that is granted is of an object whose number is given by then
+pub granted_is_born : (s : State) (role : Role) (request : Request) (taken : Change) (o : ℕ) → ((x u : ℕ) → s.next ≤ x → version_of s x u ≡ Absent) → first_refusal s role request ≡ None → change_of s request ≡ Some taken → is_change_of o taken ≡ true → o < next_by taken s.next
+granted_is_born s role (Create attribute) taken o unborn granted asks = asked_change (IsBorn s o) (change.Create s.next attribute) taken asks (λ e. let same : s.next ≡ o = eqb-true s.next o e in omega arith)
+granted_is_born s role (Delete object) taken o unborn granted asks = asked_change (IsBorn s o) (change.Delete object) taken asks (λ e. same_number object o s.next e (there_is_born s object s.clock unborn (object_is_there s role (Delete object) granted)))
+granted_is_born s role (Read object offset len at) taken o unborn granted asks = cc
+granted_is_born s role (Write object offset bytes) taken o unborn granted asks = asked_change (IsBorn s o) (change.Write object offset bytes) taken asks (λ e. same_number object o s.next e (there_is_born s object s.clock unborn (object_is_there s role (Write object offset bytes) granted)))
+granted_is_born s role (Append object bytes) taken o unborn granted asks = asked_change (IsBorn s o) _ taken asks (λ e. same_number object o s.next e (there_is_born s object s.clock unborn (object_is_there s role (Append object bytes) granted)))
+granted_is_born s role (Truncate object size) taken o unborn granted asks = asked_change (IsBorn s o) (change.Truncate object size) taken asks (λ e. same_number object o s.next e (there_is_born s object s.clock unborn (object_is_there s role (Truncate object size) granted)))
+granted_is_born s role (GetAttr object at) taken o unborn granted asks = cc
+granted_is_born s role (SetAttr object attribute) taken o unborn granted asks = asked_change (IsBorn s o) (change.SetAttr object attribute) taken asks (λ e. same_number object o s.next e (there_is_born s object s.clock unborn (object_is_there s role (SetAttr object attribute) granted)))
+granted_is_born s role (SetWindow window) taken o unborn granted asks = asked_change (IsBorn s o) (change.SetWindow window) taken asks (λ e. absurd (true≢false (sym e)))
+granted_is_born s role (Flush first last) taken o unborn granted asks = asked_change (IsBorn s o) (change.Flush first last) taken asks (λ e. absurd (true≢false (sym e)))
+granted_is_born s role (FlushO object first last) taken o unborn granted asks = asked_change (IsBorn s o) (change.FlushO object first last) taken asks (λ e. absurd (true≢false (sym e)))
+
+span_end : (first last clock : ℕ) → not (leb first last && leb last clock) ≡ false → last ≤ clock
+span_end first last clock e = leb-true last clock (and_parts (leb first last) (leb last clock) (not-false (leb first last && leb last clock) e)).1
+
+-- a span that is granted ends at or before the clock
+pub granted_span_ends : (s : State) (role : Role) (request : Request) (taken : Change) → first_refusal s role request ≡ None → change_of s request ≡ Some taken → AllByRecursion (λ span. span.last ≤ s.clock) (cons_option (span_by taken) [])
+granted_span_ends s role (Create attribute) taken granted asks = asked_change (SpanEnds s) (change.Create s.next attribute) taken asks tt
+granted_span_ends s role (Delete object) taken granted asks = asked_change (SpanEnds s) (change.Delete object) taken asks tt
+granted_span_ends s role (Read object offset len at) taken granted asks = cc
+granted_span_ends s role (Write object offset bytes) taken granted asks = asked_change (SpanEnds s) (change.Write object offset bytes) taken asks tt
+granted_span_ends s role (Append object bytes) taken granted asks = asked_change (SpanEnds s) _ taken asks tt
+granted_span_ends s role (Truncate object size) taken granted asks = asked_change (SpanEnds s) (change.Truncate object size) taken asks tt
+granted_span_ends s role (GetAttr object at) taken granted asks = cc
+granted_span_ends s role (SetAttr object attribute) taken granted asks = asked_change (SpanEnds s) (change.SetAttr object attribute) taken asks tt
+granted_span_ends s role (SetWindow window) taken granted asks = asked_change (SpanEnds s) (change.SetWindow window) taken asks tt
+granted_span_ends s role (Flush first last) taken granted asks = asked_change (SpanEnds s) (change.Flush first last) taken asks (span_end first last s.clock (none_applies s role (Flush first last) granted).1.1.1.0, tt)
+granted_span_ends s role (FlushO object first last) taken granted asks = asked_change (SpanEnds s) (change.FlushO object first last) taken asks (span_end first last s.clock (none_applies s role (FlushO object first last) granted).1.1.1.0, tt)
+
+-- a span that is granted is of a number that was given, or of all objects
+pub granted_span_is_owned : (s : State) (role : Role) (request : Request) (taken : Change) → 1 ≤ s.next → first_refusal s role request ≡ None → change_of s request ≡ Some taken → AllByRecursion (IsOfGiven s.next) (cons_option (span_by taken) [])
+granted_span_is_owned s role (Create attribute) taken low granted asks = asked_change (SpanIsOwned s) (change.Create s.next attribute) taken asks tt
+granted_span_is_owned s role (Delete object) taken low granted asks = asked_change (SpanIsOwned s) (change.Delete object) taken asks tt
+granted_span_is_owned s role (Read object offset len at) taken low granted asks = cc
+granted_span_is_owned s role (Write object offset bytes) taken low granted asks = asked_change (SpanIsOwned s) (change.Write object offset bytes) taken asks tt
+granted_span_is_owned s role (Append object bytes) taken low granted asks = asked_change (SpanIsOwned s) _ taken asks tt
+granted_span_is_owned s role (Truncate object size) taken low granted asks = asked_change (SpanIsOwned s) (change.Truncate object size) taken asks tt
+granted_span_is_owned s role (GetAttr object at) taken low granted asks = cc
+granted_span_is_owned s role (SetAttr object attribute) taken low granted asks = asked_change (SpanIsOwned s) (change.SetAttr object attribute) taken asks tt
+granted_span_is_owned s role (SetWindow window) taken low granted asks = asked_change (SpanIsOwned s) (change.SetWindow window) taken asks tt
+granted_span_is_owned s role (Flush first last) taken low granted asks = asked_change (SpanIsOwned s) (change.Flush first last) taken asks (omega arith, tt)
+granted_span_is_owned s role (FlushO object first last) taken low granted asks = asked_change (SpanIsOwned s) (change.FlushO object first last) taken asks (leb-false s.next object (or_parts (object == 0) (leb s.next object) (object_is_there s role (FlushO object first last) granted)).1, tt)
+
+-- what a client is granted hides nothing
+pub client_hides_nothing : (s : State) (request : Request) (taken : Change) → first_refusal s Client request ≡ None → change_of s request ≡ Some taken → span_by taken ≡ None
+client_hides_nothing s (Create attribute) taken granted asks = asked_change HidesNothing (change.Create s.next attribute) taken asks refl
+client_hides_nothing s (Delete object) taken granted asks = asked_change HidesNothing (change.Delete object) taken asks refl
+client_hides_nothing s (Read object offset len at) taken granted asks = cc
+client_hides_nothing s (Write object offset bytes) taken granted asks = asked_change HidesNothing (change.Write object offset bytes) taken asks refl
+client_hides_nothing s (Append object bytes) taken granted asks = asked_change HidesNothing _ taken asks refl
+client_hides_nothing s (Truncate object size) taken granted asks = asked_change HidesNothing (change.Truncate object size) taken asks refl
+client_hides_nothing s (GetAttr object at) taken granted asks = cc
+client_hides_nothing s (SetAttr object attribute) taken granted asks = asked_change HidesNothing (change.SetAttr object attribute) taken asks refl
+client_hides_nothing s (SetWindow window) taken granted asks = absurd (true≢false (none_applies s Client (SetWindow window) granted).0)
+client_hides_nothing s (Flush first last) taken granted asks = absurd (true≢false (none_applies s Client (Flush first last) granted).0)
+client_hides_nothing s (FlushO object first last) taken granted asks = absurd (true≢false (none_applies s Client (FlushO object first last) granted).0)
+
+-- a span that is granted over an object is of one
+pub granted_object_is_no_zero : (s : State) (role : Role) (object first last : ℕ) → first_refusal s role (FlushO object first last) ≡ None → (object == 0) ≡ false
+granted_object_is_no_zero s role object first last granted = (or_parts (object == 0) (leb s.next object) (object_is_there s role (FlushO object first last) granted)).0

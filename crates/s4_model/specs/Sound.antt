@@ -1,0 +1,39 @@
+-- What holds of each history that a drive can have.
+use Rattle.std.specs.Prelude.{◌≡◌, ℕ, ◌+◌, ◌<◌, ◌≤◌, List, [], ◌∷◌}
+use Rattle.std.specs.List.{AllByRecursion}
+use Rattle.s4_types.specs.declared.spans.Span.{Span}
+use Rattle.s4_types.specs.declared.changes.Accepted.{Accepted}
+use Rattle.s4_types.specs.declared.versions.Version.TheVariants.{Absent}
+use Rattle.s4_model.specs.State.{State}
+use Rattle.s4_model.specs.VersionAt.{version_of}
+use Rattle.s4_model.specs.Visible.{spans_of}
+
+-- the moments of these changes ascend strictly, from above one number up to another
+abbrev pub Ascends : ℕ → List Accepted → ℕ → Type 0
+Ascends low [] high = low ≤ high
+Ascends low (a ∷ changes) high = (low < a.moment) × Ascends a.moment changes high
+
+-- whether a span ends before a moment
+abbrev pub EndsBefore : ℕ → Span → Type 0
+EndsBefore t span = span.last < t
+
+-- whether a span is of all objects, which stand under 0, or of one whose number is below next
+abbrev pub IsOfGiven : ℕ → Span → Type 0
+IsOfGiven next span = span.object < next
+
+-- these changes are numbered upwards, one by one
+abbrev pub AreCounted : ℕ → List Accepted → Type 0
+AreCounted number [] = Unit {0}
+AreCounted number (a ∷ changes) = (a.number ≡ number) × AreCounted (number + 1) changes
+
+-- A state that a drive can have: the floor isn't above the clock, objects are numbered from 1 and changes too,
+-- moments ascend strictly from the base's clock to the clock, spans end before the clock and are of numbers
+-- that were given, and the others are of no object.
+pub record IsSound (s : State) : Type 0 where
+  pub floor_reached : s.floor ≤ s.clock
+  pub numbered : 1 ≤ s.next
+  pub counted : AreCounted 1 s.changes
+  pub stamped : Ascends s.opened s.changes s.clock
+  pub past : AllByRecursion (EndsBefore s.clock) (spans_of s)
+  pub owned : AllByRecursion (IsOfGiven s.next) (spans_of s)
+  pub unborn : (o t : ℕ) → s.next ≤ o → version_of s o t ≡ Absent
