@@ -1,0 +1,12 @@
+pub mod Sums
+pub mod Words
+pub mod Changes
+pub mod Raising
+pub mod Storing
+pub mod Looking
+pub mod Pinning
+pub mod Moving
+pub mod Opening
+pub mod BlockWords
+pub mod BlockBytes
+pub mod HeldPins

@@ -1,0 +1,52 @@
+-- What is known of frames, as plain data.
+use Rattle.std.specs.Prelude.{ℕ, List, []}
+
+-- what a frame is for at present
+pub data Phase : Type 0 where
+  Free : Phase
+  Open : Phase
+  Sealed : Phase
+  Emptied : Phase
+
+-- the two low bits of the frame's word
+abbrev pub code_of : Phase → ℕ
+code_of Free = 0
+code_of Open = 1
+code_of Sealed = 2
+code_of Emptied = 3
+
+-- a frame: what it is for, its generation, and its 1,024 block words
+pub record Frame : Type 0 where
+  pub phase : Phase
+  pub generation : ℕ
+  pub contents : List ℕ
+
+-- a frame that is counted on: its number, and the generation and block words that it keeps
+pub record Pinned : Type 0 where
+  pub number : ℕ
+  pub generation : ℕ
+  pub contents : List ℕ
+
+-- the releases that were tried: how many, and of the last one the frame and the word that it found
+pub record Releases : Type 0 where
+  pub tried : ℕ
+  pub last : ℕ
+  pub found : ℕ
+
+-- What a seat of the table knows. The drive's seat knows every frame and, while a pin is lent to it, that pin's
+-- frames; the seat of a pin knows the frames that it counts on, the newest first.
+pub record View : Type 0 where
+  pub frames : List Frame
+  pub releases : Releases
+  pub pins : List Pinned
+
+abbrev pub no_releases : Releases
+no_releases = record { tried = 0; last = 0; found = 0 }
+
+-- the view of a seat that knows nothing
+abbrev pub nothing_known : View
+nothing_known = record { frames = []; releases = no_releases; pins = [] }
+
+-- stands where a list has no frame of that number
+abbrev pub no_frame : Frame
+no_frame = record { phase = Free; generation = 0; contents = [] }

@@ -1,0 +1,83 @@
+//! Whole blocks, word by word. The highest byte of each word stands first.
+ghost use Rattle.std.specs.Prelude.{◌≡◌, ℕ, ◌+◌, ◌*◌, ◌/◌, ◌%◌, ◌^◌, ◌<◌, ◌≤◌, [], ◌∷◌, length, flat_map};
+ghost use mathlib.Core.Option.{some};
+ghost use lib.ListN.{get_elem?};
+ghost use Rattle.byteorder.specs.Endian.{big_bytes};
+ghost use Rattle.segment_word.specs.Frames.{Pinned};
+ghost use Rattle.segment_word.specs.Frames.Phase.{Open};
+ghost use Rattle.segment_word.specs.Layout.{frame_at, block_bytes, block_words, with_block};
+ghost use Rattle.segment_word.specs.Counting.{pins_in};
+ghost use Rattle.segment_word.specs.Steps.{with_frame, IsSameSeat};
+
+use crate::layout::{BLOCK_WORDS, FRAME_WORDS};
+use crate::steps::{Place, Words, look, read, store};
+use byteorder::{BigEndian, ByteOrder};
+
+fn bytes_of(words: &[u64; 64]) -> [u8; 512]
+    ensures { result ≡ flat_map (big_bytes 8) words.now }
+{
+    let mut bytes = [0; 512];
+    BigEndian::write_u64_into(words, &mut bytes);
+    bytes
+}
+
+fn words_of(bytes: &[u8; 512]) -> [u64; 64]
+    ensures words { result ≡ block_words bytes.now }
+    ensures back { flat_map (big_bytes 8) result ≡ bytes.now }
+{
+    let mut words = [0; 64];
+    BigEndian::read_u64_into(bytes, &mut words);
+    words
+}
+
+/// A block, as the drive's seat finds it.
+pub fn load_block(words: &Words, seat: &mut Place, frame: usize, block: usize) -> [u8; 512]
+    requires table { seat.old.table_id ≡ words.now.table_id }
+    requires drive { seat.old.id ≡ 0 }
+    requires inside { (frame < length seat.old.me.0.frames) × (block < 16) }
+    requires sized { (words.now.table_id.words ≡ 1025 * length seat.old.me.0.frames) × (length seat.old.me.0.frames ≤ 1024) }
+    ensures seat { IsSameSeat seat.old seat.new }
+    ensures view { seat.new.me.0 ≡ seat.old.me.0 }
+    ensures bytes { result ≡ block_bytes (frame_at seat.old.me.0.frames frame).contents block }
+{
+    let first = FRAME_WORDS * frame + 1 + BLOCK_WORDS * block;
+    let mut found = [0; 64];
+    for i in 0..BLOCK_WORDS {
+        found[i] = look(words, seat, first + i);
+    }
+    bytes_of(&found)
+}
+
+/// A block of a frame that the seat of a pin counts on.
+pub fn read_block(words: &Words, seat: &mut Place, frame: usize, block: usize) -> [u8; 512]
+    requires table { seat.old.table_id ≡ words.now.table_id }
+    requires inside { (1025 * frame + 1024 < words.now.table_id.words) × (words.now.table_id.words ≤ 1049600) × (block < 16) }
+    ensures seat { IsSameSeat seat.old seat.new }
+    ensures view { seat.new.me.0 ≡ seat.old.me.0 }
+    ensures bytes { (i : ℕ) (p : Pinned) → get_elem? seat.old.me.0.pins i ≡ some p → p.number ≡ frame → result ≡ block_bytes p.contents block }
+{
+    let first = FRAME_WORDS * frame + 1 + BLOCK_WORDS * block;
+    let mut found = [0; 64];
+    for i in 0..BLOCK_WORDS {
+        found[i] = read(words, seat, first + i);
+    }
+    bytes_of(&found)
+}
+
+/// These bytes become a block of an open frame.
+pub fn store_block(words: &Words, seat: &mut Place, frame: usize, block: usize, bytes: &[u8; 512])
+    requires table { seat.old.table_id ≡ words.now.table_id }
+    requires drive { seat.old.id ≡ 0 }
+    requires inside { (frame < length seat.old.me.0.frames) × (block < 16) }
+    requires sized { (words.now.table_id.words ≡ 1025 * length seat.old.me.0.frames) × (length seat.old.me.0.frames ≤ 1024) }
+    requires phase { (frame_at seat.old.me.0.frames frame).phase ≡ Open }
+    ensures seat { IsSameSeat seat.old seat.new }
+    ensures view { seat.new.me.0 ≡ with_frame seat.old.me.0 frame (with_block (frame_at seat.old.me.0.frames frame) block bytes.now) }
+    ensures whole { length (frame_at seat.old.me.0.frames frame).contents ≡ 1024 }
+    ensures back { flat_map (big_bytes 8) (block_words bytes.now) ≡ bytes.now }
+{
+    let values = words_of(bytes);
+    for i in 0..BLOCK_WORDS {
+        store(words, seat, frame, BLOCK_WORDS * block + i, values[i]);
+    }
+}

@@ -1,0 +1,104 @@
+//! The drive's seat.
+ghost use Rattle.std.specs.Prelude.{◌≡◌, ◌≢◌, ℕ, ◌+◌, ◌*◌, ◌^◌, ◌<◌, ◌≤◌, length};
+ghost use Rattle.segment_word.specs.Frames.{Frame};
+ghost use Rattle.segment_word.specs.Frames.Phase.{Free, Open, Sealed};
+ghost use Rattle.segment_word.specs.Layout.{frame_at, block_bytes, with_block};
+ghost use Rattle.segment_word.specs.Steps.{raised, IsStateOf};
+ghost use Rattle.segment_word.specs.Handles.{with_changed};
+
+use crate::blocks::{load_block, store_block};
+use crate::board::Board;
+use crate::layout::FRAME_WORDS;
+use crate::steps::{Place, look, raise};
+use std::alloc::Global;
+use std::marker::Model;
+use std::sync::Arc;
+
+/// The drive's seat at the table, which knows every frame. There is one, and only it changes frames.
+#[derive(Drop)]
+pub struct DriveSeat {
+    pub(crate) board: Arc<Board, Global>,
+    pub(crate) seat: Place,
+}
+
+impl Model for DriveSeat {
+    ghost use Rattle.std.specs.Prelude.{◌≡◌};
+    ghost use Rattle.std.specs.Arc.{arc_value};
+    ghost use Rattle.segment_word.specs.Handles.{Drive, IsDriveSeat};
+
+    ghost Value = { Drive };
+
+    ghost view = { λ d. record { table = d.seat.table_id; frames = d.seat.me.0.frames; releases = d.seat.me.0.releases } };
+
+    ghost invariant = { λ d. (d.seat.table_id ≡ (arc_value d.board).table.shared.table_id) × IsDriveSeat d.seat };
+}
+
+/// A frame of the drive, by its number. It borrows the drive's seat.
+pub struct FrameToken<'a> {
+    pub(crate) drive: &'a mut DriveSeat,
+    pub(crate) number: usize,
+}
+
+impl DriveSeat {
+    /// A free frame is opened, at its generation. The last generation, 2^32 - 1, is never opened.
+    pub fn open(&mut self, frame: usize)
+        requires inside { frame < length self.old.frames }
+        requires free { (frame_at self.old.frames frame).phase ≡ Free }
+        requires goes_on { (frame_at self.old.frames frame).generation + 1 < 2 ^ 32 }
+        ensures { self.new ≡ with_changed self.old frame (record (frame_at self.old.frames frame) { phase = Open }) }
+    {
+        raise(&self.board.table.shared, &mut self.seat, frame);
+    }
+
+    /// An open frame is sealed.
+    pub fn seal(&mut self, frame: usize)
+        requires inside { frame < length self.old.frames }
+        requires open { (frame_at self.old.frames frame).phase ≡ Open }
+        ensures { self.new ≡ with_changed self.old frame (record (frame_at self.old.frames frame) { phase = Sealed }) }
+    {
+        raise(&self.board.table.shared, &mut self.seat, frame);
+    }
+
+    /// 512 bytes become block `block`, from 0 to 15, of an open frame.
+    pub fn store(&mut self, frame: usize, block: usize, bytes: &[u8; 512])
+        requires inside { (frame < length self.old.frames) × (block < 16) }
+        requires open { (frame_at self.old.frames frame).phase ≡ Open }
+        ensures changed { self.new ≡ with_changed self.old frame (with_block (frame_at self.old.frames frame) block bytes.now) }
+        ensures stored { block_bytes (frame_at self.new.frames frame).contents block ≡ bytes.now }
+        ensures others { (b : ℕ) → b < 16 → b ≢ block → block_bytes (frame_at self.new.frames frame).contents b ≡ block_bytes (frame_at self.old.frames frame).contents b }
+    {
+        let words = &self.board.table.shared;
+        store_block(words, &mut self.seat, frame, block, bytes);
+    }
+
+    /// The 512 bytes of block `block`, from 0 to 15, of any frame.
+    pub fn load(&mut self, frame: usize, block: usize) -> [u8; 512]
+        requires { (frame < length self.old.frames) × (block < 16) }
+        ensures bytes { result ≡ block_bytes (frame_at self.old.frames frame).contents block }
+        ensures same { self.new ≡ self.old }
+    {
+        load_block(&self.board.table.shared, &mut self.seat, frame, block)
+    }
+
+    /// The state word of a frame.
+    pub fn state(&mut self, frame: usize) -> u64
+        requires { frame < length self.old.frames }
+        ensures word { IsStateOf (frame_at self.old.frames frame) result }
+        ensures same { self.new ≡ self.old }
+    {
+        let words = &self.board.table.shared;
+        look(words, &mut self.seat, FRAME_WORDS * frame)
+    }
+
+    /// Names a frame, so that it can be pinned.
+    pub fn frame(&mut self, number: usize) -> FrameToken<'_>
+        ensures drive { result.drive.ghost_name ≡ self.entry.ghost_name }
+        ensures same { result.drive.now ≡ self.old }
+        ensures number { result.number ≡ number }
+    {
+        FrameToken {
+            drive: self,
+            number,
+        }
+    }
+}

@@ -1,0 +1,19 @@
+//! Where the words of a frame stand in the table.
+
+/// Words of a frame: its state word, and 64 for each of its 16 blocks.
+pub const FRAME_WORDS: usize = 1025;
+
+/// Words of a block.
+pub const BLOCK_WORDS: usize = 64;
+
+/// One reader in a state word.
+pub const ONE_READER: u64 = 4;
+
+/// The state word of a free frame at generation 1.
+pub const FIRST_STATE: u64 = 1 << 32;
+
+/// The word of a perch on which no seat rests.
+pub const EMPTY: u64 = 0;
+
+/// The word of a perch on which a seat rests.
+pub const RESTING: u64 = 2;

@@ -1,0 +1,33 @@
+//! The memory of a drive as words of one table, and pins that keep a frame from being reused while another thread
+//! reads it without a lock.
+//!
+//! A drive has 8 to 1,024 frames, each with a state word (phase, readers, generation) and 16 blocks of 512 bytes as 64
+//! words each. One seat at the table, `DriveSeat`, opens, fills and seals frames; it knows every frame. Up to 64 seats
+//! are had as a `Pin`, which counts on sealed frames and reads their blocks.
+//!
+//! The layers above may rely on this: each step is one atomic step on one word, and one rule holds between any two
+//! steps of any threads (`specs/FrameRule.antt`). While a `Pin` lives, each frame that it counts on stays sealed or is
+//! being emptied, at the same generation and with the same contents, so `read_block` gives the bytes that the drive's
+//! seat knew when the frame was pinned; it takes no memory, waits for nobody and always returns. Each call says exactly
+//! what it changes of what the drive's seat knows.
+//!
+//! Not said: that a seat is free or comes back, that a pin wins within its 64 tries, and which blocks of a frame are in
+//! use. At most one frame is open at a time only if the layer above keeps it so.
+#![tactic(auto)]
+
+mod blocks;
+mod board;
+mod drive;
+mod layout;
+mod lending;
+mod pins;
+mod plays;
+mod pool;
+mod rule;
+mod steps;
+#[cfg(test)]
+mod tests;
+
+pub use drive::{DriveSeat, FrameToken};
+pub use pins::Pin;
+pub use pool::Frames;
