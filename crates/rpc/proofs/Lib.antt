@@ -1,0 +1,9 @@
+pub mod RoomLaws
+pub mod Refusals
+pub mod Exact
+pub mod RequestLaws
+pub mod ReplyLaws
+pub mod Answered
+pub mod StreamLaws
+pub mod FillingLaws
+pub mod Wire

@@ -1,0 +1,5 @@
+pub mod Spelling
+pub mod Stream
+pub mod Filling
+pub mod Room
+pub mod Reading

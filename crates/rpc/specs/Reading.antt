@@ -1,0 +1,205 @@
+-- Reading a body from left to right: what a reader answers, and None where the bytes spell nothing.
+use Rattle.std.specs.Prelude.{◌≡◌, ℕ, zero, suc, ◌-◌, List, [], ◌∷◌, length, take, drop, Option, Some, None, Result, Ok, Err, nat_lt, ◌==◌, if◌then◌else◌}
+use Rattle.std.specs.Int.{Width, w32, w64, byte_len, from_be_bytes}
+use Rattle.s4_types.specs.RefusalNumber.{number_of}
+use Rattle.s4_types.specs.declared.limits.TheConstants.{FRAME_BODY_BYTES, OBJECT_BYTES, ATTRIBUTE_BYTES}
+use Rattle.s4_types.specs.declared.refusals.Refusal.{Refusal}
+use Rattle.s4_types.specs.declared.refusals.Refusal.TheVariants.{NoObject, NotAdmin, Expired, Future, Flushed, TooLarge, BadSpan, TooManySpans, NoSpace, NoMemory, ClockEnd, ChainFull, BadAttr, Busy, BadFrame, Stale, NoRoom, InUse}
+use Rattle.s4_types.specs.declared.requests.Request.{Request}
+use Rattle.s4_types.specs.declared.requests.Request.TheVariants.{Create, Delete, Read, Write, Append, Truncate, GetAttr, SetAttr, SetWindow, Flush, FlushO}
+use Rattle.s4_types.specs.declared.replies.Reply.{Reply}
+use Rattle.s4_types.specs.declared.replies.Reply.TheVariants.{Refused, Changed, Created, Data, Attr}
+use Rattle.rpc.specs.declared.unread.Unread.{Unread}
+use Rattle.rpc.specs.declared.unread.Unread.TheVariants.{Memory, Misspelled}
+
+infixl 10 ◌>>=◌
+abbrev pub ◌>>=◌ : {A B : Type 0} → Option A → (A → Option B) → Option B
+(Some x) >>= f = f x
+None >>= f = None
+
+-- what a function returned, seen by view, is what reading gives, unless memory ran out
+abbrev pub Fails : {Y : Type 0} → Unread → Option Y → Type 0
+Fails Memory read = Unit {0}
+Fails Misspelled read = read ≡ None
+
+abbrev pub Gives : {X Y : Type 0} → (X → Y) → Result X Unread → Option Y → Type 0
+Gives view (Ok x) read = read ≡ Some (view x)
+Gives view (Err e) read = Fails e read
+
+-- a number, and the bytes after it
+abbrev pub number_at : Width → List ℕ → Option (ℕ × List ℕ)
+number_at w bytes = if nat_lt (length bytes) (byte_len w) then None else Some (from_be_bytes w (take (byte_len w) bytes), drop (byte_len w) bytes)
+
+-- a text of at most so many bytes behind its length, and the bytes after it
+unfoldable pub text_at : ℕ → List ℕ → Option (List ℕ × List ℕ)
+text_at limit [] = None
+text_at limit (len ∷ bytes) = if nat_lt limit len then None else (if nat_lt (length bytes) len then None else Some (take len bytes, drop len bytes))
+
+-- a moment or none, and the bytes after it
+unfoldable pub moment_at : List ℕ → Option (Option ℕ × List ℕ)
+moment_at [] = None
+moment_at (zero ∷ rest) = Some (None, rest)
+moment_at (suc zero ∷ rest) = do
+  n ← number_at w64 rest
+  Some (Some n.0, n.1)
+moment_at (suc (suc b) ∷ rest) = None
+
+-- all of the bytes, at most so many
+unfoldable pub tail_at : ℕ → List ℕ → Option (List ℕ)
+tail_at limit bytes = if nat_lt limit (length bytes) then None else Some bytes
+
+-- no bytes are left
+unfoldable pub ended_at : List ℕ → Option (Unit {0})
+ended_at [] = Some tt
+ended_at (_ ∷ _) = None
+
+-- a request of each kind, behind its first byte
+unfoldable pub create_at : List ℕ → Option Request
+create_at bytes = do
+  attribute ← text_at 255 bytes
+  end ← ended_at attribute.1
+  Some (Create attribute.0)
+
+unfoldable pub delete_at : List ℕ → Option Request
+delete_at bytes = do
+  object ← number_at w64 bytes
+  end ← ended_at object.1
+  Some (Delete object.0)
+
+unfoldable pub read_at : List ℕ → Option Request
+read_at bytes = do
+  object ← number_at w64 bytes
+  offset ← number_at w64 object.1
+  len ← number_at w32 offset.1
+  moment ← moment_at len.1
+  end ← ended_at moment.1
+  Some (Read object.0 offset.0 len.0 moment.0)
+
+unfoldable pub write_at : List ℕ → Option Request
+write_at bytes = do
+  object ← number_at w64 bytes
+  offset ← number_at w64 object.1
+  written ← tail_at (FRAME_BODY_BYTES - 17) offset.1
+  Some (Write object.0 offset.0 written)
+
+unfoldable pub append_at : List ℕ → Option Request
+append_at bytes = do
+  object ← number_at w64 bytes
+  written ← tail_at (FRAME_BODY_BYTES - 9) object.1
+  Some (Append object.0 written)
+
+unfoldable pub truncate_at : List ℕ → Option Request
+truncate_at bytes = do
+  object ← number_at w64 bytes
+  size ← number_at w64 object.1
+  end ← ended_at size.1
+  Some (Truncate object.0 size.0)
+
+unfoldable pub get_attr_at : List ℕ → Option Request
+get_attr_at bytes = do
+  object ← number_at w64 bytes
+  moment ← moment_at object.1
+  end ← ended_at moment.1
+  Some (GetAttr object.0 moment.0)
+
+unfoldable pub set_attr_at : List ℕ → Option Request
+set_attr_at bytes = do
+  object ← number_at w64 bytes
+  attribute ← text_at 255 object.1
+  end ← ended_at attribute.1
+  Some (SetAttr object.0 attribute.0)
+
+unfoldable pub set_window_at : List ℕ → Option Request
+set_window_at bytes = do
+  window ← number_at w64 bytes
+  end ← ended_at window.1
+  Some (SetWindow window.0)
+
+unfoldable pub flush_at : List ℕ → Option Request
+flush_at bytes = do
+  first ← number_at w64 bytes
+  last ← number_at w64 first.1
+  end ← ended_at last.1
+  Some (Flush first.0 last.0)
+
+unfoldable pub flush_object_at : List ℕ → Option Request
+flush_object_at bytes = do
+  object ← number_at w64 bytes
+  first ← number_at w64 object.1
+  last ← number_at w64 first.1
+  end ← ended_at last.1
+  Some (FlushO object.0 first.0 last.0)
+
+-- a request, by its first byte
+unfoldable pub request_at : List ℕ → Option Request
+request_at [] = None
+request_at (kind ∷ rest) =
+    if kind == 1 then create_at rest else
+    (if kind == 2 then delete_at rest else
+    (if kind == 3 then read_at rest else
+    (if kind == 4 then write_at rest else
+    (if kind == 5 then append_at rest else
+    (if kind == 6 then truncate_at rest else
+    (if kind == 7 then get_attr_at rest else
+    (if kind == 8 then set_attr_at rest else
+    (if kind == 9 then set_window_at rest else
+    (if kind == 10 then flush_at rest else
+    (if kind == 11 then flush_object_at rest else None))))))))))
+
+-- the refusals that a number names
+abbrev pub refusals : List Refusal
+refusals = NoObject ∷ NotAdmin ∷ Expired ∷ Future ∷ Flushed ∷ TooLarge ∷ BadSpan ∷ TooManySpans ∷ NoSpace ∷ NoMemory ∷ ClockEnd ∷ ChainFull ∷ BadAttr ∷ Busy ∷ BadFrame ∷ Stale ∷ NoRoom ∷ InUse ∷ []
+
+-- the first of them that has the number
+abbrev pub first_with : ℕ → List Refusal → Option Refusal
+first_with number [] = None
+first_with number (refusal ∷ others) = if number_of refusal == number then Some refusal else first_with number others
+
+-- the refusal that the number alone names
+unfoldable pub refusal_of : ℕ → Option Refusal
+refusal_of number = if number == 16 then None else first_with number refusals
+
+-- a reply of each kind, behind its first byte
+unfoldable pub refused_at : List ℕ → Option Reply
+refused_at [] = None
+refused_at (number ∷ rest) = do
+  end ← ended_at rest
+  refusal ← refusal_of number
+  Some (Refused refusal)
+
+unfoldable pub changed_at : List ℕ → Option Reply
+changed_at bytes = do
+  moment ← number_at w64 bytes
+  end ← ended_at moment.1
+  Some (Changed moment.0)
+
+unfoldable pub created_at : List ℕ → Option Reply
+created_at bytes = do
+  object ← number_at w64 bytes
+  moment ← number_at w64 object.1
+  end ← ended_at moment.1
+  Some (Created object.0 moment.0)
+
+unfoldable pub data_at : List ℕ → Option Reply
+data_at bytes = do
+  found ← tail_at OBJECT_BYTES bytes
+  Some (Data found)
+
+unfoldable pub attr_at : List ℕ → Option Reply
+attr_at bytes = do
+  size ← number_at w32 bytes
+  created ← number_at w64 size.1
+  changed ← number_at w64 created.1
+  attribute ← text_at ATTRIBUTE_BYTES changed.1
+  end ← ended_at attribute.1
+  Some (Attr size.0 created.0 changed.0 attribute.0)
+
+-- a reply, by its first byte
+unfoldable pub reply_at : List ℕ → Option Reply
+reply_at [] = None
+reply_at (kind ∷ rest) =
+    if kind == 0 then refused_at rest else
+    (if kind == 1 then changed_at rest else
+    (if kind == 2 then created_at rest else
+    (if kind == 3 then data_at rest else
+    (if kind == 4 then attr_at rest else None))))

@@ -1,0 +1,84 @@
+ghost use Rattle.std.specs.Prelude.{◌≡◌, ℕ, ◌<◌, List, length};
+ghost use Rattle.std.specs.Int.{w32, w64};
+ghost use Rattle.rpc.specs.Reading.{Gives, number_at, text_at, moment_at, tail_at, ended_at};
+
+use crate::unread::Unread;
+use s4_types::Bytes;
+use std::alloc::Global;
+
+pub(crate) fn read_word(bytes: &[u8]) -> Result<(u32, &[u8]), Unread>
+    ensures { Gives (λ x. (x.0, x.1.now)) result (number_at w32 bytes.now) }
+{
+    if bytes.len() < 4 {
+        return Err(Unread::Misspelled);
+    }
+    let (front, rest) = bytes.split_at(4);
+    let number = u32::from_be_bytes([front[0], front[1], front[2], front[3]]);
+    Ok((number, rest))
+}
+
+pub(crate) fn read_long(bytes: &[u8]) -> Result<(u64, &[u8]), Unread>
+    ensures { Gives (λ x. (x.0, x.1.now)) result (number_at w64 bytes.now) }
+{
+    if bytes.len() < 8 {
+        return Err(Unread::Misspelled);
+    }
+    let (front, rest) = bytes.split_at(8);
+    let number = u64::from_be_bytes([
+        front[0], front[1], front[2], front[3], front[4], front[5], front[6], front[7],
+    ]);
+    Ok((number, rest))
+}
+
+#[tactic(auto, unfolding(crate::specs::Reading::moment_at))]
+pub(crate) fn read_at(bytes: &[u8]) -> Result<(Option<u64>, &[u8]), Unread>
+    ensures { Gives (λ x. (x.0, x.1.now)) result (moment_at bytes.now) }
+{
+    match bytes {
+        [] => Err(Unread::Misspelled),
+        [0, rest @ ..] => Ok((None, rest)),
+        [1, rest @ ..] => {
+            let (moment, rest) = read_long(rest)?;
+            Ok((Some(moment), rest))
+        }
+        [_, ..] => Err(Unread::Misspelled),
+    }
+}
+
+/// A text of at most `limit` bytes behind the byte that tells its length.
+#[tactic(auto, unfolding(crate::specs::Reading::text_at))]
+pub(crate) fn read_text(alloc: Global, limit: usize, bytes: &[u8]) -> Result<(Bytes, &[u8]), Unread>
+    ensures { Gives (λ x. (x.0, x.1.now)) result (text_at limit bytes.now) }
+{
+    let [len, rest @ ..] = bytes else {
+        return Err(Unread::Misspelled);
+    };
+    let len = *len as usize;
+    if limit < len || rest.len() < len {
+        return Err(Unread::Misspelled);
+    }
+    let (text, rest) = rest.split_at(len);
+    Ok((Bytes::from_slice(alloc, text)?, rest))
+}
+
+/// All of the bytes, at most `limit`.
+#[tactic(auto, unfolding(crate::specs::Reading::tail_at))]
+pub(crate) fn read_tail(alloc: Global, limit: usize, bytes: &[u8]) -> Result<Bytes, Unread>
+    ensures { Gives (λ x. x) result (tail_at limit bytes.now) }
+{
+    if limit < bytes.len() {
+        return Err(Unread::Misspelled);
+    }
+    Ok(Bytes::from_slice(alloc, bytes)?)
+}
+
+/// Nothing is left.
+#[tactic(auto, unfolding(crate::specs::Reading::ended_at))]
+pub(crate) fn read_end(bytes: &[u8]) -> Result<(), Unread>
+    ensures { Gives (λ x. x) result (ended_at bytes.now) }
+{
+    match bytes {
+        [] => Ok(()),
+        [_, ..] => Err(Unread::Misspelled),
+    }
+}

@@ -1,0 +1,81 @@
+ghost use Rattle.std.specs.Prelude.{◌≡◌, ◌⊎◌, ℕ, ◌+◌, ◌≤◌, ◌<◌, List, [], ◌∷◌, ◌++◌, length, take, drop, Option, Some, None, IfOk, IfErr, OnErr, IfSome, IfNone};
+ghost use Rattle.std.specs.Option.{option_map};
+ghost use Rattle.s4_types.specs.declared.limits.TheConstants.{FRAME_BODY_BYTES};
+ghost use Rattle.s4_types.specs.declared.refusals.Refusal.TheVariants.{NoMemory};
+ghost use Rattle.rpc.specs.Stream.{length_told, IsPartial, IsOversized, BeginsWith, IsItem, Adds};
+
+use crate::items::{Item, Message};
+use s4_types::Refusal;
+use s4_types::limits::FRAME_BODY_BYTES;
+use std::alloc::Global;
+
+/// A length that no body has.
+#[derive(Debug, Drop)]
+pub(crate) struct TooLong;
+
+/// The length of the body that the first four bytes tell.
+pub(crate) fn told_length(bytes: &[u8]) -> u32
+    requires { 4 ≤ length bytes.now }
+    ensures { result ≡ length_told bytes.now }
+{
+    u32::from_be_bytes([bytes[0], bytes[1], bytes[2], bytes[3]])
+}
+
+/// The body of the frame that stands at the front and the bytes behind it, or None where it isn't whole yet.
+pub(crate) fn front_of(bytes: &[u8]) -> Result<Option<(&[u8], &[u8])>, TooLong>
+    ensures whole { IfOk result (λ front. IfSome front (λ x. BeginsWith bytes.now x.0.now x.1.now)) }
+    ensures partial { IfOk result (λ front. IfNone front (IsPartial bytes.now)) }
+    ensures oversized { OnErr result (IsOversized bytes.now) }
+{
+    if bytes.len() < 4 {
+        return Ok(None);
+    }
+    let told = told_length(bytes) as usize;
+    if told > FRAME_BODY_BYTES {
+        return Err(TooLong);
+    }
+    let (_, behind) = bytes.split_at(4);
+    if behind.len() < told {
+        return Ok(None);
+    }
+    Ok(Some(behind.split_at(told)))
+}
+
+/// What a body says. The only error is NoMemory.
+pub(crate) fn item_of<T: Message>(alloc: Global, body: &[u8]) -> Result<Item<T>, Refusal>
+    ensures item { IfOk result (λ item. IsItem T.spells body.now item) }
+    ensures memory { IfErr result (λ refusal. refusal ≡ NoMemory) }
+{
+    match T::decode(alloc, body) {
+        Ok(value) => Ok(Item::Whole(value)),
+        Err(Refusal::BadFrame) => Ok(Item::BadFrame),
+        Err(_) => Err(Refusal::NoMemory),
+    }
+}
+
+/// Adds the items of the frames that stand whole in the bytes, and gives the bytes behind them, or None
+/// where an oversized length came. The only error is NoMemory.
+pub(crate) fn read_frames<'a, T: Message>(
+    alloc: Global,
+    items: &mut Vec<Item<T>>,
+    bytes: &'a [u8],
+) -> Result<Option<&'a [u8]>, Refusal>
+    ensures read { IfOk result (λ behind. Adds T.spells bytes.now items.old.items items.new.items (option_map (λ rest. rest.now) behind)) }
+    ensures partial { IfOk result (λ behind. IfSome behind (λ rest. IsPartial rest.now)) }
+    ensures memory { IfErr result (λ refusal. refusal ≡ NoMemory) }
+{
+    let mut left = bytes;
+    loop {
+        match front_of(left) {
+            Err(TooLong) => {
+                items.push(Item::BadFrame)?;
+                return Ok(None);
+            }
+            Ok(None) => return Ok(Some(left)),
+            Ok(Some((body, rest))) => {
+                items.push(item_of(alloc, body)?)?;
+                left = rest;
+            }
+        }
+    }
+}

@@ -1,0 +1,60 @@
+ghost use Rattle.std.specs.Prelude.{◌≡◌, ℕ, ◌≤◌, ◌+◌, List, length};
+ghost use Rattle.rpc.specs.Room.{HasRoom, Appended};
+ghost use Rattle.rpc.specs.Spelling.{ReplyNumbers, reply_spelling};
+ghost use Rattle.s4_types.specs.Sizes.{ReplyFits};
+ghost use Rattle.s4_types.specs.declared.limits.TheConstants.{FRAME_BODY_BYTES};
+
+use crate::room::{put, put_bytes, put_moment, put_object, put_text, put_word};
+use s4_types::Reply;
+
+/// Writes the body of a reply.
+pub(crate) fn put_reply(out: &mut Vec<u8>, reply: &Reply)
+    requires room { HasRoom out.old (length (reply_spelling reply.now)) }
+    requires fits { ReplyFits reply.now }
+    ensures bytes { Appended out.old out.new (reply_spelling reply.now) }
+    ensures range { ReplyNumbers reply.now }
+{
+    match reply {
+        Reply::Refused(refusal) => put(out, &[0, refusal.number()]),
+        Reply::Changed(moment) => {
+            put(out, &[1]);
+            put_moment(out, *moment);
+        }
+        Reply::Created(object, moment) => {
+            put(out, &[2]);
+            put_object(out, *object);
+            put_moment(out, *moment);
+        }
+        Reply::Data(bytes) => {
+            put(out, &[3]);
+            put_bytes(out, bytes);
+        }
+        Reply::Attr {
+            size,
+            created,
+            changed,
+            attribute,
+        } => {
+            put(out, &[4]);
+            put_word(out, *size);
+            put_moment(out, *created);
+            put_moment(out, *changed);
+            put_text(out, attribute);
+        }
+    }
+}
+
+/// Bytes of the body of a reply.
+pub(crate) fn reply_length(reply: &Reply) -> usize
+    requires { ReplyFits reply.now }
+    ensures length { result ≡ length (reply_spelling reply.now) }
+    ensures bound { result ≤ FRAME_BODY_BYTES }
+{
+    match reply {
+        Reply::Refused(_) => 2,
+        Reply::Changed(_) => 9,
+        Reply::Created(_, _) => 17,
+        Reply::Data(bytes) => 1 + bytes.len(),
+        Reply::Attr { attribute, .. } => 22 + attribute.len(),
+    }
+}
