@@ -16,6 +16,8 @@ use Rattle.s4_model.specs.Sound.{EndsBefore, IsSound}
 use Rattle.s4_model.specs.Laws.{ActsAtItsMoment}
 use Rattle.s4_model.proofs.StateLemmas.{state_of-seen, state_of-took}
 use Rattle.s4_model.proofs.OutcomeLemmas.{IsTaken, Outcome, OnlySaw, TookIt, outcome_of, taken_of}
+use Rattle.s4_model.specs.Limits.{Fits}
+use Rattle.s4_model.proofs.GrantedLemmas.{granted_fits}
 use Rattle.s4_model.proofs.SoundLemmas.{moment_is_later}
 use Rattle.s4_model.proofs.VersionLemmas.{version_of-earlier, version_of-other, version_of-taken, version_of-settled}
 
@@ -36,11 +38,11 @@ clock_never_falls h after role request now reply step = (Rises-outcome h role re
 pub floor_never_falls : (h after : History) (role : Role) (request : Request) (now : ℕ) (reply : Reply) → Step h role request now reply after → floor_of h ≤ floor_of after
 floor_never_falls h after role request now reply step = (Rises-outcome h role request now reply after (outcome_of step)).floor
 
-pub accepted_is_later : (h : History) (role : Role) (request : Request) (now : ℕ) (reply : Reply) (a : Accepted) → Step h role request now reply (grown h (Took a)) → (clock_of h < a.moment) × (now ≤ a.moment) × (clock_of (grown h (Took a)) ≡ a.moment)
+pub accepted_is_later : (h : History) (role : Role) (request : Request) (now : ℕ) (reply : Reply) (a : Accepted) → Step h role request now reply (grown h (Took a)) → (a.moment ≡ max now (clock_of h + 1)) × (clock_of (grown h (Took a)) ≡ a.moment)
 accepted_is_later h role request now reply a step =
     let taken : IsTaken (state_of h) role request now reply a = taken_of step in
     let stamped : a.moment ≡ max now (clock_of h + 1) = taken.stamped in
-    (omega arith, omega arith, ap (λ k. k.clock) (state_of-took h a))
+    (stamped, ap (λ k. k.clock) (state_of-took h a))
 
 hides_late : (o t : ℕ) (span : Span) → span.last < t → hides o t span ≡ false
 hides_late o t span lt = and_right (span.object == 0 || span.object == o) (is_within span t) (and_right (leb span.first t) (leb t span.last) (lt-leb t span.last lt))
@@ -65,3 +67,8 @@ ActsAtItsMoment-took s a sound later = record {
 pub change_acts : (h : History) (role : Role) (request : Request) (now : ℕ) (reply : Reply) (a : Accepted) → IsSound (state_of h) → Step h role request now reply (grown h (Took a)) → ActsAtItsMoment (state_of h) (state_of (grown h (Took a))) a
 change_acts h role request now reply a sound step =
     subst (λ k. ActsAtItsMoment (state_of h) k a) (sym (state_of-took h a)) (ActsAtItsMoment-took (state_of h) a sound (moment_is_later (state_of h) role request now reply a (taken_of step)))
+
+pub accepted_keeps_limits : (h : History) (role : Role) (request : Request) (now : ℕ) (reply : Reply) (a : Accepted) → Step h role request now reply (grown h (Took a)) → Fits a.change
+accepted_keeps_limits h role request now reply a step =
+    let taken : IsTaken (state_of h) role request now reply a = taken_of step in
+    granted_fits (state_of h) role request a.change taken.granted taken.asked_for

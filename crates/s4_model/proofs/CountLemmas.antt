@@ -122,4 +122,3 @@ below-length (x ∷ xs) p n once h all =
     let rest : below (without x p) n ≡ length xs = below-length xs (without x p) n once.1 (passes_without p n x xs once.0 h.1) (λ t lt passes. still_has xs x t (and_parts (p t) (not (t == x)) passes) (all t lt (and_parts (p t) (not (t == x)) passes).0)) in
     let one : below p n ≡ below (without x p) n + 1 = below-one x p n h.0.1 h.0.0 in
     omega arith
-

@@ -1,7 +1,8 @@
 -- What is known where no refusal applies.
-use Rattle.std.proofs.Common.{◌≡◌, ℕ, ◌<◌, ◌≤◌, ◌==◌, ◌&&◌, Bool, true, false, not, cond, leb, inl, inr, List, [], ◌∷◌, None, Some, refl, ap, sym, ◌∙◌, subst, true≢false, arith, find}
-use Rattle.std.proofs.lemmas.Bool.{not-false, and_parts, or_parts, leb-true, leb-false, eqb-true, cases_lt}
+use Rattle.std.proofs.Common.{◌≡◌, ℕ, ◌+◌, length, ◌<◌, ◌≤◌, ◌==◌, ◌&&◌, Bool, true, false, not, cond, leb, inl, inr, List, [], ◌∷◌, None, Some, refl, ap, sym, ◌∙◌, subst, true≢false, arith, find}
+use Rattle.std.proofs.lemmas.Bool.{not-false, and_parts, or_parts, leb-true, leb-false, ltb-false, eqb-true, cases_lt}
 use Rattle.std.specs.List.{AllByRecursion, cons_option}
+use Rattle.s4_types.specs.declared.limits.TheConstants.{OBJECT_BYTES, ATTRIBUTE_BYTES}
 use Rattle.s4_types.specs.declared.changes.Change.{Change}
 use Rattle.s4_types.specs.declared.changes.Change.TheVariants as change
 use Rattle.s4_types.specs.declared.requests.Role.{Role}
@@ -10,11 +11,12 @@ use Rattle.s4_types.specs.declared.requests.Request.{Request}
 use Rattle.s4_types.specs.declared.requests.Request.TheVariants.{Create, Delete, Read, Write, Append, Truncate, GetAttr, SetAttr, SetWindow, Flush, FlushO}
 use Rattle.s4_types.specs.declared.versions.Version.TheVariants.{Absent}
 use Rattle.s4_model.specs.Effect.{is_change_of}
-use Rattle.s4_model.specs.Numbers.{next_by}
+use Rattle.s4_model.specs.Limits.{Fits}
+use Rattle.s4_model.specs.Numbers.{next_by, window_by}
 use Rattle.s4_model.specs.State.{State}
 use Rattle.s4_model.specs.VersionAt.{version_of}
 use Rattle.s4_model.specs.Visible.{span_by}
-use Rattle.s4_model.specs.Refusals.{first_refusal, applies, checks, is_absent, is_of_no_object}
+use Rattle.s4_model.specs.Refusals.{first_refusal, applies, checks, is_absent, is_of_no_object, present, size_of}
 use Rattle.s4_model.specs.Step.{change_of}
 use Rattle.s4_model.specs.Sound.{IsOfGiven}
 
@@ -123,3 +125,34 @@ client_hides_nothing s (FlushO object first last) taken granted asks = absurd (t
 -- a span that is granted over an object is of one
 pub granted_object_is_no_zero : (s : State) (role : Role) (object first last : ℕ) → first_refusal s role (FlushO object first last) ≡ None → (object == 0) ≡ false
 granted_object_is_no_zero s role object first last granted = (or_parts (object == 0) (leb s.next object) (object_is_there s role (FlushO object first last) granted)).0
+
+abbrev LeavesWindow : ℕ → Change → Type 0
+LeavesWindow window change = window_by change window ≡ window
+
+-- what a client is granted leaves the window
+pub client_leaves_window : (s : State) (request : Request) (taken : Change) (window : ℕ) → first_refusal s Client request ≡ None → change_of s request ≡ Some taken → window_by taken window ≡ window
+client_leaves_window s (Create attribute) taken window granted asks = asked_change (LeavesWindow window) (change.Create s.next attribute) taken asks refl
+client_leaves_window s (Delete object) taken window granted asks = asked_change (LeavesWindow window) (change.Delete object) taken asks refl
+client_leaves_window s (Read object offset len at) taken window granted asks = cc
+client_leaves_window s (Write object offset bytes) taken window granted asks = asked_change (LeavesWindow window) (change.Write object offset bytes) taken asks refl
+client_leaves_window s (Append object bytes) taken window granted asks = asked_change (LeavesWindow window) _ taken asks refl
+client_leaves_window s (Truncate object size) taken window granted asks = asked_change (LeavesWindow window) (change.Truncate object size) taken asks refl
+client_leaves_window s (GetAttr object at) taken window granted asks = cc
+client_leaves_window s (SetAttr object attribute) taken window granted asks = asked_change (LeavesWindow window) (change.SetAttr object attribute) taken asks refl
+client_leaves_window s (SetWindow new_window) taken window granted asks = absurd (true≢false (none_applies s Client (SetWindow new_window) granted).0)
+client_leaves_window s (Flush first last) taken window granted asks = absurd (true≢false (none_applies s Client (Flush first last) granted).0)
+client_leaves_window s (FlushO object first last) taken window granted asks = absurd (true≢false (none_applies s Client (FlushO object first last) granted).0)
+
+-- what is granted keeps the limits
+pub granted_fits : (s : State) (role : Role) (request : Request) (taken : Change) → first_refusal s role request ≡ None → change_of s request ≡ Some taken → Fits taken
+granted_fits s role (Create attribute) taken granted asks = asked_change Fits (change.Create s.next attribute) taken asks (ltb-false ATTRIBUTE_BYTES (length attribute) (none_applies s role (Create attribute) granted).1.0)
+granted_fits s role (Delete object) taken granted asks = asked_change Fits (change.Delete object) taken asks tt
+granted_fits s role (Read object offset len at) taken granted asks = cc
+granted_fits s role (Write object offset bytes) taken granted asks = asked_change Fits (change.Write object offset bytes) taken asks (ltb-false OBJECT_BYTES (offset + length bytes) (none_applies s role (Write object offset bytes) granted).1.1.0)
+granted_fits s role (Append object bytes) taken granted asks = asked_change Fits (change.Write object (size_of (present s object)) bytes) taken asks (ltb-false OBJECT_BYTES (size_of (present s object) + length bytes) (none_applies s role (Append object bytes) granted).1.1.0)
+granted_fits s role (Truncate object size) taken granted asks = asked_change Fits (change.Truncate object size) taken asks (ltb-false OBJECT_BYTES size (none_applies s role (Truncate object size) granted).1.1.0)
+granted_fits s role (GetAttr object at) taken granted asks = cc
+granted_fits s role (SetAttr object attribute) taken granted asks = asked_change Fits (change.SetAttr object attribute) taken asks (ltb-false ATTRIBUTE_BYTES (length attribute) (none_applies s role (SetAttr object attribute) granted).1.0)
+granted_fits s role (SetWindow window) taken granted asks = asked_change Fits (change.SetWindow window) taken asks tt
+granted_fits s role (Flush first last) taken granted asks = asked_change Fits (change.Flush first last) taken asks tt
+granted_fits s role (FlushO object first last) taken granted asks = asked_change Fits (change.FlushO object first last) taken asks tt

@@ -12,7 +12,7 @@ use Rattle.s4_types.specs.declared.refusals.Refusal.{Refusal}
 use Rattle.s4_types.specs.declared.versions.Version.{Version}
 use Rattle.s4_types.specs.declared.versions.Version.TheVariants.{Absent, Live}
 use Rattle.s4_model.specs.Effect.{resized, written, effect, is_change_of}
-use Rattle.s4_model.specs.VersionAt.{is_before, effect_of, version_after}
+use Rattle.s4_model.specs.VersionAt.{is_by, effect_of, version_after}
 use Rattle.s4_model.specs.Limits.{Fits, IsWithinLimits}
 use Rattle.s4_model.specs.Plain.{IsKept, EndsBy}
 
@@ -41,12 +41,12 @@ not_before true e a rest h = ap (λ x. cond x (a ∷ rest) rest) h
 not_before false e a rest h = refl
 
 -- before the first change there is nothing
-none_before : (c : ℕ) (changes : List Accepted) (o : ℕ) → AllByRecursion (IsKept c) changes → filter (is_before o 0) changes ≡ []
+none_before : (c : ℕ) (changes : List Accepted) (o : ℕ) → AllByRecursion (IsKept c) changes → filter (is_by o 0) changes ≡ []
 none_before c [] o h = refl
 none_before c (a ∷ changes) o h =
     let dated : 0 < a.moment = h.0.dated in
     let late : nat_le a.moment 0 ≡ false = grind (arith, nat_tests) in
-    not_before (is_change_of o a.change) (nat_le a.moment 0) a (filter (is_before o 0) changes) late ∙ none_before c changes o h.1
+    not_before (is_change_of o a.change) (nat_le a.moment 0) a (filter (is_by o 0) changes) late ∙ none_before c changes o h.1
 
 pub version_after-0 : (c : ℕ) (changes : List Accepted) (o : ℕ) → AllByRecursion (IsKept c) changes → version_after Absent changes o 0 ≡ Absent
 version_after-0 c changes o h = ap (λ all. fold effect_of Absent all) (none_before c changes o h)
@@ -81,8 +81,8 @@ IsWithinLimits-effect (FlushO object first last) m version f h = h
 pub IsWithinLimits-version_after : (c : ℕ) (version : Version) (changes : List Accepted) (o t : ℕ) → AllByRecursion (IsKept c) changes → IsWithinLimits version → IsWithinLimits (version_after version changes o t)
 IsWithinLimits-version_after c version [] o t h w = w
 IsWithinLimits-version_after c version (a ∷ changes) o t h w =
-    elim (is_before o t a) as (λ b. IsWithinLimits (fold effect_of version (cond b (a ∷ filter (is_before o t) changes) (filter (is_before o t) changes)))) [
-      true ↦ IsWithinLimits-version_after c (effect_of version a) changes o t h.1 (IsWithinLimits-effect a.change a.moment version h.0.fits w)
+    elim (is_by o t a) as (λ b. IsWithinLimits (fold effect_of version (cond b (a ∷ filter (is_by o t) changes) (filter (is_by o t) changes)))) [
+      | true ↦ IsWithinLimits-version_after c (effect_of version a) changes o t h.1 (IsWithinLimits-effect a.change a.moment version h.0.fits w)
       | false ↦ IsWithinLimits-version_after c version changes o t h.1 w
     ]
 

@@ -27,10 +27,10 @@ covered_by : (clock list t : ℕ) (spans : List Span) → AllEndBy clock spans �
 covered_by clock list t [] ends h = absurd (false≢true h)
 covered_by clock list t (span ∷ spans) ends h =
     elim (or_cases (covers list t span) (list_any (covers list t) spans) h) [
-      inl here ↦ (let within = and_parts (span.object == list) (is_within span t) here in
-                  let parts = and_parts (nat_le span.first t) (nat_le t span.last) within.1 in
-                  let late : t ≤ span.last = leb-true _ _ parts.1 in
-                  omega (arith, ends.0))
+      | inl here ↦ (let within = and_parts (span.object == list) (is_within span t) here in
+          let parts = and_parts (nat_le span.first t) (nat_le t span.last) within.1 in
+          let late : t ≤ span.last = leb-true _ _ parts.1 in
+          omega (arith, ends.0))
       | inr there ↦ covered_by clock list t spans ends.1 there
     ]
 
@@ -52,7 +52,7 @@ has-push : (xs : List ℕ) (x t : ℕ) → has xs t ≡ true → has (xs ++ x �
 has-push [] x t h = absurd (false≢true h)
 has-push (y ∷ ys) x t h =
     elim (or_cases (y == t) (has ys t) h) [
-      inl e ↦ or_left (y == t) (has (ys ++ x ∷ []) t) e
+      | inl e ↦ or_left (y == t) (has (ys ++ x ∷ []) t) e
       | inr e ↦ or_right (y == t) (has (ys ++ x ∷ []) t) (has-push ys x t e)
     ]
 
@@ -92,17 +92,17 @@ AreFirsts-cases : (floor list : ℕ) (spans taken : List Span) (firsts : List �
 AreFirsts-cases floor list spans taken firsts span true true b k h = record {
   once = h.once;
   each = h.each;
-  found = All-push _ taken span h.found (λ _. k)
+  found = All-push _ taken span h.found (λ _. k);
 }
 AreFirsts-cases floor list spans taken firsts span true false b k h = record {
   once = IsWithoutRepeats-push firsts (max span.first floor) h.once k;
   each = All-push _ firsts (max span.first floor) h.each b;
-  found = All-push _ taken span (All-weaker _ _ taken (λ other has_it first. has-push firsts (max span.first floor) (max other.first floor) (has_it first)) h.found) (λ _. has-last firsts (max span.first floor))
+  found = All-push _ taken span (All-weaker _ _ taken (λ other has_it first. has-push firsts (max span.first floor) (max other.first floor) (has_it first)) h.found) (λ _. has-last firsts (max span.first floor));
 }
 AreFirsts-cases floor list spans taken firsts span false known b k h = record {
   once = h.once;
   each = h.each;
-  found = All-push _ taken span h.found (λ first. absurd (false≢true (sym b ∙ first)))
+  found = All-push _ taken span h.found (λ first. absurd (false≢true (sym b ∙ first)));
 }
 
 pub AreFirsts-noted : (floor list : ℕ) (spans taken : List Span) (firsts : List ℕ) (span : Span) → AreFirsts floor list spans taken firsts → AreFirsts floor list spans (taken ++ span ∷ []) (noted firsts (max span.first floor) (is_first (is_covered floor spans list) (max span.first floor)))
@@ -140,7 +140,7 @@ at_first floor list (suc u) spans span inside h first =
     let b : span.first ≤ suc u = leb-true _ _ ends.0 in
     let e : suc u ≤ span.last = leb-true _ _ ends.1 in
     elim (at_or_above (max span.first floor) u (omega arith)) [
-      inl is ↦ is
+      | inl is ↦ is
       | inr later ↦ absurd (not_first floor list u spans (and_from _ _ (le-leb floor u (omega arith)) (inside u (and_from _ _ parts.0 (and_from _ _ (le-leb span.first u (omega arith)) (le-leb u span.last (omega arith)))))) set.1)
     ]
 
@@ -149,10 +149,10 @@ all_found : (floor list t : ℕ) (spans part : List Span) (firsts : List ℕ) �
 all_found floor list t spans [] firsts inside found first h = absurd (false≢true h)
 all_found floor list t spans (span ∷ part) firsts inside found first h =
     elim (or_cases (covers list t span) (list_any (covers list t) part) h) [
-      inl here ↦ (let is : t ≡ max span.first floor = at_first floor list t spans span (λ u c. inside u (or_left (covers list u span) (list_any (covers list u) part) c)) here first in
-                  let P : ℕ → Type 0 = λ k. has firsts k ≡ true in
-                  let Q : ℕ → Type 0 = λ k. is_first (is_covered floor spans list) k ≡ true in
-                  subst P (sym is) (found.0 (subst Q is first)))
+      | inl here ↦ (let is : t ≡ max span.first floor = at_first floor list t spans span (λ u c. inside u (or_left (covers list u span) (list_any (covers list u) part) c)) here first in
+          let P : ℕ → Type 0 = λ k. has firsts k ≡ true in
+          let Q : ℕ → Type 0 = λ k. is_first (is_covered floor spans list) k ≡ true in
+          subst P (sym is) (found.0 (subst Q is first)))
       | inr there ↦ all_found floor list t spans part firsts (λ u c. inside u (or_right (covers list u span) (list_any (covers list u) part) c)) found.1 first there
     ]
 
@@ -175,7 +175,7 @@ AreFirsts-step floor list spans taken more firsts new span first begins e f b n 
     let P : List Span → Type 0 = λ x. AreFirsts floor list spans x new in
     let Q : List ℕ → Type 0 = λ x. AreFirsts floor list spans (taken ++ span ∷ []) x in
     let same : new ≡ noted firsts (max span.first floor) (is_first (is_covered floor spans list) (max span.first floor)) =
-      n ∙ ap (λ x. noted firsts first x) b ∙ ap (λ x. noted firsts x (is_first (is_covered floor spans list) x)) f in
+    n ∙ ap (λ x. noted firsts first x) b ∙ ap (λ x. noted firsts x (is_first (is_covered floor spans list) x)) f in
     subst P (sym e) (subst Q (sym same) (AreFirsts-noted floor list spans taken firsts span h))
 
 -- one more list counted

@@ -56,7 +56,7 @@ make_state versions spans opened changes clock window floor next = record {
   clock = clock;
   window = window;
   floor = floor;
-  next = next
+  next = next;
 }
 
 same_state : (h : History) (changes : List Accepted) (clock window floor next : ℕ) (r : Record) → accepted (grown h r) ≡ changes → clock_of (grown h r) ≡ clock → window_of (grown h r) ≡ window → floor_of (grown h r) ≡ floor → next_of (grown h r) ≡ next → state_of (grown h r) ≡ make_state h.base.versions h.base.spans h.base.clock changes clock window floor next

@@ -72,14 +72,16 @@ step_of_state : (h : History) (role : Role) (request : Request) (now : ℕ) (rep
 step_of_state h role request now reply after (Refusing r is a e) =
     let P : State → Type 0 = λ k. RefusesPlainly (first_refusal k role request) request r in
     (grown h (Seen now), Refuses r is (may_refuse _ request r (subst P (sym (judged-by_state h request now)) a)) refl, state_of-seen h now ∙ sym e)
-step_of_state h role request now reply after (Taking taken none is_change is e) =
-    (grown h (Took (accepted_record (state_of h) taken now)),
-      Serves (Took (accepted_record (state_of h) taken now)) (ap (λ k. first_refusal k role request) (judged-by_state h request now) ∙ none) (Alters taken is_change is refl) refl,
-      state_of-took h (accepted_record (state_of h) taken now) ∙ sym e)
-step_of_state h role request now reply after (Telling none tells fits e) =
-    (grown h (Seen now),
-      Serves (Seen now) (ap (λ k. first_refusal k role request) (judged-by_state h request now) ∙ none) (Reads (ap (λ k. reply_to_read k request) (judged-by_state h request now) ∙ tells) refl) refl,
-      state_of-seen h now ∙ sym e)
+step_of_state h role request now reply after (Taking taken none is_change is e) = (
+  grown h (Took (accepted_record (state_of h) taken now)),
+  Serves (Took (accepted_record (state_of h) taken now)) (ap (λ k. first_refusal k role request) (judged-by_state h request now) ∙ none) (Alters taken is_change is refl) refl,
+  state_of-took h (accepted_record (state_of h) taken now) ∙ sym e,
+)
+step_of_state h role request now reply after (Telling none tells fits e) = (
+  grown h (Seen now),
+  Serves (Seen now) (ap (λ k. first_refusal k role request) (judged-by_state h request now) ∙ none) (Reads (ap (λ k. reply_to_read k request) (judged-by_state h request now) ∙ tells) refl) refl,
+  state_of-seen h now ∙ sym e,
+)
 
 pub step_of : (s : State) (role : Role) (request : Request) (now : ℕ) (reply : Reply) (after : State) → Responds s role request now reply after → (h : History) → state_of h ≡ s → (next : History) × Step h role request now reply next × (state_of next ≡ after)
 step_of s role request now reply after r h e =
@@ -90,11 +92,11 @@ some_same : (x r : Refusal) → Some x ≡ Some r → x ≡ r
 some_same x r e = cc
 
 -- what is found passes what all elements pass
-found_passes : (p : Refusal → Bool) (P : Refusal → Type 0) (xs : List Refusal) (r : Refusal) → AllByRecursion P xs → find p xs ≡ Some r → P r
+pub found_passes : (p : Refusal → Bool) (P : Refusal → Type 0) (xs : List Refusal) (r : Refusal) → AllByRecursion P xs → find p xs ≡ Some r → P r
 found_passes p P [] r all e = absurd (cc)
 found_passes p P (x ∷ xs) r all e =
     elim (p x) as (λ b. cond b (Some x) (find p xs) ≡ Some r → P r) [
-      true ↦ λ is. subst P (some_same x r is) all.0
+      | true ↦ λ is. subst P (some_same x r is) all.0
       | false ↦ λ is. found_passes p P xs r all.1 is
     ] e
 

@@ -2,6 +2,7 @@
 use Rattle.std.proofs.Common.{◌≡◌, ℕ, true, false, Option, None, Some, refl, ap, sym, ◌∙◌, true≢false}
 use Rattle.s4_types.specs.History.{History, Record, Took, Seen}
 use Rattle.s4_types.specs.declared.changes.Change.{Change}
+use Rattle.s4_types.specs.declared.changes.Change.TheVariants as change
 use Rattle.s4_types.specs.declared.replies.Reply.{Reply}
 use Rattle.s4_types.specs.declared.replies.Reply.TheVariants.{Refused}
 use Rattle.s4_types.specs.declared.refusals.Refusal.{Refusal}
@@ -13,21 +14,22 @@ use Rattle.s4_types.specs.declared.versions.Version.{Version}
 use Rattle.s4_types.specs.declared.versions.Version.TheVariants.{Absent, Live}
 use Rattle.s4_model.specs.State.{State, state_of, grown}
 use Rattle.s4_model.specs.VersionAt.{version_of}
-use Rattle.s4_model.specs.Refusals.{first_refusal, asked, is_absent}
-use Rattle.s4_model.specs.Step.{Step, Refuses, Serves, Accepts, Alters, Reads, MayRefuse, AsFirst, ForMemory, AsOpen, IsLeftOpen, change_of, accepted_record, reply_to_change, reply_to_read, data_of, attributes_of, judged}
+use Rattle.s4_model.specs.Refusals.{first_refusal, applies, checks, asked, is_absent}
+use Rattle.s4_model.specs.Step.{Step, Refuses, Serves, Accepts, Alters, Reads, MayRefuse, AsFirst, ForMemory, AsOpen, IsLeftOpen, change_of, accepted_record, stamp, reply_at, reply_to_change, reply_to_read, data_of, attributes_of, judged}
 use Rattle.s4_model.specs.Laws.{is_of_want, is_refused_for_want}
 use Rattle.s4_model.proofs.GrantedLemmas.{object_is_there}
+use Rattle.s4_model.proofs.StepLemmas.{found_passes}
 
-data_given : (v : Version) (offset len : ℕ) → is_absent v ≡ false → (reply : Reply) × (data_of v offset len ≡ Some reply)
+data_given : (v : Version) (offset len : ℕ) → is_absent v ≡ false → (reply : Reply) × (data_of v offset len ≡ Some reply) × (is_refused_for_want reply ≡ false)
 data_given Absent offset len e = absurd (true≢false e)
-data_given (Live content attribute created changed) offset len e = (_, refl)
+data_given (Live content attribute created changed) offset len e = (_, refl, refl)
 
-attributes_given : (v : Version) → is_absent v ≡ false → (reply : Reply) × (attributes_of v ≡ Some reply)
+attributes_given : (v : Version) → is_absent v ≡ false → (reply : Reply) × (attributes_of v ≡ Some reply) × (is_refused_for_want reply ≡ false)
 attributes_given Absent e = absurd (true≢false e)
-attributes_given (Live content attribute created changed) e = (_, refl)
+attributes_given (Live content attribute created changed) e = (_, refl, refl)
 
 -- a read that isn't refused has a reply
-read_given : (h : History) (s : State) (role : Role) (request : Request) → change_of (state_of h) request ≡ None → first_refusal s role request ≡ None → (reply : Reply) × (reply_to_read s request ≡ Some reply)
+read_given : (h : History) (s : State) (role : Role) (request : Request) → change_of (state_of h) request ≡ None → first_refusal s role request ≡ None → (reply : Reply) × (reply_to_read s request ≡ Some reply) × (is_refused_for_want reply ≡ false)
 read_given h s role (Create attribute) e free = cc
 read_given h s role (Delete object) e free = cc
 read_given h s role (Read object offset len at) e free = data_given (version_of s object (asked s at)) offset len (object_is_there s role (Read object offset len at) free)
@@ -40,22 +42,36 @@ read_given h s role (SetWindow window) e free = cc
 read_given h s role (Flush first last) e free = cc
 read_given h s role (FlushO object first last) e free = cc
 
--- what a request may be answered, with the history after it
+-- what a request may be answered but for want, with the history after it
 abbrev HasStep : History → Role → Request → ℕ → Type 0
-HasStep h role request now = (reply : Reply) × (after : History) × Step h role request now reply after
+HasStep h role request now = (reply : Reply) × (after : History) × Step h role request now reply after × (is_refused_for_want reply ≡ false)
+
+abbrev IsNotOfWant : Refusal → Type 0
+IsNotOfWant refusal = is_of_want refusal ≡ false
+
+-- the reply to a change is no refusal
+told_of_change : (taken : Change) (moment : ℕ) → is_refused_for_want (reply_at taken moment) ≡ false
+told_of_change (change.Create object attribute) moment = refl
+told_of_change (change.Delete object) moment = refl
+told_of_change (change.Write object offset bytes) moment = refl
+told_of_change (change.Truncate object size) moment = refl
+told_of_change (change.SetAttr object attribute) moment = refl
+told_of_change (change.SetWindow window) moment = refl
+told_of_change (change.Flush first last) moment = refl
+told_of_change (change.FlushO object first last) moment = refl
 
 served : (h : History) (role : Role) (request : Request) (now : ℕ) → first_refusal (judged h request now) role request ≡ None → (change : Option Change) → change_of (state_of h) request ≡ change → HasStep h role request now
 served h role request now free None e =
-    let given : (reply : Reply) × (reply_to_read (judged h request now) request ≡ Some reply) = read_given h (judged h request now) role request e free in
-    (given.0, grown h (Seen now), Serves (Seen now) free (Reads given.1 refl) refl)
+    let given : (reply : Reply) × (reply_to_read (judged h request now) request ≡ Some reply) × (is_refused_for_want reply ≡ false) = read_given h (judged h request now) role request e free in
+    (given.0, grown h (Seen now), Serves (Seen now) free (Reads given.1 refl) refl, given.2)
 served h role request now free (Some change) e =
     let r : Record = Took (accepted_record (state_of h) change now) in
-    (reply_to_change (state_of h) change now, grown h r, Serves r free (Alters change e refl refl) refl)
+    (reply_to_change (state_of h) change now, grown h r, Serves r free (Alters change e refl refl) refl, told_of_change change (stamp (state_of h) now))
 
 answered : (h : History) (role : Role) (request : Request) (now : ℕ) (first : Option Refusal) → first_refusal (judged h request now) role request ≡ first → HasStep h role request now
 answered h role request now None e = served h role request now e (change_of (state_of h) request) refl
 answered h role request now (Some refusal) e =
-    (Refused refusal, grown h (Seen now), Refuses refusal refl (AsFirst e) refl)
+    (Refused refusal, grown h (Seen now), Refuses refusal refl (AsFirst e) refl, found_passes (applies (judged h request now) role request) IsNotOfWant checks refusal (refl, (refl, (refl, (refl, (refl, (refl, (refl, (refl, (refl, (refl, tt)))))))))) e)
 
 pub each_has_step : (h : History) (role : Role) (request : Request) (now : ℕ) → HasStep h role request now
 each_has_step h role request now = answered h role request now (first_refusal (judged h request now) role request) refl

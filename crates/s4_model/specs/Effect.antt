@@ -29,7 +29,7 @@ effect (SetWindow window) moment version = version
 effect (Flush first last) moment version = version
 effect (FlushO object first last) moment version = version
 
--- whether a change is one of this object's versions
+-- whether a change makes a version of this object
 abbrev pub is_change_of : ℕ → Change → Bool
 is_change_of o (Create object attribute) = object == o
 is_change_of o (Delete object) = object == o

@@ -1,6 +1,6 @@
 -- What the definitions come to: each of these holds of all histories, and is the contract of a function with an
 -- empty body.
-use Rattle.std.specs.Prelude.{◌≡◌, ℕ, Bool, true, false, ◌+◌, ◌<◌, ◌≤◌, ◌==◌, ◌&&◌, ◌||◌, nat_le, if◌then◌else◌, List, [], ◌∷◌, ◌++◌, length, count_by, Option, None, Some, MatchOption}
+use Rattle.std.specs.Prelude.{◌≡◌, ℕ, Bool, true, false, ◌+◌, ◌-◌, max, ◌<◌, ◌≤◌, ◌==◌, ◌&&◌, ◌||◌, nat_le, if◌then◌else◌, List, [], ◌∷◌, ◌++◌, length, count_by, Option, None, Some, MatchOption}
 use Rattle.std.specs.List.{filter_map, range_with_len, AllByRecursion}
 use Rattle.s4_types.specs.History.{History, Took, Seen, accepted}
 use Rattle.s4_types.specs.declared.changes.Accepted.{Accepted}
@@ -14,7 +14,8 @@ use Rattle.s4_types.specs.declared.refusals.Refusal.TheVariants.{NoSpace, NoMemo
 use Rattle.s4_types.specs.declared.spans.Span.{Span}
 use Rattle.s4_types.specs.declared.versions.Version.TheVariants.{Absent}
 use Rattle.s4_model.specs.Effect.{effect, is_change_of}
-use Rattle.s4_model.specs.Numbers.{clock_of, floor_of, next_of}
+use Rattle.s4_model.specs.Limits.{Fits}
+use Rattle.s4_model.specs.Numbers.{clock_of, floor_of, next_of, window_of}
 use Rattle.s4_model.specs.State.{State, state_of, grown, new_history}
 use Rattle.s4_model.specs.VersionAt.{version_of}
 use Rattle.s4_model.specs.Visible.{is_hidden, spans_of, IsVisible}
@@ -49,6 +50,12 @@ ClientsLeaveThePast = (h after : History) (exchanges : List Exchange) (o t : ℕ
     → AreOfClients exchanges → Leads h exchanges after → t ≤ clock_of h
     → (is_hidden (state_of after) o t ≡ is_hidden (state_of h) o t) × (version_of (state_of after) o t ≡ version_of (state_of h) o t)
 
+-- they leave the window, and move the floor by it alone: up to where it reaches back from the clock
+abbrev pub ClientsMoveTheFloorByTheWindow : Type 0
+ClientsMoveTheFloorByTheWindow = (h after : History) (exchanges : List Exchange)
+    → AreOfClients exchanges → Leads h exchanges after
+    → (window_of after ≡ window_of h) × (floor_of after ≡ max (floor_of h) (clock_of after - window_of h))
+
 -- the moment that a reply to an accepted change tells
 abbrev pub moment_told : Reply → Option ℕ
 moment_told (Changed moment) = Some moment
@@ -57,8 +64,8 @@ moment_told _ = None
 
 -- A reply tells a moment exactly where the step takes a change, which is stamped with it. Every other step sees
 -- its own moment and takes none.
-abbrev pub AToldMomentIsAChanges : Type 0
-AToldMomentIsAChanges = (h after : History) (role : Role) (request : Request) (now : ℕ) (reply : Reply) → Step h role request now reply after
+abbrev pub AMomentIsToldOfAChangeAlone : Type 0
+AMomentIsToldOfAChangeAlone = (h after : History) (role : Role) (request : Request) (now : ℕ) (reply : Reply) → Step h role request now reply after
     → MatchOption (moment_told reply) (after ≡ grown h (Seen now)) (λ moment. (a : Accepted) × (a.moment ≡ moment) × (after ≡ grown h (Took a)))
 
 -- What a change does: all versions of earlier moments stay, its object's present version is its effect on the
@@ -85,10 +92,16 @@ TheFloorNeverFalls = (h after : History) (role : Role) (request : Request) (now 
 abbrev pub NoWindowLowersTheFloor : Type 0
 NoWindowLowersTheFloor = (h after : History) (role : Role) (window now : ℕ) (reply : Reply) → Step h role (SetWindow window) now reply after → floor_of h ≤ floor_of after
 
--- a change is accepted at a moment above the clock and not before its request's, which is then the clock
+-- A change is accepted at the first moment that is above the clock and not before its request's, which is then
+-- the clock.
 abbrev pub AnAcceptedMomentIsLater : Type 0
 AnAcceptedMomentIsLater = (h : History) (role : Role) (request : Request) (now : ℕ) (reply : Reply) (a : Accepted)
-    → Step h role request now reply (grown h (Took a)) → (clock_of h < a.moment) × (now ≤ a.moment) × (clock_of (grown h (Took a)) ≡ a.moment)
+    → Step h role request now reply (grown h (Took a)) → (a.moment ≡ max now (clock_of h + 1)) × (clock_of (grown h (Took a)) ≡ a.moment)
+
+-- an accepted change makes no object and no attribute larger than the limits
+abbrev pub AnAcceptedChangeKeepsTheLimits : Type 0
+AnAcceptedChangeKeepsTheLimits = (h : History) (role : Role) (request : Request) (now : ℕ) (reply : Reply) (a : Accepted)
+    → Step h role request now reply (grown h (Took a)) → Fits a.change
 
 -- the moments of all accepted changes ascend strictly, from above the base's clock up to the clock
 abbrev pub AcceptedMomentsAscend : Type 0
@@ -147,10 +160,6 @@ abbrev pub ADeadObjectStaysAbsent : Type 0
 ADeadObjectStaysAbsent = (h after later : History) (role : Role) (object now moment : ℕ) (exchanges : List Exchange)
     → IsSound (state_of h) → Step h role (Delete object) now (Changed moment) after → Leads after exchanges later → present (state_of later) object ≡ Absent
 
--- each request can be answered, whoever asks and whenever
-abbrev pub EachRequestHasAStep : Type 0
-EachRequestHasAStep = (h : History) (role : Role) (request : Request) (now : ℕ) → (reply : Reply) × (after : History) × Step h role request now reply after
-
 -- the refusals that a drive may choose: of memory, of space, of a full chain, of seats
 abbrev pub is_of_want : Refusal → Bool
 is_of_want NoMemory = true
@@ -163,7 +172,12 @@ abbrev pub is_refused_for_want : Reply → Bool
 is_refused_for_want (Refused refusal) = is_of_want refusal
 is_refused_for_want _ = false
 
--- but for those there is one reply, and one history after it
+-- Each request has a reply that isn't one of those, whoever asks and whenever.
+abbrev pub EachRequestHasAStep : Type 0
+EachRequestHasAStep = (h : History) (role : Role) (request : Request) (now : ℕ)
+    → (reply : Reply) × (after : History) × Step h role request now reply after × (is_refused_for_want reply ≡ false)
+
+-- and but for those there is one reply, and one history after it
 abbrev pub StepsAgreeButForWant : Type 0
 StepsAgreeButForWant = (h after other_after : History) (role : Role) (request : Request) (now : ℕ) (reply other_reply : Reply)
     → Step h role request now reply after → Step h role request now other_reply other_after → is_refused_for_want reply ≡ false → is_refused_for_want other_reply ≡ false

@@ -48,7 +48,7 @@ beginnings (x ∷ xs) = [] ∷ map (λ begun. x ∷ begun) (beginnings xs)
 abbrev pub greatest : List ℕ → ℕ
 greatest numbers = fold max 0 numbers
 
--- how far back the window reaches from the clock
+-- the earliest moment that the window reaches, back from the clock
 abbrev pub reach_of : History → ℕ
 reach_of h = clock_of h - window_of h
 

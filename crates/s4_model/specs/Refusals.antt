@@ -2,13 +2,13 @@
 use Rattle.std.specs.Prelude.{◌≡◌, ℕ, Bool, true, false, not, ◌==◌, ◌&&◌, ◌||◌, ◌+◌, ◌-◌, ◌^◌, nat_le, nat_lt, Option, None, Some, unwrap_or, List, [], ◌∷◌, ◌++◌, length}
 use Rattle.std.specs.List.{find}
 use Rattle.s4_types.specs.declared.spans.Span.{Span}
-use Rattle.s4_types.specs.declared.limits.TheConstants.{OBJECT_BYTES, ATTRIBUTE_BYTES, RUNS_IN_A_LIST, RUNS_IN_ALL}
+use Rattle.s4_types.specs.declared.limits.TheConstants.{OBJECT_BYTES, READ_BYTES, ATTRIBUTE_BYTES, RUNS_IN_A_LIST, RUNS_IN_ALL}
 use Rattle.s4_types.specs.declared.requests.Role.{Role}
 use Rattle.s4_types.specs.declared.requests.Role.TheVariants.{Client, Admin}
 use Rattle.s4_types.specs.declared.requests.Request.{Request}
 use Rattle.s4_types.specs.declared.requests.Request.TheVariants.{Create, Delete, Read, Write, Append, Truncate, GetAttr, SetAttr, SetWindow, Flush, FlushO}
 use Rattle.s4_types.specs.declared.refusals.Refusal.{Refusal}
-use Rattle.s4_types.specs.declared.refusals.Refusal.TheVariants.{NoObject, NotAdmin, Expired, Future, Flushed, TooLarge, BadSpan, TooManySpans, NoSpace, NoMemory, ClockEnd, ChainFull, BadAttr, Busy}
+use Rattle.s4_types.specs.declared.refusals.Refusal.TheVariants.{NoObject, NotAdmin, Expired, Future, Flushed, TooLarge, BadSpan, TooManySpans, ClockEnd, BadAttr}
 use Rattle.s4_types.specs.declared.versions.Version.{Version}
 use Rattle.s4_types.specs.declared.versions.Version.TheVariants.{Absent, Live}
 use Rattle.s4_model.specs.State.{State}
@@ -63,10 +63,10 @@ abbrev pub is_too_large : State → Request → Bool
 is_too_large s (Write object offset bytes) = nat_lt OBJECT_BYTES (offset + length bytes)
 is_too_large s (Append object bytes) = nat_lt OBJECT_BYTES (size_of (present s object) + length bytes)
 is_too_large s (Truncate object size) = nat_lt OBJECT_BYTES size
-is_too_large s (Read object offset len at) = nat_lt OBJECT_BYTES len || nat_lt last_number (offset + len)
+is_too_large s (Read object offset len at) = nat_lt READ_BYTES len || nat_lt last_number (offset + len)
 is_too_large s _ = false
 
--- a span ends at or after its first moment, and at or before the clock
+-- a span that doesn't end at or after its first moment and at or before the clock
 abbrev pub is_bad_span : State → Request → Bool
 is_bad_span s (Flush first last) = not (nat_le first last && nat_le last s.clock)
 is_bad_span s (FlushO object first last) = not (nat_le first last && nat_le last s.clock)

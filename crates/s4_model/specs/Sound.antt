@@ -26,9 +26,9 @@ abbrev pub AreCounted : ℕ → List Accepted → Type 0
 AreCounted number [] = Unit {0}
 AreCounted number (a ∷ changes) = (a.number ≡ number) × AreCounted (number + 1) changes
 
--- A state that a drive can have: the floor isn't above the clock, objects are numbered from 1 and changes too,
--- moments ascend strictly from the base's clock to the clock, spans end before the clock and are of numbers
--- that were given, and the others are of no object.
+-- A state that a drive can have: the floor isn't above the clock, the next object's number is at least 1, changes
+-- are numbered from 1, moments ascend strictly from the base's clock to the clock, spans end before the clock and
+-- are of numbers that were given, and a number that wasn't given is of no object.
 pub record IsSound (s : State) : Type 0 where
   pub floor_reached : s.floor ≤ s.clock
   pub numbered : 1 ≤ s.next

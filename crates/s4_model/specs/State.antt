@@ -27,7 +27,7 @@ state_of h = record {
   clock = clock_of h;
   window = window_of h;
   floor = floor_of h;
-  next = next_of h
+  next = next_of h;
 }
 
 -- a history with one more record
@@ -53,5 +53,5 @@ took s a = record s {
   clock = a.moment;
   window = window_by a.change s.window;
   floor = max s.floor (a.moment - window_by a.change s.window);
-  next = next_by a.change s.next
+  next = next_by a.change s.next;
 }

@@ -20,15 +20,15 @@ abbrev pub opening_version : State → ℕ → ℕ → Version
 opening_version s o t = current_of (versions_of s.versions o) t
 
 -- whether an accepted change is of this object, and not after the moment
-abbrev pub is_before : ℕ → ℕ → Accepted → Bool
-is_before o t a = is_change_of o a.change && nat_le a.moment t
+abbrev pub is_by : ℕ → ℕ → Accepted → Bool
+is_by o t a = is_change_of o a.change && nat_le a.moment t
 
 abbrev pub effect_of : Version → Accepted → Version
 effect_of version a = effect a.change a.moment version
 
 -- what a version becomes by an object's changes up to a moment, in order
 abbrev pub version_after : Version → List Accepted → ℕ → ℕ → Version
-version_after version changes o t = fold effect_of version (filter (is_before o t) changes)
+version_after version changes o t = fold effect_of version (filter (is_by o t) changes)
 
 -- The version of an object at a moment: at or before the base's clock the base's, after it the base's at
 -- its clock and then the object's changes up to the moment.

@@ -7,7 +7,8 @@ use Rattle.s4_types.specs.declared.changes.Change.{Change}
 use Rattle.s4_types.specs.declared.changes.Change.TheVariants.{Create, Delete, Write, Truncate, SetAttr, SetWindow, Flush, FlushO}
 use Rattle.s4_model.specs.State.{State}
 
--- the span that a change hides: a Flush of all objects, which stand under number 0
+-- The span that a change hides: a Flush of all objects, which stand under number 0. No FlushO of object 0 is
+-- ever accepted.
 abbrev pub span_by : Change → Option Span
 span_by (Flush first last) = Some (record { object = 0; first = first; last = last })
 span_by (FlushO object first last) = Some (record { object = object; first = first; last = last })

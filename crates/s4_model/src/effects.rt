@@ -46,7 +46,10 @@ pub fn is_change_of(object: ObjectId, change: &Change) -> bool
     match change {
         Change::Create { object: made, .. } => *made == object,
         Change::Delete { object: deleted } => *deleted == object,
-        Change::Write { object: written, .. } => *written == object,
+        Change::Write {
+            object: written,
+            ..
+        } => *written == object,
         Change::Truncate { object: cut, .. } => *cut == object,
         Change::SetAttr { object: named, .. } => *named == object,
         Change::SetWindow { .. } | Change::Flush { .. } | Change::FlushO { .. } => false,

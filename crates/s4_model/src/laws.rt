@@ -2,7 +2,7 @@ ghost use Rattle.std.specs.Prelude.{◌≡◌, ℕ};
 ghost use Rattle.s4_types.specs.History.{History, Seen, Took};
 ghost use Rattle.s4_types.specs.declared.changes.Accepted.{Accepted};
 ghost use Rattle.s4_model.specs.State.{state_of, grown, seen, took};
-ghost use Rattle.s4_model.specs.Laws.{ANewDriveIsSound, EveryStepKeepsSoundness, ExchangesKeepSoundness, NobodyWithAClientsRightsCanErase, AChangeActsAtItsMoment, TheClockNeverFalls, TheFloorNeverFalls, NoWindowLowersTheFloor, AnAcceptedMomentIsLater, AcceptedMomentsAscend, ThePresentClockIsVisible, AFlushHidesItsSpan, AFlushOfAnObjectHidesItsSpan, ACreateIsGivenTheNextNumber, ObjectNumbersAscend, ADeadObjectStaysAbsent, EachRequestHasAStep, StepsAgreeButForWant, AToldMomentIsAChanges, TheAbsentStayAbsent, RunsAreMaximal, ListsHaveMaximalRuns, ListsHideAlike, NoListIsLeftOut, ClientsLeaveThePast};
+ghost use Rattle.s4_model.specs.Laws.{ANewDriveIsSound, EveryStepKeepsSoundness, ExchangesKeepSoundness, NobodyWithAClientsRightsCanErase, AChangeActsAtItsMoment, TheClockNeverFalls, TheFloorNeverFalls, NoWindowLowersTheFloor, AnAcceptedMomentIsLater, AcceptedMomentsAscend, ThePresentClockIsVisible, AFlushHidesItsSpan, AFlushOfAnObjectHidesItsSpan, ACreateIsGivenTheNextNumber, ObjectNumbersAscend, ADeadObjectStaysAbsent, EachRequestHasAStep, StepsAgreeButForWant, AMomentIsToldOfAChangeAlone, TheAbsentStayAbsent, RunsAreMaximal, ListsHaveMaximalRuns, ListsHideAlike, NoListIsLeftOut, ClientsLeaveThePast, ClientsMoveTheFloorByTheWindow, AnAcceptedChangeKeepsTheLimits};
 
 /// The state of a history goes on record by record: a moment seen moves clock and floor alone, an accepted
 /// change adds itself to the changes and moves the four numbers.
@@ -24,13 +24,15 @@ pub fn every_history_is_sound()
 pub fn nobody_with_a_clients_rights_can_erase()
     ensures visible { NobodyWithAClientsRightsCanErase }
     ensures past { ClientsLeaveThePast }
+    ensures floor { ClientsMoveTheFloorByTheWindow }
 {}
 
 /// An accepted change leaves the versions of earlier moments, acts on its object's present version, and
 /// leaves those of other objects.
 pub fn a_change_acts_at_its_moment()
-    ensures told { AToldMomentIsAChanges }
+    ensures told { AMomentIsToldOfAChangeAlone }
     ensures acts { AChangeActsAtItsMoment }
+    ensures limits { AnAcceptedChangeKeepsTheLimits }
 {}
 
 /// The clock and the floor never fall, whatever window is set; accepted moments ascend strictly; the

@@ -13,6 +13,8 @@ pub mod laws;
 mod plain;
 mod replay;
 mod runs;
+#[cfg(test)]
+mod tests;
 
 pub use plain::PlainDrive;
 pub use replay::version_at;

@@ -43,14 +43,14 @@ impl Model for PlainDrive {
     ghost Value = { State };
 
     ghost view = { λ d. record {
-        versions = [];
-        spans = [];
-        opened = 0;
-        changes = d.changes.items;
-        clock = d.clock;
-        window = d.window;
-        floor = d.floor;
-        next = d.next
+      versions = [];
+      spans = [];
+      opened = 0;
+      changes = d.changes.items;
+      clock = d.clock;
+      window = d.window;
+      floor = d.floor;
+      next = d.next;
     } };
 
     ghost invariant = { λ d. AllByRecursion (IsKept d.clock) d.changes.items };
@@ -75,7 +75,8 @@ impl PlainDrive {
     ///
     /// A change is stamped with the greater of `now` and the clock plus one; a refused change, a Read and a
     /// GetAttr move the clock to `now` if that is later. `NoMemory` comes only where a growth was really
-    /// refused, and leaves all but clock and floor as it was. The time is linear in the changes so far.
+    /// refused, and leaves all but clock and floor as it was. Each call goes through all changes so far, and a
+    /// flush through the spans of every list.
     pub fn request(&mut self, role: Role, request: Request, now: Moment) -> Reply
         // The history goes on by a step, whichever history the drive stands for.
         ensures step { (h : History) → state_of h ≡ self.old →

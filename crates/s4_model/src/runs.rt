@@ -51,12 +51,7 @@ fn note_first(firsts: &mut Vec<u64>, first: u64, begins: bool) -> Result<(), Ref
 }
 
 /// How many runs a list of spans has. Each begins at the first moment of a span, or at the floor.
-fn run_count(
-    alloc: Global,
-    floor: Moment,
-    spans: &[Span],
-    list: ObjectId,
-) -> Result<usize, Refusal>
+fn run_count(alloc: Global, floor: Moment, spans: &[Span], list: ObjectId) -> Result<usize, Refusal>
     ensures ok { IfOk result (λ count. (clock : ℕ) → AllEndBy clock spans.now →
         count ≡ run_count (is_covered floor spans.now list) clock) }
     ensures err { IfErr result (λ refusal. refusal ≡ NoMemory) }
@@ -102,7 +97,7 @@ pub fn are_runs_too_many(
 ) -> Result<bool, Refusal>
     ensures ok { IfOk result (λ too_many. (clock : ℕ) → AllEndBy clock spans.now →
         too_many ≡ (nat_lt RUNS_IN_A_LIST (run_count (is_covered floor spans.now list) clock)
-            || nat_lt RUNS_IN_ALL (run_count_of_all floor spans.now clock next))) }
+        || nat_lt RUNS_IN_ALL (run_count_of_all floor spans.now clock next))) }
     ensures err { IfErr result (λ refusal. refusal ≡ NoMemory) }
 {
     if run_count(alloc, floor, spans, list)? > RUNS_IN_A_LIST {

@@ -1,15 +1,15 @@
--- The sizes that a reply keeps.
+-- The sizes of a reply that has a spelling on the wire.
 use Rattle.std.specs.Prelude.{ℕ, ◌≢◌, ◌≤◌, length}
 use Rattle.s4_types.specs.RefusalNumber.{number_of}
-use Rattle.s4_types.specs.declared.limits.TheConstants.{OBJECT_BYTES, ATTRIBUTE_BYTES}
+use Rattle.s4_types.specs.declared.limits.TheConstants.{READ_BYTES, ATTRIBUTE_BYTES}
 use Rattle.s4_types.specs.declared.replies.Reply.{Reply}
 use Rattle.s4_types.specs.declared.replies.Reply.TheVariants.{Refused, Changed, Created, Data, Attr}
 
--- The reply is one that a drive gives: a refusal that its number alone names, at most the bytes of the
+-- The reply can be sent, and each reply of a drive can: a refusal that its number alone names, at most the bytes of the
 -- longest read, an attribute of an object.
 abbrev pub ReplyFits : Reply → Type 0
 ReplyFits (Refused refusal) = number_of refusal ≢ 16
 ReplyFits (Changed moment) = Unit {0}
 ReplyFits (Created object moment) = Unit {0}
-ReplyFits (Data bytes) = length bytes ≤ OBJECT_BYTES
+ReplyFits (Data bytes) = length bytes ≤ READ_BYTES
 ReplyFits (Attr size created changed attribute) = length attribute ≤ ATTRIBUTE_BYTES

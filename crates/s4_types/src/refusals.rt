@@ -43,7 +43,7 @@ pub enum Refusal {
     /// A span hides the moment.
     #[error("Flushed")]
     Flushed,
-    /// An object or a read would be larger than the limit.
+    /// An object or a read would be larger than the limit, or a read would end above 2^64 - 1.
     #[error("TooLarge")]
     TooLarge,
     /// A span that doesn't end at or after its beginning and at or before the clock.
@@ -67,7 +67,7 @@ pub enum Refusal {
     /// An attribute longer than the limit.
     #[error("BadAttr")]
     BadAttr,
-    /// No seat, or no place in a frame's reader field, was to be had.
+    /// No seat, or no place in a frame's reader field, was to be had, or each try of a pin found the word changed.
     #[error("Busy")]
     Busy,
     /// Bytes that spell no request.

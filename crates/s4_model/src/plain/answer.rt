@@ -7,7 +7,7 @@ ghost use Rattle.s4_types.specs.declared.requests.Role.{Role as TheRole};
 ghost use Rattle.s4_types.specs.declared.refusals.Refusal.TheVariants.{NoMemory};
 
 use crate::plain::PlainDrive;
-use s4_types::limits::OBJECT_BYTES;
+use s4_types::limits::READ_BYTES;
 use s4_types::{Bytes, Moment, ObjectId, Refusal, Reply, Request, Version};
 use std::alloc::Global;
 
@@ -63,7 +63,7 @@ impl PlainDrive {
         ensures answer { (role : TheRole) → Answers self.now role (Request.Read object offset length at) result }
         ensures fits { IfOk result IsPlain }
     {
-        if u64::from(length) > OBJECT_BYTES || offset > u64::MAX - u64::from(length) {
+        if u64::from(length) > READ_BYTES || offset > u64::MAX - u64::from(length) {
             return Err(Refusal::TooLarge);
         }
         let moment = self.check_moment(object, at)?;

@@ -46,7 +46,7 @@ impl PlainDrive {
         requires { IsTakeable self.old change }
         ensures { MatchResult result
             (λ reply. (reply ≡ reply_to_change self.old change now)
-                × (self.new ≡ took self.old (accepted_record self.old change now)))
+            × (self.new ≡ took self.old (accepted_record self.old change now)))
             (λ refusal. (refusal ≡ NoMemory) × (self.new ≡ self.old)) }
     {
         self.changes.reserve(1)?;
