@@ -16,7 +16,7 @@ use Rattle.s4_model.specs.Visible.{is_within, span_by, span_of, spans_of}
 use Rattle.s4_model.specs.Runs.{is_covered, is_first, run_count, run_count_of_all}
 use Rattle.s4_model.specs.Plain.{EndsBy, IsKept}
 use Rattle.s4_model.specs.RunCounting.{AllEndBy, has, noted}
-use Rattle.s4_model.proofs.CountLemmas.{range-push, below, count_by-range, below-length, IsWithoutRepeats, Passes}
+use Rattle.s4_model.proofs.CountLemmas.{range-push, count_by-range, below-length, IsWithoutRepeats}
 
 -- the span of this list covers the moment
 abbrev covers : ℕ → ℕ → Span → Bool

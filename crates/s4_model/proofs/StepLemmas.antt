@@ -1,9 +1,8 @@
 -- What the plain drive's parts answer, as a step.
-use Rattle.std.proofs.Common.{◌≡◌, ◌≢◌, ◌⊎◌, inl, inr, ℕ, Bool, true, false, cond, Option, None, Some, Result, Ok, Err, IfOk, MatchResult, List, [], ◌∷◌, refl, sym, ap, subst, ◌∙◌, arith}
+use Rattle.std.proofs.Common.{◌≡◌, ◌≢◌, inl, inr, ℕ, Bool, true, false, cond, Option, Some, Result, Ok, Err, IfOk, MatchResult, List, [], ◌∷◌, refl, sym, ap, subst, ◌∙◌, arith}
 use Rattle.std.specs.List.{find, AllByRecursion}
-use Rattle.s4_types.specs.History.{History, Record, Took, Seen}
+use Rattle.s4_types.specs.History.{History, Took, Seen}
 use Rattle.s4_types.specs.RefusalNumber.{number_of}
-use Rattle.s4_types.specs.Sizes.{ReplyFits}
 use Rattle.s4_types.specs.declared.changes.Change.{Change}
 use Rattle.s4_types.specs.declared.changes.Change.TheVariants as change
 use Rattle.s4_types.specs.declared.requests.Role.{Role}
@@ -13,10 +12,10 @@ use Rattle.s4_types.specs.declared.replies.Reply.{Reply}
 use Rattle.s4_types.specs.declared.replies.Reply.TheVariants.{Refused}
 use Rattle.s4_types.specs.declared.refusals.Refusal.{Refusal}
 use Rattle.s4_types.specs.declared.refusals.Refusal.TheVariants as refusal
-use Rattle.s4_model.specs.State.{State, state_of, grown, seen, took}
+use Rattle.s4_model.specs.State.{State, state_of, grown, seen}
 use Rattle.s4_model.specs.Refusals.{first_refusal, applies, checks}
-use Rattle.s4_model.specs.Step.{Step, Refuses, Serves, Accepts, Alters, Reads, MayRefuse, AsFirst, ForMemory, judged, change_of, reply_to_change, reply_to_read, accepted_record, reply_at, MayWantMemory}
-use Rattle.s4_model.specs.Plain.{IsChange, IsPlainRefusal, IsPlainReply, IsPlain, RefusesPlainly, Judges, Settles, Answers, Responds, Refusing, Taking, Telling, judged_by}
+use Rattle.s4_model.specs.Step.{Step, Refuses, Serves, Alters, Reads, MayRefuse, AsFirst, ForMemory, judged, reply_to_read, accepted_record, reply_at, MayWantMemory}
+use Rattle.s4_model.specs.Plain.{IsChange, IsPlainRefusal, IsPlain, RefusesPlainly, Judges, Settles, Answers, Responds, Refusing, Taking, Telling, judged_by}
 use Rattle.s4_model.proofs.StateLemmas.{state_of-seen, state_of-took}
 
 -- a request is judged by its history's state

@@ -2,7 +2,7 @@
 use Rattle.std.specs.Prelude.{ℕ, ◌+◌, ◌-◌, max, List, [], ◌∷◌, map, fold}
 use Rattle.s4_types.specs.History.{History, Record, Took, Seen}
 use Rattle.s4_types.specs.declared.changes.Change.{Change}
-use Rattle.s4_types.specs.declared.changes.Change.TheVariants.{Create, Delete, Write, Truncate, SetAttr, SetWindow, Flush, FlushO}
+use Rattle.s4_types.specs.declared.changes.Change.TheVariants.{Create, SetWindow}
 
 -- the clock after a record: an accepted change sets it to its moment, a moment seen never sets it back
 abbrev pub clock_after : ℕ → Record → ℕ

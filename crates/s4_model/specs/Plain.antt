@@ -1,19 +1,17 @@
 -- What the plain drive's parts promise one another, over states.
-use Rattle.std.specs.Prelude.{◌≡◌, ◌≢◌, ◌⊎◌, ℕ, Bool, ◌==◌, ◌+◌, ◌<◌, ◌≤◌, nat_lt, if◌then◌else◌, Option, None, Some, Result, MatchResult, List, [], ◌∷◌, length}
-use Rattle.std.specs.List.{AllByRecursion}
+use Rattle.std.specs.Prelude.{◌≡◌, ◌⊎◌, ℕ, ◌==◌, ◌<◌, ◌≤◌, if◌then◌else◌, Option, None, Some, Result, MatchResult}
 use Rattle.s4_types.specs.Sizes.{ReplyFits}
 use Rattle.s4_types.specs.declared.changes.Accepted.{Accepted}
 use Rattle.s4_types.specs.declared.changes.Change.{Change}
-use Rattle.s4_types.specs.declared.changes.Change.TheVariants.{Create, Delete, Write, Truncate, SetAttr, SetWindow, Flush, FlushO}
+use Rattle.s4_types.specs.declared.changes.Change.TheVariants.{Create, Flush, FlushO}
 use Rattle.s4_types.specs.declared.requests.Role.{Role}
 use Rattle.s4_types.specs.declared.requests.Request.{Request}
 use Rattle.s4_types.specs.declared.requests.Request.TheVariants.{Read, GetAttr}
 use Rattle.s4_types.specs.declared.refusals.Refusal.{Refusal}
-use Rattle.s4_types.specs.declared.refusals.Refusal.TheVariants.{NoObject, Expired, Future, Flushed, NoSpace, NoMemory, ClockEnd, ChainFull, Busy, BadFrame, Damaged, Stale, NoRoom, InUse}
+use Rattle.s4_types.specs.declared.refusals.Refusal.TheVariants.{NoObject, NoSpace, NoMemory, ClockEnd, ChainFull, Busy, BadFrame, Damaged, Stale, NoRoom, InUse}
 use Rattle.s4_types.specs.declared.replies.Reply.{Reply}
 use Rattle.s4_types.specs.declared.replies.Reply.TheVariants.{Refused}
 use Rattle.s4_model.specs.State.{State, seen, took}
-use Rattle.s4_model.specs.Visible.{is_hidden}
 use Rattle.s4_model.specs.Refusals.{first_refusal, is_absent, present, last_number}
 use Rattle.s4_model.specs.Step.{change_of, reply_to_change, reply_to_read, accepted_record, MayWantMemory}
 use Rattle.s4_model.specs.Limits.{Fits}
@@ -62,10 +60,6 @@ Judges s role request judged =
 -- what is left to refuse of a change of an object: that it is absent, or the clock's end
 abbrev pub live_refusal : State → ℕ → Option Refusal
 live_refusal s o = if is_absent (present s o) then Some NoObject else (if s.clock == last_number then Some ClockEnd else None)
-
--- what is to refuse of a moment that is asked for
-abbrev pub moment_refusal : State → ℕ → ℕ → Option Refusal
-moment_refusal s o t = if nat_lt s.clock t then Some Future else (if nat_lt t s.floor then Some Expired else (if is_hidden s o t then Some Flushed else None))
 
 -- no refusal for want of room or of a seat, and none that isn't a request's
 abbrev pub IsPlainRefusal : Refusal → Type 0

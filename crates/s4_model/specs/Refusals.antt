@@ -1,5 +1,5 @@
 -- When each refusal applies, and in which order they are looked at.
-use Rattle.std.specs.Prelude.{◌≡◌, ℕ, Bool, true, false, not, ◌==◌, ◌&&◌, ◌||◌, ◌+◌, ◌-◌, ◌^◌, nat_le, nat_lt, Option, None, Some, unwrap_or, List, [], ◌∷◌, ◌++◌, length}
+use Rattle.std.specs.Prelude.{ℕ, Bool, true, false, not, ◌==◌, ◌&&◌, ◌||◌, ◌+◌, ◌-◌, ◌^◌, nat_le, nat_lt, if◌then◌else◌, Option, None, Some, unwrap_or, List, [], ◌∷◌, ◌++◌, length}
 use Rattle.std.specs.List.{find}
 use Rattle.s4_types.specs.declared.spans.Span.{Span}
 use Rattle.s4_types.specs.declared.limits.TheConstants.{OBJECT_BYTES, READ_BYTES, ATTRIBUTE_BYTES, RUNS_IN_A_LIST, RUNS_IN_ALL}
@@ -86,6 +86,10 @@ abbrev pub is_flushed : State → Request → Bool
 is_flushed s (Read object offset len at) = is_hidden s object (asked s at)
 is_flushed s (GetAttr object at) = is_hidden s object (asked s at)
 is_flushed s _ = false
+
+-- The first refusal of a moment of an object that is asked for: it is above the clock, below the floor, or hidden.
+abbrev pub moment_refusal : State → ℕ → ℕ → Option Refusal
+moment_refusal s o t = if nat_lt s.clock t then Some Future else (if nat_lt t s.floor then Some Expired else (if is_hidden s o t then Some Flushed else None))
 
 -- The object isn't there, now or at the moment that is asked for. A span may be of each object that ever was.
 abbrev pub is_of_no_object : State → Request → Bool

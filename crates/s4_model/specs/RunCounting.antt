@@ -1,5 +1,5 @@
 -- How the plain drive counts runs: by the first moments that it has come upon.
-use Rattle.std.specs.Prelude.{◌≡◌, ℕ, Bool, true, not, max, ◌==◌, ◌&&◌, ◌≤◌, if◌then◌else◌, List, [], ◌∷◌, ◌++◌}
+use Rattle.std.specs.Prelude.{ℕ, Bool, not, ◌==◌, ◌&&◌, ◌≤◌, if◌then◌else◌, List, [], ◌∷◌, ◌++◌}
 use Rattle.std.specs.List.{list_any, AllByRecursion}
 use Rattle.s4_types.specs.declared.spans.Span.{Span}
 

@@ -1,6 +1,6 @@
 -- What a history has come to: all that the checks and the reads look at.
-use Rattle.std.specs.Prelude.{ℕ, ◌+◌, ◌-◌, max, List, [], ◌∷◌, ◌++◌}
-use Rattle.s4_types.specs.History.{History, Base, Record, Took, Seen, accepted}
+use Rattle.std.specs.Prelude.{ℕ, ◌-◌, max, List, [], ◌∷◌, ◌++◌}
+use Rattle.s4_types.specs.History.{History, Base, Record, accepted}
 use Rattle.s4_types.specs.declared.changes.Accepted.{Accepted}
 use Rattle.s4_types.specs.declared.spans.Span.{Span}
 use Rattle.s4_types.specs.declared.versions.Version.{Version}

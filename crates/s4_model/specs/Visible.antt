@@ -1,10 +1,10 @@
 -- Which moments of an object can be read.
-use Rattle.std.specs.Prelude.{◌≡◌, ℕ, Bool, false, ◌==◌, ◌&&◌, ◌||◌, ◌≤◌, nat_le, Option, None, Some, List, [], ◌∷◌, ◌++◌}
+use Rattle.std.specs.Prelude.{◌≡◌, ℕ, Bool, false, ◌==◌, ◌&&◌, ◌||◌, ◌≤◌, nat_le, Option, None, Some, List, ◌++◌}
 use Rattle.std.specs.List.{filter_map, list_any}
 use Rattle.s4_types.specs.declared.spans.Span.{Span}
 use Rattle.s4_types.specs.declared.changes.Accepted.{Accepted}
 use Rattle.s4_types.specs.declared.changes.Change.{Change}
-use Rattle.s4_types.specs.declared.changes.Change.TheVariants.{Create, Delete, Write, Truncate, SetAttr, SetWindow, Flush, FlushO}
+use Rattle.s4_types.specs.declared.changes.Change.TheVariants.{Flush, FlushO}
 use Rattle.s4_model.specs.State.{State}
 
 -- The span that a change hides: a Flush of all objects, which stand under number 0. No FlushO of object 0 is

@@ -10,3 +10,8 @@ pub mod Opening
 pub mod BlockWords
 pub mod BlockBytes
 pub mod HeldPins
+pub mod AcceptLists
+pub mod AcceptFits
+pub mod AcceptViews
+pub mod Accepting
+pub mod AcceptMoving

@@ -4,3 +4,7 @@ pub mod Counting
 pub mod FrameRule
 pub mod Steps
 pub mod Handles
+pub mod AcceptViews
+pub mod AcceptRule
+pub mod AcceptSteps
+pub mod AcceptHandles

@@ -1,8 +1,8 @@
 //! The answers to reads.
 ghost use Rattle.std.specs.Prelude.{◌≡◌, ◌≤◌, ℕ, None, Some, MatchResult, IfOk, IfErr};
-ghost use Rattle.s4_model.specs.Refusals.{asked};
+ghost use Rattle.s4_model.specs.Refusals.{asked, moment_refusal};
 ghost use Rattle.s4_model.specs.Step.{part};
-ghost use Rattle.s4_model.specs.Plain.{Answers, IsPlain, moment_refusal};
+ghost use Rattle.s4_model.specs.Plain.{Answers, IsPlain};
 ghost use Rattle.s4_types.specs.declared.requests.Role.{Role as TheRole};
 ghost use Rattle.s4_types.specs.declared.refusals.Refusal.TheVariants.{NoMemory};
 

@@ -1,4 +1,4 @@
-use Rattle.std.proofs.Common.{◌≡◌, ◌+◌, ◌<◌, ℕ, ap, sym, ◌∙◌, arith}
+use Rattle.std.proofs.Common.{◌≡◌, ◌+◌, ap, sym, ◌∙◌, arith}
 use Rattle.s4_types.specs.declared.limits.TheConstants.{RUNS_IN_ALL}
 use Rattle.s4_model.specs.Runs.{is_covered, run_count, run_count_of_all}
 use Rattle.s4_model.proofs.RunLemmas.{run_count_of_all-step, too_many_so_far}

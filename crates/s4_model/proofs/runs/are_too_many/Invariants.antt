@@ -1,7 +1,6 @@
-use Rattle.std.proofs.Common.{◌≡◌, ◌≤◌, ℕ, sum_by}
-use Rattle.std.specs.List.{range_with_len}
+use Rattle.std.proofs.Common.{◌≡◌, ◌≤◌, ℕ}
 use Rattle.s4_types.specs.declared.limits.TheConstants.{RUNS_IN_ALL}
-use Rattle.s4_model.specs.Runs.{is_covered, run_count, run_count_of_all}
+use Rattle.s4_model.specs.Runs.{run_count_of_all}
 use Rattle.s4_model.specs.RunCounting.{AllEndBy}
 use Rattle.s4_model.proofs.runs.are_too_many.Given as goal
 

@@ -1,0 +1,282 @@
+-- An entry is read exactly where it is spelled.
+use Rattle.std.proofs.Common.{◌≡◌, ℕ, zero, suc, ◌/◌, ◌%◌, ◌^◌, ◌<◌, ◌≤◌, Bool, true, false, eqb, ltb, leb, List, [], ◌∷◌, ◌++◌, length, Option, Some, None, refl, sym, ap, subst, ◌∙◌, append_assoc, arith}
+use Rattle.std.specs.Prelude.{is_some}
+use Rattle.std.specs.Int.{w32, w64}
+use Rattle.std.specs.List.{flat_map}
+use Rattle.std.proofs.lemmas.Bool.{ltb-false, le-ltb, leb-true, le-leb}
+use Rattle.codec.specs.Fields.{◌>>=◌, kept, number, slot, bit, byte_at, bytes_at, slot_at, many_at}
+use Rattle.codec.specs.Entry.{EntryFields, EntryNumbers, IsEntry, IsPair, IsTriple, entry_rules, text, pair_spelling, triple_spelling, flags_byte, flags_of, entry_spelling, flags_at, text_at, pair_at, triple_at, triples_at, checked_entry, entry_at}
+use Rattle.codec.specs.declared.entries.Triple.{Triple}
+use Rattle.codec.specs.declared.entries.Pair.{Pair}
+use Rattle.codec.specs.declared.entries.Flags.{Flags}
+use Rattle.codec.proofs.Exact.{IsBytes, IsField, Exact, Then, Made, then_exact, made_exact, byte_field, bytes_field, word_field, long_field, passed, some_is, step_some, bytes_behind}
+use Rattle.codec.proofs.Many.{AreMany, many_field}
+use Rattle.codec.proofs.Slots.{slot_field, kept_is}
+
+-- ---- flags
+
+bit_is : (n : ℕ) → n < 2 → bit (eqb n 1) ≡ n
+bit_is zero lt = refl
+bit_is (suc zero) lt = refl
+bit_is (suc (suc n)) lt = absurd (omega (arith, lt))
+
+abbrev flags_in : ℕ → Flags
+flags_in b = record { before = eqb (b % 2) 1; after = eqb (b / 2 % 2) 1; pair = eqb (b / 4) 1 }
+
+flags_told : (b : ℕ) → b ≤ 7 → flags_byte (flags_in b) ≡ b
+unfolding flags_byte
+flags_told b le = omega (arith, bit_is (b % 2) (omega arith), bit_is (b / 2 % 2) (omega arith), bit_is (b / 4) (omega arith))
+
+flags_whole : (bytes : List ℕ) (x : Flags × List ℕ) → flags_at bytes ≡ Some x → bytes ≡ flags_byte x.0 ∷ x.1
+unfolding flags_at
+flags_whole [] x e = absurd cc
+flags_whole (b ∷ rest) x e =
+    let p = passed (ltb 7 b) (Some (flags_in b, rest)) x e in
+    let told : b ∷ rest ≡ flags_byte (flags_in b) ∷ rest = ap (λ (n : ℕ). n ∷ rest) (sym (flags_told b (ltb-false _ _ p.0))) in
+    subst (λ (y : Flags × List ℕ). b ∷ rest ≡ flags_byte y.0 ∷ y.1) (some_is _ _ p.1) told
+
+flags_again : (before after pair : Bool) (rest : List ℕ) → flags_at (flags_byte (record { before = before; after = after; pair = pair }) ∷ rest) ≡ Some (record { before = before; after = after; pair = pair }, rest)
+unfolding flags_at flags_byte
+flags_again true true true rest = refl
+flags_again true true false rest = refl
+flags_again true false true rest = refl
+flags_again true false false rest = refl
+flags_again false true true rest = refl
+flags_again false true false rest = refl
+flags_again false false true rest = refl
+flags_again false false false rest = refl
+
+flags_field : IsField flags_at (λ f. flags_byte f ∷ []) (λ _. Unit {0})
+flags_field = record { whole = λ bytes x h e. flags_whole bytes x e; fits = λ bytes x h e. tt; again = λ f rest _. flags_again f.before f.after f.pair rest }
+
+-- ---- attributes
+
+text_takes : (bytes : List ℕ) (x : List ℕ × List ℕ) → IsBytes bytes → text_at bytes ≡ Some x → (bytes ≡ text x.0 ++ x.1) × (length x.0 ≤ 64)
+unfolding text_at text
+text_takes bytes x h e =
+    let a = step_some (byte_at bytes) (λ len. bytes_at len.0 len.1 >>= λ found. kept (leb (length found.0) 64) found.0 >>= λ made. Some (made, found.1)) x e in
+    let b = step_some (bytes_at a.0.0 a.0.1) (λ found. kept (leb (length found.0) 64) found.0 >>= λ made. Some (made, found.1)) x a.2 in
+    let c = step_some (kept (leb (length b.0.0) 64) b.0.0) (λ made. Some (made, b.0.1)) x b.2 in
+    let k = kept_is (leb (length b.0.0) 64) b.0.0 c.0 c.1 in
+    let front = byte_field.whole bytes a.0 h a.1 in
+    let behind = bytes_behind (a.0.0 ∷ []) a.0.1 bytes front h in
+    let parts = (bytes_field a.0.0).whole a.0.1 b.0 behind b.1 in
+    let size : length b.0.0 ≡ a.0.0 = (bytes_field a.0.0).fits a.0.1 b.0 behind b.1 in
+    let told : bytes ≡ a.0.0 ∷ (b.0.0 ++ b.0.1) = front ∙ ap (λ (r : List ℕ). a.0.0 ∷ r) parts in
+    let whole : bytes ≡ length b.0.0 ∷ (b.0.0 ++ b.0.1) = subst (λ (n : ℕ). bytes ≡ n ∷ (b.0.0 ++ b.0.1)) (sym size) told in
+    let same : (b.0.0, b.0.1) ≡ x = ap (λ (y : List ℕ). (y, b.0.1)) k.1 ∙ some_is _ _ c.2 in
+    subst (λ (y : List ℕ × List ℕ). (bytes ≡ (length y.0 ∷ y.0) ++ y.1) × (length y.0 ≤ 64)) same (whole, leb-true _ _ k.0)
+
+text_again : (a rest : List ℕ) → length a ≤ 64 → text_at (text a ++ rest) ≡ Some (a, rest)
+unfolding text_at text
+text_again a rest h =
+    let low : leb (length a) 64 ≡ true = le-leb _ _ h in
+    rw ((bytes_field (length a)).again a rest refl, low) refl
+
+text_field : IsField text_at text (λ a. length a ≤ 64)
+text_field = record { whole = λ bytes x h e. (text_takes bytes x h e).0; fits = λ bytes x h e. (text_takes bytes x h e).1; again = text_again }
+
+-- there are two attributes, or none, as it was told
+abbrev IsToldPair : Bool → Option Pair → Type 0
+IsToldPair there pair = (is_some pair ≡ there) × IsPair pair
+
+pair_takes : (there : Bool) (bytes : List ℕ) (x : Option Pair × List ℕ) → IsBytes bytes → pair_at there bytes ≡ Some x → (bytes ≡ pair_spelling x.0 ++ x.1) × IsToldPair there x.0
+unfolding pair_at pair_spelling
+pair_takes false bytes x h e = subst (λ (y : Option Pair × List ℕ). (bytes ≡ pair_spelling y.0 ++ y.1) × IsToldPair false y.0) (some_is _ _ e) (refl, (refl, tt))
+pair_takes true bytes x h e =
+    let a = step_some (text_at bytes) (λ before. text_at before.1 >>= λ after. Some (Some (record { before = before.0; after = after.0 }), after.1)) x e in
+    let b = step_some (text_at a.0.1) (λ after. Some (Some (record { before = a.0.0; after = after.0 }), after.1)) x a.2 in
+    let front = text_field.whole bytes a.0 h a.1 in
+    let behind = bytes_behind (text a.0.0) a.0.1 bytes front h in
+    let parts = text_field.whole a.0.1 b.0 behind b.1 in
+    let whole : bytes ≡ (text a.0.0 ++ text b.0.0) ++ b.0.1 = front ∙ ap (λ (r : List ℕ). text a.0.0 ++ r) parts ∙ sym (append_assoc (text a.0.0) (text b.0.0) b.0.1) in
+    subst (λ (y : Option Pair × List ℕ). (bytes ≡ pair_spelling y.0 ++ y.1) × IsToldPair true y.0) (some_is _ _ b.2) (whole, (refl, (text_field.fits bytes a.0 h a.1, text_field.fits a.0.1 b.0 behind b.1)))
+
+pair_again : (there : Bool) (p : Option Pair) (rest : List ℕ) → IsToldPair there p → pair_at there (pair_spelling p ++ rest) ≡ Some (p, rest)
+unfolding pair_at pair_spelling
+pair_again false None rest h = refl
+pair_again true None rest h = absurd (let e : false ≡ true = h.0 in cc)
+pair_again false (Some p) rest h = absurd (let e : true ≡ false = h.0 in cc)
+pair_again true (Some p) rest h = rw (append_assoc (text p.before) (text p.after) rest, text_field.again p.before (text p.after ++ rest) h.1.0, text_field.again p.after rest h.1.1) refl
+
+pair_field : (there : Bool) → IsField (pair_at there) pair_spelling (IsToldPair there)
+pair_field there = record { whole = λ bytes x h e. (pair_takes there bytes x h e).0; fits = λ bytes x h e. (pair_takes there bytes x h e).1; again = pair_again there }
+
+-- ---- triples
+
+triple_takes : (bytes : List ℕ) (x : Triple × List ℕ) → IsBytes bytes → triple_at bytes ≡ Some x → (bytes ≡ triple_spelling x.0 ++ x.1) × IsTriple x.0
+unfolding triple_at triple_spelling
+triple_takes bytes x h e =
+    let a = step_some (byte_at bytes) (λ index. slot_at index.1 >>= λ before. slot_at before.1 >>= λ after. Some (record { index = index.0; before = before.0; after = after.0 }, after.1)) x e in
+    let b = step_some (slot_at a.0.1) (λ before. slot_at before.1 >>= λ after. Some (record { index = a.0.0; before = before.0; after = after.0 }, after.1)) x a.2 in
+    let c = step_some (slot_at b.0.1) (λ after. Some (record { index = a.0.0; before = b.0.0; after = after.0 }, after.1)) x b.2 in
+    let one = byte_field.whole bytes a.0 h a.1 in
+    let behind = bytes_behind (a.0.0 ∷ []) a.0.1 bytes one h in
+    let two = slot_field.whole a.0.1 b.0 behind b.1 in
+    let behind_two = bytes_behind (slot b.0.0) b.0.1 a.0.1 two behind in
+    let three = slot_field.whole b.0.1 c.0 behind_two c.1 in
+    let whole : bytes ≡ a.0.0 ∷ ((slot b.0.0 ++ slot c.0.0) ++ c.0.1) =
+    one ∙ ap (λ (r : List ℕ). a.0.0 ∷ r) (two ∙ ap (λ (r : List ℕ). slot b.0.0 ++ r) three ∙ sym (append_assoc (slot b.0.0) (slot c.0.0) c.0.1)) in
+    let numbers : IsTriple (record { index = a.0.0; before = b.0.0; after = c.0.0 }) = record { index = byte_field.fits bytes a.0 h a.1; before = slot_field.fits a.0.1 b.0 behind b.1; after = slot_field.fits b.0.1 c.0 behind_two c.1 } in
+    subst (λ (y : Triple × List ℕ). (bytes ≡ y.0.index ∷ ((slot y.0.before ++ slot y.0.after) ++ y.1)) × IsTriple y.0) (some_is _ _ c.2) (whole, numbers)
+
+triple_again : (t : Triple) (rest : List ℕ) → IsTriple t → triple_at (triple_spelling t ++ rest) ≡ Some (t, rest)
+unfolding triple_at triple_spelling
+triple_again t rest h = rw (append_assoc (slot t.before) (slot t.after) rest, slot_field.again t.before (slot t.after ++ rest) h.before, slot_field.again t.after rest h.after) refl
+
+triple_field : IsField triple_at triple_spelling IsTriple
+triple_field = record { whole = λ bytes x h e. (triple_takes bytes x h e).0; fits = λ bytes x h e. (triple_takes bytes x h e).1; again = triple_again }
+
+abbrev AreTriples : ℕ → List Triple → Type 0
+AreTriples count triples = (count ≤ 16) × AreMany IsTriple count triples
+
+triples_takes : (count : ℕ) (bytes : List ℕ) (x : List Triple × List ℕ) → triples_at count bytes ≡ Some x → (count ≤ 16) × (many_at triple_at count bytes ≡ Some x)
+unfolding triples_at
+triples_takes count bytes x e = let p = passed (ltb 16 count) (many_at triple_at count bytes) x e in (ltb-false _ _ p.0, p.1)
+
+pub triples_few : (count : ℕ) (bytes : List ℕ) → count ≤ 16 → triples_at count bytes ≡ many_at triple_at count bytes
+unfolding triples_at
+triples_few count bytes le = let few : ltb 16 count ≡ false = le-ltb _ _ le in rw few refl
+
+triples_again : (count : ℕ) (triples : List Triple) (rest : List ℕ) → AreTriples count triples → triples_at count (flat_map triple_spelling triples ++ rest) ≡ Some (triples, rest)
+unfolding triples_at
+triples_again count triples rest h = let few : ltb 16 count ≡ false = le-ltb _ _ h.0 in rw few ((many_field triple_field count).again triples rest h.1)
+
+triples_field : (count : ℕ) → IsField (triples_at count) (flat_map triple_spelling) (AreTriples count)
+triples_field count = record {
+  whole = λ bytes x h e. (many_field triple_field count).whole bytes x h (triples_takes count bytes x e).1;
+  fits = λ bytes x h e. let t = triples_takes count bytes x e in (t.0, (many_field triple_field count).fits bytes x h t.1);
+  again = triples_again count;
+}
+
+-- ---- the entry
+
+abbrev made_of : ℕ → Flags → ℕ → ℕ → ℕ → ℕ → Option Pair → List Triple → EntryFields
+made_of moment flags size_before size_after changed_before changed_after pair triples =
+    record { moment = moment; before = record { alive = flags.before; size = size_before; changed = changed_before }; after = record { alive = flags.after; size = size_after; changed = changed_after }; pair = pair; triples = triples }
+
+abbrev IsLong : ℕ → Type 0
+IsLong n = n < 2 ^ 64
+
+abbrev IsWord : ℕ → Type 0
+IsWord n = n < 2 ^ 32
+
+abbrev says : List ℕ → (EntryFields × List ℕ) → Type 0
+says =
+    Then (number w64) IsLong (λ moment. Then (λ f. flags_byte f ∷ []) (λ _. Unit {0}) (λ flags. Then (λ b. b ∷ []) (λ b. b < 256) (λ count.
+    Then (number w32) IsWord (λ size_before. Then (number w32) IsWord (λ size_after. Then (number w64) IsLong (λ changed_before. Then (number w64) IsLong (λ changed_after.
+    Then pair_spelling (IsToldPair flags.pair) (λ pair. Then (flat_map triple_spelling) (AreTriples count) (λ triples.
+    Made (checked_entry (made_of moment flags size_before size_after changed_before changed_after pair triples)))))))))))
+
+exact : Exact entry_at says
+unfolding entry_at
+exact =
+    then_exact long_field (λ moment. then_exact flags_field (λ flags. then_exact byte_field (λ count.
+    then_exact word_field (λ size_before. then_exact word_field (λ size_after. then_exact long_field (λ changed_before. then_exact long_field (λ changed_after.
+    then_exact (pair_field flags.pair) (λ pair. then_exact (triples_field count) (λ triples.
+    made_exact (checked_entry (made_of moment flags size_before size_after changed_before changed_after pair triples)))))))))))
+
+-- the fields, with what stands behind them
+abbrev before : ℕ → Flags → ℕ → ℕ → ℕ → ℕ → ℕ → Option Pair → List Triple → List ℕ → List ℕ
+before moment flags count size_before size_after changed_before changed_after pair triples rest =
+    number w64 moment ++ (flags_byte flags ∷ count ∷ (number w32 size_before ++ (number w32 size_after ++ (number w64 changed_before ++ (number w64 changed_after ++ (pair_spelling pair ++ (flat_map triple_spelling triples ++ rest)))))))
+
+spelled_before : (e : EntryFields) (rest : List ℕ) → entry_spelling e ++ rest ≡ before e.moment (flags_of e) (length e.triples) e.before.size e.after.size e.before.changed e.after.changed e.pair e.triples rest
+unfolding entry_spelling
+spelled_before e rest = simp append_assoc
+
+takes : (bytes : List ℕ) (x : EntryFields × List ℕ) → IsBytes bytes → entry_at bytes ≡ Some x → (bytes ≡ entry_spelling x.0 ++ x.1) × IsEntry x.0
+takes bytes x h e =
+    let moment = exact.found bytes x h e in
+    let flags = moment.after in
+    let count = flags.after in
+    let size_before = count.after in
+    let size_after = size_before.after in
+    let changed_before = size_after.after in
+    let changed_after = changed_before.after in
+    let pair = changed_after.after in
+    let triples = pair.after in
+    let made = made_of moment.value flags.value size_before.value size_after.value changed_before.value changed_after.value pair.value triples.value in
+    let k = kept_is (entry_rules made) made x.0 triples.after.is in
+    let numbers : EntryNumbers made = record { moment = moment.fits; size_before = size_before.fits; size_after = size_after.fits; changed_before = changed_before.fits; changed_after = changed_after.fits; pair = pair.fits.1; count = omega (arith, triples.fits.0, triples.fits.1.0); triples = triples.fits.1.1 } in
+    let tail : count.rest ≡ number w32 size_before.value ++ (number w32 size_after.value ++ (number w64 changed_before.value ++ (number w64 changed_after.value ++ (pair_spelling pair.value ++ (flat_map triple_spelling triples.value ++ x.1))))) =
+    rw (size_before.whole, size_after.whole, changed_before.whole, changed_after.whole, pair.whole, triples.whole, triples.after.rest) refl in
+    let head : bytes ≡ before moment.value flags.value count.value size_before.value size_after.value changed_before.value changed_after.value pair.value triples.value x.1 =
+    moment.whole ∙ ap (λ (r : List ℕ). number w64 moment.value ++ r) (flags.whole ∙ ap (λ (r : List ℕ). flags_byte flags.value ∷ r) (count.whole ∙ ap (λ (r : List ℕ). count.value ∷ r) tail)) in
+    let told : flags_of made ≡ flags.value = ap (λ (b : Bool). record { before = flags.value.before; after = flags.value.after; pair = b }) pair.fits.0 in
+    let counted : bytes ≡ before moment.value flags.value (length triples.value) size_before.value size_after.value changed_before.value changed_after.value pair.value triples.value x.1 =
+    head ∙ ap (λ (n : ℕ). before moment.value flags.value n size_before.value size_after.value changed_before.value changed_after.value pair.value triples.value x.1) (sym triples.fits.1.0) in
+    let whole : bytes ≡ entry_spelling made ++ x.1 =
+    counted ∙ ap (λ (f : Flags). before moment.value f (length triples.value) size_before.value size_after.value changed_before.value changed_after.value pair.value triples.value x.1) (sym told) ∙ sym (spelled_before made x.1) in
+    subst (λ (d : EntryFields). (bytes ≡ entry_spelling d ++ x.1) × IsEntry d) k.1 (whole, (k.0, numbers))
+
+made_is : (e : EntryFields) → entry_rules e ≡ true → checked_entry e ≡ Some e
+made_is e h = rw h refl
+
+again : (e : EntryFields) (rest : List ℕ) → IsEntry e → entry_at (entry_spelling e ++ rest) ≡ Some (e, rest)
+again e rest h =
+    let n = h.1 in
+    let r7 = flat_map triple_spelling e.triples ++ rest in
+    let r6 = pair_spelling e.pair ++ r7 in
+    let r5 = number w64 e.after.changed ++ r6 in
+    let r4 = number w64 e.before.changed ++ r5 in
+    let r3 = number w32 e.after.size ++ r4 in
+    let r2 = number w32 e.before.size ++ r3 in
+    exact.again (entry_spelling e ++ rest) (e, rest) (record {
+      value = e.moment;
+      rest = flags_byte (flags_of e) ∷ length e.triples ∷ r2;
+      fits = n.moment;
+      whole = spelled_before e rest;
+      after = record {
+        value = flags_of e;
+        rest = length e.triples ∷ r2;
+        fits = tt;
+        whole = refl;
+        after = record {
+          value = length e.triples;
+          rest = r2;
+          fits = omega (arith, n.count);
+          whole = refl;
+          after = record {
+            value = e.before.size;
+            rest = r3;
+            fits = n.size_before;
+            whole = refl;
+            after = record {
+              value = e.after.size;
+              rest = r4;
+              fits = n.size_after;
+              whole = refl;
+              after = record {
+                value = e.before.changed;
+                rest = r5;
+                fits = n.changed_before;
+                whole = refl;
+                after = record {
+                  value = e.after.changed;
+                  rest = r6;
+                  fits = n.changed_after;
+                  whole = refl;
+                  after = record {
+                    value = e.pair;
+                    rest = r7;
+                    fits = (refl, n.pair);
+                    whole = refl;
+                    after = record {
+                      value = e.triples;
+                      rest = rest;
+                      fits = (n.count, (refl, n.triples));
+                      whole = refl;
+                      after = record { is = made_is e h.0; rest = refl };
+                    };
+                  };
+                };
+              };
+            };
+          };
+        };
+      };
+    })
+
+pub entry_field : IsField entry_at entry_spelling IsEntry
+entry_field = record { whole = λ bytes x h e. (takes bytes x h e).0; fits = λ bytes x h e. (takes bytes x h e).1; again = again }

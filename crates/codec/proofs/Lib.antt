@@ -1,0 +1,11 @@
+pub mod Exact
+pub mod Zeros
+pub mod Many
+pub mod Slots
+pub mod Whole
+pub mod Padded
+pub mod Holes
+pub mod CheckpointLaws
+pub mod Ascending
+pub mod EntryLaws
+pub mod Lengths

@@ -1,0 +1,74 @@
+-- An inode, and how a checkpoint of it is spelled in one block.
+use Rattle.std.specs.Prelude.{◌≡◌, ℕ, ◌-◌, ◌^◌, ◌<◌, ◌≤◌, Bool, true, List, [], ◌∷◌, ◌++◌, length, Option, Some, IfSome, is_none, nat_lt, nat_le, ◌&&◌, ◌||◌}
+use Rattle.std.specs.Int.{w32, w64}
+use Rattle.std.specs.List.{flat_map, AllByRecursion}
+use Rattle.s4_types.specs.Pointer.{Place, IsPlace}
+use Rattle.s4_types.specs.declared.limits.TheConstants.{OBJECT_BYTES}
+use Rattle.codec.specs.Fields.{◌>>=◌, number, zeros, slot, bit, padded, kept, byte_at, number_at, zeros_at, mark_at, flag_at, slot_at, many_at, padded_at}
+use Rattle.codec.specs.declared.inodes.Inode.{Inode}
+
+-- an object, a moment, and the object's inode after all changes up to the moment
+pub record CheckpointFields : Type 0 where
+  pub object : ℕ
+  pub moment : ℕ
+  pub inode : Inode
+
+-- each pointer behind the bytes of this size is a hole
+unfoldable pub holes_past : ℕ → List (Option Place) → Bool
+holes_past size [] = true
+holes_past size (p ∷ pointers) = (nat_lt 0 size || is_none p) && holes_past (size - 512) pointers
+
+-- the rules of a checkpoint
+unfoldable pub checkpoint_rules : CheckpointFields → Bool
+checkpoint_rules c =
+    nat_le 1 c.object && (nat_le 1 c.moment && (nat_le 1 c.inode.created && (nat_le c.inode.size OBJECT_BYTES && holes_past c.inode.size c.inode.pointers)))
+
+-- a pointer's numbers are in their ranges, or it is a hole
+abbrev pub IsSlot : Option Place → Type 0
+IsSlot p = IfSome p IsPlace
+
+-- the numbers of an inode are in their ranges
+pub record InodeNumbers (i : Inode) : Type 0 where
+  pub size : i.size < 2 ^ 32
+  pub created : i.created < 2 ^ 64
+  pub changed : i.changed < 2 ^ 64
+  pub attribute : length i.attribute ≤ 64
+  pub count : length i.pointers ≡ 48
+  pub pointers : AllByRecursion IsSlot i.pointers
+
+-- the numbers of a checkpoint are in their ranges
+pub record CheckpointNumbers (c : CheckpointFields) : Type 0 where
+  pub object : c.object < 2 ^ 64
+  pub moment : c.moment < 2 ^ 64
+  pub inode : InodeNumbers c.inode
+
+-- the block of a checkpoint
+unfoldable pub checkpoint_spelling : CheckpointFields → List ℕ
+checkpoint_spelling c =
+    2 ∷ bit c.inode.alive ∷ length c.inode.attribute ∷ 0 ∷ (number w32 c.inode.size ++ (number w64 c.object ++ (number w64 c.moment ++ (number w64 c.inode.created ++ (number w64 c.inode.changed ++ (padded c.inode.attribute ++ (flat_map slot c.inode.pointers ++ zeros 24)))))))
+
+-- the block spells this checkpoint
+abbrev pub SpellsCheckpoint : List ℕ → CheckpointFields → Type 0
+SpellsCheckpoint block c = ((checkpoint_rules c ≡ true) × CheckpointNumbers c) × (block ≡ checkpoint_spelling c)
+
+-- a checkpoint that keeps the rules
+abbrev pub checked : CheckpointFields → Option CheckpointFields
+checked c = kept (checkpoint_rules c) c
+
+-- reading a checkpoint
+unfoldable pub checkpoint_at : List ℕ → Option (CheckpointFields × List ℕ)
+checkpoint_at bytes = do
+  mark ← mark_at 2 bytes
+  alive ← flag_at mark.1
+  len ← byte_at alive.1
+  gap ← mark_at 0 len.1
+  size ← number_at w32 gap.1
+  object ← number_at w64 size.1
+  moment ← number_at w64 object.1
+  created ← number_at w64 moment.1
+  changed ← number_at w64 created.1
+  attribute ← padded_at len.0 changed.1
+  pointers ← many_at slot_at 48 attribute.1
+  end ← zeros_at 24 pointers.1
+  made ← checked (record { object = object.0; moment = moment.0; inode = record { alive = alive.0; size = size.0; created = created.0; changed = changed.0; attribute = attribute.0; pointers = pointers.0 } })
+  Some (made, end.1)

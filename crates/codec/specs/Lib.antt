@@ -1,0 +1,4 @@
+pub mod Fields
+pub mod Padding
+pub mod Checkpoint
+pub mod Entry

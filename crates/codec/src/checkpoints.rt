@@ -1,0 +1,195 @@
+ghost use Rattle.std.specs.Prelude.{◌≡◌, ℕ, ◌≤◌, ◌+◌, ◌++◌, Bool, true, nat_lt, is_none, ◌||◌, List, length, Option, Some, IfSome, IsSome, ◌↔◌};
+ghost use Rattle.codec.specs.Fields.{Reads, all_of, padded_at};
+ghost use Rattle.codec.specs.Checkpoint.{CheckpointFields, checked, holes_past, checkpoint_rules, checkpoint_at, SpellsCheckpoint};
+
+use crate::attributes::Attribute;
+use crate::fields::{
+    read_byte, read_bytes, read_flag, read_long, read_mark, read_word, read_zeros,
+};
+use crate::inodes::Inode;
+use crate::pointers::{all_slots, put_slots, read_slots};
+use crate::writing::{Writing, bit_of, finished, put, put_byte, put_long, put_word, put_zeros};
+use s4_types::limits::{ATTRIBUTE_BYTES, BLOCK_BYTES, OBJECT_BYTES};
+use s4_types::{Moment, ObjectId, Ptr};
+use std::marker::Model;
+
+/// An object's inode after all changes up to a moment, as a block of the log keeps it.
+///
+/// The object's number, both moments of its making and of the checkpoint are at least 1, the size is at most
+/// 24,576, and pointers past the size are holes.
+#[derive(Clone, Copy, Debug, PartialEq, Eq)]
+pub struct Checkpoint {
+    object: ObjectId,
+    moment: Moment,
+    inode: Inode,
+}
+
+impl Model for Checkpoint {
+    ghost use Rattle.std.specs.Prelude.{◌≡◌, true};
+    ghost use Rattle.codec.specs.Checkpoint.{CheckpointFields, checkpoint_rules};
+
+    ghost Value = { CheckpointFields };
+
+    ghost view = { λ c. record { object = c.object; moment = c.moment; inode = c.inode } };
+
+    ghost invariant = { λ c. checkpoint_rules (record { object = c.object; moment = c.moment; inode = c.inode }) ≡ true };
+
+    ghost inverse = { λ c. record { object = c.object; moment = c.moment; inode = c.inode } };
+}
+
+/// Whether a pointer may stand where so many bytes are left.
+fn may_stand(left: u32, pointer: Option<Ptr>) -> bool
+    ensures { result ≡ (nat_lt 0 left || is_none pointer) }
+{
+    left > 0 || pointer.is_none()
+}
+
+/// Whether each pointer behind the bytes of this size is a hole.
+fn has_holes_past(size: u32, pointers: &[Option<Ptr>]) -> bool
+    ensures { result ≡ holes_past size pointers.now }
+{
+    let mut left = size;
+    for pointer in pointers {
+        if !may_stand(left, *pointer) {
+            return false;
+        }
+        left = left.saturating_sub(512);
+    }
+    true
+}
+
+#[tactic(auto, unfolding(crate::specs::Checkpoint::checkpoint_rules))]
+fn keeps_rules(object: ObjectId, moment: Moment, inode: &Inode) -> bool
+    ensures { result ≡ checkpoint_rules (record { object = object; moment = moment; inode = inode.now }) }
+{
+    object.number() >= 1
+        && moment.number() >= 1
+        && inode.created.number() >= 1
+        && inode.size <= OBJECT_BYTES as u32
+        && has_holes_past(inode.size, &inode.pointers)
+}
+
+impl Checkpoint {
+    /// The checkpoint of an inode. None where it breaks a rule of checkpoints.
+    pub fn new(object: ObjectId, moment: Moment, inode: Inode) -> Option<Self>
+        ensures { Reads (λ c. c) result (checked (record { object = object; moment = moment; inode = inode })) }
+    {
+        if !keeps_rules(object, moment, &inode) {
+            return None;
+        }
+        Some(Checkpoint {
+            object,
+            moment,
+            inode,
+        })
+    }
+
+    pub fn object(&self) -> ObjectId
+        ensures { result ≡ self.now.object }
+    {
+        self.object
+    }
+
+    /// The moment up to which the inode has all changes.
+    pub fn moment(&self) -> Moment
+        ensures { result ≡ self.now.moment }
+    {
+        self.moment
+    }
+
+    pub fn inode(&self) -> &Inode
+        ensures inode { result.now ≡ self.now.inode }
+        ensures rules { checkpoint_rules self.now ≡ true }
+    {
+        &self.inode
+    }
+}
+
+/// An attribute of `length` bytes in 64.
+#[tactic(auto, unfolding(crate::specs::Fields::padded_at))]
+fn read_padded(length: u8, bytes: &[u8]) -> Option<(Attribute, &[u8])>
+    ensures { Reads (λ x. (x.0, x.1.now)) result (padded_at length bytes.now) }
+{
+    let length = length as usize;
+    let (text, rest) = read_bytes(length, bytes)?;
+    let rest = read_zeros(64usize.saturating_sub(length), rest)?;
+    let attribute = Attribute::new(text)?;
+    Some((attribute, rest))
+}
+
+#[tactic(auto, unfolding(crate::specs::Checkpoint::checkpoint_at))]
+fn read_checkpoint(bytes: &[u8]) -> Option<(Checkpoint, &[u8])>
+    ensures { Reads (λ x. (x.0, x.1.now)) result (checkpoint_at bytes.now) }
+{
+    let rest = read_mark(2, bytes)?;
+    let (alive, rest) = read_flag(rest)?;
+    let (length, rest) = read_byte(rest)?;
+    let rest = read_mark(0, rest)?;
+    let (size, rest) = read_word(rest)?;
+    let (object, rest) = read_long(rest)?;
+    let (moment, rest) = read_long(rest)?;
+    let (created, rest) = read_long(rest)?;
+    let (changed, rest) = read_long(rest)?;
+    let Some((attribute, rest)) = read_padded(length, rest) else {
+        return None;
+    };
+    let Some((slots, rest)) = read_slots(rest) else {
+        return None;
+    };
+    let rest = read_zeros(24, rest)?;
+    let pointers = all_slots(slots);
+    let inode = Inode {
+        alive,
+        size,
+        created: Moment::new(created),
+        changed: Moment::new(changed),
+        attribute,
+        pointers,
+    };
+    let checkpoint = Checkpoint::new(ObjectId::new(object), Moment::new(moment), inode)?;
+    Some((checkpoint, rest))
+}
+
+fn checkpoint_in(bytes: &[u8]) -> Option<Checkpoint>
+    ensures { Reads (λ x. x) result (all_of checkpoint_at bytes.now) }
+{
+    let Some((checkpoint, rest)) = read_checkpoint(bytes) else {
+        return None;
+    };
+    match rest {
+        [] => Some(checkpoint),
+        [_, ..] => None,
+    }
+}
+
+/// The checkpoint whose spelling the block is. None where it is the spelling of no checkpoint.
+pub fn decode_checkpoint(block: &[u8; BLOCK_BYTES]) -> Option<Checkpoint>
+    ensures found { IfSome result (λ checkpoint. SpellsCheckpoint block.now checkpoint) }
+    ensures only { (checkpoint : CheckpointFields) → SpellsCheckpoint block.now checkpoint → result ≡ Some checkpoint }
+{
+    checkpoint_in(block)
+}
+
+/// The one spelling of a checkpoint.
+#[tactic(auto, unfolding(crate::specs::Checkpoint::checkpoint_spelling))]
+pub fn encode_checkpoint(checkpoint: &Checkpoint) -> [u8; BLOCK_BYTES]
+    ensures { SpellsCheckpoint result checkpoint.now }
+{
+    let inode = checkpoint.inode();
+    let attribute = inode.attribute.as_slice();
+    let mut out = Writing::new();
+    put_byte(&mut out, 2);
+    put_byte(&mut out, bit_of(inode.alive));
+    put_byte(&mut out, attribute.len() as u8);
+    put_byte(&mut out, 0);
+    put_word(&mut out, inode.size);
+    put_long(&mut out, checkpoint.object().number());
+    put_long(&mut out, checkpoint.moment().number());
+    put_long(&mut out, inode.created.number());
+    put_long(&mut out, inode.changed.number());
+    put(&mut out, attribute);
+    put_zeros(&mut out, ATTRIBUTE_BYTES - attribute.len());
+    put_slots(&mut out, &inode.pointers);
+    put_zeros(&mut out, 24);
+    finished(out)
+}

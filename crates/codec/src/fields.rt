@@ -1,0 +1,137 @@
+ghost use Rattle.std.specs.Prelude.{◌≡◌, ℕ, ◌-◌, ◌+◌, ◌≤◌, ◌++◌, [], ◌∷◌, List, length};
+ghost use Rattle.std.specs.Int.{w16, w32, w64};
+ghost use Rattle.codec.specs.Fields.{Reads, number_at, byte_at, bytes_at, zeros_at, mark_at, flag_at, slot_at, slot_of, number, zeros, slot};
+
+use s4_types::Ptr;
+
+pub(crate) fn read_byte(bytes: &[u8]) -> Option<(u8, &[u8])>
+    ensures { Reads (λ x. (x.0, x.1.now)) result (byte_at bytes.now) }
+{
+    match bytes {
+        [] => None,
+        [byte, rest @ ..] => Some((*byte, rest)),
+    }
+}
+
+#[tactic(auto, unfolding(crate::specs::Fields::number_at))]
+pub(crate) fn read_short(bytes: &[u8]) -> Option<(u16, &[u8])>
+    ensures { Reads (λ x. (x.0, x.1.now)) result (number_at w16 bytes.now) }
+{
+    if bytes.len() < 2 {
+        return None;
+    }
+    let (front, rest) = bytes.split_at(2);
+    Some((u16::from_be_bytes([front[0], front[1]]), rest))
+}
+
+#[tactic(auto, unfolding(crate::specs::Fields::number_at))]
+pub(crate) fn read_word(bytes: &[u8]) -> Option<(u32, &[u8])>
+    ensures { Reads (λ x. (x.0, x.1.now)) result (number_at w32 bytes.now) }
+{
+    if bytes.len() < 4 {
+        return None;
+    }
+    let (front, rest) = bytes.split_at(4);
+    let number = u32::from_be_bytes([front[0], front[1], front[2], front[3]]);
+    Some((number, rest))
+}
+
+#[tactic(auto, unfolding(crate::specs::Fields::number_at))]
+pub(crate) fn read_long(bytes: &[u8]) -> Option<(u64, &[u8])>
+    ensures { Reads (λ x. (x.0, x.1.now)) result (number_at w64 bytes.now) }
+{
+    if bytes.len() < 8 {
+        return None;
+    }
+    let (front, rest) = bytes.split_at(8);
+    let number = u64::from_be_bytes([
+        front[0], front[1], front[2], front[3], front[4], front[5], front[6], front[7],
+    ]);
+    Some((number, rest))
+}
+
+/// The next `count` bytes.
+#[tactic(auto, unfolding(crate::specs::Fields::bytes_at))]
+pub(crate) fn read_bytes(count: usize, bytes: &[u8]) -> Option<(&[u8], &[u8])>
+    ensures { Reads (λ x. (x.0.now, x.1.now)) result (bytes_at count bytes.now) }
+{
+    if bytes.len() < count {
+        return None;
+    }
+    Some(bytes.split_at(count))
+}
+
+/// What stands behind `count` zeros.
+#[tactic(auto, using(crate::proofs::Zeros::zeros_step, crate::proofs::Zeros::zeros_stop, crate::proofs::Zeros::zeros_end))]
+pub(crate) fn read_zeros(count: usize, bytes: &[u8]) -> Option<&[u8]>
+    ensures { Reads (λ x. (tt, x.now)) result (zeros_at count bytes.now) }
+{
+    let mut rest = bytes;
+    for _ in 0..count {
+        let (byte, after) = read_byte(rest)?;
+        if byte != 0 {
+            return None;
+        }
+        rest = after;
+    }
+    Some(rest)
+}
+
+/// The pointer or the hole that four numbers spell.
+#[tactic(auto, unfolding(crate::specs::Fields::slot_of))]
+fn slot_named(frame: u16, block: u8, gap: u8, generation: u32) -> Option<Option<Ptr>>
+    ensures { Reads (λ x. x) result (slot_of frame block gap generation) }
+{
+    if gap != 0 {
+        return None;
+    }
+    if frame == 0 && block == 0 && generation == 0 {
+        return Some(None);
+    }
+    if block < 1 || block > 15 || generation < 1 || generation == u32::MAX {
+        return None;
+    }
+    Some(Ptr::new(frame, block, generation))
+}
+
+/// A pointer or a hole.
+#[tactic(auto, unfolding(crate::specs::Fields::slot_at))]
+pub(crate) fn read_slot(bytes: &[u8]) -> Option<(Option<Ptr>, &[u8])>
+    ensures { Reads (λ x. (x.0, x.1.now)) result (slot_at bytes.now) }
+{
+    let (frame, rest) = read_short(bytes)?;
+    let (block, rest) = read_byte(rest)?;
+    let (gap, rest) = read_byte(rest)?;
+    let (generation, rest) = read_word(rest)?;
+    let slot = slot_named(frame, block, gap, generation)?;
+    Some((slot, rest))
+}
+
+/// Whether the next byte is `mark`, and what stands behind it.
+#[tactic(auto, unfolding(crate::specs::Fields::mark_at))]
+pub(crate) fn read_mark(mark: u8, bytes: &[u8]) -> Option<&[u8]>
+    ensures { Reads (λ x. (tt, x.now)) result (mark_at mark bytes.now) }
+{
+    match bytes {
+        [] => None,
+        [byte, rest @ ..] => {
+            if *byte != mark {
+                return None;
+            }
+            Some(rest)
+        }
+    }
+}
+
+/// A byte that is one or zero.
+#[tactic(auto, unfolding(crate::specs::Fields::flag_at))]
+pub(crate) fn read_flag(bytes: &[u8]) -> Option<(bool, &[u8])>
+    ensures { Reads (λ x. (x.0, x.1.now)) result (flag_at bytes.now) }
+{
+    match bytes {
+        [] => None,
+        [0, rest @ ..] => Some((false, rest)),
+        [1, rest @ ..] => Some((true, rest)),
+        [_, ..] => None,
+    }
+}

@@ -1,0 +1,30 @@
+//! The records of the log as values, and their bytes: pointers, inodes, checkpoints and journal entries.
+//!
+//! The layers above may rely on this: each record has one spelling, a function of its fields in `specs/`.
+//! An encoder gives that spelling, and a decoder answers the record whose spelling stands in its input, and
+//! None only where no record's spelling does. A type can't hold what its record can't spell, and no call here
+//! takes memory. Whether a pointer's frame is one that a drive has, and what the entries of a chain say
+//! together, as those of one moment, is told elsewhere.
+#![tactic(auto)]
+
+mod attributes;
+mod checkpoints;
+mod entries;
+mod entry_reading;
+mod entry_writing;
+mod fields;
+mod inodes;
+pub mod laws;
+mod pointers;
+mod writing;
+
+pub use attributes::Attribute;
+pub use checkpoints::{Checkpoint, decode_checkpoint, encode_checkpoint};
+pub use entries::{Entry, Pair, Status, Triple, Triples};
+pub use entry_writing::{decode_entry, encode_entry};
+pub use inodes::Inode;
+pub use pointers::{decode_ptr, encode_ptr};
+pub use writing::Writing;
+
+#[cfg(test)]
+mod tests;

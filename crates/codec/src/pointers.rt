@@ -1,0 +1,112 @@
+ghost use Rattle.std.specs.Prelude.{◌≡◌, ℕ, ◌+◌, ◌*◌, ◌≤◌, ◌++◌, [], ◌∷◌, List, length, Option, IfSome};
+ghost use Rattle.s4_types.specs.Pointer.{Place, IsPlace};
+ghost use Rattle.std.specs.List.{flat_map, AllByRecursion};
+ghost use Rattle.codec.specs.Checkpoint.{IsSlot};
+ghost use Rattle.codec.specs.Fields.{Reads, all_of, many_at, slot_at, slot, SpellsSlot};
+
+use crate::fields::read_slot;
+use crate::writing::{Writing, put};
+use arrayvec::ArrayVec;
+use s4_types::Ptr;
+use s4_types::limits::OBJECT_BLOCKS;
+
+/// Pointers of an inode, read one after the other.
+pub(crate) type Slots = ArrayVec<Option<Ptr>, OBJECT_BLOCKS>;
+
+#[tactic(auto, unfolding(crate::specs::Fields::slot, crate::specs::Fields::number))]
+fn place_bytes(ptr: Ptr) -> [u8; 8]
+    ensures { SpellsSlot result (Some ptr) }
+{
+    let [frame_high, frame_low] = ptr.frame().to_be_bytes();
+    let [first, second, third, fourth] = ptr.generation().to_be_bytes();
+    [
+        frame_high,
+        frame_low,
+        ptr.block(),
+        0,
+        first,
+        second,
+        third,
+        fourth,
+    ]
+}
+
+/// The spelling of a pointer, or of a hole where there is none.
+#[tactic(auto, unfolding(crate::specs::Fields::slot, crate::specs::Fields::zeros))]
+pub fn encode_ptr(ptr: Option<Ptr>) -> [u8; 8]
+    ensures { SpellsSlot result ptr }
+{
+    match ptr {
+        None => [0; 8],
+        Some(ptr) => place_bytes(ptr),
+    }
+}
+
+fn slot_in(bytes: &[u8]) -> Option<Option<Ptr>>
+    ensures { Reads (λ x. x) result (all_of slot_at bytes.now) }
+{
+    let Some((slot, rest)) = read_slot(bytes) else {
+        return None;
+    };
+    match rest {
+        [] => Some(slot),
+        [_, ..] => None,
+    }
+}
+
+/// The pointer, or the hole, whose spelling the bytes are. None where they are the spelling of neither.
+pub fn decode_ptr(bytes: &[u8; 8]) -> Option<Option<Ptr>>
+    ensures found { IfSome result (λ ptr. SpellsSlot bytes.now ptr) }
+    ensures only { (ptr : Option Place) → SpellsSlot bytes.now ptr → result ≡ Some ptr }
+{
+    slot_in(bytes)
+}
+
+pub(crate) fn put_slot(out: &mut Writing, ptr: Option<Ptr>)
+    requires { length out.old.items + 8 ≤ 512 }
+    ensures items { out.new.items ≡ out.old.items ++ slot ptr }
+    ensures len { length out.new.items ≡ length out.old.items + 8 }
+    ensures range { IfSome ptr IsPlace }
+{
+    put(out, &encode_ptr(ptr));
+}
+
+/// As many pointers as an inode has.
+pub(crate) fn read_slots(bytes: &[u8]) -> Option<(Slots, &[u8])>
+    ensures read { Reads (λ x. (x.0.items, x.1.now)) result (many_at slot_at 48 bytes.now) }
+    ensures all { IfSome result (λ x. length x.0.items ≡ 48) }
+{
+    let mut slots: Slots = ArrayVec::new();
+    let mut rest = bytes;
+    for _ in 0..OBJECT_BLOCKS {
+        let Some((slot, after)) = read_slot(rest) else {
+            return None;
+        };
+        slots.push(slot);
+        rest = after;
+    }
+    Some((slots, rest))
+}
+
+/// The pointers of an inode, once all are there.
+pub(crate) fn all_slots(slots: Slots) -> [Option<Ptr>; OBJECT_BLOCKS]
+    requires { length slots.items ≡ 48 }
+    ensures { result ≡ slots.items }
+{
+    match slots.into_inner() {
+        Ok(slots) => slots,
+        Err(_) => unreachable!(),
+    }
+}
+
+pub(crate) fn put_slots(out: &mut Writing, slots: &[Option<Ptr>; OBJECT_BLOCKS])
+    requires { length out.old.items + 384 ≤ 512 }
+    ensures items { out.new.items ≡ out.old.items ++ flat_map slot slots.now }
+    ensures len { length out.new.items ≡ length out.old.items + 384 }
+    ensures count { length slots.now ≡ 48 }
+    ensures range { AllByRecursion IsSlot slots.now }
+{
+    for slot in slots {
+        put_slot(out, *slot);
+    }
+}

@@ -1,0 +1,75 @@
+ghost use Rattle.std.specs.Prelude.{◌≡◌, ℕ, ◌+◌, ◌^◌, ◌<◌, ◌≤◌, ◌++◌, [], ◌∷◌, List, length};
+ghost use Rattle.std.specs.Int.{w16, w32, w64};
+ghost use Rattle.codec.specs.Fields.{number, zeros, bit};
+
+use arrayvec::ArrayVec;
+use s4_types::limits::BLOCK_BYTES;
+
+/// A block that is being written, from its front.
+pub type Writing = ArrayVec<u8, BLOCK_BYTES>;
+
+pub(crate) fn put(out: &mut Writing, bytes: &[u8])
+    requires { length out.old.items + length bytes.now ≤ 512 }
+    ensures items { out.new.items ≡ out.old.items ++ bytes.now }
+    ensures len { length out.new.items ≡ length out.old.items + length bytes.now }
+{
+    // There is room, so that nothing can fail.
+    let _ = out.try_extend_from_slice(bytes);
+}
+
+pub(crate) fn put_byte(out: &mut Writing, byte: u8)
+    requires { length out.old.items + 1 ≤ 512 }
+    ensures items { out.new.items ≡ out.old.items ++ byte ∷ [] }
+    ensures len { length out.new.items ≡ length out.old.items + 1 }
+{
+    out.push(byte);
+}
+
+#[tactic(auto, unfolding(crate::specs::Fields::number))]
+pub(crate) fn put_word(out: &mut Writing, n: u32)
+    requires { length out.old.items + 4 ≤ 512 }
+    ensures items { out.new.items ≡ out.old.items ++ number w32 n }
+    ensures len { length out.new.items ≡ length out.old.items + 4 }
+    ensures range { n < 2 ^ 32 }
+{
+    put(out, &n.to_be_bytes());
+}
+
+#[tactic(auto, unfolding(crate::specs::Fields::number))]
+pub(crate) fn put_long(out: &mut Writing, n: u64)
+    requires { length out.old.items + 8 ≤ 512 }
+    ensures items { out.new.items ≡ out.old.items ++ number w64 n }
+    ensures len { length out.new.items ≡ length out.old.items + 8 }
+    ensures range { n < 2 ^ 64 }
+{
+    put(out, &n.to_be_bytes());
+}
+
+#[tactic(auto, using(crate::proofs::Zeros::zeros_push, crate::proofs::Zeros::zeros_none))]
+pub(crate) fn put_zeros(out: &mut Writing, count: usize)
+    requires { length out.old.items + count ≤ 512 }
+    ensures items { out.new.items ≡ out.old.items ++ zeros count }
+    ensures len { length out.new.items ≡ length out.old.items + count }
+{
+    for _ in 0..count {
+        out.push(0);
+    }
+}
+
+/// The block, once it is written whole.
+pub(crate) fn finished(out: Writing) -> [u8; BLOCK_BYTES]
+    requires { length out.items ≡ 512 }
+    ensures { result ≡ out.items }
+{
+    match out.into_inner() {
+        Ok(block) => block,
+        Err(_) => unreachable!(),
+    }
+}
+
+/// One or zero.
+pub(crate) fn bit_of(flag: bool) -> u8
+    ensures { result ≡ bit flag }
+{
+    if flag { 1 } else { 0 }
+}

@@ -1,0 +1,55 @@
+-- What a session was told goes from one seat to another: the rule is kept where a view is cut in two, and where two are joined.
+use Rattle.std.proofs.Common.{◌≡◌, ℕ, List, [], ◌∷◌, ◌++◌, set, refl, sym, ◌∙◌}
+use mathlib.Core.Option.{some}
+use lib.ListN.{get_elem?}
+use Rattle.atomic_table.specs.Table.{Splits, Joins}
+use Rattle.atomic_table.proofs.Lists.{set_else}
+use Rattle.segment_word.specs.AcceptViews.{Ledger, View, Driving, Lent, Attending, Carried, Spent, begun, blank_base, ledger_of, told_of}
+use Rattle.segment_word.specs.AcceptRule.{Fits, Suits, AcceptRule, first_ledger}
+use Rattle.segment_word.specs.AcceptSteps.{unlent, copied, joined, IsFor}
+use Rattle.segment_word.proofs.AcceptFits.{fits_told}
+use Rattle.segment_word.proofs.AcceptViews.{first-kept, first-added, suits_set, suits_added, same_ledger}
+
+ledger-unlent : (v : View) → ledger_of (unlent v) ≡ ledger_of v
+ledger-unlent (Driving l) = refl
+ledger-unlent (Lent l t) = refl
+ledger-unlent (Attending t) = refl
+ledger-unlent (Carried t) = refl
+ledger-unlent Spent = refl
+
+suits_unlent : (l : Ledger) (id : ℕ) (v : View) → Suits l id v → Suits l id (unlent v)
+suits_unlent l id (Driving m) s = tt
+suits_unlent l id (Lent m t) s = tt
+suits_unlent l id (Attending t) s = s
+suits_unlent l id (Carried t) s = s
+suits_unlent l id Spent s = tt
+
+ledger-joined : (v w : View) → ledger_of (joined v w) ≡ ledger_of v
+ledger-joined (Driving l) w = refl
+ledger-joined (Lent l t) w = refl
+ledger-joined (Attending t) w = refl
+ledger-joined (Carried t) w = refl
+ledger-joined Spent w = refl
+
+suits_joined : (l : Ledger) (id : ℕ) (v w : View) → Suits l id v → Fits l (told_of w) → IsFor (told_of w) v → Suits l id (joined v w)
+suits_joined l id (Driving m) w s f its = f
+suits_joined l id (Lent m t) w s f its = s
+suits_joined l id (Attending t) w s f its = (its ∙ s.0, f)
+suits_joined l id (Carried t) w s f its = s
+suits_joined l id Spent w s f its = tt
+
+pub splits : (id : ℕ) (v : View) → Splits {S = Unit {0}} AcceptRule id v (unlent v) (copied v)
+splits id v s r at =
+    let left : List View = set s.views id (unlent v) in
+    let l : Ledger = first_ledger s.views in
+    same_ledger s.words s.words s.views (left ++ copied v ∷ []) refl (first-added left (copied v) refl ∙ first-kept s.views id v (unlent v) at (ledger-unlent v)) r
+    (suits_added l left (copied v) (suits_set l s.views id (unlent v) r.suits (suits_unlent l id v (r.suits id v at))) (fits_told l id v (r.suits id v at)))
+
+pub joins : (id : ℕ) (v : View) (other : ℕ) (w : View) → ledger_of w ≡ begun blank_base → IsFor (told_of w) v → Joins {S = Unit {0}} AcceptRule id v other w (joined v w) Spent
+joins id v other w bare its s r at apart there =
+    let both : List View = set s.views id (joined v w) in
+    let l : Ledger = first_ledger s.views in
+    let was : get_elem? s.views other ≡ some w = sym (set_else s.views id other (joined v w) apart) ∙ there in
+    let fits : Fits l (told_of w) = fits_told l other w (r.suits other w was) in
+    same_ledger s.words s.words s.views (set both other Spent) refl (first-kept both other w Spent there (sym bare) ∙ first-kept s.views id v (joined v w) at (ledger-joined v w)) r
+    (suits_set l both other Spent (suits_set l s.views id (joined v w) r.suits (suits_joined l id v w (r.suits id v at) fits its)) tt)

@@ -1,0 +1,97 @@
+//! The single steps on the accept word, each by one seat.
+ghost use Rattle.std.specs.Prelude.{◌≡◌, ◌+◌, ◌^◌, ◌<◌, []};
+ghost use mathlib.Core.Option.{none};
+ghost use Rattle.atomic_table.specs.Table.{step};
+ghost use Rattle.segment_word.specs.AcceptViews.{Driving, Lent, Attending, Carried, Told, begun, blank_base, ledger_of, told_of, with_moment, count_of, new_session};
+ghost use Rattle.segment_word.specs.AcceptSteps.{Takes, Learns, Counts, IsSameSeat, IsFor, unlent, joined};
+
+use crate::accepts::naming::{Naming, Passing, Taking};
+use crate::accepts::plays::{Begin, Come, Count, Hand, Learn, Note, Receive, Take};
+use crate::accepts::rule::{Known, OneHistory};
+use atomic_table::{Seat, Shared};
+
+pub type Word = Shared<(), Known, (), OneHistory>;
+
+pub type Place = Seat<(), Known>;
+
+/// The history begins with its base.
+pub fn begin<J: Naming>(word: &Word, seat: &mut Place)
+    requires table { (seat.old.table_id ≡ word.now.table_id) × (word.now.table_id.words ≡ 1) }
+    requires drive { (seat.old.id ≡ 0) × (seat.old.me ≡ (Driving (begun blank_base), [])) }
+    ensures seat { IsSameSeat seat.old seat.new }
+    ensures view { seat.new.me ≡ (Driving (begun J.base), []) }
+{
+    word.load::<Begin<J>>(seat, 0);
+}
+
+/// A new session comes.
+pub fn come(word: &Word) -> Place
+    requires { word.now.table_id.words ≡ 1 }
+    ensures seat { result.table_id ≡ word.now.table_id }
+    ensures view { result.me ≡ (Attending (new_session (told_of result.me.0).seat), []) }
+{
+    let (_, seat) = word.load_new_seat::<Come>(0);
+    seat
+}
+
+/// The change is accepted for the session that is lent. Gives the number of changes accepted before.
+pub fn take<C: Taking>(word: &Word, seat: &mut Place) -> u64
+    requires table { (seat.old.table_id ≡ word.now.table_id) × (word.now.table_id.words ≡ 1) }
+    requires drive { (seat.old.id ≡ 0) × (seat.old.me ≡ (Lent (ledger_of seat.old.me.0) (told_of seat.old.me.0), [])) }
+    requires room { count_of (ledger_of seat.old.me.0) + 1 < 2 ^ 64 }
+    ensures seat { IsSameSeat seat.old seat.new }
+    ensures view { Takes C.moment C.change (step word.now.table_id.slots 0 1 0 none) seat.old.me result seat.new.me }
+{
+    word.fetch_add::<Take<C>>(seat, 0, 1)
+}
+
+/// The session that is lent sees all accepted changes. Gives their number.
+pub fn learn(word: &Word, seat: &mut Place) -> u64
+    requires table { (seat.old.table_id ≡ word.now.table_id) × (word.now.table_id.words ≡ 1) }
+    requires drive { (seat.old.id ≡ 0) × (seat.old.me ≡ (Lent (ledger_of seat.old.me.0) (told_of seat.old.me.0), [])) }
+    ensures seat { IsSameSeat seat.old seat.new }
+    ensures view { Learns (step word.now.table_id.slots 0 0 0 none) seat.old.me result seat.new.me }
+{
+    word.load::<Learn>(seat, 0)
+}
+
+/// A moment is seen.
+pub fn note<T: Passing>(word: &Word, seat: &mut Place)
+    requires table { (seat.old.table_id ≡ word.now.table_id) × (word.now.table_id.words ≡ 1) }
+    requires drive { (seat.old.id ≡ 0) × (seat.old.me ≡ (Driving (ledger_of seat.old.me.0), [])) }
+    ensures seat { IsSameSeat seat.old seat.new }
+    ensures view { seat.new.me ≡ (Driving (with_moment (ledger_of seat.old.me.0) T.now), []) }
+{
+    word.load::<Note<T>>(seat, 0);
+}
+
+/// The number of accepted changes.
+pub fn count(word: &Word, seat: &mut Place) -> u64
+    requires table { (seat.old.table_id ≡ word.now.table_id) × (word.now.table_id.words ≡ 1) }
+    requires drive { seat.old.id ≡ 0 }
+    ensures seat { IsSameSeat seat.old seat.new }
+    ensures view { Counts (step word.now.table_id.slots 0 0 0 none) seat.old.me result seat.new.me }
+{
+    word.load::<Count>(seat, 0)
+}
+
+/// What a session was told goes to a new seat.
+pub fn hand(word: &Word, seat: &mut Place) -> Place
+    requires table { (seat.old.table_id ≡ word.now.table_id) × (word.now.table_id.words ≡ 1) }
+    ensures seat { IsSameSeat seat.old seat.new }
+    ensures view { seat.new.me ≡ (unlent seat.old.me.0, seat.old.me.1) }
+    ensures other { (result.table_id ≡ seat.old.table_id) × (result.me ≡ (Carried (told_of seat.old.me.0), [])) }
+{
+    word.split_seat::<Hand>(seat)
+}
+
+/// What a session was told comes from another seat, which is spent.
+pub fn receive(word: &Word, seat: &mut Place, other: Place)
+    requires table { (seat.old.table_id ≡ word.now.table_id) × (other.table_id ≡ word.now.table_id) × (word.now.table_id.words ≡ 1) }
+    requires other { other.me ≡ (Carried (told_of other.me.0), []) }
+    requires for_it { IsFor (told_of other.me.0) seat.old.me.0 }
+    ensures seat { IsSameSeat seat.old seat.new }
+    ensures view { seat.new.me ≡ (joined seat.old.me.0 other.me.0, seat.old.me.1) }
+{
+    word.join_seat::<Receive>(seat, other);
+}

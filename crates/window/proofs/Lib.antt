@@ -1,0 +1,4 @@
+pub mod Ordering
+pub mod Covering
+pub mod Counting
+pub mod Standing

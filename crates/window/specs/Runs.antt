@@ -1,0 +1,44 @@
+-- Runs of hidden moments in one list: each is a span, of all objects under number 0 or of one object.
+use Rattle.std.specs.Prelude.{◌≡◌, ℕ, Bool, true, ◌==◌, ◌&&◌, ◌||◌, ◌-◌, ◌≤◌, nat_le, nat_lt, min, max, if◌then◌else◌, List, [], ◌∷◌}
+use Rattle.std.specs.List.{AllByRecursion}
+use Rattle.s4_types.specs.declared.spans.Span.{Span}
+use Rattle.s4_model.specs.Visible.{is_within}
+
+-- whether a run is of this list and has the moment in it
+abbrev pub covers : ℕ → ℕ → Span → Bool
+covers list t run = run.object == list && is_within run t
+
+-- Whether one run stands before another: its list does, or both are of one list and a moment is left out
+-- between them.
+abbrev pub is_before : Span → Span → Bool
+is_before x y = nat_lt x.object y.object || (x.object == y.object && nat_lt 1 (y.first - x.last))
+
+abbrev pub IsBeforeAll : Span → List Span → Type 0
+IsBeforeAll x runs = AllByRecursion (λ y. is_before x y ≡ true) runs
+
+-- runs in order: none ends before it begins, and each stands before all that follow
+abbrev pub Ascend : List Span → Type 0
+Ascend [] = Unit {0}
+Ascend (x ∷ runs) = (x.first ≤ x.last) × IsBeforeAll x runs × Ascend runs
+
+-- no run ends after the clock
+abbrev pub AllEndBy : ℕ → List Span → Type 0
+AllEndBy clock runs = AllByRecursion (λ run. run.last ≤ clock) runs
+
+-- the one run that two make which overlap or touch
+abbrev pub joined : Span → Span → Span
+joined x y = record { object = x.object; first = min x.first y.first; last = max x.last y.last }
+
+-- runs in order with one more span, which is joined with those that it overlaps or touches
+abbrev pub with_span : Span → List Span → List Span
+with_span span [] = span ∷ []
+with_span span (run ∷ runs) =
+    if is_before run span then run ∷ with_span span runs else (if is_before span run then span ∷ run ∷ runs else with_span (joined span run) runs)
+
+-- a run reaches up to the floor at least
+abbrev pub is_live : ℕ → Span → Bool
+is_live floor run = nat_le floor run.last
+
+-- a run of this list does
+abbrev pub is_live_in : ℕ → ℕ → Span → Bool
+is_live_in floor list run = run.object == list && nat_le floor run.last

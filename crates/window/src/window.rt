@@ -1,0 +1,211 @@
+ghost use Rattle.std.specs.Prelude.{◌≡◌, ◌⊎◌, ℕ, true, false, ◌+◌, ◌-◌, ◌<◌, ◌≤◌, max, Some, MatchResult, IfOk};
+ghost use Rattle.s4_types.specs.declared.changes.Accepted.{Accepted};
+ghost use Rattle.s4_types.specs.declared.changes.Change.TheVariants.{SetWindow};
+ghost use Rattle.s4_types.specs.declared.requests.Request.TheVariants.{Flush, FlushO};
+ghost use Rattle.s4_types.specs.declared.refusals.Refusal.TheVariants.{NoMemory, BadSpan, TooManySpans};
+ghost use Rattle.s4_model.specs.State.{State, state_of, new_history, seen, took};
+ghost use Rattle.s4_model.specs.Refusals.{last_number, is_bad_span, is_one_span_too_many, moment_refusal};
+ghost use Rattle.s4_model.specs.Visible.{span_of, IsVisible, is_hidden};
+ghost use Rattle.window.specs.Timeline.{StandsFor, IsPlanned, is_of_versions};
+
+use crate::runs;
+use s4_types::{Moment, ObjectId, Refusal, Span};
+use std::alloc::Global;
+use std::marker::Model;
+
+/// The clock, the window, the floor and the runs of hidden moments of a drive.
+///
+/// Contracts speak of every state of a history that the window stands for.
+#[derive(Drop)]
+pub struct Window {
+    alloc: Global,
+    clock: Moment,
+    window: u64,
+    floor: Moment,
+    runs: Vec<Span>,
+}
+
+impl Model for Window {
+    ghost use Rattle.window.specs.Timeline.{Timeline};
+    ghost use Rattle.window.specs.Runs.{Ascend, AllEndBy};
+
+    ghost Value = { Timeline };
+
+    ghost view = { λ w. record { clock = w.clock; window = w.window; floor = w.floor; runs = w.runs.items } };
+
+    ghost invariant = { λ w. Ascend w.runs.items × AllEndBy w.clock w.runs.items };
+}
+
+/// A span that may be hidden, with the runs that it makes: [`Window::plan_flush`] gives it, and
+/// [`Window::flush`] takes it.
+#[derive(Drop)]
+pub struct FlushPlan {
+    span: Span,
+    runs: Vec<Span>,
+}
+
+impl Model for FlushPlan {
+    ghost use Rattle.window.specs.Timeline.{Plan};
+
+    ghost Value = { Plan };
+
+    ghost view = { λ p. record { span = p.span; runs = p.runs.items } };
+}
+
+impl Window {
+    /// The window of a new drive: it reaches `window` moments back, and nothing is hidden.
+    pub fn new(alloc: Global, window: u64) -> Self
+        ensures { StandsFor result (state_of (new_history window)) }
+    {
+        Window {
+            alloc,
+            clock: Moment::new(0),
+            window,
+            floor: Moment::new(0),
+            runs: Vec::new(alloc),
+        }
+    }
+
+    /// The clock: the last moment given or seen.
+    pub fn clock(&self) -> Moment
+        ensures { result ≡ self.now.clock }
+    {
+        self.clock
+    }
+
+    /// How many moments history reaches back from the clock.
+    pub fn window(&self) -> u64
+        ensures { result ≡ self.now.window }
+    {
+        self.window
+    }
+
+    /// The floor: moments below it are lost.
+    pub fn floor(&self) -> Moment
+        ensures { result ≡ self.now.floor }
+    {
+        self.floor
+    }
+
+    /// Sees a moment: the clock moves on to it if that is later, and the floor with the clock.
+    pub fn observe(&mut self, now: Moment)
+        ensures { (s : State) → StandsFor self.old s → StandsFor self.new (seen s now) }
+    {
+        self.set_clock(self.clock.max(now));
+    }
+
+    /// The moment of a change that neither sets the window nor hides moments: the greater of `now` and the
+    /// clock plus one, which is then the clock.
+    pub fn stamp(&mut self, now: Moment) -> Moment
+        requires { self.old.clock < last_number }
+        ensures moment { result ≡ max now (self.old.clock + 1) }
+        ensures taken { (s : State) (a : Accepted) → StandsFor self.old s → a.moment ≡ result → is_of_versions a.change ≡ true → StandsFor self.new (took s a) }
+    {
+        self.advance(now)
+    }
+
+    /// Sets the window, at a moment as [`Window::stamp`] gives it. The floor is taken with the new window,
+    /// and a larger one never lowers it.
+    pub fn set(&mut self, window: u64, now: Moment) -> Moment
+        requires { self.old.clock < last_number }
+        ensures moment { result ≡ max now (self.old.clock + 1) }
+        ensures taken { (s : State) (a : Accepted) → StandsFor self.old s → a.moment ≡ result → a.change ≡ SetWindow window → StandsFor self.new (took s a) }
+    {
+        self.window = window;
+        self.advance(now)
+    }
+
+    /// Whether a span may be hidden at all: `BadSpan` where it ends before it begins, or after the clock.
+    pub fn check_span(&self, first: Moment, last: Moment) -> Result<(), Refusal>
+        ensures ok { IfOk result (λ _. (first ≤ last) × (last ≤ self.now.clock)) }
+        ensures of_all { (s : State) → StandsFor self.now s → MatchResult result (λ _. is_bad_span s (Flush first last) ≡ false)
+            (λ refusal. (refusal ≡ BadSpan) × (is_bad_span s (Flush first last) ≡ true)) }
+        ensures of_one { (s : State) (object : ℕ) → StandsFor self.now s → is_bad_span s (FlushO object first last) ≡ is_bad_span s (Flush first last) }
+    {
+        if first <= last && last <= self.clock {
+            Ok(())
+        } else {
+            Err(Refusal::BadSpan)
+        }
+    }
+
+    /// Judges a span, of all objects under number 0 or of one object, and takes the memory that hiding it
+    /// needs; nothing is hidden yet. `TooManySpans` where its list, or all lists together, would have more
+    /// runs than they may; `NoMemory` where a growth was refused. Linear in all runs.
+    pub fn plan_flush(&self, span: Span) -> Result<FlushPlan, Refusal>
+        requires ordered { span.first ≤ span.last }
+        requires past { span.last ≤ self.now.clock }
+        ensures planned { IfOk result (λ plan. (plan.span ≡ span) × IsPlanned self.now plan) }
+        ensures judged { (s : State) → StandsFor self.now s → span.object < s.next → MatchResult result
+            (λ _. is_one_span_too_many s span ≡ false)
+            (λ refusal. (refusal ≡ NoMemory) ⊎ ((refusal ≡ TooManySpans) × (is_one_span_too_many s span ≡ true))) }
+    {
+        let live = runs::live_runs(self.alloc, self.floor, self.runs.as_slice())?;
+        let runs = runs::with_span(self.alloc, live.as_slice(), &span)?;
+        if runs::are_too_many(self.floor, &span, runs.as_slice()) {
+            return Err(Refusal::TooManySpans);
+        }
+        Ok(FlushPlan { span, runs })
+    }
+
+    /// Hides a planned span, at a moment as [`Window::stamp`] gives it. The window is as it was planned
+    /// from, and the runs that end below the floor are forgotten.
+    pub fn flush(&mut self, plan: FlushPlan, now: Moment) -> Moment
+        requires clock { self.old.clock < last_number }
+        requires planned { IsPlanned self.old plan }
+        ensures moment { result ≡ max now (self.old.clock + 1) }
+        ensures taken { (s : State) (a : Accepted) → StandsFor self.old s → plan.span.object < s.next → a.moment ≡ result → span_of a ≡ Some plan.span → StandsFor self.new (took s a) }
+    {
+        self.runs = plan.runs;
+        self.advance(now)
+    }
+
+    /// Whether a moment of an object can be read: `Future` above the clock, `Expired` below the floor,
+    /// `Flushed` where a span hides it, the first of these that applies.
+    pub fn visible(&self, object: ObjectId, at: Moment) -> Result<(), Refusal>
+        ensures { (s : State) → StandsFor self.now s → MatchResult result (λ _. IsVisible s object at) (λ refusal. moment_refusal s object at ≡ Some refusal) }
+    {
+        if self.clock < at {
+            return Err(Refusal::Future);
+        }
+        if at < self.floor {
+            return Err(Refusal::Expired);
+        }
+        if self.is_hidden(object, at) {
+            return Err(Refusal::Flushed);
+        }
+        Ok(())
+    }
+
+    /// Whether the list of all objects or the object's own covers a moment.
+    fn is_hidden(&self, object: ObjectId, at: Moment) -> bool
+        ensures { (s : State) → StandsFor self.now s → s.floor ≤ at → result ≡ is_hidden s object at }
+    {
+        let runs = self.runs.as_slice();
+        runs::covers(runs, ObjectId::new(0), at) || runs::covers(runs, object, at)
+    }
+
+    /// Moves on to the moment of a change.
+    fn advance(&mut self, now: Moment) -> Moment
+        requires { self.old.clock < last_number }
+        ensures moment { result ≡ max now (self.old.clock + 1) }
+        ensures moved { self.new ≡ record self.old { clock = result; floor = max self.old.floor (result - self.old.window) } }
+    {
+        let moment = Moment::new(now.number().max(self.clock.number() + 1));
+        self.set_clock(moment);
+        moment
+    }
+
+    /// Sets the clock, which never falls, and the floor by it.
+    fn set_clock(&mut self, clock: Moment)
+        requires { self.old.clock ≤ clock }
+        ensures { self.new ≡ record self.old { clock = clock; floor = max self.old.floor (clock - self.old.window) } }
+    {
+        self.clock = clock;
+        let reach = clock.number().saturating_sub(self.window);
+        self.floor = self.floor.max(Moment::new(reach));
+    }
+}
+
+#[cfg(test)]
+mod tests;
