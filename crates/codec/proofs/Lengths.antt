@@ -15,7 +15,7 @@ pub one_reading : {A : Type 0} {read : List ℕ → Option (A × List ℕ)} {wri
 one_reading {read = read} field bytes a b rest behind p q =
     some_is (a, rest) (b, behind) (sym (ap read p.1 ∙ field.again a rest p.0) ∙ ap read q.1 ∙ field.again b behind q.0)
 
-long_length : (n : ℕ) → length (number w64 n) ≡ 8
+pub long_length : (n : ℕ) → length (number w64 n) ≡ 8
 unfolding number
 long_length n = refl
 
@@ -23,7 +23,7 @@ word_length : (n : ℕ) → length (number w32 n) ≡ 4
 unfolding number
 word_length n = refl
 
-slot_length : (p : Option Place) → length (slot p) ≡ 8
+pub slot_length : (p : Option Place) → length (slot p) ≡ 8
 unfolding slot zeros number
 slot_length None = refl
 slot_length (Some p) = refl

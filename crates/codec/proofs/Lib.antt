@@ -9,3 +9,7 @@ pub mod CheckpointLaws
 pub mod Ascending
 pub mod EntryLaws
 pub mod Lengths
+pub mod Payload
+pub mod SummaryLaws
+pub mod JournalEntries
+pub mod JournalLaws

@@ -1,11 +1,15 @@
 -- An inode, and how a checkpoint of it is spelled in one block.
-use Rattle.std.specs.Prelude.{◌≡◌, ℕ, ◌-◌, ◌^◌, ◌<◌, ◌≤◌, Bool, true, List, [], ◌∷◌, ◌++◌, length, Option, Some, IfSome, is_none, nat_lt, nat_le, ◌&&◌, ◌||◌}
+use Rattle.std.specs.Prelude.{◌≡◌, ℕ, ◌-◌, ◌^◌, ◌<◌, ◌≤◌, Bool, true, List, [], ◌∷◌, ◌++◌, length, slice_index_or, Option, Some, None, IfSome, is_none, nat_lt, nat_le, ◌&&◌, ◌||◌}
 use Rattle.std.specs.Int.{w32, w64}
 use Rattle.std.specs.List.{flat_map, AllByRecursion}
 use Rattle.s4_types.specs.Pointer.{Place, IsPlace}
 use Rattle.s4_types.specs.declared.limits.TheConstants.{OBJECT_BYTES}
 use Rattle.codec.specs.Fields.{◌>>=◌, number, zeros, slot, bit, padded, kept, byte_at, number_at, zeros_at, mark_at, flag_at, slot_at, many_at, padded_at}
 use Rattle.codec.specs.declared.inodes.Inode.{Inode}
+
+-- the pointer of that index, or a hole
+abbrev pub pointer_at : Inode → ℕ → Option Place
+pointer_at i n = slice_index_or i.pointers n None
 
 -- an object, a moment, and the object's inode after all changes up to the moment
 pub record CheckpointFields : Type 0 where

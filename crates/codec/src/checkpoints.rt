@@ -84,8 +84,10 @@ impl Checkpoint {
         })
     }
 
+    #[tactic(auto, unfolding(crate::specs::Checkpoint::checkpoint_rules))]
     pub fn object(&self) -> ObjectId
-        ensures { result ≡ self.now.object }
+        ensures object { result ≡ self.now.object }
+        ensures given { 1 ≤ self.now.object }
     {
         self.object
     }
@@ -164,6 +166,7 @@ fn checkpoint_in(bytes: &[u8]) -> Option<Checkpoint>
 
 /// The checkpoint whose spelling the block is. None where it is the spelling of no checkpoint.
 pub fn decode_checkpoint(block: &[u8; BLOCK_BYTES]) -> Option<Checkpoint>
+    ensures exact { Reads (λ checkpoint. checkpoint) result (all_of checkpoint_at block.now) }
     ensures found { IfSome result (λ checkpoint. SpellsCheckpoint block.now checkpoint) }
     ensures only { (checkpoint : CheckpointFields) → SpellsCheckpoint block.now checkpoint → result ≡ Some checkpoint }
 {

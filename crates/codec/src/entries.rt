@@ -1,4 +1,4 @@
-ghost use Rattle.std.specs.Prelude.{◌≡◌, ℕ, ◌+◌, ◌*◌, ◌≤◌, ◌<◌, ◌++◌, IsTrue, Bool, true, List, length, Option, Some, IfSome, IfNone, IsSome, ◌&&◌, ◌||◌, not, nat_lt, nat_le};
+ghost use Rattle.std.specs.Prelude.{◌≡◌, ℕ, ◌+◌, ◌*◌, ◌≤◌, ◌<◌, ◌++◌, IsTrue, Bool, true, false, List, [], length, Option, Some, None, IfSome, IfNone, IsSome, ◌&&◌, ◌||◌, not, nat_lt, nat_le};
 ghost use Rattle.std.specs.List.{flat_map, AllByRecursion};
 ghost use Rattle.codec.specs.Fields.{Reads, slot, bit};
 ghost use Rattle.codec.specs.Entry.{EntryFields, same_slot, ascend_from, was_nothing, changes_now, differs, entry_rules, checked_entry, pair_length, entry_length};
@@ -49,7 +49,7 @@ pub(crate) struct Flags {
 /// The rules of a single entry hold: the moment is at least 1, one of the two is alive, what was dead had no
 /// size and no moment of change, what is alive was changed at the moment, of what is dead the flag alone
 /// changed, the attributes of a pair differ, and so do the two pointers of a triple, whose indices ascend.
-#[derive(Debug, Drop)]
+#[derive(Clone, Debug, Drop, PartialEq, Eq)]
 pub struct Entry {
     moment: Moment,
     before: Status,
@@ -67,6 +67,39 @@ impl Model for Entry {
     ghost view = { λ e. record { moment = e.moment; before = e.before; after = e.after; pair = e.pair; triples = e.triples.items } };
 
     ghost invariant = { λ e. entry_rules (record { moment = e.moment; before = e.before; after = e.after; pair = e.pair; triples = e.triples.items }) ≡ true };
+
+    ghost inverse = { λ e. record { moment = e.moment; before = e.before; after = e.after; pair = e.pair; triples = record { items = e.triples } } };
+}
+
+/// The least entry: the making of an object at moment 1.
+impl Default for Entry {
+    ghost is_default = { λ e. e ≡ record {
+      moment = 1;
+      before = record { alive = false; size = 0; changed = 0 };
+      after = record { alive = true; size = 0; changed = 1 };
+      pair = None;
+      triples = [];
+    } };
+
+    #[tactic(auto, unfolding(crate::specs::Entry::entry_rules, crate::specs::Entry::ascend_from))]
+    fn default() -> Self {
+        let status = Status {
+            alive: false,
+            size: 0,
+            changed: Moment::new(0),
+        };
+        Entry {
+            moment: Moment::new(1),
+            before: status,
+            after: Status {
+                alive: true,
+                size: 0,
+                changed: Moment::new(1),
+            },
+            pair: None,
+            triples: Triples::new(),
+        }
+    }
 }
 
 fn is_same_slot(one: Option<Ptr>, other: Option<Ptr>) -> bool

@@ -1,10 +1,11 @@
 //! Laws of the spellings, for the layers above: each function does nothing, and its contract is the law.
 
-ghost use Rattle.std.specs.Prelude.{◌≡◌, ℕ, ◌≤◌, ◌++◌, List, length, Option};
+ghost use Rattle.std.specs.Prelude.{◌≡◌, ◌↔◌, ℕ, ◌≤◌, ◌++◌, true, List, length, Option, Some};
 ghost use Rattle.s4_types.specs.Pointer.{Place};
-ghost use Rattle.codec.specs.Fields.{SpellsSlot};
-ghost use Rattle.codec.specs.Checkpoint.{CheckpointFields, SpellsCheckpoint};
+ghost use Rattle.codec.specs.Fields.{SpellsSlot, all_of};
+ghost use Rattle.codec.specs.Checkpoint.{CheckpointFields, SpellsCheckpoint, checkpoint_at};
 ghost use Rattle.codec.specs.Entry.{EntryFields, IsEntry, BeginsWith, entry_spelling, entry_length, entries_length};
+ghost use Rattle.codec.specs.Summary.{SummaryFields, KeepsSummaryRules, SpellsSummary, summary_rules, summary_spelling};
 
 /// No two pointers share a spelling, nor a pointer and a hole.
 pub fn one_pointer_a_spelling()
@@ -14,6 +15,11 @@ pub fn one_pointer_a_spelling()
 /// No two checkpoints share a spelling.
 pub fn one_checkpoint_a_spelling()
     ensures { (block : List ℕ) (c d : CheckpointFields) → SpellsCheckpoint block c → SpellsCheckpoint block d → c ≡ d }
+{}
+
+/// What a checkpoint's spelling is read as, is the checkpoint.
+pub fn a_checkpoint_is_read()
+    ensures { (block : List ℕ) (c : CheckpointFields) → SpellsCheckpoint block c → all_of checkpoint_at block ≡ Some c }
 {}
 
 /// No two entries share a spelling, and none is the beginning of another's.
@@ -32,4 +38,19 @@ pub fn entry_is_so_long()
 /// At most 14 entries fit the 488 bytes of a journal block.
 pub fn fourteen_entries_fit()
     ensures { (entries : List EntryFields) → entries_length entries ≤ 488 → length entries ≤ 14 }
+{}
+
+/// The rules of a summary are these: its generation is 1 to 2^32 - 2, one to 15 blocks are used, and each has an object.
+pub fn rules_of_a_summary()
+    ensures { (s : SummaryFields) → (summary_rules s ≡ true) ↔ KeepsSummaryRules s }
+{}
+
+/// No two summaries share a spelling in front of the same payload blocks.
+pub fn one_summary_a_spelling()
+    ensures { (payload : List (List ℕ)) (block : List ℕ) (s t : SummaryFields) → SpellsSummary payload block s → SpellsSummary payload block t → s ≡ t }
+{}
+
+/// The spelling of a summary has 512 bytes.
+pub fn summary_is_a_block()
+    ensures { (s : SummaryFields) (payload : List (List ℕ)) → length s.parts ≤ 15 → length (summary_spelling s payload) ≡ 512 }
 {}

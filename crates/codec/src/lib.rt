@@ -1,4 +1,5 @@
-//! The records of the log as values, and their bytes: pointers, inodes, checkpoints and journal entries.
+//! The records of the log as values, and their bytes: pointers, inodes, checkpoints, journal entries and blocks, and
+//! the summaries of frames.
 //!
 //! The layers above may rely on this: each record has one spelling, a function of its fields in `specs/`.
 //! An encoder gives that spelling, and a decoder answers the record whose spelling stands in its input, and
@@ -13,9 +14,17 @@ mod entries;
 mod entry_reading;
 mod entry_writing;
 mod fields;
+mod frame_digests;
 mod inodes;
+pub mod journal_laws;
+mod journal_reading;
+mod journal_writing;
+mod journals;
 pub mod laws;
 mod pointers;
+mod summaries;
+mod summary_reading;
+mod summary_writing;
 mod writing;
 
 pub use attributes::Attribute;
@@ -23,8 +32,18 @@ pub use checkpoints::{Checkpoint, decode_checkpoint, encode_checkpoint};
 pub use entries::{Entry, Pair, Status, Triple, Triples};
 pub use entry_writing::{decode_entry, encode_entry};
 pub use inodes::Inode;
+pub use journal_reading::decode_journal;
+pub use journal_writing::{encode_entries, encode_journal};
+pub use journals::{Entries, JournalBlock};
 pub use pointers::{decode_ptr, encode_ptr};
+pub use summaries::{Part, Parts, Summary};
+pub use summary_reading::decode_summary;
+pub use summary_writing::encode_summary;
 pub use writing::Writing;
 
+#[cfg(test)]
+mod journal_tests;
+#[cfg(test)]
+mod summary_tests;
 #[cfg(test)]
 mod tests;

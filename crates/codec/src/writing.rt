@@ -26,6 +26,16 @@ pub(crate) fn put_byte(out: &mut Writing, byte: u8)
 }
 
 #[tactic(auto, unfolding(crate::specs::Fields::number))]
+pub(crate) fn put_short(out: &mut Writing, n: u16)
+    requires { length out.old.items + 2 ≤ 512 }
+    ensures items { out.new.items ≡ out.old.items ++ number w16 n }
+    ensures len { length out.new.items ≡ length out.old.items + 2 }
+    ensures range { n < 2 ^ 16 }
+{
+    put(out, &n.to_be_bytes());
+}
+
+#[tactic(auto, unfolding(crate::specs::Fields::number))]
 pub(crate) fn put_word(out: &mut Writing, n: u32)
     requires { length out.old.items + 4 ≤ 512 }
     ensures items { out.new.items ≡ out.old.items ++ number w32 n }

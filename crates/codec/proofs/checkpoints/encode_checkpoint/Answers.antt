@@ -8,7 +8,7 @@ unfolding checkpoint_spelling padded
 returns c =
     let i = c.inode-inode.ensures.inode in
     let numbers : CheckpointNumbers c.args.checkpoint.now = record {
-      object = omega (arith, c.put_long.ensures.range, c.number.ensures, c.object.ensures);
+      object = omega (arith, c.put_long.ensures.range, c.number.ensures, c.object.ensures.object);
       moment = omega (arith, c.put_long-2.ensures.range, c.number-2.ensures, c.moment.ensures);
       inode = rw (← i) (record {
         size = c.put_word.ensures.range;
@@ -40,7 +40,7 @@ returns c =
         c.number-2.ensures,
         c.number-3.ensures,
         c.number-4.ensures,
-        c.object.ensures,
+        c.object.ensures.object,
         c.moment.ensures,
         c.bit_of.ensures,
         c.as_slice-attribute.ensures.value,

@@ -1,0 +1,58 @@
+-- What a table of blocks holds, and how appending and dropping change it.
+use Rattle.std.specs.Prelude.{ℕ, Bool, true, false, ◌==◌, ◌&&◌, if◌then◌else◌, List, [], ◌∷◌, Option, Some, None}
+use Rattle.s4_types.specs.Pointer.{Place}
+use Rattle.blocks.specs.declared.kinds.BlockKind.{BlockKind}
+use Rattle.blocks.specs.declared.kinds.BlockKind.TheVariants.{Journal, Checkpoint, Data}
+
+-- a block: what it is for, whose it is, and its 512 bytes
+pub record Stored : Type 0 where
+  pub kind : BlockKind
+  pub object : ℕ
+  pub bytes : List ℕ
+
+-- the block that each held pointer leads to, and the places that the next appends take, in order
+pub record Log : Type 0 where
+  pub held : Place → Option Stored
+  pub ahead : List Place
+
+-- the two places are one
+abbrev pub same_place : Place → Place → Bool
+same_place p q = p.frame == q.frame && (p.block == q.block && p.generation == q.generation)
+
+-- a block put at a place
+abbrev pub with_held : (Place → Option Stored) → Place → Stored → Place → Option Stored
+with_held held p block = λ q. if same_place p q then Some block else held q
+
+-- nothing at a place
+abbrev pub without : (Place → Option Stored) → Place → Place → Option Stored
+without held p = λ q. if same_place p q then None else held q
+
+-- what a block's append makes of a log where these places are ahead, and the place that it takes: the first of them
+abbrev pub appended_at : Log → Stored → List Place → Option (Place × Log)
+appended_at log block [] = None
+appended_at log block (p ∷ ahead) = Some (p, record { held = with_held log.held p block; ahead = ahead })
+
+-- what a block's append makes of a log, and the place that it takes
+abbrev pub appended : Log → Stored → Option (Place × Log)
+appended log block = appended_at log block log.ahead
+
+-- a log without the block at a place
+abbrev pub dropped : Log → Place → Log
+dropped log p = record log { held = without log.held p }
+
+abbrev pub same_kind : BlockKind → BlockKind → Bool
+same_kind Journal Journal = true
+same_kind Journal _ = false
+same_kind Checkpoint Checkpoint = true
+same_kind Checkpoint _ = false
+same_kind Data Data = true
+same_kind Data _ = false
+
+-- a block's bytes, where it is of this kind and object
+abbrev pub seen_as : BlockKind → ℕ → Option Stored → Option (List ℕ)
+seen_as kind o None = None
+seen_as kind o (Some block) = if same_kind kind block.kind && block.object == o then Some block.bytes else None
+
+-- the bytes of an object's blocks of one kind, by their places
+abbrev pub of_kind : BlockKind → ℕ → (Place → Option Stored) → Place → Option (List ℕ)
+of_kind kind o held = λ p. seen_as kind o (held p)

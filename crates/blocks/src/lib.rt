@@ -1,0 +1,13 @@
+//! Blocks and the log that they are appended to: what a block is for, and what the layers above a table of blocks may
+//! rely on.
+//!
+//! A log is seen as two things: what each held pointer leads to, and the places that the next appends take, in order.
+//! How a table keeps them in frames and words is not told here.
+#![tactic(auto)]
+
+mod kinds;
+pub mod laws;
+mod table;
+
+pub use kinds::BlockKind;
+pub use table::{Block, Blocks};

@@ -1,0 +1,40 @@
+ghost use Rattle.std.specs.Prelude.{◌≡◌, ◌≢◌, ℕ, ◌≤◌, length, Option, Some, None, IsSome, IfSome, IfOk, IfErr};
+ghost use Rattle.s4_types.specs.Pointer.{IsPlace};
+ghost use Rattle.s4_types.specs.declared.refusals.Refusal.TheVariants.{NoSpace};
+ghost use Rattle.blocks.specs.Log.{Log, Stored, appended, dropped};
+
+use crate::kinds::BlockKind;
+use s4_types::limits::BLOCK_BYTES;
+use s4_types::{ObjectId, Ptr, Refusal};
+
+/// 512 bytes, the unit of the log.
+pub type Block = [u8; BLOCK_BYTES];
+
+/// A table of blocks behind pointers.
+pub trait Blocks {
+    // What the held pointers lead to, and where the next appends go.
+    ghost log: { Self → Log };
+
+    /// Appends a block, and answers the pointer by which it is held from now on. No held pointer equals it.
+    ///
+    /// NoSpace exactly where no place is left; then nothing has changed.
+    fn append(&mut self, kind: BlockKind, object: ObjectId, block: &Block) -> Result<Ptr, Refusal>
+        requires { 1 ≤ object }
+        ensures appended { IfOk result (λ p. appended (log self.old) (record { kind = kind; object = object; bytes = block.now }) ≡ Some (p, log self.new)) }
+        ensures fresh { IfOk result (λ p. (log self.old).held p ≡ None) }
+        ensures full { IfErr result (λ e. (e ≡ NoSpace) × ((length (log self.old).ahead ≡ 0) × (log self.new ≡ log self.old))) };
+
+    /// The block that a held pointer leads to.
+    fn get(&mut self, place: Ptr) -> Block
+        requires { IsSome ((log self.old).held place) }
+        ensures bytes { IfSome ((log self.old).held place) (λ block. result ≡ block.bytes) }
+        ensures same { log self.new ≡ log self.old };
+
+    /// The pointer is held no longer. Where it wasn't, nothing changes.
+    fn drop_block(&mut self, place: Ptr)
+        ensures { log self.new ≡ dropped (log self.old) place };
+
+    /// How many blocks can be appended before there is no space: at most 15,360.
+    fn blocks_left(&self) -> usize
+        ensures { result ≡ length (log self.now).ahead };
+}

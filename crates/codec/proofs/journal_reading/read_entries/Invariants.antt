@@ -1,0 +1,12 @@
+use Rattle.std.proofs.Common.{◌≡◌, ◌-◌, ◌≤◌, length}
+use Rattle.codec.specs.Fields.{many_at}
+use Rattle.codec.specs.Entry.{entry_at}
+use Rattle.codec.proofs.Many.{with_front}
+use Rattle.codec.proofs.journal_reading.read_entries.Given as goal
+
+abbrev pub invariant-loop : goal.invariant-loop
+invariant-loop l = record {
+  so_far : with_front l.entries.items (many_at entry_at (l.count - l.counter) l.rest) ≡ many_at entry_at l.count l.bytes;
+  few : l.count ≤ 14;
+  len : length l.entries.items ≡ l.counter;
+}

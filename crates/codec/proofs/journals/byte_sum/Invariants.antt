@@ -1,0 +1,10 @@
+use Rattle.std.proofs.Common.{◌≡◌, ◌≤◌, ◌*◌, length, take}
+use Rattle.codec.specs.Entry.{entries_length}
+use Rattle.codec.proofs.journals.byte_sum.Given as goal
+
+abbrev pub invariant-loop-entry : goal.invariant-loop-entry
+invariant-loop-entry l = record {
+  exact : l.bytes ≡ entries_length (take l.entry-index l.entries);
+  most : l.bytes ≤ 436 * l.entry-index;
+  few : length l.entries ≤ 14;
+}

@@ -1,0 +1,73 @@
+ghost use Rattle.std.specs.Prelude.{◌≡◌, ℕ, ◌+◌, ◌*◌, ◌≤◌, ◌++◌, List, length};
+ghost use Rattle.std.specs.List.{flat_map, AllByRecursion};
+ghost use Rattle.codec.specs.Summary.{IsSummary, IsPart, UnusedAreBlank, SpellsSummary, kind_number, part_spelling, summary_head, summary_spelling};
+
+use crate::frame_digests::digest_of;
+use crate::summaries::{PART_BYTES, PARTS_AND_ZEROS, Part, Summary};
+use crate::writing::{Writing, finished, put, put_byte, put_long, put_short, put_word, put_zeros};
+use blocks::{Block, BlockKind};
+use s4_types::limits::PAYLOAD_BLOCKS;
+
+fn number_of(kind: BlockKind) -> u8
+    ensures { result ≡ kind_number kind }
+{
+    match kind {
+        BlockKind::Journal => 1,
+        BlockKind::Checkpoint => 2,
+        BlockKind::Data => 3,
+    }
+}
+
+#[tactic(auto, unfolding(crate::specs::Summary::part_spelling))]
+fn put_part(out: &mut Writing, part: Part)
+    requires { length out.old.items + 9 ≤ 512 }
+    ensures items { out.new.items ≡ out.old.items ++ part_spelling part }
+    ensures len { length out.new.items ≡ length out.old.items + 9 }
+    ensures range { IsPart part }
+{
+    put_byte(out, number_of(part.kind));
+    put_long(out, part.object.number());
+}
+
+fn put_parts(out: &mut Writing, parts: &[Part])
+    requires { length out.old.items + 9 * length parts.now ≤ 512 }
+    ensures items { out.new.items ≡ out.old.items ++ flat_map part_spelling parts.now }
+    ensures len { length out.new.items ≡ length out.old.items + 9 * length parts.now }
+    ensures range { AllByRecursion IsPart parts.now }
+{
+    for part in parts {
+        put_part(out, *part);
+    }
+}
+
+/// The first 480 bytes of a summary, with room for its digest.
+#[tactic(auto, unfolding(crate::specs::Summary::summary_head))]
+fn head_of(summary: &Summary) -> Writing
+    ensures items { result.items ≡ summary_head summary.now }
+    ensures len { length result.items ≡ 480 }
+    ensures fits { IsSummary summary.now }
+{
+    let parts = summary.parts();
+    let mut out = Writing::new();
+    put(&mut out, b"S4sg");
+    put_short(&mut out, summary.frame());
+    put_byte(&mut out, parts.len() as u8);
+    put_byte(&mut out, 0);
+    put_word(&mut out, summary.generation());
+    put_zeros(&mut out, 4);
+    put_parts(&mut out, parts);
+    put_zeros(&mut out, PARTS_AND_ZEROS - PART_BYTES * parts.len());
+    out
+}
+
+/// The one spelling of a summary in front of its frame's payload blocks. It is decoded where the unused ones are zeros.
+#[tactic(auto, unfolding(crate::specs::Summary::summary_spelling))]
+pub fn encode_summary(summary: &Summary, payload: &[Block; PAYLOAD_BLOCKS]) -> Block
+    ensures exact { result ≡ summary_spelling summary.now payload.now }
+    ensures decodes { UnusedAreBlank (length summary.now.parts) payload.now → SpellsSummary payload.now result summary.now }
+{
+    let mut out = head_of(summary);
+    let digest = digest_of(out.as_slice(), payload);
+    put(&mut out, &digest);
+    finished(out)
+}
