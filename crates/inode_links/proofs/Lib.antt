@@ -1,0 +1,9 @@
+pub mod Pointers
+pub mod Indices
+pub mod Slots
+pub mod Differing
+pub mod LinkLaws
+pub mod RunLaws
+pub mod GroupLaws
+pub mod BetweenLaws
+pub mod ComposeLaws

@@ -1,0 +1,6 @@
+pub mod Linked
+pub mod Redone
+pub mod Runs
+pub mod Groups
+pub mod Between
+pub mod Sizes

@@ -1,0 +1,3 @@
+pub mod Adding
+pub mod Rule
+pub mod Pushing
