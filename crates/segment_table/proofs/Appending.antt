@@ -1,0 +1,103 @@
+-- An append: the frame is ready, the block is put, and a full frame is sealed.
+use Rattle.std.proofs.Common.{◌≡◌, ◌≢◌, inl, inr, ◌⊎◌, ℕ, ◌+◌, ◌-◌, ◌<◌, ◌≤◌, Bool, true, false, List, [], ◌∷◌, ◌++◌, length, set, get_or, refl, sym, ap, subst, ◌∙◌, length-append, arith}
+use Rattle.std.proofs.lemmas.List.{get_or-set_same}
+use Rattle.std.proofs.lemmas.Bool.{cases_lt}
+use Rattle.s4_types.specs.Pointer.{Place}
+use Rattle.codec.specs.declared.summaries.Part.{Part}
+use Rattle.segment_word.specs.Frames.{Open, Sealed, Frame}
+use Rattle.segment_word.specs.Layout.{frame_at, block_bytes}
+use Rattle.segment_word.specs.Handles.{Drive}
+use Rattle.segment_table.specs.declared.slots.Slot.{Slot}
+use Rattle.segment_table.specs.Table.{Table, slots_at}
+use Rattle.segment_table.specs.Room.{is_open, is_filling, numbers}
+use Rattle.segment_table.specs.Sealing.{IsSummed, IsPartFilled}
+use Rattle.segment_table.specs.Changes.{IsAlone, KeepsGeneration, KeepsBlock, IsFilling, NoneIsFilling, IsReady, IsPut, IsSealed, IsSealedIn, IsAppended, with_slot}
+use Rattle.segment_table.proofs.Alone.{alone_then}
+use Rattle.segment_table.proofs.Numbers.{numbers_none, numbers_one}
+use Rattle.segment_table.proofs.Ahead.{filling_at}
+
+-- a table without an open frame has none that is part-filled
+pub part_none : (t : Table) → NoneIsFilling t → IsPartFilled t
+part_none t none f inside phase = absurd (numbers_none is_filling 0 f t.drive.frames none inside (ap is_open phase))
+
+pub part_one : (t : Table) (f : ℕ) → IsFilling f t → 1 ≤ length (slots_at t.slots f) → length (slots_at t.slots f) < 15 → IsPartFilled t
+part_one t f filling some room g inside phase =
+    let same : f ≡ g = numbers_one is_filling 0 f g t.drive.frames filling inside (ap is_open phase) ∙ omega arith in
+    let P : ℕ → Type 0 = λ n. (1 ≤ length (slots_at t.slots n)) × (length (slots_at t.slots n) < 15) in
+    subst P same (some, room)
+
+-- the block at the place that was taken, and those before it, once it was put
+record IsTaken (f n : ℕ) (part : Part) (block : List ℕ) (old new : Table) : Type 0 where
+  alone : IsAlone f old.drive new.drive
+  generation : KeepsGeneration f old.drive new.drive
+  count : n ≡ length (slots_at old.slots f) + 1
+  bytes : block_bytes (frame_at new.drive.frames f).contents n ≡ block
+  others : (b : ℕ) → 1 ≤ b → b < n → KeepsBlock f b old.drive new.drive
+  slots : new.slots ≡ with_slot old.slots f (record { part = part; held = true })
+  many : length (slots_at new.slots f) ≡ n
+  phase : (frame_at new.drive.frames f).phase ≡ Open
+
+taken : (old ready put : Table) (f : ℕ) (part : Part) (block : List ℕ) → IsReady f old ready → IsPut f (record { part = part; held = true }) block ready put → IsTaken f (length (slots_at ready.slots f) + 1) part block old put
+taken old ready put f part block r h =
+    let slot : Slot = record { part = part; held = true } in
+    let s : List Slot = slots_at ready.slots f in
+    record {
+      alone = alone_then old.drive ready.drive put.drive f r.alone h.alone;
+      generation = h.generation ∙ r.generation;
+      count = ap (λ (l : List (List Slot)). length (slots_at l f) + 1) r.slots;
+      bytes = h.bytes;
+      others = λ b low high. (let room : length s < 15 = r.room in h.others b (omega arith) (λ (e : b ≡ length s + 1). omega arith)) ∙ ap (λ (l : List ℕ). block_bytes l b) r.contents;
+      slots = h.slots ∙ ap (λ (l : List (List Slot)). with_slot l f slot) r.slots;
+      many = ap (λ (l : List (List Slot)). length (slots_at l f)) h.slots ∙ ap length (get_or-set_same ready.slots f (s ++ slot ∷ []) [] r.within) ∙ length-append s (slot ∷ []);
+      phase = h.phase ∙ (filling_at ready f r.filling).1;
+    }
+
+appended_open : (old new : Table) (p : Place) (part : Part) (block : List ℕ) → p.block < 15 → IsTaken p.frame p.block part block old new → IsAppended p part block old new
+appended_open old new p part block room t = record {
+  alone = t.alone;
+  generation = t.generation;
+  place = t.count;
+  bytes = t.bytes;
+  others = t.others;
+  slots = t.slots;
+  filling = λ h. t.phase;
+  sealed = λ e. absurd (omega arith);
+  summed = λ e. absurd (omega arith);
+}
+
+appended_full : (old put new : Table) (p : Place) (part : Part) (block : List ℕ) → p.block ≡ 15 → IsTaken p.frame p.block part block old put → IsSealedIn p.frame put new → IsAppended p part block old new
+appended_full old put new p part block full t s =
+    let S : List (List Slot) → Type 0 = λ l. IsSummed p.frame (frame_at new.drive.frames p.frame) (slots_at l p.frame) in
+    let high : p.block ≤ length (slots_at put.slots p.frame) = let e : length (slots_at put.slots p.frame) ≡ p.block = t.many in omega arith in
+    record {
+      alone = alone_then old.drive put.drive new.drive p.frame t.alone s.0.alone;
+      generation = s.0.generation ∙ t.generation;
+      place = t.count;
+      bytes = s.0.used p.block (omega arith) high ∙ t.bytes;
+      others = λ b low below. s.0.used b low (omega arith) ∙ t.others b low below;
+      slots = s.1 ∙ t.slots;
+      filling = λ h. absurd (omega arith);
+      sealed = λ e. s.0.phase;
+      summed = λ e. subst S (sym s.1) s.0.summed;
+    }
+
+-- what an append makes of a table
+pub append_made : (old ready put new : Table) (f : ℕ) (part : Part) (block : List ℕ) (p : Place) → IsReady f old ready → IsPut f (record { part = part; held = true }) block ready put → IsFilling f put
+    → p ≡ record { frame = f; block = length (slots_at ready.slots f) + 1; generation = (frame_at ready.drive.frames f).generation }
+    → (length (slots_at put.slots f) < 15 → new ≡ put)
+    → (length (slots_at put.slots f) ≡ 15 → IsSealedIn f put new × NoneIsFilling new)
+    → IsAppended p part block old new × IsPartFilled new
+append_made old ready put new f part block p r h filling at room full =
+    let q : Place = record { frame = f; block = length (slots_at ready.slots f) + 1; generation = (frame_at ready.drive.frames f).generation } in
+    let A : Place → Type 0 = λ x. IsAppended x part block old new in
+    let t : IsTaken f q.block part block old put = taken old ready put f part block r h in
+    let many : length (slots_at put.slots f) ≡ q.block = t.many in
+    elim (cases_lt (length (slots_at put.slots f)) 15) [
+      | inl low ↦ (let T : Table → Type 0 = λ x. IsAppended q part block old x × IsPartFilled x in
+          let made = subst T (sym (room low)) (appended_open old put q part block (omega arith) t, part_one put f filling (omega arith) low) in
+          (subst A (sym at) made.0, made.1))
+      | inr high ↦ (let before : length (slots_at ready.slots f) < 15 = r.room in
+          let last : length (slots_at put.slots f) ≡ 15 = omega arith in
+          let sealed = full last in
+          (subst A (sym at) (appended_full old put new q part block (omega arith) t sealed.0), part_none new sealed.1))
+    ]

@@ -1,0 +1,180 @@
+-- What the places of a table hold, after one frame has changed.
+use Rattle.std.proofs.Common.{◌≡◌, ◌≢◌, inl, inr, ⊎_elim, ◌⊎◌, ℕ, zero, suc, ◌+◌, ◌-◌, ◌<◌, ◌≤◌, Bool, true, false, cond, ◌==◌, ◌&&◌, if◌then◌else◌, List, [], ◌∷◌, ◌++◌, length, set, get_or, Option, Some, None, refl, sym, ap, subst, ◌∙◌, add-one, length-append, arith}
+use Rattle.std.proofs.lemmas.List.{get_or-set_same, get_or-set_other, get_or_past, get_or_push, get_or_append_left, get_or-append_right, length-set}
+use Rattle.std.proofs.lemmas.Bool.{cases_Bool, cases_eq, cases_lt, eq-eqb, ne_eqb, eqb-true, and_parts}
+use Rattle.s4_types.specs.Pointer.{Place}
+use Rattle.blocks.specs.Log.{Stored, same_place, with_held, without}
+use Rattle.codec.specs.declared.summaries.Part.{Part}
+use Rattle.segment_word.specs.Frames.{Frame, no_frame}
+use Rattle.segment_word.specs.Layout.{frame_at, block_bytes}
+use Rattle.segment_word.specs.Handles.{Drive}
+use Rattle.segment_table.specs.declared.slots.Slot.{Slot}
+use Rattle.segment_table.specs.Slots.{no_slot, let_go}
+use Rattle.segment_table.specs.Table.{Table, slots_at, slot_of, stored, held_in, held_at}
+use Rattle.segment_table.specs.Changes.{IsAlone, KeepsGeneration, KeepsBlock, IsPut}
+use Rattle.segment_table.proofs.Alone.{elsewhere, generation_alone}
+
+-- a block is used, or nothing is stored there
+slot_cases : (s : List Slot) (b : ℕ) → ((1 ≤ b) × (b ≤ length s)) ⊎ (slot_of s b ≡ no_slot)
+slot_cases s zero = inr refl
+slot_cases s (suc b) = elim (cases_lt b (length s)) [ inl h ↦ inl (omega arith, omega arith) | inr h ↦ inr (get_or_past s b no_slot h) ]
+
+-- the same slot at the same generation, with bytes that are the same where it is used
+pub held_same : (k k' : Frame) (s : List Slot) (b g : ℕ) → k'.generation ≡ k.generation → (1 ≤ b → b ≤ length s → block_bytes k'.contents b ≡ block_bytes k.contents b) → held_in k' s b g ≡ held_in k s b g
+held_same k k' s b g e same =
+    ap (λ (n : ℕ). if n == g then stored (slot_of s b) (block_bytes k'.contents b) else None) e
+    ∙ elim (slot_cases s b) [
+      | inl h ↦ ap (λ (x : List ℕ). if k.generation == g then stored (slot_of s b) x else None) (same h.0 h.1)
+      | inr none ↦ ap (λ (slot : Slot). if k.generation == g then stored slot (block_bytes k'.contents b) else None) none
+          ∙ sym (ap (λ (slot : Slot). if k.generation == g then stored slot (block_bytes k.contents b) else None) none)
+    ]
+
+held_kept_at : (old new : Table) (f : ℕ) (q : Place) → IsAlone f old.drive new.drive → KeepsGeneration f old.drive new.drive
+    → ((b : ℕ) → 1 ≤ b → b ≤ length (slots_at old.slots f) → KeepsBlock f b old.drive new.drive)
+    → new.slots ≡ old.slots → held_at new q ≡ held_at old q
+held_kept_at old new f q a k same e =
+    ap (λ (l : List (List Slot)). held_in (frame_at new.drive.frames q.frame) (slots_at l q.frame) q.block q.generation) e
+    ∙ held_same (frame_at old.drive.frames q.frame) (frame_at new.drive.frames q.frame) (slots_at old.slots q.frame) q.block q.generation (generation_alone old.drive new.drive f q.frame a k)
+    (λ low high. elim (cases_eq q.frame f) [
+      | inl at ↦ (let P : ℕ → Type 0 = λ n. KeepsBlock n q.block old.drive new.drive in
+          let H : ℕ → Type 0 = λ n. q.block ≤ length (slots_at old.slots n) in
+          subst P (sym at) (same q.block low (subst H at high)))
+      | inr ne ↦ ap (λ (x : Frame). block_bytes x.contents q.block) (elsewhere old.drive new.drive f q.frame a ne)
+    ])
+
+-- where the used blocks of the frame that changed are as they were, the same is held
+pub held_kept : (old new : Table) (f : ℕ) → IsAlone f old.drive new.drive → KeepsGeneration f old.drive new.drive
+    → ((b : ℕ) → 1 ≤ b → b ≤ length (slots_at old.slots f) → KeepsBlock f b old.drive new.drive)
+    → new.slots ≡ old.slots → held_at new ≡ held_at old
+held_kept old new f a k same e = λ i q. held_kept_at old new f q a k same e i
+
+slot_more : (s : List Slot) (slot : Slot) (b : ℕ) → b ≢ length s + 1 → slot_of (s ++ slot ∷ []) b ≡ slot_of s b
+slot_more s slot zero ne = refl
+slot_more s slot (suc b) ne = elim (cases_lt b (length s)) [
+  | inl h ↦ get_or_append_left s (slot ∷ []) no_slot b h
+  | inr h ↦ elim (cases_eq b (length s)) [
+    | inl e ↦ absurd (ne (omega arith))
+    | inr apart ↦ (let past : length (s ++ slot ∷ []) ≤ b = elim (cases_lt (length s) b) [ inl less ↦ omega (arith, length-append s (slot ∷ [])) | inr more ↦ absurd (apart (omega arith)) ] in
+        get_or_past (s ++ slot ∷ []) b no_slot past ∙ sym (get_or_past s b no_slot h))
+  ]
+]
+
+slot_last : (s : List Slot) (slot : Slot) (b : ℕ) → b ≡ length s + 1 → slot_of (s ++ slot ∷ []) b ≡ slot
+slot_last s slot zero e = absurd (omega arith)
+slot_last s slot (suc b) e = get_or_push s slot no_slot b (omega arith)
+
+-- what the place of the new block holds, and the other places of its frame
+put_at : (k k' : Frame) (s : List Slot) (part : Part) (block : List ℕ) (b g : ℕ) → k'.generation ≡ k.generation → block_bytes k'.contents (length s + 1) ≡ block
+    → ((c : ℕ) → c < 16 → c ≢ length s + 1 → block_bytes k'.contents c ≡ block_bytes k.contents c) → length s < 15
+    → held_in k' (s ++ (record { part = part; held = true }) ∷ []) b g ≡ (if (length s + 1) == b && k.generation == g then Some (record { kind = part.kind; object = part.object; bytes = block }) else held_in k s b g)
+put_at k k' s part block b g e is others room =
+    let slot : Slot = record { part = part; held = true } in
+    elim (cases_eq b (length s + 1)) [
+      | inl at ↦ ap (λ (n : ℕ). if n == g then stored (slot_of (s ++ slot ∷ []) b) (block_bytes k'.contents b) else None) e
+          ∙ ap (λ (x : Slot). if k.generation == g then stored x (block_bytes k'.contents b) else None) (slot_last s slot b at)
+          ∙ ap (λ (x : List ℕ). if k.generation == g then stored slot x else None) (ap (λ (n : ℕ). block_bytes k'.contents n) at ∙ is)
+          ∙ elim (cases_Bool (k.generation == g)) [
+            | inl own ↦ ap (λ (x : Bool). if x then stored slot block else None) own
+                ∙ sym (ap (λ (x : Bool). if x && k.generation == g then Some (record { kind = part.kind; object = part.object; bytes = block }) else held_in k s b g) (eq-eqb (length s + 1) b (sym at))
+                ∙ ap (λ (x : Bool). if x then Some (record { kind = part.kind; object = part.object; bytes = block }) else held_in k s b g) own)
+            | inr other ↦ ap (λ (x : Bool). if x then stored slot block else None) other
+                ∙ sym (ap (λ (x : Bool). if x && k.generation == g then Some (record { kind = part.kind; object = part.object; bytes = block }) else held_in k s b g) (eq-eqb (length s + 1) b (sym at))
+                ∙ ap (λ (x : Bool). if x then Some (record { kind = part.kind; object = part.object; bytes = block }) else held_in k s b g) other
+                ∙ ap (λ (x : Bool). if x then stored (slot_of s b) (block_bytes k.contents b) else None) other)
+          ]
+      | inr ne ↦ ap (λ (x : Slot). if k'.generation == g then stored x (block_bytes k'.contents b) else None) (slot_more s slot b ne)
+          ∙ held_same k k' s b g e (λ low high. others b (omega arith) ne)
+          ∙ sym (ap (λ (x : Bool). if x && k.generation == g then Some (record { kind = part.kind; object = part.object; bytes = block }) else held_in k s b g) (ne_eqb (length s + 1) b (λ (same : length s + 1 ≡ b). ne (sym same))))
+    ]
+
+held_put_at : (old new : Table) (f : ℕ) (part : Part) (block : List ℕ) (q : Place) → f < length old.slots → length (slots_at old.slots f) < 15 → IsPut f (record { part = part; held = true }) block old new
+    → held_at new q ≡ with_held (held_at old) (record { frame = f; block = length (slots_at old.slots f) + 1; generation = (frame_at old.drive.frames f).generation }) (record { kind = part.kind; object = part.object; bytes = block }) q
+held_put_at old new f part block q inside room put =
+    let slot : Slot = record { part = part; held = true } in
+    let s : List Slot = slots_at old.slots f in
+    let k : Frame = frame_at old.drive.frames f in
+    let k' : Frame = frame_at new.drive.frames f in
+    let st : Stored = record { kind = part.kind; object = part.object; bytes = block } in
+    elim (cases_eq q.frame f) [
+      | inl at ↦ (let P : ℕ → Type 0 = λ n. held_in (frame_at new.drive.frames n) (slots_at new.slots n) q.block q.generation ≡ (if f == n && ((length s + 1) == q.block && k.generation == q.generation) then Some st else held_in (frame_at old.drive.frames n) (slots_at old.slots n) q.block q.generation) in
+          let here : slots_at new.slots f ≡ s ++ slot ∷ [] = ap (λ (l : List (List Slot)). slots_at l f) put.slots ∙ get_or-set_same old.slots f (s ++ slot ∷ []) [] inside in
+          subst P (sym at)
+          (ap (λ (l : List Slot). held_in k' l q.block q.generation) here
+          ∙ put_at k k' s part block q.block q.generation put.generation put.bytes put.others room
+          ∙ sym (ap (λ (x : Bool). if x && ((length s + 1) == q.block && k.generation == q.generation) then Some st else held_in k s q.block q.generation) (eq-eqb f f refl))))
+      | inr ne ↦ ap (λ (l : List (List Slot)). held_in (frame_at new.drive.frames q.frame) (slots_at l q.frame) q.block q.generation) put.slots
+          ∙ ap (λ (l : List Slot). held_in (frame_at new.drive.frames q.frame) l q.block q.generation) (get_or-set_other old.slots f q.frame (s ++ slot ∷ []) [] ne)
+          ∙ ap (λ (x : Frame). held_in x (slots_at old.slots q.frame) q.block q.generation) (elsewhere old.drive new.drive f q.frame put.alone ne)
+          ∙ sym (ap (λ (x : Bool). if x && ((length s + 1) == q.block && k.generation == q.generation) then Some st else held_at old q) (ne_eqb f q.frame (λ (same : f ≡ q.frame). ne (sym same))))
+    ]
+
+-- a block that was put into a frame is held at its place, and all else as before
+pub held_put : (old new : Table) (f : ℕ) (part : Part) (block : List ℕ) → f < length old.slots → length (slots_at old.slots f) < 15 → IsPut f (record { part = part; held = true }) block old new
+    → held_at new ≡ with_held (held_at old) (record { frame = f; block = length (slots_at old.slots f) + 1; generation = (frame_at old.drive.frames f).generation }) (record { kind = part.kind; object = part.object; bytes = block })
+held_put old new f part block inside room put = λ i q. held_put_at old new f part block q inside room put i
+
+-- the next unused block holds nothing
+pub held_fresh : (t : Table) (f g : ℕ) → held_in (frame_at t.drive.frames f) (slots_at t.slots f) (length (slots_at t.slots f) + 1) g ≡ None
+held_fresh t f g =
+    let k : Frame = frame_at t.drive.frames f in
+    let s : List Slot = slots_at t.slots f in
+    let none : slot_of s (length s + 1) ≡ no_slot = ap (λ (n : ℕ). slot_of s n) (add-one (length s)) ∙ get_or_past s (length s) no_slot (omega arith) in
+    ap (λ (x : Slot). if k.generation == g then stored x (block_bytes k.contents (length s + 1)) else None) none
+    ∙ elim (cases_Bool (k.generation == g)) [
+      | inl same ↦ ap (λ (x : Bool). if x then stored no_slot (block_bytes k.contents (length s + 1)) else None) same
+      | inr other ↦ ap (λ (x : Bool). if x then stored no_slot (block_bytes k.contents (length s + 1)) else None) other
+    ]
+
+-- a block that was let go
+gone_at : (k : Frame) (s : List Slot) (p b g : ℕ) → 1 ≤ p → held_in k (let_go s (p - 1)) b g ≡ (if p == b && k.generation == g then None else held_in k s b g)
+gone_at k s p zero g low =
+    sym (ap (λ (x : Bool). if x && k.generation == g then None else held_in k s 0 g) (ne_eqb p 0 (λ (e : p ≡ 0). omega arith)))
+gone_at k s p (suc b) g low =
+    let slot : Slot = record (get_or s (p - 1) no_slot) { held = false } in
+    let none : Option Stored = None in
+    elim (cases_eq b (p - 1)) [
+      | inl at ↦ (let same : p ≡ suc b = omega arith in
+          let gone : stored (get_or (set s (p - 1) slot) b no_slot) (block_bytes k.contents (suc b)) ≡ None =
+          elim (cases_lt b (length s)) [
+            | inl h ↦ ap (λ (n : ℕ). stored (get_or (set s n slot) b no_slot) (block_bytes k.contents (suc b))) (sym at)
+                ∙ ap (λ (x : Slot). stored x (block_bytes k.contents (suc b))) (get_or-set_same s b slot no_slot h)
+            | inr h ↦ ap (λ (x : Slot). stored x (block_bytes k.contents (suc b))) (get_or_past (set s (p - 1) slot) b no_slot (omega (arith, length-set s (p - 1) slot)))
+          ] in
+          ap (λ (x : Option Stored). if k.generation == g then x else None) gone
+          ∙ elim (cases_Bool (k.generation == g)) [
+            | inl own ↦ ap (λ (x : Bool). cond x none none) own
+                ∙ sym (ap (λ (x : Bool). if x && k.generation == g then None else held_in k s (suc b) g) (eq-eqb p (suc b) same)
+                ∙ ap (λ (x : Bool). if x then None else held_in k s (suc b) g) own)
+            | inr other ↦ ap (λ (x : Bool). cond x none none) other
+                ∙ sym (ap (λ (x : Bool). if x && k.generation == g then None else held_in k s (suc b) g) (eq-eqb p (suc b) same)
+                ∙ ap (λ (x : Bool). if x then None else held_in k s (suc b) g) other
+                ∙ ap (λ (x : Bool). if x then stored (slot_of s (suc b)) (block_bytes k.contents (suc b)) else None) other)
+          ])
+      | inr ne ↦ ap (λ (x : Slot). if k.generation == g then stored x (block_bytes k.contents (suc b)) else None) (get_or-set_other s (p - 1) b slot no_slot ne)
+          ∙ sym (ap (λ (x : Bool). if x && k.generation == g then None else held_in k s (suc b) g) (ne_eqb p (suc b) (λ (e : p ≡ suc b). ne (omega arith))))
+    ]
+
+held_gone_at : (old new : Table) (p q : Place) → p.frame < length old.slots → 1 ≤ p.block → (frame_at old.drive.frames p.frame).generation ≡ p.generation → new.drive ≡ old.drive → new.slots ≡ set old.slots p.frame (let_go (slots_at old.slots p.frame) (p.block - 1))
+    → held_at new q ≡ without (held_at old) p q
+held_gone_at old new p q inside low current drive slots =
+    let f : ℕ = p.frame in
+    let s : List Slot = slots_at old.slots f in
+    let k : Frame = frame_at old.drive.frames f in
+    ap (λ (d : Drive). held_in (frame_at d.frames q.frame) (slots_at new.slots q.frame) q.block q.generation) drive
+    ∙ elim (cases_eq q.frame f) [
+      | inl at ↦ (let P : ℕ → Type 0 = λ n. held_in (frame_at old.drive.frames n) (slots_at new.slots n) q.block q.generation ≡ (if f == n && (p.block == q.block && p.generation == q.generation) then None else held_in (frame_at old.drive.frames n) (slots_at old.slots n) q.block q.generation) in
+          let here : slots_at new.slots f ≡ let_go s (p.block - 1) = ap (λ (l : List (List Slot)). slots_at l f) slots ∙ get_or-set_same old.slots f (let_go s (p.block - 1)) [] inside in
+          subst P (sym at)
+          (ap (λ (l : List Slot). held_in k l q.block q.generation) here
+          ∙ gone_at k s p.block q.block q.generation low
+          ∙ ap (λ (n : ℕ). if p.block == q.block && n == q.generation then None else held_in k s q.block q.generation) current
+          ∙ sym (ap (λ (x : Bool). if x && (p.block == q.block && p.generation == q.generation) then None else held_in k s q.block q.generation) (eq-eqb f f refl))))
+      | inr ne ↦ ap (λ (l : List (List Slot)). held_in (frame_at old.drive.frames q.frame) (slots_at l q.frame) q.block q.generation) slots
+          ∙ ap (λ (l : List Slot). held_in (frame_at old.drive.frames q.frame) l q.block q.generation) (get_or-set_other old.slots f q.frame (let_go s (p.block - 1)) [] ne)
+          ∙ sym (ap (λ (x : Bool). if x && (p.block == q.block && p.generation == q.generation) then None else held_at old q) (ne_eqb f q.frame (λ (same : f ≡ q.frame). ne (sym same))))
+    ]
+
+-- a block that was let go is held no longer, and all else as before
+pub held_gone : (old new : Table) (p : Place) → p.frame < length old.slots → 1 ≤ p.block → (frame_at old.drive.frames p.frame).generation ≡ p.generation → new.drive ≡ old.drive → new.slots ≡ set old.slots p.frame (let_go (slots_at old.slots p.frame) (p.block - 1))
+    → held_at new ≡ without (held_at old) p
+held_gone old new p inside low current drive slots = λ i q. held_gone_at old new p q inside low current drive slots i

@@ -1,0 +1,10 @@
+pub mod Alone
+pub mod Clearing
+pub mod Numbers
+pub mod Holding
+pub mod Ahead
+pub mod Sound
+pub mod Steps
+pub mod Summing
+pub mod Reading
+pub mod Appending

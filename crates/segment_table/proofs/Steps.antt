@@ -1,0 +1,145 @@
+-- What each step makes of a table, seen as a log.
+use Rattle.std.proofs.Common.{◌≡◌, ◌≢◌, inl, inr, ℕ, ◌+◌, ◌-◌, ◌<◌, ◌≤◌, Bool, true, false, List, [], ◌∷◌, ◌++◌, length, reverse, set, get_or, Option, Some, None, refl, sym, ap, subst, ◌∙◌, length-append, arith}
+use Rattle.std.specs.Option.{option_to_list}
+use Rattle.std.proofs.lemmas.List.{get_or-set_same, get_or_read}
+use Rattle.s4_types.specs.Pointer.{Place}
+use Rattle.blocks.specs.Log.{Log, Stored, appended, appended_at, dropped, with_held, without}
+use Rattle.codec.specs.declared.summaries.Part.{Part}
+use Rattle.segment_word.specs.Frames.{Free, Open, Sealed, Frame, code_of}
+use Rattle.segment_word.specs.Layout.{frame_at, block_bytes, with_block}
+use Rattle.segment_word.specs.Handles.{Drive, with_changed}
+use Rattle.segment_table.specs.declared.slots.Slot.{Slot}
+use Rattle.segment_table.specs.Slots.{let_go}
+use Rattle.segment_table.specs.Table.{Table, slots_at, held_at}
+use Rattle.segment_table.specs.Room.{can_open, numbers, places, rest_of, places_ahead, log_of}
+use Rattle.segment_table.specs.Sealing.{IsFit, IsSound, IsPartFilled}
+use Rattle.segment_table.specs.Changes.{IsAlone, KeepsBlock, IsFilling, NoneIsFilling, IsReady, IsPut, IsSealed, with_slot}
+use Rattle.segment_table.proofs.Alone.{unchanged, alone, put_here}
+use Rattle.segment_table.proofs.Holding.{held_kept, held_put, held_gone}
+use Rattle.segment_table.proofs.Ahead.{CanOpen, vacant_first, filling_at, popped, ahead_put, ahead_sealed, ahead_opened, ahead_same, places_none}
+use Rattle.segment_table.proofs.Sound.{opened_alone, opened_filling, opened_vacant, put_filling, sealed_filling, used_gone}
+
+same_logs : (old new : Table) → held_at new ≡ held_at old → places_ahead new ≡ places_ahead old → log_of new ≡ log_of old
+same_logs old new held ahead = λ i. record { held = held i; ahead = ahead i }
+
+pub first_vacant : (old : Table) (free free' : List ℕ) (current : Option ℕ) (f : ℕ) → IsSound old free current → free ≡ free' ++ f ∷ [] → CanOpen old.drive.frames f
+first_vacant old free free' current f sound split =
+    vacant_first old.drive.frames f (reverse free') (popped (numbers can_open 0 old.drive.frames) free free' f sound.vacant split)
+
+no_slots_yet : (old : Table) (free : List ℕ) (current : Option ℕ) (f : ℕ) → IsSound old free current → CanOpen old.drive.frames f → slots_at old.slots f ≡ []
+no_slots_yet old free current f sound can = (sound.fit f can.inside).free can.free
+
+pub ready_opened : (old new : Table) (free free' : List ℕ) (current : Option ℕ) (f : ℕ) → IsSound old free current → NoneIsFilling old → free ≡ free' ++ f ∷ []
+    → new.drive ≡ with_changed old.drive f (record (frame_at old.drive.frames f) { phase = Open }) → new.slots ≡ old.slots → IsReady f old new
+ready_opened old new free free' current f sound none split changed slots =
+    let can : CanOpen old.drive.frames f = first_vacant old free free' current f sound split in
+    let a = opened_alone old.drive new.drive f can.inside changed in
+    let empty : length (slots_at new.slots f) ≡ 0 = ap (λ (l : List (List Slot)). length (slots_at l f)) slots ∙ ap length (no_slots_yet old free current f sound can) in
+    record {
+      alone = a.0;
+      generation = ap (λ (k : Frame). k.generation) a.1;
+      contents = ap (λ (k : Frame). k.contents) a.1;
+      slots = slots;
+      within = let same : length new.slots ≡ length old.slots = ap length slots in let inside : f < length old.drive.frames = can.inside in omega (arith, sound.counted);
+      filling = opened_filling old.drive new.drive f can.inside none changed;
+      room = omega arith;
+    }
+
+pub log_opened : (old new : Table) (free free' : List ℕ) (current : Option ℕ) (f : ℕ) → IsSound old free current → NoneIsFilling old → free ≡ free' ++ f ∷ []
+    → new.drive ≡ with_changed old.drive f (record (frame_at old.drive.frames f) { phase = Open }) → new.slots ≡ old.slots → log_of new ≡ log_of old
+log_opened old new free free' current f sound none split changed slots =
+    let can : CanOpen old.drive.frames f = first_vacant old free free' current f sound split in
+    let ready : IsReady f old new = ready_opened old new free free' current f sound none split changed slots in
+    let first : numbers can_open 0 old.drive.frames ≡ f ∷ reverse free' = popped (numbers can_open 0 old.drive.frames) free free' f sound.vacant split in
+    same_logs old new (held_kept old new f ready.alone ready.generation (λ b low high. ap (λ (l : List ℕ). block_bytes l b) ready.contents) slots)
+    (ahead_opened old new f (reverse free') none first ready.filling (opened_vacant old.drive new.drive f (reverse free') first changed) ready.alone ready.generation slots (no_slots_yet old free current f sound can))
+
+-- the open frame is ready as it is
+pub ready_same : (t : Table) (f : ℕ) → f < length t.slots → IsFilling f t → IsPartFilled t → IsReady f t t
+ready_same t f within filling part =
+    let at = filling_at t f filling in
+    record {
+      alone = unchanged t.drive f;
+      generation = refl;
+      contents = refl;
+      slots = refl;
+      within = within;
+      filling = filling;
+      room = (part f at.0 at.1).1;
+    }
+
+pub put_is : (old new : Table) (f b : ℕ) (slot : Slot) (block : List ℕ) → f < length old.drive.frames → b ≡ length (slots_at old.slots f) + 1
+    → new.drive ≡ with_changed old.drive f (with_block (frame_at old.drive.frames f) b block)
+    → block_bytes (frame_at new.drive.frames f).contents b ≡ block
+    → ((c : ℕ) → c < 16 → c ≢ b → KeepsBlock f c old.drive new.drive)
+    → new.slots ≡ with_slot old.slots f slot → IsPut f slot block old new
+put_is old new f b slot block inside next changed stored others slots =
+    let k : Frame = with_block (frame_at old.drive.frames f) b block in
+    let is : frame_at new.drive.frames f ≡ k = ap (λ (d : Drive). frame_at d.frames f) changed ∙ put_here old.drive f k inside in
+    record {
+      alone = alone old.drive new.drive f k inside changed;
+      phase = ap (λ (x : Frame). x.phase) is;
+      generation = ap (λ (x : Frame). x.generation) is;
+      bytes = ap (λ (n : ℕ). block_bytes (frame_at new.drive.frames f).contents n) (sym next) ∙ stored;
+      others = λ c low ne. others c low (λ (e : c ≡ b). ne (e ∙ next));
+      slots = slots;
+    }
+
+-- the open frame of a table
+pub record AtFilling (t : Table) (f : ℕ) : Type 0 where
+  pub inside : f < length t.drive.frames
+  pub within : f < length t.slots
+  pub phase : (frame_at t.drive.frames f).phase ≡ Open
+  pub filling : IsFilling f t
+
+pub at_filling : (old t : Table) (free : List ℕ) (current : Option ℕ) (f : ℕ) → old ≡ t → IsSound old free current → IsFilling f t → AtFilling old f
+at_filling old t free current f same sound e =
+    let F : Table → Type 0 = λ x. IsFilling f x in
+    let filling : IsFilling f old = subst F (sym same) e in
+    let at = filling_at old f filling in
+    let inside : f < length old.drive.frames = at.0 in
+    record { inside = inside; within = omega (arith, sound.counted); phase = at.1; filling = filling }
+
+-- the used blocks that were read or lent are those of the table
+pub put_made : (old new : Table) (f n : ℕ) (part : Part) (block : List ℕ) (found lent pushed : List Slot) → AtFilling old f
+    → n ≡ length found → found ≡ get_or old.slots f found → lent ≡ get_or old.slots f lent → pushed ≡ lent ++ (record { part = part; held = true }) ∷ []
+    → new.drive ≡ with_changed old.drive f (with_block (frame_at old.drive.frames f) (n + 1) block)
+    → block_bytes (frame_at new.drive.frames f).contents (n + 1) ≡ block
+    → ((c : ℕ) → c < 16 → c ≢ n + 1 → KeepsBlock f c old.drive new.drive)
+    → new.slots ≡ set old.slots f pushed → IsPut f (record { part = part; held = true }) block old new
+put_made old new f n part block found lent pushed at count is_found is_lent is_pushed changed stored others slots =
+    let slot : Slot = record { part = part; held = true } in
+    put_is old new f (n + 1) slot block at.inside (ap (λ (m : ℕ). m + 1) (count ∙ ap length (get_or_read old.slots f found at.within is_found []))) changed stored others
+    (slots ∙ ap (λ (l : List Slot). set old.slots f l) (is_pushed ∙ ap (λ (l : List Slot). l ++ slot ∷ []) (get_or_read old.slots f lent at.within is_lent [])))
+
+-- a block that was put was appended
+pub put_appended : (old new : Table) (f : ℕ) (part : Part) (block : List ℕ) (p : Place) → IsFilling f old → f < length old.slots → length (slots_at old.slots f) < 15 → IsPut f (record { part = part; held = true }) block old new
+    → p ≡ record { frame = f; block = length (slots_at old.slots f) + 1; generation = (frame_at old.drive.frames f).generation }
+    → appended (log_of old) (record { kind = part.kind; object = part.object; bytes = block }) ≡ Some (p, log_of new)
+put_appended old new f part block p filling inside room put at =
+    let q : Place = record { frame = f; block = length (slots_at old.slots f) + 1; generation = (frame_at old.drive.frames f).generation } in
+    let st : Stored = record { kind = part.kind; object = part.object; bytes = block } in
+    let slot : Slot = record { part = part; held = true } in
+    ap (λ (l : List Place). appended_at (log_of old) st l) (ahead_put old new f slot block filling (put_filling old new f slot block filling put) inside room put)
+    ∙ (λ i. Some (sym at i, record { held = sym (held_put old new f part block inside room put) i; ahead = places_ahead new }))
+
+pub held_sealed : (old new : Table) (f : ℕ) → IsSealed f (slots_at old.slots f) old.drive new.drive → new.slots ≡ old.slots → held_at new ≡ held_at old
+held_sealed old new f sealed slots = held_kept old new f sealed.alone sealed.generation sealed.used slots
+
+pub rest_sealed : (old new : Table) (f : ℕ) → IsFilling f old → IsSealed f (slots_at old.slots f) old.drive new.drive → rest_of old f ++ places_ahead new ≡ places_ahead old
+rest_sealed old new f filling sealed =
+    ahead_sealed old new f filling (sealed_filling old.drive new.drive f filling sealed.alone sealed.phase) sealed.alone sealed.generation sealed.phase
+
+-- where no block is left, sealing leaves the log
+pub log_sealed : (old new : Table) (f : ℕ) → IsFilling f old → IsSealed f (slots_at old.slots f) old.drive new.drive → new.slots ≡ old.slots → length (slots_at old.slots f) ≡ 15 → log_of new ≡ log_of old
+log_sealed old new f filling sealed slots full =
+    let g : ℕ = (frame_at old.drive.frames f).generation in
+    let none : rest_of old f ≡ [] = ap (λ (n : ℕ). places f g (n + 1) (15 - n)) full ∙ places_none f g 16 in
+    same_logs old new (held_sealed old new f sealed slots) (ap (λ (l : List Place). l ++ places_ahead new) (sym none) ∙ rest_sealed old new f filling sealed)
+
+pub log_gone : (old new : Table) (p : Place) → p.frame < length old.slots → 1 ≤ p.block → (frame_at old.drive.frames p.frame).generation ≡ p.generation → new.drive ≡ old.drive → new.slots ≡ set old.slots p.frame (let_go (slots_at old.slots p.frame) (p.block - 1))
+    → log_of new ≡ dropped (log_of old) p
+log_gone old new p inside low current drive slots =
+    let held : held_at new ≡ without (held_at old) p = held_gone old new p inside low current drive slots in
+    let ahead : places_ahead new ≡ places_ahead old = ahead_same old new drive (λ f. ap (λ (l : List (List Slot)). length (slots_at l f)) slots ∙ used_gone old.slots p.frame (p.block - 1) f inside) in
+    λ i. record { held = held i; ahead = ahead i }

@@ -1,0 +1,47 @@
+use Rattle.std.proofs.Common.{◌≡◌, ◌≤◌, ◌<◌, ◌-◌, ◌+◌, ◌*◌, length, [], refl, sym, ap, subst, ◌∙◌, arith}
+use Rattle.std.proofs.lemmas.List.{get_or_read}
+use Rattle.segment_table.specs.Table.{Table, slots_at}
+use Rattle.segment_table.specs.Room.{places_ahead}
+use Rattle.segment_table.specs.Changes.{IsFilling}
+use Rattle.segment_table.proofs.Ahead.{left_filling, left_none}
+use Rattle.segment_table.proofs.Steps.{AtFilling, at_filling}
+use Rattle.segment_table.proofs.Reading.{current_filling, current_none, free_few}
+use Rattle.segment_table.proofs.segments.Segments.blocks_left.Goals as goal
+
+pub overflow_mul-whole : goal.overflow_mul-whole
+overflow_mul-whole c =
+    let old : Table = record { drive = c.self.inside.seat; slots = c.self.inside.slots.items } in
+    let few : length c.self.inside.free.items ≤ 1024 = free_few old c.self.inside.free.items c.self.inside.current c.self.invariant in
+    omega arith
+
+pub index-requires : goal.index-requires
+index-requires c =
+    let old : Table = record { drive = c.self.inside.seat; slots = c.self.inside.slots.items } in
+    let filling : IsFilling c.in-Some.frame old = current_filling old c.self.inside.free.items c.self.inside.current c.in-Some.frame c.self.invariant c.in-Some.is in
+    let at : AtFilling old c.in-Some.frame = at_filling old old c.self.inside.free.items c.self.inside.current c.in-Some.frame refl c.self.invariant filling in
+    let within : c.in-Some.frame < length c.self.inside.slots.items = at.within in
+    omega arith
+
+pub overflow_add-result : goal.overflow_add-result
+overflow_add-result c =
+    let old : Table = record { drive = c.self.inside.seat; slots = c.self.inside.slots.items } in
+    let few : length c.self.inside.free.items ≤ 1024 = free_few old c.self.inside.free.items c.self.inside.current c.self.invariant in
+    omega arith
+
+pub returns-in-Some : goal.returns-in-Some
+returns-in-Some c =
+    let old : Table = record { drive = c.self.inside.seat; slots = c.self.inside.slots.items } in
+    let filling : IsFilling c.in-Some.frame old = current_filling old c.self.inside.free.items c.self.inside.current c.in-Some.frame c.self.invariant c.in-Some.is in
+    let at : AtFilling old c.in-Some.frame = at_filling old old c.self.inside.free.items c.self.inside.current c.in-Some.frame refl c.self.invariant filling in
+    let count : c.len.result ≡ length (slots_at old.slots c.in-Some.frame) = c.len.ensures.count ∙ ap length (get_or_read old.slots c.in-Some.frame c.index.result.now at.within c.index.ensures []) in
+    let left : length (places_ahead old) ≡ 15 * length c.self.inside.free.items + (15 - length (slots_at old.slots c.in-Some.frame)) = left_filling old c.in-Some.frame c.self.inside.free.items filling c.self.invariant.vacant in
+    let P : Table → Type 0 = λ t. 15 * c.len-whole.result + (15 - c.len.result) ≡ length (places_ahead t) in
+    subst P c.self.view_is (omega arith)
+
+pub returns-in-None : goal.returns-in-None
+returns-in-None c =
+    let old : Table = record { drive = c.self.inside.seat; slots = c.self.inside.slots.items } in
+    let left : length (places_ahead old) ≡ 15 * length c.self.inside.free.items =
+    left_none old c.self.inside.free.items (current_none old c.self.inside.free.items c.self.inside.current c.self.invariant c.in-None.is) c.self.invariant.vacant in
+    let P : Table → Type 0 = λ t. 15 * c.len-whole.result ≡ length (places_ahead t) in
+    subst P c.self.view_is (omega arith)

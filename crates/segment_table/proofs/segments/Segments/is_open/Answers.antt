@@ -1,0 +1,21 @@
+use Rattle.std.proofs.Common.{◌≡◌, ◌≢◌, inl, inr, ℕ, Bool, true, false, ◌==◌, Some, None, IsSome, MatchBool, sym, ap, subst, ◌∙◌}
+use Rattle.std.proofs.lemmas.Bool.{cases_eq, eq-eqb, ne_eqb}
+use Rattle.segment_word.specs.Frames.{Open, Sealed}
+use Rattle.segment_word.specs.Layout.{frame_at}
+use Rattle.segment_table.specs.Table.{Table, held_at}
+use Rattle.segment_table.proofs.Reading.{open_or_sealed, held_sealed_frame}
+use Rattle.segment_table.proofs.segments.Segments.is_open.Goals as goal
+
+pub returns-in-Some : goal.returns-in-Some
+returns-in-Some c =
+    let old : Table = record { drive = c.self.inside.seat; slots = c.self.inside.slots.items } in
+    let H : Table → Type 0 = λ t. IsSome (held_at t c.args.place) in
+    let M : Table → Type 0 = λ t. MatchBool (c.in-Some.frame == c.frame.result) ((frame_at t.drive.frames c.args.place.frame).phase ≡ Open) ((frame_at t.drive.frames c.args.place.frame).phase ≡ Sealed) in
+    subst M c.self.view_is (open_or_sealed old c.self.inside.free.items c.self.inside.current c.args.place c.in-Some.frame c.frame.result c.self.invariant (subst H (sym c.self.view_is) c.requires) c.in-Some.is c.frame.ensures)
+
+pub returns-in-None : goal.returns-in-None
+returns-in-None c =
+    let old : Table = record { drive = c.self.inside.seat; slots = c.self.inside.slots.items } in
+    let H : Table → Type 0 = λ t. IsSome (held_at t c.args.place) in
+    let P : Table → Type 0 = λ t. (frame_at t.drive.frames c.args.place.frame).phase ≡ Sealed in
+    subst P c.self.view_is (held_sealed_frame old c.self.inside.free.items c.self.inside.current c.args.place c.self.invariant (subst H (sym c.self.view_is) c.requires) (λ e. let clash : None ≡ Some c.args.place.frame = sym c.in-None.is ∙ e in cc))

@@ -1,0 +1,91 @@
+-- What the calls change in a table.
+use Rattle.std.specs.Prelude.{◌≡◌, ◌≢◌, ℕ, ◌+◌, ◌<◌, ◌≤◌, true, List, [], ◌∷◌, ◌++◌, length, slice_set}
+use Rattle.s4_types.specs.Pointer.{Place}
+use Rattle.codec.specs.Summary.{IsBlank}
+use Rattle.codec.specs.declared.summaries.Part.{Part}
+use Rattle.segment_word.specs.Frames.{Open, Sealed, Frame}
+use Rattle.segment_word.specs.Layout.{frame_at, block_bytes}
+use Rattle.segment_word.specs.Handles.{Drive, with_changed}
+use Rattle.segment_table.specs.declared.slots.Slot.{Slot}
+use Rattle.segment_table.specs.Table.{Table, slots_at}
+use Rattle.segment_table.specs.Room.{is_filling, numbers}
+use Rattle.segment_table.specs.Sealing.{IsSummed}
+
+-- frame f is the only open one
+abbrev pub IsFilling : ℕ → Table → Type 0
+IsFilling f t = numbers is_filling 0 t.drive.frames ≡ f ∷ []
+
+-- no frame is open
+abbrev pub NoneIsFilling : Table → Type 0
+NoneIsFilling t = numbers is_filling 0 t.drive.frames ≡ []
+
+-- no other frame than f has changed
+abbrev pub IsAlone : ℕ → Drive → Drive → Type 0
+IsAlone f old new = new ≡ with_changed old f (frame_at new.frames f)
+
+-- frame f of a drive has the same number of lives behind it
+abbrev pub KeepsGeneration : ℕ → Drive → Drive → Type 0
+KeepsGeneration f old new = (frame_at new.frames f).generation ≡ (frame_at old.frames f).generation
+
+-- block b of frame f is as it was
+abbrev pub KeepsBlock : ℕ → ℕ → Drive → Drive → Type 0
+KeepsBlock f b old new = block_bytes (frame_at new.frames f).contents b ≡ block_bytes (frame_at old.frames f).contents b
+
+-- Blocks `first` to before `end` of frame f are zeros, and all else of it is as it was.
+pub record IsCleared (f first end : ℕ) (old new : Drive) : Type 0 where
+  pub alone : IsAlone f old new
+  pub phase : (frame_at new.frames f).phase ≡ (frame_at old.frames f).phase
+  pub generation : KeepsGeneration f old new
+  pub before : (b : ℕ) → b < first → KeepsBlock f b old new
+  pub after : (b : ℕ) → end ≤ b → b < 16 → KeepsBlock f b old new
+  pub blank : (b : ℕ) → first ≤ b → b < end → IsBlank (block_bytes (frame_at new.frames f).contents b)
+
+-- Frame f, of which these blocks are used, was sealed: they are as they were, the other payload blocks are zeros, and
+-- block 0 is the summary.
+pub record IsSealed (f : ℕ) (slots : List Slot) (old new : Drive) : Type 0 where
+  pub alone : IsAlone f old new
+  pub phase : (frame_at new.frames f).phase ≡ Sealed
+  pub generation : KeepsGeneration f old new
+  pub used : (b : ℕ) → 1 ≤ b → b ≤ length slots → KeepsBlock f b old new
+  pub summed : IsSummed f (frame_at new.frames f) slots
+
+-- frame f of a table was sealed, and nothing else has changed
+abbrev pub IsSealedIn : ℕ → Table → Table → Type 0
+IsSealedIn f old new = IsSealed f (slots_at old.slots f) old.drive new.drive × (new.slots ≡ old.slots)
+
+-- Frame f is the open one and takes the next append: it was so before, or it was free and has been opened. No block has
+-- changed.
+pub record IsReady (f : ℕ) (old new : Table) : Type 0 where
+  pub alone : IsAlone f old.drive new.drive
+  pub generation : KeepsGeneration f old.drive new.drive
+  pub contents : (frame_at new.drive.frames f).contents ≡ (frame_at old.drive.frames f).contents
+  pub slots : new.slots ≡ old.slots
+  pub within : f < length new.slots
+  pub filling : IsFilling f new
+  pub room : length (slots_at new.slots f) < 15
+
+-- the used blocks of each frame, with one more of frame f
+abbrev pub with_slot : List (List Slot) → ℕ → Slot → List (List Slot)
+with_slot slots f slot = slice_set slots f (slots_at slots f ++ slot ∷ [])
+
+-- a block was put into the lowest unused block of frame f
+pub record IsPut (f : ℕ) (slot : Slot) (block : List ℕ) (old new : Table) : Type 0 where
+  pub alone : IsAlone f old.drive new.drive
+  pub phase : (frame_at new.drive.frames f).phase ≡ (frame_at old.drive.frames f).phase
+  pub generation : KeepsGeneration f old.drive new.drive
+  pub bytes : block_bytes (frame_at new.drive.frames f).contents (length (slots_at old.slots f) + 1) ≡ block
+  pub others : (b : ℕ) → b < 16 → b ≢ length (slots_at old.slots f) + 1 → KeepsBlock f b old.drive new.drive
+  pub slots : new.slots ≡ with_slot old.slots f slot
+
+-- A block was appended at place p, which was the lowest unused block of its frame. The frame is open, or sealed where
+-- this was its last block.
+pub record IsAppended (p : Place) (part : Part) (block : List ℕ) (old new : Table) : Type 0 where
+  pub alone : IsAlone p.frame old.drive new.drive
+  pub generation : KeepsGeneration p.frame old.drive new.drive
+  pub place : p.block ≡ length (slots_at old.slots p.frame) + 1
+  pub bytes : block_bytes (frame_at new.drive.frames p.frame).contents p.block ≡ block
+  pub others : (b : ℕ) → 1 ≤ b → b < p.block → KeepsBlock p.frame b old.drive new.drive
+  pub slots : new.slots ≡ with_slot old.slots p.frame (record { part = part; held = true })
+  pub filling : p.block < 15 → (frame_at new.drive.frames p.frame).phase ≡ Open
+  pub sealed : p.block ≡ 15 → (frame_at new.drive.frames p.frame).phase ≡ Sealed
+  pub summed : p.block ≡ 15 → IsSummed p.frame (frame_at new.drive.frames p.frame) (slots_at new.slots p.frame)

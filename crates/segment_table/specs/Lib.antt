@@ -1,0 +1,5 @@
+pub mod Slots
+pub mod Table
+pub mod Room
+pub mod Sealing
+pub mod Changes

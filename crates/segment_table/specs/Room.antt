@@ -1,0 +1,59 @@
+-- Which places the next appends take.
+use Rattle.std.specs.Prelude.{ℕ, zero, suc, ◌+◌, ◌-◌, ◌^◌, Bool, true, false, ◌&&◌, nat_lt, if◌then◌else◌, List, [], ◌∷◌, ◌++◌, length}
+use Rattle.std.specs.List.{flat_map, range_with_len}
+use Rattle.s4_types.specs.Pointer.{Place}
+use Rattle.blocks.specs.Log.{Log}
+use Rattle.segment_word.specs.Frames.{Phase, Free, Open, Sealed, Emptied, Frame}
+use Rattle.segment_word.specs.Layout.{frame_at}
+use Rattle.segment_table.specs.Table.{Table, slots_at, held_at}
+
+abbrev pub is_free : Phase → Bool
+is_free Free = true
+is_free Open = false
+is_free Sealed = false
+is_free Emptied = false
+
+abbrev pub is_open : Phase → Bool
+is_open Free = false
+is_open Open = true
+is_open Sealed = false
+is_open Emptied = false
+
+-- the frame takes appends at present
+abbrev pub is_filling : Frame → Bool
+is_filling k = is_open k.phase
+
+-- the frame is free and not retired: one at the last generation, 2^32 - 1, is opened no more
+abbrev pub can_open : Frame → Bool
+can_open k = is_free k.phase && nat_lt (k.generation + 1) (2 ^ 32)
+
+-- the numbers of the frames that pass a test, ascending, where the first frame of the list has number n
+abbrev pub numbers : (Frame → Bool) → ℕ → List Frame → List ℕ
+numbers test n [] = []
+numbers test n (k ∷ ks) = if test k then n ∷ numbers test (n + 1) ks else numbers test (n + 1) ks
+
+-- n blocks of frame f at generation g, from block b on
+unfoldable pub places : ℕ → ℕ → ℕ → ℕ → List Place
+places f g b zero = []
+places f g b (suc n) = record { frame = f; block = b; generation = g } ∷ places f g (b + 1) n
+
+-- the unused payload blocks of frame f
+abbrev pub rest_of : Table → ℕ → List Place
+rest_of t f = let used = length (slots_at t.slots f) in places f (frame_at t.drive.frames f).generation (used + 1) (15 - used)
+
+-- all payload blocks of frame f
+abbrev pub whole_of : Table → ℕ → List Place
+whole_of t f = places f (frame_at t.drive.frames f).generation 1 15
+
+-- The places that the next appends take, in order: the unused blocks of the open frame, then all of the free frames by
+-- ascending number.
+abbrev pub places_ahead : Table → List Place
+places_ahead t = flat_map (rest_of t) (numbers is_filling 0 t.drive.frames) ++ flat_map (whole_of t) (numbers can_open 0 t.drive.frames)
+
+-- the table as a log
+abbrev pub log_of : Table → Log
+log_of t = record { held = held_at t; ahead = places_ahead t }
+
+-- all places of a new drive, in order
+abbrev pub new_places : ℕ → List Place
+new_places n = flat_map (λ f. places f 1 1 15) (range_with_len 0 n)

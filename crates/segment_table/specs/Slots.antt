@@ -1,0 +1,18 @@
+-- The used payload blocks of one frame, block 1 first.
+use Rattle.std.specs.Prelude.{ℕ, false, if◌then◌else◌, List, slice_index_or, slice_set, Option, Some, None}
+use Rattle.blocks.specs.declared.kinds.BlockKind.TheVariants.{Data}
+use Rattle.codec.specs.declared.summaries.Part.{Part}
+use Rattle.segment_table.specs.declared.slots.Slot.{Slot}
+
+-- what a used block is for, where it is held
+abbrev pub held_part : Option Slot → Option Part
+held_part None = None
+held_part (Some slot) = if slot.held then Some slot.part else None
+
+-- stands where a block isn't used
+abbrev pub no_slot : Slot
+no_slot = record { part = record { kind = Data; object = 0 }; held = false }
+
+-- the used block of that index is held no longer
+abbrev pub let_go : List Slot → ℕ → List Slot
+let_go slots i = slice_set slots i (record (slice_index_or slots i no_slot) { held = false })

@@ -1,0 +1,39 @@
+-- What contracts see of a segment table, and what a place of it holds.
+use Rattle.std.specs.Prelude.{ℕ, ◌==◌, if◌then◌else◌, List, [], ◌∷◌, slice_index_or, Option, Some, None}
+use Rattle.s4_types.specs.Pointer.{Place}
+use Rattle.blocks.specs.Log.{Stored}
+use Rattle.codec.specs.declared.summaries.Part.{Part}
+use Rattle.segment_word.specs.Frames.{Frame}
+use Rattle.segment_word.specs.Layout.{frame_at, block_bytes}
+use Rattle.segment_word.specs.Handles.{Drive}
+use Rattle.segment_table.specs.declared.slots.Slot.{Slot}
+use Rattle.segment_table.specs.Slots.{no_slot}
+
+-- the drive's frames, and for each of them its used payload blocks, block 1 first; a free frame has none
+pub record Table : Type 0 where
+  pub drive : Drive
+  pub slots : List (List Slot)
+
+-- the used blocks of frame f
+abbrev pub slots_at : List (List Slot) → ℕ → List Slot
+slots_at slots f = slice_index_or slots f []
+
+-- the used block of that number; block 0 is the summary
+abbrev pub slot_of : List Slot → ℕ → Slot
+slot_of slots b = slice_index_or (no_slot ∷ slots) b no_slot
+
+-- a held block with its bytes
+abbrev pub stored : Slot → List ℕ → Option Stored
+stored slot bytes = if slot.held then Some (record { kind = slot.part.kind; object = slot.part.object; bytes = bytes }) else None
+
+-- what block b of a frame holds for a pointer of generation g
+abbrev pub held_in : Frame → List Slot → ℕ → ℕ → Option Stored
+held_in k slots b g = if k.generation == g then stored (slot_of slots b) (block_bytes k.contents b) else None
+
+-- what a place of the table holds: a pointer to an earlier life of its frame leads to nothing
+abbrev pub held_at : Table → Place → Option Stored
+held_at t p = held_in (frame_at t.drive.frames p.frame) (slots_at t.slots p.frame) p.block p.generation
+
+-- what a held block is for
+abbrev pub part_of : Stored → Part
+part_of block = record { kind = block.kind; object = block.object }

@@ -1,0 +1,69 @@
+//! Steps on one frame of the drive: its generation, and sealing it.
+ghost use Rattle.std.specs.Prelude.{◌≡◌, ℕ, ◌+◌, ◌^◌, ◌<◌, ◌≤◌, length};
+ghost use Rattle.std.specs.List.{AllByRecursion};
+ghost use Rattle.segment_word.specs.Frames.{code_of};
+ghost use Rattle.segment_word.specs.Frames.Phase.{Open};
+ghost use Rattle.segment_word.specs.Layout.{frame_at};
+ghost use Rattle.segment_table.specs.Sealing.{IsOwned, payload_of};
+ghost use Rattle.segment_table.specs.Changes.{IsSealed, IsCleared};
+
+use crate::slots::Slots;
+use blocks::Block;
+use codec::{Summary, encode_summary};
+use s4_types::limits::{BLOCK_BYTES, FRAME_BLOCKS, PAYLOAD_BLOCKS};
+use segment_word::DriveSeat;
+
+/// The generation of a frame.
+pub fn generation(seat: &mut DriveSeat, frame: usize) -> u32
+    requires { frame < length seat.old.frames }
+    ensures value { result ≡ (frame_at seat.old.frames frame).generation }
+    ensures least { 1 ≤ result }
+    ensures most { 0 < code_of (frame_at seat.old.frames frame).phase → result + 1 < 2 ^ 32 }
+    ensures same { seat.new ≡ seat.old }
+{
+    (seat.state(frame) >> 32) as u32
+}
+
+// Zeros in the payload blocks behind the first `used`.
+fn clear_unused(seat: &mut DriveSeat, frame: usize, used: usize)
+    requires inside { frame < length seat.old.frames }
+    requires open { (frame_at seat.old.frames frame).phase ≡ Open }
+    requires used { used ≤ 15 }
+    ensures { IsCleared frame (used + 1) 16 seat.old seat.new }
+{
+    for block in used + 1..FRAME_BLOCKS {
+        seat.store(frame, block, &[0; BLOCK_BYTES]);
+    }
+}
+
+// The payload blocks of a frame.
+fn payload(seat: &mut DriveSeat, frame: usize) -> [Block; PAYLOAD_BLOCKS]
+    requires { frame < length seat.old.frames }
+    ensures payload { result ≡ payload_of (frame_at seat.old.frames frame).contents }
+    ensures same { seat.new ≡ seat.old }
+{
+    let mut blocks = [[0; BLOCK_BYTES]; PAYLOAD_BLOCKS];
+    for i in 0..PAYLOAD_BLOCKS {
+        blocks[i] = seat.load(frame, i + 1);
+    }
+    blocks
+}
+
+/// Seals an open frame, of which these blocks are used. The others are zeros then, and block 0 is the summary.
+pub fn seal(seat: &mut DriveSeat, frame: u16, slots: &Slots)
+    requires inside { frame < length seat.old.frames }
+    requires open { (frame_at seat.old.frames frame).phase ≡ Open }
+    requires used { (1 ≤ length slots.now) × (length slots.now ≤ 15) }
+    requires owned { AllByRecursion IsOwned slots.now }
+    ensures { IsSealed frame slots.now seat.old seat.new }
+{
+    let number = frame as usize;
+    clear_unused(seat, number, slots.len());
+    let generation = generation(seat, number);
+    let Some(summary) = Summary::new(frame, generation, slots.parts()) else {
+        return;
+    };
+    let payload = payload(seat, number);
+    seat.store(number, 0, &encode_summary(&summary, &payload));
+    seat.seal(number);
+}

@@ -1,0 +1,294 @@
+//! The frames of a drive and what their blocks are for, one step at a time.
+ghost use Rattle.std.specs.Prelude.{◌≡◌, ℕ, ◌+◌, ◌-◌, ◌<◌, ◌≤◌, ◌⊎◌, ◌==◌, true, [], ◌∷◌, ◌++◌, length, replicate, reverse, Option, Some, None, IsSome, IfSome, IfNone, IfOk, IfErr, OnOk, OnErr, MatchOption, MatchBool, option_map};
+ghost use Rattle.std.specs.List.{range_with_len};
+ghost use Rattle.std.specs.Option.{option_to_list};
+ghost use Rattle.s4_types.specs.declared.refusals.Refusal.TheVariants.{NoMemory, Busy};
+ghost use Rattle.blocks.specs.Log.{appended, dropped};
+ghost use Rattle.segment_word.specs.Frames.{Pinned};
+ghost use Rattle.segment_word.specs.Frames.Phase.{Open, Sealed};
+ghost use Rattle.segment_word.specs.Layout.{frame_at, block_bytes};
+ghost use Rattle.segment_word.specs.Counting.{pins_in};
+ghost use Rattle.segment_word.specs.FrameRule.{AllAgree};
+ghost use Rattle.segment_word.specs.Handles.{fresh_frame, IsAmong};
+ghost use Rattle.segment_table.specs.Table.{Table, slots_at, held_at, part_of};
+ghost use Rattle.segment_table.specs.Room.{is_filling, can_open, numbers, rest_of, places_ahead, log_of};
+ghost use Rattle.segment_table.specs.Sealing.{IsFit, IsPartFilled};
+ghost use Rattle.segment_table.specs.Changes.{IsFilling, NoneIsFilling, IsReady, IsPut, IsSealed, IsSealedIn};
+
+use crate::seals;
+use crate::slots::Slots;
+use blocks::Block;
+use codec::Part;
+use s4_types::limits::PAYLOAD_BLOCKS;
+use s4_types::{Ptr, Refusal};
+use segment_word::{DriveSeat, Pin};
+use std::alloc::Global;
+use std::marker::Model;
+
+/// The frames of a drive, with the used blocks of each.
+#[derive(Drop)]
+pub struct Segments {
+    seat: DriveSeat,
+    slots: Vec<Slots>,
+    // the numbers of the free frames but the retired ones, the lowest last
+    free: Vec<u16>,
+    // the number of the open frame
+    current: Option<u16>,
+}
+
+impl Model for Segments {
+    ghost use Rattle.segment_table.specs.Table.{Table};
+    ghost use Rattle.segment_table.specs.Sealing.{IsSound};
+
+    ghost Value = { Table };
+
+    ghost view = { λ s. record { drive = s.seat; slots = s.slots.items } };
+
+    ghost invariant = { λ s. IsSound (record { drive = s.seat; slots = s.slots.items }) s.free.items s.current };
+}
+
+// No used block for so many frames.
+fn no_slots(alloc: Global, count: u16) -> Result<Vec<Slots>, Refusal>
+    ensures slots { IfOk result (λ v. v.items ≡ replicate count []) }
+    ensures refusal { IfErr result (λ e. e ≡ NoMemory) }
+{
+    let mut slots = Vec::with_capacity(alloc, count as usize)?;
+    for _ in 0..count {
+        slots.push(Slots::new())?;
+    }
+    Ok(slots)
+}
+
+// The numbers below `count`, the lowest last.
+fn descending(alloc: Global, count: u16) -> Result<Vec<u16>, Refusal>
+    ensures numbers { IfOk result (λ v. v.items ≡ reverse (range_with_len 0 count)) }
+    ensures refusal { IfErr result (λ e. e ≡ NoMemory) }
+{
+    let mut numbers = Vec::with_capacity(alloc, count as usize)?;
+    for i in 0..count {
+        numbers.push(count - 1 - i)?;
+    }
+    Ok(numbers)
+}
+
+impl Segments {
+    /// Takes the seat of a new drive of 8 to 1,024 frames.
+    pub fn new(alloc: Global, seat: DriveSeat, count: u16) -> Result<Self, Refusal>
+        requires count { count ≤ 1024 }
+        requires fresh { seat.frames ≡ replicate count fresh_frame }
+        ensures segments { IfOk result (λ s. s ≡ record { drive = seat; slots = replicate count [] }) }
+        ensures refusal { IfErr result (λ e. e ≡ NoMemory) }
+    {
+        let slots = no_slots(alloc, count)?;
+        let free = descending(alloc, count)?;
+        Ok(Segments {
+            seat,
+            slots,
+            free,
+            current: None,
+        })
+    }
+
+    /// Shows what holds of each frame between calls, and that at most one is open.
+    pub fn rules(&self)
+        ensures fit { (f : ℕ) → f < length self.now.drive.frames → IsFit f (frame_at self.now.drive.frames f) (slots_at self.now.slots f) }
+        ensures one_open { length (numbers is_filling 0 self.now.drive.frames) ≤ 1 }
+        ensures sizes { (length self.now.drive.frames ≤ 1024) × (length self.now.slots ≡ length self.now.drive.frames) }
+    {
+        let _ = &self.current;
+    }
+
+    /// The number of the open frame.
+    pub fn open_frame(&self) -> Option<u16>
+        ensures { option_to_list result ≡ numbers is_filling 0 self.now.drive.frames }
+    {
+        self.current
+    }
+
+    /// Whether a held block lies in the open frame; else its frame is sealed.
+    pub fn is_open(&self, place: Ptr) -> bool
+        requires { IsSome (held_at self.now place) }
+        ensures { MatchBool result ((frame_at self.now.drive.frames place.frame).phase ≡ Open) ((frame_at self.now.drive.frames place.frame).phase ≡ Sealed) }
+    {
+        match self.current {
+            Some(frame) => frame == place.frame(),
+            None => false,
+        }
+    }
+
+    /// How many blocks can be appended.
+    pub fn blocks_left(&self) -> usize
+        ensures { result ≡ length (places_ahead self.now) }
+    {
+        let whole = PAYLOAD_BLOCKS * self.free.len();
+        match self.current {
+            Some(frame) => whole + (PAYLOAD_BLOCKS - self.slots[frame as usize].len()),
+            None => whole,
+        }
+    }
+
+    // Opens the free frame of the lowest number. None where there is none.
+    fn open_lowest(&mut self) -> Option<u16>
+        requires { NoneIsFilling self.old }
+        ensures ready { IfSome result (λ f. IsReady f self.old self.new) }
+        ensures log { log_of self.new ≡ log_of self.old }
+        ensures full { IfNone result ((self.new ≡ self.old) × (length (places_ahead self.old) ≡ 0)) }
+    {
+        let frame = self.free.pop()?;
+        self.seat.open(frame as usize);
+        self.current = Some(frame);
+        Some(frame)
+    }
+
+    /// The frame that takes the next append. It is opened, where none was open. None where there is no free frame either.
+    pub fn ready_frame(&mut self) -> Option<u16>
+        requires { IsPartFilled self.old }
+        ensures ready { IfSome result (λ f. IsReady f self.old self.new) }
+        ensures log { log_of self.new ≡ log_of self.old }
+        ensures full { IfNone result ((self.new ≡ self.old) × (length (places_ahead self.old) ≡ 0)) }
+    {
+        if let Some(frame) = self.current {
+            return Some(frame);
+        }
+        self.open_lowest()
+    }
+
+    // The place of the lowest unused block of the open frame.
+    fn next_place(&mut self, frame: u16) -> Ptr
+        requires filling { IsFilling frame self.old }
+        requires room { length (slots_at self.old.slots frame) < 15 }
+        ensures place { result ≡ record { frame = frame; block = length (slots_at self.old.slots frame) + 1; generation = (frame_at self.old.drive.frames frame).generation } }
+        ensures same { self.new ≡ self.old }
+    {
+        let number = frame as usize;
+        let generation = seals::generation(&mut self.seat, number);
+        let next = self.slots[number].len() + 1;
+        Ptr::new(frame, next as u8, generation).unwrap()
+    }
+
+    // Puts a block into the lowest unused block of the open frame.
+    fn fill(&mut self, frame: u16, part: Part, block: &Block)
+        requires filling { IsFilling frame self.old }
+        requires room { length (slots_at self.old.slots frame) < 15 }
+        requires owned { 1 ≤ part.object }
+        ensures put { IsPut frame (record { part = part; held = true }) block.now self.old self.new }
+        ensures inside { frame < length self.old.slots }
+    {
+        let number = frame as usize;
+        let next = self.slots[number].len() + 1;
+        self.seat.store(number, next, block);
+        self.slots[number].push(part);
+    }
+
+    /// Puts a block into the lowest unused block of the open frame, and answers its place.
+    pub fn put(&mut self, frame: u16, part: Part, block: &Block) -> Ptr
+        requires filling { IsFilling frame self.old }
+        requires room { length (slots_at self.old.slots frame) < 15 }
+        requires owned { 1 ≤ part.object }
+        ensures put { IsPut frame (record { part = part; held = true }) block.now self.old self.new }
+        ensures filling { IsFilling frame self.new }
+        ensures place { result ≡ record { frame = frame; block = length (slots_at self.old.slots frame) + 1; generation = (frame_at self.old.drive.frames frame).generation } }
+        ensures appended { appended (log_of self.old) (record { kind = part.kind; object = part.object; bytes = block.now }) ≡ Some (result, log_of self.new) }
+        ensures fresh { held_at self.old result ≡ None }
+    {
+        let place = self.next_place(frame);
+        self.fill(frame, part, block);
+        place
+    }
+
+    /// Seals the open frame, of which at least one block is used.
+    pub fn seal(&mut self, frame: u16)
+        requires filling { IsFilling frame self.old }
+        requires used { 1 ≤ length (slots_at self.old.slots frame) }
+        ensures sealed { IsSealed frame (slots_at self.old.slots frame) self.old.drive self.new.drive }
+        ensures slots { self.new.slots ≡ self.old.slots }
+        ensures filling { NoneIsFilling self.new }
+        ensures held { (log_of self.new).held ≡ (log_of self.old).held }
+        ensures ahead { rest_of self.old frame ++ places_ahead self.new ≡ places_ahead self.old }
+    {
+        seals::seal(&mut self.seat, frame, &self.slots[frame as usize]);
+        self.current = None;
+    }
+
+    /// Seals the open frame where all its blocks are used.
+    pub fn seal_full(&mut self, frame: u16)
+        requires filling { IsFilling frame self.old }
+        requires used { 1 ≤ length (slots_at self.old.slots frame) }
+        ensures part { length (slots_at self.old.slots frame) < 15 → self.new ≡ self.old }
+        ensures full { length (slots_at self.old.slots frame) ≡ 15 → IsSealedIn frame self.old self.new × NoneIsFilling self.new }
+        ensures log { log_of self.new ≡ log_of self.old }
+    {
+        if self.slots[frame as usize].len() == PAYLOAD_BLOCKS {
+            self.seal(frame);
+        }
+    }
+
+    /// The block that a held pointer leads to.
+    pub fn get(&mut self, place: Ptr) -> Block
+        requires { IsSome (held_at self.old place) }
+        ensures bytes { IfSome (held_at self.old place) (λ block. result ≡ block.bytes) }
+        ensures same { self.new ≡ self.old }
+    {
+        self.seat
+            .load(place.frame() as usize, place.block() as usize)
+    }
+
+    // Whether the frame that a pointer names is at the pointer's generation.
+    fn is_current(&mut self, place: Ptr) -> bool
+        ensures found { MatchBool result ((place.frame < length self.old.drive.frames) × ((frame_at self.old.drive.frames place.frame).generation ≡ place.generation)) (held_at self.old place ≡ None) }
+        ensures same { self.new ≡ self.old }
+    {
+        let number = place.frame() as usize;
+        number < self.slots.len() && seals::generation(&mut self.seat, number) == place.generation()
+    }
+
+    /// What the block is for that a pointer leads to, where it is held.
+    pub fn part(&mut self, place: Ptr) -> Option<Part>
+        ensures part { result ≡ option_map part_of (held_at self.old place) }
+        ensures same { self.new ≡ self.old }
+    {
+        if !self.is_current(place) {
+            return None;
+        }
+        self.slots[place.frame() as usize].held(place.block() as usize)
+    }
+
+    /// The pointer is held no longer. Where it wasn't, nothing changes.
+    pub fn drop_block(&mut self, place: Ptr)
+        ensures log { log_of self.new ≡ dropped (log_of self.old) place }
+        ensures drive { self.new.drive ≡ self.old.drive }
+        ensures used { (f : ℕ) → length (slots_at self.new.slots f) ≡ length (slots_at self.old.slots f) }
+    {
+        if self.is_current(place) {
+            self.slots[place.frame() as usize].let_go(place.block() as usize);
+        }
+    }
+
+    /// The pin counts on the sealed frame of a held block from now on.
+    pub fn count_on(&mut self, pin: &mut Pin, place: Ptr) -> Result<(), Refusal>
+        requires table { pin.old.table ≡ self.old.drive.table }
+        requires held { IsSome (held_at self.old place) }
+        requires sealed { (frame_at self.old.drive.frames place.frame).phase ≡ Sealed }
+        ensures counted { OnOk result (0 < pins_in place.frame pin.new.pins) }
+        ensures bytes { OnOk result ((p : Pinned) → IsAmong p pin.new.pins → p.number ≡ place.frame → IfSome (held_at self.old place) (λ block. block_bytes p.contents place.block ≡ block.bytes)) }
+        ensures others { (p : Pinned) → IsAmong p pin.old.pins → IsAmong p pin.new.pins }
+        ensures table { pin.new.table ≡ pin.old.table }
+        ensures refused { OnErr result (pin.new ≡ pin.old) }
+        ensures refusal { IfErr result (λ e. (e ≡ NoMemory) ⊎ (e ≡ Busy)) }
+        ensures same { self.new ≡ self.old }
+    {
+        let number = place.frame() as usize;
+        pin.add(self.seat.frame(number))?;
+        pin.confirm(&mut self.seat);
+        Ok(())
+    }
+
+    /// Shows that each frame that the pin counts on has the pin's generation and contents.
+    pub fn confirm(&mut self, pin: &mut Pin)
+        requires { pin.old.table ≡ self.old.drive.table }
+        ensures agree { AllAgree self.old.drive.frames pin.old.pins }
+        ensures same { (self.new ≡ self.old) × (pin.new ≡ pin.old) }
+    {
+        pin.confirm(&mut self.seat);
+    }
+}

@@ -1,0 +1,170 @@
+ghost use Rattle.std.specs.Prelude.{◌≡◌, ℕ, ◌+◌, ◌<◌, ◌≤◌, ◌⊎◌, [], ◌++◌, length, replicate, Some, None, IsSome, IfSome, IfOk, IfErr, OnOk, OnErr, MatchBool, option_map};
+ghost use Rattle.s4_types.specs.Pointer.{Place};
+ghost use Rattle.s4_types.specs.declared.refusals.Refusal.TheVariants.{NoMemory, Busy, NoSpace};
+ghost use Rattle.blocks.specs.Log.{Log, appended, dropped};
+ghost use Rattle.segment_word.specs.Frames.{Pinned};
+ghost use Rattle.segment_word.specs.Frames.Phase.{Open, Sealed};
+ghost use Rattle.segment_word.specs.Layout.{frame_at, block_bytes};
+ghost use Rattle.segment_word.specs.Counting.{pins_in};
+ghost use Rattle.segment_word.specs.FrameRule.{AllAgree};
+ghost use Rattle.segment_word.specs.Handles.{fresh_frame, IsAmong};
+ghost use Rattle.segment_table.specs.Table.{Table, slots_at, held_at, part_of};
+ghost use Rattle.segment_table.specs.Room.{is_filling, numbers, rest_of, places_ahead, log_of, new_places};
+ghost use Rattle.segment_table.specs.Sealing.{IsFit, IsPartFilled};
+ghost use Rattle.segment_table.specs.Changes.{IsFilling, NoneIsFilling, IsAppended, IsSealedIn};
+
+use crate::segments::Segments;
+use blocks::{Block, BlockKind, Blocks};
+use codec::Part;
+use s4_types::{ObjectId, Ptr, Refusal};
+use segment_word::{Frames, Pin};
+use std::alloc::Global;
+use std::marker::Model;
+
+/// Blocks behind pointers, in the frames of a drive.
+#[derive(Drop)]
+pub struct SegmentTable {
+    frames: Frames,
+    segments: Segments,
+}
+
+impl Model for SegmentTable {
+    ghost use Rattle.std.specs.Prelude.{◌≡◌};
+    ghost use Rattle.segment_table.specs.Table.{Table};
+    ghost use Rattle.segment_table.specs.Sealing.{IsPartFilled};
+
+    ghost Value = { Table };
+
+    ghost view = { λ t. t.segments };
+
+    ghost invariant = { λ t. (t.frames ≡ t.segments.drive.table) × IsPartFilled t.segments };
+}
+
+impl SegmentTable {
+    /// The table of a new drive of 8 to 1,024 frames: nothing is held.
+    ///
+    /// NoMemory where memory was refused, Busy where the count of those that share it was full. No other call but
+    /// `count_on` takes memory.
+    pub fn new(alloc: Global, frames: usize) -> Result<Self, Refusal>
+        requires { (8 ≤ frames) × (frames ≤ 1024) }
+        ensures frames { IfOk result (λ t. t.drive.frames ≡ replicate frames fresh_frame) }
+        ensures unused { IfOk result (λ t. t.slots ≡ replicate frames []) }
+        ensures log { IfOk result (λ t. log_of t ≡ record { held = λ p. None; ahead = new_places frames }) }
+        ensures refusal { IfErr result (λ e. (e ≡ NoMemory) ⊎ (e ≡ Busy)) }
+    {
+        let count = frames as u16;
+        let (frames, seat) = Frames::new(alloc, frames)?;
+        let segments = Segments::new(alloc, seat, count)?;
+        Ok(SegmentTable { frames, segments })
+    }
+
+    /// Shows what holds between calls: the used blocks of each frame fit what it is for, so that a sealed frame spells its
+    /// summary in front of zeros in its unused blocks; at most one frame is open, with 1 to 14 used blocks.
+    pub fn rules(&self)
+        ensures fit { (f : ℕ) → f < length self.now.drive.frames → IsFit f (frame_at self.now.drive.frames f) (slots_at self.now.slots f) }
+        ensures one_open { length (numbers is_filling 0 self.now.drive.frames) ≤ 1 }
+        ensures part_filled { IsPartFilled self.now }
+        ensures sizes { (length self.now.drive.frames ≤ 1024) × (length self.now.slots ≡ length self.now.drive.frames) }
+    {
+        self.segments.rules();
+    }
+
+    /// Seals the open frame: zeros are stored in its unused blocks, and its summary in block 0. Without effect where none
+    /// is open.
+    pub fn seal_open(&mut self)
+        ensures closed { NoneIsFilling self.new }
+        ensures idle { NoneIsFilling self.old → self.new ≡ self.old }
+        ensures sealed { (f : ℕ) → IsFilling f self.old → IsSealedIn f self.old self.new }
+        ensures held { (log_of self.new).held ≡ (log_of self.old).held }
+        ensures ahead { (f : ℕ) → IsFilling f self.old → rest_of self.old f ++ places_ahead self.new ≡ places_ahead self.old }
+    {
+        if let Some(frame) = self.segments.open_frame() {
+            self.segments.seal(frame);
+        }
+    }
+
+    /// What the block is for that a pointer leads to. None where the pointer isn't held.
+    pub fn part(&mut self, place: Ptr) -> Option<Part>
+        ensures part { result ≡ option_map part_of (held_at self.old place) }
+        ensures same { self.new ≡ self.old }
+    {
+        self.segments.part(place)
+    }
+
+    /// Whether a held block lies in the open frame; else its frame is sealed.
+    pub fn is_open(&self, place: Ptr) -> bool
+        requires { IsSome (held_at self.now place) }
+        ensures { MatchBool result ((frame_at self.now.drive.frames place.frame).phase ≡ Open) ((frame_at self.now.drive.frames place.frame).phase ≡ Sealed) }
+    {
+        self.segments.is_open(place)
+    }
+
+    /// A pin without frames. Busy where all 64 seats are in use, or the count of those that share the memory is full.
+    pub fn pin(&self) -> Result<Pin, Refusal>
+        ensures pin { IfOk result (λ p. (p.table ≡ self.now.drive.table) × (p.pins ≡ [])) }
+        ensures busy { IfErr result (λ e. e ≡ Busy) }
+    {
+        self.frames.seat()
+    }
+
+    /// The pin counts on the sealed frame of a held block from now on, so that `read_block` of the pin gives the block's
+    /// bytes for as long as the pin lives. A frame that it counts on already is left so.
+    ///
+    /// NoMemory where there was none for the frame's number. Busy where the frame has 1,048,576 readers, or where other
+    /// threads changed its word between load and exchange 64 times. After either, nothing has changed.
+    pub fn count_on(&mut self, pin: &mut Pin, place: Ptr) -> Result<(), Refusal>
+        requires table { pin.old.table ≡ self.old.drive.table }
+        requires held { IsSome (held_at self.old place) }
+        requires sealed { (frame_at self.old.drive.frames place.frame).phase ≡ Sealed }
+        ensures counted { OnOk result (0 < pins_in place.frame pin.new.pins) }
+        ensures bytes { OnOk result ((p : Pinned) → IsAmong p pin.new.pins → p.number ≡ place.frame → IfSome (held_at self.old place) (λ block. block_bytes p.contents place.block ≡ block.bytes)) }
+        ensures others { (p : Pinned) → IsAmong p pin.old.pins → IsAmong p pin.new.pins }
+        ensures table { pin.new.table ≡ pin.old.table }
+        ensures refused { OnErr result (pin.new ≡ pin.old) }
+        ensures refusal { IfErr result (λ e. (e ≡ NoMemory) ⊎ (e ≡ Busy)) }
+        ensures same { self.new ≡ self.old }
+    {
+        self.segments.count_on(pin, place)
+    }
+
+    /// Shows that each frame that a pin of this table counts on has the pin's generation and contents.
+    pub fn confirm(&mut self, pin: &mut Pin)
+        requires { pin.old.table ≡ self.old.drive.table }
+        ensures agree { AllAgree self.old.drive.frames pin.old.pins }
+        ensures same { (self.new ≡ self.old) × (pin.new ≡ pin.old) }
+    {
+        self.segments.confirm(pin);
+    }
+}
+
+impl Blocks for SegmentTable {
+    ghost log = { log_of };
+
+    fn append(&mut self, kind: BlockKind, object: ObjectId, block: &Block) -> Result<Ptr, Refusal>
+        requires { 1 ≤ object }
+        ensures appended { IfOk result (λ p. appended (log_of self.old) (record { kind = kind; object = object; bytes = block.now }) ≡ Some (p, log_of self.new)) }
+        ensures fresh { IfOk result (λ p. (log_of self.old).held p ≡ None) }
+        ensures full { IfErr result (λ e. (e ≡ NoSpace) × ((length (log_of self.old).ahead ≡ 0) × (log_of self.new ≡ log_of self.old))) }
+        ensures exact { IfOk result (λ p. IsAppended p (record { kind = kind; object = object }) block.now self.old self.new) }
+        ensures unchanged { OnErr result (self.new ≡ self.old) }
+    {
+        let Some(frame) = self.segments.ready_frame() else {
+            return Err(Refusal::NoSpace);
+        };
+        let place = self.segments.put(frame, Part { kind, object }, block);
+        self.segments.seal_full(frame);
+        Ok(place)
+    }
+
+    fn get(&mut self, place: Ptr) -> Block {
+        self.segments.get(place)
+    }
+
+    fn drop_block(&mut self, place: Ptr) {
+        self.segments.drop_block(place);
+    }
+
+    fn blocks_left(&self) -> usize {
+        self.segments.blocks_left()
+    }
+}
