@@ -1,0 +1,10 @@
+pub mod Spelled
+pub mod Places
+pub mod Steps
+pub mod Tables
+pub mod Chains
+pub mod Loops
+pub mod Calls
+pub mod Staying
+pub mod Backwards
+pub mod Afresh

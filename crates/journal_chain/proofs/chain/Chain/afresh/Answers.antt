@@ -1,0 +1,36 @@
+use Rattle.std.proofs.Common.{◌∙◌, ◌∷◌, Option, map, drop, sym, ap, subst}
+use Rattle.s4_types.specs.Pointer.{Place}
+use Rattle.codec.specs.Entry.{entry_length}
+use Rattle.codec.specs.Journal.{JournalFields}
+use Rattle.packing.specs.Sizes.{filled_with, breaks}
+use Rattle.journal_chain.specs.Chain.{ChainFields}
+use Rattle.journal_chain.specs.Writing.{Finished}
+use Rattle.journal_chain.proofs.Calls.{ahead_last}
+use Rattle.journal_chain.proofs.Afresh.{written, written_only}
+use Rattle.journal_chain.proofs.chain.Chain.afresh.Goals as goal
+
+pub returns-clause-finished : goal.returns-clause-finished
+returns-clause-finished g c = λ stale s.
+    let log3 = g.B.Blocks.log c.write-head.new.table in
+    subst (λ (h : Option Place). Finished log3.held c.args.object stale h (c.args.first.now ∷ c.args.later.now)) (sym (ap (λ (x : ChainFields). x.head) c.set_head.ensures))
+    (written (g.B.Blocks.log c.args.table.now) (g.B.Blocks.log c.take_all.new.table) log3 c.args.object c.args.first.now c.args.later.now c.first_block-block.result c.take_all.new.block
+    c.write-head.result stale c.first_block-block.ensures.value c.take_all.ensures.unfinished c.write-head.ensures s).finished
+
+pub returns-clause-filled : goal.returns-clause-filled
+returns-clause-filled g c = λ stale s.
+    ap (λ (x : ChainFields). x.filled) c.set_head.ensures ∙ c.entry_bytes.ensures.exact
+    ∙ (written (g.B.Blocks.log c.args.table.now) (g.B.Blocks.log c.take_all.new.table) (g.B.Blocks.log c.write-head.new.table) c.args.object c.args.first.now c.args.later.now c.first_block-block.result c.take_all.new.block
+    c.write-head.result stale c.first_block-block.ensures.value c.take_all.ensures.unfinished c.write-head.ensures s).filled
+
+pub returns-clause-others : goal.returns-clause-others
+returns-clause-others g c =
+    written_only (g.B.Blocks.log c.args.table.now) (g.B.Blocks.log c.take_all.new.table) (g.B.Blocks.log c.write-head.new.table) c.args.object c.first_block-block.result c.take_all.new.block c.write-head.result
+    (ap (λ (j : JournalFields). j.object) c.first_block-block.ensures.value) c.take_all.ensures.object c.take_all.ensures.others c.write-head.ensures
+
+pub returns-clause-ahead : goal.returns-clause-ahead
+returns-clause-ahead g c =
+    let log = g.B.Blocks.log c.args.table.now in
+    let sizes = map entry_length c.args.later.now in
+    ahead_last (breaks (filled_with 0 (entry_length c.args.first.now)) sizes) c.write-head.result log.ahead (g.B.Blocks.log c.take_all.new.table).ahead (g.B.Blocks.log c.write-head.new.table).ahead
+    (c.take_all.ensures.ahead ∙ ap (λ n. drop (breaks n sizes) log.ahead) c.first_block-block.ensures.filled)
+    c.write-head.ensures.ahead

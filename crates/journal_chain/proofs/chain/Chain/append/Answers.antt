@@ -1,0 +1,58 @@
+use Rattle.std.proofs.Common.{◌∙◌, ◌++◌, ◌∷◌, map, drop, ap}
+use Rattle.std.specs.Option.{option_to_list}
+use Rattle.blocks.specs.Log.{Log}
+use Rattle.codec.specs.Entry.{entry_length}
+use Rattle.packing.specs.Sizes.{filled_with, breaks}
+use Rattle.journal_chain.specs.Chain.{entries_held}
+use Rattle.journal_chain.specs.Writing.{reopened}
+use Rattle.journal_chain.proofs.Calls.{Pushed, pushed, pushed_holds, ahead_last}
+use Rattle.journal_chain.proofs.chain.Chain.append.Goals as goal
+
+pub returns-clause-holds : goal.returns-clause-holds
+returns-clause-holds g c =
+    let chain = c.args.self.now in
+    let log = g.B.Blocks.log c.args.table.now in
+    let log1 = g.B.Blocks.log c.begun-block.new.table in
+    let log2 = g.B.Blocks.log c.take_all.new.table in
+    let log3 = g.B.Blocks.log c.finish-head.new.table in
+    let old = entries_held log.held chain in
+    let first = c.args.first.now in
+    let later = c.args.later.now in
+    let p : Pushed log.held log3.held log2.held chain.object (option_to_list c.reopened-stale.result) c.take_all.new.block c.finish-head.result (old ++ first ∷ later) =
+    pushed log log1 log2 log3 chain old first later c.begun-block.result c.take_all.new.block c.finish-head.result c.reopened-stale.result
+    c.begun-block.ensures.same c.begun-block.ensures.unfinished c.begun-block.ensures.object
+    (c.reopened-stale.ensures.value ∙ ap (reopened chain) c.byte_count.ensures.exact)
+    c.take_all.ensures.unfinished c.take_all.ensures.others c.take_all.ensures.object c.finish-head.ensures.finished c.finish-head.ensures.others in
+    pushed_holds log.held log2.held log3.held chain c.set_head.new.self old (first ∷ later) (option_to_list c.reopened-stale.result) c.take_all.new.block c.finish-head.result
+    c.args.bytes c.entry_bytes.result c.requires.held p c.requires.fit c.requires.bytes c.requires.limit c.entry_bytes.ensures.exact c.set_head.ensures
+    c.blocks_have_the_entries.ensures.packed c.bytes_add_up.ensures.joined c.chains_are_short.ensures.packed
+
+pub returns-clause-others : goal.returns-clause-others
+returns-clause-others g c =
+    let chain = c.args.self.now in
+    let log = g.B.Blocks.log c.args.table.now in
+    let log1 = g.B.Blocks.log c.begun-block.new.table in
+    let log2 = g.B.Blocks.log c.take_all.new.table in
+    let log3 = g.B.Blocks.log c.finish-head.new.table in
+    let old = entries_held log.held chain in
+    let first = c.args.first.now in
+    let later = c.args.later.now in
+    let p : Pushed log.held log3.held log2.held chain.object (option_to_list c.reopened-stale.result) c.take_all.new.block c.finish-head.result (old ++ first ∷ later) =
+    pushed log log1 log2 log3 chain old first later c.begun-block.result c.take_all.new.block c.finish-head.result c.reopened-stale.result
+    c.begun-block.ensures.same c.begun-block.ensures.unfinished c.begun-block.ensures.object
+    (c.reopened-stale.ensures.value ∙ ap (reopened chain) c.byte_count.ensures.exact)
+    c.take_all.ensures.unfinished c.take_all.ensures.others c.take_all.ensures.object c.finish-head.ensures.finished c.finish-head.ensures.others in
+    p.others
+
+pub returns-clause-ahead : goal.returns-clause-ahead
+returns-clause-ahead g c =
+    let chain = c.args.self.now in
+    let log = g.B.Blocks.log c.args.table.now in
+    let log1 = g.B.Blocks.log c.begun-block.new.table in
+    let log2 = g.B.Blocks.log c.take_all.new.table in
+    let log3 = g.B.Blocks.log c.finish-head.new.table in
+    let sizes = map entry_length c.args.later.now in
+    ahead_last (breaks (filled_with chain.filled (entry_length c.args.first.now)) sizes) c.finish-head.result log.ahead log2.ahead log3.ahead
+    (c.take_all.ensures.ahead ∙ ap (λ n. drop (breaks n sizes) log1.ahead) c.begun-block.ensures.filled
+    ∙ ap (λ (l : Log). drop (breaks (filled_with chain.filled (entry_length c.args.first.now)) sizes) l.ahead) c.begun-block.ensures.same)
+    c.finish-head.ensures.ahead

@@ -1,0 +1,18 @@
+use Rattle.std.proofs.Common.{◌≡◌, None, rules}
+use Rattle.journal_chain.proofs.Calls.{finish_some, finish_none}
+use Rattle.journal_chain.proofs.writing.finish.Goals as goal
+
+pub returns-in-Some-clause-finished : goal.returns-in-Some-clause-finished
+returns-in-Some-clause-finished g c = λ entries u.
+    (finish_some (g.B.Blocks.log c.args.table.now) (g.B.Blocks.log c.write-head.new.table) (g.B.Blocks.log c.drop_block.new.self) c.write-head.result c.in-Some.old c.args.stale c.args.block.now entries
+    c.in-Some.is c.write-head.ensures c.drop_block.ensures u).0
+
+pub returns-in-Some-clause-others : goal.returns-in-Some-clause-others
+returns-in-Some-clause-others g c = λ entries u.
+    (finish_some (g.B.Blocks.log c.args.table.now) (g.B.Blocks.log c.write-head.new.table) (g.B.Blocks.log c.drop_block.new.self) c.write-head.result c.in-Some.old c.args.stale c.args.block.now entries
+    c.in-Some.is c.write-head.ensures c.drop_block.ensures u).1
+
+pub returns-in_default-clause-finished : goal.returns-in_default-clause-finished
+returns-in_default-clause-finished g c = λ entries u.
+    let none : c.args.stale ≡ None = search rules in
+    finish_none (g.B.Blocks.log c.args.table.now) (g.B.Blocks.log c.write-head.new.table) c.write-head.result c.args.stale c.args.block.now entries none c.write-head.ensures u

@@ -1,0 +1,4 @@
+pub mod Chain
+pub mod Push
+pub mod Writing
+pub mod Back

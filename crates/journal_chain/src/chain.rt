@@ -1,0 +1,341 @@
+ghost use Rattle.std.specs.Prelude.{◌≡◌, ℕ, ◌+◌, ◌≤◌, ◌<◌, ◌++◌, List, [], ◌∷◌, length, map, drop, nat_lt, None, Some, OnOk, OnErr, MatchResult, IsSome, Option};
+ghost use Rattle.std.specs.Option.{option_to_list};
+ghost use Rattle.s4_types.specs.Pointer.{Place};
+ghost use Rattle.s4_types.specs.declared.refusals.Refusal.TheVariants.{NoMemory};
+ghost use Rattle.blocks.specs.declared.kinds.BlockKind.TheVariants.{Journal};
+ghost use Rattle.blocks.specs.Log.{Stored, of_kind};
+ghost use Rattle.codec.specs.Entry.{entry_length, entries_length};
+ghost use Rattle.packing.specs.Sizes.{blocks_needed, filled_with};
+ghost use Rattle.packing.specs.Packing.{AllFit, filled_bytes, packed};
+ghost use Rattle.journal_chain.specs.Chain.{ChainFields, Holds, OnlyJournalChanged, chain_entries, entries_held};
+ghost use Rattle.journal_chain.specs.Back.{entries_left};
+ghost use Rattle.journal_chain.specs.Push.{pushed_blocks, push_refusal, rewrite_refusal, whole_blocks};
+ghost use Rattle.journal_chain.specs.Writing.{Standing, Finished, Unfinished, reopened};
+
+use crate::back::EntriesBack;
+use crate::rewriting::{drop_all, places};
+use crate::table::{read, write};
+use crate::writing::{bytes_of, copy_of, finish, first_block, sizes_of, take_all};
+use arrayvec::ArrayVec;
+use blocks::Blocks;
+use codec::{Entry, JournalBlock};
+use packing::laws::{blocks_have_the_entries, bytes_add_up, chains_are_short};
+use packing::{blocks_needed, fits};
+use s4_types::limits::{CHAIN_ENTRY_BYTES, SHORTEST_ENTRY_BYTES};
+use s4_types::{ObjectId, Ptr, Refusal};
+use std::alloc::Global;
+use std::marker::Model;
+
+// So many of the shortest entries have the most bytes that a chain may have.
+const CHAIN_ENTRIES: usize = 344;
+
+/// What is kept of an object's chain of journal blocks beside the object's row.
+#[derive(Clone, Copy, Debug, PartialEq, Eq)]
+pub struct Chain {
+    object: ObjectId,
+    head: Option<Ptr>,
+    // Of all entries.
+    bytes: u16,
+    // Of the head block's entries.
+    filled: u16,
+}
+
+impl Model for Chain {
+    ghost use Rattle.std.specs.Prelude.{◌≤◌};
+    ghost use Rattle.journal_chain.specs.Chain.{ChainFields};
+    ghost use Rattle.s4_types.specs.declared.limits.TheConstants.{JOURNAL_ENTRY_BYTES, CHAIN_ENTRY_BYTES as MOST_BYTES};
+
+    ghost Value = { ChainFields };
+
+    ghost view = { λ c. record { object = c.object; head = c.head; bytes = c.bytes; filled = c.filled } };
+
+    ghost invariant = { λ c. (1 ≤ c.object) × ((c.bytes ≤ MOST_BYTES) × (c.filled ≤ JOURNAL_ENTRY_BYTES)) };
+
+    ghost inverse = { λ c. record { object = c.object; head = c.head; bytes = c.bytes; filled = c.filled } };
+}
+
+impl Chain {
+    /// The chain of an object that has no entry yet.
+    pub const fn empty(object: ObjectId) -> Self
+        requires { 1 ≤ object }
+        ensures { result ≡ record { object = object; head = None; bytes = 0; filled = 0 } }
+    {
+        Chain {
+            object,
+            head: None,
+            bytes: 0,
+            filled: 0,
+        }
+    }
+
+    /// The chain that an object's row tells of: its newest block, the bytes of all its entries, and those of the newest
+    /// block's entries.
+    pub const fn of(object: ObjectId, head: Option<Ptr>, bytes: u16, filled: u16) -> Self
+        requires object { 1 ≤ object }
+        requires limit { bytes ≤ 11712 }
+        requires one_block { filled ≤ 488 }
+        ensures { result ≡ record { object = object; head = head; bytes = bytes; filled = filled } }
+    {
+        Chain {
+            object,
+            head,
+            bytes,
+            filled,
+        }
+    }
+
+    pub const fn object(self) -> ObjectId
+        ensures object { result ≡ self.object }
+        ensures least { 1 ≤ result }
+    {
+        self.object
+    }
+
+    /// Where the newest of the chain's blocks is.
+    pub const fn head(self) -> Option<Ptr>
+        ensures { result ≡ self.head }
+    {
+        self.head
+    }
+
+    /// The bytes of all entries, at most 11,712.
+    pub const fn bytes(self) -> usize
+        ensures bytes { result ≡ self.bytes }
+        ensures most { result ≤ 11712 }
+    {
+        self.bytes as usize
+    }
+
+    /// The bytes of the newest block's entries, at most 488.
+    pub const fn filled(self) -> usize
+        ensures filled { result ≡ self.filled }
+        ensures most { result ≤ 488 }
+    {
+        self.filled as usize
+    }
+
+    /// Whether the chain has no room for so many bytes of entries more.
+    pub fn is_full_for(&self, bytes: usize) -> bool
+        ensures { result ≡ nat_lt 11712 (self.now.bytes + bytes) }
+    {
+        bytes > CHAIN_ENTRY_BYTES - self.bytes as usize
+    }
+
+    /// How many blocks a push of entries of these sizes, in bytes, appends.
+    pub fn blocks_needed(&self, sizes: &[usize]) -> usize
+        ensures { result ≡ blocks_needed self.now.filled sizes.now }
+    {
+        blocks_needed(self.filled as usize, sizes)
+    }
+
+    /// The head, where an entry of this size goes into it.
+    fn reopened(&self, size: usize) -> Option<Ptr>
+        ensures value { result ≡ reopened self.now size }
+        ensures least { 1 ≤ self.now.object }
+    {
+        if fits(self.filled as usize, size) {
+            self.head
+        } else {
+            None
+        }
+    }
+
+    /// The block that takes the first entry of a push, with that entry: the head's entries are before it if it fits
+    /// there.
+    fn begun<B: Blocks>(&self, table: &mut B, first: &Entry) -> JournalBlock
+        requires { Holds (B.log table.old).held self.now (entries_held (B.log table.old).held self.now) }
+        ensures unfinished { Unfinished (B.log table.new).held self.now.object (option_to_list (reopened self.now (entry_length first.now))) result
+            (entries_held (B.log table.old).held self.now ++ first.now ∷ []) }
+        ensures object { result.object ≡ self.now.object }
+        ensures filled { entries_length result.entries ≡ filled_with self.now.filled (entry_length first.now) }
+        ensures same { B.log table.new ≡ B.log table.old }
+    {
+        let copy = copy_of(first);
+        match self.reopened(first.byte_count()) {
+            Some(head) => {
+                let mut block = read(table, head);
+                block.add(copy);
+                block
+            }
+            None => JournalBlock::new(self.object(), self.head(), copy).unwrap(),
+        }
+    }
+
+    /// The chain has another head, with so many bytes of entries, and so many bytes of entries more than before.
+    fn set_head(&mut self, head: Ptr, bytes: usize, filled: usize)
+        requires limit { self.old.bytes + bytes ≤ 11712 }
+        requires one_block { filled ≤ 488 }
+        ensures { self.new ≡ record { object = self.old.object; head = Some head; bytes = self.old.bytes + bytes; filled = filled } }
+    {
+        self.head = Some(head);
+        self.bytes += bytes as u16;
+        self.filled = filled as u16;
+    }
+
+    /// Appends the blocks of a push that has room.
+    fn append<B: Blocks>(&mut self, table: &mut B, first: &Entry, later: &[Entry], bytes: usize)
+        requires held { Holds (B.log table.old).held self.old (entries_held (B.log table.old).held self.old) }
+        requires fit { AllFit (first.now ∷ later.now) }
+        requires bytes { bytes ≡ entries_length (first.now ∷ later.now) }
+        requires limit { self.old.bytes + bytes ≤ 11712 }
+        requires room { pushed_blocks self.old (first.now ∷ later.now) ≤ length (B.log table.old).ahead }
+        ensures holds { Holds (B.log table.new).held self.new (entries_held (B.log table.old).held self.old ++ first.now ∷ later.now) }
+        ensures others { OnlyJournalChanged self.old.object (B.log table.old).held (B.log table.new).held }
+        ensures ahead { (B.log table.new).ahead ≡ drop (pushed_blocks self.old (first.now ∷ later.now)) (B.log table.old).ahead }
+        ensures object { self.new.object ≡ self.old.object }
+    {
+        blocks_have_the_entries();
+        bytes_add_up();
+        chains_are_short();
+        let stale = self.reopened(first.byte_count());
+        let mut block = self.begun(table, first);
+        take_all(table, &mut block, later);
+        let head = finish(table, &block, stale);
+        self.set_head(head, bytes, block.entry_bytes());
+    }
+
+    /// Appends entries, at most three, which are those of one change.
+    ///
+    /// ChainFull exactly where the chain's entries would have more than 11,712 bytes, else NoSpace exactly where fewer
+    /// places are ahead than the push appends blocks; then nothing has changed.
+    pub fn push<B: Blocks>(&mut self, table: &mut B, entries: &[Entry]) -> Result<(), Refusal>
+        requires held { Holds (B.log table.old).held self.old (entries_held (B.log table.old).held self.old) }
+        requires few { length entries.now ≤ 3 }
+        ensures holds { OnOk result (Holds (B.log table.new).held self.new (entries_held (B.log table.old).held self.old ++ entries.now)) }
+        ensures others { OnlyJournalChanged self.old.object (B.log table.old).held (B.log table.new).held }
+        ensures ahead { OnOk result ((B.log table.new).ahead ≡ drop (pushed_blocks self.old entries.now) (B.log table.old).ahead) }
+        ensures answer { MatchResult result (λ _. push_refusal self.old (B.log table.old).ahead entries.now ≡ None) (λ e. push_refusal self.old (B.log table.old).ahead entries.now ≡ Some e) }
+        ensures object { self.new.object ≡ self.old.object }
+        ensures unchanged { OnErr result ((B.log table.new ≡ B.log table.old) × (self.new ≡ self.old)) }
+    {
+        let bytes = bytes_of(entries);
+        if self.is_full_for(bytes) {
+            return Err(Refusal::ChainFull);
+        }
+        let sizes: ArrayVec<usize, 3> = sizes_of(entries);
+        if table.blocks_left() < self.blocks_needed(sizes.as_slice()) {
+            return Err(Refusal::NoSpace);
+        }
+        let [first, later @ ..] = entries else {
+            return Ok(());
+        };
+        self.append(table, first, later, bytes);
+        Ok(())
+    }
+
+    /// A reader of the chain's entries, the newest first.
+    pub fn entries_back(&self) -> EntriesBack
+        ensures { (held : Place → Option Stored) → IsSome (chain_entries held self.now.object self.now.head)
+            → entries_left held result ≡ chain_entries held self.now.object self.now.head }
+    {
+        EntriesBack::new(self.head())
+    }
+
+    /// All entries, the oldest first.
+    ///
+    /// NoMemory alone, where the memory for them is refused: it is asked for once, for as many as the chain's bytes
+    /// could hold.
+    pub fn entries<B: Blocks>(&self, alloc: Global, table: &mut B) -> Result<Vec<Entry>, Refusal>
+        requires { IsSome (chain_entries (B.log table.old).held self.now.object self.now.head) }
+        ensures entries { MatchResult result (λ v. v.items ≡ entries_held (B.log table.old).held self.now) (λ e. e ≡ NoMemory) }
+        ensures same { B.log table.new ≡ B.log table.old }
+    {
+        let mut entries = Vec::with_capacity(alloc, self.bytes() / SHORTEST_ENTRY_BYTES)?;
+        let mut back = self.entries_back();
+        while let Some(entry) = back.next(table) {
+            entries.push(entry)?;
+        }
+        entries.reverse();
+        Ok(entries)
+    }
+
+    /// Writes all blocks of an object's chain, and answers the chain. What stands of an older one is not touched.
+    fn afresh<B: Blocks>(
+        object: ObjectId,
+        table: &mut B,
+        first: &Entry,
+        later: &[Entry],
+        bytes: usize,
+    ) -> Self
+        requires object { 1 ≤ object }
+        requires limit { bytes ≤ 11712 }
+        requires room { whole_blocks (first.now ∷ later.now) ≤ length (B.log table.old).ahead }
+        ensures finished { (stale : List Place) → Standing object (of_kind Journal object (B.log table.old).held) [] stale
+            → Finished (B.log table.new).held object stale result.head (first.now ∷ later.now) }
+        ensures filled { (stale : List Place) → Standing object (of_kind Journal object (B.log table.old).held) [] stale
+            → result.filled ≡ filled_bytes (packed (first.now ∷ later.now)) }
+        ensures others { OnlyJournalChanged object (B.log table.old).held (B.log table.new).held }
+        ensures ahead { (B.log table.new).ahead ≡ drop (whole_blocks (first.now ∷ later.now)) (B.log table.old).ahead }
+        ensures object { result.object ≡ object }
+        ensures bytes { result.bytes ≡ bytes }
+    {
+        let mut chain = Chain::empty(object);
+        let mut block = first_block(object, first);
+        take_all(table, &mut block, later);
+        let head = write(table, &block);
+        chain.set_head(head, bytes, block.entry_bytes());
+        chain
+    }
+
+    /// Writes the chain afresh where there is room, and drops its old blocks.
+    fn replace<B: Blocks>(&mut self, table: &mut B, first: &Entry, later: &[Entry], bytes: usize)
+        requires held { Holds (B.log table.old).held self.old (entries_held (B.log table.old).held self.old) }
+        requires fit { AllFit (first.now ∷ later.now) }
+        requires bytes { bytes ≡ entries_length (first.now ∷ later.now) }
+        requires limit { bytes ≤ 11712 }
+        requires room { whole_blocks (first.now ∷ later.now) ≤ length (B.log table.old).ahead }
+        ensures holds { Holds (B.log table.new).held self.new (first.now ∷ later.now) }
+        ensures others { OnlyJournalChanged self.old.object (B.log table.old).held (B.log table.new).held }
+        ensures ahead { (B.log table.new).ahead ≡ drop (whole_blocks (first.now ∷ later.now)) (B.log table.old).ahead }
+        ensures object { self.new.object ≡ self.old.object }
+    {
+        blocks_have_the_entries();
+        chains_are_short();
+        let stale = places(table, self.head());
+        let chain = Chain::afresh(self.object(), table, first, later, bytes);
+        drop_all(table, stale.as_slice());
+        *self = chain;
+    }
+
+    /// Drops all of the chain's blocks.
+    fn clear<B: Blocks>(&mut self, table: &mut B)
+        requires { Holds (B.log table.old).held self.old (entries_held (B.log table.old).held self.old) }
+        ensures holds { Holds (B.log table.new).held self.new [] }
+        ensures others { OnlyJournalChanged self.old.object (B.log table.old).held (B.log table.new).held }
+        ensures ahead { (B.log table.new).ahead ≡ (B.log table.old).ahead }
+        ensures object { self.new.object ≡ self.old.object }
+    {
+        let stale = places(table, self.head());
+        let object = self.object();
+        drop_all(table, stale.as_slice());
+        *self = Chain::empty(object);
+    }
+
+    /// Writes the whole chain afresh with these entries, the oldest first, at most 11,712 bytes of them, and drops its
+    /// old blocks.
+    ///
+    /// NoRoom exactly where fewer places are ahead than the new chain has blocks; then nothing has changed.
+    pub fn rewrite<B: Blocks>(&mut self, table: &mut B, entries: &[Entry]) -> Result<(), Refusal>
+        requires held { Holds (B.log table.old).held self.old (entries_held (B.log table.old).held self.old) }
+        requires limit { entries_length entries.now ≤ 11712 }
+        ensures holds { OnOk result (Holds (B.log table.new).held self.new entries.now) }
+        ensures others { OnlyJournalChanged self.old.object (B.log table.old).held (B.log table.new).held }
+        ensures ahead { OnOk result ((B.log table.new).ahead ≡ drop (whole_blocks entries.now) (B.log table.old).ahead) }
+        ensures answer { MatchResult result (λ _. rewrite_refusal (B.log table.old).ahead entries.now ≡ None) (λ e. rewrite_refusal (B.log table.old).ahead entries.now ≡ Some e) }
+        ensures object { self.new.object ≡ self.old.object }
+        ensures unchanged { OnErr result ((B.log table.new ≡ B.log table.old) × (self.new ≡ self.old)) }
+    {
+        chains_are_short();
+        let bytes = bytes_of(entries);
+        let sizes: ArrayVec<usize, CHAIN_ENTRIES> = sizes_of(entries);
+        if table.blocks_left() < blocks_needed(0, sizes.as_slice()) {
+            return Err(Refusal::NoRoom);
+        }
+        let [first, later @ ..] = entries else {
+            self.clear(table);
+            return Ok(());
+        };
+        self.replace(table, first, later, bytes);
+        Ok(())
+    }
+}

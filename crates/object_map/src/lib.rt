@@ -1,0 +1,12 @@
+//! The map from objects to their rows: where each object's journal and checkpoint stand.
+//!
+//! The layers above may rely on this: a map is seen as its rows by ascending object, and each change of a row raises the
+//! row's stamp by one. Looking up, adding and changing a row, and finding the next one, take logarithmic time.
+#![tactic(auto)]
+
+mod map;
+
+pub use map::{ObjectMap, Row};
+
+#[cfg(test)]
+mod tests;

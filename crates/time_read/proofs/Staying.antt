@@ -1,0 +1,56 @@
+-- What a row tells depends on its object's own blocks alone.
+use Rattle.std.proofs.Common.{◌≡◌, ℕ, true, List, [], Option, Some, None, unwrap_or, MatchOption, sym, ap, subst, ◌∙◌}
+use Rattle.s4_types.specs.Pointer.{Place}
+use Rattle.blocks.specs.Log.{Stored, of_kind}
+use Rattle.blocks.specs.declared.kinds.BlockKind.TheVariants.{Journal, Checkpoint}
+use Rattle.codec.specs.Fields.{◌>>=◌}
+use Rattle.codec.specs.declared.inodes.Inode.{Inode}
+use Rattle.codec.specs.Entry.{EntryFields}
+use Rattle.codec.specs.Checkpoint.{CheckpointFields}
+use Rattle.inode_links.specs.Runs.{Run, inode_after}
+use Rattle.inode_links.specs.Groups.{grouped}
+use Rattle.checkpoint.specs.Held.{checkpoint_held, spelled}
+use Rattle.object_map.specs.declared.map.Row.{Row}
+use Rattle.journal_chain.specs.Chain.{View, IsChain, Holds, chain_entries, entries_in}
+use Rattle.time_read.specs.Rows.{chain_of, entries_of, checkpoint_of, first_of, inode_before, inode_of, IsRow}
+
+same_entries : (held later : Place → Option Stored) (o : ℕ) (row : Row) → of_kind Journal o later ≡ of_kind Journal o held → entries_of later o row ≡ entries_of held o row
+unfolding chain_entries
+same_entries held later o row same = ap (λ (v : View). unwrap_or (entries_in v o row.head) []) same
+
+same_read : (held later : Place → Option Stored) (o : ℕ) (p : Place) → of_kind Checkpoint o later ≡ of_kind Checkpoint o held → checkpoint_held later o p ≡ checkpoint_held held o p
+same_read held later o p same = ap (λ (v : View). spelled (v p)) same
+
+same_checkpoint : (held later : Place → Option Stored) (o : ℕ) (row : Row) → of_kind Checkpoint o later ≡ of_kind Checkpoint o held → checkpoint_of later o row ≡ checkpoint_of held o row
+same_checkpoint held later o row same = ap (λ (v : View). row.checkpoint >>= λ p. spelled (v p)) same
+
+same_first : (held later : Place → Option Stored) (o : ℕ) (row : Row) → of_kind Journal o later ≡ of_kind Journal o held → of_kind Checkpoint o later ≡ of_kind Checkpoint o held → first_of later o row ≡ first_of held o row
+same_first held later o row journal checkpoint =
+    ap (λ (es : List EntryFields). inode_before row.created row.checkpoint_moment es (checkpoint_of later o row)) (same_entries held later o row journal)
+    ∙ ap (λ (c : Option CheckpointFields). inode_before row.created row.checkpoint_moment (entries_of held o row) c) (same_checkpoint held later o row checkpoint)
+
+pub same_inode : (held later : Place → Option Stored) (o t : ℕ) (row : Row) → of_kind Journal o later ≡ of_kind Journal o held → of_kind Checkpoint o later ≡ of_kind Checkpoint o held → inode_of later o row t ≡ inode_of held o row t
+unfolding inode_of
+same_inode held later o t row journal checkpoint =
+    ap (λ (es : List EntryFields). inode_after (first_of later o row) es t) (same_entries held later o row journal)
+    ∙ ap (λ (i : Inode). inode_after i (entries_of held o row) t) (same_first held later o row journal checkpoint)
+
+carried : (N : Type 0) (c : Option Place) (f g : Place → Option CheckpointFields) (x y : CheckpointFields) → ((p : Place) → g p ≡ f p) → y ≡ x → MatchOption c N (λ p. f p ≡ Some x) → MatchOption c N (λ p. g p ≡ Some y)
+carried N None f g x y same is h = h
+carried N (Some p) f g x y same is h = same p ∙ h ∙ sym (ap (λ (z : CheckpointFields). Some z) is)
+
+pub same_row : (held later : Place → Option Stored) (o : ℕ) (row : Row) → of_kind Journal o later ≡ of_kind Journal o held → of_kind Checkpoint o later ≡ of_kind Checkpoint o held → IsRow held o row → IsRow later o row
+same_row held later o row journal checkpoint r =
+    let entries : entries_of later o row ≡ entries_of held o row = same_entries held later o row journal in
+    let first : first_of later o row ≡ first_of held o row = same_first held later o row journal checkpoint in
+    let run : Run (first_of later o row) (entries_of held o row) r.last = subst (λ (i : Inode). Run i (entries_of held o row) r.last) (sym first) r.run in
+    let chain : Holds later (chain_of o row) (entries_of held o row) = subst (λ (v : View). IsChain v (chain_of o row) (entries_of held o row)) (sym journal) r.chain in
+    record {
+      object = r.object;
+      chain = subst (λ (es : List EntryFields). Holds later (chain_of o row) es) (sym entries) chain;
+      last = r.last;
+      run = subst (λ (es : List EntryFields). Run (first_of later o row) es r.last) (sym entries) run;
+      groups = subst (λ (es : List EntryFields). grouped es ≡ true) (sym entries) r.groups;
+      checkpoint = carried (row.checkpoint_moment ≡ 0) row.checkpoint (checkpoint_held held o) (checkpoint_held later o) (record { object = o; moment = row.checkpoint_moment; inode = inode_of held o row row.checkpoint_moment }) (record { object = o; moment = row.checkpoint_moment; inode = inode_of later o row row.checkpoint_moment }) (λ p. same_read held later o p checkpoint) (ap (λ (i : Inode). record { object = o; moment = row.checkpoint_moment; inode = i }) (same_inode held later o row.checkpoint_moment row journal checkpoint)) r.checkpoint;
+      created = subst (λ (i : Inode). i.created ≡ row.created) (sym first) r.created;
+    }
