@@ -1,6 +1,6 @@
 -- What is known where no refusal applies.
 use Rattle.std.proofs.Common.{◌≡◌, ℕ, ◌+◌, length, ◌<◌, ◌≤◌, ◌==◌, ◌&&◌, Bool, true, false, not, cond, leb, inl, inr, List, [], ◌∷◌, None, Some, refl, ap, sym, ◌∙◌, subst, true≢false, arith, find}
-use Rattle.std.proofs.lemmas.Bool.{not-false, and_parts, or_parts, leb-true, leb-false, ltb-false, eqb-true, cases_lt}
+use Rattle.std.proofs.lemmas.Bool.{not-false, and_parts, or_parts, leb-true, leb-false, ltb-false, eqb-true, ne_eqb, cases_lt}
 use Rattle.std.specs.List.{AllByRecursion, cons_option}
 use Rattle.s4_types.specs.declared.limits.TheConstants.{OBJECT_BYTES, ATTRIBUTE_BYTES}
 use Rattle.s4_types.specs.declared.changes.Change.{Change}
@@ -16,7 +16,7 @@ use Rattle.s4_model.specs.Numbers.{next_by, window_by}
 use Rattle.s4_model.specs.State.{State}
 use Rattle.s4_model.specs.VersionAt.{version_of}
 use Rattle.s4_model.specs.Visible.{span_by}
-use Rattle.s4_model.specs.Refusals.{first_refusal, applies, checks, is_absent, is_of_no_object, present, size_of}
+use Rattle.s4_model.specs.Refusals.{first_refusal, applies, checks, is_absent, is_of_no_object, is_one_span_too_many, present, size_of}
 use Rattle.s4_model.specs.Step.{change_of}
 use Rattle.s4_model.specs.Sound.{IsOfGiven}
 
@@ -77,6 +77,26 @@ granted_is_born s role (SetWindow window) taken o unborn granted asks = asked_ch
 granted_is_born s role (Flush first last) taken o unborn granted asks = asked_change (IsBorn s o) (change.Flush first last) taken asks (λ e. absurd (true≢false (sym e)))
 granted_is_born s role (FlushO object first last) taken o unborn granted asks = asked_change (IsBorn s o) (change.FlushO object first last) taken asks (λ e. absurd (true≢false (sym e)))
 
+abbrev IsOfSomebody : Change → Type 0
+IsOfSomebody c = is_change_of 0 c ≡ false
+
+there_is_somebody : (s : State) (object : ℕ) → ((t : ℕ) → version_of s 0 t ≡ Absent) → is_absent (present s object) ≡ false → (object == 0) ≡ false
+there_is_somebody s object nobody e = ne_eqb object 0 (λ same. true≢false (sym (ap (λ o. is_absent (present s o)) same ∙ ap is_absent (nobody s.clock)) ∙ e))
+
+-- no change that is granted is of number 0
+pub granted_is_of_somebody : (s : State) (role : Role) (request : Request) (taken : Change) → 1 ≤ s.next → ((t : ℕ) → version_of s 0 t ≡ Absent) → first_refusal s role request ≡ None → change_of s request ≡ Some taken → is_change_of 0 taken ≡ false
+granted_is_of_somebody s role (Create attribute) taken low nobody granted asks = asked_change IsOfSomebody (change.Create s.next attribute) taken asks (ne_eqb s.next 0 (λ same. omega arith))
+granted_is_of_somebody s role (Delete object) taken low nobody granted asks = asked_change IsOfSomebody (change.Delete object) taken asks (there_is_somebody s object nobody (object_is_there s role (Delete object) granted))
+granted_is_of_somebody s role (Read object offset len at) taken low nobody granted asks = cc
+granted_is_of_somebody s role (Write object offset bytes) taken low nobody granted asks = asked_change IsOfSomebody (change.Write object offset bytes) taken asks (there_is_somebody s object nobody (object_is_there s role (Write object offset bytes) granted))
+granted_is_of_somebody s role (Append object bytes) taken low nobody granted asks = asked_change IsOfSomebody _ taken asks (there_is_somebody s object nobody (object_is_there s role (Append object bytes) granted))
+granted_is_of_somebody s role (Truncate object size) taken low nobody granted asks = asked_change IsOfSomebody (change.Truncate object size) taken asks (there_is_somebody s object nobody (object_is_there s role (Truncate object size) granted))
+granted_is_of_somebody s role (GetAttr object at) taken low nobody granted asks = cc
+granted_is_of_somebody s role (SetAttr object attribute) taken low nobody granted asks = asked_change IsOfSomebody (change.SetAttr object attribute) taken asks (there_is_somebody s object nobody (object_is_there s role (SetAttr object attribute) granted))
+granted_is_of_somebody s role (SetWindow window) taken low nobody granted asks = asked_change IsOfSomebody (change.SetWindow window) taken asks refl
+granted_is_of_somebody s role (Flush first last) taken low nobody granted asks = asked_change IsOfSomebody (change.Flush first last) taken asks refl
+granted_is_of_somebody s role (FlushO object first last) taken low nobody granted asks = asked_change IsOfSomebody (change.FlushO object first last) taken asks refl
+
 span_end : (first last clock : ℕ) → not (leb first last && leb last clock) ≡ false → last ≤ clock
 span_end first last clock e = leb-true last clock (and_parts (leb first last) (leb last clock) (not-false (leb first last && leb last clock) e)).1
 
@@ -107,6 +127,23 @@ granted_span_is_owned s role (SetAttr object attribute) taken low granted asks =
 granted_span_is_owned s role (SetWindow window) taken low granted asks = asked_change (SpanIsOwned s) (change.SetWindow window) taken asks tt
 granted_span_is_owned s role (Flush first last) taken low granted asks = asked_change (SpanIsOwned s) (change.Flush first last) taken asks (omega arith, tt)
 granted_span_is_owned s role (FlushO object first last) taken low granted asks = asked_change (SpanIsOwned s) (change.FlushO object first last) taken asks (leb-false s.next object (or_parts (object == 0) (leb s.next object) (object_is_there s role (FlushO object first last) granted)).1, tt)
+
+abbrev SpanIsOneMore : State → Change → Type 0
+SpanIsOneMore s c = AllByRecursion (λ span. is_one_span_too_many s span ≡ false) (cons_option (span_by c) [])
+
+-- a span that is granted isn't one too many
+pub granted_span_is_not_too_many : (s : State) (role : Role) (request : Request) (taken : Change) → first_refusal s role request ≡ None → change_of s request ≡ Some taken → AllByRecursion (λ span. is_one_span_too_many s span ≡ false) (cons_option (span_by taken) [])
+granted_span_is_not_too_many s role (Create attribute) taken granted asks = asked_change (SpanIsOneMore s) (change.Create s.next attribute) taken asks tt
+granted_span_is_not_too_many s role (Delete object) taken granted asks = asked_change (SpanIsOneMore s) (change.Delete object) taken asks tt
+granted_span_is_not_too_many s role (Read object offset len at) taken granted asks = cc
+granted_span_is_not_too_many s role (Write object offset bytes) taken granted asks = asked_change (SpanIsOneMore s) (change.Write object offset bytes) taken asks tt
+granted_span_is_not_too_many s role (Append object bytes) taken granted asks = asked_change (SpanIsOneMore s) _ taken asks tt
+granted_span_is_not_too_many s role (Truncate object size) taken granted asks = asked_change (SpanIsOneMore s) (change.Truncate object size) taken asks tt
+granted_span_is_not_too_many s role (GetAttr object at) taken granted asks = cc
+granted_span_is_not_too_many s role (SetAttr object attribute) taken granted asks = asked_change (SpanIsOneMore s) (change.SetAttr object attribute) taken asks tt
+granted_span_is_not_too_many s role (SetWindow window) taken granted asks = asked_change (SpanIsOneMore s) (change.SetWindow window) taken asks tt
+granted_span_is_not_too_many s role (Flush first last) taken granted asks = asked_change (SpanIsOneMore s) (change.Flush first last) taken asks ((none_applies s role (Flush first last) granted).1.1.1.1.1.1.1.1.0, tt)
+granted_span_is_not_too_many s role (FlushO object first last) taken granted asks = asked_change (SpanIsOneMore s) (change.FlushO object first last) taken asks ((none_applies s role (FlushO object first last) granted).1.1.1.1.1.1.1.1.0, tt)
 
 -- what a client is granted hides nothing
 pub client_hides_nothing : (s : State) (request : Request) (taken : Change) → first_refusal s Client request ≡ None → change_of s request ≡ Some taken → span_by taken ≡ None

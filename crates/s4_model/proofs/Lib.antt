@@ -14,3 +14,4 @@ pub mod NumberLaws
 pub mod TotalLaws
 pub mod RunLaws
 pub mod ListLaws
+pub mod RunLimitLaws

@@ -16,7 +16,7 @@ use Rattle.s4_model.proofs.RunLaws.{runs_are_maximal}
 abbrev covers : ℕ → ℕ → Span → Bool
 covers list t span = span.object == list && is_within span t
 
-none_covers : (list clock t : ℕ) (spans : List Span) → clock ≤ t → AllByRecursion (EndsBefore clock) spans → list_any (covers list t) spans ≡ false
+pub none_covers : (list clock t : ℕ) (spans : List Span) → clock ≤ t → AllByRecursion (EndsBefore clock) spans → list_any (covers list t) spans ≡ false
 none_covers list clock t [] le past = refl
 none_covers list clock t (span ∷ spans) le past =
     let ends : span.last < clock = past.0 in
@@ -29,11 +29,11 @@ spans_have_maximal_runs s spans list past =
     runs_are_maximal (is_covered s.floor spans list) s.clock
     (and_right (leb s.floor (s.clock + 1)) (list_any (covers list (s.clock + 1)) spans) (none_covers list (s.clock + 1) (s.clock + 1) spans (omega arith) past))
 
-all_past : (clock : ℕ) (spans : List Span) → AllByRecursion (EndsBefore clock) spans → AllByRecursion (EndsBefore (clock + 1)) spans
+pub all_past : (clock : ℕ) (spans : List Span) → AllByRecursion (EndsBefore clock) spans → AllByRecursion (EndsBefore (clock + 1)) spans
 all_past clock [] past = tt
 all_past clock (span ∷ spans) past = let ends : span.last < clock = past.0 in (omega arith, all_past clock spans past.1)
 
-all_past_push : (clock : ℕ) (spans : List Span) (span : Span) → AllByRecursion (EndsBefore clock) spans → span.last ≤ clock → AllByRecursion (EndsBefore (clock + 1)) (spans ++ span ∷ [])
+pub all_past_push : (clock : ℕ) (spans : List Span) (span : Span) → AllByRecursion (EndsBefore clock) spans → span.last ≤ clock → AllByRecursion (EndsBefore (clock + 1)) (spans ++ span ∷ [])
 all_past_push clock [] span past le = (omega arith, tt)
 all_past_push clock (first ∷ spans) span past le = let ends : first.last < clock = past.0 in (omega arith, all_past_push clock spans span past.1 le)
 
@@ -64,7 +64,7 @@ lists_hide_alike h o t le =
     any_hides o t (spans_of (state_of h))
     ∙ sym (ap (λ b. (b && list_any (covers 0 t) (spans_of (state_of h))) || (b && list_any (covers o t) (spans_of (state_of h)))) (le-leb (floor_of h) t le))
 
-none_of : (list next t : ℕ) (spans : List Span) → next ≤ list → AllByRecursion (IsOfGiven next) spans → list_any (covers list t) spans ≡ false
+pub none_of : (list next t : ℕ) (spans : List Span) → next ≤ list → AllByRecursion (IsOfGiven next) spans → list_any (covers list t) spans ≡ false
 none_of list next t [] le owned = refl
 none_of list next t (span ∷ spans) le owned =
     let below : span.object < next = owned.0 in

@@ -22,7 +22,7 @@ use Rattle.s4_model.specs.Sound.{AreCounted, EndsBefore, IsOfGiven, IsSound}
 use Rattle.s4_model.specs.Exchanges.{Exchange, Leads}
 use Rattle.s4_model.proofs.StateLemmas.{state_of-seen, state_of-took}
 use Rattle.s4_model.proofs.OutcomeLemmas.{IsTaken, Outcome, OnlySaw, TookIt, outcome_of}
-use Rattle.s4_model.proofs.GrantedLemmas.{granted_is_born, granted_span_ends, granted_span_is_owned}
+use Rattle.s4_model.proofs.GrantedLemmas.{granted_is_born, granted_is_of_somebody, granted_span_ends, granted_span_is_owned}
 use Rattle.s4_model.proofs.VersionLemmas.{Ascends-push, Ascends-higher, version_of-other}
 
 all_weaker : {X : Type 0} (P Q : X → Type 0) → ((x : X) → P x → Q x) → (xs : List X) → AllByRecursion P xs → AllByRecursion Q xs
@@ -64,6 +64,9 @@ IsSound-seen s now sound = let below : s.floor ≤ s.clock = sound.floor_reached
   past = all_weaker (EndsBefore s.clock) (EndsBefore (max s.clock now)) (λ span lt. omega arith) (spans_of s) sound.past;
   owned = sound.owned;
   unborn = sound.unborn;
+  nobody = sound.nobody;
+  listed = sound.listed;
+  dated = sound.dated;
 }
 
 IsSound-floor : (floor clock moment window : ℕ) → floor ≤ clock → clock < moment → max floor (moment - window) ≤ moment
@@ -93,6 +96,9 @@ IsSound-took s role request now reply a sound taken =
       owned = subst (AllByRecursion (IsOfGiven (next_by a.change s.next))) (sym (spans_of-took s a)) (all_weaker (IsOfGiven s.next) (IsOfGiven (next_by a.change s.next)) (λ span lt. omega arith) (spans_of s ++ cons_option (span_by a.change) [])
           (all_append (IsOfGiven s.next) (spans_of s) (cons_option (span_by a.change) []) sound.owned (granted_span_is_owned s role request a.change numbered taken.granted taken.asked_for)));
       unborn = unborn_stays s a sound (λ o. granted_is_born s role request a.change o sound.unborn taken.granted taken.asked_for);
+      nobody = λ t. version_of-other s a 0 t (granted_is_of_somebody s role request a.change numbered sound.nobody taken.granted taken.asked_for) ∙ sound.nobody t;
+      listed = sound.listed;
+      dated = sound.dated;
     }
 
 IsSound-outcome : (h : History) (role : Role) (request : Request) (now : ℕ) (reply : Reply) (after : History) → IsSound (state_of h) → Outcome h role request now reply after → IsSound (state_of after)
@@ -113,6 +119,9 @@ IsSound-new window = record {
   past = tt;
   owned = tt;
   unborn = λ o t ge. elim (nat_le t 0) as (λ b. cond b Absent Absent ≡ Absent) [ true ↦ refl | false ↦ refl ];
+  nobody = λ t. elim (nat_le t 0) as (λ b. cond b Absent Absent ≡ Absent) [ true ↦ refl | false ↦ refl ];
+  listed = tt;
+  dated = tt;
 }
 
 -- and any list of exchanges keeps it

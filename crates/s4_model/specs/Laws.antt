@@ -11,6 +11,7 @@ use Rattle.s4_types.specs.declared.replies.Reply.{Reply}
 use Rattle.s4_types.specs.declared.replies.Reply.TheVariants.{Refused, Changed, Created}
 use Rattle.s4_types.specs.declared.refusals.Refusal.{Refusal}
 use Rattle.s4_types.specs.declared.refusals.Refusal.TheVariants.{NoSpace, NoMemory, ChainFull, Busy}
+use Rattle.s4_types.specs.declared.limits.TheConstants.{RUNS_IN_A_LIST, RUNS_IN_ALL}
 use Rattle.s4_types.specs.declared.spans.Span.{Span}
 use Rattle.s4_types.specs.declared.versions.Version.TheVariants.{Absent}
 use Rattle.s4_model.specs.Effect.{effect, is_change_of}
@@ -19,7 +20,7 @@ use Rattle.s4_model.specs.Numbers.{clock_of, floor_of, next_of, window_of}
 use Rattle.s4_model.specs.State.{State, state_of, grown, new_history}
 use Rattle.s4_model.specs.VersionAt.{version_of}
 use Rattle.s4_model.specs.Visible.{is_hidden, spans_of, IsVisible}
-use Rattle.s4_model.specs.Runs.{is_covered, runs_of, run_count}
+use Rattle.s4_model.specs.Runs.{is_covered, runs_of, run_count, run_count_of_all}
 use Rattle.s4_model.specs.Refusals.{present}
 use Rattle.s4_model.specs.Step.{Step}
 use Rattle.s4_model.specs.Sound.{Ascends, IsSound}
@@ -222,3 +223,22 @@ ListsHideAlike = (h : History) (o t : ℕ) → floor_of h ≤ t
 -- the lists of numbers that weren't given yet are empty, so that all lists are counted
 abbrev pub NoListIsLeftOut : Type 0
 NoListIsLeftOut = (h : History) (list t : ℕ) → IsSound (state_of h) → next_of h ≤ list → is_covered (floor_of h) (spans_of (state_of h)) list t ≡ false
+
+-- No list of a state has more runs than a list may have, and all lists together no more than all may.
+pub record KeepsRunLimits (s : State) : Type 0 where
+  pub each : (list : ℕ) → run_count (is_covered s.floor (spans_of s) list) s.clock ≤ RUNS_IN_A_LIST
+  pub all : run_count_of_all s.floor (spans_of s) s.clock s.next ≤ RUNS_IN_ALL
+
+-- a new drive's history does
+abbrev pub ANewDriveKeepsTheRunLimits : Type 0
+ANewDriveKeepsTheRunLimits = (window : ℕ) → KeepsRunLimits (state_of (new_history window))
+
+-- every step of a sound history keeps it so
+abbrev pub EveryStepKeepsTheRunLimits : Type 0
+EveryStepKeepsTheRunLimits = (h after : History) (role : Role) (request : Request) (now : ℕ) (reply : Reply)
+    → IsSound (state_of h) → KeepsRunLimits (state_of h) → Step h role request now reply after → KeepsRunLimits (state_of after)
+
+-- and so do exchanges
+abbrev pub ExchangesKeepTheRunLimits : Type 0
+ExchangesKeepTheRunLimits = (h after : History) (exchanges : List Exchange)
+    → IsSound (state_of h) → KeepsRunLimits (state_of h) → Leads h exchanges after → KeepsRunLimits (state_of after)

@@ -1,8 +1,9 @@
 -- What holds of each history that a drive can have.
-use Rattle.std.specs.Prelude.{◌≡◌, ℕ, ◌+◌, ◌<◌, ◌≤◌, List, [], ◌∷◌}
+use Rattle.std.specs.Prelude.{◌≡◌, ℕ, ◌+◌, ◌<◌, ◌≤◌, ◌≢◌, List, [], ◌∷◌}
 use Rattle.std.specs.List.{AllByRecursion}
 use Rattle.s4_types.specs.declared.spans.Span.{Span}
 use Rattle.s4_types.specs.declared.changes.Accepted.{Accepted}
+use Rattle.s4_types.specs.declared.versions.Version.{Version}
 use Rattle.s4_types.specs.declared.versions.Version.TheVariants.{Absent}
 use Rattle.s4_model.specs.State.{State}
 use Rattle.s4_model.specs.VersionAt.{version_of}
@@ -26,9 +27,20 @@ abbrev pub AreCounted : ℕ → List Accepted → Type 0
 AreCounted number [] = Unit {0}
 AreCounted number (a ∷ changes) = (a.number ≡ number) × AreCounted (number + 1) changes
 
+-- no object is listed twice
+abbrev pub AreListedOnce : List (ℕ × List (ℕ × Version)) → Type 0
+AreListedOnce [] = Unit {0}
+AreListedOnce (entry ∷ entries) = AllByRecursion (λ other. other.0 ≢ entry.0) entries × AreListedOnce entries
+
+-- the moments from which versions are current ascend strictly
+abbrev pub DatesAscend : List (ℕ × Version) → Type 0
+DatesAscend [] = Unit {0}
+DatesAscend (dated ∷ versions) = AllByRecursion (λ later. dated.0 < later.0) versions × DatesAscend versions
+
 -- A state that a drive can have: the floor isn't above the clock, the next object's number is at least 1, changes
 -- are numbered from 1, moments ascend strictly from the base's clock to the clock, spans end before the clock and
--- are of numbers that were given, and a number that wasn't given is of no object.
+-- are of numbers that were given, a number that wasn't given is of no object, and number 0 never is. The base
+-- lists each object once, with the moments of its versions ascending strictly.
 pub record IsSound (s : State) : Type 0 where
   pub floor_reached : s.floor ≤ s.clock
   pub numbered : 1 ≤ s.next
@@ -37,3 +49,6 @@ pub record IsSound (s : State) : Type 0 where
   pub past : AllByRecursion (EndsBefore s.clock) (spans_of s)
   pub owned : AllByRecursion (IsOfGiven s.next) (spans_of s)
   pub unborn : (o t : ℕ) → s.next ≤ o → version_of s o t ≡ Absent
+  pub nobody : (t : ℕ) → version_of s 0 t ≡ Absent
+  pub listed : AreListedOnce s.versions
+  pub dated : AllByRecursion (λ entry. DatesAscend entry.1) s.versions

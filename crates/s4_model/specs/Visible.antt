@@ -38,3 +38,10 @@ pub record IsVisible (s : State) (o t : ℕ) : Type 0 where
   pub kept : s.floor ≤ t
   pub reached : t ≤ s.clock
   pub shown : is_hidden s o t ≡ false
+
+-- some moment of an object, of those from first to last, can be read
+pub record IsSeenBetween (s : State) (o first last : ℕ) : Type 0 where
+  pub moment : ℕ
+  pub begun : first ≤ moment
+  pub ended : moment ≤ last
+  pub visible : IsVisible s o moment

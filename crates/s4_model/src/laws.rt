@@ -2,7 +2,7 @@ ghost use Rattle.std.specs.Prelude.{◌≡◌, ℕ};
 ghost use Rattle.s4_types.specs.History.{History, Seen, Took};
 ghost use Rattle.s4_types.specs.declared.changes.Accepted.{Accepted};
 ghost use Rattle.s4_model.specs.State.{state_of, grown, seen, took};
-ghost use Rattle.s4_model.specs.Laws.{ANewDriveIsSound, EveryStepKeepsSoundness, ExchangesKeepSoundness, NobodyWithAClientsRightsCanErase, AChangeActsAtItsMoment, TheClockNeverFalls, TheFloorNeverFalls, NoWindowLowersTheFloor, AnAcceptedMomentIsLater, AcceptedMomentsAscend, ThePresentClockIsVisible, AFlushHidesItsSpan, AFlushOfAnObjectHidesItsSpan, ACreateIsGivenTheNextNumber, ObjectNumbersAscend, ADeadObjectStaysAbsent, EachRequestHasAStep, StepsAgreeButForWant, AMomentIsToldOfAChangeAlone, TheAbsentStayAbsent, RunsAreMaximal, ListsHaveMaximalRuns, ListsHideAlike, NoListIsLeftOut, ClientsLeaveThePast, ClientsMoveTheFloorByTheWindow, AnAcceptedChangeKeepsTheLimits};
+ghost use Rattle.s4_model.specs.Laws.{ANewDriveIsSound, EveryStepKeepsSoundness, ExchangesKeepSoundness, NobodyWithAClientsRightsCanErase, AChangeActsAtItsMoment, TheClockNeverFalls, TheFloorNeverFalls, NoWindowLowersTheFloor, AnAcceptedMomentIsLater, AcceptedMomentsAscend, ThePresentClockIsVisible, AFlushHidesItsSpan, AFlushOfAnObjectHidesItsSpan, ACreateIsGivenTheNextNumber, ObjectNumbersAscend, ADeadObjectStaysAbsent, EachRequestHasAStep, StepsAgreeButForWant, AMomentIsToldOfAChangeAlone, TheAbsentStayAbsent, RunsAreMaximal, ListsHaveMaximalRuns, ListsHideAlike, NoListIsLeftOut, ClientsLeaveThePast, ClientsMoveTheFloorByTheWindow, AnAcceptedChangeKeepsTheLimits, ANewDriveKeepsTheRunLimits, EveryStepKeepsTheRunLimits, ExchangesKeepTheRunLimits};
 
 /// The state of a history goes on record by record: a moment seen moves clock and floor alone, an accepted
 /// change adds itself to the changes and moves the four numbers.
@@ -73,4 +73,12 @@ pub fn runs_are_the_maximal_ones()
     ensures lists { ListsHaveMaximalRuns }
     ensures alike { ListsHideAlike }
     ensures all { NoListIsLeftOut }
+{}
+
+/// A new drive has no runs of hidden moments, and no step leaves more of them than a list, or all lists
+/// together, may have: what is accepted adds none too many, and what falls below the floor only takes some away.
+pub fn runs_keep_their_limits()
+    ensures new { ANewDriveKeepsTheRunLimits }
+    ensures steps { EveryStepKeepsTheRunLimits }
+    ensures exchanges { ExchangesKeepTheRunLimits }
 {}

@@ -1,5 +1,5 @@
 -- Runs in order are as many as the model counts, in each list and in all.
-use Rattle.std.proofs.Common.{◌≡◌, inl, inr, ℕ, zero, suc, Bool, true, false, not, ◌==◌, ◌&&◌, ◌||◌, ◌+◌, ◌-◌, ◌<◌, ◌≤◌, nat_lt, nat_le, cond, max, List, [], ◌∷◌, count_by, refl, sym, ap, ◌∙◌, add-one, arith}
+use Rattle.std.proofs.Common.{◌≡◌, inl, inr, ℕ, zero, suc, Bool, true, false, not, ◌==◌, ◌&&◌, ◌||◌, ◌+◌, ◌-◌, ◌<◌, ◌≤◌, nat_lt, nat_le, cond, max, List, [], ◌∷◌, count_by, refl, sym, ap, ◌∙◌, arith}
 use Rattle.std.specs.List.{list_any, AllByRecursion}
 use Rattle.std.proofs.lemmas.List.Sums.{sum_by-cons}
 use Rattle.std.proofs.lemmas.Bool.{and_parts, and_from, and_cases, and_left, and_right, or_cases, le-leb, lt-leb, leb-true, leb-false, lt-ltb, le-ltb, eqb-true, eq-eqb, ne_eqb, cases_Bool, cases_order, cases_lt, cases_eq, both_ways, false_from_ne_true}
@@ -8,10 +8,13 @@ use Rattle.s4_types.specs.declared.spans.Span.{Span}
 use Rattle.s4_model.specs.Visible.{is_within}
 use Rattle.s4_model.specs.Runs.{is_covered, is_first, run_count, run_count_of_all}
 use Rattle.s4_model.specs.Sound.{IsOfGiven}
-use Rattle.s4_model.proofs.CountLemmas.{below, count_by-range}
-use Rattle.s4_model.proofs.RunLemmas.{run_count_of_all-step}
 use Rattle.window.specs.Runs.{covers, IsBeforeAll, Ascend, AllEndBy, is_live, is_live_in}
 use Rattle.window.proofs.Ordering.{before_parts}
+use Rattle.window.proofs.Ranges.{below, count_by-range, sum_by-range-more}
+
+-- the runs of one list more
+run_count_of_all-more : (floor clock k : ℕ) (spans : List Span) → run_count_of_all floor spans clock (suc k) ≡ run_count_of_all floor spans clock k + run_count (is_covered floor spans k) clock
+run_count_of_all-more floor clock k spans = sum_by-range-more (λ list. run_count (is_covered floor spans list) clock) k
 
 abbrev tally : Bool → ℕ
 tally b = cond b 1 0
@@ -260,10 +263,9 @@ all_below : (floor clock k : ℕ) (runs : List Span) → Ascend runs → AllEndB
 all_below floor clock zero runs h ends = sym (count_below_none floor runs)
 all_below floor clock (suc k) runs h ends =
     let before : run_count_of_all floor runs clock k ≡ count_by (is_live_below floor k) runs = all_below floor clock k runs h ends in
-    let step : run_count_of_all floor runs clock (k + 1) ≡ run_count_of_all floor runs clock k + run_count (is_covered floor runs k) clock = run_count_of_all-step floor clock k runs in
+    let step : run_count_of_all floor runs clock (suc k) ≡ run_count_of_all floor runs clock k + run_count (is_covered floor runs k) clock = run_count_of_all-more floor clock k runs in
     let here : run_count (is_covered floor runs k) clock ≡ count_by (is_live_in floor k) runs = count_live floor k clock runs h ends in
     let next : count_by (is_live_below floor (suc k)) runs ≡ count_by (is_live_below floor k) runs + count_by (is_live_in floor k) runs = count_next floor k runs in
-    let e : run_count_of_all floor runs clock (suc k) ≡ run_count_of_all floor runs clock (k + 1) = ap (λ n. run_count_of_all floor runs clock n) (sym (add-one k)) in
     omega arith
 
 -- so are those of all lists, where all are of lists below next
@@ -275,9 +277,7 @@ pub run_count_of_all-same : (floor clock k : ℕ) (xs ys : List Span) → ((list
 run_count_of_all-same floor clock zero xs ys same = refl
 run_count_of_all-same floor clock (suc k) xs ys same =
     let before : run_count_of_all floor xs clock k ≡ run_count_of_all floor ys clock k = run_count_of_all-same floor clock k xs ys same in
-    let a : run_count_of_all floor xs clock (k + 1) ≡ run_count_of_all floor xs clock k + run_count (is_covered floor xs k) clock = run_count_of_all-step floor clock k xs in
-    let b : run_count_of_all floor ys clock (k + 1) ≡ run_count_of_all floor ys clock k + run_count (is_covered floor ys k) clock = run_count_of_all-step floor clock k ys in
+    let a : run_count_of_all floor xs clock (suc k) ≡ run_count_of_all floor xs clock k + run_count (is_covered floor xs k) clock = run_count_of_all-more floor clock k xs in
+    let b : run_count_of_all floor ys clock (suc k) ≡ run_count_of_all floor ys clock k + run_count (is_covered floor ys k) clock = run_count_of_all-more floor clock k ys in
     let here : run_count (is_covered floor xs k) clock ≡ run_count (is_covered floor ys k) clock = run_count-same (is_covered floor xs k) (is_covered floor ys k) clock (λ t. same k t) in
-    let e : run_count_of_all floor xs clock (suc k) ≡ run_count_of_all floor xs clock (k + 1) = ap (λ n. run_count_of_all floor xs clock n) (sym (add-one k)) in
-    let f : run_count_of_all floor ys clock (suc k) ≡ run_count_of_all floor ys clock (k + 1) = ap (λ n. run_count_of_all floor ys clock n) (sym (add-one k)) in
     omega arith

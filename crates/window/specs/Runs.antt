@@ -1,6 +1,6 @@
 -- Runs of hidden moments in one list: each is a span, of all objects under number 0 or of one object.
-use Rattle.std.specs.Prelude.{◌≡◌, ℕ, Bool, true, ◌==◌, ◌&&◌, ◌||◌, ◌-◌, ◌≤◌, nat_le, nat_lt, min, max, if◌then◌else◌, List, [], ◌∷◌}
-use Rattle.std.specs.List.{AllByRecursion}
+use Rattle.std.specs.Prelude.{◌≡◌, ℕ, Bool, true, false, ◌==◌, ◌&&◌, ◌||◌, ◌-◌, ◌≤◌, nat_le, nat_lt, min, max, if◌then◌else◌, List, [], ◌∷◌}
+use Rattle.std.specs.List.{list_any, AllByRecursion}
 use Rattle.s4_types.specs.declared.spans.Span.{Span}
 use Rattle.s4_model.specs.Visible.{is_within}
 
@@ -42,3 +42,24 @@ is_live floor run = nat_le floor run.last
 -- a run of this list does
 abbrev pub is_live_in : ℕ → ℕ → Span → Bool
 is_live_in floor list run = run.object == list && nat_le floor run.last
+
+-- whether a run is of this list
+abbrev pub is_of : ℕ → Span → Bool
+is_of list run = run.object == list
+
+-- whether some of these runs, of whatever list, has the moment in it
+abbrev pub cover : List Span → ℕ → Bool
+cover runs t = list_any (λ run. is_within run t) runs
+
+-- no run begins after one that follows
+abbrev pub BeginInOrder : List Span → Type 0
+BeginInOrder [] = Unit {0}
+BeginInOrder (x ∷ runs) = AllByRecursion (λ y. x.first ≤ y.first) runs × BeginInOrder runs
+
+-- some moment from one to another is in no run of two lists
+pub record IsLeft (all own : List Span) (from to : ℕ) : Type 0 where
+  pub moment : ℕ
+  pub begun : from ≤ moment
+  pub ended : moment ≤ to
+  pub not_in_all : cover all moment ≡ false
+  pub not_in_own : cover own moment ≡ false

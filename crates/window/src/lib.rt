@@ -3,7 +3,7 @@
 //!
 //! The layer above may rely on this: where a [`Window`] stands for the state of a history, it stands after
 //! each call for that state with the call's record; a span is refused exactly where the model refuses it;
-//! and `visible` answers exactly what can be read. A span is hidden in two calls, so that all that
+//! and `visible` and `sees` answer exactly what can be read. A span is hidden in two calls, so that all that
 //! may be refused comes before anything changes: `plan_flush` judges and takes the memory, `flush` can't fail.
 //! Nothing here says which objects there are, who may ask, or how long a call takes.
 #![tactic(auto)]

@@ -1,8 +1,8 @@
 //! Runs of hidden moments in order, of all lists in one slice.
-ghost use Rattle.std.specs.Prelude.{◌≡◌, ℕ, ◌==◌, ◌≤◌, ◌||◌, nat_lt, count_by, filter, IfOk, IfErr};
+ghost use Rattle.std.specs.Prelude.{◌≡◌, ℕ, ◌==◌, ◌≤◌, ◌||◌, nat_le, nat_lt, count_by, false, ◌∷◌, filter, IfOk, IfErr, MatchBool, MatchOption};
 ghost use Rattle.std.specs.List.{list_any};
 ghost use Rattle.s4_model.specs.Visible.{is_within};
-ghost use Rattle.window.specs.Runs.{is_before, joined, with_span, is_live, is_live_in, covers};
+ghost use Rattle.window.specs.Runs.{is_before, Ascend, joined, with_span, is_live, is_live_in, is_of, covers, cover, BeginInOrder, IsLeft};
 ghost use Rattle.s4_types.specs.declared.limits.TheConstants.{RUNS_IN_A_LIST, RUNS_IN_ALL};
 ghost use Rattle.s4_types.specs.declared.refusals.Refusal.TheVariants.{NoMemory};
 
@@ -98,10 +98,82 @@ fn is_within(run: &Span, at: Moment) -> bool
     run.first <= at && at <= run.last
 }
 
-/// Whether a run of the list has the moment in it.
+/// The runs from those of a list on. Logarithmic in the runs.
+fn from_list(runs: &[Span], list: ObjectId) -> &[Span]
+    requires { Ascend runs.now }
+    ensures { result.now ≡ filter (λ run. nat_le list run.object) runs.now }
+{
+    let before = runs.partition_point(|run| run.object < list);
+    &runs[before..]
+}
+
+/// The runs up to those of a list. Logarithmic in the runs.
+fn up_to_list(runs: &[Span], list: ObjectId) -> &[Span]
+    requires { Ascend runs.now }
+    ensures { result.now ≡ filter (λ run. nat_le run.object list) runs.now }
+{
+    let count = runs.partition_point(|run| run.object <= list);
+    &runs[..count]
+}
+
+/// The runs of one list, which stand together. Logarithmic in the runs.
+pub fn of_list(runs: &[Span], list: ObjectId) -> &[Span]
+    requires { Ascend runs.now }
+    ensures { result.now ≡ filter (is_of list) runs.now }
+{
+    up_to_list(from_list(runs, list), list)
+}
+
+/// Whether one of these runs, of whatever list, has the moment in it.
+fn cover(runs: &[Span], at: Moment) -> bool
+    ensures { result ≡ cover runs.now at }
+{
+    runs.iter().any(|run| is_within(run, at))
+}
+
+/// Whether a run of the list has the moment in it. Logarithmic in all runs, then linear in those of the list.
 pub fn covers(runs: &[Span], list: ObjectId, at: Moment) -> bool
+    requires { Ascend runs.now }
     ensures { result ≡ list_any (covers list at) runs.now }
 {
-    runs.iter()
-        .any(|run| run.object == list && is_within(run, at))
+    cover(of_list(runs, list), at)
+}
+
+/// The first of these runs and the others, if it begins by a moment. If not, no run has that moment in it.
+fn begun(runs: &[Span], at: Moment) -> Option<(&Span, &[Span])>
+    requires { BeginInOrder runs.now }
+    ensures { MatchOption result (cover runs.now at ≡ false) (λ p. (runs.now ≡ p.0.now ∷ p.1.now) × (p.0.now.first ≤ at)) }
+{
+    let (run, rest) = runs.split_first()?;
+    if run.first.number() <= at.number() {
+        Some((run, rest))
+    } else {
+        None
+    }
+}
+
+/// Whether some moment from one to another is in no run of two lists. Goes through both once, side by side.
+pub fn is_any_left(all: &[Span], own: &[Span], from: Moment, to: Moment) -> bool
+    requires ordered { from ≤ to }
+    requires of_all { BeginInOrder all.now }
+    requires of_one { BeginInOrder own.now }
+    ensures { MatchBool result (IsLeft all.now own.now from to) (IsLeft all.now own.now from to → ⊥) }
+{
+    let (mut all_left, mut own_left, mut at) = (all, own, from);
+    loop {
+        let run = if let Some((run, rest)) = begun(all_left, at) {
+            all_left = rest;
+            run
+        } else if let Some((run, rest)) = begun(own_left, at) {
+            own_left = rest;
+            run
+        } else {
+            return true;
+        };
+        let last = run.last.number();
+        if to.number() <= last {
+            return false;
+        }
+        at = Moment::new(at.number().max(last + 1));
+    }
 }

@@ -1,11 +1,11 @@
-ghost use Rattle.std.specs.Prelude.{◌≡◌, ◌⊎◌, ℕ, true, false, ◌+◌, ◌-◌, ◌<◌, ◌≤◌, max, Some, MatchResult, IfOk};
+ghost use Rattle.std.specs.Prelude.{◌≡◌, ◌⊎◌, ℕ, true, false, ◌+◌, ◌-◌, ◌<◌, ◌≤◌, max, Some, MatchBool, MatchResult, IfOk};
 ghost use Rattle.s4_types.specs.declared.changes.Accepted.{Accepted};
 ghost use Rattle.s4_types.specs.declared.changes.Change.TheVariants.{SetWindow};
 ghost use Rattle.s4_types.specs.declared.requests.Request.TheVariants.{Flush, FlushO};
 ghost use Rattle.s4_types.specs.declared.refusals.Refusal.TheVariants.{NoMemory, BadSpan, TooManySpans};
 ghost use Rattle.s4_model.specs.State.{State, state_of, new_history, seen, took};
 ghost use Rattle.s4_model.specs.Refusals.{last_number, is_bad_span, is_one_span_too_many, moment_refusal};
-ghost use Rattle.s4_model.specs.Visible.{span_of, IsVisible, is_hidden};
+ghost use Rattle.s4_model.specs.Visible.{span_of, IsVisible, IsSeenBetween, is_hidden};
 ghost use Rattle.window.specs.Timeline.{StandsFor, IsPlanned, is_of_versions};
 
 use crate::runs;
@@ -175,6 +175,23 @@ impl Window {
             return Err(Refusal::Flushed);
         }
         Ok(())
+    }
+
+    /// Whether some moment of an object, of those from `first` to `last`, can be read. Logarithmic in all runs,
+    /// and then linear in those of the list of all objects and of the object's own.
+    pub fn sees(&self, object: ObjectId, first: Moment, last: Moment) -> bool
+        ensures { (s : State) → StandsFor self.now s → MatchBool result (IsSeenBetween s object first last) (IsSeenBetween s object first last → ⊥) }
+    {
+        let from = Moment::new(first.number().max(self.floor.number()));
+        let to = Moment::new(last.number().min(self.clock.number()));
+        if to < from {
+            return false;
+        }
+        let runs = self.runs.as_slice();
+        let list_of_all = ObjectId::new(0);
+        let all = runs::of_list(runs, list_of_all);
+        let own = runs::of_list(runs, object);
+        runs::is_any_left(all, own, from, to)
     }
 
     /// Whether the list of all objects or the object's own covers a moment.
