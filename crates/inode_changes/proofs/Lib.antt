@@ -1,0 +1,13 @@
+pub mod Listing
+pub mod Bytes
+pub mod Standing
+pub mod Growing
+pub mod Frames
+pub mod Touching
+pub mod Placing
+pub mod Stepping
+pub mod Following
+pub mod Writes
+pub mod Truncates
+pub mod ReadBytes
+pub mod Joining

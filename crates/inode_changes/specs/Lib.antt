@@ -1,0 +1,6 @@
+pub mod Contents
+pub mod Tidiness
+pub mod Growth
+pub mod Touched
+pub mod Changed
+pub mod Laws

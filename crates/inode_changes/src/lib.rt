@@ -1,0 +1,25 @@
+//! What an inode means over the blocks that its pointers lead to, and what each change of an object makes of it.
+//!
+//! The layers above may rely on this: an inode stands for a version, its bytes are those of its blocks joined by index,
+//! and each change here gives the inode that stands for what the change makes of that version. A write and a truncation
+//! append the data blocks that they need, in places where no block was, and leave all blocks that are held. An inode is
+//! changed by replacing pointers, never a whole list. What a change means for a version stands in `s4_model`; which
+//! entries lead from one inode to the next, and whether there is room, is told elsewhere.
+#![tactic(auto)]
+
+mod appending;
+mod counts;
+pub mod laws;
+mod loading;
+mod reading;
+mod status;
+#[cfg(test)]
+mod tests;
+mod truncating;
+mod writing;
+
+pub use counts::{blocks_of_truncate, blocks_of_write};
+pub use reading::read;
+pub use status::{created, deleted, with_attribute};
+pub use truncating::truncate;
+pub use writing::write;
