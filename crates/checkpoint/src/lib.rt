@@ -6,3 +6,6 @@
 mod calls;
 
 pub use calls::{read_checkpoint, write_checkpoint};
+
+#[cfg(test)]
+mod tests;

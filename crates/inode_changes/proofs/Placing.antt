@@ -1,5 +1,5 @@
 -- The bytes of a write in a block, and in an object.
-use Rattle.std.proofs.Common.{◌≡◌, ℕ, ◌+◌, ◌-◌, ◌*◌, ◌<◌, ◌≤◌, min, max, ◌&&◌, cond, nat_le, nat_lt, List, [], ◌∷◌, ◌++◌, length, get_or, take, drop, replicate, inl, inr, refl, ap, sym, ◌∙◌, arith}
+use Rattle.std.proofs.Common.{◌≡◌, ℕ, ◌+◌, ◌-◌, ◌*◌, ◌<◌, ◌≤◌, min, max, ◌&&◌, true, cond, nat_le, nat_lt, List, [], ◌∷◌, ◌++◌, length, get_or, take, drop, replicate, inl, inr, refl, ap, sym, ◌∙◌, arith}
 use Rattle.std.proofs.lemmas.Bool.{cases_lt, and_from, and_left, and_right, le-leb, lt-ltb, lt-leb, le-ltb, cond-true, cond-false}
 use Rattle.std.proofs.lemmas.List.{get_or_append_left, get_or-append_right, get_or-take, get_or-drop, get_or-replicate, get_or_past, length-append, length-take, length-drop, length-replicate}
 use Rattle.s4_types.specs.Pointer.{Place}
@@ -33,6 +33,19 @@ unfolding byte_written
 placed_block contents i k offset bytes was now e len each =
     listed-is (byte_written contents i offset bytes) (512 * k) 512 now len
     (λ n lt. each n lt ∙ ap (λ b. cond (nat_le offset (512 * k + n) && nat_lt (512 * k + n) (offset + length bytes)) (get_or bytes (512 * k + n - offset) 0) b) (ap (λ l. get_or l n 0) e ∙ listed-at (byte_of contents i) (512 * k) 512 n (512 * k + n) 0 lt refl))
+
+-- a block that the write covers whole has its bytes alone
+pub covered_block : (contents : Place → List ℕ) (i : Inode) (k offset : ℕ) (bytes was now : List ℕ) → offset ≤ 512 * k → 512 * k + 512 ≤ offset + length bytes → length now ≡ 512
+    → ((n : ℕ) → n < 512 → get_or now n 0 ≡ cond (nat_le offset (512 * k + n) && nat_lt (512 * k + n) (offset + length bytes)) (get_or bytes (512 * k + n - offset) 0) (get_or was n 0))
+    → now ≡ block_of (byte_written contents i offset bytes) k
+unfolding byte_written
+covered_block contents i k offset bytes was now low high len each =
+    listed-is (byte_written contents i offset bytes) (512 * k) 512 now len
+    (λ n lt.
+    let inside : (nat_le offset (512 * k + n) && nat_lt (512 * k + n) (offset + length bytes)) ≡ true = and_from (nat_le offset (512 * k + n)) (nat_lt (512 * k + n) (offset + length bytes)) (le-leb offset (512 * k + n) (omega arith)) (lt-ltb (512 * k + n) (offset + length bytes) (omega arith)) in
+    each n lt
+    ∙ cond-true (nat_le offset (512 * k + n) && nat_lt (512 * k + n) (offset + length bytes)) (get_or bytes (512 * k + n - offset) 0) (get_or was n 0) inside
+    ∙ sym (cond-true (nat_le offset (512 * k + n) && nat_lt (512 * k + n) (offset + length bytes)) (get_or bytes (512 * k + n - offset) 0) (byte_of contents i (512 * k + n)) inside))
 
 pub resized-length : (size : ℕ) (xs : List ℕ) → length (resized size xs) ≡ size
 resized-length size xs =

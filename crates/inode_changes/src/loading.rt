@@ -10,7 +10,7 @@ use s4_types::Ptr;
 use s4_types::limits::BLOCK_BYTES;
 
 #[tactic(auto, unfolding(crate::specs::Contents::zeros))]
-fn blank() -> Block
+pub(crate) fn blank() -> Block
     ensures { result ≡ zeros 512 }
 {
     [0; BLOCK_BYTES]

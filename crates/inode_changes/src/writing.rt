@@ -10,7 +10,7 @@ ghost use Rattle.inode_changes.specs.Changed.{byte_written, block_of, blocks_wri
 
 use crate::appending::append_data;
 use crate::counts::blocks_of_write;
-use crate::loading::load;
+use crate::loading::{blank, load};
 use blocks::{Block, Blocks};
 use codec::Inode;
 use s4_types::limits::BLOCK_BYTES;
@@ -33,7 +33,7 @@ fn place(block: &mut Block, index: usize, offset: usize, bytes: &[u8])
 }
 
 /// Appends the block of an index as a write leaves it: the bytes of the write that stand in it, and what was there.
-#[tactic(auto, using(crate::proofs::Placing::placed_block))]
+#[tactic(auto, using(crate::proofs::Placing::placed_block, crate::proofs::Placing::covered_block))]
 fn write_block<B: Blocks>(
     table: &mut B,
     object: ObjectId,
@@ -54,6 +54,12 @@ fn write_block<B: Blocks>(
     ensures place { slice_get (B.log table.old).ahead 0 ≡ Some result }
     ensures fresh { (B.log table.old).held result ≡ None }
 {
+    let start = index * BLOCK_BYTES;
+    if offset <= start && start + BLOCK_BYTES <= offset + bytes.len() {
+        let mut block = blank();
+        place(&mut block, index, offset, bytes);
+        return append_data(table, object, &block);
+    }
     let mut block = load(table, inode, index);
     place(&mut block, index, offset, bytes);
     append_data(table, object, &block)

@@ -1,32 +1,43 @@
 -- What `pipe` does: a session of a new drive.
-use Rattle.std.specs.Prelude.{◌≡◌, ℕ, List, [], Option}
-use Rattle.s4_types.specs.History.{History}
+use Rattle.std.specs.Prelude.{◌≡◌, ℕ, List, [], Option, None}
 use Rattle.s4_types.specs.declared.requests.Request.{Request}
 use Rattle.s4_types.specs.declared.replies.Reply.{Reply}
-use Rattle.s4_model.specs.State.{state_of, new_history}
-use Rattle.s4_model.specs.Step.{Step}
+use Rattle.s4_model.specs.State.{new_history}
+use Rattle.s4_model.specs.Step.{Step, judged}
+use Rattle.segment_table.specs.Room.{log_of, new_places}
+use Rattle.drive.specs.Fields.{DriveFields, SessionFields, history_of, state_in, store_of}
+use Rattle.drive.specs.Refusing.{refusal_of, RefusesBy}
+use Rattle.drive.specs.Answering.{Leaves, told_after}
 use Rattle.server.specs.Drawing.{Ticks}
 use Rattle.server.specs.Session.{Serves}
 use Rattle.server.specs.declared.clock.Ticking.{Ticking}
 use Rattle.server.specs.declared.ends.ServeEnd.{ServeEnd}
 use Rattle.s4d_command.specs.declared.Pipe.{Pipe}
-use Rattle.s4d.specs.declared.piping.PlainSession.{PlainSession}
 
--- The request is answered by a step of the model, from whichever history the drive stands for, and the
--- session keeps its role.
-pub record Steps (old : PlainSession) (request : Request) (now : ℕ) (reply : Reply) (new : PlainSession) : Type 0 where
-  pub step : (h : History) → state_of h ≡ old.drive → (after : History) × Step h old.role request now reply after × (state_of after ≡ new.drive)
-  pub role : new.role ≡ old.role
+-- a session with a drive of its own
+pub record Attended : Type 0 where
+  pub drive : DriveFields
+  pub session : SessionFields
+
+-- The request is answered by a step of the model on the drive's history. The reply is a refusal exactly where the checks, a
+-- full chain or want of room refuse it, but for want of memory; an accepted change appends exactly its blocks. The session
+-- keeps its role, and was told of all accepted changes.
+pub record Steps (old : Attended) (request : Request) (now : ℕ) (reply : Reply) (new : Attended) : Type 0 where
+  pub step : Step (history_of old.drive) old.session.role request now reply (history_of new.drive)
+  pub refused : RefusesBy (refusal_of (store_of old.drive) (judged (history_of old.drive) request now) old.session.role request now) reply
+  pub stored : Leaves (store_of old.drive) (state_in old.drive) request now reply (store_of new.drive)
+  pub session : new.session ≡ record old.session { told = told_after reply new.drive.ledger old.session.told }
 
 -- One session of a new drive, with a clock that starts at 0, reads the input and writes the output, and comes to
 -- the end.
 pub record Pipes (pipe : Pipe) (end : ServeEnd) (input output input' output' : Option (List ℕ)) : Type 0 where
-  pub old : PlainSession
-  pub drive : old.drive ≡ state_of (new_history pipe.window)
-  pub role : old.role ≡ pipe.role
+  pub old : Attended
+  pub history : history_of old.drive ≡ new_history pipe.window
+  pub log : log_of old.drive.store.table ≡ record { held = λ p. None; ahead = new_places pipe.frames }
+  pub role : old.session.role ≡ pipe.role
   pub before : Ticking
   pub start : before.present ≡ 0
   pub tick : before.tick ≡ pipe.tick
-  pub new : PlainSession
+  pub new : Attended
   pub after : Ticking
   pub session : Serves Steps Ticks [] end old before input output new after input' output'

@@ -46,8 +46,9 @@ pub fn perform<S: AsStr, R: Source, W: Sink, E: Write>(
 {
     match command_of(alloc, words) {
         Ok(Command::Pipe(pipe)) => match serve_pipe(alloc, pipe, reader, writer) {
-            ServeEnd::Ended => DONE,
-            end => fail(errors, end),
+            Ok(ServeEnd::Ended) => DONE,
+            Ok(end) => fail(errors, end),
+            Err(refusal) => fail(errors, refusal),
         },
         Err(CommandError::NoMemory) => fail(errors, CommandError::NoMemory),
         Err(CommandError::Usage) => refuse(errors),

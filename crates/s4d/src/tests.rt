@@ -6,6 +6,7 @@ mod hex_text;
 mod lines;
 mod memory;
 mod pipes;
+mod plain;
 mod rows;
 
 use crate::performing::perform;

@@ -1,18 +1,18 @@
 -- Which places the next appends take, after one frame has changed.
-use Rattle.std.proofs.Common.{◌≡◌, ◌≢◌, inl, inr, ℕ, zero, suc, ◌+◌, ◌-◌, ◌*◌, ◌^◌, ◌<◌, ◌≤◌, Bool, true, false, ◌&&◌, nat_lt, if◌then◌else◌, List, [], ◌∷◌, ◌++◌, length, reverse, set, get_or, refl, sym, ap, subst, ◌∙◌, append_assoc, append-nil, length-append, arith}
+use Rattle.std.proofs.Common.{◌≡◌, ℕ, zero, suc, ◌+◌, ◌-◌, ◌*◌, ◌^◌, ◌<◌, ◌≤◌, Bool, true, false, ◌&&◌, nat_lt, if◌then◌else◌, List, [], ◌∷◌, ◌++◌, length, reverse, refl, sym, ap, subst, ◌∙◌, append-nil, length-append, arith}
 use Rattle.std.specs.List.{flat_map}
 use Rattle.std.proofs.lemmas.List.{get_or-set_same, reverse-reverse, reverse-append, length-reverse}
 use Rattle.std.proofs.lemmas.Bool.{and_parts, ltb-true}
 use Rattle.s4_types.specs.Pointer.{Place}
-use Rattle.segment_word.specs.Frames.{Phase, Free, Open, Sealed, Emptied, Frame, no_frame}
+use Rattle.segment_word.specs.Frames.{Phase, Free, Open, Sealed, Emptied, Frame}
 use Rattle.segment_word.specs.Layout.{frame_at}
-use Rattle.segment_word.specs.Handles.{Drive, with_changed}
+use Rattle.segment_word.specs.Handles.{Drive}
 use Rattle.segment_table.specs.declared.slots.Slot.{Slot}
 use Rattle.segment_table.specs.Table.{Table, slots_at}
 use Rattle.segment_table.specs.Room.{is_free, is_open, is_filling, can_open, numbers, places, rest_of, whole_of, places_ahead}
-use Rattle.segment_table.specs.Changes.{IsAlone, KeepsGeneration, IsFilling, NoneIsFilling, IsPut, with_slot}
-use Rattle.segment_table.proofs.Alone.{generation_alone, numbers_alone, put_here}
-use Rattle.segment_table.proofs.Numbers.{numbers_first, numbers_lost, numbers_gained}
+use Rattle.segment_table.specs.Changes.{IsAlone, KeepsGeneration, IsFilling, NoneIsFilling, IsPut}
+use Rattle.segment_table.proofs.Alone.{generation_alone, numbers_alone}
+use Rattle.segment_table.proofs.Numbers.{numbers_first}
 
 pub open_phase : (p : Phase) → is_open p ≡ true → p ≡ Open
 open_phase Free e = absurd (cc)
@@ -183,3 +183,21 @@ numbers_few test n [] = omega arith
 numbers_few test n (k ∷ ks) =
     let rest : length (numbers test (n + 1) ks) ≤ length ks = numbers_few test (n + 1) ks in
     elim (test k) as (λ (b : Bool). length (if b then n ∷ numbers test (n + 1) ks else numbers test (n + 1) ks) ≤ suc (length ks)) [ true ↦ omega arith | false ↦ omega arith ]
+
+-- no frame is both open and one that can be opened, so together they are no more than there are
+apart : (p : Phase) (b : Bool) → (is_open p && (is_free p && b)) ≡ false
+apart Free b = refl
+apart Open b = refl
+apart Sealed b = refl
+apart Emptied b = refl
+
+one_of_two : (filling vacant : Bool) (xs ys : List ℕ) (n m : ℕ) → (filling && vacant) ≡ false → length xs + length ys ≤ m → length (if filling then n ∷ xs else xs) + length (if vacant then n ∷ ys else ys) ≤ suc m
+one_of_two true true xs ys n m h le = absurd (cc)
+one_of_two true false xs ys n m h le = omega (arith, le)
+one_of_two false true xs ys n m h le = omega (arith, le)
+one_of_two false false xs ys n m h le = omega (arith, le)
+
+pub numbers_apart : (n : ℕ) (ks : List Frame) → length (numbers is_filling n ks) + length (numbers can_open n ks) ≤ length ks
+numbers_apart n [] = omega arith
+numbers_apart n (k ∷ ks) =
+    one_of_two (is_filling k) (can_open k) (numbers is_filling (n + 1) ks) (numbers can_open (n + 1) ks) n (length ks) (apart k.phase (nat_lt (k.generation + 1) (2 ^ 32))) (numbers_apart (n + 1) ks)

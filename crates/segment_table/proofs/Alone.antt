@@ -1,5 +1,5 @@
 -- One frame of a drive changes, and again.
-use Rattle.std.proofs.Common.{◌≡◌, ◌≢◌, inl, inr, ℕ, ◌<◌, Bool, List, length, sym, ap, subst, ◌∙◌, set, set-set}
+use Rattle.std.proofs.Common.{◌≡◌, ◌≢◌, inl, inr, ℕ, ◌<◌, Bool, List, length, sym, ap, subst, ◌∙◌, set-set}
 use Rattle.std.proofs.lemmas.List.{get_or-set_same, get_or-set_other, set-get_or, length-set}
 use Rattle.std.proofs.lemmas.Bool.{cases_eq}
 use Rattle.segment_word.specs.Frames.{Frame, no_frame}

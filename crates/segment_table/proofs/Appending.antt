@@ -1,17 +1,16 @@
 -- An append: the frame is ready, the block is put, and a full frame is sealed.
-use Rattle.std.proofs.Common.{◌≡◌, ◌≢◌, inl, inr, ◌⊎◌, ℕ, ◌+◌, ◌-◌, ◌<◌, ◌≤◌, Bool, true, false, List, [], ◌∷◌, ◌++◌, length, set, get_or, refl, sym, ap, subst, ◌∙◌, length-append, arith}
+use Rattle.std.proofs.Common.{◌≡◌, inl, inr, ℕ, ◌+◌, ◌<◌, ◌≤◌, true, List, [], ◌∷◌, ◌++◌, length, sym, ap, subst, ◌∙◌, length-append, arith}
 use Rattle.std.proofs.lemmas.List.{get_or-set_same}
 use Rattle.std.proofs.lemmas.Bool.{cases_lt}
 use Rattle.s4_types.specs.Pointer.{Place}
 use Rattle.codec.specs.declared.summaries.Part.{Part}
-use Rattle.segment_word.specs.Frames.{Open, Sealed, Frame}
+use Rattle.segment_word.specs.Frames.{Open}
 use Rattle.segment_word.specs.Layout.{frame_at, block_bytes}
-use Rattle.segment_word.specs.Handles.{Drive}
 use Rattle.segment_table.specs.declared.slots.Slot.{Slot}
 use Rattle.segment_table.specs.Table.{Table, slots_at}
-use Rattle.segment_table.specs.Room.{is_open, is_filling, numbers}
+use Rattle.segment_table.specs.Room.{is_open, is_filling}
 use Rattle.segment_table.specs.Sealing.{IsSummed, IsPartFilled}
-use Rattle.segment_table.specs.Changes.{IsAlone, KeepsGeneration, KeepsBlock, IsFilling, NoneIsFilling, IsReady, IsPut, IsSealed, IsSealedIn, IsAppended, with_slot}
+use Rattle.segment_table.specs.Changes.{IsAlone, KeepsGeneration, KeepsBlock, IsFilling, NoneIsFilling, IsReady, IsPut, IsSealedIn, IsAppended, with_slot}
 use Rattle.segment_table.proofs.Alone.{alone_then}
 use Rattle.segment_table.proofs.Numbers.{numbers_none, numbers_one}
 use Rattle.segment_table.proofs.Ahead.{filling_at}

@@ -1,14 +1,13 @@
 -- Zeros are stored in a frame's blocks one by one, and its blocks are read one by one.
-use Rattle.std.proofs.Common.{◌≡◌, ◌≢◌, inl, inr, ℕ, zero, suc, ◌+◌, ◌<◌, ◌≤◌, List, [], ◌∷◌, ◌++◌, length, take, set, replicate, refl, sym, ap, subst, ◌∙◌, add-one, arith}
+use Rattle.std.proofs.Common.{◌≡◌, ◌≢◌, inl, inr, ℕ, zero, suc, ◌+◌, ◌<◌, ◌≤◌, List, [], ◌∷◌, ◌++◌, length, take, set, replicate, refl, sym, ap, ◌∙◌, add-one, arith}
 use Rattle.std.proofs.lemmas.List.{take_more_set}
 use Rattle.std.proofs.lemmas.Bool.{cases_eq}
 use Rattle.codec.specs.Fields.{zeros}
-use Rattle.codec.specs.Summary.{IsBlank}
 use Rattle.segment_word.specs.Frames.{Frame}
 use Rattle.segment_word.specs.Layout.{frame_at, block_bytes, with_block}
 use Rattle.segment_word.specs.Handles.{Drive, with_changed}
 use Rattle.segment_table.specs.Sealing.{blocks_from}
-use Rattle.segment_table.specs.Changes.{IsAlone, KeepsBlock, IsCleared}
+use Rattle.segment_table.specs.Changes.{KeepsBlock, IsCleared}
 use Rattle.segment_table.proofs.Alone.{put_here, unchanged, alone, alone_then, length-alone}
 
 pub cleared_none : (f first end : ℕ) (d : Drive) → first ≡ end → IsCleared f first end d d

@@ -1,8 +1,8 @@
 -- The numbers of the frames that pass a test, after one frame has changed.
-use Rattle.std.proofs.Common.{◌≡◌, inl, inr, ℕ, zero, suc, ◌+◌, ◌-◌, ◌<◌, ◌≤◌, Bool, true, false, cond, if◌then◌else◌, List, [], ◌∷◌, length, set, get_or, replicate, refl, sym, ap, subst, ◌∙◌, add-one, arith}
+use Rattle.std.proofs.Common.{◌≡◌, inl, inr, ℕ, zero, suc, ◌+◌, ◌<◌, Bool, true, false, if◌then◌else◌, List, [], ◌∷◌, length, set, replicate, refl, sym, ap, ◌∙◌, arith}
 use Rattle.std.specs.List.{range_with_len}
-use Rattle.std.proofs.lemmas.Bool.{cases_Bool, true≢false, false≢true}
-use Rattle.segment_word.specs.Frames.{Frame, no_frame}
+use Rattle.std.proofs.lemmas.Bool.{cases_Bool}
+use Rattle.segment_word.specs.Frames.{Frame}
 use Rattle.segment_word.specs.Layout.{frame_at}
 use Rattle.segment_table.specs.Room.{numbers}
 

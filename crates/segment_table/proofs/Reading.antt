@@ -1,15 +1,14 @@
 -- What is known of a block that is held, of the open frame, and of a new table.
-use Rattle.std.proofs.Common.{◌≡◌, ◌≢◌, inl, inr, ◌⊎◌, ℕ, zero, suc, ◌+◌, ◌-◌, ◌*◌, ◌^◌, ◌<◌, ◌≤◌, Bool, true, false, ◌==◌, if◌then◌else◌, List, [], ◌∷◌, ◌++◌, length, reverse, set, get_or, slice_get, replicate, Option, Some, None, IsSome, MatchBool, option_map, refl, sym, ap, subst, ◌∙◌, arith}
+use Rattle.std.proofs.Common.{◌≡◌, ◌≢◌, inl, inr, ◌⊎◌, ℕ, zero, suc, ◌+◌, ◌-◌, ◌<◌, ◌≤◌, Bool, true, false, ◌==◌, if◌then◌else◌, List, [], ◌∷◌, ◌++◌, length, map, set, get_or, slice_get, replicate, Option, Some, None, IsSome, MatchBool, option_map, refl, sym, ap, subst, ◌∙◌, arith}
 use Rattle.std.specs.List.{AllByRecursion, flat_map, range_with_len}
 use Rattle.std.specs.Option.{option_to_list}
 use Rattle.std.proofs.lemmas.List.{get_or_past, get_or_read, get_or-replicate, length-reverse, length-replicate}
 use Rattle.std.proofs.lemmas.Bool.{cases_Bool, cases_lt, cases_eq, eqb-true, eq-eqb, ne_eqb}
 use Rattle.s4_types.specs.Pointer.{Place}
-use Rattle.blocks.specs.Log.{Log, Stored, dropped}
-use Rattle.codec.specs.declared.summaries.Part.{Part}
+use Rattle.blocks.specs.Log.{dropped}
 use Rattle.segment_word.specs.Frames.{Phase, Free, Open, Sealed, Emptied, Frame, no_frame}
 use Rattle.segment_word.specs.Layout.{frame_at, block_bytes}
-use Rattle.segment_word.specs.Handles.{Drive, fresh_frame}
+use Rattle.segment_word.specs.Handles.{fresh_frame}
 use Rattle.segment_table.specs.declared.slots.Slot.{Slot}
 use Rattle.segment_table.specs.Slots.{no_slot, let_go, held_part}
 use Rattle.segment_table.specs.Table.{Table, slots_at, slot_of, stored, held_in, held_at, part_of}
@@ -18,7 +17,7 @@ use Rattle.segment_table.specs.Sealing.{IsLetGo, IsSound}
 use Rattle.segment_table.specs.Changes.{IsFilling, NoneIsFilling}
 use Rattle.segment_table.proofs.Numbers.{numbers_none, numbers_one, numbers_all, numbers_nil}
 use Rattle.segment_table.proofs.Ahead.{filling_at, numbers_few}
-use Rattle.segment_table.proofs.Sound.{sound_gone}
+use Rattle.segment_table.proofs.Sound.{parts_gone, sound_gone}
 use Rattle.segment_table.proofs.Steps.{log_gone}
 
 -- a held block is used, at its frame's generation
@@ -119,11 +118,13 @@ free_few t free current sound =
 pub gone_made : (old new t : Table) (free : List ℕ) (current : Option ℕ) (p : Place) (f b : ℕ) (lent after : List Slot) → old ≡ t → f ≡ p.frame → b ≡ p.block → 1 ≤ p.block → IsSound old free current
     → p.frame < length t.drive.frames → (frame_at t.drive.frames p.frame).generation ≡ p.generation
     → lent ≡ get_or old.slots f lent → after ≡ let_go lent (b - 1) → new.drive ≡ old.drive → new.slots ≡ set old.slots f after
-    → IsSound new free current × (log_of new ≡ dropped (log_of t) p)
+    → IsSound new free current × ((log_of new ≡ dropped (log_of t) p) × ((g : ℕ) → map (λ (x : Slot). x.part) (slots_at new.slots g) ≡ map (λ (x : Slot). x.part) (slots_at t.slots g)))
 gone_made old new t free current p f b lent after same at_frame at_block low sound inside own is_lent is_after drive slots =
     let I : Table → Type 0 = λ x. p.frame < length x.drive.frames in
     let G : Table → Type 0 = λ x. (frame_at x.drive.frames p.frame).generation ≡ p.generation in
     let L : Table → Type 0 = λ x. log_of new ≡ dropped (log_of x) p in
+    let P : Table → Type 0 = λ x. (g : ℕ) → map (λ (x : Slot). x.part) (slots_at new.slots g) ≡ map (λ (x : Slot). x.part) (slots_at x.slots g) in
+    let S : List (List Slot) → Type 0 = λ l. (g : ℕ) → map (λ (x : Slot). x.part) (slots_at l g) ≡ map (λ (x : Slot). x.part) (slots_at old.slots g) in
     let F : ℕ → Type 0 = λ n. lent ≡ get_or old.slots n lent in
     let within : I old = subst I (sym same) inside in
     let here : p.frame < length old.slots = omega (arith, sound.counted) in
@@ -132,7 +133,7 @@ gone_made old new t free current p f b lent after same at_frame at_block low sou
     slots ∙ ap (λ (n : ℕ). set old.slots n after) at_frame
     ∙ ap (λ (l : List Slot). set old.slots p.frame l) (is_after ∙ ap (λ (l : List Slot). let_go l (b - 1)) read ∙ ap (λ (n : ℕ). let_go (slots_at old.slots p.frame) (n - 1)) at_block) in (
       sound_gone old new free current p.frame (p.block - 1) sound here drive made,
-      subst L same (log_gone old new p here low (subst G (sym same) own) drive made),
+      (subst L same (log_gone old new p here low (subst G (sym same) own) drive made), subst P same (subst S (sym made) (λ g. parts_gone old.slots p.frame (p.block - 1) g here))),
     )
 
 part_stored : (s : List Slot) (i : ℕ) (bytes : List ℕ) → held_part (slice_get s i) ≡ option_map part_of (stored (get_or s i no_slot) bytes)

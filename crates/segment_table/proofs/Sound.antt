@@ -1,24 +1,23 @@
 -- What holds of a table goes on to hold, after each change of one frame.
-use Rattle.std.proofs.Common.{◌≡◌, ◌≢◌, inl, inr, ℕ, zero, suc, ◌+◌, ◌-◌, ◌*◌, ◌^◌, ◌<◌, ◌≤◌, Bool, true, false, List, [], ◌∷◌, ◌++◌, length, map, reverse, set, get_or, replicate, Option, Some, None, refl, sym, ap, subst, ◌∙◌, length-append, arith}
+use Rattle.std.proofs.Common.{◌≡◌, inl, inr, ℕ, zero, suc, ◌<◌, ◌≤◌, false, List, [], ◌∷◌, ◌++◌, length, map, reverse, set, get_or, replicate, Option, Some, None, refl, sym, ap, subst, ◌∙◌, length-append, arith}
 use Rattle.std.specs.List.{AllByRecursion, range_with_len}
-use Rattle.std.specs.Option.{option_to_list}
 use Rattle.std.proofs.lemmas.List.{get_or-set_same, get_or-set_other, set-get_or, length-set, reverse-reverse, get_or-replicate, length-replicate}
-use Rattle.std.proofs.lemmas.Bool.{cases_eq, lt-ltb}
+use Rattle.std.proofs.lemmas.Bool.{cases_eq}
 use Rattle.std.proofs.Math.Seq.{map-set_same}
 use Rattle.codec.specs.declared.summaries.Part.{Part}
-use Rattle.codec.specs.Summary.{SummaryFields, SpellsSummary}
-use Rattle.segment_word.specs.Frames.{Phase, Free, Open, Sealed, Emptied, Frame, no_frame, code_of}
+use Rattle.codec.specs.Summary.{SpellsSummary}
+use Rattle.segment_word.specs.Frames.{Free, Open, Sealed, Emptied, Frame, no_frame, code_of}
 use Rattle.segment_word.specs.Layout.{frame_at, block_bytes}
 use Rattle.segment_word.specs.Handles.{Drive, with_changed, fresh_frame}
 use Rattle.segment_table.specs.declared.slots.Slot.{Slot}
 use Rattle.segment_table.specs.Slots.{no_slot, let_go}
 use Rattle.segment_table.specs.Table.{Table, slots_at}
 use Rattle.segment_table.specs.Room.{is_free, is_open, is_filling, can_open, numbers}
-use Rattle.segment_table.specs.Sealing.{payload_of, summary_of, IsSummed, IsOwned, IsLetGo, IsFit, IsSound}
-use Rattle.segment_table.specs.Changes.{IsAlone, KeepsGeneration, IsFilling, NoneIsFilling, IsReady, IsPut, IsSealed, with_slot}
+use Rattle.segment_table.specs.Sealing.{payload_of, IsOwned, IsLetGo, IsFit, IsSound}
+use Rattle.segment_table.specs.Changes.{IsAlone, IsFilling, NoneIsFilling, IsPut, IsSealed}
 use Rattle.segment_table.proofs.Numbers.{numbers_lost, numbers_gained, numbers_all, numbers_nil}
 use Rattle.segment_table.proofs.Alone.{put_here, alone, unchanged, length-alone, elsewhere, numbers_alone}
-use Rattle.segment_table.proofs.Ahead.{CanOpen, vacant_first, filling_at, vacant_same, popped}
+use Rattle.segment_table.proofs.Ahead.{vacant_first, filling_at, vacant_same, popped}
 
 -- the frame that changed fits, and so do the others
 fits_changed : (old new : Table) (f : ℕ) (s : List Slot) → f < length old.slots → IsAlone f old.drive new.drive → new.slots ≡ set old.slots f s
@@ -164,6 +163,16 @@ used_gone old f i g inside = elim (cases_eq g f) [
       subst P (sym at)
       (ap length (get_or-set_same old f (let_go (slots_at old f) i) [] inside) ∙ length-set (slots_at old f) i (record (get_or (slots_at old f) i no_slot) { held = false })))
   | inr ne ↦ ap length (get_or-set_other old f g (let_go (slots_at old f) i) [] ne)
+]
+
+pub parts_gone : (old : List (List Slot)) (f i g : ℕ) → f < length old
+    → map (λ (x : Slot). x.part) (slots_at (set old f (let_go (slots_at old f) i)) g) ≡ map (λ (x : Slot). x.part) (slots_at old g)
+parts_gone old f i g inside = elim (cases_eq g f) [
+  | inl at ↦ (let P : ℕ → Type 0 = λ n. map (λ (x : Slot). x.part) (slots_at (set old f (let_go (slots_at old f) i)) n) ≡ map (λ (x : Slot). x.part) (slots_at old n) in
+      subst P (sym at)
+      (ap (map (λ (x : Slot). x.part)) (get_or-set_same old f (let_go (slots_at old f) i) [] inside)
+      ∙ map-set_same (λ (x : Slot). x.part) (slots_at old f) i (record (get_or (slots_at old f) i no_slot) { held = false }) no_slot refl))
+  | inr ne ↦ ap (map (λ (x : Slot). x.part)) (get_or-set_other old f g (let_go (slots_at old f) i) [] ne)
 ]
 
 unchanged_drive : (d e : Drive) (f : ℕ) → e ≡ d → IsAlone f d e

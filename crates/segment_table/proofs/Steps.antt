@@ -1,19 +1,18 @@
 -- What each step makes of a table, seen as a log.
-use Rattle.std.proofs.Common.{◌≡◌, ◌≢◌, inl, inr, ℕ, ◌+◌, ◌-◌, ◌<◌, ◌≤◌, Bool, true, false, List, [], ◌∷◌, ◌++◌, length, reverse, set, get_or, Option, Some, None, refl, sym, ap, subst, ◌∙◌, length-append, arith}
-use Rattle.std.specs.Option.{option_to_list}
-use Rattle.std.proofs.lemmas.List.{get_or-set_same, get_or_read}
+use Rattle.std.proofs.Common.{◌≡◌, ◌≢◌, ℕ, ◌+◌, ◌-◌, ◌<◌, ◌≤◌, true, List, [], ◌∷◌, ◌++◌, length, reverse, set, get_or, Option, Some, refl, sym, ap, subst, ◌∙◌, arith}
+use Rattle.std.proofs.lemmas.List.{get_or_read}
 use Rattle.s4_types.specs.Pointer.{Place}
-use Rattle.blocks.specs.Log.{Log, Stored, appended, appended_at, dropped, with_held, without}
+use Rattle.blocks.specs.Log.{Stored, appended, appended_at, dropped, without}
 use Rattle.codec.specs.declared.summaries.Part.{Part}
-use Rattle.segment_word.specs.Frames.{Free, Open, Sealed, Frame, code_of}
+use Rattle.segment_word.specs.Frames.{Open, Frame}
 use Rattle.segment_word.specs.Layout.{frame_at, block_bytes, with_block}
 use Rattle.segment_word.specs.Handles.{Drive, with_changed}
 use Rattle.segment_table.specs.declared.slots.Slot.{Slot}
 use Rattle.segment_table.specs.Slots.{let_go}
 use Rattle.segment_table.specs.Table.{Table, slots_at, held_at}
 use Rattle.segment_table.specs.Room.{can_open, numbers, places, rest_of, places_ahead, log_of}
-use Rattle.segment_table.specs.Sealing.{IsFit, IsSound, IsPartFilled}
-use Rattle.segment_table.specs.Changes.{IsAlone, KeepsBlock, IsFilling, NoneIsFilling, IsReady, IsPut, IsSealed, with_slot}
+use Rattle.segment_table.specs.Sealing.{IsSound, IsPartFilled}
+use Rattle.segment_table.specs.Changes.{KeepsBlock, IsFilling, NoneIsFilling, IsReady, IsPut, IsSealed, with_slot}
 use Rattle.segment_table.proofs.Alone.{unchanged, alone, put_here}
 use Rattle.segment_table.proofs.Holding.{held_kept, held_put, held_gone}
 use Rattle.segment_table.proofs.Ahead.{CanOpen, vacant_first, filling_at, popped, ahead_put, ahead_sealed, ahead_opened, ahead_same, places_none}

@@ -1,15 +1,16 @@
 -- The summary of a frame that is sealed: it keeps the rules, and spells what the frame then has.
-use Rattle.std.proofs.Common.{◌≡◌, ◌≢◌, inl, inr, ℕ, zero, suc, ◌+◌, ◌-◌, ◌^◌, ◌<◌, ◌≤◌, Bool, true, false, ◌&&◌, if◌then◌else◌, nat_le, nat_lt, List, [], ◌∷◌, ◌++◌, length, map, drop, Option, Some, None, refl, sym, ap, subst, ◌∙◌, arith}
+use Rattle.std.proofs.Common.{◌≡◌, ◌≢◌, ℕ, zero, suc, ◌+◌, ◌-◌, ◌^◌, ◌<◌, ◌≤◌, Bool, true, ◌&&◌, if◌then◌else◌, nat_le, nat_lt, List, [], ◌∷◌, length, map, drop, Option, Some, None, IsSome, refl, sym, ap, subst, ◌∙◌, arith}
 use Rattle.std.specs.List.{AllByRecursion, list_all}
 use Rattle.std.proofs.lemmas.List.{length-map}
 use Rattle.std.proofs.lemmas.Bool.{and_from, le-leb, lt-ltb}
+use Rattle.codec.specs.Fields.{Reads}
 use Rattle.codec.specs.declared.summaries.Part.{Part}
 use Rattle.codec.specs.Summary.{SummaryFields, has_object, summary_rules, IsBlank, UnusedAreBlank, SpellsSummary, checked_summary}
 use Rattle.segment_word.specs.Frames.{Sealed, Frame}
 use Rattle.segment_word.specs.Layout.{frame_at, block_bytes, with_block}
 use Rattle.segment_word.specs.Handles.{Drive, with_changed}
 use Rattle.segment_table.specs.declared.slots.Slot.{Slot}
-use Rattle.segment_table.specs.Sealing.{blocks_from, payload_of, summary_of, IsSummed, IsOwned}
+use Rattle.segment_table.specs.Sealing.{blocks_from, payload_of, summary_of, IsOwned}
 use Rattle.segment_table.specs.Changes.{IsAlone, KeepsBlock, IsCleared, IsSealed}
 use Rattle.segment_table.proofs.Alone.{put_here, alone, alone_then, length-alone}
 
@@ -43,10 +44,12 @@ summed f g slots parts can e =
     ∙ ap (λ (b : Bool). if b then Some (record { frame = f; generation = g; parts = parts_of slots }) else None) (rules_kept f g slots can)
 
 -- a summary is never refused
-pub never_refused : (f g : ℕ) (slots : List Slot) (parts : List Part) → CanSum g slots → parts ≡ parts_of slots → checked_summary (record { frame = f; generation = g; parts = parts }) ≡ None → ⊥
-never_refused f g slots parts can e none =
+pub never_refused : (f g : ℕ) (slots : List Slot) (parts : List Part) (made : Option SummaryFields) → CanSum g slots → parts ≡ parts_of slots
+    → Reads (λ s. s) made (checked_summary (record { frame = f; generation = g; parts = parts })) → IsSome made
+never_refused f g slots parts None can e made =
     let some : checked_summary (record { frame = f; generation = g; parts = parts }) ≡ Some (record { frame = f; generation = g; parts = parts_of slots }) = summed f g slots parts can e in
-    cc
+    absurd (cc)
+never_refused f g slots parts (Some s) can e made = refl
 
 -- it has the frame's fields
 pub summary_is : (f g : ℕ) (slots : List Slot) (parts : List Part) (s : SummaryFields) → CanSum g slots → parts ≡ parts_of slots → checked_summary (record { frame = f; generation = g; parts = parts }) ≡ Some s → s ≡ record { frame = f; generation = g; parts = parts_of slots }

@@ -3,7 +3,7 @@ use Rattle.std.specs.Prelude.{◌≡◌, ◌≢◌, ℕ, ◌+◌, ◌<◌, ◌�
 use Rattle.s4_types.specs.Pointer.{Place}
 use Rattle.codec.specs.Summary.{IsBlank}
 use Rattle.codec.specs.declared.summaries.Part.{Part}
-use Rattle.segment_word.specs.Frames.{Open, Sealed, Frame}
+use Rattle.segment_word.specs.Frames.{Open, Sealed}
 use Rattle.segment_word.specs.Layout.{frame_at, block_bytes}
 use Rattle.segment_word.specs.Handles.{Drive, with_changed}
 use Rattle.segment_table.specs.declared.slots.Slot.{Slot}

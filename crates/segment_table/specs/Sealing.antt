@@ -3,7 +3,7 @@ use Rattle.std.specs.Prelude.{◌≡◌, ℕ, zero, suc, ◌+◌, ◌<◌, ◌�
 use Rattle.std.specs.List.{AllByRecursion}
 use Rattle.std.specs.Option.{option_to_list}
 use Rattle.codec.specs.Summary.{SummaryFields, SpellsSummary}
-use Rattle.segment_word.specs.Frames.{Free, Open, Sealed, Emptied, Frame, code_of}
+use Rattle.segment_word.specs.Frames.{Free, Open, Emptied, Frame, code_of}
 use Rattle.segment_word.specs.Layout.{frame_at, block_bytes}
 use Rattle.segment_table.specs.declared.slots.Slot.{Slot}
 use Rattle.segment_table.specs.Table.{Table, slots_at}

@@ -60,9 +60,7 @@ pub fn seal(seat: &mut DriveSeat, frame: u16, slots: &Slots)
     let number = frame as usize;
     clear_unused(seat, number, slots.len());
     let generation = generation(seat, number);
-    let Some(summary) = Summary::new(frame, generation, slots.parts()) else {
-        return;
-    };
+    let summary = Summary::new(frame, generation, slots.parts()).unwrap();
     let payload = payload(seat, number);
     seat.store(number, 0, &encode_summary(&summary, &payload));
     seat.seal(number);

@@ -1,5 +1,5 @@
 //! The frames of a drive and what their blocks are for, one step at a time.
-ghost use Rattle.std.specs.Prelude.{◌≡◌, ℕ, ◌+◌, ◌-◌, ◌<◌, ◌≤◌, ◌⊎◌, ◌==◌, true, [], ◌∷◌, ◌++◌, length, replicate, reverse, Option, Some, None, IsSome, IfSome, IfNone, IfOk, IfErr, OnOk, OnErr, MatchOption, MatchBool, option_map};
+ghost use Rattle.std.specs.Prelude.{◌≡◌, ℕ, ◌+◌, ◌-◌, ◌<◌, ◌≤◌, ◌⊎◌, ◌==◌, true, [], ◌∷◌, ◌++◌, length, map, replicate, reverse, Option, Some, None, IsSome, IfSome, IfNone, IfOk, IfErr, OnOk, OnErr, IsOk, MatchOption, MatchBool, option_map};
 ghost use Rattle.std.specs.List.{range_with_len};
 ghost use Rattle.std.specs.Option.{option_to_list};
 ghost use Rattle.s4_types.specs.declared.refusals.Refusal.TheVariants.{NoMemory, Busy};
@@ -9,7 +9,7 @@ ghost use Rattle.segment_word.specs.Frames.Phase.{Open, Sealed};
 ghost use Rattle.segment_word.specs.Layout.{frame_at, block_bytes};
 ghost use Rattle.segment_word.specs.Counting.{pins_in};
 ghost use Rattle.segment_word.specs.FrameRule.{AllAgree};
-ghost use Rattle.segment_word.specs.Handles.{fresh_frame, IsAmong};
+ghost use Rattle.segment_word.specs.Handles.{fresh_frame, IsAmong, pin_of};
 ghost use Rattle.segment_table.specs.Table.{Table, slots_at, held_at, part_of};
 ghost use Rattle.segment_table.specs.Room.{is_filling, can_open, numbers, rest_of, places_ahead, log_of};
 ghost use Rattle.segment_table.specs.Sealing.{IsFit, IsPartFilled};
@@ -118,7 +118,8 @@ impl Segments {
 
     /// How many blocks can be appended.
     pub fn blocks_left(&self) -> usize
-        ensures { result ≡ length (places_ahead self.now) }
+        ensures count { result ≡ length (places_ahead self.now) }
+        ensures most { result ≤ 15360 }
     {
         let whole = PAYLOAD_BLOCKS * self.free.len();
         match self.current {
@@ -258,6 +259,7 @@ impl Segments {
         ensures log { log_of self.new ≡ dropped (log_of self.old) place }
         ensures drive { self.new.drive ≡ self.old.drive }
         ensures used { (f : ℕ) → length (slots_at self.new.slots f) ≡ length (slots_at self.old.slots f) }
+        ensures parts { (f : ℕ) → map (λ slot. slot.part) (slots_at self.new.slots f) ≡ map (λ slot. slot.part) (slots_at self.old.slots f) }
     {
         if self.is_current(place) {
             self.slots[place.frame() as usize].let_go(place.block() as usize);
@@ -269,6 +271,8 @@ impl Segments {
         requires table { pin.old.table ≡ self.old.drive.table }
         requires held { IsSome (held_at self.old place) }
         requires sealed { (frame_at self.old.drive.frames place.frame).phase ≡ Sealed }
+        ensures again { 0 < pins_in place.frame pin.old.pins → IsOk result × (pin.new ≡ pin.old) }
+        ensures pinned { pins_in place.frame pin.old.pins ≡ 0 → OnOk result (pin.new ≡ record pin.old { pins = pin_of self.old.drive.frames place.frame ∷ pin.old.pins }) }
         ensures counted { OnOk result (0 < pins_in place.frame pin.new.pins) }
         ensures bytes { OnOk result ((p : Pinned) → IsAmong p pin.new.pins → p.number ≡ place.frame → IfSome (held_at self.old place) (λ block. block_bytes p.contents place.block ≡ block.bytes)) }
         ensures others { (p : Pinned) → IsAmong p pin.old.pins → IsAmong p pin.new.pins }

@@ -1,4 +1,4 @@
-ghost use Rattle.std.specs.Prelude.{◌≡◌, ℕ, ◌+◌, ◌<◌, ◌≤◌, ◌⊎◌, [], ◌++◌, length, replicate, Some, None, IsSome, IfSome, IfOk, IfErr, OnOk, OnErr, MatchBool, option_map};
+ghost use Rattle.std.specs.Prelude.{◌≡◌, ℕ, ◌+◌, ◌<◌, ◌≤◌, ◌⊎◌, [], ◌∷◌, ◌++◌, length, map, replicate, Some, None, IsSome, IfSome, IfOk, IfErr, OnOk, OnErr, IsOk, MatchBool, option_map};
 ghost use Rattle.s4_types.specs.Pointer.{Place};
 ghost use Rattle.s4_types.specs.declared.refusals.Refusal.TheVariants.{NoMemory, Busy, NoSpace};
 ghost use Rattle.blocks.specs.Log.{Log, appended, dropped};
@@ -7,7 +7,7 @@ ghost use Rattle.segment_word.specs.Frames.Phase.{Open, Sealed};
 ghost use Rattle.segment_word.specs.Layout.{frame_at, block_bytes};
 ghost use Rattle.segment_word.specs.Counting.{pins_in};
 ghost use Rattle.segment_word.specs.FrameRule.{AllAgree};
-ghost use Rattle.segment_word.specs.Handles.{fresh_frame, IsAmong};
+ghost use Rattle.segment_word.specs.Handles.{fresh_frame, IsAmong, pin_of};
 ghost use Rattle.segment_table.specs.Table.{Table, slots_at, held_at, part_of};
 ghost use Rattle.segment_table.specs.Room.{is_filling, numbers, rest_of, places_ahead, log_of, new_places};
 ghost use Rattle.segment_table.specs.Sealing.{IsFit, IsPartFilled};
@@ -116,6 +116,8 @@ impl SegmentTable {
         requires table { pin.old.table ≡ self.old.drive.table }
         requires held { IsSome (held_at self.old place) }
         requires sealed { (frame_at self.old.drive.frames place.frame).phase ≡ Sealed }
+        ensures again { 0 < pins_in place.frame pin.old.pins → IsOk result × (pin.new ≡ pin.old) }
+        ensures pinned { pins_in place.frame pin.old.pins ≡ 0 → OnOk result (pin.new ≡ record pin.old { pins = pin_of self.old.drive.frames place.frame ∷ pin.old.pins }) }
         ensures counted { OnOk result (0 < pins_in place.frame pin.new.pins) }
         ensures bytes { OnOk result ((p : Pinned) → IsAmong p pin.new.pins → p.number ≡ place.frame → IfSome (held_at self.old place) (λ block. block_bytes p.contents place.block ≡ block.bytes)) }
         ensures others { (p : Pinned) → IsAmong p pin.old.pins → IsAmong p pin.new.pins }
@@ -156,15 +158,28 @@ impl Blocks for SegmentTable {
         Ok(place)
     }
 
-    fn get(&mut self, place: Ptr) -> Block {
+    fn get(&mut self, place: Ptr) -> Block
+        requires { IsSome ((log_of self.old).held place) }
+        ensures bytes { IfSome ((log_of self.old).held place) (λ block. result ≡ block.bytes) }
+        ensures same { log_of self.new ≡ log_of self.old }
+        ensures unchanged { self.new ≡ self.old }
+    {
         self.segments.get(place)
     }
 
-    fn drop_block(&mut self, place: Ptr) {
+    fn drop_block(&mut self, place: Ptr)
+        ensures log { log_of self.new ≡ dropped (log_of self.old) place }
+        ensures drive { self.new.drive ≡ self.old.drive }
+        ensures used { (f : ℕ) → length (slots_at self.new.slots f) ≡ length (slots_at self.old.slots f) }
+        ensures parts { (f : ℕ) → map (λ slot. slot.part) (slots_at self.new.slots f) ≡ map (λ slot. slot.part) (slots_at self.old.slots f) }
+    {
         self.segments.drop_block(place);
     }
 
-    fn blocks_left(&self) -> usize {
+    fn blocks_left(&self) -> usize
+        ensures count { result ≡ length (log_of self.now).ahead }
+        ensures most { result ≤ 15360 }
+    {
         self.segments.blocks_left()
     }
 }

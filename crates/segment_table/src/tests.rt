@@ -64,6 +64,22 @@ fn pinned_blocks(table: &mut SegmentTable, place: Ptr) -> Result<Option<[Block; 
     Ok(Some(read_blocks(&mut pin, place.frame() as usize)))
 }
 
+/// The bytes of a held block of a sealed frame, as the table gives them and as a pin does that was compared with the
+/// table. None where the frame isn't sealed.
+fn read_twice(table: &mut SegmentTable, place: Ptr) -> Result<Option<[Block; 2]>, Refusal> {
+    if table.part(place).is_none() || table.is_open(place) {
+        return Ok(None);
+    }
+    let mut pin = table.pin()?;
+    table.confirm(&mut pin);
+    let block = table.get(place);
+    table.count_on(&mut pin, place)?;
+    table.confirm(&mut pin);
+    table.count_on(&mut pin, place)?;
+    let pinned = pin.read_block(place.frame() as usize, place.block() as usize);
+    Ok(Some([block, pinned]))
+}
+
 /// Decodes the summary of a pinned frame, and gives its parts with whether its digest is this one.
 fn summary_is(blocks: &[Block; 16], digest: &[u8; 32], parts: &[Part]) -> bool {
     let mut payload = [[0; 512]; 15];
@@ -179,5 +195,53 @@ fn other_lives(rt: HostRuntime) -> Result<(), Fail> {
     table.drop_block(place);
     assert_eq!(rt; table.part(place), None);
     assert_eq!(rt; table.blocks_left(), 119);
+    Ok(())
+}
+
+// The calls that only show something leave all as it is.
+#[test]
+fn shown_facts(rt: HostRuntime) -> Result<(), Fail> {
+    let mut table = SegmentTable::new(rt.alloc(), 8)?;
+    let first = table.append(BlockKind::Journal, ObjectId::new(1), &[1; 512])?;
+    let second = table.append(BlockKind::Data, ObjectId::new(2), &abc())?;
+    table.rules();
+    assert!(rt; read_twice(&mut table, second)?.is_none(), "open");
+    assert_eq!(rt; table.blocks_left(), 118);
+    table.seal_open();
+    table.rules();
+    assert!(rt; read_twice(&mut table, second)? == Some([abc(), abc()]));
+    table.drop_block(first);
+    table.rules();
+    assert!(rt; read_twice(&mut table, first)?.is_none(), "dropped");
+    assert!(rt; read_twice(&mut table, second)? == Some([abc(), abc()]));
+    assert_eq!(rt; table.part(second), Some(part(BlockKind::Data, 2)));
+    assert_eq!(rt; table.blocks_left(), 105);
+    Ok(())
+}
+
+// Passes under each single refusal of memory: what was refused has changed nothing, and is asked for once more.
+#[test]
+fn memory_refused_in_turn(rt: HostRuntime) -> Result<(), Fail> {
+    let mut table = match SegmentTable::new(rt.alloc(), 8) {
+        Ok(table) => table,
+        Err(refusal) => {
+            assert_eq!(rt; refusal, Refusal::NoMemory);
+            SegmentTable::new(rt.alloc(), 8)?
+        }
+    };
+    let place = table.append(BlockKind::Data, ObjectId::new(1), &abc())?;
+    table.seal_open();
+    let blocks = match pinned_blocks(&mut table, place) {
+        Ok(blocks) => blocks,
+        Err(refusal) => {
+            assert_eq!(rt; refusal, Refusal::NoMemory);
+            assert_eq!(rt; table.part(place), Some(part(BlockKind::Data, 1)));
+            assert!(rt; held_bytes(&mut table, place) == Some(abc()));
+            assert_eq!(rt; table.blocks_left(), 105);
+            pinned_blocks(&mut table, place)?
+        }
+    };
+    let blocks = blocks.ok_or("sealed")?;
+    assert!(rt; blocks[1] == abc() && blocks[2] == [0; 512]);
     Ok(())
 }

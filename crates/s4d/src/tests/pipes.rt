@@ -1,7 +1,8 @@
 //! Runs of `pipe`: what goes in, and what comes out.
 
 use crate::tests::hex_text::bytes_of;
-use crate::tests::run;
+use crate::tests::{run, run_in_pieces};
+use std::alloc::Global;
 use std::test::Fail;
 
 /// A run: the words behind `s4d pipe`, bytes in hex, and the status with what stands on standard error.
@@ -166,5 +167,45 @@ fn holes_of_an_object_read_as_zeros(rt: HostRuntime) -> Result<(), Fail> {
     }
     expected.push(b'x')?;
     assert_eq!(rt; outcome.output.as_slice(), expected.as_slice());
+    Ok(())
+}
+
+/// A Create, and twice a Write of 24,576 zeros.
+fn two_large_writes(alloc: Global) -> Result<Vec<u8>, Fail> {
+    let mut input = bytes_of(alloc, "00000002 01 00")?;
+    for _ in 0..2 {
+        let head = bytes_of(alloc, "00006011 04 0000000000000001 0000000000000000")?;
+        input.extend_from_slice(head.as_slice())?;
+        for _ in 0..24_576 {
+            input.push(0)?;
+        }
+    }
+    Ok(input)
+}
+
+#[test]
+fn as_many_frames_as_the_line_says(rt: HostRuntime) -> Result<(), Fail> {
+    let alloc = rt.alloc();
+    let input = two_large_writes(alloc)?;
+    for (frames, last) in [
+        ("8", "00000002 00 09"),
+        ("10", "00000002 00 09"),
+        ("11", "00000009 01 0000000000000003"),
+        ("1024", "00000009 01 0000000000000003"),
+    ] {
+        let words = ["s4d", "pipe", "--frames", frames, "client"];
+        let outcome = run_in_pieces(alloc, words.as_slice(), input.as_slice(), 65_536)?;
+        let mut expected = bytes_of(
+            alloc,
+            "00000011 02 0000000000000001 0000000000000001 00000009 01 0000000000000002",
+        )?;
+        expected.extend_from_slice(bytes_of(alloc, last)?.as_slice())?;
+        assert_eq!(rt;
+            outcome.output.as_slice(),
+            expected.as_slice(),
+            "{frames} frames"
+        );
+        assert_eq!(rt; outcome.status, 0, "{frames} frames");
+    }
     Ok(())
 }

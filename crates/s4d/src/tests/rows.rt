@@ -1,9 +1,17 @@
 //! Requests at moments that are given, with what the rules say of each.
 
-use crate::piping::PlainSession;
+ghost use Rattle.std.specs.Prelude.{◌≡◌};
+ghost use Rattle.s4_model.specs.State.{new_base};
+
+use crate::piping::OwnDrive;
 use crate::tests::hex_text::bytes_of;
+use crate::tests::plain::PlainSession;
+use drive::NewDrive;
 use s4_types::{Moment, Role};
-use server::{Clock, MemorySink, MemorySource, ServeEnd, serve};
+use segment_word::Naming;
+use server::{Backend, Clock, MemorySink, MemorySource, ServeEnd, serve};
+use std::alloc::Global;
+use std::marker::Brand;
 use std::test::Fail;
 
 /// A clock that gives these moments, and then 0.
@@ -127,21 +135,57 @@ static ROWS: [Row; 12] = [
     },
 ];
 
+/// The replies of a backend to the requests of a row.
+fn replies_of<B: Backend>(
+    alloc: Global,
+    row: &Row,
+    session: &mut B,
+) -> Result<(ServeEnd, Vec<u8>), Fail> {
+    let requests = bytes_of(alloc, row.requests)?;
+    let mut reader = MemorySource::new(requests.as_slice(), 65_536);
+    let mut writer = MemorySink::new(alloc);
+    let mut clock = Given {
+        moments: row.moments,
+    };
+    let end = serve(alloc, &mut reader, &mut writer, session, &mut clock);
+    Ok((end, Vec::from_slice(alloc, writer.as_slice())?))
+}
+
+/// The replies of a drive that was just made.
+fn drive_replies<J: Naming>(
+    alloc: Global,
+    row: &Row,
+    made: NewDrive,
+) -> Result<(ServeEnd, Vec<u8>), Fail>
+    requires accepts { made.accepts ≡ J.accepts }
+    requires base { new_base made.window ≡ J.base }
+{
+    let mut own = OwnDrive::new(made.named::<J>(), row.role)?;
+    replies_of(alloc, row, &mut own)
+}
+
 #[test]
 fn replies_are_those_of_the_rules(rt: HostRuntime) -> Result<(), Fail> {
     let alloc = rt.alloc();
     for row in &ROWS {
-        let requests = bytes_of(alloc, row.requests)?;
         let replies = bytes_of(alloc, row.replies)?;
-        let mut reader = MemorySource::new(requests.as_slice(), 65_536);
-        let mut writer = MemorySink::new(alloc);
-        let mut session = PlainSession::new(alloc, 100, row.role);
-        let mut clock = Given {
-            moments: row.moments,
-        };
-        let end = serve(alloc, &mut reader, &mut writer, &mut session, &mut clock);
+        let made = NewDrive::new(alloc, 16, 100)?;
+        let (end, written) = drive_replies::<Brand>(alloc, row, made)?;
         assert_eq!(rt; end, ServeEnd::Ended, "{}", row.name);
-        assert_eq!(rt; writer.as_slice(), replies.as_slice(), "{}", row.name);
+        assert_eq!(rt; written.as_slice(), replies.as_slice(), "{}", row.name);
+    }
+    Ok(())
+}
+
+#[test]
+fn so_are_those_of_the_plain_drive(rt: HostRuntime) -> Result<(), Fail> {
+    let alloc = rt.alloc();
+    for row in &ROWS {
+        let replies = bytes_of(alloc, row.replies)?;
+        let mut session = PlainSession::new(alloc, 100, row.role);
+        let (end, written) = replies_of(alloc, row, &mut session)?;
+        assert_eq!(rt; end, ServeEnd::Ended, "{}", row.name);
+        assert_eq!(rt; written.as_slice(), replies.as_slice(), "{}", row.name);
     }
     Ok(())
 }

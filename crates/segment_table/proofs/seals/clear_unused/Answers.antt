@@ -1,4 +1,4 @@
-use Rattle.std.proofs.Common.{◌+◌, ◌<◌, ◌≤◌, replicate, refl, arith}
+use Rattle.std.proofs.Common.{◌+◌, replicate, refl, arith}
 use Rattle.segment_table.proofs.Clearing.{cleared_more}
 use Rattle.segment_table.proofs.seals.clear_unused.Goals as goal
 

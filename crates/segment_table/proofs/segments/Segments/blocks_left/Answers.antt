@@ -1,9 +1,9 @@
-use Rattle.std.proofs.Common.{◌≡◌, ◌≤◌, ◌<◌, ◌-◌, ◌+◌, ◌*◌, length, [], refl, sym, ap, subst, ◌∙◌, arith}
-use Rattle.std.proofs.lemmas.List.{get_or_read}
+use Rattle.std.proofs.Common.{◌≡◌, ◌≤◌, ◌<◌, ◌-◌, ◌+◌, ◌*◌, length, [], List, ℕ, refl, ap, subst, ◌∙◌, arith}
+use Rattle.std.proofs.lemmas.List.{get_or_read, length-reverse}
 use Rattle.segment_table.specs.Table.{Table, slots_at}
-use Rattle.segment_table.specs.Room.{places_ahead}
+use Rattle.segment_table.specs.Room.{places_ahead, is_filling, can_open, numbers}
 use Rattle.segment_table.specs.Changes.{IsFilling}
-use Rattle.segment_table.proofs.Ahead.{left_filling, left_none}
+use Rattle.segment_table.proofs.Ahead.{left_filling, left_none, numbers_apart}
 use Rattle.segment_table.proofs.Steps.{AtFilling, at_filling}
 use Rattle.segment_table.proofs.Reading.{current_filling, current_none, free_few}
 use Rattle.segment_table.proofs.segments.Segments.blocks_left.Goals as goal
@@ -28,8 +28,8 @@ overflow_add-result c =
     let few : length c.self.inside.free.items ≤ 1024 = free_few old c.self.inside.free.items c.self.inside.current c.self.invariant in
     omega arith
 
-pub returns-in-Some : goal.returns-in-Some
-returns-in-Some c =
+pub returns-in-Some-clause-count : goal.returns-in-Some-clause-count
+returns-in-Some-clause-count c =
     let old : Table = record { drive = c.self.inside.seat; slots = c.self.inside.slots.items } in
     let filling : IsFilling c.in-Some.frame old = current_filling old c.self.inside.free.items c.self.inside.current c.in-Some.frame c.self.invariant c.in-Some.is in
     let at : AtFilling old c.in-Some.frame = at_filling old old c.self.inside.free.items c.self.inside.current c.in-Some.frame refl c.self.invariant filling in
@@ -38,10 +38,26 @@ returns-in-Some c =
     let P : Table → Type 0 = λ t. 15 * c.len-whole.result + (15 - c.len.result) ≡ length (places_ahead t) in
     subst P c.self.view_is (omega arith)
 
-pub returns-in-None : goal.returns-in-None
-returns-in-None c =
+pub returns-in-None-clause-count : goal.returns-in-None-clause-count
+returns-in-None-clause-count c =
     let old : Table = record { drive = c.self.inside.seat; slots = c.self.inside.slots.items } in
     let left : length (places_ahead old) ≡ 15 * length c.self.inside.free.items =
     left_none old c.self.inside.free.items (current_none old c.self.inside.free.items c.self.inside.current c.self.invariant c.in-None.is) c.self.invariant.vacant in
     let P : Table → Type 0 = λ t. 15 * c.len-whole.result ≡ length (places_ahead t) in
     subst P c.self.view_is (omega arith)
+
+pub returns-in-None-clause-most : goal.returns-in-None-clause-most
+returns-in-None-clause-most c =
+    let old : Table = record { drive = c.self.inside.seat; slots = c.self.inside.slots.items } in
+    let few : length c.self.inside.free.items ≤ 1024 = free_few old c.self.inside.free.items c.self.inside.current c.self.invariant in
+    omega arith
+
+pub returns-in-Some-clause-most : goal.returns-in-Some-clause-most
+returns-in-Some-clause-most c =
+    let old : Table = record { drive = c.self.inside.seat; slots = c.self.inside.slots.items } in
+    let filling : IsFilling c.in-Some.frame old = current_filling old c.self.inside.free.items c.self.inside.current c.in-Some.frame c.self.invariant c.in-Some.is in
+    let opens : List ℕ = numbers can_open 0 old.drive.frames in
+    let count : length c.self.inside.free.items ≡ length opens = ap length c.self.invariant.vacant ∙ length-reverse opens in
+    let one : length (numbers is_filling 0 old.drive.frames) ≡ 1 = ap length filling in
+    let most : length old.drive.frames ≤ 1024 = c.self.invariant.most in
+    omega (arith, numbers_apart 0 old.drive.frames, count, one, most)

@@ -1,4 +1,4 @@
-use Rattle.std.proofs.Common.{◌≡◌, inl, inr, ℕ, suc, ◌<◌, sym, subst, ◌∙◌, arith}
+use Rattle.std.proofs.Common.{inl, inr, suc, sym, subst, ◌∙◌, arith}
 use Rattle.std.proofs.lemmas.Bool.{cases_lt}
 use Rattle.segment_word.specs.Counting.{pins_in}
 use Rattle.segment_word.specs.Handles.{Held, IsAmong}

@@ -1,4 +1,4 @@
-use Rattle.std.proofs.Common.{◌≡◌, ◌+◌, ◌<◌, length, slice_set, [], true, List, ℕ, refl, sym, ap, subst, ◌∙◌, arith}
+use Rattle.std.proofs.Common.{◌≡◌, ◌<◌, length, slice_set, [], true, refl, sym, ap, subst, ◌∙◌, arith}
 use Rattle.std.proofs.lemmas.List.{get_or_read}
 use Rattle.segment_table.specs.declared.slots.Slot.{Slot}
 use Rattle.segment_table.specs.Table.{Table, slots_at}
@@ -44,17 +44,6 @@ push-requires c =
     let count : length c.index_mut.result.now ≡ length (slots_at old.slots c.args.frame) = ap length (get_or_read old.slots c.args.frame c.index_mut.result.now at.within c.index_mut.ensures.value []) in
     omega arith
 
-pub invariant_of-self : goal.invariant_of-self
-invariant_of-self c =
-    let old : Table = record { drive = c.self.inside.seat; slots = c.self.inside.slots.items } in
-    let new : Table = record { drive = c.store.new.self; slots = slice_set c.self.inside.slots.items c.args.frame c.push.new.self } in
-    let slot : Slot = record { part = c.args.part; held = true } in
-    let at : AtFilling old c.args.frame = at_filling old c.args.self.now c.self.inside.free.items c.self.inside.current c.args.frame c.self.view_is c.self.invariant c.requires.filling in
-    let R : Table → Type 0 = λ t. length (slots_at t.slots c.args.frame) < 15 in
-    let put : IsPut c.args.frame slot c.args.block.now old new =
-    put_made old new c.args.frame c.len-next.result c.args.part c.args.block.now c.index.result.now c.index_mut.result.now c.push.new.self at c.len-next.ensures.count c.index.ensures c.index_mut.ensures.value c.push.ensures c.store.ensures.changed c.store.ensures.stored c.store.ensures.others refl in
-    sound_put old new c.self.inside.free.items c.self.inside.current c.args.frame slot c.args.block.now c.self.invariant at.filling (subst R (sym c.self.view_is) c.requires.room) c.requires.owned put
-
 pub returns-clause-put : goal.returns-clause-put
 returns-clause-put c =
     let old : Table = record { drive = c.self.inside.seat; slots = c.self.inside.slots.items } in
@@ -69,3 +58,14 @@ returns-clause-inside c =
     let old : Table = record { drive = c.self.inside.seat; slots = c.self.inside.slots.items } in
     let P : Table → Type 0 = λ t. c.args.frame < length t.slots in
     subst P c.self.view_is (at_filling old c.args.self.now c.self.inside.free.items c.self.inside.current c.args.frame c.self.view_is c.self.invariant c.requires.filling).within
+
+pub invariant_of-self : goal.invariant_of-self
+invariant_of-self c =
+    let old : Table = record { drive = c.self.inside.seat; slots = c.self.inside.slots.items } in
+    let new : Table = record { drive = c.store.new.self; slots = slice_set c.self.inside.slots.items c.args.frame c.push.new.self } in
+    let slot : Slot = record { part = c.args.part; held = true } in
+    let at : AtFilling old c.args.frame = at_filling old c.args.self.now c.self.inside.free.items c.self.inside.current c.args.frame c.self.view_is c.self.invariant c.requires.filling in
+    let R : Table → Type 0 = λ t. length (slots_at t.slots c.args.frame) < 15 in
+    let put : IsPut c.args.frame slot c.args.block.now old new =
+    put_made old new c.args.frame c.len-next.result c.args.part c.args.block.now c.index.result.now c.index_mut.result.now c.push.new.self at c.len-next.ensures.count c.index.ensures c.index_mut.ensures.value c.push.ensures c.store.ensures.changed c.store.ensures.stored c.store.ensures.others refl in
+    sound_put old new c.self.inside.free.items c.self.inside.current c.args.frame slot c.args.block.now c.self.invariant at.filling (subst R (sym c.self.view_is) c.requires.room) c.requires.owned put

@@ -1,8 +1,7 @@
-use Rattle.std.proofs.Common.{◌≡◌, sym, refl, subst, ◌∙◌}
+use Rattle.std.proofs.Common.{◌≡◌, sym, refl, subst}
 use Rattle.segment_table.specs.Table.{Table}
 use Rattle.segment_table.specs.Room.{log_of}
 use Rattle.segment_table.specs.Changes.{NoneIsFilling, IsReady}
-use Rattle.segment_table.proofs.Ahead.{CanOpen}
 use Rattle.segment_table.proofs.Sound.{sound_opened}
 use Rattle.segment_table.proofs.Steps.{first_vacant, ready_opened, log_opened}
 use Rattle.segment_table.proofs.segments.Segments.open_lowest.Goals as goal

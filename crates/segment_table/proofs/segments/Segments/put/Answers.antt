@@ -1,9 +1,6 @@
-use Rattle.std.proofs.Common.{◌≡◌, ◌+◌, ◌<◌, length, true, sym, subst}
-use Rattle.blocks.specs.Log.{appended}
-use Rattle.segment_word.specs.Layout.{frame_at}
+use Rattle.std.proofs.Common.{◌<◌, length, true, subst}
 use Rattle.segment_table.specs.declared.slots.Slot.{Slot}
-use Rattle.segment_table.specs.Table.{Table, slots_at}
-use Rattle.segment_table.specs.Room.{log_of}
+use Rattle.segment_table.specs.Table.{Table}
 use Rattle.segment_table.specs.Changes.{IsPut}
 use Rattle.segment_table.proofs.Sound.{put_filling}
 use Rattle.segment_table.proofs.Steps.{put_appended}

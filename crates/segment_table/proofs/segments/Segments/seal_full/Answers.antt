@@ -1,7 +1,6 @@
-use Rattle.std.proofs.Common.{◌≡◌, [], List, length, sym, ap, subst, ◌∙◌, arith}
+use Rattle.std.proofs.Common.{◌≡◌, [], length, ap, ◌∙◌, arith}
 use Rattle.std.proofs.lemmas.List.{get_or_read}
 use Rattle.segment_table.specs.Table.{Table, slots_at}
-use Rattle.segment_table.specs.Changes.{IsSealed}
 use Rattle.segment_table.proofs.Steps.{AtFilling, at_filling, log_sealed}
 use Rattle.segment_table.proofs.segments.Segments.seal_full.Goals as goal
 

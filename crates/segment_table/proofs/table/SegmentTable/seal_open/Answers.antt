@@ -1,5 +1,4 @@
-use Rattle.std.proofs.Common.{◌≡◌, [], ◌∷◌, sym, ap, ◌∙◌}
-use Rattle.std.specs.Option.{option_to_list}
+use Rattle.std.proofs.Common.{sym}
 use Rattle.segment_table.specs.Changes.{IsFilling}
 use Rattle.segment_table.proofs.Ahead.{filling_at}
 use Rattle.segment_table.proofs.table.SegmentTable.seal_open.Goals as goal

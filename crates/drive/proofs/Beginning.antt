@@ -1,0 +1,49 @@
+-- What a new drive begins with.
+use Rattle.std.proofs.Common.{◌≡◌, true, false, ℕ, ◌+◌, ◌*◌, ◌≤◌, Option, None, List, [], ◌∷◌, length, length-append, refl, ap, ◌∙◌, zero, suc, cond, arith}
+use Rattle.std.specs.List.{flat_map, range_with_len}
+use Rattle.std.specs.Prelude.{nat_le}
+use Rattle.std.proofs.lemmas.List.FromFn.{length-range_with_len}
+use Rattle.s4_types.specs.declared.versions.Version.TheVariants.{Absent}
+use Rattle.s4_model.specs.State.{state_of, new_history}
+use Rattle.s4_model.specs.VersionAt.{version_of}
+use Rattle.s4_model.specs.Laws.{ANewDriveIsSound}
+use Rattle.object_map.specs.declared.map.Row.{Row}
+use Rattle.object_map.specs.Rows.{row_of}
+use Rattle.object_store.specs.Store.{StoreFields, IsStore}
+use Rattle.object_store.specs.Versions.{version_in, version_by, inode_by}
+use Rattle.segment_table.specs.Room.{places, new_places}
+use Rattle.window.specs.Timeline.{Timeline, StandsFor}
+use Rattle.drive.specs.Keeping.{IsKept}
+
+length-places : (f g b n : ℕ) → length (places f g b n) ≡ n
+unfolding places
+length-places f g b zero = refl
+length-places f g b (suc n) = ap suc (length-places f g (b + 1) n)
+
+length-frames : (xs : List ℕ) → length (flat_map (λ f. places f 1 1 15) xs) ≡ 15 * length xs
+length-frames [] = refl
+length-frames (f ∷ fs) =
+    let more : length (f ∷ fs) ≡ 1 + length fs = omega arith in
+    length-append (places f 1 1 15) (flat_map (λ g. places g 1 1 15) fs) ∙ omega (arith, length-places f 1 1 15, length-frames fs)
+
+-- a new drive has at most as many places as the largest
+pub few_places : (n : ℕ) → n ≤ 1024 → length (new_places n) ≤ 15360
+few_places n le = omega (arith, length-frames (range_with_len 0 n), length-range_with_len 0 n)
+
+no_version : (s : StoreFields) (o t : ℕ) → row_of s.rows o ≡ None → version_in s o t ≡ Absent
+no_version s o t none = ap (λ (r : Option Row). version_by s.log.held (inode_by s.log.held o t r)) none
+
+first_version : (window o t : ℕ) → Absent ≡ version_of (state_of (new_history window)) o t
+first_version window o t = elim (nat_le t 0) as (λ b. Absent ≡ cond b Absent Absent) [ true ↦ refl | false ↦ refl ]
+
+-- what holds of a drive holds of a new one
+pub kept_new : ANewDriveIsSound → (window : ℕ) (store : StoreFields) (w : Timeline) → IsStore store → ((o : ℕ) → row_of store.rows o ≡ None) → store.latest ≡ 0 → StandsFor w (state_of (new_history window)) → IsKept (state_of (new_history window)) store w 1
+kept_new sound window store w is_store none latest stands = record {
+  window = stands;
+  next = refl;
+  store = is_store;
+  versions = λ o t. no_version store o t (none o) ∙ first_version window o t;
+  past = omega (arith, latest);
+  unborn = λ o ge. none o;
+  sound = sound window;
+}

@@ -1,0 +1,158 @@
+-- Judging a request for a version by the present inode of its object.
+use Rattle.std.proofs.Common.{◌≡◌, ℕ, ◌+◌, ◌≤◌, Bool, true, false, cond, Option, Some, None, IsSome, List, length, refl, sym, ap, subst, ◌∙◌, arith}
+use Rattle.std.proofs.lemmas.Bool.{le-ltb, false≢true}
+use Rattle.std.proofs.lemmas.Option.{none-some}
+use Rattle.std.specs.Prelude.{nat_lt, unwrap_or}
+use Rattle.s4_types.specs.Pointer.{Place}
+use Rattle.s4_types.specs.declared.changes.Change.{Change}
+use Rattle.s4_types.specs.declared.changes.Change.TheVariants as change
+use Rattle.s4_types.specs.declared.limits.TheConstants.{OBJECT_BYTES, ATTRIBUTE_BYTES}
+use Rattle.s4_types.specs.declared.requests.Role.TheVariants.{Admin}
+use Rattle.s4_types.specs.declared.requests.Request.{Request}
+use Rattle.s4_types.specs.declared.requests.Request.TheVariants.{Create, Delete, Read, Write, Append, Truncate, GetAttr, SetAttr, SetWindow, Flush, FlushO}
+use Rattle.s4_types.specs.declared.refusals.Refusal.{Refusal}
+use Rattle.s4_types.specs.declared.refusals.Refusal.TheVariants.{TooLarge, BadAttr}
+use Rattle.s4_types.specs.declared.versions.Version.{Version}
+use Rattle.s4_types.specs.declared.versions.Version.TheVariants.{Absent, Live}
+use Rattle.s4_model.specs.State.{State}
+use Rattle.s4_model.specs.Refusals.{live_size_of, present, is_absent, first_refusal}
+use Rattle.s4_model.specs.Limits.{Fits}
+use Rattle.blocks.specs.Log.{Stored}
+use Rattle.codec.specs.declared.inodes.Inode.{Inode}
+use Rattle.inode_links.specs.Runs.{blank}
+use Rattle.inode_changes.specs.Contents.{contents_of, bytes_of, meaning}
+use Rattle.inode_changes.specs.Laws.{TheSizeCountsTheBytes}
+use Rattle.object_map.specs.declared.map.Row.{Row}
+use Rattle.object_map.specs.Rows.{row_of}
+use Rattle.object_store.specs.Store.{StoreFields}
+use Rattle.object_store.specs.Costs.{object_of, subject_inode}
+use Rattle.object_store.specs.Versions.{inode_in, inode_by, version_in, version_by}
+use Rattle.object_store.specs.Taking.{Takes, IsReady, IsThere}
+use Rattle.object_store.specs.Laws.{ThePresentStays, ChangesBeginWithThePresent}
+use Rattle.window.specs.Timeline.{Timeline}
+use Rattle.admission.specs.Later.{later_refusal, IsWithin, IsOfVersions, IsAllowed, HasSize, object_asked, object_changed}
+use Rattle.drive.specs.Keeping.{IsKept}
+use Rattle.drive.specs.Answering.{size_by}
+use Rattle.drive.proofs.Kept.{there_is_given}
+
+-- ---- the present inode
+
+-- the version of an object now is the one that its present inode stands for
+pub present_is : ThePresentStays → (s : State) (store : StoreFields) (w : Timeline) (next o : ℕ) → IsKept s store w next → present s o ≡ version_in store o store.latest
+present_is stays s store w next o kept = sym (kept.versions o s.clock) ∙ (stays store o s.clock kept.store kept.past).1
+
+size_of_meaning : TheSizeCountsTheBytes → (contents : Place → List ℕ) (i : Inode) → live_size_of (meaning contents i) ≡ cond i.alive (Some i.size) None
+size_of_meaning count contents i =
+    elim (i.alive) as (λ b. live_size_of (cond b (Live (bytes_of contents i) i.attribute i.created i.changed) Absent) ≡ cond b (Some i.size) None) [
+      | true ↦ ap (λ (n : ℕ). Some n) (count contents i)
+      | false ↦ refl
+    ]
+
+size_of_version : TheSizeCountsTheBytes → (held : Place → Option Stored) (i : Option Inode) → live_size_of (version_by held i) ≡ size_by i
+size_of_version count held None = refl
+size_of_version count held (Some i) = size_of_meaning count (contents_of held) i
+
+-- its size is what that inode tells
+pub size_is : TheSizeCountsTheBytes → ThePresentStays → (s : State) (store : StoreFields) (w : Timeline) (next o : ℕ) (found : Option Inode) → IsKept s store w next → found ≡ inode_in store o store.latest → live_size_of (present s o) ≡ size_by found
+size_is count stays s store w next o found kept is =
+    ap (λ (v : Version). live_size_of v) (present_is stays s store w next o kept)
+    ∙ size_of_version count store.log.held (inode_in store o store.latest)
+    ∙ ap (λ (i : Option Inode). size_by i) (sym is)
+
+alive_is_there : (b : Bool) (bytes attribute : List ℕ) (created changed size : ℕ) → IsSome (cond b (Some size) None) → is_absent (cond b (Live bytes attribute created changed) Absent) ≡ false
+alive_is_there true bytes attribute created changed size h = refl
+alive_is_there false bytes attribute created changed size h = absurd (false≢true h)
+
+version_is_there : (held : Place → Option Stored) (i : Option Inode) → IsSome (size_by i) → is_absent (version_by held i) ≡ false
+version_is_there held None h = absurd (false≢true h)
+version_is_there held (Some i) h = alive_is_there i.alive (bytes_of (contents_of held) i) i.attribute i.created i.changed i.size h
+
+-- an object that has a size is there
+pub there_is : (store : StoreFields) (o : ℕ) (found : Option Inode) → found ≡ inode_in store o store.latest → IsSome (size_by found) → IsThere store o
+there_is store o found is h = subst (λ (i : Option Inode). is_absent (version_by store.log.held i) ≡ false) is (version_is_there store.log.held found h)
+
+no_row : (store : StoreFields) (o : ℕ) (row : Option Row) → None ≡ inode_by store.log.held o store.latest row → row ≡ None
+no_row store o None is = refl
+no_row store o (Some row) is = absurd (none-some _ is)
+
+begins_with : ChangesBeginWithThePresent → (store : StoreFields) (o m : ℕ) (found : Option Inode) → found ≡ inode_in store o store.latest → unwrap_or found (blank m) ≡ subject_inode store o m
+begins_with begins store o m None is = sym ((begins store o m).1 (no_row store o (row_of store.rows o) is))
+begins_with begins store o m (Some i) is = sym ((begins store o m).0 i (sym is))
+
+-- a change begins with the present inode, or with a blank one
+pub subject_is : ChangesBeginWithThePresent → (store : StoreFields) (o q m : ℕ) (found : Option Inode) → q ≡ o → found ≡ inode_in store o store.latest → unwrap_or found (blank m) ≡ subject_inode store q m
+subject_is begins store o q m found same is = begins_with begins store o m found is ∙ ap (λ (x : ℕ). subject_inode store x m) (sym same)
+
+-- ---- the checks
+
+pub has_size : (s : State) (request : Request) (next : ℕ) (size : Option ℕ) → IsOfVersions request → live_size_of (present s (object_asked next request)) ≡ size → HasSize s request size
+has_size s (Create attribute) next size of h = tt
+has_size s (Delete object) next size of h = h
+has_size s (Write object offset bytes) next size of h = h
+has_size s (Append object bytes) next size of h = h
+has_size s (Truncate object n) next size of h = h
+has_size s (SetAttr object attribute) next size of h = h
+has_size s (Read object offset len at) next size of h = absurd of
+has_size s (GetAttr object at) next size of h = absurd of
+has_size s (SetWindow window) next size of h = absurd of
+has_size s (Flush first last) next size of h = absurd of
+has_size s (FlushO object first last) next size of h = absurd of
+
+-- the size that the present inode tells is that of the object that is asked of
+pub size_asked : TheSizeCountsTheBytes → ThePresentStays → (s : State) (store : StoreFields) (w : Timeline) (next o at : ℕ) (found : Option Inode) (request : Request) (size : Option ℕ)
+    → IsKept s store w next → IsOfVersions request → o ≡ object_asked next request → at ≡ store.latest → found ≡ inode_in store o at → size ≡ size_by found → HasSize s request size
+size_asked count stays s store w next o at found request size kept of is now inode tells =
+    has_size s request next size of
+    (ap (λ (x : ℕ). live_size_of (present s x)) (sym is)
+    ∙ size_is count stays s store w next o found kept (inode ∙ ap (λ (t : ℕ). inode_in store o t) now)
+    ∙ sym tells)
+
+passes : (limit n : ℕ) (r : Refusal) (rest : Option Refusal) → n ≤ limit → cond (nat_lt limit n) (Some r) rest ≡ rest
+passes limit n r rest le = ap (λ (b : Bool). cond b (Some r) rest) (le-ltb limit n le)
+
+-- an administrator's request within the limits is refused by the later checks alone
+pub admin_is_later : (s : State) (request : Request) → IsWithin request → IsOfVersions request → first_refusal s Admin request ≡ later_refusal s request
+admin_is_later s (Create attribute) within of = passes ATTRIBUTE_BYTES (length attribute) BadAttr _ within
+admin_is_later s (Delete object) within of = refl
+admin_is_later s (Write object offset bytes) within of = passes OBJECT_BYTES (offset + length bytes) TooLarge _ within
+admin_is_later s (Append object bytes) within of = refl
+admin_is_later s (Truncate object n) within of = passes OBJECT_BYTES n TooLarge _ within
+admin_is_later s (SetAttr object attribute) within of = passes ATTRIBUTE_BYTES (length attribute) BadAttr _ within
+admin_is_later s (Read object offset len at) within of = absurd of
+admin_is_later s (GetAttr object at) within of = absurd of
+admin_is_later s (SetWindow window) within of = absurd of
+admin_is_later s (Flush first last) within of = absurd of
+admin_is_later s (FlushO object first last) within of = absurd of
+
+-- ---- what a store takes
+
+pub same_object : (c : Change) → object_of c ≡ object_changed c
+same_object (change.Create object attribute) = refl
+same_object (change.Delete object) = refl
+same_object (change.Write object offset bytes) = refl
+same_object (change.Truncate object n) = refl
+same_object (change.SetAttr object attribute) = refl
+same_object (change.SetWindow window) = refl
+same_object (change.Flush first last) = refl
+same_object (change.FlushO object first last) = refl
+
+-- what is allowed by the present size can be taken
+is_ready : (s : State) (store : StoreFields) (w : Timeline) (next : ℕ) (size : Option ℕ) (c : Change) → IsKept s store w next → IsAllowed next size c → (IsSome size → IsThere store (object_of c)) → (IsReady store c) × (1 ≤ object_of c)
+is_ready s store w next size (change.Create object attribute) kept allowed there =
+    let o : object ≡ next = allowed.0 in
+    let n : next ≡ s.next = kept.next in
+    let low : 1 ≤ s.next = kept.sound.numbered in
+    (kept.unborn object (omega arith), omega arith)
+is_ready s store w next size (change.Delete object) kept allowed there = (there allowed, (there_is_given s store w next object kept (there allowed)).0)
+is_ready s store w next size (change.Write object offset bytes) kept allowed there = (there allowed, (there_is_given s store w next object kept (there allowed)).0)
+is_ready s store w next size (change.Truncate object n) kept allowed there = (there allowed, (there_is_given s store w next object kept (there allowed)).0)
+is_ready s store w next size (change.SetAttr object attribute) kept allowed there = (there allowed, (there_is_given s store w next object kept (there allowed)).0)
+is_ready s store w next size (change.SetWindow window) kept allowed there = absurd allowed
+is_ready s store w next size (change.Flush first last) kept allowed there = absurd allowed
+is_ready s store w next size (change.FlushO object first last) kept allowed there = absurd allowed
+
+pub can_take : (s : State) (store : StoreFields) (w : Timeline) (next o : ℕ) (found : Option Inode) (c : Change) → IsKept s store w next → found ≡ inode_in store o store.latest → object_of c ≡ o → Fits c → IsAllowed next (size_by found) c → Takes store c
+can_take s store w next o found c kept is same fits allowed =
+    let there : IsSome (size_by found) → IsThere store (object_of c) = λ h. subst (λ (x : ℕ). IsThere store x) (sym same) (there_is store o found is h) in
+    let ready = is_ready s store w next (size_by found) c kept allowed there in
+    record { fits = fits; numbered = ready.1; ready = ready.0 }

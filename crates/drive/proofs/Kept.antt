@@ -1,0 +1,191 @@
+-- What holds of a drive between calls goes on with each record of its history.
+use Rattle.std.proofs.Common.{◌≡◌, ℕ, ◌<◌, ◌≤◌, ◌==◌, ◌||◌, Bool, false, inl, inr, Option, Some, None, refl, sym, ap, subst, ◌∙◌, arith}
+use Rattle.std.proofs.lemmas.Bool.{cases_Bool, cond-true, cond-false, and_parts, and_left, leb-true, cases_lt, ne_eqb, true≢false}
+use Rattle.std.specs.Prelude.{nat_le, is_some, zero, suc}
+use Rattle.s4_types.specs.declared.changes.Accepted.{Accepted}
+use Rattle.s4_types.specs.declared.changes.Change.{Change}
+use Rattle.s4_types.specs.declared.changes.Change.TheVariants.{Create, Delete, Write, Truncate, SetAttr, SetWindow, Flush, FlushO}
+use Rattle.s4_types.specs.declared.versions.Version.{Version}
+use Rattle.s4_types.specs.declared.versions.Version.TheVariants.{Absent}
+use Rattle.s4_model.specs.Effect.{effect, is_change_of}
+use Rattle.s4_model.specs.Numbers.{next_by}
+use Rattle.s4_model.specs.Refusals.{is_absent}
+use Rattle.s4_model.specs.State.{State, seen, took}
+use Rattle.s4_model.specs.VersionAt.{version_of, is_by}
+use Rattle.s4_model.specs.Sound.{IsSound}
+use Rattle.object_map.specs.declared.map.Row.{Row}
+use Rattle.object_map.specs.Rows.{row_of}
+use Rattle.object_store.specs.Store.{StoreFields, IsStore}
+use Rattle.object_store.specs.Costs.{object_of}
+use Rattle.object_store.specs.Versions.{version_in, version_taken}
+use Rattle.object_store.specs.Taking.{IsReady, IsThere}
+use Rattle.object_store.specs.Laws.{ThePresentStays}
+use Rattle.window.specs.Timeline.{Timeline, StandsFor, is_of_versions}
+use Rattle.s4_model.specs.Plain.{HasNext}
+use Rattle.drive.specs.Keeping.{IsKept}
+use Rattle.drive.proofs.Versions.{version_of-other, version_of-its_own, counted_by_moments}
+
+-- ---- a moment seen
+
+pub kept_seen : (s : State) (store : StoreFields) (w later : Timeline) (next now : ℕ) → IsKept s store w next → StandsFor later (seen s now) → IsSound (seen s now) → IsKept (seen s now) store later next
+kept_seen s store w later next now kept stands sound = let past : store.latest ≤ s.clock = kept.past in record {
+  window = stands;
+  next = kept.next;
+  store = kept.store;
+  versions = kept.versions;
+  past = omega arith;
+  unborn = kept.unborn;
+  sound = sound;
+}
+
+-- ---- a change that makes no version
+
+no_object : (change : Change) (o : ℕ) → is_of_versions change ≡ false → is_change_of o change ≡ false
+no_object (SetWindow window) o is = refl
+no_object (Flush first last) o is = refl
+no_object (FlushO object first last) o is = refl
+no_object (Create object attribute) o is = absurd (true≢false is)
+no_object (Delete object) o is = absurd (true≢false is)
+no_object (Write object offset bytes) o is = absurd (true≢false is)
+no_object (Truncate object size) o is = absurd (true≢false is)
+no_object (SetAttr object attribute) o is = absurd (true≢false is)
+
+same_next : (change : Change) (next : ℕ) → is_of_versions change ≡ false → next_by change next ≡ next
+same_next (SetWindow window) next is = refl
+same_next (Flush first last) next is = refl
+same_next (FlushO object first last) next is = refl
+same_next (Create object attribute) next is = absurd (true≢false is)
+same_next (Delete object) next is = refl
+same_next (Write object offset bytes) next is = refl
+same_next (Truncate object size) next is = refl
+same_next (SetAttr object attribute) next is = refl
+
+pub kept_hidden : (s : State) (store : StoreFields) (w later : Timeline) (next : ℕ) (a : Accepted) → IsKept s store w next → is_of_versions a.change ≡ false → s.clock < a.moment → StandsFor later (took s a) → IsSound (took s a) → IsKept (took s a) store later next
+kept_hidden s store w later next a kept none lt stands sound =
+    let past : store.latest ≤ s.clock = kept.past in
+    let number : next_by a.change s.next ≡ s.next = same_next a.change s.next none in
+    record {
+      window = stands;
+      next = kept.next ∙ sym number;
+      store = kept.store;
+      versions = λ o t. kept.versions o t ∙ sym (version_of-other s a o t (and_left (is_change_of o a.change) (nat_le a.moment t) (no_object a.change o none)));
+      past = omega arith;
+      unborn = λ o ge. kept.unborn o (subst (λ (n : ℕ). n ≤ o) number ge);
+      sound = sound;
+    }
+
+-- ---- a change that makes a version
+
+-- a sound state's base began by its clock
+opened_by : (s : State) → IsSound s → s.opened ≤ s.clock
+opened_by s sound = let most = counted_by_moments s.opened s.changes s.clock sound.stamped in omega arith
+
+-- the store's versions after it are the state's
+versions_taken : ThePresentStays → (s : State) (store : StoreFields) (w : Timeline) (next : ℕ) (a : Accepted) → IsKept s store w next → s.clock < a.moment
+    → (o t : ℕ) → version_taken store a.change a.moment o t ≡ version_of (took s a) o t
+versions_taken stays s store w next a kept lt o t =
+    elim (cases_Bool (is_by o t a)) [
+      | inl is ↦
+          let late : a.moment ≤ t = leb-true a.moment t (and_parts (is_change_of o a.change) (nat_le a.moment t) is).1 in
+          let low : s.opened ≤ s.clock = opened_by s kept.sound in
+          let past : store.latest ≤ s.clock = kept.past in
+          cond-true (is_by o t a) (effect a.change a.moment (version_in store o store.latest)) (version_in store o t) is
+          ∙ ap (λ (v : Version). effect a.change a.moment v) (sym (stays store o t kept.store (omega arith)).1 ∙ kept.versions o t)
+          ∙ sym (version_of-its_own s a o t (omega arith) is)
+      | inr other ↦
+          cond-false (is_by o t a) (effect a.change a.moment (version_in store o store.latest)) (version_in store o t) other
+          ∙ kept.versions o t
+          ∙ sym (version_of-other s a o t other)
+    ]
+
+-- no object is there whose number wasn't given
+none_unless : (r : Option Row) → is_some r ≡ false → r ≡ None
+none_unless None e = refl
+none_unless (Some row) e = absurd (true≢false e)
+
+some_none : (r : Option Row) → r ≡ None → is_some r ≡ false
+some_none r e = ap (λ (x : Option Row). is_some x) e
+
+unborn_taken : (s : State) (store later : StoreFields) (w : Timeline) (next : ℕ) (a : Accepted) → IsKept s store w next
+    → ((o : ℕ) → is_some (row_of later.rows o) ≡ (is_some (row_of store.rows o) || o == object_of a.change))
+    → s.next ≤ next_by a.change s.next → object_of a.change < next_by a.change s.next
+    → (o : ℕ) → next_by a.change s.next ≤ o → row_of later.rows o ≡ None
+unborn_taken s store later w next a kept rows grows given o ge =
+    none_unless (row_of later.rows o)
+    (rows o
+    ∙ ap (λ (b : Bool). b || o == object_of a.change) (some_none (row_of store.rows o) (kept.unborn o (omega arith)))
+    ∙ ne_eqb o (object_of a.change) (λ e. absurd (omega arith)))
+
+next_grows : (change : Change) (next : ℕ) → next ≤ next_by change next
+next_grows (Create object attribute) next = omega arith
+next_grows (Delete object) next = omega arith
+next_grows (Write object offset bytes) next = omega arith
+next_grows (Truncate object size) next = omega arith
+next_grows (SetAttr object attribute) next = omega arith
+next_grows (SetWindow window) next = omega arith
+next_grows (Flush first last) next = omega arith
+next_grows (FlushO object first last) next = omega arith
+
+pub kept_taken : ThePresentStays → (s : State) (store later : StoreFields) (w last : Timeline) (next : ℕ) (a : Accepted) → IsKept s store w next → s.clock < a.moment
+    → IsStore later
+    → ((o t : ℕ) → version_in later o t ≡ version_taken store a.change a.moment o t)
+    → later.latest ≡ a.moment
+    → ((o : ℕ) → is_some (row_of later.rows o) ≡ (is_some (row_of store.rows o) || o == object_of a.change))
+    → object_of a.change < next_by a.change s.next
+    → StandsFor last (took s a) → IsSound (took s a) → IsKept (took s a) later last (next_by a.change next)
+kept_taken stays s store later w last next a kept lt is_store versions latest rows given stands sound = record {
+  window = stands;
+  next = ap (λ (n : ℕ). next_by a.change n) kept.next;
+  store = is_store;
+  versions = λ o t. versions o t ∙ versions_taken stays s store w next a kept lt o t;
+  past = omega (arith, latest);
+  unborn = unborn_taken s store later w next a kept rows (next_grows a.change s.next) given;
+  sound = sound;
+}
+
+-- ---- which changes can be taken
+
+there_absurd : (v : Version) → v ≡ Absent → is_absent v ≡ false → ⊥
+there_absurd v e there = true≢false (sym (ap (λ (x : Version). is_absent x) e) ∙ there)
+
+there_is_numbered : (s : State) (store : StoreFields) (w : Timeline) (next o : ℕ) → IsKept s store w next → IsThere store o → 1 ≤ o
+there_is_numbered s store w next zero kept there = absurd (there_absurd (version_in store 0 store.latest) (kept.versions 0 store.latest ∙ kept.sound.nobody store.latest) there)
+there_is_numbered s store w next (suc o) kept there = omega arith
+
+there_is_below : (s : State) (store : StoreFields) (w : Timeline) (next o : ℕ) → IsKept s store w next → IsThere store o → o < s.next
+there_is_below s store w next o kept there =
+    elim (cases_lt o s.next) [
+      | inl lt ↦ lt
+      | inr ge ↦ absurd (there_absurd (version_in store o store.latest) (kept.versions o store.latest ∙ kept.sound.unborn o store.latest ge) there)
+    ]
+
+-- an object that is there has a number that was given
+pub there_is_given : (s : State) (store : StoreFields) (w : Timeline) (next o : ℕ) → IsKept s store w next → IsThere store o → (1 ≤ o) × (o < s.next)
+there_is_given s store w next o kept there = (there_is_numbered s store w next o kept there, there_is_below s store w next o kept there)
+
+-- so the object of a change that can be taken has one, once it is taken
+pub given_by : (s : State) (store : StoreFields) (w : Timeline) (next : ℕ) (change : Change) → IsKept s store w next → IsReady store change → HasNext s.next change → object_of change < next_by change s.next
+given_by s store w next (Create object attribute) kept ready is = let o : object ≡ s.next = is.1 in omega arith
+given_by s store w next (Delete object) kept ready is = (there_is_given s store w next object kept ready).1
+given_by s store w next (Write object offset bytes) kept ready is = (there_is_given s store w next object kept ready).1
+given_by s store w next (Truncate object size) kept ready is = (there_is_given s store w next object kept ready).1
+given_by s store w next (SetAttr object attribute) kept ready is = (there_is_given s store w next object kept ready).1
+given_by s store w next (SetWindow window) kept ready is = absurd ready
+given_by s store w next (Flush first last) kept ready is = absurd ready
+given_by s store w next (FlushO object first last) kept ready is = absurd ready
+
+-- ---- upkeep
+
+-- objects that have the rows and the versions that they had
+pub kept_alike : (s : State) (store later : StoreFields) (w : Timeline) (next : ℕ) → IsKept s store w next → IsStore later
+    → ((o t : ℕ) → version_in later o t ≡ version_in store o t) → later.latest ≡ store.latest
+    → ((o : ℕ) → is_some (row_of later.rows o) ≡ is_some (row_of store.rows o)) → IsKept s later w next
+kept_alike s store later w next kept is_store versions latest rows = let past : store.latest ≤ s.clock = kept.past in record {
+  window = kept.window;
+  next = kept.next;
+  store = is_store;
+  versions = λ o t. versions o t ∙ kept.versions o t;
+  past = omega (arith, latest);
+  unborn = λ o ge. none_unless (row_of later.rows o) (rows o ∙ some_none (row_of store.rows o) (kept.unborn o ge));
+  sound = kept.sound;
+}

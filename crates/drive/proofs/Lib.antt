@@ -1,0 +1,10 @@
+pub mod Versions
+pub mod Kept
+pub mod Stepping
+pub mod Beginning
+pub mod Judging
+pub mod Unversioned
+pub mod Told
+pub mod Storing
+pub mod Served
+pub mod Parts

@@ -1,0 +1,333 @@
+-- What a request is answered and what it leaves, by what its parts came to.
+use Rattle.std.proofs.Common.{◌≡◌, ◌≢◌, ℕ, Bool, true, false, cond, inl, inr, Option, Some, None, List, [], ◌∷◌, ◌++◌, refl, sym, ap, subst, ◌∙◌, arith}
+use Rattle.std.proofs.lemmas.Option.{none-some, same_Some}
+use Rattle.std.specs.Prelude.{MatchBool, Result, Ok, Err, MatchResult, IfOk, IfErr}
+use Rattle.std.specs.List.{find, AllByRecursion}
+use Rattle.s4_types.specs.History.{History, Seen}
+use Rattle.s4_types.specs.RefusalNumber.{number_of}
+use Rattle.s4_types.specs.Sizes.{ReplyFits}
+use Rattle.s4_types.specs.declared.changes.Change.{Change}
+use Rattle.s4_types.specs.declared.changes.Change.TheVariants as change
+use Rattle.s4_types.specs.declared.requests.Role.{Role}
+use Rattle.s4_types.specs.declared.requests.Request.{Request}
+use Rattle.s4_types.specs.declared.requests.Request.TheVariants.{Create, Delete, Read, Write, Append, Truncate, GetAttr, SetAttr, SetWindow, Flush, FlushO}
+use Rattle.s4_types.specs.declared.replies.Reply.{Reply}
+use Rattle.s4_types.specs.declared.replies.Reply.TheVariants.{Refused, Changed, Created, Data, Attr}
+use Rattle.s4_types.specs.declared.refusals.Refusal.{Refusal}
+use Rattle.s4_types.specs.declared.refusals.Refusal.TheVariants as refusal
+use Rattle.s4_types.specs.declared.versions.Version.{Version}
+use Rattle.s4_types.specs.declared.versions.Version.TheVariants.{Absent, Live}
+use Rattle.s4_model.specs.State.{State, state_of, grown}
+use Rattle.s4_model.specs.VersionAt.{version_of}
+use Rattle.s4_model.specs.Refusals.{first_refusal, applies, checks, asked}
+use Rattle.s4_model.specs.Step.{Step, MayRefuse, AsFirst, ForMemory, AsOpen, IsLeftOpen, judged, change_of, stamp, reply_at, reply_to_read, data_of, attributes_of}
+use Rattle.s4_model.specs.Plain.{IsChange}
+use Rattle.segment_word.specs.AcceptViews.{Ledger, with_moment, credited, caught_up}
+use Rattle.segment_word.specs.AcceptRule.{Fits}
+use Rattle.object_store.specs.Store.{StoreFields}
+use Rattle.drive.specs.Fields.{DriveFields, SessionFields, store_of, state_in, history_of}
+use Rattle.drive.specs.Refusing.{or_then, want_of, refusal_of, RefusesBy, IsRefusal, IsJudgedOut}
+use Rattle.drive.specs.Answering.{is_acceptance, told_after, owners_after, Stores, Leaves, TakesChange, RefusesChange, IsRead}
+use Rattle.drive.proofs.Stepping.{may_refuse, step_accepts, step_refuses, step_tells, judged_as_it_was}
+use Rattle.drive.proofs.Storing.{refuses_judged}
+
+-- ---- which replies are of accepted changes
+
+pub accepts_change : (c : Change) (m : ℕ) → is_acceptance (reply_at c m) ≡ true
+accepts_change (change.Create object attribute) m = refl
+accepts_change (change.Delete object) m = refl
+accepts_change (change.Write object offset bytes) m = refl
+accepts_change (change.Truncate object n) m = refl
+accepts_change (change.SetAttr object attribute) m = refl
+accepts_change (change.SetWindow window) m = refl
+accepts_change (change.Flush first last) m = refl
+accepts_change (change.FlushO object first last) m = refl
+
+-- nothing that is accepted is refused
+accepted_unrefused : (why : Option Refusal) (c : Change) (m : ℕ) → why ≡ None → RefusesBy why (reply_at c m)
+accepted_unrefused why (change.Create object attribute) m is = is
+accepted_unrefused why (change.Delete object) m is = is
+accepted_unrefused why (change.Write object offset bytes) m is = is
+accepted_unrefused why (change.Truncate object n) m is = is
+accepted_unrefused why (change.SetAttr object attribute) m is = is
+accepted_unrefused why (change.SetWindow window) m is = is
+accepted_unrefused why (change.Flush first last) m is = is
+accepted_unrefused why (change.FlushO object first last) m is = is
+
+accepted_fits : (c : Change) (m : ℕ) → ReplyFits (reply_at c m)
+accepted_fits (change.Create object attribute) m = tt
+accepted_fits (change.Delete object) m = tt
+accepted_fits (change.Write object offset bytes) m = tt
+accepted_fits (change.Truncate object n) m = tt
+accepted_fits (change.SetAttr object attribute) m = tt
+accepted_fits (change.SetWindow window) m = tt
+accepted_fits (change.Flush first last) m = tt
+accepted_fits (change.FlushO object first last) m = tt
+
+-- a reply that tells data or attributes
+abbrev pub IsTold : Reply → Type 0
+IsTold (Data bytes) = Unit {0}
+IsTold (Attr size created changed attribute) = Unit {0}
+IsTold _ = ⊥
+
+data_is_told : (v : Version) (offset len : ℕ) (reply : Reply) → data_of v offset len ≡ Some reply → IsTold reply
+data_is_told Absent offset len reply is = absurd (none-some reply is)
+data_is_told (Live content attribute created changed) offset len reply is = subst IsTold (same_Some _ reply is) tt
+
+attributes_are_told : (v : Version) (reply : Reply) → attributes_of v ≡ Some reply → IsTold reply
+attributes_are_told Absent reply is = absurd (none-some reply is)
+attributes_are_told (Live content attribute created changed) reply is = subst IsTold (same_Some _ reply is) tt
+
+read_is_told : (s : State) (request : Request) (reply : Reply) → reply_to_read s request ≡ Some reply → IsTold reply
+read_is_told s (Read object offset len at) reply is = data_is_told (version_of s object (asked s at)) offset len reply is
+read_is_told s (GetAttr object at) reply is = attributes_are_told (version_of s object (asked s at)) reply is
+read_is_told s (Create attribute) reply is = absurd (none-some reply is)
+read_is_told s (Delete object) reply is = absurd (none-some reply is)
+read_is_told s (Write object offset bytes) reply is = absurd (none-some reply is)
+read_is_told s (Append object bytes) reply is = absurd (none-some reply is)
+read_is_told s (Truncate object n) reply is = absurd (none-some reply is)
+read_is_told s (SetAttr object attribute) reply is = absurd (none-some reply is)
+read_is_told s (SetWindow window) reply is = absurd (none-some reply is)
+read_is_told s (Flush first last) reply is = absurd (none-some reply is)
+read_is_told s (FlushO object first last) reply is = absurd (none-some reply is)
+
+told_accepts_nothing : (reply : Reply) → IsTold reply → is_acceptance reply ≡ false
+told_accepts_nothing (Data bytes) told = refl
+told_accepts_nothing (Attr size created changed attribute) told = refl
+told_accepts_nothing (Refused r) told = absurd told
+told_accepts_nothing (Changed m) told = absurd told
+told_accepts_nothing (Created o m) told = absurd told
+
+told_unrefused : (why : Option Refusal) (reply : Reply) → IsTold reply → why ≡ None → RefusesBy why reply
+told_unrefused why (Data bytes) told is = is
+told_unrefused why (Attr size created changed attribute) told is = is
+told_unrefused why (Refused r) told is = absurd told
+told_unrefused why (Changed m) told is = absurd told
+told_unrefused why (Created o m) told is = absurd told
+
+-- ---- refusals
+
+some_same : (x r : Refusal) → Some x ≡ Some r → x ≡ r
+some_same x r e = same_Some x r e
+
+found_passes : (p : Refusal → Bool) (P : Refusal → Type 0) (xs : List Refusal) (r : Refusal) → AllByRecursion P xs → find p xs ≡ Some r → P r
+found_passes p P [] r all e = absurd (none-some r e)
+found_passes p P (x ∷ xs) r all e =
+    elim (p x) as (λ b. cond b (Some x) (find p xs) ≡ Some r → P r) [
+      | true ↦ λ is. subst P (some_same x r is) all.0
+      | false ↦ λ is. found_passes p P xs r all.1 is
+    ] e
+
+IsWhole : Refusal → Type 0
+IsWhole r = number_of r ≢ 16
+
+checks_are_whole : AllByRecursion IsWhole checks
+unfolding IsWhole
+checks_are_whole = (
+  λ e. absurd (omega (arith, e)),
+  (λ e. absurd (omega (arith, e)), (λ e. absurd (omega (arith, e)), (λ e. absurd (omega (arith, e)), (λ e. absurd (omega (arith, e)), (λ e. absurd (omega (arith, e)), (λ e. absurd (omega (arith, e)), (λ e. absurd (omega (arith, e)), (λ e. absurd (omega (arith, e)), (λ e. absurd (omega (arith, e)), tt))))))))),
+)
+
+open_is_whole : (r : Refusal) → IsLeftOpen r → IsWhole r
+unfolding IsWhole
+open_is_whole refusal.ChainFull h e = absurd (omega (arith, e))
+open_is_whole refusal.NoSpace h e = absurd (omega (arith, e))
+open_is_whole refusal.Busy h e = absurd (omega (arith, e))
+open_is_whole refusal.NoObject h e = h
+open_is_whole refusal.NotAdmin h e = h
+open_is_whole refusal.Expired h e = h
+open_is_whole refusal.Future h e = h
+open_is_whole refusal.Flushed h e = h
+open_is_whole refusal.TooLarge h e = h
+open_is_whole refusal.BadSpan h e = h
+open_is_whole refusal.TooManySpans h e = h
+open_is_whole refusal.NoMemory h e = h
+open_is_whole refusal.ClockEnd h e = h
+open_is_whole refusal.BadAttr h e = h
+open_is_whole refusal.BadFrame h e = h
+open_is_whole (refusal.Damaged cause) h e = h
+open_is_whole refusal.Stale h e = h
+open_is_whole refusal.NoRoom h e = h
+open_is_whole refusal.InUse h e = h
+
+memory_is_whole : IsWhole refusal.NoMemory
+unfolding IsWhole
+memory_is_whole e = absurd (omega (arith, e))
+
+-- what may be refused has a number that names it
+may_is_whole : (s : State) (role : Role) (request : Request) (e : Refusal) → MayRefuse (first_refusal s role request) request e → IsWhole e
+may_is_whole s role request e (AsFirst is) = found_passes (applies s role request) IsWhole checks e checks_are_whole is
+may_is_whole s role request e (ForMemory is may) = subst IsWhole (sym is) memory_is_whole
+may_is_whole s role request e (AsOpen none left) = open_is_whole e left
+
+refusal_fits : (s : State) (role : Role) (store : StoreFields) (request : Request) (now : ℕ) (e : Refusal) → IsRefusal (first_refusal s role request) store s request now e → ReplyFits (Refused e)
+unfolding IsWhole
+refusal_fits s role store request now e is = may_is_whole s role request e (may_refuse (first_refusal s role request) store s request now e is)
+
+refused_by : (first : Option Refusal) (store : StoreFields) (s : State) (request : Request) (now : ℕ) (e : Refusal) → IsRefusal first store s request now e → RefusesBy (or_then first (want_of store s request now)) (Refused e)
+refused_by first store s request now e (inl h) = inl h.0
+refused_by first store s request now e (inr is) = inr is
+
+-- ---- the whole
+
+-- All that a request came to.
+pub record IsServed (d later : DriveFields) (before after : SessionFields) (request : Request) (now : ℕ) (given : Reply) : Type 0 where
+  pub step : Step (history_of d) before.role request now given (history_of later)
+  pub refused : RefusesBy (refusal_of (store_of d) (judged (history_of d) request now) before.role request now) given
+  pub stored : Leaves (store_of d) (state_in d) request now given (store_of later)
+  pub fits : ReplyFits given
+  pub session : after ≡ record before { told = told_after given later.ledger before.told }
+  pub owners : later.ledger.owners ≡ owners_after given before.told.seat d.ledger.owners
+  pub true_before : Fits d.ledger before.told
+  pub true_after : Fits later.ledger after.told
+
+same_change : (asked : Option Change) (c other : Change) → asked ≡ Some c → asked ≡ Some other → c ≡ other
+same_change asked c other is also = same_Some c other (sym is ∙ also)
+
+leaves_change : (b : Bool) (P Q : Type 0) → b ≡ true → P → MatchBool b P Q
+leaves_change b P Q e p = subst (λ (x : Bool). MatchBool x P Q) (sym e) p
+
+leaves_all : (b : Bool) (P Q : Type 0) → b ≡ false → Q → MatchBool b P Q
+leaves_all b P Q e q = subst (λ (x : Bool). MatchBool x P Q) (sym e) q
+
+pub served_change : (d later : DriveFields) (before after : SessionFields) (request : Request) (now : ℕ) (given : Reply) → TakesChange (first_refusal (state_in d) before.role request) d later before after request now given → IsServed d later before after request now given
+served_change d later before after request now given is =
+    let accepts : is_acceptance given ≡ true = ap (λ (r : Reply). is_acceptance r) is.reply ∙ accepts_change is.change (stamp (state_in d) now) in
+    let as_it_was : judged (history_of d) request now ≡ state_in d = judged_as_it_was (history_of d) request now is.change is.asked in
+    record {
+      step = step_accepts d later before after before.role request now given is;
+      refused = subst (λ (r : Reply). RefusesBy (refusal_of (store_of d) (judged (history_of d) request now) before.role request now) r) (sym is.reply)
+          (accepted_unrefused _ is.change (stamp (state_in d) now) (ap (λ (s : State). refusal_of (store_of d) s before.role request now) as_it_was ∙ is.free));
+      stored = leaves_change (is_acceptance given) ((c : Change) → change_of (state_in d) request ≡ Some c → Stores (store_of d) c (stamp (state_in d) now) (store_of later)) (store_of later ≡ store_of d) accepts
+          (λ c asked. subst (λ (x : Change). Stores (store_of d) x (stamp (state_in d) now) (store_of later)) (same_change (change_of (state_in d) request) is.change c is.asked asked) is.stored);
+      fits = subst ReplyFits (sym is.reply) (accepted_fits is.change (stamp (state_in d) now));
+      session = is.told ∙ ap (λ (b : Bool). record before { told = cond b (credited later.ledger before.told) (caught_up later.ledger before.told) }) (sym accepts);
+      owners = ap (λ (l : Ledger). l.owners) is.ledger ∙ ap (λ (b : Bool). cond b (d.ledger.owners ++ before.told.seat ∷ []) d.ledger.owners) (sym accepts);
+      true_before = is.true_before;
+      true_after = is.true_after;
+    }
+
+change_is_judged : (h : History) (request : Request) (now : ℕ) → IsChange request → judged h request now ≡ state_of h
+change_is_judged h (Read object offset len at) now is = absurd is
+change_is_judged h (GetAttr object at) now is = absurd is
+change_is_judged h (Create attribute) now is = refl
+change_is_judged h (Delete object) now is = refl
+change_is_judged h (Write object offset bytes) now is = refl
+change_is_judged h (Append object bytes) now is = refl
+change_is_judged h (Truncate object n) now is = refl
+change_is_judged h (SetAttr object attribute) now is = refl
+change_is_judged h (SetWindow window) now is = refl
+change_is_judged h (Flush first last) now is = refl
+change_is_judged h (FlushO object first last) now is = refl
+
+-- what a session has after a moment was seen
+abbrev pub Sees : DriveFields → DriveFields → SessionFields → SessionFields → ℕ → Type 0
+Sees d later before after now =
+    (later.ledger ≡ with_moment d.ledger now) × (store_of later ≡ store_of d) × (after ≡ record before { told = caught_up later.ledger before.told }) × Fits d.ledger before.told × Fits later.ledger after.told
+
+-- a refused request, from the drive and the session that it leaves
+served_refused : (d later : DriveFields) (before after : SessionFields) (request : Request) (now : ℕ) (e : Refusal)
+    → IsRefusal (first_refusal (judged (history_of d) request now) before.role request) (store_of d) (judged (history_of d) request now) request now e
+    → Sees d later before after now → IsServed d later before after request now (Refused e)
+served_refused d later before after request now e why sees = record {
+  step = subst (λ (l : Ledger). Step (history_of d) before.role request now (Refused e) l.history) (sym sees.0) (step_refuses (history_of d) (store_of d) before.role request now e why);
+  refused = refused_by (first_refusal (judged (history_of d) request now) before.role request) (store_of d) (judged (history_of d) request now) request now e why;
+  stored = sees.1;
+  fits = refusal_fits (judged (history_of d) request now) before.role (store_of d) request now e why;
+  session = sees.2;
+  owners = ap (λ (l : Ledger). l.owners) sees.0;
+  true_before = sees.3;
+  true_after = sees.4;
+}
+
+-- a change that was refused, and whose moment was seen then
+pub served_refusal : (d middle later : DriveFields) (before between after : SessionFields) (request : Request) (now : ℕ) (e : Refusal) → IsChange request
+    → RefusesChange (first_refusal (state_in d) before.role request) d middle before between request now e
+    → Sees middle later between after now → IsServed d later before after request now (Refused e)
+served_refusal d middle later before between after request now e change is sees =
+    let as_it_was : state_in d ≡ judged (history_of d) request now = sym (change_is_judged (history_of d) request now change) in
+    let ledger : later.ledger ≡ with_moment d.ledger now = sees.0 ∙ ap (λ (l : Ledger). with_moment l now) is.ledger in
+    let store : store_of later ≡ store_of d = sees.1 ∙ is.store in
+    let told : after ≡ record before { told = caught_up later.ledger before.told } = sees.2 ∙ ap (λ (x : SessionFields). record x { told = caught_up later.ledger x.told }) is.session in
+    let fits : Fits d.ledger before.told = subst (λ (x : SessionFields). Fits d.ledger x.told) is.session (subst (λ (l : Ledger). Fits l between.told) is.ledger sees.3) in
+    served_refused d later before after request now e
+    (subst (λ (s : State). IsRefusal (first_refusal s before.role request) (store_of d) s request now e) as_it_was is.why)
+    (ledger, store, told, fits, sees.4)
+
+read_is_judged : (h : History) (request : Request) (now : ℕ) → IsRead request → state_of (grown h (Seen now)) ≡ judged h request now
+read_is_judged h (Read object offset len at) now is = refl
+read_is_judged h (GetAttr object at) now is = refl
+read_is_judged h (Create attribute) now is = absurd is
+read_is_judged h (Delete object) now is = absurd is
+read_is_judged h (Write object offset bytes) now is = absurd is
+read_is_judged h (Append object bytes) now is = absurd is
+read_is_judged h (Truncate object n) now is = absurd is
+read_is_judged h (SetAttr object attribute) now is = absurd is
+read_is_judged h (SetWindow window) now is = absurd is
+read_is_judged h (Flush first last) now is = absurd is
+read_is_judged h (FlushO object first last) now is = absurd is
+
+read_wants_nothing : (store : StoreFields) (s : State) (request : Request) (now : ℕ) → IsRead request → want_of store s request now ≡ None
+read_wants_nothing store s (Read object offset len at) now is = refl
+read_wants_nothing store s (GetAttr object at) now is = refl
+read_wants_nothing store s (Create attribute) now is = absurd is
+read_wants_nothing store s (Delete object) now is = absurd is
+read_wants_nothing store s (Write object offset bytes) now is = absurd is
+read_wants_nothing store s (Append object bytes) now is = absurd is
+read_wants_nothing store s (Truncate object n) now is = absurd is
+read_wants_nothing store s (SetAttr object attribute) now is = absurd is
+read_wants_nothing store s (SetWindow window) now is = absurd is
+read_wants_nothing store s (Flush first last) now is = absurd is
+read_wants_nothing store s (FlushO object first last) now is = absurd is
+
+-- a read that was refused, once its moment was seen
+pub served_untold : (d seen_at later : DriveFields) (before after : SessionFields) (request : Request) (now : ℕ) (e : Refusal) → IsRead request
+    → Sees d seen_at before after now → later.ledger ≡ seen_at.ledger → store_of later ≡ store_of seen_at
+    → IsJudgedOut (first_refusal (state_in seen_at) before.role request) request e → IsServed d later before after request now (Refused e)
+served_untold d seen_at later before after request now e read sees ledger store out =
+    let judging : state_in seen_at ≡ judged (history_of d) request now = ap (λ (l : Ledger). state_of l.history) sees.0 ∙ read_is_judged (history_of d) request now read in
+    served_refused d later before after request now e
+    (refuses_judged (first_refusal (judged (history_of d) request now) before.role request) (store_of d) (judged (history_of d) request now) request now e
+    (subst (λ (s : State). IsJudgedOut (first_refusal s before.role request) request e) judging out)) (
+      ledger ∙ sees.0,
+      store ∙ sees.1,
+      sees.2 ∙ ap (λ (l : Ledger). record before { told = caught_up l before.told }) (sym ledger),
+      sees.3,
+      subst (λ (l : Ledger). Fits l after.told) (sym ledger) sees.4,
+    )
+
+-- and one that was answered
+pub served_told : (d seen_at later : DriveFields) (before after : SessionFields) (request : Request) (now : ℕ) (given : Reply) → IsRead request
+    → Sees d seen_at before after now → later.ledger ≡ seen_at.ledger → store_of later ≡ store_of seen_at
+    → first_refusal (state_in seen_at) before.role request ≡ None → reply_to_read (state_in seen_at) request ≡ Some given → ReplyFits given → IsServed d later before after request now given
+served_told d seen_at later before after request now given read sees ledger store free tells fits =
+    let judging : state_in seen_at ≡ judged (history_of d) request now = ap (λ (l : Ledger). state_of l.history) sees.0 ∙ read_is_judged (history_of d) request now read in
+    let told : IsTold given = read_is_told (state_in seen_at) request given tells in
+    let nothing : is_acceptance given ≡ false = told_accepts_nothing given told in
+    let unrefused : first_refusal (judged (history_of d) request now) before.role request ≡ None = subst (λ (s : State). first_refusal s before.role request ≡ None) judging free in
+    record {
+      step = subst (λ (l : Ledger). Step (history_of d) before.role request now given l.history) (sym (ledger ∙ sees.0))
+          (step_tells (history_of d) before.role request now given unrefused (subst (λ (s : State). reply_to_read s request ≡ Some given) judging tells));
+      refused = told_unrefused _ given told
+          (ap (λ (r : Option Refusal). or_then r (want_of (store_of d) (judged (history_of d) request now) request now)) unrefused ∙ read_wants_nothing (store_of d) (judged (history_of d) request now) request now read);
+      stored = leaves_all (is_acceptance given) ((c : Change) → change_of (state_in d) request ≡ Some c → Stores (store_of d) c (stamp (state_in d) now) (store_of later)) (store_of later ≡ store_of d) nothing (store ∙ sees.1);
+      fits = fits;
+      session = sees.2 ∙ ap (λ (l : Ledger). record before { told = caught_up l before.told }) (sym ledger)
+          ∙ ap (λ (b : Bool). record before { told = cond b (credited later.ledger before.told) (caught_up later.ledger before.told) }) (sym nothing);
+      owners = ap (λ (l : Ledger). l.owners) (ledger ∙ sees.0) ∙ ap (λ (b : Bool). cond b (d.ledger.owners ++ before.told.seat ∷ []) d.ledger.owners) (sym nothing);
+      true_before = sees.3;
+      true_after = subst (λ (l : Ledger). Fits l after.told) (sym ledger) sees.4;
+    }
+
+-- so of a read, whatever was told
+pub served_read : (d seen_at later : DriveFields) (before after : SessionFields) (role : Role) (request : Request) (now : ℕ) (told : Result Reply Refusal) (given : Reply) → IsRead request
+    → Sees d seen_at before after now → later.ledger ≡ seen_at.ledger → store_of later ≡ store_of seen_at → role ≡ before.role
+    → IfOk told (λ reply. (first_refusal (state_in seen_at) role request ≡ None) × (reply_to_read (state_in seen_at) request ≡ Some reply)) → IfOk told ReplyFits
+    → IfErr told (IsJudgedOut (first_refusal (state_in seen_at) role request) request)
+    → MatchResult told (λ reply. given ≡ reply) (λ e. given ≡ Refused e) → IsServed d later before after request now given
+served_read d seen_at later before after role request now (Ok reply) given read sees ledger store same ok fits out is =
+    subst (λ (r : Reply). IsServed d later before after request now r) (sym is)
+    (served_told d seen_at later before after request now reply read sees ledger store (subst (λ (r : Role). first_refusal (state_in seen_at) r request ≡ None) same ok.0) ok.1 fits)
+served_read d seen_at later before after role request now (Err e) given read sees ledger store same ok fits out is =
+    subst (λ (r : Reply). IsServed d later before after request now r) (sym is)
+    (served_untold d seen_at later before after request now e read sees ledger store (subst (λ (r : Role). IsJudgedOut (first_refusal (state_in seen_at) r request) request e) same out))

@@ -1,0 +1,42 @@
+use Rattle.std.proofs.Common.{◌≡◌, ◌+◌, ◌<◌, max, ℕ, sym, ap, subst, ◌∙◌}
+use Rattle.s4_types.specs.declared.changes.Change.{Change}
+use Rattle.s4_model.specs.State.{State, state_of, took}
+use Rattle.s4_model.specs.Refusals.{last_number}
+use Rattle.s4_model.specs.Step.{stamp, accepted_record}
+use Rattle.s4_model.specs.Sound.{IsSound}
+use Rattle.s4_model.specs.Plain.{HasNext}
+use Rattle.segment_word.specs.AcceptViews.{Ledger}
+use Rattle.segment_table.specs.Room.{log_of}
+use Rattle.object_store.specs.Store.{StoreFields, fields_of}
+use Rattle.object_store.specs.Taking.{Takes}
+use Rattle.drive.specs.Fields.{DriveFields, store_of}
+use Rattle.drive.specs.Keeping.{IsKept}
+use Rattle.drive.proofs.Parts.{can_count}
+use Rattle.drive.proofs.Storing.{after_stored, ready_of_versions}
+use Rattle.drive.proofs.drive.Drive.change_object.Goals as goal
+
+pub accept-requires : goal.accept-requires
+accept-requires g c =
+    let ledger : c.self.inside.history ≡ c.args.self.now.ledger = ap (λ (d : DriveFields). d.ledger) c.self.view_is ∙ c.judge_object.ensures.ledger in
+    can_count c.self.inside.history c.self.invariant.1.sound (subst (λ (l : Ledger). (state_of l.history).clock < last_number) (sym ledger) c.in_ok-change.ensures.clock)
+
+pub invariant_of-self-2 : goal.invariant_of-self-2
+invariant_of-self-2 g c =
+    let s : State = state_of c.self.inside.history.history in
+    let store : StoreFields = fields_of log_of c.self.inside.store in
+    let change : Change = c.in_ok-change.field-0.change in
+    let ledger : c.self.inside.history ≡ c.args.self.now.ledger = ap (λ (d : DriveFields). d.ledger) c.self.view_is ∙ c.judge_object.ensures.ledger in
+    let held : store ≡ store_of c.args.self.now = ap (λ (d : DriveFields). store_of d) c.self.view_is ∙ c.judge_object.ensures.store in
+    let takes : Takes store change = subst (λ (x : StoreFields). Takes x change) (sym held) c.in_ok-change.ensures.takes in
+    let at : c.moment_after-moment.result ≡ stamp s c.args.now = c.moment_after-moment.ensures ∙ ap (λ (t : ℕ). max c.args.now (t + 1)) (c.clock.ensures ∙ c.self.invariant.1.window.clock) in
+    let stamped : c.stamp.result ≡ stamp s c.args.now = c.stamp.ensures.moment ∙ ap (λ (t : ℕ). max c.args.now (t + 1)) c.self.invariant.1.window.clock in (
+      ap (λ (l : Ledger). l.history.base) c.accept.ensures.history ∙ c.self.invariant.0,
+      subst (λ (n : ℕ). IsKept (state_of c.accept.new.history.history) (fields_of log_of c.take.new.self) c.stamp.new.self n) (sym c.next_after-self-inside.ensures)
+          (after_stored c.the_present_stays.ensures c.the_state_goes_on_record_by_record.ensures.by_changes c.self.inside.history c.accept.new.history c.session.inside.seat.seat store (fields_of log_of c.take.new.self) c.self.inside.window c.stamp.new.self c.self.inside.next c.args.now c.moment_after-moment.result change
+          c.self.invariant.1 takes.ready
+          (subst (λ (l : Ledger). HasNext (state_of l.history).next change) (sym ledger) c.in_ok-change.ensures.next)
+          at c.accept.ensures.history
+          c.take.ensures.store c.in_ok-take.ensures.taken c.in_ok-take.ensures.latest c.in_ok-take.ensures.rows
+          (c.stamp.ensures.taken s (accepted_record s change c.args.now) c.self.invariant.1.window (sym stamped) (ready_of_versions store change takes.ready))
+          (subst (λ (l : Ledger). IsSound (took (state_of l.history) (accepted_record (state_of l.history) change c.args.now))) (sym ledger) c.in_ok-change.ensures.sound)),
+    )

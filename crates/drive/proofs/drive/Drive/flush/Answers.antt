@@ -1,0 +1,45 @@
+use Rattle.std.proofs.Common.{◌≡◌, ◌+◌, ◌<◌, max, ℕ, refl, sym, ap, ◌∙◌, arith}
+use Rattle.s4_types.specs.declared.changes.Change.TheVariants as change
+use Rattle.s4_types.specs.declared.requests.Request.TheVariants.{Flush}
+use Rattle.s4_model.specs.Refusals.{last_number}
+use Rattle.s4_model.specs.State.{State, state_of}
+use Rattle.s4_model.specs.Step.{stamp, accepted_record}
+use Rattle.segment_word.specs.AcceptViews.{Ledger}
+use Rattle.segment_table.specs.Room.{log_of}
+use Rattle.object_store.specs.Store.{fields_of}
+use Rattle.std.proofs.lemmas.Result.{err_from_is_err_and}
+use Rattle.admission.specs.Later.{later_refusal}
+use Rattle.drive.specs.Fields.{state_in, store_of}
+use Rattle.drive.specs.Keeping.{IsKept}
+use Rattle.drive.proofs.Parts.{can_count, kept_of}
+use Rattle.drive.proofs.Unversioned.{span_bad, refuses_bad, flush_free, flush_span, flush_given, after_hidden}
+use Rattle.drive.proofs.drive.Drive.flush.Goals as goal
+
+pub returns-in_err-check_span : goal.returns-in_err-check_span
+returns-in_err-check_span g c =
+    let p = err_from_is_err_and c.from_residual.result c.from_residual.ensures.1 in
+    let kept : IsKept (state_in c.args.self.now) (store_of c.args.self.now) c.self.inside.window c.self.inside.next = kept_of c.args.self.now g.J.Naming.base c.self.inside.history c.self.inside.store c.self.inside.window c.self.inside.next c.self.view_is c.self.invariant in
+    let bad = c.in_err-check_span.ensures.of_all (state_in c.args.self.now) kept.window in
+    rw (p.1, p.2) (refuses_bad (later_refusal (state_in c.args.self.now) (Flush c.args.first c.args.last)) c.args.self.now c.args.session.now (Flush c.args.first c.args.last) c.args.now _ (span_bad (state_in c.args.self.now) c.args.first c.args.last bad.1) bad.0)
+
+pub accept-requires : goal.accept-requires
+accept-requires g c =
+    let clock : c.self.inside.window.clock ≡ (state_of c.self.inside.history.history).clock = c.self.invariant.1.window.clock in
+    let lt : c.self.inside.window.clock < last_number = c.in_ok-plan.ensures.clock in
+    can_count c.self.inside.history c.self.invariant.1.sound (omega arith)
+
+pub invariant_of-self : goal.invariant_of-self
+invariant_of-self g c =
+    let s : State = state_of c.self.inside.history.history in
+    let clock : c.self.inside.window.clock ≡ s.clock = c.self.invariant.1.window.clock in
+    let at : c.flush-moment.result ≡ stamp s c.args.now = c.flush-moment.ensures.moment ∙ ap (λ (t : ℕ). max c.args.now (t + 1)) clock in
+    let zero : c.new.result ≡ 0 = c.new.ensures in
+    let given = flush_given s c.args.first c.args.last c.new.result c.in_ok-plan.plan.span c.self.invariant.1.sound zero c.in_ok-plan.ensures.planned.0 in (
+      ap (λ (l : Ledger). l.history.base) c.accept.ensures.history ∙ c.self.invariant.0,
+      after_hidden c.every_history_is_sound.ensures.steps c.the_state_goes_on_record_by_record.ensures.by_changes c.self.inside.history c.accept.new.history c.session.inside.seat.seat (fields_of log_of c.self.inside.store) c.self.inside.window c.flush-moment.new.self c.self.inside.next (Flush c.args.first c.args.last) c.args.now c.flush-moment.result (change.Flush c.args.first c.args.last)
+          c.self.invariant.1
+          (flush_free s c.new.result c.args.first c.args.last zero (c.in_ok-check_span.ensures.of_all s c.self.invariant.1.window) (c.in_ok-plan.ensures.judged s c.self.invariant.1.window (let low = c.self.invariant.1.sound.numbered in omega (arith, zero))))
+          refl refl at c.accept.ensures.history
+          (c.flush-moment.ensures.taken s (accepted_record s (change.Flush c.args.first c.args.last) c.args.now) c.self.invariant.1.window given (sym at)
+          (flush_span c.args.first c.args.last c.new.result c.in_ok-plan.plan.span zero c.in_ok-plan.ensures.planned.0)),
+    )

@@ -1,0 +1,52 @@
+use Rattle.std.proofs.Common.{◌≡◌, ◌+◌, ◌<◌, ◌≤◌, max, ℕ, Some, refl, sym, ap, ◌∙◌, arith}
+use Rattle.s4_types.specs.declared.changes.Change.TheVariants as change
+use Rattle.s4_types.specs.declared.requests.Request.TheVariants.{FlushO}
+use Rattle.s4_types.specs.declared.spans.Span.{Span}
+use Rattle.s4_model.specs.Refusals.{last_number}
+use Rattle.s4_model.specs.State.{State, state_of}
+use Rattle.s4_model.specs.Step.{stamp, accepted_record}
+use Rattle.segment_word.specs.AcceptViews.{Ledger}
+use Rattle.segment_table.specs.Room.{log_of}
+use Rattle.object_store.specs.Store.{fields_of}
+use Rattle.std.proofs.lemmas.Result.{err_from_is_err_and}
+use Rattle.admission.specs.Later.{later_refusal}
+use Rattle.drive.specs.Fields.{state_in, store_of}
+use Rattle.drive.specs.Keeping.{IsKept}
+use Rattle.drive.proofs.Parts.{can_count, kept_of}
+use Rattle.drive.proofs.Unversioned.{object_bad, refuses_bad, span_at, object_later, object_given, after_hidden}
+use Rattle.drive.proofs.drive.Drive.flush_object.Goals as goal
+
+pub returns-in_err-check_span : goal.returns-in_err-check_span
+returns-in_err-check_span g c =
+    let p = err_from_is_err_and c.from_residual.result c.from_residual.ensures.1 in
+    let kept : IsKept (state_in c.args.self.now) (store_of c.args.self.now) c.self.inside.window c.self.inside.next = kept_of c.args.self.now g.J.Naming.base c.self.inside.history c.self.inside.store c.self.inside.window c.self.inside.next c.self.view_is c.self.invariant in
+    let bad = c.in_err-check_span.ensures.of_all (state_in c.args.self.now) kept.window in
+    let of_one = c.in_err-check_span.ensures.of_one (state_in c.args.self.now) c.args.object kept.window in
+    rw (p.1, p.2) (refuses_bad (later_refusal (state_in c.args.self.now) (FlushO c.args.object c.args.first c.args.last)) c.args.self.now c.args.session.now (FlushO c.args.object c.args.first c.args.last) c.args.now _ (object_bad (state_in c.args.self.now) (span_at c.args.object c.args.first c.args.last) (of_one ∙ bad.1)) bad.0)
+
+pub accept-requires : goal.accept-requires
+accept-requires g c =
+    let clock : c.self.inside.window.clock ≡ (state_of c.self.inside.history.history).clock = c.self.invariant.1.window.clock in
+    let lt : c.self.inside.window.clock < last_number = c.in_ok-plan.ensures.clock in
+    can_count c.self.inside.history c.self.invariant.1.sound (omega arith)
+
+pub invariant_of-self : goal.invariant_of-self
+invariant_of-self g c =
+    let s : State = state_of c.self.inside.history.history in
+    let clock : c.self.inside.window.clock ≡ s.clock = c.self.invariant.1.window.clock in
+    let next : c.self.inside.next ≡ s.next = c.self.invariant.1.next in
+    let at : c.flush-moment.result ≡ stamp s c.args.now = c.flush-moment.ensures.moment ∙ ap (λ (t : ℕ). max c.args.now (t + 1)) clock in
+    let low : 1 ≤ c.args.object = c.in_ok-check_given.ensures.0 in
+    let lt : c.args.object < c.self.inside.next = c.in_ok-check_given.ensures.1 in
+    let span : Span = span_at c.args.object c.args.first c.args.last in
+    let is : c.in_ok-plan.plan.span ≡ span = c.in_ok-plan.ensures.planned.0 in (
+      ap (λ (l : Ledger). l.history.base) c.accept.ensures.history ∙ c.self.invariant.0,
+      after_hidden c.every_history_is_sound.ensures.steps c.the_state_goes_on_record_by_record.ensures.by_changes c.self.inside.history c.accept.new.history c.session.inside.seat.seat (fields_of log_of c.self.inside.store) c.self.inside.window c.flush-moment.new.self c.self.inside.next (FlushO c.args.object c.args.first c.args.last) c.args.now c.flush-moment.result (change.FlushO c.args.object c.args.first c.args.last)
+          c.self.invariant.1
+          (object_later s span c.self.inside.next next (c.in_ok-check_span.ensures.of_one s c.args.object c.self.invariant.1.window ∙ c.in_ok-check_span.ensures.of_all s c.self.invariant.1.window) low lt
+          ∙ c.in_ok-plan.ensures.judged s c.self.invariant.1.window (omega arith))
+          refl refl at c.accept.ensures.history
+          (c.flush-moment.ensures.taken s (accepted_record s (change.FlushO c.args.object c.args.first c.args.last) c.args.now) c.self.invariant.1.window
+          (object_given c.args.object c.args.first c.args.last c.self.inside.next s.next c.in_ok-plan.plan.span next lt is) (sym at)
+          (ap (λ (x : Span). Some x) (sym is))),
+    )

@@ -1,0 +1,94 @@
+-- What an accepted request is answered, and what a request leaves.
+use Rattle.std.specs.Prelude.{◌≡◌, ◌⊎◌, ℕ, Bool, true, false, if◌then◌else◌, List, [], ◌∷◌, ◌++◌, Option, None, Some, Result, MatchResult, MatchBool}
+use Rattle.s4_types.specs.declared.changes.Change.{Change}
+use Rattle.s4_types.specs.declared.refusals.Refusal.{Refusal}
+use Rattle.s4_types.specs.declared.requests.Request.{Request}
+use Rattle.s4_types.specs.declared.requests.Request.TheVariants.{Read, GetAttr}
+use Rattle.s4_types.specs.declared.replies.Reply.{Reply}
+use Rattle.s4_types.specs.declared.replies.Reply.TheVariants.{Changed, Created}
+use Rattle.s4_types.specs.declared.refusals.Refusal.TheVariants.{NoObject, NoMemory}
+use Rattle.s4_model.specs.State.{State}
+use Rattle.s4_model.specs.VersionAt.{version_of}
+use Rattle.s4_model.specs.Refusals.{moment_refusal, is_absent}
+use Rattle.s4_model.specs.Step.{change_of, stamp, reply_to_change}
+use Rattle.segment_word.specs.AcceptViews.{Ledger, Told, with_change, caught_up, credited}
+use Rattle.window.specs.Timeline.{is_of_versions}
+use Rattle.codec.specs.declared.inodes.Inode.{Inode}
+use Rattle.inode_changes.specs.Contents.{contents_of}
+use Rattle.object_store.specs.Store.{StoreFields}
+use Rattle.object_store.specs.Costs.{object_of, subject_inode, blocks_taken}
+use Rattle.object_store.specs.Taking.{data_by, Appends}
+use Rattle.segment_word.specs.AcceptRule.{Fits}
+use Rattle.drive.specs.Fields.{DriveFields, SessionFields, store_of, state_in}
+use Rattle.drive.specs.Refusing.{or_then, want_of, IsRefusal}
+
+-- a reply to an accepted change
+abbrev pub is_acceptance : Reply → Bool
+is_acceptance (Changed moment) = true
+is_acceptance (Created object moment) = true
+is_acceptance _ = false
+
+-- What a session was told after a reply: it has seen all accepted changes, and an accepted one is its own.
+abbrev pub told_after : Reply → Ledger → Told → Told
+told_after reply l t = if is_acceptance reply then credited l t else caught_up l t
+
+-- for which seat each change was accepted, after a reply to a session of this seat
+abbrev pub owners_after : Reply → ℕ → List ℕ → List ℕ
+owners_after reply seat owners = if is_acceptance reply then owners ++ seat ∷ [] else owners
+
+-- What a change at a moment leaves of a store's blocks. One that makes a version appends its data blocks by ascending index,
+-- and then those of its object's journal; any other leaves them all.
+abbrev pub Stores : StoreFields → Change → ℕ → StoreFields → Type 0
+Stores store change m after = MatchBool (is_of_versions change)
+    (Appends (object_of change) (data_by (contents_of store.log.held) change (subject_inode store (object_of change) m)) (blocks_taken store change m) store.log after.log)
+    (after ≡ store)
+
+-- what a request leaves of a store: all, but where a change was accepted
+abbrev pub Leaves : StoreFields → State → Request → ℕ → Reply → StoreFields → Type 0
+Leaves store s request now reply after = MatchBool (is_acceptance reply)
+    ((change : Change) → change_of s request ≡ Some change → Stores store change (stamp s now) after)
+    (after ≡ store)
+
+-- A change was accepted for a session, where the checks refuse so: neither they nor want of blocks refused it, the history
+-- has it, its blocks are stored, and the session was told.
+pub record TakesChange (first : Option Refusal) (d later : DriveFields) (before after : SessionFields) (request : Request) (now : ℕ) (given : Reply) : Type 0 where
+  pub change : Change
+  pub free : or_then first (want_of (store_of d) (state_in d) request now) ≡ None
+  pub asked : change_of (state_in d) request ≡ Some change
+  pub reply : given ≡ reply_to_change (state_in d) change now
+  pub ledger : later.ledger ≡ with_change d.ledger before.told.seat (stamp (state_in d) now) change
+  pub stored : Stores (store_of d) change (stamp (state_in d) now) (store_of later)
+  pub told : after ≡ record before { told = credited later.ledger before.told }
+  pub true_before : Fits d.ledger before.told
+  pub true_after : Fits later.ledger after.told
+
+-- a change was refused: nothing has changed yet
+pub record RefusesChange (first : Option Refusal) (d later : DriveFields) (before after : SessionFields) (request : Request) (now : ℕ) (given : Refusal) : Type 0 where
+  pub why : IsRefusal first (store_of d) (state_in d) request now given
+  pub ledger : later.ledger ≡ d.ledger
+  pub store : store_of later ≡ store_of d
+  pub session : after ≡ before
+
+-- what a request for a change came to
+abbrev pub Settles : Option Refusal → DriveFields → DriveFields → SessionFields → SessionFields → Request → ℕ → Result Reply Refusal → Type 0
+Settles first d later before after request now result =
+    MatchResult result (TakesChange first d later before after request now) (RefusesChange first d later before after request now)
+
+-- a request that asks for no change
+abbrev pub IsRead : Request → Type 0
+IsRead (Read object offset len at) = Unit {0}
+IsRead (GetAttr object at) = Unit {0}
+IsRead _ = ⊥
+
+-- the size that an inode tells of its object, in bytes: none where there is no inode, or a dead one
+abbrev pub size_by : Option Inode → Option ℕ
+size_by None = None
+size_by (Some i) = if i.alive then Some i.size else None
+
+-- why a moment of an object isn't read, if it isn't: it can't be, or else the object is absent then
+abbrev pub telling_refusal : State → ℕ → ℕ → Option Refusal
+telling_refusal s o t = or_then (moment_refusal s o t) (if is_absent (version_of s o t) then Some NoObject else None)
+
+-- a moment of an object isn't read: for want of memory where it could be, or for what refuses it
+abbrev pub IsUntold : State → ℕ → ℕ → Refusal → Type 0
+IsUntold s o t refusal = ((refusal ≡ NoMemory) × (moment_refusal s o t ≡ None)) ⊎ (telling_refusal s o t ≡ Some refusal)

@@ -1,0 +1,4 @@
+pub mod Fields
+pub mod Keeping
+pub mod Refusing
+pub mod Answering

@@ -1,0 +1,52 @@
+-- Why a request is refused, if it is.
+use Rattle.std.specs.Prelude.{◌≡◌, ◌⊎◌, ◌==◌, ℕ, if◌then◌else◌, Option, None, Some, option_and_then}
+use Rattle.s4_types.specs.declared.changes.Change.{Change}
+use Rattle.s4_types.specs.declared.spans.Span.{Span}
+use Rattle.s4_types.specs.declared.requests.Role.{Role}
+use Rattle.s4_types.specs.declared.requests.Request.{Request}
+use Rattle.s4_types.specs.declared.refusals.Refusal.{Refusal}
+use Rattle.s4_types.specs.declared.refusals.Refusal.TheVariants.{NoMemory, TooManySpans, ClockEnd}
+use Rattle.s4_types.specs.declared.replies.Reply.{Reply}
+use Rattle.s4_types.specs.declared.replies.Reply.TheVariants.{Refused}
+use Rattle.s4_model.specs.State.{State}
+use Rattle.s4_model.specs.Refusals.{first_refusal, is_one_span_too_many, last_number}
+use Rattle.s4_model.specs.Step.{change_of, stamp, MayWantMemory}
+use Rattle.window.specs.Timeline.{is_of_versions}
+use Rattle.object_store.specs.Store.{StoreFields}
+use Rattle.object_store.specs.Costs.{change_refusal}
+
+-- the first of two refusals
+abbrev pub or_then : Option Refusal → Option Refusal → Option Refusal
+or_then (Some first) second = Some first
+or_then None second = second
+
+-- Why a change can't be stored at a moment, if it can't: its object's chain would be full, or else there is too little room.
+-- One that makes no version takes no blocks.
+abbrev pub storing_refusal : StoreFields → ℕ → Change → Option Refusal
+storing_refusal store m change = if is_of_versions change then change_refusal store change m else None
+
+-- the same of the change that a request asks for
+abbrev pub want_of : StoreFields → State → Request → ℕ → Option Refusal
+want_of store s request now = option_and_then (storing_refusal store (stamp s now)) (change_of s request)
+
+-- Why a request is refused, if it is: the first check that applies to it, or else what its change lacks.
+abbrev pub refusal_of : StoreFields → State → Role → Request → ℕ → Option Refusal
+refusal_of store s role request now = or_then (first_refusal s role request) (want_of store s request now)
+
+-- the reply is a refusal where there is one, and that one, or want of memory
+abbrev pub RefusesBy : Option Refusal → Reply → Type 0
+RefusesBy why (Refused refusal) = (refusal ≡ NoMemory) ⊎ (why ≡ Some refusal)
+RefusesBy why _ = why ≡ None
+
+-- a refusal by the checks: want of memory where that may stand in place of what refuses first, or that
+abbrev pub IsJudgedOut : Option Refusal → Request → Refusal → Type 0
+IsJudgedOut first request refusal = ((refusal ≡ NoMemory) × MayWantMemory first request) ⊎ (first ≡ Some refusal)
+
+-- a refusal by the checks, where they refuse so, or by what the change that is asked for lacks
+abbrev pub IsRefusal : Option Refusal → StoreFields → State → Request → ℕ → Refusal → Type 0
+IsRefusal first store s request now refusal =
+    ((refusal ≡ NoMemory) × MayWantMemory first request) ⊎ (or_then first (want_of store s request now) ≡ Some refusal)
+
+-- what is left to refuse of a span that is in order, past, and of a number that was given
+abbrev pub span_refusal : State → Span → Option Refusal
+span_refusal s span = if is_one_span_too_many s span then Some TooManySpans else (if s.clock == last_number then Some ClockEnd else None)

@@ -1,0 +1,73 @@
+ghost use Rattle.std.specs.Prelude.{◌≡◌, [], IfOk, IfErr};
+ghost use mathlib.Core.List.{IsPrefix};
+ghost use Rattle.s4_types.specs.History.{accepted};
+ghost use Rattle.s4_types.specs.declared.refusals.Refusal.TheVariants.{Busy};
+ghost use Rattle.segment_word.specs.AcceptViews.{caught_up};
+ghost use Rattle.segment_word.specs.AcceptRule.{Fits};
+
+use crate::session::Session;
+use object_store::Store;
+use s4_types::{ObjectId, Refusal, Role};
+use segment_table::SegmentTable;
+use segment_word::{HistorySeat, Naming, Sessions};
+use std::alloc::Global;
+use std::marker::Model;
+use window::Window;
+
+/// A drive: its one history, and the objects that stand for it.
+///
+/// Contracts see the history with the seat that each change was accepted for, and the objects over their blocks. `J` names
+/// the drive and what its history begins with; a session of another drive has another type.
+#[derive(Drop)]
+pub struct Drive<J: Naming> {
+    pub(crate) alloc: Global,
+    pub(crate) history: HistorySeat<J>,
+    pub(crate) sessions: Sessions<J>,
+    pub(crate) store: Store<SegmentTable>,
+    pub(crate) window: Window,
+    pub(crate) next: ObjectId,
+}
+
+impl<J: Naming> Model for Drive<J> {
+    ghost use Rattle.std.specs.Prelude.{◌≡◌};
+    ghost use Rattle.s4_model.specs.State.{state_of};
+    ghost use Rattle.segment_table.specs.Room.{log_of};
+    ghost use Rattle.object_store.specs.Store.{fields_of};
+    ghost use Rattle.drive.specs.Fields.{DriveFields};
+    ghost use Rattle.drive.specs.Keeping.{IsKept};
+
+    ghost Value = { DriveFields };
+
+    ghost view = { λ d. record { ledger = d.history; store = d.store } };
+
+    ghost invariant = { λ d. (d.history.history.base ≡ J.base) × IsKept (state_of d.history.history) (fields_of log_of d.store) d.window d.next };
+}
+
+impl<J: Naming> Drive<J> {
+    /// A session of a role. It has seen all accepted changes, and none is its own yet. 64 can be had at a time, and one that
+    /// was dropped again.
+    ///
+    /// Busy where all seats are in use, or where the count of those that share the memory is full.
+    pub fn session(&mut self, role: Role) -> Result<Session<J>, Refusal>
+        ensures seen { IfOk result (λ s. s.told.seen ≡ accepted self.old.ledger.history) }
+        ensures mine { IfOk result (λ s. s.told.mine ≡ []) }
+        ensures role { IfOk result (λ s. s.role ≡ role) }
+        ensures busy { IfErr result (λ e. e ≡ Busy) }
+        ensures same { self.new ≡ self.old }
+    {
+        let mut seat = self.sessions.seat()?;
+        self.history.meet(&mut seat);
+        Ok(Session { seat, role })
+    }
+
+    /// The session has seen all accepted changes afterwards.
+    pub fn meet(&mut self, session: &mut Session<J>)
+        ensures session { session.new ≡ record session.old { told = caught_up self.old.ledger session.old.told } }
+        ensures grows { IsPrefix session.old.told.seen session.new.told.seen }
+        ensures before { Fits self.old.ledger session.old.told }
+        ensures after { Fits self.new.ledger session.new.told }
+        ensures same { self.new ≡ self.old }
+    {
+        self.history.meet(&mut session.seat);
+    }
+}

@@ -1,0 +1,28 @@
+//! The drive: objects that keep every version, behind sessions that share one history.
+//!
+//! The layers above may rely on this: a [`Drive`] has one history, and a request is exactly the step that the model makes on
+//! it, the reply and the next history. At every moment each object's blocks stand for the version that the history tells. A
+//! change is refused for a full chain or want of room exactly where its own blocks say so, and what is refused leaves objects,
+//! window and spans. After each call a session has seen all accepted changes, and only an accepted one of its own adds to its
+//! numbers.
+//!
+//! A request costs at most one walk of its own object's journal, and the blocks of its own bytes, whatever else the drive has.
+//! Nothing here waits or knows of threads: whoever shares a drive holds it under a lock.
+#![tactic(auto)]
+
+mod accepting;
+mod changing;
+mod drive;
+mod hiding;
+mod looking;
+mod making;
+mod requests;
+mod session;
+mod telling;
+#[cfg(test)]
+mod tests;
+mod upkeep;
+
+pub use drive::Drive;
+pub use making::NewDrive;
+pub use session::Session;

@@ -1,0 +1,79 @@
+//! What a drive holds, for the layers above it.
+ghost use Rattle.std.specs.Prelude.{◌≡◌, ℕ, ◌<◌, None, MatchBool, IfSome, IfNone, IfOk, IfErr};
+ghost use Rattle.s4_types.specs.declared.refusals.Refusal.TheVariants.{NoMemory};
+ghost use Rattle.s4_model.specs.Visible.{IsSeenBetween};
+ghost use Rattle.s4_model.specs.Sound.{IsSound};
+ghost use Rattle.object_map.specs.Rows.{row_of, IsNextAbove};
+ghost use Rattle.object_store.specs.Store.{IsStore};
+ghost use Rattle.object_store.specs.Costs.{room};
+ghost use Rattle.object_store.specs.Versions.{inode_in};
+ghost use Rattle.drive.specs.Fields.{history_of, state_in, store_of};
+ghost use Rattle.drive.specs.Keeping.{DecodesWhereVisible};
+
+use crate::drive::Drive;
+use codec::Inode;
+use object_map::Row;
+use s4_types::{Moment, ObjectId, Refusal};
+use segment_word::Naming;
+
+impl<J: Naming> Drive<J> {
+    /// Shows what always holds of a drive: at each moment that can be read, the blocks of each object decode to exactly the
+    /// version that the history tells; that history begins with the drive's base and is sound; and the objects stand on
+    /// their blocks.
+    pub fn rules(&self)
+        ensures decodes { DecodesWhereVisible (store_of self.now) (state_in self.now) }
+        ensures base { (history_of self.now).base ≡ J.base }
+        ensures sound { IsSound (state_in self.now) }
+        ensures store { IsStore (store_of self.now) }
+    {
+        let _ = &self.next;
+    }
+
+    /// The clock: the last moment given or seen.
+    pub fn clock(&self) -> Moment
+        ensures { result ≡ (state_in self.now).clock }
+    {
+        self.window.clock()
+    }
+
+    /// How many blocks changes of objects may still append: the reserve of 60 is not theirs.
+    pub fn room(&self) -> usize
+        ensures { result ≡ room (store_of self.now) }
+    {
+        self.store.room()
+    }
+
+    /// The row of an object, if it has one.
+    pub fn row(&self, object: ObjectId) -> Option<Row>
+        ensures { result ≡ row_of self.now.store.rows object }
+    {
+        self.store.row(object)
+    }
+
+    /// The least object above this one that has a row.
+    pub fn next_row(&self, object: ObjectId) -> Option<ObjectId>
+        ensures some { IfSome result (λ next. IsNextAbove self.now.store.rows object next) }
+        ensures none { IfNone result ((q : ℕ) → object < q → row_of self.now.store.rows q ≡ None) }
+    {
+        self.store.next_row(object)
+    }
+
+    /// Whether some moment of an object, of those from `first` to `last`, can be read.
+    pub fn sees(&self, object: ObjectId, first: Moment, last: Moment) -> bool
+        ensures { MatchBool result (IsSeenBetween (state_in self.now) object first last) (IsSeenBetween (state_in self.now) object first last → ⊥) }
+    {
+        self.window.sees(object, first, last)
+    }
+
+    /// The inode of an object at a moment, and none where it has no row. It takes one walk of the object's journal.
+    ///
+    /// NoMemory alone, where the memory for the journal's entries is refused.
+    pub fn inode_at(&mut self, object: ObjectId, at: Moment) -> Result<Option<Inode>, Refusal>
+        ensures inode { IfOk result (λ inode. inode ≡ inode_in (store_of self.old) object at) }
+        ensures refusal { IfErr result (λ e. e ≡ NoMemory) }
+        ensures ledger { self.new.ledger ≡ self.old.ledger }
+        ensures store { store_of self.new ≡ store_of self.old }
+    {
+        self.store.inode_at(object, at)
+    }
+}

@@ -1,0 +1,87 @@
+ghost use Rattle.std.specs.Prelude.{◌≡◌, ◌⊎◌, ◌≤◌, None, IfOk, IfErr};
+ghost use Rattle.s4_types.specs.declared.refusals.Refusal.TheVariants.{NoMemory, Busy};
+ghost use Rattle.s4_model.specs.State.{new_base};
+ghost use Rattle.segment_word.specs.AcceptViews.{begun};
+ghost use Rattle.segment_table.specs.Room.{log_of, new_places};
+
+use crate::drive::Drive;
+use object_store::Store;
+use s4_model::laws::every_history_is_sound;
+use s4_types::{ObjectId, Refusal};
+use segment_table::SegmentTable;
+use segment_word::{Accepts, Naming};
+use std::alloc::Global;
+use std::marker::Model;
+use window::Window;
+
+/// A new drive that has no name yet. Contracts see the table of its accept word, its objects and its window.
+#[derive(Drop)]
+pub struct NewDrive {
+    alloc: Global,
+    accepts: Accepts,
+    store: Store<SegmentTable>,
+    window: Window,
+}
+
+impl Model for NewDrive {
+    ghost use Rattle.s4_model.specs.State.{state_of, new_history};
+    ghost use Rattle.segment_table.specs.Room.{log_of};
+    ghost use Rattle.object_store.specs.Store.{fields_of};
+    ghost use Rattle.drive.specs.Fields.{NewFields};
+    ghost use Rattle.drive.specs.Keeping.{IsKept};
+
+    ghost Value = { NewFields };
+
+    ghost view = { λ d. record { accepts = d.accepts; store = d.store; window = d.window.window } };
+
+    ghost invariant = { λ d. IsKept (state_of (new_history d.window.window)) (fields_of log_of d.store) d.window 1 };
+}
+
+impl NewDrive {
+    /// A new drive of 8 to 1,024 frames, whose history reaches `window` moments back. Nothing is stored in it.
+    ///
+    /// NoMemory where memory was refused, Busy where a count of those that share it was full.
+    #[tactic(auto, using(crate::proofs::Beginning::few_places, crate::proofs::Beginning::kept_new))]
+    pub fn new(alloc: Global, frames: usize, window: u64) -> Result<Self, Refusal>
+        requires { (8 ≤ frames) × (frames ≤ 1024) }
+        ensures window { IfOk result (λ d. d.window ≡ window) }
+        ensures log { IfOk result (λ d. log_of d.store.table ≡ record { held = λ p. None; ahead = new_places frames }) }
+        ensures refusal { IfErr result (λ e. (e ≡ NoMemory) ⊎ (e ≡ Busy)) }
+    {
+        every_history_is_sound();
+        let table = SegmentTable::new(alloc, frames)?;
+        let store = Store::new(alloc, table);
+        let accepts = Accepts::new(alloc)?;
+        let window = Window::new(alloc, window);
+        Ok(NewDrive {
+            alloc,
+            accepts,
+            store,
+            window,
+        })
+    }
+
+    /// The drive, under a name that says which one it is and what its history begins with.
+    pub fn named<J: Naming>(self) -> Drive<J>
+        requires accepts { self.accepts ≡ J.accepts }
+        requires base { new_base self.window ≡ J.base }
+        ensures ledger { result.ledger ≡ begun J.base }
+        ensures store { result.store ≡ self.store }
+    {
+        let NewDrive {
+            alloc,
+            accepts,
+            store,
+            window,
+        } = self;
+        let (sessions, history) = accepts.named::<J>();
+        Drive {
+            alloc,
+            history,
+            sessions,
+            store,
+            window,
+            next: ObjectId::new(1),
+        }
+    }
+}

@@ -1,0 +1,111 @@
+//! Requests: each is one step of the drive's history.
+ghost use Rattle.std.specs.Prelude.{◌≡◌, MatchBool, MatchResult};
+ghost use Rattle.s4_types.specs.Sizes.{ReplyFits};
+ghost use Rattle.s4_model.specs.Refusals.{first_refusal};
+ghost use Rattle.s4_model.specs.Step.{Step, judged};
+ghost use Rattle.s4_model.specs.Plain.{IsChange};
+ghost use Rattle.segment_word.specs.AcceptViews.{with_moment, caught_up};
+ghost use Rattle.segment_word.specs.AcceptRule.{Fits};
+ghost use Rattle.drive.specs.Fields.{history_of, state_in, store_of};
+ghost use Rattle.drive.specs.Refusing.{refusal_of, RefusesBy};
+ghost use Rattle.drive.specs.Answering.{IsRead, Leaves, Settles, told_after, owners_after};
+
+use crate::drive::Drive;
+use crate::session::Session;
+use admission::check;
+use s4_model::laws::{every_history_is_sound, the_state_goes_on_record_by_record};
+use s4_types::{Moment, Refusal, Reply, Request};
+use segment_word::Naming;
+
+/// Whether a request asks for no change.
+fn is_read(request: &Request) -> bool
+    ensures { MatchBool result (IsRead request.now) (IsChange request.now) }
+{
+    matches!(request, Request::Read { .. } | Request::GetAttr { .. })
+}
+
+/// The reply to what was told.
+fn reply_of(told: Result<Reply, Refusal>) -> Reply
+    ensures { MatchResult told (λ reply. result ≡ reply) (λ refusal. result ≡ Reply.Refused refusal) }
+{
+    match told {
+        Ok(reply) => reply,
+        Err(refusal) => Reply::Refused(refusal),
+    }
+}
+
+impl<J: Naming> Drive<J> {
+    /// What a request of a session is answered at a moment `now` of the server's clock, and all that it changes.
+    ///
+    /// A change is stamped with the greater of `now` and the clock plus one. What is refused, a Read and a GetAttr move the
+    /// clock to `now` if that is later, and leave all else. ChainFull and NoSpace come of changes of objects alone, where
+    /// nothing else refuses them: ChainFull where the entries of the object's chain would have more than 11,712 bytes, else
+    /// NoSpace where there is less room than blocks are appended. NoMemory comes only where a growth was refused.
+    pub fn request(&mut self, session: &mut Session<J>, request: Request, now: Moment) -> Reply
+        // The history goes on by a step of the model.
+        ensures step { Step (history_of self.old) session.old.role request now result (history_of self.new) }
+        // The reply is a refusal exactly where there is one, but for want of memory.
+        ensures refused { RefusesBy (refusal_of (store_of self.old) (judged (history_of self.old) request now) session.old.role request now) result }
+        // An accepted change appends exactly its blocks; nothing else does.
+        ensures stored { Leaves (store_of self.old) (state_in self.old) request now result (store_of self.new) }
+        ensures fits { ReplyFits result }
+
+        // The session has seen all accepted changes, and an accepted one is its own.
+        ensures session { session.new ≡ record session.old { told = told_after result self.new.ledger session.old.told } }
+        ensures owners { self.new.ledger.owners ≡ owners_after result session.old.told.seat self.old.ledger.owners }
+        ensures before { Fits self.old.ledger session.old.told }
+        ensures after { Fits self.new.ledger session.new.told }
+    {
+        if is_read(&request) {
+            self.see(session, now);
+            let role = session.role;
+            return reply_of(self.tell(role, &request));
+        }
+        match self.change(session, request, now) {
+            Ok(reply) => reply,
+            Err(refusal) => {
+                self.see(session, now);
+                Reply::Refused(refusal)
+            }
+        }
+    }
+
+    /// A moment is seen, and the session has seen all accepted changes.
+    fn see(&mut self, session: &mut Session<J>, now: Moment)
+        ensures ledger { self.new.ledger ≡ with_moment self.old.ledger now }
+        ensures store { self.new.store ≡ self.old.store }
+        ensures session { session.new ≡ record session.old { told = caught_up self.new.ledger session.old.told } }
+        ensures before { Fits self.old.ledger session.old.told }
+        ensures after { Fits self.new.ledger session.new.told }
+    {
+        every_history_is_sound();
+        the_state_goes_on_record_by_record();
+        self.window.observe(now);
+        self.history.see(now);
+        self.history.meet(&mut session.seat);
+    }
+
+    /// A request for a change: accepted, or refused before anything has changed.
+    fn change(
+        &mut self,
+        session: &mut Session<J>,
+        request: Request,
+        now: Moment,
+    ) -> Result<Reply, Refusal>
+        requires { IsChange request }
+        ensures { Settles (first_refusal (state_in self.old) session.old.role request) self.old self.new session.old session.new request now result }
+    {
+        let role = session.role;
+        check(role, &request)?;
+        match request {
+            Request::SetWindow { window } => self.set_window(session, window, now),
+            Request::Flush { first, last } => self.flush(session, first, last, now),
+            Request::FlushO {
+                object,
+                first,
+                last,
+            } => self.flush_object(session, object, first, last, now),
+            versions => self.change_object(session, versions, now),
+        }
+    }
+}

@@ -1,0 +1,127 @@
+//! Reads: what an object was at a moment that can be read.
+ghost use Rattle.std.specs.Prelude.{◌≡◌, ◌≤◌, true, None, Some, IfOk, IfErr, OnOk};
+ghost use Rattle.s4_types.specs.Sizes.{ReplyFits};
+ghost use Rattle.s4_types.specs.declared.limits.TheConstants.{READ_BYTES};
+ghost use Rattle.s4_types.specs.declared.requests.Request.TheVariants.{Read, GetAttr};
+ghost use Rattle.s4_types.specs.declared.refusals.Refusal.TheVariants.{NoMemory};
+ghost use Rattle.s4_types.specs.declared.versions.Version.TheVariants.{Live};
+ghost use Rattle.s4_model.specs.VersionAt.{version_of};
+ghost use Rattle.s4_model.specs.Refusals.{first_refusal, asked};
+ghost use Rattle.s4_model.specs.Step.{reply_to_read};
+ghost use Rattle.inode_changes.specs.Contents.{contents_of, bytes_of};
+ghost use Rattle.admission.specs.Later.{later_refusal, IsWithin};
+ghost use Rattle.object_store.specs.Versions.{inode_in};
+ghost use Rattle.drive.specs.Fields.{state_in, store_of};
+ghost use Rattle.drive.specs.Refusing.{IsJudgedOut};
+ghost use Rattle.drive.specs.Answering.{IsRead, IsUntold, telling_refusal};
+
+use crate::drive::Drive;
+use admission::check;
+use codec::Inode;
+use inode_changes::laws::bytes_are_the_blocks_joined;
+use s4_types::{Bytes, Moment, ObjectId, Refusal, Reply, Request, Role};
+use segment_word::Naming;
+use std::alloc::Global;
+
+/// The attributes that a live inode tells of its object.
+fn attributes_of(alloc: Global, inode: &Inode) -> Result<Reply, Refusal>
+    ensures ok { IfOk result (λ reply. reply ≡ Reply.Attr inode.now.size inode.now.created inode.now.changed inode.now.attribute) }
+    ensures fits { IfOk result ReplyFits }
+    ensures err { IfErr result (λ e. e ≡ NoMemory) }
+{
+    let attribute = Bytes::from_slice(alloc, inode.attribute.as_slice())?;
+    Ok(Reply::Attr {
+        size: inode.size,
+        created: inode.created,
+        changed: inode.changed,
+        attribute,
+    })
+}
+
+impl<J: Naming> Drive<J> {
+    /// The moment that a read asks for: the present clock where it names none.
+    fn moment_asked(&self, at: Option<Moment>) -> Moment
+        ensures { result ≡ asked (state_in self.now) at }
+    {
+        at.unwrap_or(self.window.clock())
+    }
+
+    /// The inode of an object at a moment, where that can be read and the object is there. Takes one walk of the object's
+    /// journal.
+    fn live_inode(&mut self, object: ObjectId, at: Moment) -> Result<Inode, Refusal>
+        ensures ledger { self.new.ledger ≡ self.old.ledger }
+        ensures store { store_of self.new ≡ store_of self.old }
+        ensures free { OnOk result (telling_refusal (state_in self.old) object at ≡ None) }
+        ensures inode { IfOk result (λ inode. inode_in (store_of self.old) object at ≡ Some inode) }
+        ensures version { IfOk result (λ inode. version_of (state_in self.old) object at ≡ Live (bytes_of (contents_of (store_of self.old).log.held) inode) inode.attribute inode.created inode.changed) }
+        ensures refused { IfErr result (IsUntold (state_in self.old) object at) }
+    {
+        self.window.visible(object, at)?;
+        let Some(inode) = self.store.inode_at(object, at)? else {
+            return Err(Refusal::NoObject);
+        };
+        if !inode.alive {
+            return Err(Refusal::NoObject);
+        }
+        Ok(inode)
+    }
+
+    /// The bytes of an object from an offset on, at a moment.
+    fn read(
+        &mut self,
+        object: ObjectId,
+        offset: u64,
+        length: u32,
+        at: Option<Moment>,
+    ) -> Result<Reply, Refusal>
+        requires { length ≤ READ_BYTES }
+        ensures ledger { self.new.ledger ≡ self.old.ledger }
+        ensures store { store_of self.new ≡ store_of self.old }
+        ensures fits { IfOk result ReplyFits }
+        ensures ok { IfOk result (λ reply. (later_refusal (state_in self.old) (Read object offset length at) ≡ None) × (reply_to_read (state_in self.old) (Read object offset length at) ≡ Some reply)) }
+        ensures refused { IfErr result (IsJudgedOut (later_refusal (state_in self.old) (Read object offset length at)) (Read object offset length at)) }
+    {
+        let moment = self.moment_asked(at);
+        let inode = self.live_inode(object, moment)?;
+        let bytes = self
+            .store
+            .read(object, moment, &inode, offset, u64::from(length))?;
+        Ok(Reply::Data(Bytes::from_vec(bytes)))
+    }
+
+    /// An object's size, moments and attribute, at a moment.
+    fn get_attr(&mut self, object: ObjectId, at: Option<Moment>) -> Result<Reply, Refusal>
+        ensures ledger { self.new.ledger ≡ self.old.ledger }
+        ensures store { store_of self.new ≡ store_of self.old }
+        ensures fits { IfOk result ReplyFits }
+        ensures ok { IfOk result (λ reply. (later_refusal (state_in self.old) (GetAttr object at) ≡ None) × (reply_to_read (state_in self.old) (GetAttr object at) ≡ Some reply)) }
+        ensures refused { IfErr result (IsJudgedOut (later_refusal (state_in self.old) (GetAttr object at)) (GetAttr object at)) }
+    {
+        bytes_are_the_blocks_joined();
+        let moment = self.moment_asked(at);
+        let inode = self.live_inode(object, moment)?;
+        attributes_of(self.alloc, &inode)
+    }
+
+    /// The reply to a read, by the history that has seen its moment.
+    pub(crate) fn tell(&mut self, role: Role, request: &Request) -> Result<Reply, Refusal>
+        requires { IsRead request.now }
+        ensures ledger { self.new.ledger ≡ self.old.ledger }
+        ensures store { store_of self.new ≡ store_of self.old }
+        ensures fits { IfOk result ReplyFits }
+        ensures ok { IfOk result (λ reply. (first_refusal (state_in self.old) role request.now ≡ None) × (reply_to_read (state_in self.old) request.now ≡ Some reply)) }
+        ensures refused { IfErr result (IsJudgedOut (first_refusal (state_in self.old) role request.now) request.now) }
+    {
+        check(role, request)?;
+        match request {
+            Request::Read {
+                object,
+                offset,
+                length,
+                at,
+            } => self.read(*object, *offset, *length, *at),
+            Request::GetAttr { object, at } => self.get_attr(*object, *at),
+            _ => unreachable!(),
+        }
+    }
+}

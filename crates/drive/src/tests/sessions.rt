@@ -1,0 +1,102 @@
+//! Sessions: how many there are, and what one sees of another's changes.
+use crate::tests::asking::{Ask, Row, Told, reply_of, request_of};
+use crate::tests::{Scene, play};
+use crate::{Drive, NewDrive, Session};
+use s4_types::Refusal::{Busy, NoMemory, NotAdmin};
+use s4_types::Role::{Admin, Client};
+use s4_types::{Moment, Reply};
+use segment_word::Naming;
+use std::alloc::Global;
+use std::process::Abort;
+use std::test::Fail;
+
+/// 64 sessions are there at a time.
+#[derive(Drop)]
+struct Crowd;
+
+impl Scene for Crowd {
+    fn play<J: Naming, R: Abort>(self, rt: &R, alloc: Global, drive: Drive<J>) -> Result<(), Fail> {
+        let mut drive = drive;
+        let mut sessions = Vec::new(alloc);
+        for _ in 0..64 {
+            sessions.push(drive.session(Client)?)?;
+        }
+        assert!(rt; matches!(&drive.session(Client), Err(Busy)));
+        assert!(rt; matches!(&drive.session(Admin), Err(Busy)));
+        drop(sessions.pop());
+        let Ok(last) = drive.session(Admin) else {
+            return Err(Fail::from("a seat came back"));
+        };
+        assert!(rt; matches!(&drive.session(Client), Err(Busy)));
+        drop(last);
+        drop(sessions);
+        for _ in 0..200 {
+            assert!(rt; drive.session(Client).is_ok());
+        }
+        Ok(())
+    }
+}
+
+#[test]
+fn sixty_four_sessions(rt: HostRuntime) -> Result<(), Fail> {
+    play(&rt, rt.alloc(), 8, 100, Crowd)
+}
+
+/// What a session that has met the drive is answered.
+fn reply_to<J: Naming>(
+    drive: &mut Drive<J>,
+    session: &mut Session<J>,
+    alloc: Global,
+    now: u64,
+    asked: Ask,
+) -> Result<Reply, Fail> {
+    drive.meet(session);
+    Ok(drive.request(session, request_of(alloc, asked)?, Moment::new(now)))
+}
+
+/// What two sessions of a client and one of an administrator ask in turn, by their numbers.
+const TURNS: [(usize, Row); 9] = [
+    (0, (Client, 1, Ask::Create(b""), Told::Created(1, 1))),
+    (0, (Client, 2, Ask::Write(1, 0, b"q"), Told::Changed(2))),
+    (1, (Client, 2, Ask::Read(1, 0, 9), Told::Data(b"q"))),
+    (1, (Client, 2, Ask::Append(1, b"r"), Told::Changed(3))),
+    (0, (Client, 2, Ask::Read(1, 0, 9), Told::Data(b"qr"))),
+    (0, (Client, 2, Ask::SetWindow(9), Told::Refused(NotAdmin))),
+    (2, (Admin, 2, Ask::SetWindow(9), Told::Changed(4))),
+    (2, (Admin, 2, Ask::Delete(1), Told::Changed(5))),
+    (1, (Client, 2, Ask::ReadAt(1, 0, 9, 4), Told::Data(b"qr"))),
+];
+
+#[derive(Drop)]
+struct InTurn;
+
+impl Scene for InTurn {
+    fn play<J: Naming, R: Abort>(self, rt: &R, alloc: Global, drive: Drive<J>) -> Result<(), Fail> {
+        let mut drive = drive;
+        let mut one = drive.session(Client)?;
+        let mut two = drive.session(Client)?;
+        let mut three = drive.session(Admin)?;
+        for (who, (_, now, asked, told)) in TURNS {
+            let reply = match who {
+                0 => reply_to(&mut drive, &mut one, alloc, now, asked)?,
+                1 => reply_to(&mut drive, &mut two, alloc, now, asked)?,
+                _ => reply_to(&mut drive, &mut three, alloc, now, asked)?,
+            };
+            assert_eq!(rt; reply, reply_of(alloc, told)?, "{asked:?}");
+        }
+        Ok(())
+    }
+}
+
+#[test]
+fn sessions_in_turn(rt: HostRuntime) -> Result<(), Fail> {
+    play(&rt, rt.alloc(), 8, 100, InTurn)
+}
+
+/// Passes under each refusal of memory.
+#[test]
+fn refused_memory_gives_no_drive(rt: HostRuntime) {
+    if let Err(refusal) = NewDrive::new(rt.alloc(), 8, 100) {
+        assert!(rt; refusal == NoMemory);
+    }
+}

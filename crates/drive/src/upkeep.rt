@@ -1,0 +1,55 @@
+//! Upkeep: what leaves the history and each version as they are, whatever it answers.
+ghost use Rattle.std.specs.Prelude.{◌≡◌, ◌⊎◌, ℕ, true, None, Some, ◌++◌, IfSome, IfErr, OnOk, OnErr, MatchResult};
+ghost use Rattle.s4_types.specs.declared.refusals.Refusal.TheVariants.{NoMemory};
+ghost use Rattle.inode_links.specs.Runs.{AllBy};
+ghost use Rattle.segment_table.specs.Changes.{IsFilling, NoneIsFilling, IsSealedIn};
+ghost use Rattle.segment_table.specs.Room.{rest_of, places_ahead};
+ghost use Rattle.object_map.specs.Rows.{row_of};
+ghost use Rattle.time_read.specs.Rows.{entries_of};
+ghost use Rattle.object_store.specs.Versions.{inode_in, version_in};
+ghost use Rattle.object_store.specs.Checkpointing.{is_behind, checkpoint_refusal, Checkpoints};
+ghost use Rattle.drive.specs.Fields.{store_of};
+
+use crate::drive::Drive;
+use s4_types::{ObjectId, Refusal};
+use segment_word::Naming;
+
+impl<J: Naming> Drive<J> {
+    /// Seals the open frame, after which none is open; without effect where none was. What is held stays; the frame's
+    /// unused blocks are ahead no longer, so that there may be less room.
+    pub fn seal(&mut self)
+        ensures closed { NoneIsFilling self.new.store.table }
+        ensures idle { NoneIsFilling self.old.store.table → self.new.store.table ≡ self.old.store.table }
+        ensures sealed { (f : ℕ) → IsFilling f self.old.store.table → IsSealedIn f self.old.store.table self.new.store.table }
+        ensures held { (store_of self.new).log.held ≡ (store_of self.old).log.held }
+        ensures ahead { (f : ℕ) → IsFilling f self.old.store.table → rest_of self.old.store.table f ++ places_ahead self.new.store.table ≡ places_ahead self.old.store.table }
+        ensures rows { self.new.store.rows ≡ self.old.store.rows }
+        ensures latest { self.new.store.latest ≡ self.old.store.latest }
+        ensures ledger { self.new.ledger ≡ self.old.ledger }
+        ensures versions { (o t : ℕ) → version_in (store_of self.new) o t ≡ version_in (store_of self.old) o t }
+    {
+        self.store.seal();
+    }
+
+    /// Sees to it that an object's checkpoint isn't older than its last journal entry: where it is, the object's present
+    /// inode is written as its checkpoint, which takes one block; else nothing is written. An object that is deleted and has
+    /// a row still is like any other.
+    ///
+    /// NoObject exactly where the object has no row; else NoSpace exactly where the checkpoint has to be written and there
+    /// is no room beside the reserve; else NoMemory where it has to be written and the memory for the journal's entries was
+    /// refused. Then nothing has changed.
+    pub fn checkpoint(&mut self, object: ObjectId) -> Result<(), Refusal>
+        ensures checkpoint { OnOk result (Checkpoints (store_of self.old) object (store_of self.new)) }
+        ensures current { OnOk result (IfSome (row_of self.new.store.rows object) (λ row. AllBy row.checkpoint_moment (entries_of (store_of self.new).log.held object row))) }
+        ensures answer { MatchResult result (λ _. checkpoint_refusal (store_of self.old) object ≡ None)
+            (λ e. (e ≡ NoMemory) ⊎ (checkpoint_refusal (store_of self.old) object ≡ Some e)) }
+        ensures memory { IfErr result (λ e. e ≡ NoMemory → (checkpoint_refusal (store_of self.old) object ≡ None)
+            × IfSome (row_of self.old.store.rows object) (λ row. is_behind (store_of self.old).log.held object row ≡ true)) }
+        ensures unchanged { OnErr result (store_of self.new ≡ store_of self.old) }
+        ensures ledger { self.new.ledger ≡ self.old.ledger }
+        ensures versions { (o t : ℕ) → version_in (store_of self.new) o t ≡ version_in (store_of self.old) o t }
+        ensures inodes { (o t : ℕ) → inode_in (store_of self.new) o t ≡ inode_in (store_of self.old) o t }
+    {
+        self.store.checkpoint(object)
+    }
+}

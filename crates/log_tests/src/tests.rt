@@ -1,0 +1,10 @@
+//! The records of the log over a segment table.
+mod checkpoints;
+mod deletions;
+mod full_chains;
+mod full_tables;
+mod large_writes;
+mod pushing;
+mod subject;
+mod tables;
+mod worked;

@@ -1,0 +1,123 @@
+//! Chains and checkpoints where too few places are ahead.
+ghost use Rattle.std.specs.Prelude.{◌≡◌, None, IfOk, OnOk};
+ghost use Rattle.s4_types.specs.Pointer.{Place};
+ghost use Rattle.journal_chain.specs.Chain.{Holds, entries_held};
+
+use crate::tests::pushing::{
+    append_data, empty_chain, long_entries, long_entry, push, read_back, rewrite, short_entry,
+};
+use crate::tests::tables::{held_blocks, new_table, place};
+use blocks::Blocks;
+use checkpoint::write_checkpoint;
+use codec::Checkpoint;
+use inode_links::blank;
+use journal_chain::Chain;
+use s4_types::{Moment, ObjectId, Refusal};
+use std::process::Abort;
+use std::test::Fail;
+
+/// Appends 118 data blocks, and pushes an entry of 34 bytes behind them: one place of eight frames is left.
+fn crowd<B: Blocks>(table: &mut B, chain: &mut Chain) -> Result<(), Fail>
+    requires { Holds (B.log table.old).held chain.old (entries_held (B.log table.old).held chain.old) }
+    ensures { OnOk result (Holds (B.log table.new).held chain.new (entries_held (B.log table.new).held chain.new)) }
+{
+    for k in 0..118u8 {
+        append_data(table, chain, &[k; 512])?;
+    }
+    push(table, chain, &[short_entry(1).ok_or("an entry")?])?;
+    Ok(())
+}
+
+/// A chain of an entry of 34 bytes behind 118 other blocks, over a table that holds nothing.
+fn crowded<B: Blocks>(table: &mut B) -> Result<Chain, Fail>
+    requires { (p : Place) → (B.log table.old).held p ≡ None }
+    ensures { IfOk result (λ chain. Holds (B.log table.new).held chain (entries_held (B.log table.new).held chain)) }
+{
+    let mut chain = empty_chain(table);
+    crowd(table, &mut chain)?;
+    Ok(chain)
+}
+
+/// Pushes two entries that need two places where one is left, and then one of them.
+fn push_two<B: Blocks>(
+    rt: &impl Abort,
+    table: &mut B,
+    told: &mut [(u64, usize)],
+) -> Result<(), Fail>
+    requires { (p : Place) → (B.log table.old).held p ≡ None }
+{
+    let mut chain = crowded(table)?;
+    assert_eq!(rt; (chain.bytes(), chain.head()), (34, place(118)));
+    assert_eq!(rt; table.blocks_left(), 1);
+
+    // The first entry goes into the head, which is written anew, and the second begins a block.
+    let before = chain;
+    let both = long_entries(2).ok_or("entries")?;
+    assert_eq!(rt; chain.blocks_needed(&[244, 244]), 2);
+    assert_eq!(rt; push(table, &mut chain, &both), Err(Refusal::NoSpace));
+    assert!(rt; chain == before && table.blocks_left() == 1);
+    push(table, &mut chain, &both[..1])?;
+    assert_eq!(rt; (chain.bytes(), chain.head()), (278, place(119)));
+    assert_eq!(rt; table.blocks_left(), 0);
+    read_back(table, &chain, told);
+    Ok(())
+}
+
+#[test]
+fn a_push_that_needs_two_places(rt: HostRuntime) -> Result<(), Fail> {
+    let mut table = new_table(rt.alloc(), 8)?;
+    let mut told = [(0, 0); 3];
+    push_two(&rt, &mut table, &mut told)?;
+    assert_eq!(rt; told, [(2, 12), (1, 0), (0, 0)]);
+    Ok(())
+}
+
+/// The same chain where no place is left.
+fn crowded_out<B: Blocks>(table: &mut B) -> Result<Chain, Fail>
+    requires { (p : Place) → (B.log table.old).held p ≡ None }
+    ensures { IfOk result (λ chain. Holds (B.log table.new).held chain (entries_held (B.log table.new).held chain)) }
+{
+    let chain = crowded(table)?;
+    append_data(table, &chain, &[118; 512])?;
+    Ok(chain)
+}
+
+/// Asks for pushes, a chain afresh and a block of data where no place is left.
+fn ask_for_places<B: Blocks>(rt: &impl Abort, table: &mut B) -> Result<(), Fail>
+    requires { (p : Place) → (B.log table.old).held p ≡ None }
+{
+    let mut chain = crowded_out(table)?;
+    let before = chain;
+    let both = [
+        short_entry(2).ok_or("an entry")?,
+        long_entry(3).ok_or("an entry")?,
+    ];
+    // An entry that fits into the head needs a place as well.
+    assert_eq!(rt; chain.blocks_needed(&[34]), 1);
+    let refused = push(table, &mut chain, &both[..1]);
+    assert_eq!(rt; refused, Err(Refusal::NoSpace));
+    assert_eq!(rt; push(table, &mut chain, &[]), Ok(()));
+    let refused = rewrite(table, &mut chain, &both);
+    assert_eq!(rt; refused, Err(Refusal::NoRoom));
+    let refused = append_data(table, &chain, &[119; 512]);
+    assert_eq!(rt; refused, Err(Refusal::NoSpace));
+    assert!(rt; chain == before);
+    Ok(())
+}
+
+#[test]
+fn calls_where_no_place_is_ahead(rt: HostRuntime) -> Result<(), Fail> {
+    let mut table = new_table(rt.alloc(), 8)?;
+    ask_for_places(&rt, &mut table)?;
+    let object = ObjectId::new(1);
+    let inode = blank(Moment::new(1));
+    let checkpoint = Checkpoint::new(object, Moment::new(3), inode).ok_or("a checkpoint")?;
+    let refused = write_checkpoint(&mut table, &checkpoint);
+    assert_eq!(rt; refused, Err(Refusal::NoSpace));
+    assert_eq!(rt; table.blocks_left(), 0);
+
+    let mut other = new_table(rt.alloc(), 8)?;
+    crowded_out(&mut other)?;
+    assert!(rt; held_blocks(&mut table) == held_blocks(&mut other));
+    Ok(())
+}

@@ -1,0 +1,178 @@
+//! Writes of whole objects, whose entries of one moment stand in several journal blocks.
+ghost use Rattle.std.specs.Prelude.{◌<◌, ◌≤◌, OnOk};
+ghost use Rattle.log_tests.specs.Subject.{IsPresent};
+
+use crate::tests::subject::{OBJECT, Subject};
+use crate::tests::tables::{new_table, place};
+use blocks::Blocks;
+use codec::{Entry, Inode, Status, decode_journal};
+use inode_links::blank;
+use s4_types::{Moment, ObjectId, Ptr};
+use std::alloc::Global;
+use std::process::Abort;
+use std::test::Fail;
+
+/// What an entry tells of an object of the largest size, changed at a moment.
+fn whole(changed: u64) -> Status {
+    Status {
+        alive: true,
+        size: 24_576,
+        changed: Moment::new(changed),
+    }
+}
+
+/// An object made at moment 10, whose attribute is empty.
+fn made() -> Inode {
+    let mut inode = blank(Moment::new(10));
+    inode.alive = true;
+    inode.changed = Moment::new(10);
+    inode
+}
+
+/// The object with the largest size, changed at a moment, whose pointers lead to 48 places from this number on.
+fn written(changed: u64, first: usize) -> Inode
+    requires { first ≤ 100 }
+{
+    let mut inode = made();
+    inode.size = 24_576;
+    inode.changed = Moment::new(changed);
+    for index in 0..48usize {
+        inode.pointers[index] = place(first + index);
+    }
+    inode
+}
+
+/// Looks at one entry of 16 pointers from an index on, each of which led nowhere and leads to a place from this number
+/// on.
+fn check_entry(rt: &impl Abort, entry: &Entry, first_index: usize, first_place: usize)
+    requires index { first_index ≤ 100 }
+    requires place { first_place ≤ 100 }
+{
+    assert_eq!(rt;
+        (entry.moment(), entry.byte_count()),
+        (Moment::new(11), 306)
+    );
+    assert_eq!(rt; entry.after(), whole(11));
+    assert!(rt; entry.pair().is_none());
+    assert_eq!(rt; entry.triples().len(), 16);
+    for (k, triple) in entry.triples().iter().enumerate() {
+        assert_eq!(rt; triple.index as usize, first_index + k);
+        assert_eq!(rt;
+            (triple.before, triple.after),
+            (None, place(first_place + k))
+        );
+    }
+}
+
+/// The object is made at moment 10, and written whole at moment 11.
+fn write_once<B: Blocks>(subject: &mut Subject<B>) -> Result<(), Fail>
+    requires { IsPresent (B.log subject.old.table).held subject.old.row subject.old.inode subject.old.latest }
+    ensures { OnOk result (IsPresent (B.log subject.new.table).held subject.new.row subject.new.inode subject.new.latest) }
+{
+    subject.create(b"")?;
+    subject.write(11, 0, &[0x61; 24_576])
+}
+
+/// The entries of the object's journal after both, oldest first; and what is told of the newest five, read back.
+fn entries_told<B: Blocks>(
+    alloc: Global,
+    subject: &mut Subject<B>,
+    told: &mut [(u64, usize)],
+) -> Result<Vec<Entry>, Fail>
+    requires { IsPresent (B.log subject.old.table).held subject.old.row subject.old.inode subject.old.latest }
+{
+    write_once(subject)?;
+    subject.read_back(told);
+    Ok(subject.entries(alloc)?.ok_or("entries")?)
+}
+
+#[test]
+fn three_entries_of_one_moment(rt: HostRuntime) -> Result<(), Fail> {
+    let mut subject = Subject::new(new_table(rt.alloc(), 16)?, 10);
+    let mut told = [(0, 0); 5];
+    let entries = entries_told(rt.alloc(), &mut subject, &mut told)?;
+    assert_eq!(rt; told, [(11, 16), (11, 16), (11, 16), (10, 0), (0, 0)]);
+    let row = subject.row();
+    assert_eq!(rt; (row.journal_bytes, row.head_bytes), (34 + 3 * 306, 306));
+
+    assert_eq!(rt; entries.len(), 4);
+    assert_eq!(rt;
+        (entries[0].moment(), entries[0].byte_count()),
+        (Moment::new(10), 34)
+    );
+    for k in 0..3usize {
+        check_entry(&rt, &entries[k + 1], 16 * k, 1 + 16 * k);
+    }
+    assert_eq!(rt; entries[1].before().size, 0);
+    assert_eq!(rt; entries[1].before().changed, Moment::new(10));
+    assert_eq!(rt;
+        (entries[2].before(), entries[3].before()),
+        (whole(11), whole(11))
+    );
+    Ok(())
+}
+
+#[test]
+fn blocks_of_one_moment(rt: HostRuntime) -> Result<(), Fail> {
+    let mut subject = Subject::new(new_table(rt.alloc(), 16)?, 10);
+    write_once(&mut subject)?;
+    // The creation's block, 48 of data, and three of the journal: the first entry fits behind the creation's.
+    assert_eq!(rt; subject.blocks_left(), 240 - 1 - 48 - 3);
+    let places = [Ptr::new(3, 5, 1), Ptr::new(3, 6, 1), Ptr::new(3, 7, 1)];
+    assert_eq!(rt; subject.row().head, places[2]);
+    for (there, previous, count, bytes) in [
+        (places[0], None, 2, 340),
+        (places[1], places[0], 1, 306),
+        (places[2], places[1], 1, 306),
+    ] {
+        let there = there.ok_or("a place")?;
+        let block = subject.held_bytes(there).ok_or("a block")?;
+        let journal = decode_journal(&block).ok_or("a journal block")?;
+        assert_eq!(rt; journal.object(), ObjectId::new(OBJECT));
+        assert_eq!(rt; journal.previous(), previous);
+        assert_eq!(rt;
+            (journal.entries().len(), journal.entry_bytes()),
+            (count, bytes)
+        );
+    }
+    let first = Ptr::new(0, 1, 1).ok_or("a place")?;
+    assert!(rt; subject.held_bytes(first).is_none());
+    Ok(())
+}
+
+/// The inodes at moments around both writes, as they must be.
+fn inodes() -> [(u64, Inode); 7] {
+    [
+        (0, blank(Moment::new(10))),
+        (9, blank(Moment::new(10))),
+        (10, made()),
+        (11, written(11, 1)),
+        (12, written(11, 1)),
+        (13, written(13, 52)),
+        (u64::MAX, written(13, 52)),
+    ]
+}
+
+/// The object is written whole at moment 11, and again at moment 13. Gives the first of the moments above at which its
+/// inode is another.
+fn write_again<B: Blocks>(alloc: Global, subject: &mut Subject<B>) -> Result<Option<u64>, Fail>
+    requires { IsPresent (B.log subject.old.table).held subject.old.row subject.old.inode subject.old.latest }
+{
+    write_once(subject)?;
+    subject.write(13, 0, &[0x62; 24_576])?;
+    Ok(subject.wrong_moment(alloc, &inodes())?)
+}
+
+#[test]
+fn inodes_around_one_moment(rt: HostRuntime) -> Result<(), Fail> {
+    let mut subject = Subject::new(new_table(rt.alloc(), 16)?, 10);
+    assert_eq!(rt; write_again(rt.alloc(), &mut subject)?, None);
+    // No entry of the second write fits behind the 306 bytes in the head.
+    assert_eq!(rt; subject.row().head, place(102));
+    assert_eq!(rt; subject.blocks_left(), 240 - 52 - 51);
+    let early = subject.bytes(rt.alloc(), &written(11, 1))?.ok_or("bytes")?;
+    assert!(rt; early.as_slice() == [0x61; 24_576].as_slice());
+    let late = subject.bytes(rt.alloc(), &written(13, 52))?.ok_or("bytes")?;
+    assert!(rt; late.as_slice() == [0x62; 24_576].as_slice());
+    Ok(())
+}

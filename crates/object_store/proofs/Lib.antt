@@ -1,0 +1,14 @@
+pub mod Lower
+pub mod Frames
+pub mod Steps
+pub mod Counting
+pub mod Subjects
+pub mod Kind
+pub mod Present
+pub mod Costing
+pub mod Turning
+pub mod Making
+pub mod Tables
+pub mod Sealing
+pub mod Checkpointing
+pub mod CheckpointSteps

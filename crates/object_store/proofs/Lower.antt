@@ -1,0 +1,65 @@
+-- What the laws of the crates below say, as premises of lemmas.
+use Rattle.std.proofs.Common.{◌≡◌, ℕ, ◌<◌, ◌≤◌, true, List, length, map, sum, Option, None}
+use Rattle.codec.specs.Checkpoint.{pointer_at}
+use Rattle.codec.specs.Entry.{EntryFields, entry_length, entries_length, pair_length}
+use Rattle.codec.specs.declared.inodes.Inode.{Inode}
+use Rattle.packing.specs.Sizes.{blocks_needed}
+use Rattle.inode_links.specs.Between.{entries_between, triples_between, pair_between}
+use Rattle.inode_links.specs.Sizes.{entry_sizes}
+use Rattle.s4_types.specs.Pointer.{Place}
+use Rattle.blocks.specs.Log.{Stored, of_kind, same_place}
+use Rattle.blocks.specs.declared.kinds.BlockKind.TheVariants.{Journal, Checkpoint}
+use Rattle.inode_links.specs.Runs.{blank}
+use Rattle.object_map.specs.declared.map.Row.{Row}
+use Rattle.object_map.specs.Rows.{fresh_row}
+use Rattle.time_read.specs.Rows.{IsRow, inode_of}
+use Rattle.row_changes.specs.Recent.{IsBy}
+
+abbrev pub RowStays : Type 0
+RowStays = (held later : Place → Option Stored) (o : ℕ) (row : Row)
+    → of_kind Journal o later ≡ of_kind Journal o held → of_kind Checkpoint o later ≡ of_kind Checkpoint o held
+    → IsRow held o row → IsRow later o row
+
+abbrev pub RowInodeStays : Type 0
+RowInodeStays = (held later : Place → Option Stored) (o t : ℕ) (row : Row)
+    → of_kind Journal o later ≡ of_kind Journal o held → of_kind Checkpoint o later ≡ of_kind Checkpoint o held
+    → inode_of later o row t ≡ inode_of held o row t
+
+abbrev pub IsByLater : Type 0
+IsByLater = (held : Place → Option Stored) (o : ℕ) (row : Row) (a b : ℕ) → a ≤ b → IsBy held o row a → IsBy held o row b
+
+abbrev pub IsByStays : Type 0
+IsByStays = (held later : Place → Option Stored) (o : ℕ) (row : Row) (t : ℕ) → of_kind Journal o later ≡ of_kind Journal o held → IsBy held o row t → IsBy later o row t
+
+abbrev pub LastInodeStays : Type 0
+LastInodeStays = (held : Place → Option Stored) (o : ℕ) (row : Row) (a t : ℕ) → IsBy held o row a → a ≤ t → inode_of held o row t ≡ inode_of held o row a
+
+abbrev pub FreshRowStands : Type 0
+FreshRowStands = (held : Place → Option Stored) (o created : ℕ) → 1 ≤ o → ((p : Place) → of_kind Journal o held p ≡ None) → IsRow held o (fresh_row created)
+
+abbrev pub FreshRowIsBy : Type 0
+FreshRowIsBy = (held : Place → Option Stored) (o created : ℕ) → IsBy held o (fresh_row created) 0
+
+abbrev pub FreshInode : Type 0
+FreshInode = (held : Place → Option Stored) (o created t : ℕ) → inode_of held o (fresh_row created) t ≡ blank created
+
+abbrev pub OnePlace : Type 0
+OnePlace = (p q : Place) → same_place p q ≡ true → p ≡ q
+
+abbrev pub BlankCount : Type 0
+BlankCount = (created : ℕ) → length (blank created).pointers ≡ 48
+
+abbrev pub BlankHoles : Type 0
+BlankHoles = (created n : ℕ) → pointer_at (blank created) n ≡ None
+
+abbrev pub EntriesHaveSizes : Type 0
+EntriesHaveSizes = (i j : Inode) (m : ℕ) → map entry_length (entries_between i j m) ≡ entry_sizes (length (triples_between i j)) (pair_length (pair_between i.attribute j.attribute))
+
+abbrev pub EntriesAreSome : Type 0
+EntriesAreSome = (i j : Inode) (m : ℕ) → (1 ≤ length (entries_between i j m)) × (length (entries_between i j m) ≤ 3)
+
+abbrev pub SizesAddUp : Type 0
+SizesAddUp = (entries : List EntryFields) → sum (map entry_length entries) ≡ entries_length entries
+
+abbrev pub SomeBlocksAreNeeded : Type 0
+SomeBlocksAreNeeded = (filled : ℕ) (sizes : List ℕ) → 0 < length sizes → 0 < blocks_needed filled sizes

@@ -1,0 +1,14 @@
+//! A store of objects: the rows of all objects, and the table that their blocks are in.
+//!
+//! The layers above may rely on this: a store has a version for each object and moment, taking a change gives the versions
+//! that the model gives, and it is refused exactly where the journal would be too long or there is too little room, told
+//! before anything is written. Which changes may be asked for, and at which moments, is told elsewhere.
+#![tactic(auto)]
+
+mod costs;
+pub mod laws;
+mod store;
+#[cfg(test)]
+mod tests;
+
+pub use store::{MOST_PLACES, Store};

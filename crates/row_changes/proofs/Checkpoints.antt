@@ -1,0 +1,123 @@
+-- What a checkpoint that is written anew makes of an object's row.
+use Rattle.std.proofs.Common.{◌≡◌, ℕ, true, false, List, [], ◌∷◌, Option, Some, None, MatchOption, IsSome, IfSome, is_some, refl, sym, ap, subst, ◌∙◌, arith}
+use Rattle.std.proofs.lemmas.Bool.{cond-true}
+use Rattle.s4_types.specs.Pointer.{Place}
+use Rattle.blocks.specs.Log.{Log, Stored, of_kind, same_place, seen_as}
+use Rattle.blocks.specs.declared.kinds.BlockKind.TheVariants.{Journal, Checkpoint}
+use Rattle.codec.specs.declared.inodes.Inode.{Inode}
+use Rattle.codec.specs.Entry.{EntryFields}
+use Rattle.codec.specs.Checkpoint.{CheckpointFields}
+use Rattle.inode_links.specs.Runs.{Run, AllBy, is_by, entries_by, inode_after, redone_all, undone_all}
+use Rattle.inode_links.specs.Groups.{grouped}
+use Rattle.checkpoint.specs.Held.{checkpoint_held, spelled, PutsCheckpoint}
+use Rattle.object_map.specs.declared.map.Row.{Row}
+use Rattle.journal_chain.specs.Chain.{View, IsChain, Holds}
+use Rattle.time_read.specs.Rows.{chain_of, entries_of, inode_before, first_of, inode_of, IsRow}
+use Rattle.row_changes.specs.Recent.{IsBy}
+use Rattle.row_changes.specs.Moved.{OnlyCheckpointChanged, is_at}
+use Rattle.row_changes.proofs.Places.{put_only, not_older}
+use Rattle.row_changes.proofs.Recently.{same_entries}
+
+-- ---- the older checkpoint
+
+spelled_there : (block : Option (List ℕ)) → IsSome (spelled block) → IsSome block
+spelled_there None h = h
+spelled_there (Some block) h = refl
+
+told_there : (N : Type 0) (held : Place → Option Stored) (o : ℕ) (c : CheckpointFields) (older : Option Place) → MatchOption older N (λ p. checkpoint_held held o p ≡ Some c) → IfSome older (λ p. IsSome (of_kind Checkpoint o held p))
+told_there N held o c None h = tt
+told_there N held o c (Some p) h = spelled_there (of_kind Checkpoint o held p) (ap is_some h)
+
+-- the checkpoint that a row names is held
+older_there : (held : Place → Option Stored) (o : ℕ) (row : Row) → IsRow held o row → IfSome row.checkpoint (λ p. IsSome (of_kind Checkpoint o held p))
+older_there held o row r = told_there (row.checkpoint_moment ≡ 0) held o (record { object = o; moment = row.checkpoint_moment; inode = inode_of held o row row.checkpoint_moment }) row.checkpoint r.checkpoint
+
+-- ---- the new one
+
+-- the row with another checkpoint
+abbrev pub with_checkpoint : Row → Place → ℕ → Row
+with_checkpoint row p m = record row { checkpoint = Some p; checkpoint_moment = m }
+
+pub record Laws : Type 0 where
+  pub end : (i j : Inode) (entries : List EntryFields) → Run i entries j → j ≡ redone_all entries i
+  pub beginning : (i j : Inode) (entries : List EntryFields) → Run i entries j → i ≡ undone_all entries j
+  pub done : (i : Inode) (entries : List EntryFields) (t : ℕ) → AllBy t entries → inode_after i entries t ≡ redone_all entries i
+
+-- The inode that is current at a moment stands as a checkpoint at a place; the object's journal is as it was.
+pub record Written (held later : Place → Option Stored) (o : ℕ) (row : Row) (p : Place) (i : Inode) (m : ℕ) : Type 0 where
+  pub stands : IsRow held o row
+  pub latest : IsBy held o row m
+  pub present : i ≡ inode_of held o row m
+  pub told : checkpoint_held later o p ≡ Some (record { object = o; moment = m; inode = i })
+  pub journal : of_kind Journal o later ≡ of_kind Journal o held
+
+-- what is read at a place rests on what is held there
+told_still : (between later : Place → Option Stored) (o : ℕ) (p : Place) (c : CheckpointFields) → later p ≡ between p → checkpoint_held between o p ≡ Some c → checkpoint_held later o p ≡ Some c
+told_still between later o p c same told = ap (λ (there : Option Stored). spelled (seen_as Checkpoint o there)) same ∙ told
+
+-- the checkpoint was put, and then the older one was dropped
+pub written : (log between after : Log) (o : ℕ) (row : Row) (p : Place) (i : Inode) (m : ℕ) →
+    ((p q : Place) → same_place p q ≡ true → p ≡ q) →
+    IsRow log.held o row → IsBy log.held o row m → i ≡ inode_of log.held o row m →
+    PutsCheckpoint log o p between → checkpoint_held between.held o p ≡ Some (record { object = o; moment = m; inode = i }) →
+    ((q : Place) → is_at row.checkpoint q ≡ false → after.held q ≡ between.held q) → OnlyCheckpointChanged o between.held after.held →
+    Written log.held after.held o row p i m
+written log between after o row p i m one r latest present put told kept only = record {
+  stands = r;
+  latest = latest;
+  present = present;
+  told = told_still between.held after.held o p (record { object = o; moment = m; inode = i }) (kept p (not_older log between o p row.checkpoint one put (older_there log.held o row r))) told;
+  journal = put_only log between after o p put only Journal o refl;
+}
+
+all_by : (t : ℕ) (entries : List EntryFields) → AllBy t entries → entries_by t entries ≡ entries
+all_by t [] h = refl
+all_by t (e ∷ entries) h = cond-true (is_by t e) (e ∷ entries_by t entries) (entries_by t entries) h.0 ∙ ap (λ es. e ∷ es) (all_by t entries h.1)
+
+-- from the last inode of a run, all entries undone lead to the first
+undone : (laws : Laws) (first last i : Inode) (entries : List EntryFields) (m : ℕ) → Run first entries last → AllBy m entries → i ≡ inode_after first entries m → undone_all (entries_by m entries) i ≡ first
+undone laws first last i entries m run by present =
+    let is : i ≡ last = present ∙ laws.done first entries m by ∙ sym (laws.end first last entries run) in
+    ap (λ es. undone_all es i) (all_by m entries by) ∙ ap (undone_all entries) is ∙ sym (laws.beginning first last entries run)
+
+told_before : (created t : ℕ) (entries : List EntryFields) (c : CheckpointFields) → inode_before created t entries (Some c) ≡ undone_all (entries_by t entries) c.inode
+unfolding inode_before
+told_before created t entries c = refl
+
+first_stays : (held later : Place → Option Stored) (o : ℕ) (row : Row) (p : Place) (i : Inode) (m : ℕ) → Laws → Written held later o row p i m → first_of later o (with_checkpoint row p m) ≡ first_of held o row
+unfolding inode_of
+first_stays held later o row p i m laws w =
+    let c : CheckpointFields = record { object = o; moment = m; inode = i } in
+    ap (λ (es : List EntryFields). inode_before row.created m es (checkpoint_held later o p)) (same_entries held later o row w.journal)
+    ∙ ap (λ (found : Option CheckpointFields). inode_before row.created m (entries_of held o row) found) w.told
+    ∙ told_before row.created m (entries_of held o row) c
+    ∙ undone laws (first_of held o row) w.stands.last i (entries_of held o row) m w.stands.run w.latest.entries w.present
+
+pub written_inode : (held later : Place → Option Stored) (o : ℕ) (row : Row) (p : Place) (i : Inode) (m t : ℕ) → Laws → Written held later o row p i m → inode_of later o (with_checkpoint row p m) t ≡ inode_of held o row t
+unfolding inode_of
+written_inode held later o row p i m t laws w =
+    ap (λ (es : List EntryFields). inode_after (first_of later o (with_checkpoint row p m)) es t) (same_entries held later o row w.journal)
+    ∙ ap (λ (k : Inode). inode_after k (entries_of held o row) t) (first_stays held later o row p i m laws w)
+
+pub written_by : (held later : Place → Option Stored) (o : ℕ) (row : Row) (p : Place) (i : Inode) (m : ℕ) → Written held later o row p i m → IsBy later o (with_checkpoint row p m) m
+written_by held later o row p i m w = record {
+  entries = subst (λ (es : List EntryFields). AllBy m es) (sym (same_entries held later o row w.journal)) w.latest.entries;
+  checkpoint = omega arith;
+}
+
+pub written_row : (held later : Place → Option Stored) (o : ℕ) (row : Row) (p : Place) (i : Inode) (m : ℕ) → Laws → Written held later o row p i m → IsRow later o (with_checkpoint row p m)
+written_row held later o row p i m laws w =
+    let next : Row = with_checkpoint row p m in
+    let entries : entries_of later o next ≡ entries_of held o row = same_entries held later o row w.journal in
+    let first : first_of later o next ≡ first_of held o row = first_stays held later o row p i m laws w in
+    let run : Run (first_of later o next) (entries_of held o row) w.stands.last = subst (λ (k : Inode). Run k (entries_of held o row) w.stands.last) (sym first) w.stands.run in
+    let chain : Holds later (chain_of o next) (entries_of held o row) = subst (λ (v : View). IsChain v (chain_of o row) (entries_of held o row)) (sym w.journal) w.stands.chain in
+    record {
+      object = w.stands.object;
+      chain = subst (λ (es : List EntryFields). Holds later (chain_of o next) es) (sym entries) chain;
+      last = w.stands.last;
+      run = subst (λ (es : List EntryFields). Run (first_of later o next) es w.stands.last) (sym entries) run;
+      groups = ap grouped entries ∙ w.stands.groups;
+      checkpoint = w.told ∙ ap (λ (k : Inode). Some (record { object = o; moment = m; inode = k })) (w.present ∙ sym (written_inode held later o row p i m m laws w));
+      created = ap (λ (k : Inode). k.created) first ∙ w.stands.created;
+    }

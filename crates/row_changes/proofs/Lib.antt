@@ -1,0 +1,6 @@
+pub mod Chains
+pub mod Checkpoints
+pub mod Fresh
+pub mod Places
+pub mod Pushing
+pub mod Recently

@@ -1,0 +1,64 @@
+ghost use Rattle.std.specs.Prelude.{◌≡◌, ℕ, ◌-◌, nat_le, if◌then◌else◌, drop, Some, None, IfOk, OnErr, MatchResult};
+ghost use Rattle.inode_links.specs.Between.{CanLead, entries_between};
+ghost use Rattle.journal_chain.specs.Chain.{OnlyJournalChanged};
+ghost use Rattle.journal_chain.specs.Push.{push_refusal, pushed_blocks};
+ghost use Rattle.time_read.specs.Rows.{IsRow, chain_of, inode_of};
+ghost use Rattle.row_changes.specs.Recent.{IsBy};
+
+use blocks::Blocks;
+use codec::Inode;
+use inode_links::entries_between;
+use inode_links::laws::{
+    a_run_has_one_end_and_one_beginning, groups_join_and_part, runs_join_and_part,
+    the_inode_at_a_moment,
+};
+use journal_chain::Chain;
+use journal_chain::laws::a_chain_has_its_entries;
+use object_map::Row;
+use packing::laws::packing_keeps_the_rule;
+use s4_types::{Moment, ObjectId, Refusal};
+
+/// Appends to an object's journal what leads from its present inode to the next one, at a moment, and answers its row
+/// after that.
+///
+/// ChainFull exactly where the journal's entries would have more than 11,712 bytes, else NoSpace exactly where fewer
+/// places are ahead than blocks are appended; then nothing has changed.
+pub fn record_change<B: Blocks>(
+    table: &mut B,
+    object: ObjectId,
+    row: &Row,
+    before: &Inode,
+    after: &Inode,
+    moment: Moment,
+) -> Result<Row, Refusal>
+    requires row { IsRow (B.log table.old).held object row.now }
+    requires earlier { IsBy (B.log table.old).held object row.now (moment - 1) }
+    requires before { before.now ≡ inode_of (B.log table.old).held object row.now (moment - 1) }
+    requires lead { CanLead before.now after.now moment }
+    ensures row { IfOk result (λ later. IsRow (B.log table.new).held object later) }
+    ensures latest { IfOk result (λ later. IsBy (B.log table.new).held object later moment) }
+    ensures inode { IfOk result (λ later. (t : ℕ) → inode_of (B.log table.new).held object later t ≡ (if nat_le moment t then after.now else inode_of (B.log table.old).held object row.now t)) }
+    ensures fields { IfOk result (λ later. later ≡ record row.now { head = later.head; journal_bytes = later.journal_bytes; head_bytes = later.head_bytes }) }
+    ensures others { OnlyJournalChanged object (B.log table.old).held (B.log table.new).held }
+    ensures ahead { IfOk result (λ _. (B.log table.new).ahead ≡ drop (pushed_blocks (chain_of object row.now) (entries_between before.now after.now moment)) (B.log table.old).ahead) }
+    ensures answer { MatchResult result
+        (λ _. push_refusal (chain_of object row.now) (B.log table.old).ahead (entries_between before.now after.now moment) ≡ None)
+        (λ e. push_refusal (chain_of object row.now) (B.log table.old).ahead (entries_between before.now after.now moment) ≡ Some e) }
+    ensures unchanged { OnErr result (B.log table.new ≡ B.log table.old) }
+{
+    a_run_has_one_end_and_one_beginning();
+    groups_join_and_part();
+    runs_join_and_part();
+    the_inode_at_a_moment();
+    a_chain_has_its_entries();
+    packing_keeps_the_rule();
+    let entries = entries_between(before, after, moment);
+    let mut chain = Chain::of(object, row.head, row.journal_bytes, row.head_bytes);
+    chain.push(table, entries.as_slice())?;
+    Ok(Row {
+        head: chain.head(),
+        journal_bytes: chain.bytes() as u16,
+        head_bytes: chain.filled() as u16,
+        ..*row
+    })
+}

@@ -1,0 +1,49 @@
+//! Laws of rows that change, for the layers above: each function does nothing, and its contract is the law.
+ghost use Rattle.std.specs.Prelude.{◌≡◌, ℕ, ◌≤◌, Option, None};
+ghost use Rattle.s4_types.specs.Pointer.{Place};
+ghost use Rattle.blocks.specs.declared.kinds.BlockKind.TheVariants.{Journal};
+ghost use Rattle.blocks.specs.Log.{Stored, of_kind};
+ghost use Rattle.inode_links.specs.Runs.{blank};
+ghost use Rattle.object_map.specs.declared.map.Row.{Row};
+ghost use Rattle.object_map.specs.Rows.{fresh_row};
+ghost use Rattle.time_read.specs.Rows.{IsRow, inode_of};
+ghost use Rattle.row_changes.specs.Recent.{IsBy};
+
+use inode_links::laws::{
+    a_run_keeps_the_making, groups_join_and_part, the_inode_at_a_moment,
+    the_inode_at_a_moment_stands_in_the_run,
+};
+use journal_chain::laws::an_empty_chain_is_held;
+
+/// The row of an object that was just made stands where no journal block of the object is held, tells of no moment yet,
+/// and the inode is blank at each.
+pub fn a_fresh_row_stands()
+    ensures row { (held : Place → Option Stored) (o created : ℕ) → 1 ≤ o → ((p : Place) → of_kind Journal o held p ≡ None) → IsRow held o (fresh_row created) }
+    ensures latest { (held : Place → Option Stored) (o created : ℕ) → IsBy held o (fresh_row created) 0 }
+    ensures inode { (held : Place → Option Stored) (o created t : ℕ) → inode_of held o (fresh_row created) t ≡ blank created }
+{
+    an_empty_chain_is_held();
+}
+
+/// What is of a moment or an earlier one is so at each later moment too; and it is a matter of the object's journal
+/// blocks alone.
+pub fn a_row_is_by_later_moments()
+    ensures later { (held : Place → Option Stored) (o : ℕ) (row : Row) (a b : ℕ) → a ≤ b → IsBy held o row a → IsBy held o row b }
+    ensures journal { (held later : Place → Option Stored) (o : ℕ) (row : Row) (t : ℕ) → of_kind Journal o later ≡ of_kind Journal o held → IsBy held o row t → IsBy later o row t }
+{}
+
+/// From the moment on by which all is told, the inode stays.
+pub fn the_last_inode_stays()
+    ensures { (held : Place → Option Stored) (o : ℕ) (row : Row) (a t : ℕ) → IsBy held o row a → a ≤ t → inode_of held o row t ≡ inode_of held o row a }
+{
+    the_inode_at_a_moment();
+}
+
+/// At each moment the inode tells when the object was made.
+pub fn a_row_keeps_the_making()
+    ensures { (held : Place → Option Stored) (o : ℕ) (row : Row) (t : ℕ) → IsRow held o row → (inode_of held o row t).created ≡ row.created }
+{
+    a_run_keeps_the_making();
+    groups_join_and_part();
+    the_inode_at_a_moment_stands_in_the_run();
+}

@@ -1,0 +1,17 @@
+//! What a change of an object makes of its row and of its blocks: entries behind its journal, and a checkpoint in place
+//! of an older one.
+//!
+//! The layers above may rely on this: from a change's moment on the object's inode is the changed one, and before it
+//! each is as it was; a checkpoint changes no inode. A row tells of moments up to one that is known, and blocks of other
+//! kinds and objects stay.
+#![tactic(auto)]
+
+mod changing;
+mod checkpointing;
+pub mod laws;
+
+pub use changing::record_change;
+pub use checkpointing::record_checkpoint;
+
+#[cfg(test)]
+mod tests;
