@@ -44,15 +44,15 @@ accepts_change (change.Flush first last) m = refl
 accepts_change (change.FlushO object first last) m = refl
 
 -- nothing that is accepted is refused
-accepted_unrefused : (why : Option Refusal) (c : Change) (m : ℕ) → why ≡ None → RefusesBy why (reply_at c m)
-accepted_unrefused why (change.Create object attribute) m is = is
-accepted_unrefused why (change.Delete object) m is = is
-accepted_unrefused why (change.Write object offset bytes) m is = is
-accepted_unrefused why (change.Truncate object n) m is = is
-accepted_unrefused why (change.SetAttr object attribute) m is = is
-accepted_unrefused why (change.SetWindow window) m is = is
-accepted_unrefused why (change.Flush first last) m is = is
-accepted_unrefused why (change.FlushO object first last) m is = is
+accepted_unrefused : (why : Option Refusal) (request : Request) (c : Change) (m : ℕ) → why ≡ None → RefusesBy why request (reply_at c m)
+accepted_unrefused why request (change.Create object attribute) m is = is
+accepted_unrefused why request (change.Delete object) m is = is
+accepted_unrefused why request (change.Write object offset bytes) m is = is
+accepted_unrefused why request (change.Truncate object n) m is = is
+accepted_unrefused why request (change.SetAttr object attribute) m is = is
+accepted_unrefused why request (change.SetWindow window) m is = is
+accepted_unrefused why request (change.Flush first last) m is = is
+accepted_unrefused why request (change.FlushO object first last) m is = is
 
 accepted_fits : (c : Change) (m : ℕ) → ReplyFits (reply_at c m)
 accepted_fits (change.Create object attribute) m = tt
@@ -98,12 +98,12 @@ told_accepts_nothing (Refused r) told = absurd told
 told_accepts_nothing (Changed m) told = absurd told
 told_accepts_nothing (Created o m) told = absurd told
 
-told_unrefused : (why : Option Refusal) (reply : Reply) → IsTold reply → why ≡ None → RefusesBy why reply
-told_unrefused why (Data bytes) told is = is
-told_unrefused why (Attr size created changed attribute) told is = is
-told_unrefused why (Refused r) told is = absurd told
-told_unrefused why (Changed m) told is = absurd told
-told_unrefused why (Created o m) told is = absurd told
+told_unrefused : (why : Option Refusal) (request : Request) (reply : Reply) → IsTold reply → why ≡ None → RefusesBy why request reply
+told_unrefused why request (Data bytes) told is = is
+told_unrefused why request (Attr size created changed attribute) told is = is
+told_unrefused why request (Refused r) told is = absurd told
+told_unrefused why request (Changed m) told is = absurd told
+told_unrefused why request (Created o m) told is = absurd told
 
 -- ---- refusals
 
@@ -164,8 +164,8 @@ refusal_fits : (s : State) (role : Role) (store : StoreFields) (request : Reques
 unfolding IsWhole
 refusal_fits s role store request now e is = may_is_whole s role request e (may_refuse (first_refusal s role request) store s request now e is)
 
-refused_by : (first : Option Refusal) (store : StoreFields) (s : State) (request : Request) (now : ℕ) (e : Refusal) → IsRefusal first store s request now e → RefusesBy (or_then first (want_of store s request now)) (Refused e)
-refused_by first store s request now e (inl h) = inl h.0
+refused_by : (first : Option Refusal) (store : StoreFields) (s : State) (request : Request) (now : ℕ) (e : Refusal) → IsRefusal first store s request now e → RefusesBy (or_then first (want_of store s request now)) request (Refused e)
+refused_by first store s request now e (inl h) = inl (h.0, h.2)
 refused_by first store s request now e (inr is) = inr is
 
 -- ---- the whole
@@ -173,7 +173,7 @@ refused_by first store s request now e (inr is) = inr is
 -- All that a request came to.
 pub record IsServed (d later : DriveFields) (before after : SessionFields) (request : Request) (now : ℕ) (given : Reply) : Type 0 where
   pub step : Step (history_of d) before.role request now given (history_of later)
-  pub refused : RefusesBy (refusal_of (store_of d) (judged (history_of d) request now) before.role request now) given
+  pub refused : RefusesBy (refusal_of (store_of d) (judged (history_of d) request now) before.role request now) request given
   pub stored : Leaves (store_of d) (state_in d) request now given (store_of later)
   pub fits : ReplyFits given
   pub session : after ≡ record before { told = told_after given later.ledger before.told }
@@ -196,8 +196,8 @@ served_change d later before after request now given is =
     let as_it_was : judged (history_of d) request now ≡ state_in d = judged_as_it_was (history_of d) request now is.change is.asked in
     record {
       step = step_accepts d later before after before.role request now given is;
-      refused = subst (λ (r : Reply). RefusesBy (refusal_of (store_of d) (judged (history_of d) request now) before.role request now) r) (sym is.reply)
-          (accepted_unrefused _ is.change (stamp (state_in d) now) (ap (λ (s : State). refusal_of (store_of d) s before.role request now) as_it_was ∙ is.free));
+      refused = subst (λ (r : Reply). RefusesBy (refusal_of (store_of d) (judged (history_of d) request now) before.role request now) request r) (sym is.reply)
+          (accepted_unrefused _ request is.change (stamp (state_in d) now) (ap (λ (s : State). refusal_of (store_of d) s before.role request now) as_it_was ∙ is.free));
       stored = leaves_change (is_acceptance given) ((c : Change) → change_of (state_in d) request ≡ Some c → Stores (store_of d) c (stamp (state_in d) now) (store_of later)) (store_of later ≡ store_of d) accepts
           (λ c asked. subst (λ (x : Change). Stores (store_of d) x (stamp (state_in d) now) (store_of later)) (same_change (change_of (state_in d) request) is.change c is.asked asked) is.stored);
       fits = subst ReplyFits (sym is.reply) (accepted_fits is.change (stamp (state_in d) now));
@@ -308,7 +308,7 @@ served_told d seen_at later before after request now given read sees ledger stor
     record {
       step = subst (λ (l : Ledger). Step (history_of d) before.role request now given l.history) (sym (ledger ∙ sees.0))
           (step_tells (history_of d) before.role request now given unrefused (subst (λ (s : State). reply_to_read s request ≡ Some given) judging tells));
-      refused = told_unrefused _ given told
+      refused = told_unrefused _ request given told
           (ap (λ (r : Option Refusal). or_then r (want_of (store_of d) (judged (history_of d) request now) request now)) unrefused ∙ read_wants_nothing (store_of d) (judged (history_of d) request now) request now read);
       stored = leaves_all (is_acceptance given) ((c : Change) → change_of (state_in d) request ≡ Some c → Stores (store_of d) c (stamp (state_in d) now) (store_of later)) (store_of later ≡ store_of d) nothing (store ∙ sees.1);
       fits = fits;

@@ -1,26 +1,33 @@
 -- Changes that make a version.
-use Rattle.std.proofs.Common.{◌≡◌, ℕ, ◌==◌, ◌||◌, true, inl, inr, Option, refl, sym, ap, subst, ◌∙◌, arith}
+use Rattle.std.proofs.Common.{◌≡◌, ℕ, ◌==◌, ◌||◌, true, false, inl, inr, Option, None, Some, refl, sym, ap, subst, ◌∙◌, arith}
 use Rattle.std.specs.Prelude.{is_some}
+use Rattle.std.proofs.lemmas.Bool.{false≢true}
+use Rattle.std.proofs.lemmas.Option.{same_Some}
+use Rattle.s4_types.specs.Pointer.{Place}
 use Rattle.s4_types.specs.declared.changes.Accepted.{Accepted}
 use Rattle.s4_types.specs.declared.changes.Change.{Change}
 use Rattle.s4_types.specs.declared.changes.Change.TheVariants as change
 use Rattle.s4_types.specs.declared.requests.Request.{Request}
+use Rattle.s4_types.specs.declared.requests.Request.TheVariants.{Create, Delete, Read, GetAttr, Write, Append, Truncate, SetAttr, SetWindow, Flush, FlushO}
 use Rattle.s4_types.specs.declared.refusals.Refusal.{Refusal}
 use Rattle.s4_model.specs.Numbers.{next_by}
 use Rattle.s4_model.specs.State.{State, state_of, took}
-use Rattle.s4_model.specs.Step.{stamp, accepted_record}
+use Rattle.s4_model.specs.Refusals.{is_absent}
+use Rattle.s4_model.specs.Step.{change_of, stamp, accepted_record}
 use Rattle.s4_model.specs.Plain.{HasNext}
 use Rattle.s4_model.specs.Sound.{IsSound}
 use Rattle.segment_word.specs.AcceptViews.{Ledger, with_change}
 use Rattle.window.specs.Timeline.{Timeline, StandsFor, is_of_versions}
+use Rattle.blocks.specs.Log.{Stored}
+use Rattle.object_map.specs.declared.map.Row.{Row}
 use Rattle.object_map.specs.Rows.{row_of}
 use Rattle.object_store.specs.Store.{StoreFields, IsStore}
 use Rattle.object_store.specs.Costs.{object_of}
-use Rattle.object_store.specs.Versions.{version_in, version_taken}
-use Rattle.object_store.specs.Taking.{IsReady}
+use Rattle.object_store.specs.Versions.{inode_by, version_by, version_in, version_taken}
+use Rattle.object_store.specs.Taking.{IsThere, IsReady}
 use Rattle.object_store.specs.Laws.{ThePresentStays}
 use Rattle.drive.specs.Keeping.{IsKept}
-use Rattle.drive.specs.Refusing.{or_then, want_of, IsRefusal, IsJudgedOut}
+use Rattle.drive.specs.Refusing.{or_then, want_of, TakesMemory, IsRefusal, IsJudgedOut}
 use Rattle.drive.proofs.Kept.{kept_taken, given_by}
 use Rattle.drive.proofs.Unversioned.{StateByChanges}
 
@@ -58,3 +65,45 @@ after_stored stays by l later seat store after w last next now m c kept ready ha
     (kept_taken stays s store after w last next a kept (omega arith) is_store
     (λ o t. versions o t ∙ ap (λ (x : ℕ). version_taken store c x o t) at)
     (latest ∙ at) rows (given_by s store w next c kept ready has) stands sound)
+
+-- ---- want of memory
+
+abbrev pub IsCreation : Change → Type 0
+IsCreation (change.Create object attribute) = Unit {0}
+IsCreation _ = ⊥
+
+there_by : (held : Place → Option Stored) (o t : ℕ) (row : Option Row) → row ≡ None → is_absent (version_by held (inode_by held o t row)) ≡ true
+there_by held o t row none = ap (λ (r : Option Row). is_absent (version_by held (inode_by held o t r))) none
+
+not_there : (store : StoreFields) (o : ℕ) → IsThere store o → row_of store.rows o ≡ None → ⊥
+not_there store o there none = false≢true (sym there ∙ there_by store.log.held o store.latest (row_of store.rows o) none)
+
+creates : (store : StoreFields) (c : Change) → IsReady store c → row_of store.rows (object_of c) ≡ None → IsCreation c
+creates store (change.Create object attribute) ready none = tt
+creates store (change.Delete object) ready none = absurd (not_there store object ready none)
+creates store (change.Write object offset bytes) ready none = absurd (not_there store object ready none)
+creates store (change.Truncate object n) ready none = absurd (not_there store object ready none)
+creates store (change.SetAttr object attribute) ready none = absurd (not_there store object ready none)
+creates store (change.SetWindow window) ready none = absurd ready
+creates store (change.Flush first last) ready none = absurd ready
+creates store (change.FlushO object first last) ready none = absurd ready
+
+creation_of : (c other : Change) → Some other ≡ Some c → IsCreation c → IsCreation other
+creation_of c other is creation = subst IsCreation (sym (same_Some other c is)) creation
+
+asks_creation : (s : State) (request : Request) (c : Change) → change_of s request ≡ Some c → IsCreation c → TakesMemory request
+asks_creation s (Read object offset len at) c asked creation = tt
+asks_creation s (GetAttr object at) c asked creation = tt
+asks_creation s (Create attribute) c asked creation = tt
+asks_creation s (Delete object) c asked creation = absurd (creation_of c _ asked creation)
+asks_creation s (Write object offset bytes) c asked creation = absurd (creation_of c _ asked creation)
+asks_creation s (Append object bytes) c asked creation = absurd (creation_of c _ asked creation)
+asks_creation s (Truncate object size) c asked creation = absurd (creation_of c _ asked creation)
+asks_creation s (SetAttr object attribute) c asked creation = absurd (creation_of c _ asked creation)
+asks_creation s (SetWindow window) c asked creation = absurd (creation_of c _ asked creation)
+asks_creation s (Flush first last) c asked creation = tt
+asks_creation s (FlushO object first last) c asked creation = tt
+
+-- where a change of an object without a row is taken, its request makes the object, and so it may take memory
+pub memory_of_rows : (store : StoreFields) (s : State) (request : Request) (c : Change) → change_of s request ≡ Some c → IsReady store c → row_of store.rows (object_of c) ≡ None → TakesMemory request
+memory_of_rows store s request c asked ready none = asks_creation s request c asked (creates store c ready none)

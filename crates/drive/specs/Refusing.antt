@@ -4,6 +4,7 @@ use Rattle.s4_types.specs.declared.changes.Change.{Change}
 use Rattle.s4_types.specs.declared.spans.Span.{Span}
 use Rattle.s4_types.specs.declared.requests.Role.{Role}
 use Rattle.s4_types.specs.declared.requests.Request.{Request}
+use Rattle.s4_types.specs.declared.requests.Request.TheVariants.{Create, Read, GetAttr, Flush, FlushO}
 use Rattle.s4_types.specs.declared.refusals.Refusal.{Refusal}
 use Rattle.s4_types.specs.declared.refusals.Refusal.TheVariants.{NoMemory, TooManySpans, ClockEnd}
 use Rattle.s4_types.specs.declared.replies.Reply.{Reply}
@@ -33,19 +34,29 @@ want_of store s request now = option_and_then (storing_refusal store (stamp s no
 abbrev pub refusal_of : StoreFields → State → Role → Request → ℕ → Option Refusal
 refusal_of store s role request now = or_then (first_refusal s role request) (want_of store s request now)
 
--- the reply is a refusal where there is one, and that one, or want of memory
-abbrev pub RefusesBy : Option Refusal → Reply → Type 0
-RefusesBy why (Refused refusal) = (refusal ≡ NoMemory) ⊎ (why ≡ Some refusal)
-RefusesBy why _ = why ≡ None
+-- A request that may take memory: one that makes an object, hides moments, or reads. No change of an object that is there
+-- takes any.
+abbrev pub TakesMemory : Request → Type 0
+TakesMemory (Create attribute) = Unit {0}
+TakesMemory (Read object offset length at) = Unit {0}
+TakesMemory (GetAttr object at) = Unit {0}
+TakesMemory (Flush first last) = Unit {0}
+TakesMemory (FlushO object first last) = Unit {0}
+TakesMemory _ = ⊥
+
+-- The reply is a refusal where there is one, and that one; or want of memory, of a request that may take some.
+abbrev pub RefusesBy : Option Refusal → Request → Reply → Type 0
+RefusesBy why request (Refused refusal) = ((refusal ≡ NoMemory) × TakesMemory request) ⊎ (why ≡ Some refusal)
+RefusesBy why request _ = why ≡ None
 
 -- a refusal by the checks: want of memory where that may stand in place of what refuses first, or that
 abbrev pub IsJudgedOut : Option Refusal → Request → Refusal → Type 0
-IsJudgedOut first request refusal = ((refusal ≡ NoMemory) × MayWantMemory first request) ⊎ (first ≡ Some refusal)
+IsJudgedOut first request refusal = ((refusal ≡ NoMemory) × MayWantMemory first request × TakesMemory request) ⊎ (first ≡ Some refusal)
 
 -- a refusal by the checks, where they refuse so, or by what the change that is asked for lacks
 abbrev pub IsRefusal : Option Refusal → StoreFields → State → Request → ℕ → Refusal → Type 0
 IsRefusal first store s request now refusal =
-    ((refusal ≡ NoMemory) × MayWantMemory first request) ⊎ (or_then first (want_of store s request now) ≡ Some refusal)
+    ((refusal ≡ NoMemory) × MayWantMemory first request × TakesMemory request) ⊎ (or_then first (want_of store s request now) ≡ Some refusal)
 
 -- what is left to refuse of a span that is in order, past, and of a number that was given
 abbrev pub span_refusal : State → Span → Option Refusal

@@ -10,7 +10,6 @@ ghost use Rattle.admission.specs.Later.{later_refusal, IsWithin, IsOfVersions};
 ghost use Rattle.object_store.specs.Costs.{object_of as object_of_change, subject_inode};
 ghost use Rattle.object_store.specs.Taking.{Takes};
 ghost use Rattle.drive.specs.Fields.{state_in, store_of};
-ghost use Rattle.drive.specs.Refusing.{IsJudgedOut};
 ghost use Rattle.drive.specs.Answering.{Settles, size_by};
 
 use crate::accepting::accept;
@@ -72,21 +71,18 @@ struct Judged {
 }
 
 impl<J: Naming> Drive<J> {
-    /// Judges a request for a version of an object, by the object's present inode, which is read once. NoMemory where
-    /// memory for its journal was refused.
-    fn judge_object(&mut self, request: Request, now: Moment) -> Result<Judged, Refusal>
+    /// Judges a request for a version of an object, by the object's present inode. No memory is taken.
+    fn judge_object(&self, request: Request, now: Moment) -> Result<Judged, Refusal>
         requires versions { IsOfVersions request }
         requires within { IsWithin request }
-        ensures ledger { self.new.ledger ≡ self.old.ledger }
-        ensures store { store_of self.new ≡ store_of self.old }
-        ensures free { OnOk result (later_refusal (state_in self.old) request ≡ None) }
-        ensures asked { IfOk result (λ judged. change_of (state_in self.old) request ≡ Some judged.change) }
-        ensures clock { OnOk result ((state_in self.old).clock < last_number) }
-        ensures takes { IfOk result (λ judged. Takes (store_of self.old) judged.change) }
-        ensures next { IfOk result (λ judged. HasNext (state_in self.old).next judged.change) }
-        ensures present { IfOk result (λ judged. judged.present ≡ subject_inode (store_of self.old) (object_of_change judged.change) (stamp (state_in self.old) now)) }
-        ensures sound { IfOk result (λ judged. IsSound (took (state_in self.old) (accepted_record (state_in self.old) judged.change now))) }
-        ensures refused { IfErr result (IsJudgedOut (later_refusal (state_in self.old) request) request) }
+        ensures free { OnOk result (later_refusal (state_in self.now) request ≡ None) }
+        ensures asked { IfOk result (λ judged. change_of (state_in self.now) request ≡ Some judged.change) }
+        ensures clock { OnOk result ((state_in self.now).clock < last_number) }
+        ensures takes { IfOk result (λ judged. Takes (store_of self.now) judged.change) }
+        ensures next { IfOk result (λ judged. HasNext (state_in self.now).next judged.change) }
+        ensures present { IfOk result (λ judged. judged.present ≡ subject_inode (store_of self.now) (object_of_change judged.change) (stamp (state_in self.now) now)) }
+        ensures sound { IfOk result (λ judged. IsSound (took (state_in self.now) (accepted_record (state_in self.now) judged.change now))) }
+        ensures refused { IfErr result (λ e. later_refusal (state_in self.now) request ≡ Some e) }
     {
         the_present_stays();
         changes_begin_with_the_present();
@@ -94,8 +90,7 @@ impl<J: Naming> Drive<J> {
         every_history_is_sound();
         the_state_goes_on_record_by_record();
         let object = object_of(self.next, &request);
-        let latest = self.store.latest();
-        let found = self.store.inode_at(object, latest)?;
+        let found = self.store.present(object);
         let clock = self.window.clock();
         let change = judge(clock, self.next, size_of(&found), request)?;
         let present = found.unwrap_or(blank(moment_after(clock, now)));
@@ -103,6 +98,7 @@ impl<J: Naming> Drive<J> {
     }
 
     /// A request for a version of an object, once `check` let it pass.
+    #[tactic(auto, using(crate::proofs::Storing::memory_of_rows))]
     pub(crate) fn change_object(
         &mut self,
         session: &mut Session<J>,

@@ -6,7 +6,8 @@
 //! window and spans. After each call a session has seen all accepted changes, and only an accepted one of its own adds to its
 //! numbers.
 //!
-//! A request costs at most one walk of its own object's journal, and the blocks of its own bytes, whatever else the drive has.
+//! A change and a read of the present cost the blocks of their own bytes, whatever else the drive has; a read of the past costs
+//! one walk of its own object's journal besides.
 //! Nothing here waits or knows of threads: whoever shares a drive holds it under a lock.
 #![tactic(auto)]
 

@@ -4,16 +4,17 @@ ghost use Rattle.s4_types.specs.declared.refusals.Refusal.TheVariants.{NoMemory}
 ghost use Rattle.s4_model.specs.Visible.{IsSeenBetween};
 ghost use Rattle.s4_model.specs.Sound.{IsSound};
 ghost use Rattle.object_map.specs.Rows.{row_of, IsNextAbove};
+ghost use Rattle.segment_table.specs.Room.{pointers_in};
 ghost use Rattle.object_store.specs.Store.{IsStore};
 ghost use Rattle.object_store.specs.Costs.{room};
-ghost use Rattle.object_store.specs.Versions.{inode_in};
+ghost use Rattle.object_store.specs.Versions.{entries_in, inode_in};
 ghost use Rattle.drive.specs.Fields.{history_of, state_in, store_of};
 ghost use Rattle.drive.specs.Keeping.{DecodesWhereVisible};
 
 use crate::drive::Drive;
-use codec::Inode;
+use codec::{Entry, Inode};
 use object_map::Row;
-use s4_types::{Moment, ObjectId, Refusal};
+use s4_types::{Moment, ObjectId, Ptr, Refusal};
 use segment_word::Naming;
 
 impl<J: Naming> Drive<J> {
@@ -65,15 +66,41 @@ impl<J: Naming> Drive<J> {
         self.window.sees(object, first, last)
     }
 
-    /// The inode of an object at a moment, and none where it has no row. It takes one walk of the object's journal.
+    /// The inode of an object at a moment, and none where it has no row. A moment before the last change of an object takes
+    /// one walk of the object's journal, and all others none.
     ///
-    /// NoMemory alone, where the memory for the journal's entries is refused.
+    /// NoMemory alone, of a moment before the last change, where the memory for the journal's entries is refused.
     pub fn inode_at(&mut self, object: ObjectId, at: Moment) -> Result<Option<Inode>, Refusal>
         ensures inode { IfOk result (λ inode. inode ≡ inode_in (store_of self.old) object at) }
         ensures refusal { IfErr result (λ e. e ≡ NoMemory) }
+        ensures memory { IfErr result (λ _. at < self.old.store.latest) }
         ensures ledger { self.new.ledger ≡ self.old.ledger }
         ensures store { store_of self.new ≡ store_of self.old }
     {
         self.store.inode_at(object, at)
+    }
+
+    /// The journal entries of an object, the oldest first, and none where it has no row.
+    ///
+    /// NoMemory alone, where the memory for them is refused.
+    pub fn entries(&mut self, object: ObjectId) -> Result<Vec<Entry>, Refusal>
+        ensures entries { IfOk result (λ entries. entries.items ≡ entries_in (store_of self.old) object) }
+        ensures refusal { IfErr result (λ e. e ≡ NoMemory) }
+        ensures ledger { self.new.ledger ≡ self.old.ledger }
+        ensures store { store_of self.new ≡ store_of self.old }
+    {
+        self.store.entries(object)
+    }
+
+    /// The pointers to the held blocks of an object in a frame, by ascending block, and none where the frame isn't sealed or
+    /// isn't there.
+    ///
+    /// NoMemory alone, where the memory for them is refused.
+    pub fn held_in(&mut self, object: ObjectId, frame: u16) -> Result<Vec<Ptr>, Refusal>
+        ensures pointers { IfOk result (λ pointers. pointers.items ≡ pointers_in self.old.store.table object frame) }
+        ensures refusal { IfErr result (λ e. e ≡ NoMemory) }
+        ensures same { self.new ≡ self.old }
+    {
+        self.store.held_in(object, frame)
     }
 }

@@ -40,12 +40,13 @@ impl<J: Naming> Drive<J> {
     /// A change is stamped with the greater of `now` and the clock plus one. What is refused, a Read and a GetAttr move the
     /// clock to `now` if that is later, and leave all else. ChainFull and NoSpace come of changes of objects alone, where
     /// nothing else refuses them: ChainFull where the entries of the object's chain would have more than 11,712 bytes, else
-    /// NoSpace where there is less room than blocks are appended. NoMemory comes only where a growth was refused.
+    /// NoSpace where there is less room than blocks are appended. NoMemory comes only where a growth was refused, and of no
+    /// change of the window or of an object that is there.
     pub fn request(&mut self, session: &mut Session<J>, request: Request, now: Moment) -> Reply
         // The history goes on by a step of the model.
         ensures step { Step (history_of self.old) session.old.role request now result (history_of self.new) }
         // The reply is a refusal exactly where there is one, but for want of memory.
-        ensures refused { RefusesBy (refusal_of (store_of self.old) (judged (history_of self.old) request now) session.old.role request now) result }
+        ensures refused { RefusesBy (refusal_of (store_of self.old) (judged (history_of self.old) request now) session.old.role request now) request result }
         // An accepted change appends exactly its blocks; nothing else does.
         ensures stored { Leaves (store_of self.old) (state_in self.old) request now result (store_of self.new) }
         ensures fits { ReplyFits result }

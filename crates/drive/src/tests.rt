@@ -5,6 +5,7 @@ ghost use Rattle.s4_model.specs.State.{new_base};
 mod asking;
 mod beside;
 mod dice;
+mod holdings;
 mod looking;
 mod memory;
 mod objects;

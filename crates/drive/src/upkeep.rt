@@ -1,13 +1,12 @@
 //! Upkeep: what leaves the history and each version as they are, whatever it answers.
-ghost use Rattle.std.specs.Prelude.{◌≡◌, ◌⊎◌, ℕ, true, None, Some, ◌++◌, IfSome, IfErr, OnOk, OnErr, MatchResult};
-ghost use Rattle.s4_types.specs.declared.refusals.Refusal.TheVariants.{NoMemory};
+ghost use Rattle.std.specs.Prelude.{◌≡◌, ℕ, None, Some, ◌++◌, IfSome, OnOk, OnErr, MatchResult};
 ghost use Rattle.inode_links.specs.Runs.{AllBy};
 ghost use Rattle.segment_table.specs.Changes.{IsFilling, NoneIsFilling, IsSealedIn};
 ghost use Rattle.segment_table.specs.Room.{rest_of, places_ahead};
 ghost use Rattle.object_map.specs.Rows.{row_of};
 ghost use Rattle.time_read.specs.Rows.{entries_of};
 ghost use Rattle.object_store.specs.Versions.{inode_in, version_in};
-ghost use Rattle.object_store.specs.Checkpointing.{is_behind, checkpoint_refusal, Checkpoints};
+ghost use Rattle.object_store.specs.Checkpointing.{checkpoint_refusal, Checkpoints};
 ghost use Rattle.drive.specs.Fields.{store_of};
 
 use crate::drive::Drive;
@@ -36,15 +35,12 @@ impl<J: Naming> Drive<J> {
     /// a row still is like any other.
     ///
     /// NoObject exactly where the object has no row; else NoSpace exactly where the checkpoint has to be written and there
-    /// is no room beside the reserve; else NoMemory where it has to be written and the memory for the journal's entries was
-    /// refused. Then nothing has changed.
+    /// is no room beside the reserve. Then nothing has changed.
     pub fn checkpoint(&mut self, object: ObjectId) -> Result<(), Refusal>
         ensures checkpoint { OnOk result (Checkpoints (store_of self.old) object (store_of self.new)) }
         ensures current { OnOk result (IfSome (row_of self.new.store.rows object) (λ row. AllBy row.checkpoint_moment (entries_of (store_of self.new).log.held object row))) }
         ensures answer { MatchResult result (λ _. checkpoint_refusal (store_of self.old) object ≡ None)
-            (λ e. (e ≡ NoMemory) ⊎ (checkpoint_refusal (store_of self.old) object ≡ Some e)) }
-        ensures memory { IfErr result (λ e. e ≡ NoMemory → (checkpoint_refusal (store_of self.old) object ≡ None)
-            × IfSome (row_of self.old.store.rows object) (λ row. is_behind (store_of self.old).log.held object row ≡ true)) }
+            (λ e. checkpoint_refusal (store_of self.old) object ≡ Some e) }
         ensures unchanged { OnErr result (store_of self.new ≡ store_of self.old) }
         ensures ledger { self.new.ledger ≡ self.old.ledger }
         ensures versions { (o t : ℕ) → version_in (store_of self.new) o t ≡ version_in (store_of self.old) o t }

@@ -3,6 +3,7 @@ use Rattle.std.proofs.Common.{◌≡◌, ℕ, ◌≤◌, ◌/◌, ◌%◌, cond,
 use Rattle.std.proofs.lemmas.Bool.{cond-true, le-leb}
 use Rattle.std.proofs.lemmas.Option.{none-some}
 use Rattle.s4_types.specs.Pointer.{Place}
+use Rattle.blocks.specs.declared.kinds.BlockKind.{BlockKind}
 use Rattle.blocks.specs.declared.kinds.BlockKind.TheVariants as kind
 use Rattle.blocks.specs.Log.{Stored, of_kind, seen_as}
 use Rattle.codec.specs.declared.inodes.Inode.{Inode}
@@ -19,7 +20,7 @@ use Rattle.log_tests.specs.Subject.{IsRecorded, IsPresent}
 
 -- the laws of fresh rows and of blank inodes
 pub record FreshLaws : Type 0 where
-  pub stands : (held : Place → Option Stored) (o created : ℕ) → 1 ≤ o → ((p : Place) → of_kind kind.Journal o held p ≡ None) → IsRow held o (fresh_row created)
+  pub stands : (held : Place → Option Stored) (o created : ℕ) → 1 ≤ o → ((p : Place) → of_kind kind.Journal o held p ≡ None) → ((p : Place) → of_kind kind.Checkpoint o held p ≡ None) → IsRow held o (fresh_row created)
   pub by : (held : Place → Option Stored) (o created : ℕ) → IsBy held o (fresh_row created) 0
   pub inode : (held : Place → Option Stored) (o created t : ℕ) → inode_of held o (fresh_row created) t ≡ blank created
   pub count : (created : ℕ) → length (blank created).pointers ≡ 48
@@ -36,15 +37,15 @@ hole_byte contents i none n = ap (λ s. byte_in contents s (n % 512)) (none (n /
 pub holes_held : (held : Place → Option Stored) (i : Inode) → ((k : ℕ) → pointer_at i k ≡ None) → PointersHeld held 1 i
 holes_held held i none = λ k p e. absurd (none-some p (sym (none k) ∙ e))
 
-unseen : (held : Place → Option Stored) → ((p : Place) → held p ≡ None) → (p : Place) → of_kind kind.Journal 1 held p ≡ None
-unseen held none p = ap (λ (x : Option Stored). seen_as kind.Journal 1 x) (none p)
+unseen : (k : BlockKind) (held : Place → Option Stored) → ((p : Place) → held p ≡ None) → (p : Place) → of_kind k 1 held p ≡ None
+unseen k held none p = ap (λ (x : Option Stored). seen_as k 1 x) (none p)
 
 pub fresh_present : (held : Place → Option Stored) (created : ℕ) → FreshLaws → ((p : Place) → held p ≡ None) → IsPresent held (fresh_row created) (blank created) 0
 fresh_present held created law none =
     let size : (blank created).size ≡ 0 = blank_size created in
     record {
       recorded = record {
-        stands = law.stands held 1 created (omega arith) (unseen held none);
+        stands = law.stands held 1 created (omega arith) (unseen kind.Journal held none) (unseen kind.Checkpoint held none);
         by = law.by held 1 created;
         present = sym (law.inode held 1 created 0);
       };

@@ -1,9 +1,9 @@
 -- What a checkpoint that is written leaves of a store.
-use Rattle.std.proofs.Common.{◌≡◌, ℕ, suc, ◌+◌, ◌*◌, ◌-◌, ◌^◌, ◌<◌, ◌≤◌, ◌==◌, ◌&&◌, ◌||◌, leb, ltb, Bool, true, false, List, [], ◌∷◌, length, drop, slice_index_or, Option, Some, None, IsSome, IfSome, MatchOption, is_some, refl, sym, ap, subst, ◌∙◌, inl, inr, arith}
+use Rattle.std.proofs.Common.{◌≡◌, ℕ, suc, ◌+◌, ◌*◌, ◌-◌, ◌^◌, ◌<◌, ◌≤◌, ◌==◌, ◌&&◌, ◌||◌, leb, ltb, true, false, List, [], ◌∷◌, length, drop, slice_index_or, Option, Some, None, IsSome, IfSome, MatchOption, is_some, refl, sym, ap, subst, ◌∙◌, inl, inr, arith}
 use Rattle.std.specs.Prelude.{is_none}
 use Rattle.std.proofs.lemmas.Bool.{cases_Bool, and_from, and_parts, and_right, or_left, or_right, eqb-true, ltb-true, ltb-false, leb-true, le-leb, false≢true}
 use Rattle.s4_types.specs.Pointer.{Place}
-use Rattle.blocks.specs.Log.{Log, Stored, of_kind, same_kind}
+use Rattle.blocks.specs.Log.{Log, Stored, same_kind}
 use Rattle.blocks.specs.declared.kinds.BlockKind.TheVariants.{Journal, Checkpoint, Data}
 use Rattle.codec.specs.Checkpoint.{holes_past, checkpoint_rules}
 use Rattle.codec.specs.Entry.{EntryFields}
@@ -19,13 +19,13 @@ use Rattle.object_map.specs.Rows.{row_of, with_row}
 use Rattle.time_read.specs.Rows.{IsRow, entries_of, inode_of}
 use Rattle.row_changes.specs.Recent.{IsBy}
 use Rattle.row_changes.specs.Moved.{OnlyCheckpointChanged, IsMoved}
-use Rattle.object_store.specs.Store.{StoreFields, IsStore, IsObject}
+use Rattle.object_store.specs.Store.{StoreFields, IsStore, IsObject, DataIsNamed}
 use Rattle.object_store.specs.Versions.{Stays, inode_by, inode_in, version_by, version_in}
-use Rattle.object_store.specs.Costs.{room}
 use Rattle.object_store.specs.Checkpointing.{last_entry, is_behind, IsCheckpointed}
-use Rattle.object_store.specs.CheckpointSteps.{CanCheckpoint, Stands, Checkpointed}
+use Rattle.object_store.specs.CheckpointSteps.{CanCheckpoint, Checkpointed}
 use Rattle.object_store.proofs.Lower.{RowStays, RowInodeStays, IsByStays, IsByLater, LastInodeStays}
 use Rattle.object_store.proofs.Frames.{DataStays, data_agree, data_pointers, stays_object, inode_in_stays, version_in_stays}
+use Rattle.object_store.proofs.Naming.{points_on, stays_pointing}
 use Rattle.object_store.proofs.Steps.{row_here, row_beside, row_cases, none_cases, stamped_row, stamped_inode, taken_places}
 
 -- what the laws below say
@@ -164,6 +164,17 @@ rewritten_object later_by matter s log o row next m n writes upto object =
       pointers = λ t. subst (PointersHeld log.held o) (sym (is t)) (data_pointers o s.log.held log.held (inode_of s.log.held o row t) stays (object.pointers t));
     }
 
+-- the data of the object is named as before, and that of each other
+rewritten_here : (s : StoreFields) (log : Log) (o : ℕ) (row next : Row) (m n : ℕ) → Rewrites s log o row next m → DataIsNamed s.log.held o row → DataIsNamed log.held o (record next { stamp = n })
+rewritten_here s log o row next m n writes named p held =
+    points_on s.log.held log.held o row (record next { stamp = n }) p (λ t. stamped_inode log.held o next n t ∙ writes.inode t)
+    (named p (subst (λ (view : Place → Option (List ℕ)). IsSome (view p)) (writes.others Data o refl) held))
+
+rewritten_beside : RowInodeStays → (s : StoreFields) (later : Place → Option Stored) (o q : ℕ) (r : Row) → OnlyCheckpointChanged o s.log.held later → (o == q) ≡ false → DataIsNamed s.log.held q r → DataIsNamed later q r
+rewritten_beside same s later o q r only other named p held =
+    stays_pointing same q s.log.held later r p (checkpoint_stays o q s.log.held later only other)
+    (named p (subst (λ (view : Place → Option (List ℕ)). IsSome (view p)) (only Data q refl) held))
+
 rewritten_store : RowStays → RowInodeStays → IsByStays → IsByLater → OnlyItsBlocksMatter → (s : StoreFields) (rows : List (ℕ × Row)) (log : Log) (o : ℕ) (row next : Row) (i : Inode) (m : ℕ)
     → CanCheckpoint s o row i m → Known s o row i m → Rewrites s log o row next m → IsPut s rows o row next → IsStore (next_store s rows log)
 rewritten_store stands same by later_by matter s rows log o row next i m can know writes put =
@@ -176,6 +187,9 @@ rewritten_store stands same by later_by matter s rows log o row next i m can kno
       made = row_cases (row_of s.rows) (row_of rows) o (record next { stamp = row.stamp + 1 }) put (λ q r. 1 ≤ r.created)
           (let least = can.store.made o row can.there in omega (arith, least, created))
           (λ q r other e. can.store.made q r e);
+      named = row_cases (row_of s.rows) (row_of rows) o (record next { stamp = row.stamp + 1 }) put (λ q r. DataIsNamed log.held q r)
+          (rewritten_here s log o row next m (row.stamp + 1) writes (can.store.named o row can.there))
+          (λ q r other e. rewritten_beside same s log.held o q r writes.others other (can.store.named q r e));
       nothing = λ q none kind p.
           let gone = none_cases (row_of s.rows) (row_of rows) o (record next { stamp = row.stamp + 1 }) put q none in
           ap (λ (view : Place → Option (List ℕ)). view p) (writes.others kind q (and_right (same_kind Checkpoint kind) (o == q) gone.0)) ∙ can.store.nothing q gone.1 kind p;

@@ -272,7 +272,7 @@ past_and_cut i size le f each =
     let cut : tally (is_cut_at i size) 0 48 ≡ cut_count i size = cut_tally i size le in
     omega (arith, both, cut)
 
-past_uncut : (i : Inode) (size k : ℕ) → is_cut_at i size k ≡ true → size ≤ 512 * k → ⊥
+pub past_uncut : (i : Inode) (size k : ℕ) → is_cut_at i size k ≡ true → size ≤ 512 * k → ⊥
 past_uncut i size k is le =
     let parts = and_parts (is_cut i size) (k == size / 512) is in
     let index : k ≡ size / 512 = eqb-true k (size / 512) parts.1 in

@@ -30,6 +30,7 @@ use Rattle.object_store.specs.Taking.{IsReady, RowChanges, data_by}
 use Rattle.object_store.specs.Turning.{CanTake, CanTurn, Turns, IsTaken, blocks_turned}
 use Rattle.object_store.proofs.Lower.{RowStays, RowInodeStays, IsByStays, IsByLater, FreshRowStands, FreshRowIsBy, FreshInode, BlankCount, BlankHoles, EntriesHaveSizes, SizesAddUp}
 use Rattle.object_store.proofs.Frames.{growth_stays, stays_inode}
+use Rattle.object_store.proofs.Naming.{NamesNew}
 use Rattle.object_store.proofs.Steps.{grown_store, grown_versions, added_store, added_versions, row_here, row_beside}
 use Rattle.object_store.proofs.Subjects.{IsSubject, free_of, counted, free_to_push}
 
@@ -102,6 +103,7 @@ pub record Makes (s : StoreFields) (change : Change) (m : ℕ) (i : Inode) (log 
   pub lead : CanLead i j m
   pub tidy : Tidy (contents_of log.held) j
   pub pointers : PointersHeld log.held (object_of change) j
+  pub names : NamesNew (object_of change) s.log j log
   pub means : meaning (contents_of log.held) j ≡ effect change m (meaning (contents_of s.log.held) i)
 
 -- a change that a store takes is one of its object's versions
@@ -127,7 +129,7 @@ can_turn stands same by matter sizes add_up s change m log i j can subject makes
     let free_row : refusal_by (room s) change subject.row i ≡ None =
     ap (refusal_by (room s) change subject.row) can.begins ∙ sym (ap (λ (r : Row). refusal_by (room s) change r (subject_inode s (object_of change) m)) subject.subject) ∙ can.free in
     record {
-      store = grown_store stands same by matter s log (object_of change) (data_by (contents_of s.log.held) change i) makes.grows (subst (λ (r : Option Row). IsSome r) (sym subject.there) refl) can.store;
+      store = grown_store stands same by matter s log (object_of change) (data_by (contents_of s.log.held) change i) j makes.grows makes.names (subst (λ (r : Option Row). IsSome r) (sym subject.there) refl) can.store;
       later = can.later;
       row = subject.row;
       there = subject.there;
@@ -211,7 +213,7 @@ can_create stands by fresh later_by count holes sizes add_up s change m rows i j
     let free_row : refusal_by (room s) change (fresh_row m) i ≡ None =
     ap (refusal_by (room s) change (fresh_row m)) can.begins ∙ sym (ap (λ (r : Row). refusal_by (room s) change r (subject_inode s (object_of change) m)) subject) ∙ can.free in
     record {
-      store = added_store stands by fresh later_by count holes s rows (object_of change) m put can.takes.numbered (let after = can.later in omega (arith, after)) none can.store;
+      store = added_store stands by fresh later_by count holes s rows (object_of change) m j put can.takes.numbered (let after = can.later in omega (arith, after)) none can.store;
       later = can.later;
       row = fresh_row m;
       there = put (object_of change) ∙ row_here (row_of s.rows) (object_of change) (fresh_row m);

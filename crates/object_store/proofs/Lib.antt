@@ -1,7 +1,8 @@
 pub mod Lower
 pub mod Frames
-pub mod Steps
 pub mod Counting
+pub mod Naming
+pub mod Steps
 pub mod Subjects
 pub mod Kind
 pub mod Present

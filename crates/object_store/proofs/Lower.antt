@@ -35,7 +35,7 @@ abbrev pub LastInodeStays : Type 0
 LastInodeStays = (held : Place → Option Stored) (o : ℕ) (row : Row) (a t : ℕ) → IsBy held o row a → a ≤ t → inode_of held o row t ≡ inode_of held o row a
 
 abbrev pub FreshRowStands : Type 0
-FreshRowStands = (held : Place → Option Stored) (o created : ℕ) → 1 ≤ o → ((p : Place) → of_kind Journal o held p ≡ None) → IsRow held o (fresh_row created)
+FreshRowStands = (held : Place → Option Stored) (o created : ℕ) → 1 ≤ o → ((p : Place) → of_kind Journal o held p ≡ None) → ((p : Place) → of_kind Checkpoint o held p ≡ None) → IsRow held o (fresh_row created)
 
 abbrev pub FreshRowIsBy : Type 0
 FreshRowIsBy = (held : Place → Option Stored) (o created : ℕ) → IsBy held o (fresh_row created) 0

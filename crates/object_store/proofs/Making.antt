@@ -1,5 +1,5 @@
 -- What each kind of change makes of an inode.
-use Rattle.std.proofs.Common.{◌≡◌, ℕ, ◌≤◌, true, false, List, length, None, refl, sym, ap, subst, ◌∙◌, arith}
+use Rattle.std.proofs.Common.{◌≡◌, ℕ, ◌≤◌, true, false, List, length, None, refl, sym, ap, subst, ◌∙◌, inl, arith}
 use Rattle.std.proofs.lemmas.List.FromFn.{length-map-range_with_len}
 use Rattle.std.proofs.lemmas.Option.{none-some}
 use Rattle.s4_types.specs.Pointer.{Place}
@@ -23,6 +23,7 @@ use Rattle.object_store.specs.Taking.{IsThere}
 use Rattle.object_store.specs.Turning.{CanTake}
 use Rattle.object_store.proofs.Lower.{OnePlace, FreshInode, BlankCount, BlankHoles}
 use Rattle.object_store.proofs.Counting.{Fresh, none_moved, written_moves, truncated_moves}
+use Rattle.object_store.proofs.Naming.{written_names, truncated_names}
 use Rattle.object_store.proofs.Subjects.{IsSubject, subject_of, free_of}
 use Rattle.object_store.proofs.Kind.{Makes, grows_none, alive_leads, deleted_leads, created_leads, blank_subject}
 
@@ -51,6 +52,7 @@ deleted_makes s o m i j can subject is means tidy =
       lead = subst (λ (x : Inode). CanLead i x m) (sym is) (deleted_leads i m (omega (arith, later)) subject.alive subject.tidy.count subject.tidy.size);
       tidy = tidy;
       pointers = subst (PointersHeld s.log.held o) (sym is) subject.pointers;
+      names = λ p there. inl there;
       means = means;
     }
 
@@ -68,6 +70,7 @@ set_makes s o m attribute i j can subject is means tidy =
           (alive_leads i (record i { attribute = attribute; changed = m }) m (omega (arith, later)) subject.alive refl refl refl subject.tidy.count subject.tidy.count subject.tidy.size subject.tidy.size);
       tidy = tidy;
       pointers = subst (PointersHeld s.log.held o) (sym is) subject.pointers;
+      names = λ p there. inl there;
       means = means;
     }
 
@@ -86,6 +89,7 @@ created_makes fresh count holes s o m attribute i j can alive size made changed 
       lead = subst (λ (x : Inode). CanLead x j m) (sym is) (created_leads j m (omega (arith, later)) alive made changed (count m) tidy.count size);
       tidy = tidy;
       pointers = λ k p at. absurd (none-some p (sym (none k) ∙ at));
+      names = λ p there. inl there;
       means = means;
     }
 
@@ -121,6 +125,7 @@ written_makes one lead_law s o m offset bytes log i j can subject grows made wri
       lead = alive_leads i j m (omega (arith, later)) subject.alive written.alive written.created written.changed subject.tidy.count tidy.count subject.tidy.size tidy.size;
       tidy = tidy;
       pointers = pointers;
+      names = written_names one o m offset (length bytes) (blocks_written (contents_of s.log.held) i offset bytes) s.log log i j amount made written;
       means = means;
     }
 
@@ -142,5 +147,6 @@ truncated_makes one lead_law s o m size log i j can subject grows made truncated
       lead = alive_leads i j m (omega (arith, later)) subject.alive truncated.alive truncated.created truncated.changed subject.tidy.count tidy.count subject.tidy.size tidy.size;
       tidy = tidy;
       pointers = pointers;
+      names = truncated_names one o m size (blocks_cut (contents_of s.log.held) i size) s.log log i j amount made truncated;
       means = means;
     }

@@ -34,6 +34,7 @@ shrunk_store s held ahead same fewer store =
     subst (λ (h : Place → Option Stored). IsStore (over s h ahead)) (sym same) (record {
       objects = store.objects;
       made = store.made;
+      named = store.named;
       nothing = store.nothing;
       stamps = λ o row e. let bound = store.stamps o row e in omega (arith, fewer, bound);
       few = let bound = store.few in omega (arith, fewer, bound);

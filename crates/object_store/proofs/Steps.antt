@@ -1,15 +1,16 @@
 -- The steps that a change of an object is made of: its data is appended, its row is added, its journal is written.
-use Rattle.std.proofs.Common.{◌≡◌, ℕ, ◌+◌, ◌-◌, ◌≤◌, ◌==◌, ◌&&◌, ◌/◌, ◌%◌, leb, Bool, false, cond, List, length, drop, Option, Some, None, IsSome, refl, sym, ap, subst, ◌∙◌, inl, inr, arith}
+use Rattle.std.proofs.Common.{◌≡◌, ◌⊎◌, ℕ, ◌+◌, ◌-◌, ◌<◌, ◌≤◌, ◌==◌, ◌&&◌, ◌/◌, ◌%◌, leb, Bool, false, cond, List, length, drop, Option, Some, None, IsSome, refl, sym, ap, subst, ◌∙◌, inl, inr, arith}
 use Rattle.std.specs.Prelude.{is_some}
-use Rattle.std.proofs.lemmas.Bool.{cases_Bool, cond-true, cond-false, and_right, eqb-true, eq-eqb, ne_eqb, false≢true}
+use Rattle.std.proofs.lemmas.Bool.{cases_Bool, cases_lt, cond-true, cond-false, and_right, eqb-true, eqb-false, eq-eqb, ne_eqb, lt-leb, le-leb, false≢true}
 use Rattle.std.proofs.lemmas.List.{length-drop}
 use Rattle.std.proofs.lemmas.Option.{none-some, same_Some}
 use Rattle.s4_types.specs.Pointer.{Place}
 use Rattle.s4_types.specs.declared.versions.Version.{Version}
 use Rattle.s4_types.specs.declared.versions.Version.TheVariants.{Absent}
-use Rattle.blocks.specs.Log.{Log, Stored, same_kind}
-use Rattle.blocks.specs.declared.kinds.BlockKind.TheVariants.{Journal, Data}
+use Rattle.blocks.specs.Log.{Log, Stored, of_kind, same_kind}
+use Rattle.blocks.specs.declared.kinds.BlockKind.TheVariants.{Journal, Checkpoint, Data}
 use Rattle.codec.specs.declared.inodes.Inode.{Inode}
+use Rattle.codec.specs.Checkpoint.{pointer_at}
 use Rattle.inode_links.specs.Runs.{blank}
 use Rattle.journal_chain.specs.Chain.{OnlyJournalChanged}
 use Rattle.inode_changes.specs.Contents.{byte_in, byte_of, contents_of, meaning}
@@ -19,13 +20,14 @@ use Rattle.inode_changes.specs.Laws.{OnlyItsBlocksMatter}
 use Rattle.object_map.specs.declared.map.Row.{Row}
 use Rattle.object_map.specs.Rows.{row_of, with_row, fresh_row}
 use Rattle.time_read.specs.Rows.{IsRow, inode_of}
-use Rattle.object_store.specs.Store.{StoreFields, IsStore, IsObject, HasNothing}
+use Rattle.object_store.specs.Store.{StoreFields, IsStore, IsObject, HasNothing, PointsTo, DataIsNamed}
 use Rattle.row_changes.specs.Recent.{IsBy}
 use Rattle.object_store.specs.Versions.{inode_by, version_by, version_in}
 use Rattle.object_store.specs.Taking.{RowChanges}
-use Rattle.object_store.specs.Turning.{Turns}
-use Rattle.object_store.proofs.Lower.{RowStays, RowInodeStays, IsByStays, IsByLater, FreshRowStands, FreshRowIsBy, FreshInode, BlankCount, BlankHoles}
+use Rattle.object_store.specs.Turning.{LeadsTo, IsOpenFor, Turns}
+use Rattle.object_store.proofs.Lower.{RowStays, RowInodeStays, IsByStays, IsByLater, LastInodeStays, FreshRowStands, FreshRowIsBy, FreshInode, BlankCount, BlankHoles}
 use Rattle.object_store.proofs.Frames.{DataStays, data_agree, data_pointers, stays_object, growth_stays, journal_stays, version_by_stays}
+use Rattle.object_store.proofs.Naming.{NamesNew, stays_pointing}
 
 -- ---- rows
 
@@ -46,13 +48,30 @@ fewer before after n e =
     let count : length after ≡ length before - n = ap length e ∙ length-drop n before in
     omega (arith, count)
 
-pub grown_store : RowStays → RowInodeStays → IsByStays → OnlyItsBlocksMatter → (s : StoreFields) (log : Log) (object : ℕ) (blocks : List (List ℕ))
-    → GrowsBy object blocks s.log log → IsSome (row_of s.rows object) → IsStore s → IsStore (record s { log = log })
-grown_store stands same by matter s log object blocks grows there store =
+-- each data block that is held is named as before, or the next inode leads to it
+grown_named : RowInodeStays → (s : StoreFields) (log : Log) (object : ℕ) (blocks : List (List ℕ)) (j : Inode) → GrowsBy object blocks s.log log → NamesNew object s.log j log → IsStore s
+    → (o : ℕ) (row : Row) → row_of s.rows o ≡ Some row → (p : Place) → IsSome (of_kind Data o log.held p) → PointsTo log.held o row p ⊎ ((object ≡ o) × LeadsTo j p)
+grown_named same s log object blocks j grows new store o row e p there =
+    let before : IsSome (of_kind Data o s.log.held p) → PointsTo log.held o row p = λ was. stays_pointing same o s.log.held log.held row p (growth_stays object blocks s.log log o grows) (store.named o row e p was) in
+    elim (cases_Bool (object == o)) [
+      | inl is ↦
+          let here : object ≡ o = eqb-true object o is in
+          let cases : IsSome (of_kind Data o s.log.held p) ⊎ LeadsTo j p = subst (λ (n : ℕ). IsSome (of_kind Data n log.held p) → IsSome (of_kind Data n s.log.held p) ⊎ LeadsTo j p) here (new p) there in
+          elim cases [
+            | inl was ↦ inl (before was)
+            | inr leads ↦ inr (here, leads)
+          ]
+      | inr other ↦ inl (before (subst (λ (seen : Option (List ℕ)). IsSome seen) (grows.others Data o p other) there))
+    ]
+
+pub grown_store : RowStays → RowInodeStays → IsByStays → OnlyItsBlocksMatter → (s : StoreFields) (log : Log) (object : ℕ) (blocks : List (List ℕ)) (j : Inode)
+    → GrowsBy object blocks s.log log → NamesNew object s.log j log → IsSome (row_of s.rows object) → IsStore s → IsOpenFor object j (record s { log = log })
+grown_store stands same by matter s log object blocks j grows new there store =
     let few : length log.ahead ≤ length s.log.ahead = fewer s.log.ahead log.ahead (length blocks) grows.ahead in
     record {
       objects = λ o row e. stays_object stands same by matter o s.log.held log.held row s.latest (growth_stays object blocks s.log log o grows) (store.objects o row e);
       made = store.made;
+      named = grown_named same s log object blocks j grows new store;
       nothing = λ o none kind p. grows.others kind o p (and_right (same_kind kind Data) (object == o) (other_object (row_of s.rows) object o there none)) ∙ store.nothing o none kind p;
       stamps = λ o row e. let bound = store.stamps o row e in omega (arith, few, bound);
       few = let bound = store.few in omega (arith, few, bound);
@@ -90,7 +109,7 @@ blank_means contents m = refl
 
 fresh_object : FreshRowStands → FreshRowIsBy → FreshInode → IsByLater → BlankCount → BlankHoles → (held : Place → Option Stored) (o m latest : ℕ) → 1 ≤ o → HasNothing held o → IsObject held o (fresh_row m) latest
 fresh_object stands by fresh later count holes held o m latest numbered nothing = record {
-  stands = stands held o m numbered (λ p. nothing Journal p);
+  stands = stands held o m numbered (λ p. nothing Journal p) (λ p. nothing Checkpoint p);
   by = later held o (fresh_row m) 0 latest (omega arith) (by held o m);
   tidy = λ t. subst (Tidy (contents_of held)) (sym (fresh held o m t)) (blank_tidy count holes (contents_of held) m);
   pointers = λ t. subst (PointersHeld held o) (sym (fresh held o m t)) (blank_pointers holes held o m);
@@ -112,13 +131,16 @@ none_cases rows after o row put q none = elim (cases_Bool (o == q)) [
   | inr other ↦ (other, sym (row_beside rows o q row other) ∙ sym (put q) ∙ none)
 ]
 
-pub added_store : FreshRowStands → FreshRowIsBy → FreshInode → IsByLater → BlankCount → BlankHoles → (s : StoreFields) (rows : List (ℕ × Row)) (object m : ℕ)
-    → ((q : ℕ) → row_of rows q ≡ with_row (row_of s.rows) object (fresh_row m) q) → 1 ≤ object → 1 ≤ m → row_of s.rows object ≡ None → IsStore s → IsStore (record s { rows = rows })
-added_store stands by fresh later count holes s rows object m put numbered above none store = record {
+pub added_store : FreshRowStands → FreshRowIsBy → FreshInode → IsByLater → BlankCount → BlankHoles → (s : StoreFields) (rows : List (ℕ × Row)) (object m : ℕ) (j : Inode)
+    → ((q : ℕ) → row_of rows q ≡ with_row (row_of s.rows) object (fresh_row m) q) → 1 ≤ object → 1 ≤ m → row_of s.rows object ≡ None → IsStore s → IsOpenFor object j (record s { rows = rows })
+added_store stands by fresh later count holes s rows object m j put numbered above none store = record {
   objects = row_cases (row_of s.rows) (row_of rows) object (fresh_row m) put (λ q r. IsObject s.log.held q r s.latest)
       (fresh_object stands by fresh later count holes s.log.held object m s.latest numbered (store.nothing object none))
       (λ q r other e. store.objects q r e);
   made = row_cases (row_of s.rows) (row_of rows) object (fresh_row m) put (λ q r. 1 ≤ r.created) above (λ q r other e. store.made q r e);
+  named = row_cases (row_of s.rows) (row_of rows) object (fresh_row m) put (λ q r. (p : Place) → IsSome (of_kind Data q s.log.held p) → PointsTo s.log.held q r p ⊎ ((object ≡ q) × LeadsTo j p))
+      (λ p there. absurd (false≢true (sym (ap is_some (store.nothing object none Data p)) ∙ there)))
+      (λ q r other e p there. inl (store.named q r e p there));
   nothing = λ o gone. store.nothing o (none_cases (row_of s.rows) (row_of rows) object (fresh_row m) put o gone).1;
   stamps = row_cases (row_of s.rows) (row_of rows) object (fresh_row m) put (λ q r. r.stamp + length s.log.ahead ≤ 15360)
       (let bound = store.few in omega (arith, bound))
@@ -152,7 +174,7 @@ pub record Records (held later : Place → Option Stored) (o : ℕ) (row next : 
 -- stamps are told of nothing but themselves
 pub stamped_row : (held : Place → Option Stored) (o : ℕ) (row : Row) (n : ℕ) → IsRow held o row → IsRow held o (record row { stamp = n })
 unfolding inode_of
-stamped_row held o row n r = record { object = r.object; chain = r.chain; last = r.last; run = r.run; groups = r.groups; checkpoint = r.checkpoint; created = r.created }
+stamped_row held o row n r = record { object = r.object; chain = r.chain; last = r.last; run = r.run; groups = r.groups; checkpoint = r.checkpoint; only = r.only; created = r.created }
 
 pub stamped_inode : (held : Place → Option Stored) (o : ℕ) (row : Row) (n t : ℕ) → inode_of held o (record row { stamp = n }) t ≡ inode_of held o row t
 unfolding inode_of
@@ -181,6 +203,48 @@ recorded_object matter held later o row next i m latest n records object tidy po
       pointers = λ t. subst (PointersHeld later o) (sym (is t)) (either (PointersHeld later o) m t i (inode_of held o row t) (data_pointers o held later i stays pointers) (data_pointers o held later (inode_of held o row t) stays (object.pointers t)));
     }
 
+-- what the object pointed to at some moment it points to at an earlier one than the new inode's
+recorded_points : LastInodeStays → (held later : Place → Option Stored) (o : ℕ) (row next : Row) (i : Inode) (m latest n : ℕ) (p : Place) → Records held later o row next i m → IsBy held o row latest → latest < m → PointsTo held o row p
+    → PointsTo later o (record next { stamp = n }) p
+recorded_points last held later o row next i m latest n p records by before points =
+    let stays : (t : ℕ) → t < m → inode_of later o (record next { stamp = n }) t ≡ inode_of held o row t = λ t less. stamped_inode later o next n t ∙ records.inode t ∙ cond-false (leb m t) i (inode_of held o row t) (lt-leb m t less) in
+    elim (cases_lt points.moment m) [
+      | inl less ↦ record {
+        moment = points.moment;
+        index = points.index;
+        leads = ap (λ (k : Inode). pointer_at k points.index) (stays points.moment less) ∙ points.leads;
+      }
+      | inr past ↦ record {
+        moment = latest;
+        index = points.index;
+        leads = ap (λ (k : Inode). pointer_at k points.index) (stays latest before ∙ sym (last held o row latest points.moment by (omega (arith, past, before)))) ∙ points.leads;
+      }
+    ]
+
+-- so each data block of the object is named
+recorded_here : LastInodeStays → (s : StoreFields) (later : Place → Option Stored) (o : ℕ) (row next : Row) (i : Inode) (m n : ℕ) → Records s.log.held later o row next i m → row_of s.rows o ≡ Some row → s.latest < m → IsOpenFor o i s
+    → DataIsNamed later o (record next { stamp = n })
+recorded_here last s later o row next i m n records there before store p held =
+    let was : IsSome (of_kind Data o s.log.held p) = subst (λ (view : Place → Option (List ℕ)). IsSome (view p)) (records.others Data o refl) held in
+    elim (store.named o row there p was) [
+      | inl points ↦ recorded_points last s.log.held later o row next i m s.latest n p records (store.objects o row there).by before points
+      | inr (is, leads) ↦ record {
+        moment = m;
+        index = leads.0;
+        leads = ap (λ (k : Inode). pointer_at k leads.0) (stamped_inode later o next n m ∙ records.inode m ∙ cond-true (leb m m) i (inode_of s.log.held o row m) (le-leb m m (omega arith))) ∙ leads.1;
+      }
+    ]
+
+-- and each of another object
+recorded_beside : RowInodeStays → (s : StoreFields) (later : Place → Option Stored) (o : ℕ) (i : Inode) → OnlyJournalChanged o s.log.held later → IsOpenFor o i s
+    → (q : ℕ) (r : Row) → (o == q) ≡ false → row_of s.rows q ≡ Some r → DataIsNamed later q r
+recorded_beside same s later o i only store q r other e p held =
+    let was : IsSome (of_kind Data q s.log.held p) = subst (λ (view : Place → Option (List ℕ)). IsSome (view p)) (only Data q refl) held in
+    elim (store.named q r e p was) [
+      | inl points ↦ stays_pointing same q s.log.held later r p (journal_stays o q s.log.held later only other) points
+      | inr (is, leads) ↦ absurd (eqb-false o q other is)
+    ]
+
 by_later : IsByLater → (held : Place → Option Stored) (o : ℕ) (row : Row) (latest m : ℕ) → latest ≤ m → IsObject held o row latest → IsObject held o row m
 by_later later held o row latest m le object = record { stands = object.stands; by = later held o row latest m le object.by; tidy = object.tidy; pointers = object.pointers }
 
@@ -190,11 +254,12 @@ taken_places before after n e room =
     let count : length after ≡ length before - n = ap length e ∙ length-drop n before in
     omega (arith, count)
 
-recorded_store : RowStays → RowInodeStays → IsByStays → IsByLater → OnlyItsBlocksMatter → (s later : StoreFields) (o m n count : ℕ) (row next : Row) (i : Inode)
-    → IsStore s → row_of s.rows o ≡ Some row → s.latest ≤ m → later.latest ≡ m → Records s.log.held later.log.held o row next i m → Tidy (contents_of s.log.held) i → PointersHeld s.log.held o i
+recorded_store : RowStays → RowInodeStays → IsByStays → IsByLater → LastInodeStays → OnlyItsBlocksMatter → (s later : StoreFields) (o m n count : ℕ) (row next : Row) (i : Inode)
+    → IsOpenFor o i s → row_of s.rows o ≡ Some row → s.latest < m → later.latest ≡ m → Records s.log.held later.log.held o row next i m → Tidy (contents_of s.log.held) i → PointersHeld s.log.held o i
     → ((q : ℕ) → row_of later.rows q ≡ with_row (row_of s.rows) o (record next { stamp = n }) q) → n ≡ row.stamp + 1
     → next.created ≡ row.created → later.log.ahead ≡ drop count s.log.ahead → 1 ≤ count → count ≤ length s.log.ahead → IsStore later
-recorded_store stands same by later_by matter s later o m n count row next i store there le latest records tidy pointers put stamp created ahead some room =
+recorded_store stands same by later_by last matter s later o m n count row next i store there before latest records tidy pointers put stamp created ahead some room =
+    let le : s.latest ≤ m = omega (arith, before) in
     let fewer_ahead : length later.log.ahead + count ≡ length s.log.ahead = taken_places s.log.ahead later.log.ahead count ahead room in
     record {
       objects = subst (λ (k : ℕ). (q : ℕ) (r : Row) → row_of later.rows q ≡ Some r → IsObject later.log.held q r k) (sym latest)
@@ -204,6 +269,9 @@ recorded_store stands same by later_by matter s later o m n count row next i sto
       made = row_cases (row_of s.rows) (row_of later.rows) o (record next { stamp = n }) put (λ q r. 1 ≤ r.created)
           (let least = store.made o row there in omega (arith, least, created))
           (λ q r other e. store.made q r e);
+      named = row_cases (row_of s.rows) (row_of later.rows) o (record next { stamp = n }) put (λ q r. DataIsNamed later.log.held q r)
+          (recorded_here last s later.log.held o row next i m n records there before store)
+          (recorded_beside same s later.log.held o i records.others store);
       nothing = λ q none kind p.
           let gone = none_cases (row_of s.rows) (row_of later.rows) o (record next { stamp = n }) put q none in
           ap (λ (view : Place → Option (List ℕ)). view p) (records.others kind q (and_right (same_kind Journal kind) (o == q) gone.0)) ∙ store.nothing q gone.1 kind p;
@@ -224,7 +292,7 @@ version_of_inode held later m t i j matter o stays i_leads j_leads = elim (cases
       ∙ sym (cond-false (leb m t) (meaning (contents_of held) i) (meaning (contents_of held) j) less)
 ]
 
-recorded_version : OnlyItsBlocksMatter → (s later : StoreFields) (o m n : ℕ) (row next : Row) (i : Inode) (t : ℕ) → IsStore s → row_of s.rows o ≡ Some row
+recorded_version : OnlyItsBlocksMatter → (s later : StoreFields) (o m n : ℕ) (row next : Row) (i : Inode) (t : ℕ) → IsOpenFor o i s → row_of s.rows o ≡ Some row
     → Records s.log.held later.log.held o row next i m → PointersHeld s.log.held o i → row_of later.rows o ≡ Some (record next { stamp = n })
     → version_in later o t ≡ cond (leb m t) (meaning (contents_of s.log.held) i) (version_in s o t)
 recorded_version matter s later o m n row next i t store there records pointers found =
@@ -233,7 +301,7 @@ recorded_version matter s later o m n row next i t store there records pointers 
     ∙ version_of_inode s.log.held later.log.held m t i (inode_of s.log.held o row t) matter o (journal_data o s.log.held later.log.held records.others) pointers ((store.objects o row there).pointers t)
     ∙ sym (ap (λ (r : Option Row). cond (leb m t) (meaning (contents_of s.log.held) i) (version_by s.log.held (inode_by s.log.held o t r))) there)
 
-recorded_versions : RowInodeStays → OnlyItsBlocksMatter → (s later : StoreFields) (o m n : ℕ) (row next : Row) (i : Inode) → IsStore s → row_of s.rows o ≡ Some row
+recorded_versions : RowInodeStays → OnlyItsBlocksMatter → (s later : StoreFields) (o m n : ℕ) (row next : Row) (i : Inode) → IsOpenFor o i s → row_of s.rows o ≡ Some row
     → Records s.log.held later.log.held o row next i m → PointersHeld s.log.held o i → ((q : ℕ) → row_of later.rows q ≡ with_row (row_of s.rows) o (record next { stamp = n }) q)
     → (q t : ℕ) → version_in later q t ≡ cond (o == q && leb m t) (meaning (contents_of s.log.held) i) (version_in s q t)
 recorded_versions same matter s later o m n row next i store there records pointers put q t = elim (cases_Bool (o == q)) [
@@ -249,12 +317,12 @@ recorded_versions same matter s later o m n row next i store there records point
 ]
 
 -- the whole step
-pub recorded : RowStays → RowInodeStays → IsByStays → IsByLater → OnlyItsBlocksMatter → (s later : StoreFields) (o m n count : ℕ) (row next : Row) (i : Inode)
-    → IsStore s → row_of s.rows o ≡ Some row → s.latest ≤ m → later.latest ≡ m → Records s.log.held later.log.held o row next i m → Tidy (contents_of s.log.held) i → PointersHeld s.log.held o i
+pub recorded : RowStays → RowInodeStays → IsByStays → IsByLater → LastInodeStays → OnlyItsBlocksMatter → (s later : StoreFields) (o m n count : ℕ) (row next : Row) (i : Inode)
+    → IsOpenFor o i s → row_of s.rows o ≡ Some row → s.latest < m → later.latest ≡ m → Records s.log.held later.log.held o row next i m → Tidy (contents_of s.log.held) i → PointersHeld s.log.held o i
     → ((q : ℕ) → row_of later.rows q ≡ with_row (row_of s.rows) o (record next { stamp = n }) q) → n ≡ row.stamp + 1
     → next.created ≡ row.created → later.log.ahead ≡ drop count s.log.ahead → 1 ≤ count → count ≤ length s.log.ahead → RowChanges s o m later.rows → Turns s o m i count later
-recorded stands same by later_by matter s later o m n count row next i store there le latest records tidy pointers put stamp created ahead some room changes = record {
-  store = recorded_store stands same by later_by matter s later o m n count row next i store there le latest records tidy pointers put stamp created ahead some room;
+recorded stands same by later_by last matter s later o m n count row next i store there before latest records tidy pointers put stamp created ahead some room changes = record {
+  store = recorded_store stands same by later_by last matter s later o m n count row next i store there before latest records tidy pointers put stamp created ahead some room;
   versions = recorded_versions same matter s later o m n row next i store there records pointers put;
   latest = latest;
   row = changes;

@@ -32,6 +32,7 @@ pub record Known (s : StoreFields) (o : ℕ) (i j : Inode) (m : ℕ) (row : Row)
   pub free : push_refusal (chain_of o row) s.log.ahead (entries_between i j m) ≡ None
   pub subject : subject_row s o m ≡ row
   pub stamp : row.stamp + 1 < 2 ^ 64
+  pub last : LastInodeStays
 
 pub known : IsByLater → LastInodeStays → (s : StoreFields) (o : ℕ) (i j : Inode) (m : ℕ) (row : Row) → CanTurn s o i j m → row_of s.rows o ≡ Some row → Known s o i j m row
 known by last s o i j m row can there =
@@ -47,6 +48,7 @@ known by last s o i j m row can there =
       free = subst (λ (r : Row). push_refusal (chain_of o r) s.log.ahead (entries_between i j m) ≡ None) same can.free;
       subject = ap (row_or_fresh m) there;
       stamp = omega (arith, bound);
+      last = last;
     }
 
 -- the stored row is the older one but for its journal, changed once more
@@ -71,7 +73,7 @@ turned stands same by later_by matter are_some needed s later o m i j row next c
     let count : length (map entry_length (entries_between i j m)) ≡ length (entries_between i j m) = length-map (entries_between i j m) entry_length in
     let least : 0 < blocks_needed row.head_bytes (map entry_length (entries_between i j m)) = needed row.head_bytes (map entry_length (entries_between i j m)) (omega (arith, count, entries)) in
     subst (λ (r : Row). Turns s o m j (pushed_blocks (chain_of o r) (entries_between i j m)) later) (sym know.subject)
-    (recorded stands same by later_by matter s later o m (row.stamp + 1) (pushed_blocks (chain_of o row) (entries_between i j m)) row next j can.store there (omega (arith, later_is)) latest records can.tidy can.pointers put refl (ap (λ (r : Row). r.created) rest) ahead (omega (arith, least)) few (changed s o m row next know.subject later.rows rest put))
+    (recorded stands same by later_by know.last matter s later o m (row.stamp + 1) (pushed_blocks (chain_of o row) (entries_between i j m)) row next j can.store there later_is latest records can.tidy can.pointers put refl (ap (λ (r : Row). r.created) rest) ahead (omega (arith, least)) few (changed s o m row next know.subject later.rows rest put))
 
 -- from its moment on the object's inode is the new one
 pub present_after : (held later : Place → Option Stored) (o m : ℕ) (old : Row) (rows : List (ℕ × Row)) (olds : ℕ → Option Row) (next : Row) (j : Inode) (stamp : ℕ)

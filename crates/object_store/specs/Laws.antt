@@ -1,14 +1,15 @@
 -- What the definitions come to: each of these holds of all stores, and is the contract of a function with an empty body.
-use Rattle.std.specs.Prelude.{◌≡◌, ℕ, ◌≤◌, ◌↔◌, true, Option, Some, None}
+use Rattle.std.specs.Prelude.{◌≡◌, ℕ, ◌≤◌, ◌↔◌, true, Option, Some, None, IsSome}
 use Rattle.s4_types.specs.Pointer.{Place}
-use Rattle.blocks.specs.Log.{Stored}
+use Rattle.blocks.specs.declared.kinds.BlockKind.{BlockKind}
+use Rattle.blocks.specs.Log.{Stored, of_kind}
 use Rattle.codec.specs.declared.inodes.Inode.{Inode}
 use Rattle.inode_links.specs.Runs.{blank}
 use Rattle.inode_changes.specs.Contents.{contents_of, meaning}
 use Rattle.object_map.specs.declared.map.Row.{Row}
 use Rattle.object_map.specs.Rows.{row_of}
 use Rattle.time_read.specs.Rows.{inode_of}
-use Rattle.object_store.specs.Store.{StoreFields, IsStore, IsObject}
+use Rattle.object_store.specs.Store.{StoreFields, IsStore, IsObject, IsNamed}
 use Rattle.object_store.specs.Versions.{Stays, inode_in, version_in}
 use Rattle.object_store.specs.Costs.{subject_inode}
 use Rattle.object_store.specs.Taking.{IsThere}
@@ -43,3 +44,11 @@ ChangesBeginWithThePresentVersion = (s : StoreFields) (o m : ℕ) → meaning (c
 -- So an object is there exactly where that inode is alive.
 abbrev pub TheAliveAreThere : Type 0
 TheAliveAreThere = (s : StoreFields) (o m : ℕ) → IsThere s o ↔ ((subject_inode s o m).alive ≡ true)
+
+-- An object's block of each kind is held at a place exactly where the object has a row that names it.
+abbrev pub HeldIsWhatRowsName : Type 0
+HeldIsWhatRowsName = (s : StoreFields) (o : ℕ) (kind : BlockKind) (p : Place) → IsStore s → IsSome (of_kind kind o s.log.held p) ↔ IsNamed s o kind p
+
+-- So each block that is held, whatever it is, is one that a row names.
+abbrev pub EachHeldBlockIsNamed : Type 0
+EachHeldBlockIsNamed = (s : StoreFields) (p : Place) (block : Stored) → IsStore s → s.log.held p ≡ Some block → IsNamed s block.object block.kind p

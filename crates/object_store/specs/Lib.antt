@@ -1,4 +1,5 @@
 pub mod Store
+pub mod Presents
 pub mod Versions
 pub mod Costs
 pub mod Taking

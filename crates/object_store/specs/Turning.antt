@@ -1,6 +1,10 @@
 -- What one change leaves of a whole store. No public clause cites this file.
-use Rattle.std.specs.Prelude.{◌≡◌, ℕ, ◌<◌, ◌==◌, ◌&&◌, ◌||◌, nat_le, if◌then◌else◌, drop, Some, None, is_some}
+use Rattle.std.specs.Prelude.{◌≡◌, ◌⊎◌, ℕ, ◌+◌, ◌<◌, ◌≤◌, ◌==◌, ◌&&◌, ◌||◌, nat_le, if◌then◌else◌, drop, length, Some, None, IsSome, is_some}
+use Rattle.s4_types.specs.Pointer.{Place}
 use Rattle.s4_types.specs.declared.changes.Change.{Change}
+use Rattle.blocks.specs.declared.kinds.BlockKind.TheVariants.{Data}
+use Rattle.blocks.specs.Log.{of_kind}
+use Rattle.codec.specs.Checkpoint.{pointer_at}
 use Rattle.codec.specs.declared.inodes.Inode.{Inode}
 use Rattle.object_map.specs.declared.map.Row.{Row}
 use Rattle.object_map.specs.Rows.{row_of}
@@ -10,7 +14,8 @@ use Rattle.journal_chain.specs.Push.{push_refusal, pushed_blocks}
 use Rattle.time_read.specs.Rows.{chain_of, inode_of}
 use Rattle.inode_changes.specs.Contents.{contents_of, meaning}
 use Rattle.inode_changes.specs.Tidiness.{Tidy, PointersHeld}
-use Rattle.object_store.specs.Store.{StoreFields, IsStore}
+use Rattle.object_store.specs.Store.{StoreFields, IsStore, IsObject, HasNothing, PointsTo}
+use Rattle.object_store.specs.declared.store.TheConstants.{MOST_PLACES}
 use Rattle.object_store.specs.Versions.{version_in, version_taken}
 use Rattle.object_store.specs.Costs.{object_of, subject_row, subject_inode, blocks_taken, change_refusal}
 use Rattle.object_store.specs.Taking.{Takes, RowChanges, data_by, Appends}
@@ -23,10 +28,23 @@ pub record CanTake (s : StoreFields) (change : Change) (m : ℕ) (present : Inod
   pub begins : present ≡ subject_inode s (object_of change) m
   pub free : change_refusal s change m ≡ None
 
+-- some pointer of an inode leads to this place
+abbrev pub LeadsTo : Inode → Place → Type 0
+LeadsTo i p = (k : ℕ) × (pointer_at i k ≡ Some p)
+
+-- A store, but that data of one object may be held which nothing names yet: this inode, its next one, leads there.
+pub record IsOpenFor (o : ℕ) (i : Inode) (s : StoreFields) : Type 0 where
+  pub objects : (q : ℕ) (row : Row) → row_of s.rows q ≡ Some row → IsObject s.log.held q row s.latest
+  pub made : (q : ℕ) (row : Row) → row_of s.rows q ≡ Some row → 1 ≤ row.created
+  pub named : (q : ℕ) (row : Row) → row_of s.rows q ≡ Some row → (p : Place) → IsSome (of_kind Data q s.log.held p) → PointsTo s.log.held q row p ⊎ ((o ≡ q) × LeadsTo i p)
+  pub nothing : (q : ℕ) → row_of s.rows q ≡ None → HasNothing s.log.held q
+  pub stamps : (q : ℕ) (row : Row) → row_of s.rows q ≡ Some row → row.stamp + length s.log.ahead ≤ MOST_PLACES
+  pub few : length s.log.ahead ≤ MOST_PLACES
+
 -- An object can have another inode from a moment on: it has a row, the first inode is its present one, entries of the
 -- moment lead from it to the next one, which is tidy, and there is room for them.
 pub record CanTurn (s : StoreFields) (o : ℕ) (i j : Inode) (m : ℕ) : Type 0 where
-  pub store : IsStore s
+  pub store : IsOpenFor o j s
   pub later : s.latest < m
   pub row : Row
   pub there : row_of s.rows o ≡ Some row

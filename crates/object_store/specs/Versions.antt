@@ -1,5 +1,5 @@
 -- The inode and the version that an object has at a moment, by its row and the blocks that are held.
-use Rattle.std.specs.Prelude.{◌≡◌, ℕ, ◌&&◌, nat_le, if◌then◌else◌, Option, Some, None, IsSome}
+use Rattle.std.specs.Prelude.{◌≡◌, ℕ, ◌&&◌, nat_le, if◌then◌else◌, List, [], Option, Some, None, IsSome}
 use Rattle.s4_types.specs.Pointer.{Place}
 use Rattle.s4_types.specs.declared.changes.Change.{Change}
 use Rattle.s4_types.specs.declared.versions.Version.{Version}
@@ -8,11 +8,21 @@ use Rattle.s4_model.specs.Effect.{effect, is_change_of}
 use Rattle.blocks.specs.declared.kinds.BlockKind.TheVariants.{Journal, Checkpoint, Data}
 use Rattle.blocks.specs.Log.{Stored, of_kind}
 use Rattle.codec.specs.declared.inodes.Inode.{Inode}
+use Rattle.codec.specs.Entry.{EntryFields}
 use Rattle.object_map.specs.declared.map.Row.{Row}
 use Rattle.object_map.specs.Rows.{row_of}
-use Rattle.time_read.specs.Rows.{inode_of}
+use Rattle.time_read.specs.Rows.{entries_of, inode_of}
 use Rattle.inode_changes.specs.Contents.{contents_of, meaning}
 use Rattle.object_store.specs.Store.{StoreFields}
+
+-- the journal entries of an object by its row, the oldest first; none where it has no row
+abbrev pub entries_by : (Place → Option Stored) → ℕ → Option Row → List EntryFields
+entries_by held o None = []
+entries_by held o (Some row) = entries_of held o row
+
+-- the journal entries of an object, the oldest first; none where it has no row
+abbrev pub entries_in : StoreFields → ℕ → List EntryFields
+entries_in s o = entries_by s.log.held o (row_of s.rows o)
 
 -- the inode of an object at a moment, by its row: none where it has no row
 abbrev pub inode_by : (Place → Option Stored) → ℕ → ℕ → Option Row → Option Inode

@@ -1,6 +1,6 @@
 //! Laws of stores, for the layers above: each function does nothing, and its contract is the law.
 
-ghost use Rattle.object_store.specs.Laws.{ObjectsStay, InodesStay, VersionsStay, ThePresentStays, ChangesBeginWithThePresent, ChangesBeginWithThePresentVersion, TheAliveAreThere};
+ghost use Rattle.object_store.specs.Laws.{ObjectsStay, InodesStay, VersionsStay, ThePresentStays, ChangesBeginWithThePresent, ChangesBeginWithThePresentVersion, TheAliveAreThere, HeldIsWhatRowsName, EachHeldBlockIsNamed};
 
 use inode_changes::laws::only_its_blocks_matter;
 use row_changes::laws::{a_fresh_row_stands, a_row_is_by_later_moments, the_last_inode_stays};
@@ -40,3 +40,11 @@ pub fn changes_begin_with_the_present_version()
 {
     a_fresh_row_stands();
 }
+
+/// What is held is exactly what rows name: an object's journal blocks are those of its chain, its one checkpoint is that of
+/// its row, and its data blocks are those that it points to at some moment. Nothing else is held, and no object without a
+/// row has a block.
+pub fn what_is_held_is_what_rows_name()
+    ensures exact { HeldIsWhatRowsName }
+    ensures block { EachHeldBlockIsNamed }
+{}

@@ -2,7 +2,8 @@
 //!
 //! The layers above may rely on this: a store has a version for each object and moment, taking a change gives the versions
 //! that the model gives, and it is refused exactly where the journal would be too long or there is too little room, told
-//! before anything is written. Which changes may be asked for, and at which moments, is told elsewhere.
+//! before anything is written. A checkpoint, and the sealing of the table's open frame, leave each version as it was. What the
+//! table holds is exactly what the rows name. Which changes may be asked for, and at which moments, is told elsewhere.
 #![tactic(auto)]
 
 mod costs;

@@ -4,18 +4,21 @@ ghost use Rattle.s4_types.specs.declared.refusals.Refusal.TheVariants.{NoMemory}
 ghost use Rattle.object_map.specs.Rows.{row_of, IsNextAbove};
 ghost use Rattle.inode_changes.specs.Contents.{contents_of, bytes_of};
 ghost use Rattle.object_store.specs.Store.{fields_of, IsStore};
-ghost use Rattle.object_store.specs.Versions.{inode_in};
+ghost use Rattle.object_store.specs.Versions.{entries_in, inode_in};
 ghost use Rattle.object_store.specs.Costs.{room};
 
 mod checkpointing;
+mod frames;
+mod presents;
 mod sealing;
 mod taking;
 
 use crate::laws::the_present_stays;
 use blocks::Blocks;
-use codec::Inode;
+use codec::{Entry, Inode};
 use inode_changes::laws::held_pointers_lead;
 use object_map::{ObjectMap, Row};
+use presents::Presents;
 use s4_types::limits::RESERVE_BLOCKS;
 use s4_types::{Moment, ObjectId, Refusal};
 use std::alloc::Global;
@@ -32,27 +35,20 @@ pub struct Store<B: Blocks> {
     table: B,
     // The moment of the last change, 0 where there was none.
     latest: Moment,
-    // Of the object that was changed or looked at last, so that its next request needs no walk of its journal.
-    recent: Option<Present>,
-}
-
-/// An object with its present inode.
-#[derive(Clone, Copy)]
-struct Present {
-    object: ObjectId,
-    inode: Inode,
+    presents: Presents,
 }
 
 impl<B: Blocks> Model for Store<B> {
-    ghost use Rattle.std.specs.Prelude.{◌≡◌, Some, IfSome};
+    ghost use Rattle.std.specs.Prelude.{◌≡◌, ℕ};
     ghost use Rattle.object_store.specs.Store.{StoreOf, fields_of};
     ghost use Rattle.object_store.specs.Versions.{inode_in};
+    ghost use Rattle.object_store.specs.Presents.{kept_of};
 
     ghost Value = { StoreOf B };
 
     ghost view = { λ s. record { rows = s.rows; table = s.table; latest = s.latest } };
 
-    ghost invariant = { λ s. IfSome s.recent (λ p. inode_in (fields_of B.log (record { rows = s.rows; table = s.table; latest = s.latest })) p.object s.latest ≡ Some p.inode) };
+    ghost invariant = { λ s. (o : ℕ) → kept_of s.presents o ≡ inode_in (fields_of B.log (record { rows = s.rows; table = s.table; latest = s.latest })) o s.latest };
 }
 
 impl<B: Blocks> Store<B> {
@@ -70,7 +66,7 @@ impl<B: Blocks> Store<B> {
             rows: ObjectMap::new(alloc),
             table,
             latest: Moment::new(0),
-            recent: None,
+            presents: Presents::new(alloc),
         }
     }
 
@@ -103,14 +99,11 @@ impl<B: Blocks> Store<B> {
         self.rows.next_above(object)
     }
 
-    /// The present inode of an object, where it is kept.
-    fn known(&self, object: ObjectId) -> Option<Inode>
-        ensures { IfSome result (λ inode. inode_in (fields_of B.log self.now) object self.now.latest ≡ Some inode) }
+    /// The present inode of an object, and none where it has no row. It is kept beside the row: no journal is walked.
+    pub fn present(&self, object: ObjectId) -> Option<Inode>
+        ensures { result ≡ inode_in (fields_of B.log self.now) object self.now.latest }
     {
-        match &self.recent {
-            Some(recent) if recent.object == object => Some(recent.inode),
-            _ => None,
-        }
+        self.presents.get(object)
     }
 
     /// The inode of an object at a moment by a walk of its journal, and none where it has no row.
@@ -127,50 +120,37 @@ impl<B: Blocks> Store<B> {
         Ok(Some(inode))
     }
 
-    /// Keeps the present inode of an object.
-    fn keep(&mut self, object: ObjectId, inode: &Inode)
-        requires { inode_in (fields_of B.log self.old) object self.old.latest ≡ Some inode.now }
-        ensures { self.new ≡ self.old }
-    {
-        self.recent = Some(Present {
-            object,
-            inode: *inode,
-        });
-    }
-
-    /// The present inode of an object, which is kept from then on, and none where it has no row.
-    fn present(&mut self, object: ObjectId) -> Result<Option<Inode>, Refusal>
-        requires { IsStore (fields_of B.log self.old) }
-        ensures inode { IfOk result (λ inode. inode ≡ inode_in (fields_of B.log self.old) object self.old.latest) }
-        ensures refusal { IfErr result (λ e. e ≡ NoMemory) }
-        ensures same { fields_of B.log self.new ≡ fields_of B.log self.old }
-    {
-        if let Some(inode) = self.known(object) {
-            return Ok(Some(inode));
-        }
-        let latest = self.latest;
-        let found = self.walk(object, latest)?;
-        if let Some(inode) = &found {
-            self.keep(object, inode);
-        }
-        Ok(found)
-    }
-
-    /// The inode of an object at a moment, and none where it has no row. It takes one walk of the object's journal, and
-    /// none for the present of the object that was changed or looked at last.
+    /// The inode of an object at a moment, and none where it has no row. A moment before the last change takes one walk of
+    /// the object's journal, and all others none.
     ///
-    /// NoMemory alone, where the memory for the journal's entries is refused.
+    /// NoMemory alone, of a moment before the last change, where the memory for the journal's entries is refused.
     pub fn inode_at(&mut self, object: ObjectId, at: Moment) -> Result<Option<Inode>, Refusal>
         requires { IsStore (fields_of B.log self.old) }
         ensures inode { IfOk result (λ inode. inode ≡ inode_in (fields_of B.log self.old) object at) }
         ensures refusal { IfErr result (λ e. e ≡ NoMemory) }
+        ensures memory { IfErr result (λ _. at < self.old.latest) }
         ensures same { fields_of B.log self.new ≡ fields_of B.log self.old }
     {
         the_present_stays();
         if self.latest <= at {
-            return self.present(object);
+            return Ok(self.present(object));
         }
         self.walk(object, at)
+    }
+
+    /// The journal entries of an object, the oldest first, and none where it has no row.
+    ///
+    /// NoMemory alone, where the memory for them is refused.
+    pub fn entries(&mut self, object: ObjectId) -> Result<Vec<Entry>, Refusal>
+        requires { IsStore (fields_of B.log self.old) }
+        ensures entries { IfOk result (λ entries. entries.items ≡ entries_in (fields_of B.log self.old) object) }
+        ensures refusal { IfErr result (λ e. e ≡ NoMemory) }
+        ensures same { fields_of B.log self.new ≡ fields_of B.log self.old }
+    {
+        let Some(row) = self.row(object) else {
+            return Ok(Vec::new(self.alloc));
+        };
+        time_read::entries(self.alloc, &mut self.table, object, &row)
     }
 
     /// The bytes of an object at a moment from an offset on, `len` of them or as many as there are; the inode is the

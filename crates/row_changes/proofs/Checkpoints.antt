@@ -15,7 +15,7 @@ use Rattle.journal_chain.specs.Chain.{View, IsChain, Holds}
 use Rattle.time_read.specs.Rows.{chain_of, entries_of, inode_before, first_of, inode_of, IsRow}
 use Rattle.row_changes.specs.Recent.{IsBy}
 use Rattle.row_changes.specs.Moved.{OnlyCheckpointChanged, is_at}
-use Rattle.row_changes.proofs.Places.{put_only, not_older}
+use Rattle.row_changes.proofs.Places.{put_only, not_older, one_left}
 use Rattle.row_changes.proofs.Recently.{same_entries}
 
 -- ---- the older checkpoint
@@ -43,13 +43,15 @@ pub record Laws : Type 0 where
   pub beginning : (i j : Inode) (entries : List EntryFields) → Run i entries j → i ≡ undone_all entries j
   pub done : (i : Inode) (entries : List EntryFields) (t : ℕ) → AllBy t entries → inode_after i entries t ≡ redone_all entries i
 
--- The inode that is current at a moment stands as a checkpoint at a place; the object's journal is as it was.
+-- The inode that is current at a moment stands as a checkpoint at a place, and no other checkpoint of the object is held;
+-- its journal is as it was.
 pub record Written (held later : Place → Option Stored) (o : ℕ) (row : Row) (p : Place) (i : Inode) (m : ℕ) : Type 0 where
   pub stands : IsRow held o row
   pub latest : IsBy held o row m
   pub present : i ≡ inode_of held o row m
   pub told : checkpoint_held later o p ≡ Some (record { object = o; moment = m; inode = i })
   pub journal : of_kind Journal o later ≡ of_kind Journal o held
+  pub only : (q : Place) → IsSome (of_kind Checkpoint o later q) → Some p ≡ Some q
 
 -- what is read at a place rests on what is held there
 told_still : (between later : Place → Option Stored) (o : ℕ) (p : Place) (c : CheckpointFields) → later p ≡ between p → checkpoint_held between o p ≡ Some c → checkpoint_held later o p ≡ Some c
@@ -60,14 +62,15 @@ pub written : (log between after : Log) (o : ℕ) (row : Row) (p : Place) (i : I
     ((p q : Place) → same_place p q ≡ true → p ≡ q) →
     IsRow log.held o row → IsBy log.held o row m → i ≡ inode_of log.held o row m →
     PutsCheckpoint log o p between → checkpoint_held between.held o p ≡ Some (record { object = o; moment = m; inode = i }) →
-    ((q : Place) → is_at row.checkpoint q ≡ false → after.held q ≡ between.held q) → OnlyCheckpointChanged o between.held after.held →
+    IfSome row.checkpoint (λ q. after.held q ≡ None) → ((q : Place) → is_at row.checkpoint q ≡ false → after.held q ≡ between.held q) → OnlyCheckpointChanged o between.held after.held →
     Written log.held after.held o row p i m
-written log between after o row p i m one r latest present put told kept only = record {
+written log between after o row p i m one r latest present put told gone kept only = record {
   stands = r;
   latest = latest;
   present = present;
   told = told_still between.held after.held o p (record { object = o; moment = m; inode = i }) (kept p (not_older log between o p row.checkpoint one put (older_there log.held o row r))) told;
   journal = put_only log between after o p put only Journal o refl;
+  only = one_left log between after o p row.checkpoint one put gone kept r.only;
 }
 
 all_by : (t : ℕ) (entries : List EntryFields) → AllBy t entries → entries_by t entries ≡ entries
@@ -119,5 +122,6 @@ written_row held later o row p i m laws w =
       run = subst (λ (es : List EntryFields). Run (first_of later o next) es w.stands.last) (sym entries) run;
       groups = ap grouped entries ∙ w.stands.groups;
       checkpoint = w.told ∙ ap (λ (k : Inode). Some (record { object = o; moment = m; inode = k })) (w.present ∙ sym (written_inode held later o row p i m m laws w));
+      only = w.only;
       created = ap (λ (k : Inode). k.created) first ∙ w.stands.created;
     }

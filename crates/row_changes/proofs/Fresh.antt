@@ -1,8 +1,9 @@
 -- The row of an object that was just made.
-use Rattle.std.proofs.Common.{◌≡◌, ℕ, ◌≤◌, List, [], Option, None, refl, sym, ap, subst, ◌∙◌, arith}
+use Rattle.std.proofs.Common.{◌≡◌, ℕ, ◌≤◌, List, [], Option, None, is_some, refl, sym, ap, subst, ◌∙◌, arith}
+use Rattle.std.proofs.lemmas.Bool.{false≢true}
 use Rattle.s4_types.specs.Pointer.{Place}
 use Rattle.blocks.specs.Log.{Stored, of_kind}
-use Rattle.blocks.specs.declared.kinds.BlockKind.TheVariants.{Journal}
+use Rattle.blocks.specs.declared.kinds.BlockKind.TheVariants.{Journal, Checkpoint}
 use Rattle.codec.specs.declared.inodes.Inode.{Inode}
 use Rattle.codec.specs.Entry.{EntryFields}
 use Rattle.packing.specs.Packing.{joined}
@@ -39,8 +40,8 @@ fresh_inode held o created t =
 
 pub fresh_stands :
     ((held : Place → Option Stored) (o : ℕ) → ((p : Place) → of_kind Journal o held p ≡ None) → Holds held (record { object = o; head = None; bytes = 0; filled = 0 }) []) →
-    (held : Place → Option Stored) (o created : ℕ) → 1 ≤ o → ((p : Place) → of_kind Journal o held p ≡ None) → IsRow held o (fresh_row created)
-fresh_stands empty held o created least none =
+    (held : Place → Option Stored) (o created : ℕ) → 1 ≤ o → ((p : Place) → of_kind Journal o held p ≡ None) → ((p : Place) → of_kind Checkpoint o held p ≡ None) → IsRow held o (fresh_row created)
+fresh_stands empty held o created least none no_checkpoint =
     let first : Inode = first_of held o (fresh_row created) in
     let is : entries_of held o (fresh_row created) ≡ [] = no_entries held o created in
     record {
@@ -50,5 +51,6 @@ fresh_stands empty held o created least none =
       run = subst (λ (es : List EntryFields). Run first es first) (sym is) refl;
       groups = ap grouped is;
       checkpoint = refl;
+      only = λ p there. absurd (false≢true (sym (ap is_some (no_checkpoint p)) ∙ there));
       created = ap (λ (i : Inode). i.created) (blank_first held o created) ∙ blank_made created;
     }

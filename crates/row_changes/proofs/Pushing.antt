@@ -1,5 +1,5 @@
 -- What a push of the entries of a later moment makes of an object's row.
-use Rattle.std.proofs.Common.{◌≡◌, inl, inr, ℕ, ◌-◌, ◌≤◌, ◌<◌, true, nat_le, if◌then◌else◌, List, [], ◌∷◌, ◌++◌, Option, Some, None, MatchOption, refl, sym, ap, subst, ◌∙◌, arith}
+use Rattle.std.proofs.Common.{◌≡◌, inl, inr, ℕ, ◌-◌, ◌≤◌, ◌<◌, true, nat_le, if◌then◌else◌, List, [], ◌∷◌, ◌++◌, Option, Some, None, MatchOption, IsSome, refl, sym, ap, subst, ◌∙◌, arith}
 use Rattle.std.proofs.lemmas.List.{append-nil}
 use Rattle.std.proofs.lemmas.List.Elements.{filter-append}
 use Rattle.std.proofs.lemmas.Bool.{cases_Bool, cond-true, cond-false, leb-true, leb-false, le-leb, lt-leb}
@@ -182,5 +182,6 @@ pushed_row held later o row h b f i j m new laws p =
       run = subst (λ (es : List EntryFields). Run (first_of later o next) es j) (sym p.chain.entries) run;
       groups = ap grouped p.chain.entries ∙ laws.groups (m - 1) old new p.stands.groups p.group p.earlier.entries (at_past m (m - 1) new before p.moments);
       checkpoint = carried (row.checkpoint_moment ≡ 0) row.checkpoint (checkpoint_held held o) (checkpoint_held later o) (record { object = o; moment = row.checkpoint_moment; inode = inode_of held o row row.checkpoint_moment }) (record { object = o; moment = row.checkpoint_moment; inode = inode_of later o next row.checkpoint_moment }) (λ q. ap (λ (v : View). spelled (v q)) p.checkpoints) (ap (λ (k : Inode). record { object = o; moment = row.checkpoint_moment; inode = k }) inode) p.stands.checkpoint;
+      only = λ q there. p.stands.only q (subst (λ (v : View). IsSome (v q)) p.checkpoints there);
       created = ap (λ (k : Inode). k.created) first ∙ p.stands.created;
     }

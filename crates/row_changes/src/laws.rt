@@ -1,7 +1,7 @@
 //! Laws of rows that change, for the layers above: each function does nothing, and its contract is the law.
 ghost use Rattle.std.specs.Prelude.{◌≡◌, ℕ, ◌≤◌, Option, None};
 ghost use Rattle.s4_types.specs.Pointer.{Place};
-ghost use Rattle.blocks.specs.declared.kinds.BlockKind.TheVariants.{Journal};
+ghost use Rattle.blocks.specs.declared.kinds.BlockKind.TheVariants.{Journal, Checkpoint};
 ghost use Rattle.blocks.specs.Log.{Stored, of_kind};
 ghost use Rattle.inode_links.specs.Runs.{blank};
 ghost use Rattle.object_map.specs.declared.map.Row.{Row};
@@ -15,10 +15,10 @@ use inode_links::laws::{
 };
 use journal_chain::laws::an_empty_chain_is_held;
 
-/// The row of an object that was just made stands where no journal block of the object is held, tells of no moment yet,
-/// and the inode is blank at each.
+/// The row of an object that was just made stands where no journal block and no checkpoint of the object is held, tells of
+/// no moment yet, and the inode is blank at each.
 pub fn a_fresh_row_stands()
-    ensures row { (held : Place → Option Stored) (o created : ℕ) → 1 ≤ o → ((p : Place) → of_kind Journal o held p ≡ None) → IsRow held o (fresh_row created) }
+    ensures row { (held : Place → Option Stored) (o created : ℕ) → 1 ≤ o → ((p : Place) → of_kind Journal o held p ≡ None) → ((p : Place) → of_kind Checkpoint o held p ≡ None) → IsRow held o (fresh_row created) }
     ensures latest { (held : Place → Option Stored) (o created : ℕ) → IsBy held o (fresh_row created) 0 }
     ensures inode { (held : Place → Option Stored) (o created t : ℕ) → inode_of held o (fresh_row created) t ≡ blank created }
 {

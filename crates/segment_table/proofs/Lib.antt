@@ -8,3 +8,4 @@ pub mod Steps
 pub mod Summing
 pub mod Reading
 pub mod Appending
+pub mod Owned

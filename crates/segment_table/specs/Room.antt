@@ -1,11 +1,11 @@
 -- Which places the next appends take.
-use Rattle.std.specs.Prelude.{ℕ, zero, suc, ◌+◌, ◌-◌, ◌^◌, Bool, true, false, ◌&&◌, nat_lt, if◌then◌else◌, List, [], ◌∷◌, ◌++◌, length}
+use Rattle.std.specs.Prelude.{ℕ, zero, suc, ◌+◌, ◌-◌, ◌^◌, Bool, true, false, ◌&&◌, nat_lt, if◌then◌else◌, List, [], ◌∷◌, ◌++◌, length, filter}
 use Rattle.std.specs.List.{flat_map, range_with_len}
 use Rattle.s4_types.specs.Pointer.{Place}
 use Rattle.blocks.specs.Log.{Log}
 use Rattle.segment_word.specs.Frames.{Phase, Free, Open, Sealed, Emptied, Frame}
 use Rattle.segment_word.specs.Layout.{frame_at}
-use Rattle.segment_table.specs.Table.{Table, slots_at, held_at}
+use Rattle.segment_table.specs.Table.{Table, slots_at, held_at, is_of}
 
 abbrev pub is_free : Phase → Bool
 is_free Free = true
@@ -18,6 +18,12 @@ is_open Free = false
 is_open Open = true
 is_open Sealed = false
 is_open Emptied = false
+
+abbrev pub is_sealed : Phase → Bool
+is_sealed Free = false
+is_sealed Open = false
+is_sealed Sealed = true
+is_sealed Emptied = false
 
 -- the frame takes appends at present
 abbrev pub is_filling : Frame → Bool
@@ -57,3 +63,7 @@ log_of t = record { held = held_at t; ahead = places_ahead t }
 -- all places of a new drive, in order
 abbrev pub new_places : ℕ → List Place
 new_places n = flat_map (λ f. places f 1 1 15) (range_with_len 0 n)
+
+-- the pointers to the held blocks of an object in frame f, by ascending block, where the frame is sealed
+abbrev pub pointers_in : Table → ℕ → ℕ → List Place
+pointers_in t o f = if is_sealed (frame_at t.drive.frames f).phase then filter (λ p. is_of o (held_at t p)) (whole_of t f) else []

@@ -1,5 +1,5 @@
 -- What contracts see of a segment table, and what a place of it holds.
-use Rattle.std.specs.Prelude.{ℕ, ◌==◌, if◌then◌else◌, List, [], ◌∷◌, slice_index_or, Option, Some, None}
+use Rattle.std.specs.Prelude.{ℕ, Bool, false, ◌==◌, if◌then◌else◌, List, [], ◌∷◌, slice_index_or, Option, Some, None}
 use Rattle.s4_types.specs.Pointer.{Place}
 use Rattle.blocks.specs.Log.{Stored}
 use Rattle.codec.specs.declared.summaries.Part.{Part}
@@ -37,3 +37,8 @@ held_at t p = held_in (frame_at t.drive.frames p.frame) (slots_at t.slots p.fram
 -- what a held block is for
 abbrev pub part_of : Stored → Part
 part_of block = record { kind = block.kind; object = block.object }
+
+-- whether a block is held, and this object's
+abbrev pub is_of : ℕ → Option Stored → Bool
+is_of o None = false
+is_of o (Some block) = block.object == o

@@ -4,7 +4,8 @@
 //! unused payload block of the open frame, or else opens the free frame of the lowest number, and no other pair of a
 //! pointer and its block changes. A frame is sealed once its last block is filled, or by `seal_open`: its unused blocks
 //! are zeros then, and its block 0 is the summary of what the used ones are for. A pointer has the generation of its
-//! frame, so that it never leads to a block of a later life. All memory but `count_on`'s is had in `new`.
+//! frame, so that it never leads to a block of a later life. All memory but that of `count_on` and `held_in`
+//! is had in `new`.
 //!
 //! Frames that hold nothing are not emptied here, and nothing is kept back: an append answers NoSpace only where no
 //! frame is open and none is free.

@@ -4,6 +4,7 @@ ghost use Rattle.std.specs.List.{AllByRecursion};
 ghost use Rattle.segment_word.specs.Frames.{code_of};
 ghost use Rattle.segment_word.specs.Frames.Phase.{Open};
 ghost use Rattle.segment_word.specs.Layout.{frame_at};
+ghost use Rattle.segment_table.specs.Room.{is_sealed};
 ghost use Rattle.segment_table.specs.Sealing.{IsOwned, payload_of};
 ghost use Rattle.segment_table.specs.Changes.{IsSealed, IsCleared};
 
@@ -22,6 +23,15 @@ pub fn generation(seat: &mut DriveSeat, frame: usize) -> u32
     ensures same { seat.new ≡ seat.old }
 {
     (seat.state(frame) >> 32) as u32
+}
+
+/// Whether a frame is sealed.
+pub fn is_sealed(seat: &mut DriveSeat, frame: usize) -> bool
+    requires { frame < length seat.old.frames }
+    ensures phase { result ≡ is_sealed (frame_at seat.old.frames frame).phase }
+    ensures same { seat.new ≡ seat.old }
+{
+    seat.state(frame) % 4 == 2
 }
 
 // Zeros in the payload blocks behind the first `used`.

@@ -1,5 +1,5 @@
 //! The frames of a drive and what their blocks are for, one step at a time.
-ghost use Rattle.std.specs.Prelude.{◌≡◌, ℕ, ◌+◌, ◌-◌, ◌<◌, ◌≤◌, ◌⊎◌, ◌==◌, true, [], ◌∷◌, ◌++◌, length, map, replicate, reverse, Option, Some, None, IsSome, IfSome, IfNone, IfOk, IfErr, OnOk, OnErr, IsOk, MatchOption, MatchBool, option_map};
+ghost use Rattle.std.specs.Prelude.{◌≡◌, ℕ, ◌+◌, ◌-◌, ◌^◌, ◌<◌, ◌≤◌, ◌⊎◌, ◌==◌, true, false, [], ◌∷◌, ◌++◌, length, map, replicate, reverse, Option, Some, None, IsSome, IfSome, IfNone, IfOk, IfErr, OnOk, OnErr, IsOk, MatchOption, MatchBool, option_map};
 ghost use Rattle.std.specs.List.{range_with_len};
 ghost use Rattle.std.specs.Option.{option_to_list};
 ghost use Rattle.s4_types.specs.declared.refusals.Refusal.TheVariants.{NoMemory, Busy};
@@ -10,8 +10,8 @@ ghost use Rattle.segment_word.specs.Layout.{frame_at, block_bytes};
 ghost use Rattle.segment_word.specs.Counting.{pins_in};
 ghost use Rattle.segment_word.specs.FrameRule.{AllAgree};
 ghost use Rattle.segment_word.specs.Handles.{fresh_frame, IsAmong, pin_of};
-ghost use Rattle.segment_table.specs.Table.{Table, slots_at, held_at, part_of};
-ghost use Rattle.segment_table.specs.Room.{is_filling, can_open, numbers, rest_of, places_ahead, log_of};
+ghost use Rattle.segment_table.specs.Table.{Table, slots_at, held_at, is_of, part_of};
+ghost use Rattle.segment_table.specs.Room.{is_filling, is_sealed, can_open, numbers, rest_of, places_ahead, log_of, pointers_in};
 ghost use Rattle.segment_table.specs.Sealing.{IsFit, IsPartFilled};
 ghost use Rattle.segment_table.specs.Changes.{IsFilling, NoneIsFilling, IsReady, IsPut, IsSealed, IsSealedIn};
 
@@ -20,7 +20,7 @@ use crate::slots::Slots;
 use blocks::Block;
 use codec::Part;
 use s4_types::limits::PAYLOAD_BLOCKS;
-use s4_types::{Ptr, Refusal};
+use s4_types::{ObjectId, Ptr, Refusal};
 use segment_word::{DriveSeat, Pin};
 use std::alloc::Global;
 use std::marker::Model;
@@ -264,6 +264,57 @@ impl Segments {
         if self.is_current(place) {
             self.slots[place.frame() as usize].let_go(place.block() as usize);
         }
+    }
+
+    /// The generation of a frame, where it is there and sealed.
+    fn sealed_generation(&mut self, frame: u16) -> Option<u32>
+        ensures sealed { IfSome result (λ g. is_sealed (frame_at self.old.drive.frames frame).phase ≡ true) }
+        ensures generation { IfSome result (λ g. g ≡ (frame_at self.old.drive.frames frame).generation) }
+        ensures range { IfSome result (λ g. (1 ≤ g) × (g + 1 < 2 ^ 32)) }
+        ensures other { IfNone result (is_sealed (frame_at self.old.drive.frames frame).phase ≡ false) }
+        ensures same { self.new ≡ self.old }
+    {
+        let number = frame as usize;
+        if number < self.slots.len() && seals::is_sealed(&mut self.seat, number) {
+            return Some(seals::generation(&mut self.seat, number));
+        }
+        None
+    }
+
+    // Whether a pointer leads to a held block of this object.
+    fn is_of(&mut self, object: ObjectId, place: Ptr) -> bool
+        ensures owned { result ≡ is_of object (held_at self.old place) }
+        ensures same { self.new ≡ self.old }
+    {
+        match self.part(place) {
+            Some(part) => part.object == object,
+            None => false,
+        }
+    }
+
+    /// The pointers to the held blocks of an object in a sealed frame.
+    #[tactic(auto, using(crate::proofs::Owned::one_more, crate::proofs::Owned::no_more))]
+    pub fn held_in(
+        &mut self,
+        alloc: Global,
+        object: ObjectId,
+        frame: u16,
+    ) -> Result<Vec<Ptr>, Refusal>
+        ensures pointers { IfOk result (λ pointers. pointers.items ≡ pointers_in self.old object frame) }
+        ensures refusal { IfErr result (λ e. e ≡ NoMemory) }
+        ensures same { self.new ≡ self.old }
+    {
+        let Some(generation) = self.sealed_generation(frame) else {
+            return Ok(Vec::new(alloc));
+        };
+        let mut pointers = Vec::with_capacity(alloc, PAYLOAD_BLOCKS)?;
+        for index in 0..PAYLOAD_BLOCKS {
+            let place = Ptr::new(frame, index as u8 + 1, generation).unwrap();
+            if self.is_of(object, place) {
+                pointers.push(place)?;
+            }
+        }
+        Ok(pointers)
     }
 
     /// The pin counts on the sealed frame of a held block from now on.

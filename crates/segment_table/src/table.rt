@@ -9,7 +9,7 @@ ghost use Rattle.segment_word.specs.Counting.{pins_in};
 ghost use Rattle.segment_word.specs.FrameRule.{AllAgree};
 ghost use Rattle.segment_word.specs.Handles.{fresh_frame, IsAmong, pin_of};
 ghost use Rattle.segment_table.specs.Table.{Table, slots_at, held_at, part_of};
-ghost use Rattle.segment_table.specs.Room.{is_filling, numbers, rest_of, places_ahead, log_of, new_places};
+ghost use Rattle.segment_table.specs.Room.{is_filling, numbers, rest_of, places_ahead, log_of, new_places, pointers_in};
 ghost use Rattle.segment_table.specs.Sealing.{IsFit, IsPartFilled};
 ghost use Rattle.segment_table.specs.Changes.{IsFilling, NoneIsFilling, IsAppended, IsSealedIn};
 
@@ -44,7 +44,7 @@ impl SegmentTable {
     /// The table of a new drive of 8 to 1,024 frames: nothing is held.
     ///
     /// NoMemory where memory was refused, Busy where the count of those that share it was full. No other call but
-    /// `count_on` takes memory.
+    /// `count_on` and `held_in` takes memory.
     pub fn new(alloc: Global, frames: usize) -> Result<Self, Refusal>
         requires { (8 ≤ frames) × (frames ≤ 1024) }
         ensures frames { IfOk result (λ t. t.drive.frames ≡ replicate frames fresh_frame) }
@@ -97,6 +97,23 @@ impl SegmentTable {
         ensures { MatchBool result ((frame_at self.now.drive.frames place.frame).phase ≡ Open) ((frame_at self.now.drive.frames place.frame).phase ≡ Sealed) }
     {
         self.segments.is_open(place)
+    }
+
+    /// The pointers to the held blocks of an object in a frame, by ascending block, and none where the frame isn't sealed or
+    /// isn't there.
+    ///
+    /// NoMemory alone, where there was none for them; it is asked for once.
+    pub fn held_in(
+        &mut self,
+        alloc: Global,
+        object: ObjectId,
+        frame: u16,
+    ) -> Result<Vec<Ptr>, Refusal>
+        ensures pointers { IfOk result (λ pointers. pointers.items ≡ pointers_in self.old object frame) }
+        ensures refusal { IfErr result (λ e. e ≡ NoMemory) }
+        ensures same { self.new ≡ self.old }
+    {
+        self.segments.held_in(alloc, object, frame)
     }
 
     /// A pin without frames. Busy where all 64 seats are in use, or the count of those that share the memory is full.

@@ -6,6 +6,7 @@ use blocks::{Block, BlockKind, Blocks};
 use codec::{Part, decode_summary, encode_ptr};
 use s4_types::{ObjectId, Ptr, Refusal};
 use segment_word::Pin;
+use std::alloc::Global;
 use std::test::Fail;
 
 const KINDS: [BlockKind; 3] = [BlockKind::Journal, BlockKind::Checkpoint, BlockKind::Data];
@@ -243,5 +244,56 @@ fn memory_refused_in_turn(rt: HostRuntime) -> Result<(), Fail> {
     };
     let blocks = blocks.ok_or("sealed")?;
     assert!(rt; blocks[1] == abc() && blocks[2] == [0; 512]);
+    Ok(())
+}
+
+/// The pointers to an object's blocks in a frame, asked for once more where memory was refused.
+fn held_in(
+    alloc: Global,
+    table: &mut SegmentTable,
+    object: u64,
+    frame: u16,
+) -> Result<Vec<Ptr>, Refusal> {
+    let object = ObjectId::new(object);
+    match table.held_in(alloc, object, frame) {
+        Err(Refusal::NoMemory) => table.held_in(alloc, object, frame),
+        told => told,
+    }
+}
+
+/// Whether an object holds exactly these blocks of a frame, at generation 1.
+fn holds(
+    alloc: Global,
+    table: &mut SegmentTable,
+    object: u64,
+    frame: u16,
+    blocks: &[u8],
+) -> Result<bool, Refusal> {
+    let found = held_in(alloc, table, object, frame)?;
+    let same = found.iter().zip(blocks).all(|(place, block)| Ptr::new(frame, *block, 1)
+        == Some(*place));
+    Ok(same && found.len() == blocks.len())
+}
+
+#[test]
+fn pointers_of_two_objects(rt: HostRuntime) -> Result<(), Fail> {
+    let alloc = rt.alloc();
+    let mut table = SegmentTable::new(alloc, 8)?;
+    for i in 0..15u64 {
+        let kind = KINDS[(i % 3) as usize];
+        table.append(kind, ObjectId::new(i % 2 + 1), &[0; 512])?;
+    }
+    let third = Ptr::new(0, 3, 1).ok_or("a pointer")?;
+    table.drop_block(third);
+    assert!(rt; holds(alloc, &mut table, 1, 0, &[1, 5, 7, 9, 11, 13, 15])?);
+    assert!(rt; holds(alloc, &mut table, 2, 0, &[2, 4, 6, 8, 10, 12, 14])?);
+    assert!(rt; holds(alloc, &mut table, 3, 0, &[])?);
+    table.append(BlockKind::Data, ObjectId::new(2), &abc())?;
+    assert!(rt; holds(alloc, &mut table, 2, 1, &[])?, "open");
+    table.seal_open();
+    assert!(rt; holds(alloc, &mut table, 2, 1, &[1])?, "sealed");
+    for frame in [2, 7, 8, u16::MAX] {
+        assert!(rt; holds(alloc, &mut table, 2, frame, &[])?, "{frame}");
+    }
     Ok(())
 }

@@ -1,5 +1,5 @@
 -- What a row tells depends on its object's own blocks alone.
-use Rattle.std.proofs.Common.{◌≡◌, ℕ, true, List, [], Option, Some, None, unwrap_or, MatchOption, sym, ap, subst, ◌∙◌}
+use Rattle.std.proofs.Common.{◌≡◌, ℕ, true, List, [], Option, Some, None, IsSome, unwrap_or, MatchOption, sym, ap, subst, ◌∙◌}
 use Rattle.s4_types.specs.Pointer.{Place}
 use Rattle.blocks.specs.Log.{Stored, of_kind}
 use Rattle.blocks.specs.declared.kinds.BlockKind.TheVariants.{Journal, Checkpoint}
@@ -52,5 +52,6 @@ same_row held later o row journal checkpoint r =
       run = subst (λ (es : List EntryFields). Run (first_of later o row) es r.last) (sym entries) run;
       groups = subst (λ (es : List EntryFields). grouped es ≡ true) (sym entries) r.groups;
       checkpoint = carried (row.checkpoint_moment ≡ 0) row.checkpoint (checkpoint_held held o) (checkpoint_held later o) (record { object = o; moment = row.checkpoint_moment; inode = inode_of held o row row.checkpoint_moment }) (record { object = o; moment = row.checkpoint_moment; inode = inode_of later o row row.checkpoint_moment }) (λ p. same_read held later o p checkpoint) (ap (λ (i : Inode). record { object = o; moment = row.checkpoint_moment; inode = i }) (same_inode held later o row.checkpoint_moment row journal checkpoint)) r.checkpoint;
+      only = λ p there. r.only p (subst (λ (v : View). IsSome (v p)) checkpoint there);
       created = subst (λ (i : Inode). i.created ≡ row.created) (sym first) r.created;
     }

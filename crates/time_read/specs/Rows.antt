@@ -1,7 +1,8 @@
 -- The inode of an object that is current at a moment, by the object's row and the blocks that a table holds.
-use Rattle.std.specs.Prelude.{◌≡◌, ℕ, ◌≤◌, true, List, Option, Some, None, MatchOption}
+use Rattle.std.specs.Prelude.{◌≡◌, ℕ, ◌≤◌, true, List, Option, Some, None, IsSome, MatchOption}
 use Rattle.s4_types.specs.Pointer.{Place}
-use Rattle.blocks.specs.Log.{Stored}
+use Rattle.blocks.specs.Log.{Stored, of_kind}
+use Rattle.blocks.specs.declared.kinds.BlockKind.TheVariants as kind
 use Rattle.codec.specs.Fields.{◌>>=◌}
 use Rattle.codec.specs.declared.inodes.Inode.{Inode}
 use Rattle.codec.specs.Entry.{EntryFields}
@@ -41,7 +42,8 @@ inode_of held o row t = inode_after (first_of held o row) (entries_of held o row
 
 -- The blocks of an object are as its row tells. Its chain is held; the entries lead from the first inode to a last one,
 -- and their moments don't descend. Where the row names a checkpoint, that tells the inode which is current at the
--- checkpoint's moment; else that moment is 0. The object was made when the row tells.
+-- checkpoint's moment; else that moment is 0. No other checkpoint of the object is held. The object was made when the row
+-- tells.
 pub record IsRow (held : Place → Option Stored) (o : ℕ) (row : Row) : Type 0 where
   pub object : 1 ≤ o
   pub chain : Holds held (chain_of o row) (entries_of held o row)
@@ -49,4 +51,5 @@ pub record IsRow (held : Place → Option Stored) (o : ℕ) (row : Row) : Type 0
   pub run : Run (first_of held o row) (entries_of held o row) last
   pub groups : grouped (entries_of held o row) ≡ true
   pub checkpoint : MatchOption row.checkpoint (row.checkpoint_moment ≡ 0) (λ p. checkpoint_held held o p ≡ Some (record { object = o; moment = row.checkpoint_moment; inode = inode_of held o row row.checkpoint_moment }))
+  pub only : (p : Place) → IsSome (of_kind kind.Checkpoint o held p) → row.checkpoint ≡ Some p
   pub created : (first_of held o row).created ≡ row.created

@@ -1,12 +1,12 @@
 ghost use Rattle.std.specs.Prelude.{◌≡◌, IsSome, IfSome, IfOk, IfErr};
 ghost use Rattle.s4_types.specs.declared.refusals.Refusal.TheVariants.{NoMemory};
 ghost use Rattle.checkpoint.specs.Held.{checkpoint_held};
-ghost use Rattle.time_read.specs.Rows.{IsRow, inode_of};
+ghost use Rattle.time_read.specs.Rows.{IsRow, entries_of, inode_of};
 
 use crate::moving::{lead, lead_from_start};
 use blocks::Blocks;
 use checkpoint::read_checkpoint;
-use codec::Inode;
+use codec::{Entry, Inode};
 use inode_links::blank;
 use inode_links::laws::groups_join_and_part;
 use journal_chain::Chain;
@@ -24,6 +24,26 @@ fn checkpoint_inode<B: Blocks>(table: &mut B, object: ObjectId, place: Ptr) -> I
 {
     let checkpoint = read_checkpoint(table, object, place).unwrap();
     *checkpoint.inode()
+}
+
+/// All journal entries of an object, the oldest first.
+///
+/// NoMemory alone, where the memory for them is refused; it is asked for once.
+#[tactic(auto, using(crate::proofs::Reading::few_bytes, crate::proofs::Reading::few_in_head, crate::proofs::Reading::chain_is_there))]
+pub fn entries<B: Blocks>(
+    alloc: Global,
+    table: &mut B,
+    object: ObjectId,
+    row: &Row,
+) -> Result<Vec<Entry>, Refusal>
+    requires { IsRow (B.log table.old).held object row.now }
+    ensures entries { IfOk result (λ entries. entries.items ≡ entries_of (B.log table.old).held object row.now) }
+    ensures refusal { IfErr result (λ e. e ≡ NoMemory) }
+    ensures same { B.log table.new ≡ B.log table.old }
+{
+    packing_keeps_the_rule();
+    let chain = Chain::of(object, row.head, row.journal_bytes, row.head_bytes);
+    chain.entries(alloc, table)
 }
 
 /// The inode of an object that is current at a moment: all changes up to the moment are in it, and none behind.

@@ -9,7 +9,7 @@ mod inodes;
 pub mod laws;
 mod moving;
 
-pub use inodes::inode_at;
+pub use inodes::{entries, inode_at};
 
 #[cfg(test)]
 mod tests;

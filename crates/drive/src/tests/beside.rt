@@ -68,23 +68,44 @@ impl Beside {
     }
 }
 
-/// Both answer alike about each object at the moments from `first` on, some of them.
+/// Both answer a read of the past alike.
+fn is_alike<J: Naming>(
+    rt: &impl Abort,
+    party: &mut Party<J>,
+    plain: &mut PlainDrive,
+    asked: Ask,
+) -> Result<(), Fail> {
+    let reply = party.reply_to(Role::Client, 0, asked)?;
+    let expected = plain_reply(plain, party.alloc, Role::Client, 0, asked)?;
+    assert!(rt; reply == expected, "{asked:?} at the end");
+    Ok(())
+}
+
+/// Both answer alike about an object at the moments from `first` on, some of them.
+fn read_object<J: Naming>(
+    rt: &impl Abort,
+    party: &mut Party<J>,
+    plain: &mut PlainDrive,
+    object: u64,
+    first: u64,
+) -> Result<(), Fail> {
+    for k in 0..20 {
+        let at = first.saturating_add(6 * k);
+        is_alike(rt, party, plain, Ask::ReadAt(object, 0, 24_576, at))?;
+        is_alike(rt, party, plain, Ask::AttrAt(object, at))?;
+    }
+    Ok(())
+}
+
+/// The same of each object.
 fn read_both<J: Naming>(
     rt: &impl Abort,
     party: &mut Party<J>,
     plain: &mut PlainDrive,
     first: u64,
 ) -> Result<(), Fail> {
-    let alloc = party.alloc;
     for object in 0..20 {
-        for k in 0..20 {
-            let at = first.saturating_add(6 * k);
-            for asked in [Ask::ReadAt(object, 0, 24_576, at), Ask::AttrAt(object, at)] {
-                let reply = party.reply_to(Role::Client, 0, asked)?;
-                let expected = plain_reply(plain, alloc, Role::Client, 0, asked)?;
-                assert!(rt; reply == expected, "{asked:?} at the end");
-            }
-        }
+        read_object(rt, party, plain, object, first)?;
     }
     Ok(())
 }

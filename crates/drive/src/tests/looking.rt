@@ -5,14 +5,14 @@ use crate::tests::party::Party;
 use crate::tests::{Scene, play};
 use s4_types::Refusal::{NoObject, NoSpace};
 use s4_types::Role::{Admin, Client};
-use s4_types::{Moment, ObjectId};
+use s4_types::{Moment, ObjectId, Refusal};
 use segment_word::Naming;
 use std::alloc::Global;
 use std::process::Abort;
 use std::test::Fail;
 
 /// Requests, each with the blocks of room behind it.
-const ROOM: [(Row, usize); 8] = [
+static ROOM: [(Row, usize); 8] = [
     ((Client, 1, Ask::Read(1, 0, 1), Told::Refused(NoObject)), 60),
     ((Client, 1, Ask::Create(b""), Told::Created(1, 2)), 59),
     ((Client, 3, Ask::Fill(1, 0, 24_576, 7), Told::Changed(3)), 8),
@@ -31,18 +31,22 @@ const ROOM: [(Row, usize); 8] = [
     ((Client, 5, Ask::Delete(1), Told::Changed(7)), 3),
 ];
 
+fn clock<J: Naming>(drive: &Drive<J>) -> u64 {
+    drive.clock().number()
+}
+
 #[derive(Drop)]
 struct Rooms;
 
 impl Scene for Rooms {
     fn play<J: Naming, R: Abort>(self, rt: &R, alloc: Global, drive: Drive<J>) -> Result<(), Fail> {
         let mut party = Party::new(alloc, drive)?;
-        assert_eq!(rt; party.drive.room(), 60);
-        for (row, room) in ROOM {
-            party.answers(rt, [row].as_slice())?;
-            assert_eq!(rt; party.drive.room(), room, "{row:?}");
+        assert_eq!(rt; party.room(), 60);
+        for (row, room) in &ROOM {
+            party.answers(rt, [*row].as_slice())?;
+            assert_eq!(rt; party.room(), *room, "{row:?}");
         }
-        assert_eq!(rt; party.drive.clock(), Moment::new(7));
+        assert_eq!(rt; clock(&party.drive), 7);
         Ok(())
     }
 }
@@ -53,7 +57,7 @@ fn room_in_8_frames(rt: HostRuntime) -> Result<(), Fail> {
 }
 
 /// Three objects, of which the first ends behind two holes and the second is deleted; moments 4 to 6 of object 1 are hidden.
-const OBJECTS: [Row; 7] = [
+static OBJECTS: [Row; 7] = [
     (Client, 1, Ask::Create(b"k"), Told::Created(1, 1)),
     (Client, 2, Ask::Write(1, 1024, b"x"), Told::Changed(2)),
     (Client, 3, Ask::Create(b""), Told::Created(2, 3)),
@@ -63,69 +67,108 @@ const OBJECTS: [Row; 7] = [
     (Admin, 8, Ask::FlushO(1, 4, 6), Told::Changed(8)),
 ];
 
+/// Objects, each with the next one above it.
+static NEXT: [(u64, Option<u64>); 5] = [
+    (0, Some(1)),
+    (1, Some(2)),
+    (2, Some(3)),
+    (3, None),
+    (9, None),
+];
+
+/// Objects, when each was created, and the bytes of its journal.
+static ROWS: [(u64, u64, u16); 3] = [(1, 1, 37 + 51 + 34), (2, 3, 34 + 34), (3, 4, 34)];
+
+/// Moments, each with whether object 1 is alive, its size in bytes, and whether its third block is there.
+static INODES: [(u64, bool, u32, bool); 3] = [
+    (0, false, 0, false),
+    (1, true, 0, false),
+    (2, true, 1025, true),
+];
+
+/// Objects with a first and a last moment, and whether all between these can be seen.
+static SEEN: [(u64, u64, u64, bool); 8] = [
+    (1, 4, 6, false),
+    (1, 3, 6, true),
+    (1, 4, 7, true),
+    (1, 6, 5, false),
+    (2, 4, 6, true),
+    (1, 8, 8, true),
+    (1, 9, 20, false),
+    (9, 0, 0, true),
+];
+
+/// The next object above one. Like what follows here, it leaves out the clauses of the call that it makes.
+fn next_above<J: Naming>(drive: &Drive<J>, object: u64) -> Option<ObjectId> {
+    drive.next_row(ObjectId::new(object))
+}
+
+/// Of an object's row: its creation, the bytes of its journal, and whether it has a checkpoint and a head.
+fn row_of<J: Naming>(drive: &Drive<J>, object: u64) -> Option<(u64, u16, bool, bool)> {
+    let row = drive.row(ObjectId::new(object))?;
+    Some((
+        row.created.number(),
+        row.journal_bytes,
+        row.checkpoint.is_some(),
+        row.head.is_some(),
+    ))
+}
+
+/// Of an object's inode at a moment: whether it is alive, its size, and whether its first three blocks are there.
+fn inode_of<J: Naming>(
+    drive: &mut Drive<J>,
+    object: u64,
+    at: u64,
+) -> Result<Option<(bool, u32, [bool; 3])>, Refusal> {
+    let Some(inode) = drive.inode_at(ObjectId::new(object), Moment::new(at))? else {
+        return Ok(None);
+    };
+    let there = [
+        inode.pointers[0].is_some(),
+        inode.pointers[1].is_some(),
+        inode.pointers[2].is_some(),
+    ];
+    Ok(Some((inode.alive, inode.size, there)))
+}
+
+fn sees<J: Naming>(drive: &Drive<J>, object: u64, first: u64, last: u64) -> bool {
+    drive.sees(ObjectId::new(object), Moment::new(first), Moment::new(last))
+}
+
+fn rules<J: Naming>(drive: &Drive<J>) {
+    drive.rules();
+}
+
 #[derive(Drop)]
 struct Looks;
 
 impl Looks {
     fn rows<J: Naming>(rt: &impl Abort, drive: &Drive<J>) {
-        for (object, next) in [
-            (0, Some(1)),
-            (1, Some(2)),
-            (2, Some(3)),
-            (3, None),
-            (9, None),
-        ] {
-            let found = drive.next_row(ObjectId::new(object));
-            assert_eq!(rt; found, next.map(ObjectId::new), "above {object}");
+        for (object, next) in &NEXT {
+            let next = next.map(ObjectId::new);
+            assert_eq!(rt; next_above(drive, *object), next, "above {object}");
         }
-        for (object, created, bytes) in [(1, 1, 37 + 51 + 34), (2, 3, 34 + 34), (3, 4, 34)] {
-            let Some(row) = drive.row(ObjectId::new(object)) else {
-                panic!(rt; "object {object} has no row")
-            };
-            assert_eq!(rt; row.created, Moment::new(created), "of {object}");
-            assert_eq!(rt; row.journal_bytes, bytes, "of {object}");
-            assert!(rt;
-                row.checkpoint.is_none() && row.head.is_some(),
-                "of {object}"
-            );
+        for (object, created, bytes) in &ROWS {
+            let told = Some((*created, *bytes, false, true));
+            assert_eq!(rt; row_of(drive, *object), told, "of {object}");
         }
-        assert!(rt; drive.row(ObjectId::new(0)).is_none());
-        assert!(rt; drive.row(ObjectId::new(4)).is_none());
+        assert!(rt; row_of(drive, 0).is_none() && row_of(drive, 4).is_none());
     }
 
     fn inodes<J: Naming>(rt: &impl Abort, drive: &mut Drive<J>) -> Result<(), Fail> {
-        for (at, alive, size, blocks) in [(0, false, 0, 0), (1, true, 0, 0), (2, true, 1025, 1)] {
-            let found = drive.inode_at(ObjectId::new(1), Moment::new(at))?;
-            let Some(inode) = found else {
-                panic!(rt; "no inode at {at}")
-            };
-            assert_eq!(rt; inode.alive, alive, "at {at}");
-            assert_eq!(rt; inode.size, size, "at {at}");
-            assert!(rt;
-                inode.pointers[0].is_none() && inode.pointers[1].is_none(),
-                "at {at}"
-            );
-            assert_eq!(rt; inode.pointers[2].is_some(), blocks == 1, "at {at}");
+        for (at, alive, size, has_third) in &INODES {
+            let told = Some((*alive, *size, [false, false, *has_third]));
+            assert_eq!(rt; inode_of(drive, 1, *at)?, told, "at {at}");
         }
-        let deleted = drive.inode_at(ObjectId::new(2), Moment::new(8))?;
-        assert!(rt; matches!(&deleted, Some(inode) if !inode.alive));
-        assert!(rt; drive.inode_at(ObjectId::new(4), Moment::new(8))?.is_none());
+        assert!(rt; matches!(inode_of(drive, 2, 8)?, Some((false, ..))));
+        assert!(rt; inode_of(drive, 4, 8)?.is_none());
         Ok(())
     }
 
     fn moments<J: Naming>(rt: &impl Abort, drive: &Drive<J>) {
-        for (object, first, last, sees) in [
-            (1, 4, 6, false),
-            (1, 3, 6, true),
-            (1, 4, 7, true),
-            (1, 6, 5, false),
-            (2, 4, 6, true),
-            (1, 8, 8, true),
-            (1, 9, 20, false),
-            (9, 0, 0, true),
-        ] {
-            let found = drive.sees(ObjectId::new(object), Moment::new(first), Moment::new(last));
-            assert_eq!(rt; found, sees, "{object} from {first} to {last}");
+        for (object, first, last, told) in &SEEN {
+            let found = sees(drive, *object, *first, *last);
+            assert_eq!(rt; found, *told, "{object} from {first} to {last}");
         }
     }
 }
@@ -134,7 +177,7 @@ impl Scene for Looks {
     fn play<J: Naming, R: Abort>(self, rt: &R, alloc: Global, drive: Drive<J>) -> Result<(), Fail> {
         let mut party = Party::new(alloc, drive)?;
         party.answers(rt, OBJECTS.as_slice())?;
-        party.drive.rules();
+        rules(&party.drive);
         Looks::rows(rt, &party.drive);
         Looks::inodes(rt, &mut party.drive)?;
         Looks::moments(rt, &party.drive);

@@ -24,7 +24,7 @@ struct Exchange {
     reply: Reply,
 }
 
-const VERSIONS: [Asked; 11] = [
+static VERSIONS: [Asked; 11] = [
     (Client, 10, Ask::Create(b"k")),
     (Client, 10, Ask::Write(1, 0, b"abc")),
     (Client, 4, Ask::Write(1, 1, b"Z")),
@@ -38,7 +38,7 @@ const VERSIONS: [Asked; 11] = [
     (Client, 18, Ask::Append(2, b"z")),
 ];
 
-const WINDOWS: [Asked; 9] = [
+static WINDOWS: [Asked; 9] = [
     (Client, 10, Ask::Create(b"")),
     (Client, 20, Ask::Fill(1, 0, 2_000, 1)),
     (Client, 30, Ask::Fill(1, 600, 2_000, 2)),
@@ -50,7 +50,7 @@ const WINDOWS: [Asked; 9] = [
     (Client, 53, Ask::ReadAt(1, 0, 9_000, 29)),
 ];
 
-const LARGE: [Asked; 6] = [
+static LARGE: [Asked; 6] = [
     (Client, 1, Ask::Create(b"")),
     (Client, 2, Ask::Fill(1, 0, 24_576, 7)),
     (Client, 3, Ask::Fill(1, 0, 24_576, 8)),
@@ -128,6 +128,44 @@ fn reply_again<J: Naming>(party: &mut Party<J>, asked: Ask) -> Result<Reply, Fai
     Ok(reply)
 }
 
+/// The plain drive, once it has answered the exchanges alike. It is asked again where it wanted memory itself.
+fn plain_after(rt: &impl Abort, alloc: Global, exchanges: &[Exchange]) -> Result<PlainDrive, Fail> {
+    let mut plain = PlainDrive::new(alloc, 100);
+    if is_alike(rt, &mut plain, alloc, exchanges)? {
+        return Ok(plain);
+    }
+    let mut plain = PlainDrive::new(alloc, 100);
+    assert!(rt; is_alike(rt, &mut plain, alloc, exchanges)?);
+    Ok(plain)
+}
+
+/// Both answer a read of the past alike.
+fn read_both<J: Naming>(
+    rt: &impl Abort,
+    party: &mut Party<J>,
+    plain: &mut PlainDrive,
+    asked: Ask,
+) -> Result<(), Fail> {
+    let reply = reply_again(party, asked)?;
+    let expected = plain_again(plain, party.alloc, asked)?;
+    assert!(rt; reply == expected, "{asked:?} at the end");
+    Ok(())
+}
+
+/// Both answer alike about an object at each moment.
+fn read_object<J: Naming>(
+    rt: &impl Abort,
+    party: &mut Party<J>,
+    plain: &mut PlainDrive,
+    object: u64,
+) -> Result<(), Fail> {
+    for at in 0..60 {
+        read_both(rt, party, plain, Ask::ReadAt(object, 0, 24_576, at))?;
+        read_both(rt, party, plain, Ask::AttrAt(object, at))?;
+    }
+    Ok(())
+}
+
 /// One allocation of a run may be refused: that request answers so, all others answer by what was accepted, and so does each
 /// moment at the end.
 #[derive(Drop)]
@@ -139,19 +177,9 @@ impl Scene for Short<'_> {
     fn play<J: Naming, R: Abort>(self, rt: &R, alloc: Global, drive: Drive<J>) -> Result<(), Fail> {
         let mut party = Party::new(alloc, drive)?;
         let made = ask_all(&mut party, self.rows)?;
-        let mut plain = PlainDrive::new(alloc, 100);
-        if !is_alike(rt, &mut plain, alloc, made.as_slice())? {
-            plain = PlainDrive::new(alloc, 100);
-            assert!(rt; is_alike(rt, &mut plain, alloc, made.as_slice())?);
-        }
+        let mut plain = plain_after(rt, alloc, made.as_slice())?;
         for object in 0..4 {
-            for at in 0..60 {
-                for asked in [Ask::ReadAt(object, 0, 24_576, at), Ask::AttrAt(object, at)] {
-                    let reply = reply_again(&mut party, asked)?;
-                    let expected = plain_again(&mut plain, alloc, asked)?;
-                    assert!(rt; reply == expected, "{asked:?} at the end");
-                }
-            }
+            read_object(rt, &mut party, &mut plain, object)?;
         }
         Ok(())
     }

@@ -6,12 +6,12 @@ use s4_types::Role::Client;
 use std::test::Fail;
 
 /// A read before any object moves the clock alone.
-const BEFORE_ANY: [Row; 2] = [
+static BEFORE_ANY: [Row; 2] = [
     (Client, 5, Ask::Read(1, 0, 3), Told::Refused(NoObject)),
     (Client, 0, Ask::Create(b""), Told::Created(1, 6)),
 ];
 
-const WRITES: [Row; 13] = [
+static WRITES: [Row; 13] = [
     (Client, 10, Ask::Create(b""), Told::Created(1, 10)),
     (Client, 10, Ask::Write(1, 0, b"abc"), Told::Changed(11)),
     (Client, 4, Ask::Write(1, 1, b"Z"), Told::Changed(12)),
@@ -27,7 +27,7 @@ const WRITES: [Row; 13] = [
     (Client, 4, Ask::Attr(1), Told::Attr(3, 10, 13, b"")),
 ];
 
-const SIZES_AND_ATTRIBUTES: [Row; 12] = [
+static SIZES_AND_ATTRIBUTES: [Row; 12] = [
     (Client, 10, Ask::Create(b""), Told::Created(1, 10)),
     (Client, 11, Ask::Write(1, 0, b"abc"), Told::Changed(11)),
     (Client, 12, Ask::Truncate(1, 2), Told::Changed(12)),
@@ -48,7 +48,7 @@ const SIZES_AND_ATTRIBUTES: [Row; 12] = [
 ];
 
 /// An object's number isn't given again, and each object has its own versions.
-const DEATHS: [Row; 9] = [
+static DEATHS: [Row; 9] = [
     (Client, 0, Ask::Create(b"a"), Told::Created(1, 1)),
     (Client, 0, Ask::Create(b"b"), Told::Created(2, 2)),
     (Client, 0, Ask::Delete(1), Told::Changed(3)),

@@ -14,7 +14,7 @@ const ONE_ABOVE: [u8; 24_577] = [b'a'; 24_577];
 const LONG_ATTRIBUTE: [u8; 65] = [b'k'; 65];
 
 /// With a floor of 20, object 1 from 10 to 60, moments 15 to 30 hidden, and none of object 2.
-const BEGINNING: [Row; 5] = [
+static BEGINNING: [Row; 5] = [
     (Client, 10, Ask::Create(b""), Told::Created(1, 10)),
     (Client, 40, Ask::Write(1, 0, b"a"), Told::Changed(40)),
     (Admin, 50, Ask::Flush(15, 30), Told::Changed(50)),
@@ -22,7 +22,7 @@ const BEGINNING: [Row; 5] = [
     (Admin, 70, Ask::SetWindow(50), Told::Changed(70)),
 ];
 
-const ORDER: [Row; 19] = [
+static ORDER: [Row; 19] = [
     (Client, 0, Ask::Flush(6, 5), Told::Refused(NotAdmin)),
     (Client, 0, Ask::FlushO(1, 6, 5), Told::Refused(NotAdmin)),
     (Client, 0, Ask::FlushO(9, 5, 6), Told::Refused(NotAdmin)),
@@ -75,7 +75,7 @@ const ORDER: [Row; 19] = [
 ];
 
 /// With a full list of all objects, the clock before its end.
-const FULL: [Row; 4] = [
+static FULL: [Row; 4] = [
     (Admin, 0, Ask::Flush(130, 565), Told::Refused(BadSpan)),
     (Client, 0, Ask::Flush(130, 130), Told::Refused(NotAdmin)),
     (Admin, 0, Ask::FlushO(0, 130, 130), Told::Refused(NoObject)),
@@ -83,7 +83,7 @@ const FULL: [Row; 4] = [
 ];
 
 /// At the clock's end, object 1 there and object 2 not.
-const AT_THE_END: [Row; 13] = [
+static AT_THE_END: [Row; 13] = [
     (
         Client,
         0,
@@ -120,12 +120,12 @@ const AT_THE_END: [Row; 13] = [
 ];
 
 /// At the clock's end with the list of all objects full, or with object 1's.
-const FULL_AT_THE_END: [Row; 2] = [
+static FULL_AT_THE_END: [Row; 2] = [
     (Admin, 0, Ask::Flush(130, 130), Told::Refused(TooManySpans)),
     (Admin, 0, Ask::Flush(3, 3), Told::Refused(ClockEnd)),
 ];
 
-const FULL_OF_ONE_AT_THE_END: [Row; 3] = [
+static FULL_OF_ONE_AT_THE_END: [Row; 3] = [
     (Client, u64::MAX, Ask::Read(1, 0, 1), Told::Data(b"")),
     (
         Admin,

@@ -1,14 +1,43 @@
 //! Sessions: how many there are, and what one sees of another's changes.
 use crate::tests::asking::{Ask, Row, Told, reply_of, request_of};
+use crate::tests::party::{ask, new_session};
 use crate::tests::{Scene, play};
 use crate::{Drive, NewDrive, Session};
 use s4_types::Refusal::{Busy, NoMemory, NotAdmin};
 use s4_types::Role::{Admin, Client};
-use s4_types::{Moment, Reply};
+use s4_types::{Moment, Reply, Role};
 use segment_word::Naming;
 use std::alloc::Global;
 use std::process::Abort;
 use std::test::Fail;
+
+/// So many sessions of a client, all there at a time.
+fn clients<J: Naming>(
+    alloc: Global,
+    drive: &mut Drive<J>,
+    count: usize,
+) -> Result<Vec<Session<J>>, Fail> {
+    let mut sessions = Vec::new(alloc);
+    for _ in 0..count {
+        sessions.push(new_session(drive, Client)?)?;
+    }
+    Ok(sessions)
+}
+
+/// Whether no session of a role can be had now.
+fn is_busy<J: Naming>(drive: &mut Drive<J>, role: Role) -> bool {
+    matches!(&new_session(drive, role), Err(Busy))
+}
+
+/// Whether so many sessions can be had, one after another.
+fn can_come_and_go<J: Naming>(drive: &mut Drive<J>, count: usize) -> bool {
+    for _ in 0..count {
+        if new_session(drive, Client).is_err() {
+            return false;
+        }
+    }
+    true
+}
 
 /// 64 sessions are there at a time.
 #[derive(Drop)]
@@ -17,22 +46,16 @@ struct Crowd;
 impl Scene for Crowd {
     fn play<J: Naming, R: Abort>(self, rt: &R, alloc: Global, drive: Drive<J>) -> Result<(), Fail> {
         let mut drive = drive;
-        let mut sessions = Vec::new(alloc);
-        for _ in 0..64 {
-            sessions.push(drive.session(Client)?)?;
-        }
-        assert!(rt; matches!(&drive.session(Client), Err(Busy)));
-        assert!(rt; matches!(&drive.session(Admin), Err(Busy)));
+        let mut sessions = clients(alloc, &mut drive, 64)?;
+        assert!(rt; is_busy(&mut drive, Client) && is_busy(&mut drive, Admin));
         drop(sessions.pop());
-        let Ok(last) = drive.session(Admin) else {
+        let Ok(last) = new_session(&mut drive, Admin) else {
             return Err(Fail::from("a seat came back"));
         };
-        assert!(rt; matches!(&drive.session(Client), Err(Busy)));
+        assert!(rt; is_busy(&mut drive, Client));
         drop(last);
         drop(sessions);
-        for _ in 0..200 {
-            assert!(rt; drive.session(Client).is_ok());
-        }
+        assert!(rt; can_come_and_go(&mut drive, 200));
         Ok(())
     }
 }
@@ -40,6 +63,11 @@ impl Scene for Crowd {
 #[test]
 fn sixty_four_sessions(rt: HostRuntime) -> Result<(), Fail> {
     play(&rt, rt.alloc(), 8, 100, Crowd)
+}
+
+/// The session has seen all that was accepted, without the clauses of [`Drive::meet`].
+fn meet<J: Naming>(drive: &mut Drive<J>, session: &mut Session<J>) {
+    drive.meet(session);
 }
 
 /// What a session that has met the drive is answered.
@@ -50,12 +78,13 @@ fn reply_to<J: Naming>(
     now: u64,
     asked: Ask,
 ) -> Result<Reply, Fail> {
-    drive.meet(session);
-    Ok(drive.request(session, request_of(alloc, asked)?, Moment::new(now)))
+    meet(drive, session);
+    let request = request_of(alloc, asked)?;
+    Ok(ask(drive, session, request, Moment::new(now)))
 }
 
 /// What two sessions of a client and one of an administrator ask in turn, by their numbers.
-const TURNS: [(usize, Row); 9] = [
+static TURNS: [(usize, Row); 9] = [
     (0, (Client, 1, Ask::Create(b""), Told::Created(1, 1))),
     (0, (Client, 2, Ask::Write(1, 0, b"q"), Told::Changed(2))),
     (1, (Client, 2, Ask::Read(1, 0, 9), Told::Data(b"q"))),
@@ -73,16 +102,16 @@ struct InTurn;
 impl Scene for InTurn {
     fn play<J: Naming, R: Abort>(self, rt: &R, alloc: Global, drive: Drive<J>) -> Result<(), Fail> {
         let mut drive = drive;
-        let mut one = drive.session(Client)?;
-        let mut two = drive.session(Client)?;
-        let mut three = drive.session(Admin)?;
-        for (who, (_, now, asked, told)) in TURNS {
-            let reply = match who {
-                0 => reply_to(&mut drive, &mut one, alloc, now, asked)?,
-                1 => reply_to(&mut drive, &mut two, alloc, now, asked)?,
-                _ => reply_to(&mut drive, &mut three, alloc, now, asked)?,
+        let mut one = new_session(&mut drive, Client)?;
+        let mut two = new_session(&mut drive, Client)?;
+        let mut three = new_session(&mut drive, Admin)?;
+        for (who, (_, now, asked, told)) in &TURNS {
+            let reply = match *who {
+                0 => reply_to(&mut drive, &mut one, alloc, *now, *asked)?,
+                1 => reply_to(&mut drive, &mut two, alloc, *now, *asked)?,
+                _ => reply_to(&mut drive, &mut three, alloc, *now, *asked)?,
             };
-            assert_eq!(rt; reply, reply_of(alloc, told)?, "{asked:?}");
+            assert_eq!(rt; reply, reply_of(alloc, *told)?, "{asked:?}");
         }
         Ok(())
     }

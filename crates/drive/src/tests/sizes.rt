@@ -13,7 +13,7 @@ const ATTRIBUTE: [u8; 64] = [b'k'; 64];
 
 const LONG_ATTRIBUTE: [u8; 65] = [b'k'; 65];
 
-const ENDS: [Row; 12] = [
+static ENDS: [Row; 12] = [
     (Client, 10, Ask::Create(b""), Told::Created(1, 10)),
     (Client, 11, Ask::Write(1, 24_575, b"x"), Told::Changed(11)),
     (Client, 11, Ask::Attr(1), Told::Attr(24_576, 10, 11, b"")),
@@ -43,7 +43,7 @@ const ENDS: [Row; 12] = [
     (Client, 0, Ask::Truncate(1, 24_576), Told::Changed(15)),
 ];
 
-const LONG: [Row; 8] = [
+static LONG: [Row; 8] = [
     (Client, 0, Ask::Create(&ATTRIBUTE), Told::Created(1, 1)),
     (
         Client,
@@ -74,7 +74,7 @@ const LONG: [Row; 8] = [
     (Client, 0, Ask::Append(2, &LONGEST), Told::Refused(NoObject)),
 ];
 
-const READS: [Row; 5] = [
+static READS: [Row; 5] = [
     (Client, 0, Ask::Create(b""), Told::Created(1, 1)),
     (Client, 0, Ask::Read(1, 0, 24_576), Told::Data(b"")),
     (Client, 0, Ask::Read(1, 0, 24_577), Told::Refused(TooLarge)),
@@ -88,7 +88,7 @@ const READS: [Row; 5] = [
 ];
 
 /// A write past the end leaves zeros between, which a read finds from any offset on.
-const PAST_THE_END: [Row; 6] = [
+static PAST_THE_END: [Row; 6] = [
     (Client, 0, Ask::Create(b""), Told::Created(1, 1)),
     (Client, 0, Ask::Write(1, 1024, b"x"), Told::Changed(2)),
     (Client, 0, Ask::Attr(1), Told::Attr(1025, 1, 2, b"")),

@@ -12,7 +12,7 @@ const LONG_ATTRIBUTE: [u8; 65] = [b'k'; 65];
 
 /// Of 8 frames: 60 blocks of room, one less after the Create. The largest Write takes 48 data and 3 journal blocks, one byte
 /// takes one of each, so that room for three more of these is left.
-const EIGHT_FRAMES: [Row; 14] = [
+static EIGHT_FRAMES: [Row; 14] = [
     (Client, 1, Ask::Create(b""), Told::Created(1, 1)),
     (Client, 2, Ask::Fill(1, 0, 24_576, 7), Told::Changed(2)),
     (
@@ -40,7 +40,7 @@ const EIGHT_FRAMES: [Row; 14] = [
 ];
 
 /// The last block of room: changes that take one are let in, and then none is. What needs no block is.
-const THE_LAST_BLOCK: [Row; 12] = [
+static THE_LAST_BLOCK: [Row; 12] = [
     (Client, 1, Ask::Create(b""), Told::Created(1, 1)),
     (Client, 2, Ask::Fill(1, 0, 24_576, 7), Told::Changed(2)),
     (Client, 3, Ask::Fill(1, 0, 3_072, 8), Told::Changed(3)),
@@ -75,7 +75,7 @@ fn full_chain(alloc: Global, last: Ask) -> Result<Vec<Row>, Fail> {
 }
 
 /// 16 bytes of the chain are left: no entry is shorter than 34.
-const FULL: [Row; 12] = [
+static FULL: [Row; 12] = [
     (Client, 0, Ask::Write(1, 0, b""), Told::Refused(ChainFull)),
     (Client, 0, Ask::ReadAt(1, 0, 1, 344), Told::Data(b"")),
     (Client, 0, Ask::AttrAt(1, 345), Told::Refused(Future)),
@@ -91,7 +91,7 @@ const FULL: [Row; 12] = [
 ];
 
 /// The same of an object that was deleted last.
-const DEAD: [Row; 4] = [
+static DEAD: [Row; 4] = [
     (Client, 0, Ask::Write(1, 0, b""), Told::Refused(NoObject)),
     (Client, 0, Ask::Delete(1), Told::Refused(NoObject)),
     (Client, 0, Ask::AttrAt(1, 343), Told::Attr(0, 1, 343, b"")),
@@ -123,7 +123,7 @@ fn no_room(alloc: Global) -> Result<Vec<Row>, Fail> {
 }
 
 /// No room, object 1's chain full, and then the clock at its end: the earlier refusal is answered.
-const ORDER: [Row; 16] = [
+static ORDER: [Row; 16] = [
     (Client, 0, Ask::Write(2, 0, b""), Told::Refused(NoSpace)),
     (Client, 0, Ask::Write(1, 0, b"a"), Told::Refused(ChainFull)),
     (Client, 0, Ask::Write(3, 0, b""), Told::Refused(NoObject)),

@@ -7,7 +7,7 @@ use std::alloc::Global;
 use std::test::Fail;
 
 /// A span hides its moments, both ends with it, of its object and not of another.
-const HIDDEN: [Row; 14] = [
+static HIDDEN: [Row; 14] = [
     (Client, 10, Ask::Create(b""), Told::Created(1, 10)),
     (Client, 20, Ask::Write(1, 0, b"a"), Told::Changed(20)),
     (Client, 30, Ask::Write(1, 0, b"b"), Told::Changed(30)),
@@ -24,7 +24,7 @@ const HIDDEN: [Row; 14] = [
     (Client, 51, Ask::ReadAt(2, 0, 1, 36), Told::Refused(Flushed)),
 ];
 
-const HIDDEN_BEFORE_DEATH: [Row; 8] = [
+static HIDDEN_BEFORE_DEATH: [Row; 8] = [
     (Client, 10, Ask::Create(b""), Told::Created(1, 10)),
     (Client, 20, Ask::Write(1, 0, b"a"), Told::Changed(20)),
     (Client, 30, Ask::Write(1, 0, b"b"), Told::Changed(30)),
@@ -41,7 +41,7 @@ const HIDDEN_BEFORE_DEATH: [Row; 8] = [
 ];
 
 /// A span ends at or after its beginning and at or before the clock, and is of an object that ever was.
-const ENDS: [Row; 11] = [
+static ENDS: [Row; 11] = [
     (Client, 10, Ask::Create(b""), Told::Created(1, 10)),
     (Admin, 0, Ask::Flush(5, 10), Told::Changed(11)),
     (Admin, 0, Ask::Flush(5, 12), Told::Refused(BadSpan)),
@@ -56,7 +56,7 @@ const ENDS: [Row; 11] = [
 ];
 
 /// The 65th run is refused; a span that joins two makes room for it.
-const FULL: [Row; 5] = [
+static FULL: [Row; 5] = [
     (Admin, 0, Ask::Flush(130, 130), Told::Refused(TooManySpans)),
     (Admin, 0, Ask::Flush(3, 3), Told::Changed(565)),
     (Admin, 0, Ask::Flush(130, 130), Told::Changed(566)),
@@ -65,7 +65,7 @@ const FULL: [Row; 5] = [
 ];
 
 /// An object's list is full by itself: the list of all objects, and another object's, are not.
-const FULL_OF_ONE: [Row; 7] = [
+static FULL_OF_ONE: [Row; 7] = [
     (
         Admin,
         0,
@@ -81,7 +81,7 @@ const FULL_OF_ONE: [Row; 7] = [
 ];
 
 /// What falls below the floor makes room.
-const FALLEN: [Row; 4] = [
+static FALLEN: [Row; 4] = [
     (Admin, 0, Ask::Flush(130, 130), Told::Refused(TooManySpans)),
     (Admin, 0, Ask::SetWindow(562), Told::Changed(565)),
     (Admin, 0, Ask::Flush(130, 130), Told::Changed(566)),

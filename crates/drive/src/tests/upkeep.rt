@@ -3,6 +3,7 @@ use crate::Drive;
 use crate::tests::asking::{Ask, Row, Told};
 use crate::tests::party::Party;
 use crate::tests::{Scene, play};
+use codec::Inode;
 use s4_types::Refusal::{NoObject, NoSpace};
 use s4_types::Role::Client;
 use s4_types::{Moment, ObjectId, Refusal};
@@ -19,6 +20,15 @@ enum Act {
     Checkpoint(u64, Result<(), Refusal>),
 }
 
+/// Seals the open frame. Like what follows here, it leaves out the clauses of the call that it makes.
+fn seal<J: Naming>(drive: &mut Drive<J>) {
+    drive.seal();
+}
+
+fn checkpoint<J: Naming>(drive: &mut Drive<J>, object: u64) -> Result<(), Refusal> {
+    drive.checkpoint(ObjectId::new(object))
+}
+
 /// A drive does all of a list, and has so many blocks of room behind each.
 #[derive(Drop)]
 struct Acts<'a> {
@@ -31,20 +41,20 @@ impl Scene for Acts<'_> {
         for (act, room) in self.acts {
             match act {
                 Act::Ask(row) => party.answers(rt, [*row].as_slice())?,
-                Act::Seal => party.drive.seal(),
+                Act::Seal => seal(&mut party.drive),
                 Act::Checkpoint(object, told) => {
-                    let given = party.drive.checkpoint(ObjectId::new(*object));
+                    let given = checkpoint(&mut party.drive, *object);
                     assert!(rt; given == *told, "{act:?}");
                 }
             }
-            assert_eq!(rt; party.drive.room(), *room, "behind {act:?}");
+            assert_eq!(rt; party.room(), *room, "behind {act:?}");
         }
         Ok(())
     }
 }
 
 /// A frame that is sealed with one block in it: its other 14 are lost.
-const SEALED: [(Act, usize); 9] = [
+static SEALED: [(Act, usize); 9] = [
     (Act::Seal, 60),
     (
         Act::Ask((Client, 10, Ask::Create(b"k"), Told::Created(1, 10))),
@@ -72,7 +82,7 @@ const SEALED: [(Act, usize); 9] = [
 ];
 
 /// A checkpoint takes one block where it is older than the last entry. An object that was deleted has one, too.
-const CHECKPOINTS: [(Act, usize); 14] = [
+static CHECKPOINTS: [(Act, usize); 14] = [
     (Act::Checkpoint(1, Err(NoObject)), 60),
     (
         Act::Ask((Client, 10, Ask::Create(b""), Told::Created(1, 10))),
@@ -116,7 +126,7 @@ const CHECKPOINTS: [(Act, usize); 14] = [
 ];
 
 /// With no room left: NoSpace where one must be written, and Ok where it stands.
-const NO_ROOM: [(Act, usize); 10] = [
+static NO_ROOM: [(Act, usize); 10] = [
     (
         Act::Ask((Client, 1, Ask::Create(b""), Told::Created(1, 1))),
         59,
@@ -159,28 +169,41 @@ fn upkeep_of_8_frames(rt: HostRuntime) -> Result<(), Fail> {
     Ok(())
 }
 
+/// The inode of an object at a moment.
+fn inode_of<J: Naming>(
+    drive: &mut Drive<J>,
+    object: u64,
+    at: u64,
+) -> Result<Option<Inode>, Refusal> {
+    drive.inode_at(ObjectId::new(object), Moment::new(at))
+}
+
+/// The moment of an object's checkpoint.
+fn checkpoint_moment<J: Naming>(drive: &Drive<J>, object: u64) -> Option<u64> {
+    let row = drive.row(ObjectId::new(object))?;
+    row.checkpoint?;
+    Some(row.checkpoint_moment.number())
+}
+
+static CHANGES: [(Ask, u64); 3] = [
+    (Ask::Create(b""), 10),
+    (Ask::Write(1, 0, b"a"), 20),
+    (Ask::Truncate(1, 900), 30),
+];
+
 /// What a row tells of an object's checkpoint.
 #[derive(Drop)]
 struct Written;
 
 impl Scene for Written {
     fn play<J: Naming, R: Abort>(self, rt: &R, alloc: Global, drive: Drive<J>) -> Result<(), Fail> {
-        let object = ObjectId::new(1);
         let mut party = Party::new(alloc, drive)?;
-        for (act, moment) in [
-            (Ask::Create(b""), 10),
-            (Ask::Write(1, 0, b"a"), 20),
-            (Ask::Truncate(1, 900), 30),
-        ] {
-            party.reply_to(Client, moment, act)?;
-            let before = party.drive.inode_at(object, Moment::new(moment))?;
-            party.drive.checkpoint(object)?;
-            let Some(row) = party.drive.row(object) else {
-                panic!(rt; "there is no row")
-            };
-            assert!(rt; row.checkpoint.is_some());
-            assert_eq!(rt; row.checkpoint_moment, Moment::new(moment));
-            let after = party.drive.inode_at(object, Moment::new(moment))?;
+        for (asked, moment) in &CHANGES {
+            party.reply_to(Client, *moment, *asked)?;
+            let before = inode_of(&mut party.drive, 1, *moment)?;
+            checkpoint(&mut party.drive, 1)?;
+            assert_eq!(rt; checkpoint_moment(&party.drive, 1), Some(*moment));
+            let after = inode_of(&mut party.drive, 1, *moment)?;
             assert!(rt; before == after, "at {moment}");
         }
         Ok(())

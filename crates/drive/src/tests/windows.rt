@@ -6,7 +6,7 @@ use s4_types::Role::{Admin, Client};
 use std::test::Fail;
 
 /// A smaller window raises the floor, a larger one doesn't lower it.
-const WINDOWS: [Row; 9] = [
+static WINDOWS: [Row; 9] = [
     (Client, 10, Ask::Create(b""), Told::Created(1, 10)),
     (Client, 20, Ask::Write(1, 0, b"abc"), Told::Changed(20)),
     (Admin, 100, Ask::SetWindow(10), Told::Changed(100)),
@@ -29,7 +29,7 @@ const WINDOWS: [Row; 9] = [
 ];
 
 /// A read looks at the window that has moved on to its own moment.
-const A_READ_MOVES_ON: [Row; 6] = [
+static A_READ_MOVES_ON: [Row; 6] = [
     (Client, 10, Ask::Create(b""), Told::Created(1, 10)),
     (Client, 20, Ask::Write(1, 0, b"a"), Told::Changed(20)),
     (Client, 40, Ask::Write(1, 0, b"b"), Told::Changed(40)),
@@ -39,7 +39,7 @@ const A_READ_MOVES_ON: [Row; 6] = [
 ];
 
 /// At the clock's end all can be read and nothing changed.
-const CLOCK_END: [Row; 8] = [
+static CLOCK_END: [Row; 8] = [
     (Client, 10, Ask::Create(b"k"), Told::Created(1, 10)),
     (
         Client,
@@ -66,7 +66,7 @@ const CLOCK_END: [Row; 8] = [
 ];
 
 /// The last moment can be given to a change.
-const LAST_MOMENT: [Row; 3] = [
+static LAST_MOMENT: [Row; 3] = [
     (
         Client,
         u64::MAX,

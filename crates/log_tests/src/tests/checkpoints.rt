@@ -4,9 +4,10 @@ ghost use Rattle.log_tests.specs.Subject.{IsPresent};
 
 use crate::tests::subject::Subject;
 use crate::tests::tables::{block_of, new_table};
-use blocks::Blocks;
+use blocks::{Block, Blocks};
 use codec::{Attribute, Checkpoint, Inode};
 use inode_links::blank;
+use object_map::Row;
 use s4_types::{Moment, Ptr};
 use std::alloc::Global;
 use std::process::Abort;
@@ -14,13 +15,13 @@ use std::test::Fail;
 
 /// The block of the checkpoint up to the attribute's zeros: alive, an attribute of one byte, 3 bytes, object 1, the
 /// moments 35, 10 and 30, and the attribute `k`.
-const FIELDS: [u8; 41] = [
+static FIELDS: [u8; 41] = [
     2, 1, 1, 0, 0, 0, 0, 3, 0, 0, 0, 0, 0, 0, 0, 1, 0, 0, 0, 0, 0, 0, 0, 0x23, 0, 0, 0, 0, 0, 0, 0,
     0x0a, 0, 0, 0, 0, 0, 0, 0, 0x1e, 0x6b,
 ];
 
 /// The first of its pointers, to block 4 of frame 0. The others are holes.
-const POINTER: [u8; 8] = [0, 0, 4, 0, 0, 0, 0, 1];
+static POINTER: [u8; 8] = [0, 0, 4, 0, 0, 0, 0, 1];
 
 /// The object, made at moment 10, alive: its size, the moment of its last change, its attribute, and its first two
 /// pointers.
@@ -98,6 +99,11 @@ fn write_twice<B: Blocks>(subject: &mut Subject<B>) -> Result<(), Fail>
     subject.write(30, 1, b"Z")
 }
 
+/// Looks at the first moment, if any, at which an inode is another than it must be.
+fn check_moments(rt: &impl Abort, wrong: Option<u64>, when: &str) {
+    assert_eq!(rt; wrong, None, "{when}");
+}
+
 /// Looks at the inodes before the checkpoint and after it, and goes on behind it.
 fn check_inodes<B: Blocks>(
     rt: &impl Abort,
@@ -107,17 +113,17 @@ fn check_inodes<B: Blocks>(
     requires { IsPresent (B.log subject.old.table).held subject.old.row subject.old.inode subject.old.latest }
 {
     let early = early()?;
-    assert_eq!(rt; subject.wrong_moment(alloc, &early)?, None, "without");
+    check_moments(rt, subject.wrong_moment(alloc, &early)?, "without");
     subject.checkpoint(35)?;
-    assert_eq!(rt; subject.wrong_moment(alloc, &early)?, None, "at the end");
+    check_moments(rt, subject.wrong_moment(alloc, &early)?, "at the end");
     subject.set_attribute(40, b"other")?;
     subject.write(50, 600, b"x")?;
-    assert_eq!(rt; subject.wrong_moment(alloc, &early)?, None, "back");
-    assert_eq!(rt; subject.wrong_moment(alloc, &late()?)?, None, "forth");
+    check_moments(rt, subject.wrong_moment(alloc, &early)?, "back");
+    check_moments(rt, subject.wrong_moment(alloc, &late()?)?, "forth");
     Ok(())
 }
 
-/// The object before its inodes are looked at.
+/// The object before its inodes are looked at, and its row behind that.
 fn back_and_forth<B: Blocks>(
     rt: &impl Abort,
     alloc: Global,
@@ -126,16 +132,16 @@ fn back_and_forth<B: Blocks>(
     requires { IsPresent (B.log subject.old.table).held subject.old.row subject.old.inode subject.old.latest }
 {
     write_twice(subject)?;
-    check_inodes(rt, alloc, subject)
+    check_inodes(rt, alloc, subject)?;
+    let row = subject.row();
+    assert_eq!(rt; (row.head, subject.blocks_left()), (Ptr::new(0, 9, 1), 111));
+    Ok(())
 }
 
 #[test]
 fn back_and_forth_from_a_checkpoint(rt: HostRuntime) -> Result<(), Fail> {
     let mut subject = Subject::new(new_table(rt.alloc(), 8)?, 10);
-    back_and_forth(&rt, rt.alloc(), &mut subject)?;
-    let row = subject.row();
-    assert_eq!(rt; (row.head, subject.blocks_left()), (Ptr::new(0, 9, 1), 111));
-    Ok(())
+    back_and_forth(&rt, rt.alloc(), &mut subject)
 }
 
 /// The checkpoint of moment 35, read back after a write behind it.
@@ -148,19 +154,35 @@ fn read_back<B: Blocks>(subject: &mut Subject<B>) -> Result<Checkpoint, Fail>
     Ok(subject.read_checkpoint().ok_or("a checkpoint")?)
 }
 
-#[test]
-fn a_checkpoint_read_back(rt: HostRuntime) -> Result<(), Fail> {
-    let mut subject = Subject::new(new_table(rt.alloc(), 8)?, 10);
-    let checkpoint = read_back(&mut subject)?;
+/// Looks at the checkpoint that was read, and at the row.
+fn check_checkpoint(rt: &impl Abort, checkpoint: &Checkpoint, row: &Row) -> Result<Ptr, Fail> {
     assert_eq!(rt; checkpoint.moment(), Moment::new(35));
     assert_eq!(rt; *checkpoint.inode(), written_again()?);
-    let row = subject.row();
     let place = Ptr::new(0, 6, 1);
     assert_eq!(rt;
         (row.checkpoint, row.checkpoint_moment),
         (place, Moment::new(35))
     );
-    let block = subject.held_bytes(place.ok_or("a place")?);
+    Ok(place.ok_or("a place")?)
+}
+
+/// The same, and looks at it and at the row, which tells its place.
+fn read_and_look<B: Blocks>(rt: &impl Abort, subject: &mut Subject<B>) -> Result<Ptr, Fail>
+    requires { IsPresent (B.log subject.old.table).held subject.old.row subject.old.inode subject.old.latest }
+{
+    let checkpoint = read_back(subject)?;
+    check_checkpoint(rt, &checkpoint, &subject.row())
+}
+
+/// Looks at the checkpoint's block.
+fn check_block(rt: &impl Abort, block: Option<Block>) {
     assert!(rt; block == Some(block_of(&[&FIELDS, &[0; 63], &POINTER])));
+}
+
+#[test]
+fn a_checkpoint_read_back(rt: HostRuntime) -> Result<(), Fail> {
+    let mut subject = Subject::new(new_table(rt.alloc(), 8)?, 10);
+    let place = read_and_look(&rt, &mut subject)?;
+    check_block(&rt, subject.held_bytes(place));
     Ok(())
 }

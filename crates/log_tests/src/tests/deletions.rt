@@ -7,8 +7,11 @@ use crate::tests::tables::new_table;
 use blocks::Blocks;
 use codec::{Attribute, Inode};
 use inode_links::blank;
+use object_map::Row;
 use s4_types::{Moment, Ptr};
+use segment_table::SegmentTable;
 use std::alloc::Global;
+use std::process::Abort;
 use std::test::Fail;
 
 /// The object, made at moment 10: its size, the moment of its last change, its attribute, and the blocks of frame 0 to
@@ -70,28 +73,53 @@ fn live_and_die<B: Blocks>(alloc: Global, subject: &mut Subject<B>) -> Result<Op
     Ok(subject.wrong_moment(alloc, &inodes()?)?)
 }
 
-#[test]
-fn each_moment_of_a_short_life(rt: HostRuntime) -> Result<(), Fail> {
-    let alloc = rt.alloc();
-    let mut subject = Subject::new(new_table(alloc, 8)?, 10);
-    assert_eq!(rt; live_and_die(alloc, &mut subject)?, None);
+/// Looks at the row, and at the number of blocks that are left.
+fn check_row(rt: &impl Abort, row: &Row, blocks_left: usize) {
     // The entries have 37, 85, 68, 34, 39 and 34 bytes.
-    let row = subject.row();
     assert_eq!(rt; (row.journal_bytes, row.head_bytes), (297, 297));
-    assert_eq!(rt;
-        (row.head, subject.blocks_left()),
-        (Ptr::new(0, 10, 1), 110)
-    );
+    assert_eq!(rt; (row.head, blocks_left), (Ptr::new(0, 10, 1), 110));
+}
 
+/// Looks at the bytes that an inode of this size tells.
+fn check_bytes(rt: &impl Abort, bytes: &[u8], size: u32) {
+    let (count, zeros) = match size {
+        1030 => (1030, 0),
+        513 => (513, 0),
+        2000 => (513, 1487),
+        _ => (0, 0),
+    };
+    assert!(rt; is_filled(bytes, count, zeros), "{}", size);
+}
+
+/// Looks at the bytes at each moment.
+fn check_each(
+    rt: &impl Abort,
+    alloc: Global,
+    subject: &mut Subject<SegmentTable>,
+) -> Result<(), Fail> {
     for (_, inode) in &inodes()? {
         let bytes = subject.bytes(alloc, inode)?.ok_or("bytes")?;
-        let (count, zeros) = match inode.size {
-            1030 => (1030, 0),
-            513 => (513, 0),
-            2000 => (513, 1487),
-            _ => (0, 0),
-        };
-        assert!(rt; is_filled(&bytes, count, zeros), "{}", inode.size);
+        check_bytes(rt, &bytes, inode.size);
     }
     Ok(())
+}
+
+/// The object lives, and its row and its inodes are looked at.
+fn check_life<B: Blocks>(
+    rt: &impl Abort,
+    alloc: Global,
+    subject: &mut Subject<B>,
+) -> Result<(), Fail>
+    requires { IsPresent (B.log subject.old.table).held subject.old.row subject.old.inode subject.old.latest }
+{
+    assert_eq!(rt; live_and_die(alloc, subject)?, None);
+    check_row(rt, &subject.row(), subject.blocks_left());
+    Ok(())
+}
+
+#[test]
+fn each_moment_of_a_short_life(rt: HostRuntime) -> Result<(), Fail> {
+    let mut subject = Subject::new(new_table(rt.alloc(), 8)?, 10);
+    check_life(&rt, rt.alloc(), &mut subject)?;
+    check_each(&rt, rt.alloc(), &mut subject)
 }

@@ -10,8 +10,8 @@ use crate::tests::pushing::{
 };
 use crate::tests::subject::Subject;
 use crate::tests::tables::{held_blocks, new_table, place};
-use blocks::Blocks;
-use codec::{Attribute, Inode};
+use blocks::{Block, Blocks};
+use codec::{Attribute, Entry, Inode};
 use inode_links::blank;
 use journal_chain::Chain;
 use object_map::Row;
@@ -19,6 +19,16 @@ use s4_types::{Moment, Refusal};
 use std::alloc::Global;
 use std::process::Abort;
 use std::test::Fail;
+
+/// Looks at the number of a chain's bytes, and of those in its head.
+fn check_bytes(rt: &impl Abort, chain: &Chain, bytes: usize, filled: usize) {
+    assert_eq!(rt; (chain.bytes(), chain.filled()), (bytes, filled));
+}
+
+/// Looks at the number of the place of a chain's head, and at how many blocks are left.
+fn check_head(rt: &impl Abort, chain: &Chain, blocks_left: usize, number: usize, left: usize) {
+    assert_eq!(rt; (chain.head(), blocks_left), (place(number), left));
+}
 
 /// Pushes 48 entries of moments 1 to 48, each of 244 bytes, two at a time: each push fills a block.
 fn fill<B: Blocks>(rt: &impl Abort, table: &mut B, chain: &mut Chain) -> Result<(), Fail>
@@ -29,8 +39,8 @@ fn fill<B: Blocks>(rt: &impl Abort, table: &mut B, chain: &mut Chain) -> Result<
         assert!(rt; !chain.is_full_for(488));
         let both = long_entries(2 * k as u64 + 1).ok_or("entries")?;
         push(table, chain, &both)?;
-        assert_eq!(rt; (chain.bytes(), chain.filled()), (488 * (k + 1), 488));
-        assert_eq!(rt; (chain.head(), table.blocks_left()), (place(k), 119 - k));
+        check_bytes(rt, chain, 488 * (k + 1), 488);
+        check_head(rt, chain, table.blocks_left(), k, 119 - k);
     }
     Ok(())
 }
@@ -45,6 +55,11 @@ fn full_chain<B: Blocks>(rt: &impl Abort, table: &mut B) -> Result<Chain, Fail>
     Ok(chain)
 }
 
+/// Looks at one of the 48 entries.
+fn check_entry(rt: &impl Abort, entry: &Entry, moment: u64) {
+    assert_eq!(rt; Some(entry), long_entry(moment).as_ref(), "{moment}");
+}
+
 /// Looks at the 48 entries, oldest first.
 fn check_entries<B: Blocks>(
     rt: &impl Abort,
@@ -57,7 +72,7 @@ fn check_entries<B: Blocks>(
     let entries = entries(alloc, table, chain)?;
     assert_eq!(rt; entries.len(), 48);
     for (entry, moment) in entries.iter().zip(1..49u64) {
-        assert_eq!(rt; Some(entry), long_entry(moment).as_ref(), "{moment}");
+        check_entry(rt, entry, moment);
     }
     Ok(())
 }
@@ -77,17 +92,29 @@ fn fill_and_read<B: Blocks>(
     Ok(chain)
 }
 
-#[test]
-fn a_chain_with_all_its_bytes(rt: HostRuntime) -> Result<(), Fail> {
-    let mut table = new_table(rt.alloc(), 8)?;
-    let mut told = [(0, 0); 49];
-    let chain = fill_and_read(&rt, rt.alloc(), &mut table, &mut told)?;
+/// Looks at a chain that has all its bytes, and at what was told of its 48 entries.
+fn check_filled(rt: &impl Abort, chain: &Chain, told: &[(u64, usize)]) {
     assert!(rt; chain.bytes() == 11_712 && chain.is_full_for(1) && !chain.is_full_for(0));
     for (k, (moment, pointers)) in told.iter().enumerate() {
         let expected = if k < 48 { (48 - k as u64, 12) } else { (0, 0) };
         assert_eq!(rt; (*moment, *pointers), expected);
     }
+}
+
+/// Fills a chain, and looks at all that is told of it.
+fn fill_and_look<B: Blocks>(rt: &impl Abort, alloc: Global, table: &mut B) -> Result<(), Fail>
+    requires { (p : Place) → (B.log table.old).held p ≡ None }
+{
+    let mut told = [(0, 0); 49];
+    let chain = fill_and_read(rt, alloc, table, &mut told)?;
+    check_filled(rt, &chain, &told);
     Ok(())
+}
+
+#[test]
+fn a_chain_with_all_its_bytes(rt: HostRuntime) -> Result<(), Fail> {
+    let mut table = new_table(rt.alloc(), 8)?;
+    fill_and_look(&rt, rt.alloc(), &mut table)
 }
 
 /// Fills a chain, and pushes an entry of 34 bytes, and none, behind that.
@@ -105,17 +132,32 @@ fn fill_and_push<B: Blocks>(rt: &impl Abort, table: &mut B) -> Result<(), Fail>
     Ok(())
 }
 
+/// The blocks of a table with a full chain.
+fn blocks_of_full_chain(rt: &impl Abort, alloc: Global) -> Result<[Option<Block>; 120], Fail> {
+    let mut table = new_table(alloc, 8)?;
+    full_chain(rt, &mut table)?;
+    Ok(held_blocks(&mut table))
+}
+
+/// Looks at which blocks are held: those from a number on, up to another.
+fn check_held(rt: &impl Abort, blocks: &[Option<Block>; 120], first: usize, end: usize) {
+    for (k, block) in blocks.iter().enumerate() {
+        assert_eq!(rt; block.is_some(), first <= k && k < end, "{k}");
+    }
+}
+
+/// Looks at the blocks of a full chain, which are as those of another.
+fn check_full(rt: &impl Abort, blocks: &[Option<Block>; 120], others: &[Option<Block>; 120]) {
+    assert!(rt; *blocks == *others);
+    check_held(rt, blocks, 0, 24);
+}
+
 #[test]
 fn a_push_to_a_full_chain(rt: HostRuntime) -> Result<(), Fail> {
+    let others = blocks_of_full_chain(&rt, rt.alloc())?;
     let mut table = new_table(rt.alloc(), 8)?;
     fill_and_push(&rt, &mut table)?;
-    let mut other = new_table(rt.alloc(), 8)?;
-    full_chain(&rt, &mut other)?;
-    let blocks = held_blocks(&mut table);
-    assert!(rt; blocks == held_blocks(&mut other));
-    for (k, block) in blocks.iter().enumerate() {
-        assert_eq!(rt; block.is_some(), k < 24, "{k}");
-    }
+    check_full(&rt, &held_blocks(&mut table), &others);
     Ok(())
 }
 
@@ -134,15 +176,21 @@ fn fill_and_shorten<B: Blocks>(rt: &impl Abort, alloc: Global, table: &mut B) ->
     Ok(chain)
 }
 
+/// Fills a chain, writes it afresh with two entries, and looks at what it has then.
+fn check_shortened<B: Blocks>(rt: &impl Abort, alloc: Global, table: &mut B) -> Result<(), Fail>
+    requires { (p : Place) → (B.log table.old).held p ≡ None }
+{
+    let chain = fill_and_shorten(rt, alloc, table)?;
+    check_bytes(rt, &chain, 278, 278);
+    check_head(rt, &chain, table.blocks_left(), 24, 95);
+    Ok(())
+}
+
 #[test]
 fn a_chain_written_afresh(rt: HostRuntime) -> Result<(), Fail> {
     let mut table = new_table(rt.alloc(), 8)?;
-    let chain = fill_and_shorten(&rt, rt.alloc(), &mut table)?;
-    assert_eq!(rt; (chain.bytes(), chain.filled()), (278, 278));
-    assert_eq!(rt; (chain.head(), table.blocks_left()), (place(24), 95));
-    for (k, block) in held_blocks(&mut table).iter().enumerate() {
-        assert_eq!(rt; block.is_some(), k == 24, "{k}");
-    }
+    check_shortened(&rt, rt.alloc(), &mut table)?;
+    check_held(&rt, &held_blocks(&mut table), 24, 25);
     Ok(())
 }
 
@@ -156,15 +204,21 @@ fn fill_and_rewrite<B: Blocks>(rt: &impl Abort, alloc: Global, table: &mut B) ->
     Ok(chain)
 }
 
+/// Fills a chain, writes it afresh with its own entries, and looks at what it has then.
+fn check_rewritten<B: Blocks>(rt: &impl Abort, alloc: Global, table: &mut B) -> Result<(), Fail>
+    requires { (p : Place) → (B.log table.old).held p ≡ None }
+{
+    let chain = fill_and_rewrite(rt, alloc, table)?;
+    check_bytes(rt, &chain, 11_712, 488);
+    check_head(rt, &chain, table.blocks_left(), 47, 72);
+    Ok(())
+}
+
 #[test]
 fn a_whole_chain_written_afresh(rt: HostRuntime) -> Result<(), Fail> {
     let mut table = new_table(rt.alloc(), 8)?;
-    let chain = fill_and_rewrite(&rt, rt.alloc(), &mut table)?;
-    assert_eq!(rt; (chain.bytes(), chain.filled()), (11_712, 488));
-    assert_eq!(rt; (chain.head(), table.blocks_left()), (place(47), 72));
-    for (k, block) in held_blocks(&mut table).iter().enumerate() {
-        assert_eq!(rt; block.is_some(), 24 <= k && k < 48, "{k}");
-    }
+    check_rewritten(&rt, rt.alloc(), &mut table)?;
+    check_held(&rt, &held_blocks(&mut table), 24, 48);
     Ok(())
 }
 
@@ -225,21 +279,41 @@ fn fill_and_delete<B: Blocks>(
     Ok((subject.delete(83), row))
 }
 
-#[test]
-fn a_change_of_an_object_with_a_full_chain(rt: HostRuntime) -> Result<(), Fail> {
-    let alloc = rt.alloc();
-    let mut subject = Subject::new(new_table(alloc, 8)?, 10);
-    let (answer, row) = fill_and_delete(&rt, alloc, &mut subject)?;
+/// Fills the journal, deletes the object, and looks at the refusal and at the row, which is as before.
+fn check_refused<B: Blocks>(
+    rt: &impl Abort,
+    alloc: Global,
+    subject: &mut Subject<B>,
+) -> Result<(), Fail>
+    requires { IsPresent (B.log subject.old.table).held subject.old.row subject.old.inode subject.old.latest }
+{
+    let (answer, row) = fill_and_delete(rt, alloc, subject)?;
     assert_eq!(rt; answer, Err(Refusal::ChainFull));
     // The entries have 34, 67 and 131 bytes, and 70 of them 164, two in a block.
     assert_eq!(rt; (row.journal_bytes, row.head_bytes), (11_712, 164));
     assert_eq!(rt; (row.head, subject.blocks_left()), (place(72), 47));
     assert_eq!(rt; subject.row(), row);
+    Ok(())
+}
 
-    let mut other = Subject::new(new_table(alloc, 8)?, 10);
-    fill_journal(&rt, alloc, &mut other)?;
-    let blocks = subject.held_blocks();
-    assert!(rt; blocks == other.held_blocks());
+/// The blocks of a table with an object whose chain is full.
+fn blocks_of_full_journal(rt: &impl Abort, alloc: Global) -> Result<[Option<Block>; 120], Fail> {
+    let mut subject = Subject::new(new_table(alloc, 8)?, 10);
+    fill_journal(rt, alloc, &mut subject)?;
+    Ok(subject.held_blocks())
+}
+
+/// Looks at the blocks of a full journal, which are as those of another.
+fn check_journal(rt: &impl Abort, blocks: &[Option<Block>; 120], others: &[Option<Block>; 120]) {
+    assert!(rt; *blocks == *others);
     assert_eq!(rt; blocks.iter().filter(|block| block.is_some()).count(), 36);
+}
+
+#[test]
+fn a_change_of_an_object_with_a_full_chain(rt: HostRuntime) -> Result<(), Fail> {
+    let others = blocks_of_full_journal(&rt, rt.alloc())?;
+    let mut subject = Subject::new(new_table(rt.alloc(), 8)?, 10);
+    check_refused(&rt, rt.alloc(), &mut subject)?;
+    check_journal(&rt, &subject.held_blocks(), &others);
     Ok(())
 }

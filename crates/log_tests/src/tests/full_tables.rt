@@ -7,12 +7,13 @@ use crate::tests::pushing::{
     append_data, empty_chain, long_entries, long_entry, push, read_back, rewrite, short_entry,
 };
 use crate::tests::tables::{held_blocks, new_table, place};
-use blocks::Blocks;
+use blocks::{Block, Blocks};
 use checkpoint::write_checkpoint;
 use codec::Checkpoint;
 use inode_links::blank;
 use journal_chain::Chain;
 use s4_types::{Moment, ObjectId, Refusal};
+use std::alloc::Global;
 use std::process::Abort;
 use std::test::Fail;
 
@@ -38,6 +39,23 @@ fn crowded<B: Blocks>(table: &mut B) -> Result<Chain, Fail>
     Ok(chain)
 }
 
+/// Looks at a chain's bytes, the number of the place of its head, and at how many blocks are left.
+fn check_head(rt: &impl Abort, chain: &Chain, blocks_left: usize, expected: (usize, usize, usize)) {
+    let (bytes, number, left) = expected;
+    assert_eq!(rt; (chain.bytes(), chain.head()), (bytes, place(number)));
+    assert_eq!(rt; blocks_left, left);
+}
+
+/// Looks at how many blocks entries of these lengths need.
+fn check_needed(rt: &impl Abort, chain: &Chain, lengths: &[usize], blocks: usize) {
+    assert_eq!(rt; chain.blocks_needed(lengths), blocks);
+}
+
+/// Looks at the answer of a push.
+fn check_answer(rt: &impl Abort, answer: Result<(), Refusal>, expected: Result<(), Refusal>) {
+    assert_eq!(rt; answer, expected);
+}
+
 /// Pushes two entries that need two places where one is left, and then one of them.
 fn push_two<B: Blocks>(
     rt: &impl Abort,
@@ -47,29 +65,34 @@ fn push_two<B: Blocks>(
     requires { (p : Place) → (B.log table.old).held p ≡ None }
 {
     let mut chain = crowded(table)?;
-    assert_eq!(rt; (chain.bytes(), chain.head()), (34, place(118)));
-    assert_eq!(rt; table.blocks_left(), 1);
+    check_head(rt, &chain, table.blocks_left(), (34, 118, 1));
 
     // The first entry goes into the head, which is written anew, and the second begins a block.
     let before = chain;
     let both = long_entries(2).ok_or("entries")?;
-    assert_eq!(rt; chain.blocks_needed(&[244, 244]), 2);
-    assert_eq!(rt; push(table, &mut chain, &both), Err(Refusal::NoSpace));
+    check_needed(rt, &chain, &[244, 244], 2);
+    check_answer(rt, push(table, &mut chain, &both), Err(Refusal::NoSpace));
     assert!(rt; chain == before && table.blocks_left() == 1);
     push(table, &mut chain, &both[..1])?;
-    assert_eq!(rt; (chain.bytes(), chain.head()), (278, place(119)));
-    assert_eq!(rt; table.blocks_left(), 0);
+    check_head(rt, &chain, table.blocks_left(), (278, 119, 0));
     read_back(table, &chain, told);
+    Ok(())
+}
+
+/// The same, and looks at the entries that the chain has then.
+fn push_and_look<B: Blocks>(rt: &impl Abort, table: &mut B) -> Result<(), Fail>
+    requires { (p : Place) → (B.log table.old).held p ≡ None }
+{
+    let mut told = [(0, 0); 3];
+    push_two(rt, table, &mut told)?;
+    assert_eq!(rt; told, [(2, 12), (1, 0), (0, 0)]);
     Ok(())
 }
 
 #[test]
 fn a_push_that_needs_two_places(rt: HostRuntime) -> Result<(), Fail> {
     let mut table = new_table(rt.alloc(), 8)?;
-    let mut told = [(0, 0); 3];
-    push_two(&rt, &mut table, &mut told)?;
-    assert_eq!(rt; told, [(2, 12), (1, 0), (0, 0)]);
-    Ok(())
+    push_and_look(&rt, &mut table)
 }
 
 /// The same chain where no place is left.
@@ -93,31 +116,47 @@ fn ask_for_places<B: Blocks>(rt: &impl Abort, table: &mut B) -> Result<(), Fail>
         long_entry(3).ok_or("an entry")?,
     ];
     // An entry that fits into the head needs a place as well.
-    assert_eq!(rt; chain.blocks_needed(&[34]), 1);
+    check_needed(rt, &chain, &[34], 1);
     let refused = push(table, &mut chain, &both[..1]);
-    assert_eq!(rt; refused, Err(Refusal::NoSpace));
-    assert_eq!(rt; push(table, &mut chain, &[]), Ok(()));
+    check_answer(rt, refused, Err(Refusal::NoSpace));
+    check_answer(rt, push(table, &mut chain, &[]), Ok(()));
     let refused = rewrite(table, &mut chain, &both);
-    assert_eq!(rt; refused, Err(Refusal::NoRoom));
+    check_answer(rt, refused, Err(Refusal::NoRoom));
     let refused = append_data(table, &chain, &[119; 512]);
     assert_eq!(rt; refused, Err(Refusal::NoSpace));
     assert!(rt; chain == before);
     Ok(())
 }
 
-#[test]
-fn calls_where_no_place_is_ahead(rt: HostRuntime) -> Result<(), Fail> {
-    let mut table = new_table(rt.alloc(), 8)?;
-    ask_for_places(&rt, &mut table)?;
+/// Asks for a checkpoint where no place is left.
+fn ask_for_checkpoint<B: Blocks>(rt: &impl Abort, table: &mut B) -> Result<(), Fail> {
     let object = ObjectId::new(1);
     let inode = blank(Moment::new(1));
     let checkpoint = Checkpoint::new(object, Moment::new(3), inode).ok_or("a checkpoint")?;
-    let refused = write_checkpoint(&mut table, &checkpoint);
+    let refused = write_checkpoint(table, &checkpoint);
     assert_eq!(rt; refused, Err(Refusal::NoSpace));
     assert_eq!(rt; table.blocks_left(), 0);
+    Ok(())
+}
 
-    let mut other = new_table(rt.alloc(), 8)?;
-    crowded_out(&mut other)?;
-    assert!(rt; held_blocks(&mut table) == held_blocks(&mut other));
+/// The blocks of a table with that chain.
+fn blocks_crowded_out(alloc: Global) -> Result<[Option<Block>; 120], Fail> {
+    let mut table = new_table(alloc, 8)?;
+    crowded_out(&mut table)?;
+    Ok(held_blocks(&mut table))
+}
+
+/// Looks at blocks that must be as others.
+fn check_same(rt: &impl Abort, blocks: &[Option<Block>; 120], others: &[Option<Block>; 120]) {
+    assert!(rt; *blocks == *others);
+}
+
+#[test]
+fn calls_where_no_place_is_ahead(rt: HostRuntime) -> Result<(), Fail> {
+    let others = blocks_crowded_out(rt.alloc())?;
+    let mut table = new_table(rt.alloc(), 8)?;
+    ask_for_places(&rt, &mut table)?;
+    ask_for_checkpoint(&rt, &mut table)?;
+    check_same(&rt, &held_blocks(&mut table), &others);
     Ok(())
 }

@@ -4,10 +4,11 @@ ghost use Rattle.log_tests.specs.Subject.{IsPresent};
 
 use crate::tests::subject::{OBJECT, Subject};
 use crate::tests::tables::{new_table, place};
-use blocks::Blocks;
+use blocks::{Block, Blocks};
 use codec::{Entry, Inode, Status, decode_journal};
 use inode_links::blank;
 use s4_types::{Moment, ObjectId, Ptr};
+use segment_table::SegmentTable;
 use std::alloc::Global;
 use std::process::Abort;
 use std::test::Fail;
@@ -83,39 +84,70 @@ fn entries_told<B: Blocks>(
 {
     write_once(subject)?;
     subject.read_back(told);
-    Ok(subject.entries(alloc)?.ok_or("entries")?)
+    Ok(subject.entries(alloc)?)
+}
+
+/// Looks at the entries of both.
+fn check_entries(rt: &impl Abort, entries: &[Entry]) -> Result<(), Fail> {
+    assert_eq!(rt; entries.len(), 4);
+    let [creation, first, second, third] = entries else {
+        return Err(Fail::from("four entries"));
+    };
+    assert_eq!(rt;
+        (creation.moment(), creation.byte_count()),
+        (Moment::new(10), 34)
+    );
+    check_entry(rt, first, 0, 1);
+    check_entry(rt, second, 16, 17);
+    check_entry(rt, third, 32, 33);
+    assert_eq!(rt; first.before().size, 0);
+    assert_eq!(rt; first.before().changed, Moment::new(10));
+    assert_eq!(rt; (second.before(), third.before()), (whole(11), whole(11)));
+    Ok(())
+}
+
+/// The object is made and written, and what is told of that is looked at.
+fn check_told<B: Blocks>(
+    rt: &impl Abort,
+    alloc: Global,
+    subject: &mut Subject<B>,
+) -> Result<(), Fail>
+    requires { IsPresent (B.log subject.old.table).held subject.old.row subject.old.inode subject.old.latest }
+{
+    let mut told = [(0, 0); 5];
+    let entries = entries_told(alloc, subject, &mut told)?;
+    assert_eq!(rt; told, [(11, 16), (11, 16), (11, 16), (10, 0), (0, 0)]);
+    let row = subject.row();
+    assert_eq!(rt; (row.journal_bytes, row.head_bytes), (34 + 3 * 306, 306));
+    check_entries(rt, &entries)
 }
 
 #[test]
 fn three_entries_of_one_moment(rt: HostRuntime) -> Result<(), Fail> {
     let mut subject = Subject::new(new_table(rt.alloc(), 16)?, 10);
-    let mut told = [(0, 0); 5];
-    let entries = entries_told(rt.alloc(), &mut subject, &mut told)?;
-    assert_eq!(rt; told, [(11, 16), (11, 16), (11, 16), (10, 0), (0, 0)]);
-    let row = subject.row();
-    assert_eq!(rt; (row.journal_bytes, row.head_bytes), (34 + 3 * 306, 306));
+    check_told(&rt, rt.alloc(), &mut subject)
+}
 
-    assert_eq!(rt; entries.len(), 4);
+/// Looks at a journal block of the object: the block before it, its number of entries, and of their bytes.
+fn check_journal(
+    rt: &impl Abort,
+    block: &Block,
+    previous: Option<Ptr>,
+    count: usize,
+    bytes: usize,
+) -> Result<(), Fail> {
+    let journal = decode_journal(block).ok_or("a journal block")?;
+    assert_eq!(rt; journal.object(), ObjectId::new(OBJECT));
+    assert_eq!(rt; journal.previous(), previous);
     assert_eq!(rt;
-        (entries[0].moment(), entries[0].byte_count()),
-        (Moment::new(10), 34)
-    );
-    for k in 0..3usize {
-        check_entry(&rt, &entries[k + 1], 16 * k, 1 + 16 * k);
-    }
-    assert_eq!(rt; entries[1].before().size, 0);
-    assert_eq!(rt; entries[1].before().changed, Moment::new(10));
-    assert_eq!(rt;
-        (entries[2].before(), entries[3].before()),
-        (whole(11), whole(11))
+        (journal.entries().len(), journal.entry_bytes()),
+        (count, bytes)
     );
     Ok(())
 }
 
-#[test]
-fn blocks_of_one_moment(rt: HostRuntime) -> Result<(), Fail> {
-    let mut subject = Subject::new(new_table(rt.alloc(), 16)?, 10);
-    write_once(&mut subject)?;
+/// Looks at the journal's blocks.
+fn check_blocks(rt: &impl Abort, subject: &mut Subject<SegmentTable>) -> Result<(), Fail> {
     // The creation's block, 48 of data, and three of the journal: the first entry fits behind the creation's.
     assert_eq!(rt; subject.blocks_left(), 240 - 1 - 48 - 3);
     let places = [Ptr::new(3, 5, 1), Ptr::new(3, 6, 1), Ptr::new(3, 7, 1)];
@@ -127,17 +159,19 @@ fn blocks_of_one_moment(rt: HostRuntime) -> Result<(), Fail> {
     ] {
         let there = there.ok_or("a place")?;
         let block = subject.held_bytes(there).ok_or("a block")?;
-        let journal = decode_journal(&block).ok_or("a journal block")?;
-        assert_eq!(rt; journal.object(), ObjectId::new(OBJECT));
-        assert_eq!(rt; journal.previous(), previous);
-        assert_eq!(rt;
-            (journal.entries().len(), journal.entry_bytes()),
-            (count, bytes)
-        );
+        check_journal(rt, &block, previous, count, bytes)?;
     }
     let first = Ptr::new(0, 1, 1).ok_or("a place")?;
-    assert!(rt; subject.held_bytes(first).is_none());
+    let block = subject.held_bytes(first);
+    assert!(rt; block.is_none());
     Ok(())
+}
+
+#[test]
+fn blocks_of_one_moment(rt: HostRuntime) -> Result<(), Fail> {
+    let mut subject = Subject::new(new_table(rt.alloc(), 16)?, 10);
+    write_once(&mut subject)?;
+    check_blocks(&rt, &mut subject)
 }
 
 /// The inodes at moments around both writes, as they must be.
@@ -163,16 +197,46 @@ fn write_again<B: Blocks>(alloc: Global, subject: &mut Subject<B>) -> Result<Opt
     Ok(subject.wrong_moment(alloc, &inodes())?)
 }
 
-#[test]
-fn inodes_around_one_moment(rt: HostRuntime) -> Result<(), Fail> {
-    let mut subject = Subject::new(new_table(rt.alloc(), 16)?, 10);
-    assert_eq!(rt; write_again(rt.alloc(), &mut subject)?, None);
+/// The object is written twice, and its inodes and its row are looked at.
+fn check_inodes<B: Blocks>(
+    rt: &impl Abort,
+    alloc: Global,
+    subject: &mut Subject<B>,
+) -> Result<(), Fail>
+    requires { IsPresent (B.log subject.old.table).held subject.old.row subject.old.inode subject.old.latest }
+{
+    assert_eq!(rt; write_again(alloc, subject)?, None);
     // No entry of the second write fits behind the 306 bytes in the head.
     assert_eq!(rt; subject.row().head, place(102));
     assert_eq!(rt; subject.blocks_left(), 240 - 52 - 51);
-    let early = subject.bytes(rt.alloc(), &written(11, 1))?.ok_or("bytes")?;
-    assert!(rt; early.as_slice() == [0x61; 24_576].as_slice());
-    let late = subject.bytes(rt.alloc(), &written(13, 52))?.ok_or("bytes")?;
-    assert!(rt; late.as_slice() == [0x62; 24_576].as_slice());
     Ok(())
+}
+
+/// Whether an inode tells 24,576 such bytes.
+fn is_whole(
+    alloc: Global,
+    subject: &mut Subject<SegmentTable>,
+    inode: &Inode,
+    byte: u8,
+) -> Result<bool, Fail> {
+    let bytes = subject.bytes(alloc, inode)?.ok_or("bytes")?;
+    Ok(bytes.as_slice() == [byte; 24_576].as_slice())
+}
+
+/// Looks at the bytes of both writes.
+fn check_bytes(
+    rt: &impl Abort,
+    alloc: Global,
+    subject: &mut Subject<SegmentTable>,
+) -> Result<(), Fail> {
+    assert!(rt; is_whole(alloc, subject, &written(11, 1), 0x61)?);
+    assert!(rt; is_whole(alloc, subject, &written(13, 52), 0x62)?);
+    Ok(())
+}
+
+#[test]
+fn inodes_around_one_moment(rt: HostRuntime) -> Result<(), Fail> {
+    let mut subject = Subject::new(new_table(rt.alloc(), 16)?, 10);
+    check_inodes(&rt, rt.alloc(), &mut subject)?;
+    check_bytes(&rt, rt.alloc(), &mut subject)
 }

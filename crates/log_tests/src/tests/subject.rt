@@ -29,8 +29,8 @@ use s4_types::{Moment, ObjectId, Ptr, Refusal};
 use segment_table::SegmentTable;
 use std::alloc::Global;
 use std::test::Fail;
-use time_read::inode_at;
 use time_read::laws::a_row_is_its_own_blocks;
+use time_read::{entries, inode_at};
 
 /// The object of these tests.
 pub(super) const OBJECT: u64 = 1;
@@ -290,15 +290,16 @@ impl<B: Blocks> Subject<B> {
         Some(Chain::of(object, row.head, row.journal_bytes, row.head_bytes))
     }
 
-    /// The entries of the journal, oldest first.
-    pub(super) fn entries(&mut self, alloc: Global) -> Result<Option<Vec<Entry>>, Refusal>
+    /// The entries of the journal, oldest first, asked for once more where memory was refused.
+    pub(super) fn entries(&mut self, alloc: Global) -> Result<Vec<Entry>, Refusal>
         requires { IsPresent (B.log self.old.table).held self.old.row self.old.inode self.old.latest }
         ensures { IsPresent (B.log self.new.table).held self.new.row self.new.inode self.new.latest }
     {
-        let Some(chain) = self.chain() else {
-            return Ok(None);
-        };
-        Ok(Some(pushing::entries(alloc, &mut self.table, &chain)?))
+        let object = ObjectId::new(OBJECT);
+        match entries(alloc, &mut self.table, object, &self.row) {
+            Err(Refusal::NoMemory) => entries(alloc, &mut self.table, object, &self.row),
+            told => told,
+        }
     }
 
     /// Moments and numbers of pointers of the newest entries, as many as there are places for, the newest first.

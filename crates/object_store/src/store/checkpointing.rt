@@ -1,6 +1,5 @@
 //! The checkpoint of an object: when it has to be written, and its writing.
-ghost use Rattle.std.specs.Prelude.{◌≡◌, ◌⊎◌, ℕ, true, false, None, Some, is_some, IfSome, IfNone, IfErr, OnOk, OnErr, MatchResult};
-ghost use Rattle.s4_types.specs.declared.refusals.Refusal.TheVariants.{NoMemory};
+ghost use Rattle.std.specs.Prelude.{◌≡◌, ℕ, true, false, None, Some, is_some, IfSome, IfNone, OnOk, OnErr, MatchResult};
 ghost use Rattle.inode_links.specs.Runs.{AllBy};
 ghost use Rattle.object_map.specs.Rows.{row_of};
 ghost use Rattle.time_read.specs.Rows.{IsRow, entries_of};
@@ -66,7 +65,6 @@ impl<B: Blocks> Store<B> {
         the_last_inode_stays();
         only_its_blocks_matter();
         groups_join_and_part();
-        self.recent = None;
         let Ok(next) = record_checkpoint(&mut self.table, object, row, inode, moment) else {
             unreachable!()
         };
@@ -79,8 +77,7 @@ impl<B: Blocks> Store<B> {
     /// and has a row still is like any other.
     ///
     /// NoObject exactly where the object has no row; else NoSpace exactly where the checkpoint has to be written and there
-    /// is no room beside the reserve; else NoMemory where it has to be written and the memory for the journal's entries was
-    /// refused. Then nothing has changed.
+    /// is no room beside the reserve. Then nothing has changed.
     pub fn checkpoint(&mut self, object: ObjectId) -> Result<(), Refusal>
         requires { IsStore (fields_of B.log self.old) }
         ensures store { IsStore (fields_of B.log self.new) }
@@ -91,12 +88,12 @@ impl<B: Blocks> Store<B> {
         ensures checkpoint { OnOk result (Checkpoints (fields_of B.log self.old) object (fields_of B.log self.new)) }
         ensures current { OnOk result (IfSome (row_of self.new.rows object) (λ row. AllBy row.checkpoint_moment (entries_of (B.log self.new.table).held object row))) }
         ensures answer { MatchResult result (λ _. checkpoint_refusal (fields_of B.log self.old) object ≡ None)
-            (λ e. (e ≡ NoMemory) ⊎ (checkpoint_refusal (fields_of B.log self.old) object ≡ Some e)) }
-        ensures memory { IfErr result (λ e. e ≡ NoMemory → (checkpoint_refusal (fields_of B.log self.old) object ≡ None)
-            × IfSome (row_of self.old.rows object) (λ row. is_behind (B.log self.old.table).held object row ≡ true)) }
+            (λ e. checkpoint_refusal (fields_of B.log self.old) object ≡ Some e) }
         ensures unchanged { OnErr result (fields_of B.log self.new ≡ fields_of B.log self.old) }
     {
         groups_join_and_part();
+        a_row_keeps_the_making();
+        the_last_inode_stays();
         let Some(row) = self.row(object) else {
             return Err(Refusal::NoObject);
         };
@@ -106,7 +103,7 @@ impl<B: Blocks> Store<B> {
         if self.room() == 0 {
             return Err(Refusal::NoSpace);
         }
-        let Some(inode) = self.inode_at(object, moment)? else {
+        let Some(inode) = self.present(object) else {
             unreachable!()
         };
         self.put_checkpoint(object, &row, &inode, moment);

@@ -2,7 +2,8 @@
 ghost use Rattle.std.specs.Prelude.{◌≡◌, ◌⊎◌, ℕ, ◌<◌, ◌≤◌, ◌==◌, ◌||◌, Some, None, IfOk, IfErr, OnOk, OnErr, MatchResult, is_some, length};
 ghost use Rattle.s4_types.specs.declared.changes.Change.TheVariants.{Create, Delete, Write, Truncate, SetAttr};
 ghost use Rattle.s4_types.specs.declared.refusals.Refusal.TheVariants.{NoMemory};
-ghost use Rattle.object_map.specs.Rows.{row_of, fresh_row};
+ghost use Rattle.inode_links.specs.Runs.{blank};
+ghost use Rattle.object_map.specs.Rows.{row_of, with_row, fresh_row};
 ghost use Rattle.inode_changes.specs.Contents.{contents_of};
 ghost use Rattle.object_store.specs.Store.{fields_of, IsStore};
 ghost use Rattle.object_store.specs.Versions.{version_in, version_taken};
@@ -12,7 +13,7 @@ ghost use Rattle.object_store.specs.Turning.{CanTake, CanTurn, Turns, IsTaken, b
 
 use crate::costs::{object_of, refusal};
 use crate::laws::changes_begin_with_the_present;
-use crate::store::{Present, Store};
+use crate::store::Store;
 use blocks::Blocks;
 use blocks::laws::one_place_has_one_name;
 use codec::{Attribute, Inode};
@@ -61,20 +62,15 @@ impl<B: Blocks> Store<B> {
         }
     }
 
-    /// The inode that a change of an object at a moment begins with: its present one, by one walk of its journal, and the
-    /// blank one of the moment where the object has no row.
-    ///
-    /// NoMemory alone, where the memory for the journal's entries is refused.
-    pub fn subject(&mut self, object: ObjectId, moment: Moment) -> Result<Inode, Refusal>
-        requires { IsStore (fields_of B.log self.old) }
-        ensures inode { IfOk result (λ inode. inode ≡ subject_inode (fields_of B.log self.old) object moment) }
-        ensures refusal { IfErr result (λ e. e ≡ NoMemory) }
-        ensures same { fields_of B.log self.new ≡ fields_of B.log self.old }
+    /// The inode that a change of an object at a moment begins with: its present one, and the blank one of the moment where
+    /// the object has no row.
+    pub fn subject(&self, object: ObjectId, moment: Moment) -> Inode
+        ensures { result ≡ subject_inode (fields_of B.log self.now) object moment }
     {
         changes_begin_with_the_present();
-        match self.inode_at(object, self.latest())? {
-            Some(inode) => Ok(inode),
-            None => Ok(blank(moment)),
+        match self.present(object) {
+            Some(inode) => inode,
+            None => blank(moment),
         }
     }
 
@@ -111,10 +107,7 @@ impl<B: Blocks> Store<B> {
         };
         self.rows.change(object, next);
         self.latest = moment;
-        self.recent = Some(Present {
-            object,
-            inode: *after,
-        });
+        self.presents.replace(object, after);
     }
 
     /// Takes a deletion.
@@ -165,7 +158,6 @@ impl<B: Blocks> Store<B> {
         one_place_has_one_name();
         the_entries_between_two_inodes();
         bytes_add_up();
-        self.recent = None;
         let after = write(&mut self.table, object, present, moment, offset, bytes);
         self.turn(object, present, &after, moment);
     }
@@ -182,12 +174,30 @@ impl<B: Blocks> Store<B> {
         one_place_has_one_name();
         the_entries_between_two_inodes();
         bytes_add_up();
-        self.recent = None;
         let after = truncate(&mut self.table, object, present, moment, size as u32);
         self.turn(object, present, &after, moment);
     }
 
-    /// Takes a creation. NoMemory where the map of rows couldn't grow; then nothing has changed.
+    /// Gives an object its first row, and its inode beside it. NoMemory where one of them couldn't be stored; then nothing
+    /// has changed.
+    fn add_object(&mut self, object: ObjectId, first: &Inode, moment: Moment) -> Result<(), Refusal>
+        requires none { row_of self.old.rows object ≡ None }
+        requires first { first.now ≡ blank moment }
+        ensures added { OnOk result ((q : ℕ) → row_of self.new.rows q ≡ with_row (row_of self.old.rows) object (fresh_row moment) q) }
+        ensures same { OnOk result (fields_of B.log self.new ≡ record (fields_of B.log self.old) { rows = self.new.rows }) }
+        ensures refusal { IfErr result (λ e. e ≡ NoMemory) }
+        ensures unchanged { OnErr result (fields_of B.log self.new ≡ fields_of B.log self.old) }
+    {
+        a_fresh_row_stands();
+        self.presents.add(object, first)?;
+        if let Err(refusal) = self.rows.add(object, moment) {
+            self.presents.remove(object);
+            return Err(refusal);
+        }
+        Ok(())
+    }
+
+    /// Takes a creation. NoMemory where its row or its inode couldn't be stored; then nothing has changed.
     fn create(
         &mut self,
         object: ObjectId,
@@ -206,8 +216,7 @@ impl<B: Blocks> Store<B> {
         the_entries_between_two_inodes();
         bytes_add_up();
         let attribute = attribute_of(attribute);
-        self.recent = None;
-        self.rows.add(object, moment)?;
+        self.add_object(object, present, moment)?;
         let after = created(attribute, moment);
         self.turn(object, present, &after, moment);
         Ok(())
@@ -247,8 +256,8 @@ impl<B: Blocks> Store<B> {
     /// by ascending index, and after them the journal's.
     ///
     /// ChainFull exactly where the journal's entries would have more than 11,712 bytes; else NoSpace exactly where the
-    /// change appends more blocks than there is room for beside the reserve; else NoMemory where a creation's row couldn't
-    /// be stored. Then nothing has changed.
+    /// change appends more blocks than there is room for beside the reserve; else NoMemory where a creation's row or its
+    /// inode couldn't be stored. Then nothing has changed.
     pub fn take(&mut self, change: &Change, present: &Inode, moment: Moment) -> Result<(), Refusal>
         requires store { IsStore (fields_of B.log self.old) }
         requires later { self.old.latest < moment }

@@ -3,134 +3,96 @@ ghost use Rattle.std.specs.Prelude.{◌≡◌, None, IfOk};
 ghost use Rattle.segment_table.specs.Room.{log_of, new_places};
 ghost use Rattle.object_store.specs.Store.{fields_of, IsStore};
 
-use super::plain::{Fresh, Plain};
-use super::steps::{Shown, create, delete, shows, write};
+use super::acts::{Act, Deed, play, play_anew};
+use super::plain::Plain;
 use crate::Store;
-use blocks::Blocks;
-use s4_types::{Moment, ObjectId, Refusal};
+use s4_types::Refusal;
 use segment_table::SegmentTable;
 use std::alloc::Global;
 use std::process::Abort;
 use std::test::*;
 
-/// Checkpoints an object, and asks once more where memory was refused.
-fn checkpoint<B: Blocks>(store: &mut Store<B>, object: u64) -> Result<(), Refusal>
-    requires { IsStore (fields_of B.log store.old) }
-    ensures { IsStore (fields_of B.log store.new) }
-{
-    let object = ObjectId::new(object);
-    match store.checkpoint(object) {
-        Err(Refusal::NoMemory) => store.checkpoint(object),
-        answer => answer,
-    }
-}
-
-fn writes_what_is_needed<B: Fresh + Drop, R: Abort>(rt: &R, alloc: Global) -> Result<(), Fail> {
-    let mut store = Store::new(alloc, B::fresh());
-    assert_eq!(rt; checkpoint(&mut store, 1), Err(Refusal::NoObject));
-    assert_eq!(rt; create(alloc, &mut store, 1, b"k", 10)?, Ok(()));
-    assert_eq!(rt; write(alloc, &mut store, 1, 20, 0, b"abc")?, Ok(()));
-    assert_eq!(rt; create(alloc, &mut store, 2, b"", 30)?, Ok(()));
-    let older = store.row(ObjectId::new(1)).ok_or("row")?;
-    let reads: [Shown; 4] = [
-        (1, 9, 0, 24_576, None),
-        (1, 19, 0, 24_576, Some(b"")),
-        (1, 20, 0, 24_576, Some(b"abc")),
-        (1, 39, 0, 24_576, Some(b"abc")),
-    ];
-    assert!(rt; shows(&mut store, reads.as_slice())?);
-    assert_eq!(rt; store.room(), 96);
-    assert_eq!(rt; checkpoint(&mut store, 1), Ok(()));
-    let row = store.row(ObjectId::new(1)).ok_or("row")?;
-    assert_eq!(rt; (row.checkpoint_moment, row.stamp), (Moment::new(20), 3));
-    assert_eq!(rt; (row.head, row.created), (older.head, Moment::new(10)));
-    assert_eq!(rt; (store.room(), store.latest()), (95, Moment::new(30)));
-    // It isn't older than the last entry now.
-    assert_eq!(rt; checkpoint(&mut store, 1), Ok(()));
-    assert_eq!(rt; store.row(ObjectId::new(1)), Some(row));
-    assert_eq!(rt; store.room(), 95);
-    assert!(rt; shows(&mut store, reads.as_slice())?);
-    assert_eq!(rt; write(alloc, &mut store, 1, 40, 1, b"Z")?, Ok(()));
-    assert_eq!(rt; checkpoint(&mut store, 1), Ok(()));
-    let newer = store.row(ObjectId::new(1)).ok_or("row")?;
-    assert_eq!(rt;
-        (newer.checkpoint_moment, newer.stamp),
-        (Moment::new(40), 5)
-    );
-    assert!(rt; newer.checkpoint != row.checkpoint);
-    assert_eq!(rt; store.room(), 92);
-    assert!(rt; shows(&mut store, reads.as_slice())?);
-    let last: [Shown; 1] = [(1, 40, 0, 24_576, Some(b"aZc"))];
-    assert!(rt; shows(&mut store, last.as_slice())?);
-    Ok(())
-}
+/// An object's checkpoint isn't written again while it isn't older than the last entry. Each leaves what is read.
+static WHAT_IS_NEEDED: [Act; 27] = [
+    Act::Refuses(Deed::Checkpoint(1), Refusal::NoObject),
+    Act::Takes(Deed::Create(1, b"k", 10)),
+    Act::Takes(Deed::Write(1, 20, 0, b"abc")),
+    Act::Takes(Deed::Create(2, b"", 30)),
+    Act::Shows((1, 9, 0, 24_576, None)),
+    Act::Shows((1, 19, 0, 24_576, Some(b""))),
+    Act::Shows((1, 20, 0, 24_576, Some(b"abc"))),
+    Act::Shows((1, 39, 0, 24_576, Some(b"abc"))),
+    Act::Stands(96, 30),
+    Act::Checkpoints(1),
+    Act::Row(1, Some((10, 88, 3, Some(20)))),
+    Act::Stands(95, 30),
+    Act::Keeps(Deed::Checkpoint(1)),
+    Act::Stands(95, 30),
+    Act::Shows((1, 9, 0, 24_576, None)),
+    Act::Shows((1, 19, 0, 24_576, Some(b""))),
+    Act::Shows((1, 20, 0, 24_576, Some(b"abc"))),
+    Act::Shows((1, 39, 0, 24_576, Some(b"abc"))),
+    Act::Takes(Deed::Write(1, 40, 1, b"Z")),
+    Act::Checkpoints(1),
+    Act::Row(1, Some((10, 139, 5, Some(40)))),
+    Act::Stands(92, 40),
+    Act::Shows((1, 9, 0, 24_576, None)),
+    Act::Shows((1, 19, 0, 24_576, Some(b""))),
+    Act::Shows((1, 20, 0, 24_576, Some(b"abc"))),
+    Act::Shows((1, 39, 0, 24_576, Some(b"abc"))),
+    Act::Shows((1, 40, 0, 24_576, Some(b"aZc"))),
+];
 
 #[test]
 fn a_checkpoint(rt: HostRuntime) -> Result<(), Fail> {
-    writes_what_is_needed::<Plain, _>(&rt, rt.alloc())
+    play_anew::<Plain, _>(&rt, rt.alloc(), WHAT_IS_NEEDED.as_slice())
 }
 
-fn keeps_the_dead<B: Fresh + Drop, R: Abort>(rt: &R, alloc: Global) -> Result<(), Fail> {
-    let mut store = Store::new(alloc, B::fresh());
-    assert_eq!(rt; create(alloc, &mut store, 1, b"", 10)?, Ok(()));
-    assert_eq!(rt; write(alloc, &mut store, 1, 20, 0, b"abc")?, Ok(()));
-    assert_eq!(rt; delete(&mut store, 1, 30)?, Ok(()));
-    assert_eq!(rt; store.room(), 96);
-    assert_eq!(rt; checkpoint(&mut store, 1), Ok(()));
-    assert_eq!(rt; store.room(), 95);
-    let row = store.row(ObjectId::new(1)).ok_or("row")?;
-    assert_eq!(rt; row.checkpoint_moment, Moment::new(30));
-    let reads: [Shown; 3] = [
-        (1, 19, 0, 24_576, Some(b"")),
-        (1, 29, 0, 24_576, Some(b"abc")),
-        (1, 30, 0, 24_576, None),
-    ];
-    assert!(rt; shows(&mut store, reads.as_slice())?);
-    Ok(())
-}
+static OF_THE_DEAD: [Act; 10] = [
+    Act::Takes(Deed::Create(1, b"", 10)),
+    Act::Takes(Deed::Write(1, 20, 0, b"abc")),
+    Act::Takes(Deed::Delete(1, 30)),
+    Act::Stands(96, 30),
+    Act::Takes(Deed::Checkpoint(1)),
+    Act::Stands(95, 30),
+    Act::Row(1, Some((10, 119, 4, Some(30)))),
+    Act::Shows((1, 19, 0, 24_576, Some(b""))),
+    Act::Shows((1, 29, 0, 24_576, Some(b"abc"))),
+    Act::Shows((1, 30, 0, 24_576, None)),
+];
 
 #[test]
 fn a_checkpoint_of_a_deleted_object(rt: HostRuntime) -> Result<(), Fail> {
-    keeps_the_dead::<Plain, _>(&rt, rt.alloc())
+    play_anew::<Plain, _>(&rt, rt.alloc(), OF_THE_DEAD.as_slice())
 }
 
-fn keeps_the_reserve<B: Fresh + Drop, R: Abort>(rt: &R, alloc: Global) -> Result<(), Fail> {
-    let mut store = Store::new(alloc, B::fresh());
-    assert_eq!(rt; create(alloc, &mut store, 1, b"", 1)?, Ok(()));
-    assert_eq!(rt; create(alloc, &mut store, 2, b"", 2)?, Ok(()));
-    let bytes = [0x61; 24_576];
-    assert_eq!(rt;
-        write(alloc, &mut store, 1, 3, 0, bytes.as_slice())?,
-        Ok(())
-    );
-    assert_eq!(rt;
-        write(alloc, &mut store, 1, 4, 0, &bytes[..43 * 512])?,
-        Ok(())
-    );
-    assert_eq!(rt; store.room(), 1);
-    assert_eq!(rt; checkpoint(&mut store, 1), Ok(()));
-    assert_eq!(rt; store.room(), 0);
-    let row = store.row(ObjectId::new(2)).ok_or("row")?;
-    assert_eq!(rt; checkpoint(&mut store, 2), Err(Refusal::NoSpace));
-    assert_eq!(rt; store.row(ObjectId::new(2)), Some(row));
-    assert_eq!(rt; row.checkpoint, None);
-    // Neither needs a block.
-    assert_eq!(rt; checkpoint(&mut store, 1), Ok(()));
-    assert_eq!(rt; checkpoint(&mut store, 3), Err(Refusal::NoObject));
-    assert_eq!(rt; (store.room(), store.latest()), (0, Moment::new(4)));
-    let reads: [Shown; 4] = [
-        (1, 2, 0, 24_576, Some(b"")),
-        (1, 3, 24_574, 9, Some(b"aa")),
-        (1, 4, 0, 1, Some(b"a")),
-        (2, 4, 0, 24_576, Some(b"")),
-    ];
-    assert!(rt; shows(&mut store, reads.as_slice())?);
-    Ok(())
-}
+const LONGEST: [u8; 24_576] = [0x61; 24_576];
+
+const ALL_BUT_ONE_BLOCK: [u8; 43 * 512] = [0x61; 43 * 512];
+
+/// With no room left an object gets no checkpoint, but where none is needed.
+static NO_ROOM: [Act; 16] = [
+    Act::Takes(Deed::Create(1, b"", 1)),
+    Act::Takes(Deed::Create(2, b"", 2)),
+    Act::Takes(Deed::Write(1, 3, 0, &LONGEST)),
+    Act::Takes(Deed::Write(1, 4, 0, &ALL_BUT_ONE_BLOCK)),
+    Act::Stands(1, 4),
+    Act::Takes(Deed::Checkpoint(1)),
+    Act::Stands(0, 4),
+    Act::Refuses(Deed::Checkpoint(2), Refusal::NoSpace),
+    Act::Row(2, Some((2, 34, 1, None))),
+    Act::Keeps(Deed::Checkpoint(1)),
+    Act::Refuses(Deed::Checkpoint(3), Refusal::NoObject),
+    Act::Stands(0, 4),
+    Act::Shows((1, 2, 0, 24_576, Some(b""))),
+    Act::Shows((1, 3, 24_574, 9, Some(b"aa"))),
+    Act::Shows((1, 4, 0, 1, Some(b"a"))),
+    Act::Shows((2, 4, 0, 24_576, Some(b""))),
+];
 
 #[test]
 fn a_checkpoint_without_room(rt: HostRuntime) -> Result<(), Fail> {
-    keeps_the_reserve::<Plain, _>(&rt, rt.alloc())
+    play_anew::<Plain, _>(&rt, rt.alloc(), NO_ROOM.as_slice())
 }
 
 /// The table of a drive of 8 frames.
@@ -151,27 +113,45 @@ fn over_eight_frames(alloc: Global) -> Result<Store<SegmentTable>, Fail>
     Ok(Store::new(alloc, table))
 }
 
+/// Before each of these lists the open frame is sealed: its other blocks are given up.
+static SEALED: [&[Act]; 4] = [
+    &[
+        Act::Stands(60, 0),
+        Act::Takes(Deed::Create(1, b"", 10)),
+        Act::Stands(59, 10),
+    ],
+    &[
+        Act::Stands(45, 10),
+        Act::Takes(Deed::Write(1, 20, 0, b"abc")),
+        Act::Stands(43, 20),
+    ],
+    &[],
+    &[
+        Act::Stands(30, 20),
+        Act::Shows((1, 9, 0, 24_576, None)),
+        Act::Shows((1, 10, 0, 24_576, Some(b""))),
+        Act::Shows((1, 20, 0, 24_576, Some(b"abc"))),
+    ],
+];
+
+fn play_sealed<R: Abort>(
+    rt: &R,
+    alloc: Global,
+    store: &mut Store<SegmentTable>,
+    lists: &[&[Act]],
+) -> Result<(), Fail>
+    requires { IsStore (fields_of log_of store.old) }
+{
+    for acts in lists {
+        store.seal();
+        play(rt, alloc, store, acts)?;
+    }
+    Ok(())
+}
+
 #[test]
 fn a_seal(rt: HostRuntime) -> Result<(), Fail> {
     let alloc = rt.alloc();
     let mut store = over_eight_frames(alloc)?;
-    store.seal();
-    assert_eq!(rt; store.room(), 60);
-    assert_eq!(rt; create(alloc, &mut store, 1, b"", 10)?, Ok(()));
-    assert_eq!(rt; store.room(), 59);
-    // The frame's other 14 blocks are given up.
-    store.seal();
-    assert_eq!(rt; store.room(), 45);
-    assert_eq!(rt; write(alloc, &mut store, 1, 20, 0, b"abc")?, Ok(()));
-    assert_eq!(rt; store.room(), 43);
-    store.seal();
-    store.seal();
-    assert_eq!(rt; (store.room(), store.latest()), (30, Moment::new(20)));
-    let reads: [Shown; 3] = [
-        (1, 9, 0, 24_576, None),
-        (1, 10, 0, 24_576, Some(b"")),
-        (1, 20, 0, 24_576, Some(b"abc")),
-    ];
-    assert!(rt; shows(&mut store, reads.as_slice())?);
-    Ok(())
+    play_sealed(&rt, alloc, &mut store, SEALED.as_slice())
 }

@@ -11,7 +11,7 @@ use crate::Store;
 use crate::costs::object_of;
 use crate::laws::changes_begin_with_the_present_version;
 use blocks::Blocks;
-use codec::Inode;
+use codec::{Entry, Inode};
 use s4_types::{Bytes, Change, Moment, ObjectId, Refusal};
 use std::alloc::Global;
 use std::test::*;
@@ -35,10 +35,7 @@ pub(super) fn present_of<B: Blocks>(
     ensures inode { IfOk result (λ inode. inode ≡ subject_inode (fields_of B.log store.old) object moment) }
     ensures same { fields_of B.log store.new ≡ fields_of B.log store.old }
 {
-    match store.subject(object, moment) {
-        Ok(inode) => Ok(inode),
-        Err(_) => Ok(store.subject(object, moment)?),
-    }
+    Ok(store.subject(object, moment))
 }
 
 /// The inode of an object at a moment.
@@ -206,16 +203,16 @@ pub(super) fn bytes_at<B: Blocks>(
 /// What a read is to give: the object, the moment, offset and length, and the bytes, none where the object isn't there.
 pub(super) type Shown = (u64, u64, u64, u64, Option<&'static [u8]>);
 
-/// Whether reads give these bytes.
-pub(super) fn shows<B: Blocks>(store: &mut Store<B>, reads: &[Shown]) -> Result<bool, Fail>
+/// The entries of an object's journal.
+pub(super) fn entries_of<B: Blocks>(
+    store: &mut Store<B>,
+    object: ObjectId,
+) -> Result<Vec<Entry>, Fail>
     requires { IsStore (fields_of B.log store.old) }
-    ensures { IsStore (fields_of B.log store.new) }
+    ensures { fields_of B.log store.new ≡ fields_of B.log store.old }
 {
-    for (object, at, offset, len, bytes) in reads {
-        let found = bytes_at(store, *object, *at, *offset, *len)?;
-        if found.as_deref() != *bytes {
-            return Ok(false);
-        }
+    match store.entries(object) {
+        Ok(entries) => Ok(entries),
+        Err(_) => Ok(store.entries(object)?),
     }
-    Ok(true)
 }

@@ -18,7 +18,7 @@ returns g c =
       beginning = c.a_run_has_one_end_and_one_beginning.ensures.beginning;
       done = c.the_inode_at_a_moment.ensures.done;
     } in
-    let w = written log between later o row place inode m c.one_place_has_one_name.ensures c.requires.row c.requires.latest c.requires.inode c.in_ok-place.ensures.growth c.in_ok-place.ensures.told c.drop_older.ensures.kept c.drop_older.ensures.others in
+    let w = written log between later o row place inode m c.one_place_has_one_name.ensures c.requires.row c.requires.latest c.requires.inode c.in_ok-place.ensures.growth c.in_ok-place.ensures.told c.drop_older.ensures.gone c.drop_older.ensures.kept c.drop_older.ensures.others in
     record {
       row = written_row log.held later.held o row place inode m laws w;
       latest = written_by log.held later.held o row place inode m w;

@@ -17,7 +17,7 @@ use Rattle.drive.proofs.drive.Drive.change_object.Goals as goal
 
 pub accept-requires : goal.accept-requires
 accept-requires g c =
-    let ledger : c.self.inside.history ≡ c.args.self.now.ledger = ap (λ (d : DriveFields). d.ledger) c.self.view_is ∙ c.judge_object.ensures.ledger in
+    let ledger : c.self.inside.history ≡ c.args.self.now.ledger = ap (λ (d : DriveFields). d.ledger) c.self.view_is in
     can_count c.self.inside.history c.self.invariant.1.sound (subst (λ (l : Ledger). (state_of l.history).clock < last_number) (sym ledger) c.in_ok-change.ensures.clock)
 
 pub invariant_of-self-2 : goal.invariant_of-self-2
@@ -25,8 +25,8 @@ invariant_of-self-2 g c =
     let s : State = state_of c.self.inside.history.history in
     let store : StoreFields = fields_of log_of c.self.inside.store in
     let change : Change = c.in_ok-change.field-0.change in
-    let ledger : c.self.inside.history ≡ c.args.self.now.ledger = ap (λ (d : DriveFields). d.ledger) c.self.view_is ∙ c.judge_object.ensures.ledger in
-    let held : store ≡ store_of c.args.self.now = ap (λ (d : DriveFields). store_of d) c.self.view_is ∙ c.judge_object.ensures.store in
+    let ledger : c.self.inside.history ≡ c.args.self.now.ledger = ap (λ (d : DriveFields). d.ledger) c.self.view_is in
+    let held : store ≡ store_of c.args.self.now = ap (λ (d : DriveFields). store_of d) c.self.view_is in
     let takes : Takes store change = subst (λ (x : StoreFields). Takes x change) (sym held) c.in_ok-change.ensures.takes in
     let at : c.moment_after-moment.result ≡ stamp s c.args.now = c.moment_after-moment.ensures ∙ ap (λ (t : ℕ). max c.args.now (t + 1)) (c.clock.ensures ∙ c.self.invariant.1.window.clock) in
     let stamped : c.stamp.result ≡ stamp s c.args.now = c.stamp.ensures.moment ∙ ap (λ (t : ℕ). max c.args.now (t + 1)) c.self.invariant.1.window.clock in (

@@ -3,8 +3,8 @@ use Rattle.object_store.specs.Store.{StoreFields, fields_of}
 use Rattle.object_store.proofs.Present.{no_row}
 use Rattle.object_store.proofs.store.Store.subject.Goals as goal
 
-pub returns-in-None-clause-inode : goal.returns-in-None-clause-inode
-returns-in-None-clause-inode g c =
+pub returns-in-None : goal.returns-in-None
+returns-in-None g c =
     let s : StoreFields = fields_of g.B.Blocks.log c.args.self.now in
-    let none = no_row s c.args.object c.latest.result (sym c.in_ok-inode.ensures.inode ∙ c.in-None.is) in
+    let none = no_row s c.args.object s.latest (sym c.present.ensures ∙ c.in-None.is) in
     c.blank.ensures ∙ sym ((c.changes_begin_with_the_present.ensures s c.args.object c.args.moment).1 none)

@@ -1,11 +1,12 @@
 -- The row's facts are those of the opened store; what is to be shown is of the store as it was passed.
-use Rattle.std.proofs.Common.{◌≡◌, ℕ, ◌+◌, Option, Some, IfSome, refl, sym, subst}
+use Rattle.std.proofs.Common.{◌≡◌, ℕ, ◌+◌, Option, Some, IfSome, refl, sym, subst, arith}
 use Rattle.object_map.specs.declared.map.Row.{Row}
 use Rattle.object_map.specs.Rows.{row_of, with_row}
 use Rattle.object_store.specs.Store.{StoreOf, StoreFields, fields_of}
 use Rattle.object_store.specs.Turning.{CanTurn, Turns, blocks_turned}
 use Rattle.object_store.proofs.Steps.{Records}
-use Rattle.object_store.proofs.Turning.{known, turned, present_after}
+use Rattle.object_store.proofs.Present.{turned_keeps}
+use Rattle.object_store.proofs.Turning.{known, turned}
 use Rattle.object_store.proofs.store.Store.turn.Goals as goal
 
 pub record_change-requires-clause-earlier : goal.record_change-requires-clause-earlier
@@ -30,6 +31,11 @@ returns g c =
 
 pub invariant_of-self : goal.invariant_of-self
 invariant_of-self g c =
+    let s : StoreFields = record { rows = c.self.inside.rows; log = g.B.Blocks.log c.self.inside.table; latest = c.self.inside.latest } in
+    let later : StoreFields = record { rows = c.change.new.self; log = g.B.Blocks.log c.record_change.new.table; latest = c.args.moment } in
+    let can = subst (λ (v : StoreOf _). CanTurn (fields_of g.B.Blocks.log v) c.args.object c.args.before.now c.args.after.now c.args.moment) (sym c.self.view_is) c.requires in
+    let after = can.later in
     let there : row_of c.self.inside.rows c.args.object ≡ Some c.in-Some.row = sym c.in-Some.ensures in
     let put = subst (λ (r : Option Row). IfSome r (λ old. (q : ℕ) → row_of c.change.new.self q ≡ with_row (row_of c.self.inside.rows) c.args.object (record c.in-Ok.next { stamp = old.stamp + 1 }) q)) there c.change.ensures.changed in
-    present_after (g.B.Blocks.log c.self.inside.table).held (g.B.Blocks.log c.record_change.new.table).held c.args.object c.args.moment c.in-Some.row c.change.new.self (row_of c.self.inside.rows) c.in-Ok.next c.args.after.now (c.in-Some.row.stamp + 1) (c.in-Ok.ensures.inode c.args.moment) put
+    turned_keeps c.a_row_is_its_own_blocks.ensures.inode c.the_last_inode_stays.ensures s later c.args.object c.args.moment (c.in-Some.row.stamp + 1) c.args.after.now c.in-Some.row c.in-Ok.next c.self.inside.presents c.replace.new.self
+    can.store.objects (omega (arith, after)) (c.in-Ok.ensures.inode c.args.moment) c.in-Ok.ensures.others put c.replace.ensures refl c.self.invariant
