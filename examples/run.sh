@@ -1,12 +1,12 @@
 #!/usr/bin/env bash
 # Runs `s4d pipe client` on an example and shows what goes in and what comes out.
-#     run.sh [FILE.hex [ROLE]]       S4D names the program, else the one that `rt run` builds is taken
+#     run.sh [FILE.hex [ROLE]]       S4D names the program, else `rt run` builds it
 set -euo pipefail
 here=$(cd "$(dirname "$0")" && pwd)
 requests=${1:-$here/first_requests.hex}
 role=${2:-client}
 s4d=${S4D:-$here/../crates/s4d/out/s4d}
-if [ ! -x "$s4d" ]; then
+if [ -z "${S4D:-}" ]; then
     echo "building s4d" >&2
     (cd "$here/../crates/s4d" && rt run -- pipe client < /dev/null > /dev/null)
 fi
