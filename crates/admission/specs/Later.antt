@@ -54,17 +54,6 @@ object_asked next (SetWindow window) = 0
 object_asked next (Flush first last) = 0
 object_asked next (FlushO object first last) = object
 
--- the object that a change is of; 0 for one that is of none
-abbrev pub object_changed : Change → ℕ
-object_changed (change.Create object attribute) = object
-object_changed (change.Delete object) = object
-object_changed (change.Write object offset bytes) = object
-object_changed (change.Truncate object size) = object
-object_changed (change.SetAttr object attribute) = object
-object_changed (change.SetWindow window) = 0
-object_changed (change.Flush first last) = 0
-object_changed (change.FlushO object first last) = object
-
 -- this is the present size of the object that a request is of, none where it is absent; a Create's isn't looked at
 abbrev pub HasSize : State → Request → Option ℕ → Type 0
 HasSize s (Create attribute) size = Unit {0}

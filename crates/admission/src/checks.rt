@@ -1,3 +1,4 @@
+//! What a request's role and own numbers decide.
 ghost use Rattle.std.specs.Prelude.{◌≡◌, ◌↔◌, ◌⊎◌, ◌+◌, ◌<◌, ◌≤◌, true, false, Some, MatchResult, IfErr, OnOk, IsTrue, length};
 ghost use Rattle.s4_types.specs.declared.limits.TheConstants.{OBJECT_BYTES, ATTRIBUTE_BYTES, READ_BYTES};
 ghost use Rattle.s4_types.specs.declared.refusals.Refusal.TheVariants.{NotAdmin, BadAttr, TooLarge};
@@ -55,8 +56,10 @@ fn check_read(offset: u64, length: u32) -> Result<(), Refusal>
     Ok(())
 }
 
-/// The first refusal that a request's role and own numbers decide: NotAdmin, BadAttr, or TooLarge but for an Append's.
-/// These come before all others.
+/// The first refusal that a request's role and own numbers decide. These come before all others.
+///
+/// NotAdmin of a client's SetWindow, Flush or FlushO; BadAttr of an attribute of more than 64 bytes; TooLarge of a Write that
+/// ends past 24,576 bytes, of a Truncate to more, of a Read of more, and of a Read that ends above 2^64 - 1.
 pub fn check(role: Role, request: &Request) -> Result<(), Refusal>
     ensures ok { OnOk result ((s : State) → first_refusal s role request.now ≡ later_refusal s request.now) }
     ensures within { OnOk result (IsWithin request.now) }

@@ -1,3 +1,4 @@
+//! What the clock, the next object's number and the object's present size decide.
 ghost use Rattle.std.specs.Prelude.{◌≡◌, ◌⊎◌, ◌+◌, ◌<◌, ◌≤◌, None, Some, IsSome, Err, MatchResult, IfOk, OnOk, unwrap_or, length};
 ghost use Rattle.s4_types.specs.declared.limits.TheConstants.{OBJECT_BYTES};
 ghost use Rattle.s4_types.specs.declared.refusals.Refusal.TheVariants.{ClockEnd, NoObject, TooLarge};
@@ -5,7 +6,8 @@ ghost use Rattle.s4_model.specs.State.{State};
 ghost use Rattle.s4_model.specs.Refusals.{last_number};
 ghost use Rattle.s4_model.specs.Step.{change_of};
 ghost use Rattle.s4_model.specs.Limits.{Fits};
-ghost use Rattle.admission.specs.Later.{later_refusal, IsWithin, IsOfVersions, IsAllowed, HasSize, object_asked, object_changed};
+ghost use Rattle.admission.specs.Later.{later_refusal, IsWithin, IsOfVersions, IsAllowed, HasSize, object_asked};
+ghost use Rattle.s4_model.specs.Effect.{object_of as object_of_change};
 
 use crate::checks::ends_past_limit;
 use s4_types::{Bytes, Change, Moment, ObjectId, Refusal, Request};
@@ -66,6 +68,7 @@ fn judge_there(clock: Moment, size: Option<u64>, change: Change) -> Result<Chang
     Ok(change)
 }
 
+/// A creation of the next object, where a later moment and a further number can be given.
 fn judge_create(clock: Moment, next: ObjectId, attribute: Bytes) -> Result<Change, Refusal>
     ensures { MatchResult result
         (λ judged. (judged ≡ Change.Create next attribute) × ((clock < last_number) × (next < last_number)))
@@ -109,7 +112,9 @@ fn judge_append(
 /// Judges a request for a version of an object, once `check` let it pass: by the clock, the next object's number and the
 /// present size of the request's object, none where it is absent (a Create's isn't looked at).
 ///
-/// The change that it asks for, or the first refusal that is left: TooLarge of an Append, NoObject, ClockEnd.
+/// The change that it asks for, or the first refusal that is left: TooLarge of an Append that ends past 24,576 bytes, where
+/// an absent object counts as empty; NoObject of an absent object; ClockEnd where no later moment can be given, or of a Create
+/// no further number.
 pub fn judge(
     clock: Moment,
     next: ObjectId,
@@ -124,7 +129,7 @@ pub fn judge(
     ensures clock { OnOk result (clock < last_number) }
     ensures fits { IfOk result Fits }
     ensures allowed { IfOk result (IsAllowed next size) }
-    ensures object { IfOk result (λ change. object_changed change ≡ object_asked next request) }
+    ensures object { IfOk result (λ change. object_of_change change ≡ object_asked next request) }
 {
     match request {
         Request::Create { attribute } => judge_create(clock, next, attribute),

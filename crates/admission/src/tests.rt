@@ -1,3 +1,4 @@
+//! Requests at the limits, and what is refused at them.
 ghost use Rattle.admission.specs.Later.{IsWithin, IsOfVersions};
 
 use crate::{check, check_clock, judge, object_of};

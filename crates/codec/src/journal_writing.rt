@@ -9,7 +9,7 @@ use crate::entries::Entry;
 use crate::entry_writing::encode_entry;
 use crate::journals::{JournalBlock, byte_sum};
 use crate::pointers::put_slot;
-use crate::writing::{Writing, finished, put, put_byte, put_long, put_short, put_zeros};
+use crate::writing::{Writing, finished, put_byte, put_long, put_short, put_zeros};
 use s4_types::limits::{BLOCK_BYTES, JOURNAL_ENTRY_BYTES};
 use s4_types::{ObjectId, Ptr};
 

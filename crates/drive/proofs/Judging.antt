@@ -25,12 +25,13 @@ use Rattle.inode_changes.specs.Laws.{TheSizeCountsTheBytes}
 use Rattle.object_map.specs.declared.map.Row.{Row}
 use Rattle.object_map.specs.Rows.{row_of}
 use Rattle.object_store.specs.Store.{StoreFields}
-use Rattle.object_store.specs.Costs.{object_of, subject_inode}
+use Rattle.object_store.specs.Costs.{subject_inode}
 use Rattle.object_store.specs.Versions.{inode_in, inode_by, version_in, version_by}
 use Rattle.object_store.specs.Taking.{Takes, IsReady, IsThere}
 use Rattle.object_store.specs.Laws.{ThePresentStays, ChangesBeginWithThePresent}
 use Rattle.window.specs.Timeline.{Timeline}
-use Rattle.admission.specs.Later.{later_refusal, IsWithin, IsOfVersions, IsAllowed, HasSize, object_asked, object_changed}
+use Rattle.admission.specs.Later.{later_refusal, IsWithin, IsOfVersions, IsAllowed, HasSize, object_asked}
+use Rattle.s4_model.specs.Effect.{object_of}
 use Rattle.drive.specs.Keeping.{IsKept}
 use Rattle.drive.specs.Answering.{size_by}
 use Rattle.drive.proofs.Kept.{there_is_given}
@@ -125,16 +126,6 @@ admin_is_later s (Flush first last) within of = absurd of
 admin_is_later s (FlushO object first last) within of = absurd of
 
 -- ---- what a store takes
-
-pub same_object : (c : Change) → object_of c ≡ object_changed c
-same_object (change.Create object attribute) = refl
-same_object (change.Delete object) = refl
-same_object (change.Write object offset bytes) = refl
-same_object (change.Truncate object n) = refl
-same_object (change.SetAttr object attribute) = refl
-same_object (change.SetWindow window) = refl
-same_object (change.Flush first last) = refl
-same_object (change.FlushO object first last) = refl
 
 -- what is allowed by the present size can be taken
 is_ready : (s : State) (store : StoreFields) (w : Timeline) (next : ℕ) (size : Option ℕ) (c : Change) → IsKept s store w next → IsAllowed next size c → (IsSome size → IsThere store (object_of c)) → (IsReady store c) × (1 ≤ object_of c)

@@ -7,7 +7,7 @@ use Rattle.s4_types.specs.declared.changes.Change.{Change}
 use Rattle.s4_types.specs.declared.changes.Change.TheVariants.{Create, Delete, Write, Truncate, SetAttr, SetWindow, Flush, FlushO}
 use Rattle.s4_types.specs.declared.versions.Version.{Version}
 use Rattle.s4_types.specs.declared.versions.Version.TheVariants.{Absent}
-use Rattle.s4_model.specs.Effect.{effect, is_change_of}
+use Rattle.s4_model.specs.Effect.{effect, is_change_of, object_of, is_of_versions}
 use Rattle.s4_model.specs.Numbers.{next_by}
 use Rattle.s4_model.specs.Refusals.{is_absent}
 use Rattle.s4_model.specs.State.{State, seen, took}
@@ -16,11 +16,10 @@ use Rattle.s4_model.specs.Sound.{IsSound}
 use Rattle.object_map.specs.declared.map.Row.{Row}
 use Rattle.object_map.specs.Rows.{row_of}
 use Rattle.object_store.specs.Store.{StoreFields, IsStore}
-use Rattle.object_store.specs.Costs.{object_of}
 use Rattle.object_store.specs.Versions.{version_in, version_taken}
 use Rattle.object_store.specs.Taking.{IsReady, IsThere}
 use Rattle.object_store.specs.Laws.{ThePresentStays}
-use Rattle.window.specs.Timeline.{Timeline, StandsFor, is_of_versions}
+use Rattle.window.specs.Timeline.{Timeline, StandsFor}
 use Rattle.s4_model.specs.Plain.{HasNext}
 use Rattle.drive.specs.Keeping.{IsKept}
 use Rattle.drive.proofs.Versions.{version_of-other, version_of-its_own, counted_by_moments}

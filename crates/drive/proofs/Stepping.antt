@@ -18,7 +18,7 @@ use Rattle.s4_model.specs.Step.{Step, Refuses, Serves, Alters, Reads, MayRefuse,
 use Rattle.s4_model.specs.Sound.{IsSound}
 use Rattle.s4_model.specs.Laws.{EveryStepKeepsSoundness}
 use Rattle.segment_word.specs.AcceptViews.{Ledger}
-use Rattle.window.specs.Timeline.{is_of_versions}
+use Rattle.s4_model.specs.Effect.{is_of_versions}
 use Rattle.object_store.specs.Store.{StoreFields}
 use Rattle.object_store.specs.Costs.{change_refusal}
 use Rattle.drive.specs.Refusing.{or_then, storing_refusal, want_of, IsRefusal}

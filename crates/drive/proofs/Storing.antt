@@ -17,12 +17,12 @@ use Rattle.s4_model.specs.Step.{change_of, stamp, accepted_record}
 use Rattle.s4_model.specs.Plain.{HasNext}
 use Rattle.s4_model.specs.Sound.{IsSound}
 use Rattle.segment_word.specs.AcceptViews.{Ledger, with_change}
-use Rattle.window.specs.Timeline.{Timeline, StandsFor, is_of_versions}
+use Rattle.window.specs.Timeline.{Timeline, StandsFor}
 use Rattle.blocks.specs.Log.{Stored}
 use Rattle.object_map.specs.declared.map.Row.{Row}
 use Rattle.object_map.specs.Rows.{row_of}
 use Rattle.object_store.specs.Store.{StoreFields, IsStore}
-use Rattle.object_store.specs.Costs.{object_of}
+use Rattle.s4_model.specs.Effect.{is_of_versions, object_of}
 use Rattle.object_store.specs.Versions.{inode_by, version_by, version_in, version_taken}
 use Rattle.object_store.specs.Taking.{IsThere, IsReady}
 use Rattle.object_store.specs.Laws.{ThePresentStays}

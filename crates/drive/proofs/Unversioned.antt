@@ -1,7 +1,7 @@
 -- Changes that make no version.
 use Rattle.std.proofs.Common.{◌≡◌, ℕ, ◌<◌, ◌≤◌, ◌==◌, Bool, true, false, cond, inl, inr, Option, Some, None, refl, sym, ap, subst, ◌∙◌, arith, ◌⊎◌, ◌||◌}
 use Rattle.std.proofs.lemmas.Bool.{ne_eqb, eq-eqb, or_from, lt-leb}
-use Rattle.std.specs.Prelude.{MatchBool, nat_le}
+use Rattle.std.specs.Prelude.{nat_le}
 use Rattle.s4_types.specs.History.{History, Took, Seen}
 use Rattle.s4_types.specs.declared.changes.Accepted.{Accepted}
 use Rattle.s4_types.specs.declared.changes.Change.{Change}
@@ -19,7 +19,8 @@ use Rattle.s4_model.specs.Step.{change_of, stamp, accepted_record}
 use Rattle.s4_model.specs.Sound.{IsSound}
 use Rattle.s4_model.specs.Laws.{EveryStepKeepsSoundness}
 use Rattle.segment_word.specs.AcceptViews.{Ledger, with_change, with_moment}
-use Rattle.window.specs.Timeline.{Timeline, StandsFor, is_of_versions}
+use Rattle.window.specs.Timeline.{Timeline, StandsFor}
+use Rattle.s4_model.specs.Effect.{is_of_versions}
 use Rattle.object_store.specs.Store.{StoreFields}
 use Rattle.drive.specs.Fields.{DriveFields, SessionFields, store_of, state_in}
 use Rattle.drive.specs.Keeping.{IsKept}
@@ -119,9 +120,6 @@ refuses_bad first d before request now e is same = record {
   store = refl;
   session = refl;
 }
-
-leaves_all : (b : Bool) (P Q : Type 0) → b ≡ false → Q → MatchBool b P Q
-leaves_all b P Q e q = subst (λ (x : Bool). MatchBool x P Q) (sym e) q
 
 -- the state of a history goes on record by record
 abbrev pub StateByChanges : Type 0

@@ -12,11 +12,11 @@ use Rattle.s4_model.specs.VersionAt.{version_of}
 use Rattle.s4_model.specs.Refusals.{moment_refusal, is_absent}
 use Rattle.s4_model.specs.Step.{change_of, stamp, reply_to_change}
 use Rattle.segment_word.specs.AcceptViews.{Ledger, Told, with_change, caught_up, credited}
-use Rattle.window.specs.Timeline.{is_of_versions}
 use Rattle.codec.specs.declared.inodes.Inode.{Inode}
 use Rattle.inode_changes.specs.Contents.{contents_of}
 use Rattle.object_store.specs.Store.{StoreFields}
-use Rattle.object_store.specs.Costs.{object_of, subject_inode, blocks_taken}
+use Rattle.object_store.specs.Costs.{subject_inode, blocks_taken}
+use Rattle.s4_model.specs.Effect.{is_of_versions, object_of}
 use Rattle.object_store.specs.Taking.{data_by, Appends}
 use Rattle.segment_word.specs.AcceptRule.{Fits}
 use Rattle.drive.specs.Fields.{DriveFields, SessionFields, store_of, state_in}

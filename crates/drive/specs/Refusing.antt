@@ -12,7 +12,7 @@ use Rattle.s4_types.specs.declared.replies.Reply.TheVariants.{Refused}
 use Rattle.s4_model.specs.State.{State}
 use Rattle.s4_model.specs.Refusals.{first_refusal, is_one_span_too_many, last_number}
 use Rattle.s4_model.specs.Step.{change_of, stamp, MayWantMemory}
-use Rattle.window.specs.Timeline.{is_of_versions}
+use Rattle.s4_model.specs.Effect.{is_of_versions}
 use Rattle.object_store.specs.Store.{StoreFields}
 use Rattle.object_store.specs.Costs.{change_refusal}
 

@@ -1,13 +1,15 @@
 //! Changes of objects: judged by the present inode, then stored and accepted.
-ghost use Rattle.std.specs.Prelude.{◌≡◌, ◌+◌, ◌<◌, max, None, Some, IfOk, IfErr, OnOk};
+ghost use Rattle.std.specs.Prelude.{◌≡◌, ◌+◌, ◌<◌, max, None, Some, unwrap_or, IfOk, IfErr, OnOk};
 ghost use Rattle.s4_model.specs.Numbers.{next_by};
+ghost use Rattle.inode_links.specs.Runs.{blank};
 ghost use Rattle.s4_model.specs.State.{took};
 ghost use Rattle.s4_model.specs.Refusals.{last_number};
 ghost use Rattle.s4_model.specs.Step.{change_of, stamp, accepted_record, reply_at};
 ghost use Rattle.s4_model.specs.Sound.{IsSound};
 ghost use Rattle.s4_model.specs.Plain.{HasNext};
 ghost use Rattle.admission.specs.Later.{later_refusal, IsWithin, IsOfVersions};
-ghost use Rattle.object_store.specs.Costs.{object_of as object_of_change, subject_inode};
+ghost use Rattle.object_store.specs.Costs.{subject_inode};
+ghost use Rattle.s4_model.specs.Effect.{object_of as object_of_change};
 ghost use Rattle.object_store.specs.Taking.{Takes};
 ghost use Rattle.drive.specs.Fields.{state_in, store_of};
 ghost use Rattle.drive.specs.Answering.{Settles, size_by};
@@ -63,6 +65,16 @@ fn size_of(inode: &Option<Inode>) -> Option<u64>
     }
 }
 
+/// What a change begins with: the present inode of its object, or a blank one of the change's moment.
+fn present_or_blank(found: Option<Inode>, moment: Moment) -> Inode
+    ensures { result ≡ unwrap_or found (blank moment) }
+{
+    match found {
+        Some(inode) => inode,
+        None => blank(moment),
+    }
+}
+
 /// A change that nothing refuses but its blocks, and the inode that it begins with.
 #[derive(Drop)]
 struct Judged {
@@ -93,7 +105,7 @@ impl<J: Naming> Drive<J> {
         let found = self.store.present(object);
         let clock = self.window.clock();
         let change = judge(clock, self.next, size_of(&found), request)?;
-        let present = found.unwrap_or(blank(moment_after(clock, now)));
+        let present = present_or_blank(found, moment_after(clock, now));
         Ok(Judged { change, present })
     }
 

@@ -1,3 +1,4 @@
+//! A drive: its parts, and how its sessions are had and brought up to date.
 ghost use Rattle.std.specs.Prelude.{◌≡◌, [], IfOk, IfErr};
 ghost use mathlib.Core.List.{IsPrefix};
 ghost use Rattle.s4_types.specs.History.{accepted};

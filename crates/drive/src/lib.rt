@@ -1,13 +1,14 @@
 //! The drive: objects that keep every version, behind sessions that share one history.
 //!
 //! The layers above may rely on this: a [`Drive`] has one history, and a request is exactly the step that the model makes on
-//! it, the reply and the next history. At every moment each object's blocks stand for the version that the history tells. A
-//! change is refused for a full chain or want of room exactly where its own blocks say so, and what is refused leaves objects,
-//! window and spans. After each call a session has seen all accepted changes, and only an accepted one of its own adds to its
-//! numbers.
+//! it, the reply and the next history. At every moment that can be read each object's blocks stand for the version that the
+//! history tells. A change that no check refuses is refused for a full chain or want of room exactly where its own blocks say
+//! so, and what is refused leaves objects, window and spans. After each call a session has seen all accepted changes, and only
+//! an accepted one of its own adds to its numbers.
 //!
-//! A change and a read of the present cost the blocks of their own bytes, whatever else the drive has; a read of the past costs
-//! one walk of its own object's journal besides.
+//! A read of the present costs the blocks of its own bytes, and a change those, its journal's and the sealing of the frames
+//! that it fills, whatever else the drive has; a read of a moment before the drive's last change, of whatever object,
+//! costs one walk of its own object's journal besides.
 //! Nothing here waits or knows of threads: whoever shares a drive holds it under a lock.
 #![tactic(auto)]
 
@@ -20,8 +21,6 @@ mod making;
 mod requests;
 mod session;
 mod telling;
-#[cfg(test)]
-mod tests;
 mod upkeep;
 
 pub use drive::Drive;

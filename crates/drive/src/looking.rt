@@ -66,10 +66,10 @@ impl<J: Naming> Drive<J> {
         self.window.sees(object, first, last)
     }
 
-    /// The inode of an object at a moment, and none where it has no row. A moment before the last change of an object takes
-    /// one walk of the object's journal, and all others none.
+    /// The inode of an object at a moment, and none where it has no row. A moment before the drive's last change, of whatever
+    /// object, takes one walk of this object's journal; any other takes none.
     ///
-    /// NoMemory alone, of a moment before the last change, where the memory for the journal's entries is refused.
+    /// NoMemory alone, of a moment before the drive's last change, where the memory for the journal's entries is refused.
     pub fn inode_at(&mut self, object: ObjectId, at: Moment) -> Result<Option<Inode>, Refusal>
         ensures inode { IfOk result (λ inode. inode ≡ inode_in (store_of self.old) object at) }
         ensures refusal { IfErr result (λ e. e ≡ NoMemory) }

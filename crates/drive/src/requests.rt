@@ -38,10 +38,13 @@ impl<J: Naming> Drive<J> {
     /// What a request of a session is answered at a moment `now` of the server's clock, and all that it changes.
     ///
     /// A change is stamped with the greater of `now` and the clock plus one. What is refused, a Read and a GetAttr move the
-    /// clock to `now` if that is later, and leave all else. ChainFull and NoSpace come of changes of objects alone, where
-    /// nothing else refuses them: ChainFull where the entries of the object's chain would have more than 11,712 bytes, else
-    /// NoSpace where there is less room than blocks are appended. NoMemory comes only where a growth was refused, and of no
-    /// change of the window or of an object that is there.
+    /// clock to `now` if that is later, and the floor with it, and leave objects, window and spans. Afterwards the session has
+    /// seen all accepted changes.
+    ///
+    /// A refusal is the first of the model's checks that applies. Where none does, a change of an object is refused with
+    /// ChainFull where the entries of the object's chain would have more than 11,712 bytes, else with NoSpace where there is
+    /// less room than blocks are appended. NoMemory comes only where a growth was refused, and of no change of the window or of
+    /// an object that is there; it stands in place of no check but NoObject, TooManySpans and ClockEnd.
     pub fn request(&mut self, session: &mut Session<J>, request: Request, now: Moment) -> Reply
         // The history goes on by a step of the model.
         ensures step { Step (history_of self.old) session.old.role request now result (history_of self.new) }

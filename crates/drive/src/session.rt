@@ -1,3 +1,4 @@
+//! A session of a drive.
 use s4_types::Role;
 use segment_word::{Naming, SessionSeat};
 use std::marker::Model;

@@ -46,8 +46,8 @@ impl<J: Naming> Drive<J> {
         at.unwrap_or(self.window.clock())
     }
 
-    /// The inode of an object at a moment, where that can be read and the object is there. A moment before the last change
-    /// takes one walk of the object's journal.
+    /// The inode of an object at a moment, where that can be read and the object is there. A moment before the drive's last
+    /// change, of whatever object, takes one walk of this object's journal.
     fn live_inode(&mut self, object: ObjectId, at: Moment) -> Result<Inode, Refusal>
         ensures ledger { self.new.ledger ≡ self.old.ledger }
         ensures store { store_of self.new ≡ store_of self.old }

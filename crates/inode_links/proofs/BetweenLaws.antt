@@ -361,9 +361,6 @@ between_count i j m =
 pub checked_some : (e x : EntryFields) → checked_entry e ≡ Some x → (entry_rules e ≡ true) × (x ≡ e)
 checked_some e x h = let parts = cond_some (entry_rules e) e x h in (parts.0, sym parts.1)
 
-checked_made : (e : EntryFields) → entry_rules e ≡ true → checked_entry e ≡ Some e
-checked_made e h = cond-true (entry_rules e) (Some e) None h
-
 pub second_told : (i j : Inode) (m : ℕ) (e : EntryFields) (others piece : List Triple) → e ≡ leading_entry i j m → entry_rules e ≡ true → others ≡ drop 16 (triples_between i j) → piece ≡ take 16 others → 0 < length piece → entry_rules (further_entry j m piece) ≡ true
 second_told i j m e others piece is rules rest taken some =
     let same : piece ≡ take 16 (drop 16 (triples_between i j)) = taken ∙ ap (take 16) rest in

@@ -76,8 +76,8 @@ fn leading_entry(before: &Inode, after: &Inode, moment: Moment, triples: &[Tripl
     )
 }
 
-#[tactic(auto, using(crate::proofs::BetweenLaws::later_none, crate::proofs::BetweenLaws::later_some))]
 /// Appends an entry of further pointers, where there are any.
+#[tactic(auto, using(crate::proofs::BetweenLaws::later_none, crate::proofs::BetweenLaws::later_some))]
 fn push_later(entries: &mut Entries, inode: &Inode, moment: Moment, triples: &[Triple])
     requires room { length entries.old.items < 3 }
     requires few { length triples.now ≤ 16 }

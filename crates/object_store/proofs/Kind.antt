@@ -9,7 +9,7 @@ use Rattle.s4_types.specs.Pointer.{Place}
 use Rattle.s4_types.specs.declared.changes.Change.{Change}
 use Rattle.s4_types.specs.declared.changes.Change.TheVariants.{Create, Delete, Write, Truncate, SetAttr, SetWindow, Flush, FlushO}
 use Rattle.s4_types.specs.declared.versions.Version.{Version}
-use Rattle.s4_model.specs.Effect.{effect, is_change_of}
+use Rattle.s4_model.specs.Effect.{effect, is_change_of, object_of}
 use Rattle.blocks.specs.Log.{Log}
 use Rattle.codec.specs.Entry.{EntryFields, entry_length}
 use Rattle.codec.specs.declared.inodes.Inode.{Inode}
@@ -25,7 +25,7 @@ use Rattle.object_map.specs.Rows.{row_of, with_row, fresh_row}
 use Rattle.time_read.specs.Rows.{inode_of}
 use Rattle.object_store.specs.Store.{StoreFields}
 use Rattle.object_store.specs.Versions.{version_in, version_taken}
-use Rattle.object_store.specs.Costs.{object_of, subject_row, subject_inode, row_or_fresh, pointers_moved, data_blocks, attribute_by, sizes_by, refusal_by, blocks_taken, room}
+use Rattle.object_store.specs.Costs.{subject_row, subject_inode, row_or_fresh, pointers_moved, data_blocks, attribute_by, sizes_by, refusal_by, blocks_taken, room}
 use Rattle.object_store.specs.Taking.{IsReady, RowChanges, data_by}
 use Rattle.object_store.specs.Turning.{CanTake, CanTurn, Turns, IsTaken, blocks_turned}
 use Rattle.object_store.proofs.Lower.{RowStays, RowInodeStays, IsByStays, IsByLater, FreshRowStands, FreshRowIsBy, FreshInode, BlankCount, BlankHoles, EntriesHaveSizes, SizesAddUp}

@@ -5,7 +5,7 @@ use Rattle.std.proofs.lemmas.Option.{none-some}
 use Rattle.s4_types.specs.Pointer.{Place}
 use Rattle.s4_types.specs.declared.changes.Change.{Change}
 use Rattle.s4_types.specs.declared.changes.Change.TheVariants.{Create, Delete, Write, Truncate, SetAttr}
-use Rattle.s4_model.specs.Effect.{effect}
+use Rattle.s4_model.specs.Effect.{effect, object_of}
 use Rattle.blocks.specs.Log.{Log}
 use Rattle.codec.specs.Checkpoint.{pointer_at}
 use Rattle.codec.specs.declared.inodes.Inode.{Inode}
@@ -18,7 +18,7 @@ use Rattle.inode_changes.specs.Changed.{Written, Truncated, blocks_from, blocks_
 use Rattle.inode_changes.specs.Growth.{GrowsBy, with_data}
 use Rattle.inode_changes.specs.Laws.{HeldPointersLead}
 use Rattle.object_store.specs.Store.{StoreFields}
-use Rattle.object_store.specs.Costs.{object_of, subject_row, subject_inode, data_blocks, room}
+use Rattle.object_store.specs.Costs.{subject_row, subject_inode, data_blocks, room}
 use Rattle.object_store.specs.Taking.{IsThere}
 use Rattle.object_store.specs.Turning.{CanTake}
 use Rattle.object_store.proofs.Lower.{OnePlace, FreshInode, BlankCount, BlankHoles}

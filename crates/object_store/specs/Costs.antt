@@ -6,6 +6,7 @@ use Rattle.s4_types.specs.declared.changes.Change.TheVariants.{Create, Delete, W
 use Rattle.s4_types.specs.declared.limits.TheConstants.{CHAIN_ENTRY_BYTES, RESERVE_BLOCKS}
 use Rattle.s4_types.specs.declared.refusals.Refusal.{Refusal}
 use Rattle.s4_types.specs.declared.refusals.Refusal.TheVariants.{ChainFull, NoSpace}
+use Rattle.s4_model.specs.Effect.{object_of}
 use Rattle.codec.specs.Checkpoint.{pointer_at}
 use Rattle.codec.specs.Entry.{pair_length}
 use Rattle.codec.specs.declared.inodes.Inode.{Inode}
@@ -17,17 +18,6 @@ use Rattle.object_map.specs.declared.map.Row.{Row}
 use Rattle.object_map.specs.Rows.{row_of, fresh_row}
 use Rattle.time_read.specs.Rows.{inode_of}
 use Rattle.object_store.specs.Store.{StoreFields}
-
--- the object that a change is of; 0 for one of all objects
-abbrev pub object_of : Change → ℕ
-object_of (Create object attribute) = object
-object_of (Delete object) = object
-object_of (Write object offset bytes) = object
-object_of (Truncate object size) = object
-object_of (SetAttr object attribute) = object
-object_of (SetWindow window) = 0
-object_of (Flush first last) = 0
-object_of (FlushO object first last) = object
 
 -- a row, or that of an object created at this moment
 abbrev pub row_or_fresh : ℕ → Option Row → Row

@@ -14,7 +14,8 @@ use Rattle.inode_changes.specs.Changed.{blocks_written, blocks_cut}
 use Rattle.inode_changes.specs.Growth.{with_data, GrowsBy}
 use Rattle.object_store.specs.Store.{StoreFields}
 use Rattle.object_store.specs.Versions.{version_in}
-use Rattle.object_store.specs.Costs.{object_of, subject_row}
+use Rattle.object_store.specs.Costs.{subject_row}
+use Rattle.s4_model.specs.Effect.{object_of}
 
 -- an object is there now
 abbrev pub IsThere : StoreFields → ℕ → Type 0

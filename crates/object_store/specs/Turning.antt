@@ -17,7 +17,8 @@ use Rattle.inode_changes.specs.Tidiness.{Tidy, PointersHeld}
 use Rattle.object_store.specs.Store.{StoreFields, IsStore, IsObject, HasNothing, PointsTo}
 use Rattle.object_store.specs.declared.store.TheConstants.{MOST_PLACES}
 use Rattle.object_store.specs.Versions.{version_in, version_taken}
-use Rattle.object_store.specs.Costs.{object_of, subject_row, subject_inode, blocks_taken, change_refusal}
+use Rattle.object_store.specs.Costs.{subject_row, subject_inode, blocks_taken, change_refusal}
+use Rattle.s4_model.specs.Effect.{object_of}
 use Rattle.object_store.specs.Taking.{Takes, RowChanges, data_by, Appends}
 
 -- A change that isn't refused can be taken at a moment, and begins with this inode.

@@ -4,7 +4,8 @@ ghost use Rattle.std.specs.Prelude.{◌≡◌, ◌+◌, ◌≤◌, length, sum, 
 ghost use Rattle.s4_model.specs.Limits.{Fits};
 ghost use Rattle.codec.specs.Entry.{pair_length};
 ghost use Rattle.inode_links.specs.Between.{pair_between};
-ghost use Rattle.object_store.specs.Costs.{object_of, past_count, pointers_moved, data_blocks, attribute_by, sizes_by, blocks_by, refusal_by};
+ghost use Rattle.object_store.specs.Costs.{past_count, pointers_moved, data_blocks, attribute_by, sizes_by, blocks_by, refusal_by};
+ghost use Rattle.s4_model.specs.Effect.{object_of};
 
 use codec::Inode;
 use inode_changes::{blocks_of_truncate, blocks_of_write};
@@ -80,8 +81,8 @@ fn data_blocks(change: &Change, inode: &Inode) -> usize
     }
 }
 
-#[tactic(auto, using(crate::proofs::Costing::pair_found, crate::proofs::Costing::pair_other))]
 /// How many bytes two attributes take in an entry: none where they are equal, else both with a byte each for their length.
+#[tactic(auto, using(crate::proofs::Costing::pair_found, crate::proofs::Costing::pair_other))]
 fn pair_bytes(before: &[u8], after: &[u8]) -> usize
     requires before { length before.now ≤ 64 }
     requires after { length after.now ≤ 64 }
@@ -94,8 +95,8 @@ fn pair_bytes(before: &[u8], after: &[u8]) -> usize
     (1 + before.len()) + (1 + after.len())
 }
 
-#[tactic(auto, using(crate::proofs::Costing::pair_same))]
 /// How many bytes the attributes before and after a change of an inode take in its entries.
+#[tactic(auto, using(crate::proofs::Costing::pair_same))]
 fn attribute_bytes(change: &Change, inode: &Inode) -> usize
     requires { Fits change.now }
     ensures exact { result ≡ pair_length (pair_between inode.now.attribute (attribute_by change.now inode.now)) }
@@ -136,8 +137,8 @@ fn total(sizes: &[usize]) -> usize
     total
 }
 
-/// Whether a change of an inode is refused where its object has this row and so many blocks may be appended: ChainFull where
-/// the journal's entries would have more than 11,712 bytes, else NoSpace where the change needs more blocks.
+/// The refusal of a change of an inode, where its object has this row and so many blocks may be appended: ChainFull where the
+/// journal's entries would have more than 11,712 bytes, else NoSpace where the change needs more blocks.
 pub(crate) fn refusal(
     space: usize,
     change: &Change,

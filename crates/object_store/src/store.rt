@@ -1,3 +1,4 @@
+//! A store of objects: made, looked at and read.
 ghost use Rattle.std.specs.Prelude.{◌≡◌, ℕ, ◌≤◌, ◌<◌, Some, None, length, take, drop, IfSome, IfNone, IfOk, IfErr};
 ghost use Rattle.s4_types.specs.Pointer.{Place};
 ghost use Rattle.s4_types.specs.declared.refusals.Refusal.TheVariants.{NoMemory};
@@ -120,10 +121,10 @@ impl<B: Blocks> Store<B> {
         Ok(Some(inode))
     }
 
-    /// The inode of an object at a moment, and none where it has no row. A moment before the last change takes one walk of
-    /// the object's journal, and all others none.
+    /// The inode of an object at a moment, and none where it has no row. A moment before the store's last change, of whatever
+    /// object, takes one walk of this object's journal; any other takes none.
     ///
-    /// NoMemory alone, of a moment before the last change, where the memory for the journal's entries is refused.
+    /// NoMemory alone, of a moment before the store's last change, where the memory for the journal's entries is refused.
     pub fn inode_at(&mut self, object: ObjectId, at: Moment) -> Result<Option<Inode>, Refusal>
         requires { IsStore (fields_of B.log self.old) }
         ensures inode { IfOk result (λ inode. inode ≡ inode_in (fields_of B.log self.old) object at) }

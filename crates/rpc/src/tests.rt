@@ -1,3 +1,4 @@
+//! Spellings of requests and replies, and what a reader makes of a stream cut anywhere.
 ghost use Rattle.std.specs.Prelude.{◌≡◌, ◌<◌, IfOk};
 ghost use Rattle.rpc.specs.Spelling.{RequestFits};
 ghost use Rattle.s4_types.specs.Sizes.{ReplyFits};
@@ -10,7 +11,7 @@ use std::test::*;
 
 /// A frame of each request in the order of their first bytes, with two bad frames between them: an empty one
 /// in front of the Flush, and a body that is one byte short behind it.
-const STREAM: [u8; 223] = [
+static STREAM: [u8; 223] = [
     0, 0, 0, 4, 1, 2, 97, 98, // Create
     0, 0, 0, 9, 2, 0, 0, 0, 0, 0, 0, 0, 7, // Delete
     0, 0, 0, 30, 3, 0, 0, 0, 0, 0, 0, 0, 1, 0, 0, 0, 0, 0, 0, 1, 2, 0, 0, 0, 3, 1, 0, 0, 0, 0, 0,
@@ -28,7 +29,7 @@ const STREAM: [u8; 223] = [
 ];
 
 /// Where the frames of the stream end.
-const ENDS: [usize; 13] = [8, 21, 55, 78, 94, 115, 129, 144, 157, 161, 182, 194, 223];
+static ENDS: [usize; 13] = [8, 21, 55, 78, 94, 115, 129, 144, 157, 161, 182, 194, 223];
 
 fn text(alloc: Global, bytes: &[u8]) -> Result<Bytes, Fail>
     ensures { IfOk result (λ made. made ≡ bytes.now) }
@@ -63,113 +64,90 @@ fn spells_reply(rt: &impl Abort, alloc: Global, reply: Reply, body: &[u8]) -> Re
     Ok(())
 }
 
+const OBJECT: u64 = 0x0102_0304_0506_0708;
+
+const MOMENT: u64 = 0x0a0b;
+
 #[test]
-fn requests(rt: HostRuntime) -> Result<(), Fail> {
-    let object = ObjectId::new(0x0102_0304_0506_0708);
+fn requests_with_bytes(rt: HostRuntime) -> Result<(), Fail> {
+    let object = ObjectId::new(OBJECT);
+    let create = Request::Create {
+        attribute: text(rt.alloc(), b"ab")?,
+    };
+    spells_request(&rt, rt.alloc(), create, &[1, 2, 0x61, 0x62])?;
+    let write = Request::Write {
+        object,
+        offset: 5,
+        bytes: text(rt.alloc(), b"abc")?,
+    };
+    let body = [
+        4, 1, 2, 3, 4, 5, 6, 7, 8, 0, 0, 0, 0, 0, 0, 0, 5, 0x61, 0x62, 0x63,
+    ];
+    spells_request(&rt, rt.alloc(), write, &body)?;
+    let append = Request::Append {
+        object,
+        bytes: text(rt.alloc(), b"a")?,
+    };
+    let body = [5, 1, 2, 3, 4, 5, 6, 7, 8, 0x61];
+    spells_request(&rt, rt.alloc(), append, &body)?;
+    let name = Request::SetAttr {
+        object,
+        attribute: text(rt.alloc(), b"x")?,
+    };
+    let body = [8, 1, 2, 3, 4, 5, 6, 7, 8, 1, 0x78];
+    spells_request(&rt, rt.alloc(), name, &body)
+}
+
+#[test]
+fn requests_of_an_object(rt: HostRuntime) -> Result<(), Fail> {
+    let object = ObjectId::new(OBJECT);
+    let delete = Request::Delete { object };
+    spells_request(&rt, rt.alloc(), delete, &[2, 1, 2, 3, 4, 5, 6, 7, 8])?;
+    let read = Request::Read {
+        object,
+        offset: 258,
+        length: 0x0102_0304,
+        at: None,
+    };
+    let body = [
+        3, 1, 2, 3, 4, 5, 6, 7, 8, 0, 0, 0, 0, 0, 0, 1, 2, 1, 2, 3, 4, 0,
+    ];
+    spells_request(&rt, rt.alloc(), read, &body)?;
+    let truncate = Request::Truncate { object, size: 3 };
+    let body = [6, 1, 2, 3, 4, 5, 6, 7, 8, 0, 0, 0, 0, 0, 0, 0, 3];
+    spells_request(&rt, rt.alloc(), truncate, &body)?;
+    let attribute = Request::GetAttr {
+        object,
+        at: Some(Moment::new(MOMENT)),
+    };
+    let body = [7, 1, 2, 3, 4, 5, 6, 7, 8, 1, 0, 0, 0, 0, 0, 0, 0x0a, 0x0b];
+    spells_request(&rt, rt.alloc(), attribute, &body)
+}
+
+#[test]
+fn requests_of_administrators(rt: HostRuntime) -> Result<(), Fail> {
+    let object = ObjectId::new(OBJECT);
     let first = Moment::new(2);
-    let last = Moment::new(0x0a0b);
-    spells_request(
-        &rt,
-        rt.alloc(),
-        Request::Create {
-            attribute: text(rt.alloc(), b"ab")?,
-        },
-        &[1, 2, 0x61, 0x62],
-    )?;
-    spells_request(
-        &rt,
-        rt.alloc(),
-        Request::Delete { object },
-        &[2, 1, 2, 3, 4, 5, 6, 7, 8],
-    )?;
-    spells_request(
-        &rt,
-        rt.alloc(),
-        Request::Read {
-            object,
-            offset: 258,
-            length: 0x0102_0304,
-            at: None,
-        },
-        &[
-            3, 1, 2, 3, 4, 5, 6, 7, 8, 0, 0, 0, 0, 0, 0, 1, 2, 1, 2, 3, 4, 0,
-        ],
-    )?;
-    spells_request(
-        &rt,
-        rt.alloc(),
-        Request::Write {
-            object,
-            offset: 5,
-            bytes: text(rt.alloc(), b"abc")?,
-        },
-        &[
-            4, 1, 2, 3, 4, 5, 6, 7, 8, 0, 0, 0, 0, 0, 0, 0, 5, 0x61, 0x62, 0x63,
-        ],
-    )?;
-    spells_request(
-        &rt,
-        rt.alloc(),
-        Request::Append {
-            object,
-            bytes: text(rt.alloc(), b"a")?,
-        },
-        &[5, 1, 2, 3, 4, 5, 6, 7, 8, 0x61],
-    )?;
-    spells_request(
-        &rt,
-        rt.alloc(),
-        Request::Truncate { object, size: 3 },
-        &[6, 1, 2, 3, 4, 5, 6, 7, 8, 0, 0, 0, 0, 0, 0, 0, 3],
-    )?;
-    spells_request(
-        &rt,
-        rt.alloc(),
-        Request::GetAttr {
-            object,
-            at: Some(last),
-        },
-        &[7, 1, 2, 3, 4, 5, 6, 7, 8, 1, 0, 0, 0, 0, 0, 0, 0x0a, 0x0b],
-    )?;
-    spells_request(
-        &rt,
-        rt.alloc(),
-        Request::SetAttr {
-            object,
-            attribute: text(rt.alloc(), b"x")?,
-        },
-        &[8, 1, 2, 3, 4, 5, 6, 7, 8, 1, 0x78],
-    )?;
-    spells_request(
-        &rt,
-        rt.alloc(),
-        Request::SetWindow { window: 1000 },
-        &[9, 0, 0, 0, 0, 0, 0, 3, 0xe8],
-    )?;
-    spells_request(
-        &rt,
-        rt.alloc(),
-        Request::Flush { first, last },
-        &[10, 0, 0, 0, 0, 0, 0, 0, 2, 0, 0, 0, 0, 0, 0, 0x0a, 0x0b],
-    )?;
-    spells_request(
-        &rt,
-        rt.alloc(),
-        Request::FlushO {
-            object,
-            first,
-            last,
-        },
-        &[
-            11, 1, 2, 3, 4, 5, 6, 7, 8, 0, 0, 0, 0, 0, 0, 0, 2, 0, 0, 0, 0, 0, 0, 0x0a, 0x0b,
-        ],
-    )?;
-    Ok(())
+    let last = Moment::new(MOMENT);
+    let set = Request::SetWindow { window: 1000 };
+    spells_request(&rt, rt.alloc(), set, &[9, 0, 0, 0, 0, 0, 0, 3, 0xe8])?;
+    let flush = Request::Flush { first, last };
+    let body = [10, 0, 0, 0, 0, 0, 0, 0, 2, 0, 0, 0, 0, 0, 0, 0x0a, 0x0b];
+    spells_request(&rt, rt.alloc(), flush, &body)?;
+    let flush = Request::FlushO {
+        object,
+        first,
+        last,
+    };
+    let body = [
+        11, 1, 2, 3, 4, 5, 6, 7, 8, 0, 0, 0, 0, 0, 0, 0, 2, 0, 0, 0, 0, 0, 0, 0x0a, 0x0b,
+    ];
+    spells_request(&rt, rt.alloc(), flush, &body)
 }
 
 #[test]
 fn replies(rt: HostRuntime) -> Result<(), Fail> {
-    let moment = Moment::new(0x0a0b);
+    let moment = Moment::new(MOMENT);
     spells_reply(&rt, rt.alloc(), Reply::Refused(Refusal::NoObject), &[0, 1])?;
     spells_reply(&rt, rt.alloc(), Reply::Refused(Refusal::BadFrame), &[0, 15])?;
     spells_reply(&rt, rt.alloc(), Reply::Refused(Refusal::InUse), &[0, 19])?;

@@ -1,5 +1,5 @@
 -- What a change does to a version, as rules on byte lists.
-use Rattle.std.specs.Prelude.{ℕ, Bool, false, ◌+◌, ◌-◌, ◌==◌, List, [], ◌∷◌, ◌++◌, length, take, drop, replicate}
+use Rattle.std.specs.Prelude.{ℕ, Bool, true, false, ◌+◌, ◌-◌, ◌==◌, List, [], ◌∷◌, ◌++◌, length, take, drop, replicate}
 use Rattle.s4_types.specs.declared.changes.Change.{Change}
 use Rattle.s4_types.specs.declared.changes.Change.TheVariants.{Create, Delete, Write, Truncate, SetAttr, SetWindow, Flush, FlushO}
 use Rattle.s4_types.specs.declared.versions.Version.{Version}
@@ -39,3 +39,21 @@ is_change_of o (SetAttr object attribute) = object == o
 is_change_of o (SetWindow window) = false
 is_change_of o (Flush first last) = false
 is_change_of o (FlushO object first last) = false
+
+-- the object that a change is of; 0 for one of all objects
+abbrev pub object_of : Change → ℕ
+object_of (Create object attribute) = object
+object_of (Delete object) = object
+object_of (Write object offset bytes) = object
+object_of (Truncate object size) = object
+object_of (SetAttr object attribute) = object
+object_of (SetWindow window) = 0
+object_of (Flush first last) = 0
+object_of (FlushO object first last) = object
+
+-- a change that neither sets the window nor hides moments
+abbrev pub is_of_versions : Change → Bool
+is_of_versions (SetWindow window) = false
+is_of_versions (Flush first last) = false
+is_of_versions (FlushO object first last) = false
+is_of_versions _ = true

@@ -13,8 +13,6 @@ pub mod laws;
 mod plain;
 mod replay;
 mod runs;
-#[cfg(test)]
-mod tests;
 
 pub use plain::PlainDrive;
 pub use replay::version_at;

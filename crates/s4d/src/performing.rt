@@ -1,3 +1,4 @@
+//! What a line of words asks for, and the status of the program.
 ghost use Rattle.std.specs.Prelude.{◌≡◌, ◌≢◌, ◌+◌, ◌^◌, ◌<◌, [], map, true};
 ghost use Rattle.clap.specs.Takes.{takes};
 ghost use Rattle.clap.specs.Simple.{subcommand_of};

@@ -1,3 +1,4 @@
+//! A session with a drive of its own, served over a reader and a writer.
 ghost use Rattle.std.specs.Prelude.{◌≡◌, ◌≢◌, ◌⊎◌, ◌+◌, ◌^◌, ◌<◌, ◌≤◌, None, [], IfOk, IfErr, OnErr};
 ghost use Rattle.server.specs.Session.{reading_failures, writing_failures};
 ghost use Rattle.server.specs.Streams.{taken_by};

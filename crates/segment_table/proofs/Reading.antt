@@ -86,10 +86,6 @@ held_frame t free current p sound h =
       ],
     )
 
-some_list : (o : Option ℕ) (f : ℕ) → option_to_list o ≡ f ∷ [] → o ≡ Some f
-some_list None f e = absurd (cc)
-some_list (Some g) f e = let same : g ≡ f = (cc) in ap (λ (x : ℕ). Some x) same
-
 -- an open frame is the one that the table knows
 only_open : (t : Table) (current : Option ℕ) (f : ℕ) → option_to_list current ≡ numbers is_filling 0 t.drive.frames → f < length t.drive.frames → (frame_at t.drive.frames f).phase ≡ Open → current ≡ Some f
 only_open t None f e inside phase = absurd (numbers_none is_filling 0 f t.drive.frames (sym e) inside (ap is_open phase))

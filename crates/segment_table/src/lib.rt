@@ -8,7 +8,7 @@
 //! is had in `new`.
 //!
 //! Frames that hold nothing are not emptied here, and nothing is kept back: an append answers NoSpace only where no
-//! frame is open and none is free.
+//! frame is open and none can be opened: of the free ones, those at the last generation, 2^32 - 1, are retired.
 #![tactic(auto)]
 
 mod seals;

@@ -1,3 +1,4 @@
+//! The segment table: blocks behind pointers, the sealing of frames, and pins that count on them.
 ghost use Rattle.std.specs.Prelude.{◌≡◌, ℕ, ◌+◌, ◌<◌, ◌≤◌, ◌⊎◌, [], ◌∷◌, ◌++◌, length, map, replicate, Some, None, IsSome, IfSome, IfOk, IfErr, OnOk, OnErr, IsOk, MatchBool, option_map};
 ghost use Rattle.s4_types.specs.Pointer.{Place};
 ghost use Rattle.s4_types.specs.declared.refusals.Refusal.TheVariants.{NoMemory, Busy, NoSpace};

@@ -1,3 +1,4 @@
+//! The table over its frames, call by call.
 ghost use Rattle.std.specs.Prelude.{◌<◌};
 ghost use Rattle.segment_word.specs.Counting.{pins_in};
 

@@ -1,3 +1,4 @@
+//! An object's journal entries, and its inode at a moment.
 ghost use Rattle.std.specs.Prelude.{◌≡◌, IsSome, IfSome, IfOk, IfErr};
 ghost use Rattle.s4_types.specs.declared.refusals.Refusal.TheVariants.{NoMemory};
 ghost use Rattle.checkpoint.specs.Held.{checkpoint_held};

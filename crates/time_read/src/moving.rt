@@ -1,3 +1,4 @@
+//! From one moment of a run of inodes to another.
 ghost use Rattle.std.specs.Prelude.{◌≡◌, ℕ, ◌≤◌, true, List, length};
 ghost use Rattle.codec.specs.declared.inodes.Inode.{Inode as InodeFields};
 ghost use Rattle.inode_links.specs.Runs.{Run, inode_after, entries_by, ascend_from};

@@ -1,3 +1,4 @@
+//! How many entries are up to a moment.
 use crate::moving::count_by;
 use codec::{Entry, decode_entry};
 use s4_types::Moment;

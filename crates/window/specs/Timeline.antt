@@ -29,13 +29,6 @@ pub record StandsFor (w : Timeline) (s : State) : Type 0 where
   pub alike : CoverAlike s.floor w.runs (spans_of s)
   pub owned : AllByRecursion (IsOfGiven s.next) w.runs
 
--- a change that neither sets the window nor hides moments
-abbrev pub is_of_versions : Change → Bool
-is_of_versions (SetWindow window) = false
-is_of_versions (Flush first last) = false
-is_of_versions (FlushO object first last) = false
-is_of_versions _ = true
-
 -- a span, and the runs that it makes of a window's
 pub record Plan : Type 0 where
   pub span : Span

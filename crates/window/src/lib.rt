@@ -2,9 +2,10 @@
 //! lost, and the runs of hidden moments.
 //!
 //! The layer above may rely on this: where a [`Window`] stands for the state of a history, it stands after
-//! each call for that state with the call's record; a span is refused exactly where the model refuses it;
-//! and `visible` and `sees` answer exactly what can be read. A span is hidden in two calls, so that all that
-//! may be refused comes before anything changes: `plan_flush` judges and takes the memory, `flush` can't fail.
+//! each call for that state with the call's record; a span is refused exactly where the model refuses it, or
+//! for want of memory; and `visible` and `sees` answer exactly what can be read. A span is hidden in two
+//! calls, so that all that may be refused comes before anything changes: `plan_flush` judges and takes the
+//! memory, `flush` can't fail.
 //! Nothing here says which objects there are, who may ask, or how long a call takes.
 #![tactic(auto)]
 

@@ -1,3 +1,4 @@
+//! The window of a drive: what can be read, and each step of clock, floor and hidden runs.
 ghost use Rattle.std.specs.Prelude.{◌≡◌, ◌⊎◌, ℕ, true, false, ◌+◌, ◌-◌, ◌<◌, ◌≤◌, max, Some, MatchBool, MatchResult, IfOk};
 ghost use Rattle.s4_types.specs.declared.changes.Accepted.{Accepted};
 ghost use Rattle.s4_types.specs.declared.changes.Change.TheVariants.{SetWindow};
@@ -6,7 +7,8 @@ ghost use Rattle.s4_types.specs.declared.refusals.Refusal.TheVariants.{NoMemory,
 ghost use Rattle.s4_model.specs.State.{State, state_of, new_history, seen, took};
 ghost use Rattle.s4_model.specs.Refusals.{last_number, is_bad_span, is_one_span_too_many, moment_refusal};
 ghost use Rattle.s4_model.specs.Visible.{span_of, IsVisible, IsSeenBetween, is_hidden};
-ghost use Rattle.window.specs.Timeline.{StandsFor, IsPlanned, is_of_versions};
+ghost use Rattle.window.specs.Timeline.{StandsFor, IsPlanned};
+ghost use Rattle.s4_model.specs.Effect.{is_of_versions};
 
 use crate::runs;
 use s4_types::{Moment, ObjectId, Refusal, Span};
@@ -130,8 +132,8 @@ impl Window {
     }
 
     /// Judges a span, of all objects under number 0 or of one object, and takes the memory that hiding it
-    /// needs; nothing is hidden yet. `TooManySpans` where its list, or all lists together, would have more
-    /// runs than they may; `NoMemory` where a growth was refused. Linear in all runs.
+    /// needs; nothing is hidden yet. `TooManySpans` where its list would have more than 64 runs that reach the
+    /// floor, or all lists together more than 65,536; `NoMemory` where a growth was refused. Linear in all runs.
     pub fn plan_flush(&self, span: Span) -> Result<FlushPlan, Refusal>
         requires ordered { span.first ≤ span.last }
         requires past { span.last ≤ self.now.clock }
@@ -148,8 +150,8 @@ impl Window {
         Ok(FlushPlan { span, runs })
     }
 
-    /// Hides a planned span, at a moment as [`Window::stamp`] gives it. The window is as it was planned
-    /// from, and the runs that end below the floor are forgotten.
+    /// Hides a planned span, at a moment as [`Window::stamp`] gives it, and forgets the runs that end below the
+    /// floor as it was. The window must not have changed since the plan was made from it.
     pub fn flush(&mut self, plan: FlushPlan, now: Moment) -> Moment
         requires clock { self.old.clock < last_number }
         requires planned { IsPlanned self.old plan }

@@ -13,8 +13,8 @@ use std::marker::Model;
 
 /// The present inode of each object that has a row, so that neither a change nor a read of the present walks a journal.
 ///
-/// An inode takes some 700 bytes. The most objects that can have a row are 15,360, each with at least one block of 512
-/// bytes in the table: so at worst this takes a small multiple of the memory of the table's blocks.
+/// An inode takes 672 bytes, with the gaps of the tree up to 1,450. At most 15,300 objects can have a row, each with at least
+/// one block of 512 bytes in the table: so at worst this takes three times the memory of the table's blocks.
 #[derive(Drop)]
 pub(super) struct Presents {
     inodes: BTreeMap<u64, Inode>,

@@ -7,7 +7,8 @@ ghost use Rattle.object_map.specs.Rows.{row_of, with_row, fresh_row};
 ghost use Rattle.inode_changes.specs.Contents.{contents_of};
 ghost use Rattle.object_store.specs.Store.{fields_of, IsStore};
 ghost use Rattle.object_store.specs.Versions.{version_in, version_taken};
-ghost use Rattle.object_store.specs.Costs.{object_of, subject_row, subject_inode, blocks_taken, change_refusal};
+ghost use Rattle.object_store.specs.Costs.{subject_row, subject_inode, blocks_taken, change_refusal};
+ghost use Rattle.s4_model.specs.Effect.{object_of};
 ghost use Rattle.object_store.specs.Taking.{Takes, RowChanges, data_by, Appends};
 ghost use Rattle.object_store.specs.Turning.{CanTake, CanTurn, Turns, IsTaken, blocks_turned};
 
@@ -74,7 +75,7 @@ impl<B: Blocks> Store<B> {
         }
     }
 
-    /// Whether a change at a moment is refused.
+    /// ChainFull or NoSpace, where a change at a moment is refused.
     fn check(&self, change: &Change, present: &Inode, moment: Moment) -> Result<(), Refusal>
         requires store { IsStore (fields_of B.log self.now) }
         requires takes { Takes (fields_of B.log self.now) change.now }

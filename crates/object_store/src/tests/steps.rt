@@ -5,7 +5,8 @@ ghost use Rattle.s4_model.specs.Limits.{Fits};
 ghost use Rattle.object_store.specs.Store.{fields_of, IsStore};
 ghost use Rattle.object_store.specs.Versions.{inode_in};
 ghost use Rattle.object_store.specs.Taking.{IsThere, IsReady};
-ghost use Rattle.object_store.specs.Costs.{object_of, subject_inode};
+ghost use Rattle.object_store.specs.Costs.{subject_inode};
+ghost use Rattle.s4_model.specs.Effect.{object_of};
 
 use crate::Store;
 use crate::costs::object_of;

@@ -1,3 +1,4 @@
+//! Bytes, told as pairs of hex digits.
 use std::alloc::{AllocError, Global};
 
 /// The bytes that a text writes as pairs of hex digits, with spaces where they please. Only the tests rest on it.

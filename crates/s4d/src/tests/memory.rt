@@ -22,7 +22,7 @@ static STARTS: [usize; 4] = [0, 21, 34, 42];
 static NO_MEMORY: [u8; 6] = [0, 0, 0, 2, 0, 10];
 
 /// Where the first reply stands that isn't as expected.
-fn first_other(output: &[u8; 47]) -> Option<usize> {
+fn first_other(output: &[u8; 48]) -> Option<usize> {
     let differs = output.iter().zip(OUTPUT.iter()).position(|(a, b)| a != b)?;
     STARTS
         .iter()
@@ -32,7 +32,7 @@ fn first_other(output: &[u8; 47]) -> Option<usize> {
 }
 
 /// Whether the reply there tells want of memory.
-fn tells_want(output: &[u8; 47], start: usize) -> bool {
+fn tells_want(output: &[u8; 48], start: usize) -> bool {
     let mut reply = output.iter().skip(start);
     NO_MEMORY.iter().all(|byte| reply.next() == Some(byte))
 }
@@ -41,7 +41,8 @@ fn tells_want(output: &[u8; 47], start: usize) -> bool {
 /// of memory, or the program does and nothing was written behind whole replies.
 #[test]
 fn want_of_memory_is_told(rt: HostRuntime) {
-    let mut output = [0u8; 47];
+    // A byte more than the replies have: the last one is shorter than want of memory in its place.
+    let mut output = [0u8; 48];
     let mut errors = [0u8; 32];
     let status = run_over_slices(
         rt.alloc(),

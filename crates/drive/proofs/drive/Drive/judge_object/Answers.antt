@@ -10,12 +10,12 @@ use Rattle.admission.specs.Later.{later_refusal, HasSize, IsAllowed}
 use Rattle.segment_table.specs.Room.{log_of}
 use Rattle.object_store.specs.Store.{StoreFields, fields_of}
 use Rattle.object_store.specs.Versions.{inode_in}
-use Rattle.object_store.specs.Costs.{object_of as object_of_change}
+use Rattle.s4_model.specs.Effect.{object_of as object_of_change}
 use Rattle.object_store.specs.Costs.{subject_inode}
 use Rattle.object_store.specs.Taking.{Takes}
 use Rattle.drive.specs.Fields.{DriveFields, state_in, store_of}
 use Rattle.drive.specs.Answering.{size_by}
-use Rattle.drive.proofs.Judging.{size_asked, subject_is, same_object, can_take, admin_is_later}
+use Rattle.drive.proofs.Judging.{size_asked, subject_is, can_take, admin_is_later}
 use Rattle.drive.proofs.Unversioned.{sound_took}
 use Rattle.drive.proofs.drive.Drive.judge_object.Goals as goal
 
@@ -55,7 +55,7 @@ returns-clause-takes g c =
     let allowed : IsAllowed c.self.inside.next (size_by c.present-found.result) c.in_ok-change.change = subst (λ size. IsAllowed c.self.inside.next size c.in_ok-change.change) c.size_of.ensures c.in_ok-change.ensures.allowed in
     subst (λ (d : DriveFields). Takes (store_of d) c.in_ok-change.change) c.self.view_is
     (can_take s store c.self.inside.window c.self.inside.next c.object_of-object.result c.present-found.result c.in_ok-change.change c.self.invariant.1 found
-    (same_object c.in_ok-change.change ∙ c.in_ok-change.ensures.object ∙ sym c.object_of-object.ensures) c.in_ok-change.ensures.fits allowed)
+    (c.in_ok-change.ensures.object ∙ sym c.object_of-object.ensures) c.in_ok-change.ensures.fits allowed)
 
 pub returns-clause-present : goal.returns-clause-present
 returns-clause-present g c =
@@ -63,11 +63,11 @@ returns-clause-present g c =
     let store : StoreFields = fields_of log_of c.self.inside.store in
     let found : c.present-found.result ≡ inode_in store c.object_of-object.result store.latest = c.present-found.ensures in
     let at : c.moment_after.result ≡ stamp s c.args.now = c.moment_after.ensures ∙ ap (λ (t : ℕ). max c.args.now (t + 1)) (c.clock-clock.ensures ∙ c.self.invariant.1.window.clock) in
-    subst (λ (d : DriveFields). c.unwrap_or-present.result ≡ subject_inode (store_of d) (object_of_change c.in_ok-change.change) (stamp (state_in d) c.args.now)) c.self.view_is
-    (c.unwrap_or-present.ensures
-    ∙ ap (λ (i : Inode). unwrap_or c.present-found.result i) (c.blank.ensures ∙ ap (λ (t : ℕ). blank t) at)
+    subst (λ (d : DriveFields). c.present_or_blank-present.result ≡ subject_inode (store_of d) (object_of_change c.in_ok-change.change) (stamp (state_in d) c.args.now)) c.self.view_is
+    (c.present_or_blank-present.ensures
+    ∙ ap (λ (t : ℕ). unwrap_or c.present-found.result (blank t)) at
     ∙ subject_is c.changes_begin_with_the_present.ensures store c.object_of-object.result (object_of_change c.in_ok-change.change) (stamp s c.args.now) c.present-found.result
-    (same_object c.in_ok-change.change ∙ c.in_ok-change.ensures.object ∙ sym c.object_of-object.ensures) found)
+    (c.in_ok-change.ensures.object ∙ sym c.object_of-object.ensures) found)
 
 pub returns-clause-sound : goal.returns-clause-sound
 returns-clause-sound g c =

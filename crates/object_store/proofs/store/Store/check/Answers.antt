@@ -1,5 +1,5 @@
 use Rattle.object_store.specs.Store.{fields_of}
-use Rattle.object_store.specs.Costs.{object_of}
+use Rattle.s4_model.specs.Effect.{object_of}
 use Rattle.object_store.proofs.Present.{begins_tidy}
 use Rattle.object_store.proofs.store.Store.check.Goals as goal
 
