@@ -1,6 +1,8 @@
 //! What a request's role and own numbers decide.
-ghost use Rattle.std.specs.Prelude.{◌≡◌, ◌↔◌, ◌⊎◌, ◌+◌, ◌<◌, ◌≤◌, true, false, Some, MatchResult, IfErr, OnOk, IsTrue, length};
+ghost use Rattle.std.specs.Prelude.{◌≡◌, ℕ, ◌↔◌, ◌⊎◌, ◌+◌, ◌<◌, ◌≤◌, true, false, Option, Some, MatchResult, IfErr, OnOk, IsTrue, length};
 ghost use Rattle.s4_types.specs.declared.limits.TheConstants.{OBJECT_BYTES, ATTRIBUTE_BYTES, READ_BYTES};
+ghost use Rattle.s4_types.specs.declared.requests.Role.{Role};
+ghost use Rattle.s4_types.specs.declared.requests.Request.TheVariants.{Read};
 ghost use Rattle.s4_types.specs.declared.refusals.Refusal.TheVariants.{NotAdmin, BadAttr, TooLarge};
 ghost use Rattle.s4_model.specs.State.{State};
 ghost use Rattle.s4_model.specs.Refusals.{first_refusal, is_client, last_number};
@@ -46,9 +48,11 @@ fn check_end(offset: u64, length: usize) -> Result<(), Refusal>
     Ok(())
 }
 
-/// TooLarge where a read is longer than a read may be, or ends above the greatest number.
-fn check_read(offset: u64, length: u32) -> Result<(), Refusal>
-    ensures { MatchResult result (λ _. (length ≤ READ_BYTES) × (offset + length ≤ last_number)) (λ e. (e ≡ TooLarge) × ((READ_BYTES < length) ⊎ (last_number < offset + length))) }
+/// The first refusal that a read's own numbers decide: TooLarge of more than 24,576 bytes, and of bytes that end above 2^64 - 1.
+pub fn check_read(offset: u64, length: u32) -> Result<(), Refusal>
+    ensures exact { MatchResult result (λ _. (length ≤ READ_BYTES) × (offset + length ≤ last_number)) (λ e. (e ≡ TooLarge) × ((READ_BYTES < length) ⊎ (last_number < offset + length))) }
+    ensures ok { OnOk result ((s : State) (role : Role) (object : ℕ) (at : Option ℕ) → first_refusal s role (Read object offset length at) ≡ later_refusal s (Read object offset length at)) }
+    ensures refused { IfErr result (λ e. (s : State) (role : Role) (object : ℕ) (at : Option ℕ) → first_refusal s role (Read object offset length at) ≡ Some e) }
 {
     if u64::from(length) > READ_BYTES || offset > u64::MAX - u64::from(length) {
         return Err(Refusal::TooLarge);

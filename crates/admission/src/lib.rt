@@ -11,5 +11,5 @@ mod judging;
 #[cfg(test)]
 mod tests;
 
-pub use checks::check;
+pub use checks::{check, check_read};
 pub use judging::{check_clock, judge, object_of};

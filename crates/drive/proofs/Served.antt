@@ -1,7 +1,7 @@
 -- What a request is answered and what it leaves, by what its parts came to.
 use Rattle.std.proofs.Common.{◌≡◌, ◌≢◌, ℕ, Bool, true, false, cond, inl, inr, Option, Some, None, List, [], ◌∷◌, ◌++◌, refl, sym, ap, subst, ◌∙◌, arith}
 use Rattle.std.proofs.lemmas.Option.{none-some, same_Some}
-use Rattle.std.specs.Prelude.{MatchBool, Result, Ok, Err, MatchResult, IfOk, IfErr}
+use Rattle.std.specs.Prelude.{MatchBool, Result, Ok, Err, MatchResult, IfOk, IfErr, OnOk}
 use Rattle.std.specs.List.{find, AllByRecursion}
 use Rattle.s4_types.specs.History.{History, Seen}
 use Rattle.s4_types.specs.RefusalNumber.{number_of}
@@ -20,14 +20,15 @@ use Rattle.s4_types.specs.declared.versions.Version.TheVariants.{Absent, Live}
 use Rattle.s4_model.specs.State.{State, state_of, grown}
 use Rattle.s4_model.specs.VersionAt.{version_of}
 use Rattle.s4_model.specs.Refusals.{first_refusal, applies, checks, asked}
-use Rattle.s4_model.specs.Step.{Step, MayRefuse, AsFirst, ForMemory, AsOpen, IsLeftOpen, judged, change_of, stamp, reply_at, reply_to_read, data_of, attributes_of}
+use Rattle.s4_model.specs.Step.{Step, Refuses, MayRefuse, AsFirst, ForMemory, AsOpen, IsLeftOpen, judged, change_of, stamp, reply_at, reply_to_read, data_of, attributes_of}
 use Rattle.s4_model.specs.Plain.{IsChange}
 use Rattle.segment_word.specs.AcceptViews.{Ledger, with_moment, credited, caught_up}
 use Rattle.segment_word.specs.AcceptRule.{Fits}
 use Rattle.object_store.specs.Store.{StoreFields}
 use Rattle.drive.specs.Fields.{DriveFields, SessionFields, store_of, state_in, history_of}
-use Rattle.drive.specs.Refusing.{or_then, want_of, refusal_of, RefusesBy, IsRefusal, IsJudgedOut}
-use Rattle.drive.specs.Answering.{is_acceptance, told_after, owners_after, Stores, Leaves, TakesChange, RefusesChange, IsRead}
+use Rattle.drive.specs.Refusing.{or_then, want_of, refusal_of, WantsPin, RefusesBy, IsRefusal, IsJudgedOut, IsUnplanned}
+use Rattle.time_read.specs.Plans.{PlanFields, bytes_planned}
+use Rattle.drive.specs.Answering.{is_acceptance, told_after, owners_after, Stores, Leaves, TakesChange, RefusesChange, IsRead, reply_planned}
 use Rattle.drive.proofs.Stepping.{may_refuse, step_accepts, step_refuses, step_tells, judged_as_it_was}
 use Rattle.drive.proofs.Storing.{refuses_judged}
 
@@ -44,15 +45,15 @@ accepts_change (change.Flush first last) m = refl
 accepts_change (change.FlushO object first last) m = refl
 
 -- nothing that is accepted is refused
-accepted_unrefused : (why : Option Refusal) (request : Request) (c : Change) (m : ℕ) → why ≡ None → RefusesBy why request (reply_at c m)
-accepted_unrefused why request (change.Create object attribute) m is = is
-accepted_unrefused why request (change.Delete object) m is = is
-accepted_unrefused why request (change.Write object offset bytes) m is = is
-accepted_unrefused why request (change.Truncate object n) m is = is
-accepted_unrefused why request (change.SetAttr object attribute) m is = is
-accepted_unrefused why request (change.SetWindow window) m is = is
-accepted_unrefused why request (change.Flush first last) m is = is
-accepted_unrefused why request (change.FlushO object first last) m is = is
+accepted_unrefused : (why : Option Refusal) (d : DriveFields) (request : Request) (c : Change) (m : ℕ) → why ≡ None → RefusesBy why d request (reply_at c m)
+accepted_unrefused why d request (change.Create object attribute) m is = is
+accepted_unrefused why d request (change.Delete object) m is = is
+accepted_unrefused why d request (change.Write object offset bytes) m is = is
+accepted_unrefused why d request (change.Truncate object n) m is = is
+accepted_unrefused why d request (change.SetAttr object attribute) m is = is
+accepted_unrefused why d request (change.SetWindow window) m is = is
+accepted_unrefused why d request (change.Flush first last) m is = is
+accepted_unrefused why d request (change.FlushO object first last) m is = is
 
 accepted_fits : (c : Change) (m : ℕ) → ReplyFits (reply_at c m)
 accepted_fits (change.Create object attribute) m = tt
@@ -98,12 +99,12 @@ told_accepts_nothing (Refused r) told = absurd told
 told_accepts_nothing (Changed m) told = absurd told
 told_accepts_nothing (Created o m) told = absurd told
 
-told_unrefused : (why : Option Refusal) (request : Request) (reply : Reply) → IsTold reply → why ≡ None → RefusesBy why request reply
-told_unrefused why request (Data bytes) told is = is
-told_unrefused why request (Attr size created changed attribute) told is = is
-told_unrefused why request (Refused r) told is = absurd told
-told_unrefused why request (Changed m) told is = absurd told
-told_unrefused why request (Created o m) told is = absurd told
+told_unrefused : (why : Option Refusal) (d : DriveFields) (request : Request) (reply : Reply) → IsTold reply → why ≡ None → RefusesBy why d request reply
+told_unrefused why d request (Data bytes) told is = is
+told_unrefused why d request (Attr size created changed attribute) told is = is
+told_unrefused why d request (Refused r) told is = absurd told
+told_unrefused why d request (Changed m) told is = absurd told
+told_unrefused why d request (Created o m) told is = absurd told
 
 -- ---- refusals
 
@@ -164,16 +165,16 @@ refusal_fits : (s : State) (role : Role) (store : StoreFields) (request : Reques
 unfolding IsWhole
 refusal_fits s role store request now e is = may_is_whole s role request e (may_refuse (first_refusal s role request) store s request now e is)
 
-refused_by : (first : Option Refusal) (store : StoreFields) (s : State) (request : Request) (now : ℕ) (e : Refusal) → IsRefusal first store s request now e → RefusesBy (or_then first (want_of store s request now)) request (Refused e)
-refused_by first store s request now e (inl h) = inl (h.0, h.2)
-refused_by first store s request now e (inr is) = inr is
+refused_by : (first : Option Refusal) (store : StoreFields) (d : DriveFields) (s : State) (request : Request) (now : ℕ) (e : Refusal) → IsRefusal first store s request now e → RefusesBy (or_then first (want_of store s request now)) d request (Refused e)
+refused_by first store d s request now e (inl h) = inl (h.0, h.2)
+refused_by first store d s request now e (inr is) = inr (inl is)
 
 -- ---- the whole
 
 -- All that a request came to.
 pub record IsServed (d later : DriveFields) (before after : SessionFields) (request : Request) (now : ℕ) (given : Reply) : Type 0 where
   pub step : Step (history_of d) before.role request now given (history_of later)
-  pub refused : RefusesBy (refusal_of (store_of d) (judged (history_of d) request now) before.role request now) request given
+  pub refused : RefusesBy (refusal_of (store_of d) (judged (history_of d) request now) before.role request now) later request given
   pub stored : Leaves (store_of d) (state_in d) request now given (store_of later)
   pub fits : ReplyFits given
   pub session : after ≡ record before { told = told_after given later.ledger before.told }
@@ -196,8 +197,8 @@ served_change d later before after request now given is =
     let as_it_was : judged (history_of d) request now ≡ state_in d = judged_as_it_was (history_of d) request now is.change is.asked in
     record {
       step = step_accepts d later before after before.role request now given is;
-      refused = subst (λ (r : Reply). RefusesBy (refusal_of (store_of d) (judged (history_of d) request now) before.role request now) request r) (sym is.reply)
-          (accepted_unrefused _ request is.change (stamp (state_in d) now) (ap (λ (s : State). refusal_of (store_of d) s before.role request now) as_it_was ∙ is.free));
+      refused = subst (λ (r : Reply). RefusesBy (refusal_of (store_of d) (judged (history_of d) request now) before.role request now) later request r) (sym is.reply)
+          (accepted_unrefused _ later request is.change (stamp (state_in d) now) (ap (λ (s : State). refusal_of (store_of d) s before.role request now) as_it_was ∙ is.free));
       stored = leaves_change (is_acceptance given) ((c : Change) → change_of (state_in d) request ≡ Some c → Stores (store_of d) c (stamp (state_in d) now) (store_of later)) (store_of later ≡ store_of d) accepts
           (λ c asked. subst (λ (x : Change). Stores (store_of d) x (stamp (state_in d) now) (store_of later)) (same_change (change_of (state_in d) request) is.change c is.asked asked) is.stored);
       fits = subst ReplyFits (sym is.reply) (accepted_fits is.change (stamp (state_in d) now));
@@ -231,7 +232,7 @@ served_refused : (d later : DriveFields) (before after : SessionFields) (request
     → Sees d later before after now → IsServed d later before after request now (Refused e)
 served_refused d later before after request now e why sees = record {
   step = subst (λ (l : Ledger). Step (history_of d) before.role request now (Refused e) l.history) (sym sees.0) (step_refuses (history_of d) (store_of d) before.role request now e why);
-  refused = refused_by (first_refusal (judged (history_of d) request now) before.role request) (store_of d) (judged (history_of d) request now) request now e why;
+  refused = refused_by (first_refusal (judged (history_of d) request now) before.role request) (store_of d) later (judged (history_of d) request now) request now e why;
   stored = sees.1;
   fits = refusal_fits (judged (history_of d) request now) before.role (store_of d) request now e why;
   session = sees.2;
@@ -280,21 +281,46 @@ read_wants_nothing store s (SetWindow window) now is = absurd is
 read_wants_nothing store s (Flush first last) now is = absurd is
 read_wants_nothing store s (FlushO object first last) now is = absurd is
 
--- a read that was refused, once its moment was seen
-pub served_untold : (d seen_at later : DriveFields) (before after : SessionFields) (request : Request) (now : ℕ) (e : Refusal) → IsRead request
-    → Sees d seen_at before after now → later.ledger ≡ seen_at.ledger → store_of later ≡ store_of seen_at
-    → IsJudgedOut (first_refusal (state_in seen_at) before.role request) request e → IsServed d later before after request now (Refused e)
-served_untold d seen_at later before after request now e read sees ledger store out =
-    let judging : state_in seen_at ≡ judged (history_of d) request now = ap (λ (l : Ledger). state_of l.history) sees.0 ∙ read_is_judged (history_of d) request now read in
-    served_refused d later before after request now e
-    (refuses_judged (first_refusal (judged (history_of d) request now) before.role request) (store_of d) (judged (history_of d) request now) request now e
-    (subst (λ (s : State). IsJudgedOut (first_refusal s before.role request) request e) judging out)) (
+-- a read that had no pin, from the drive and the session that it leaves
+served_busy : (d later : DriveFields) (before after : SessionFields) (request : Request) (now : ℕ) (e : Refusal) → IsRead request → e ≡ refusal.Busy
+    → first_refusal (judged (history_of d) request now) before.role request ≡ None → WantsPin later request → Sees d later before after now → IsServed d later before after request now (Refused e)
+unfolding IsWhole
+served_busy d later before after request now e read is free wants sees =
+    let left : IsLeftOpen e = subst IsLeftOpen (sym is) tt in
+    record {
+      step = subst (λ (l : Ledger). Step (history_of d) before.role request now (Refused e) l.history) (sym sees.0) (Refuses e refl (AsOpen free left) refl);
+      refused = inr (inr (is, ap (λ (r : Option Refusal). or_then r (want_of (store_of d) (judged (history_of d) request now) request now)) free ∙ read_wants_nothing (store_of d) (judged (history_of d) request now) request now read, wants));
+      stored = sees.1;
+      fits = open_is_whole e left;
+      session = sees.2;
+      owners = ap (λ (l : Ledger). l.owners) sees.0;
+      true_before = sees.3;
+      true_after = sees.4;
+    }
+
+-- a moment that was seen, and a drive and a ledger that stay then
+seen_still : (d seen_at later : DriveFields) (before after : SessionFields) (now : ℕ) → Sees d seen_at before after now → later.ledger ≡ seen_at.ledger → store_of later ≡ store_of seen_at → Sees d later before after now
+seen_still d seen_at later before after now sees ledger store =
+    (
       ledger ∙ sees.0,
       store ∙ sees.1,
       sees.2 ∙ ap (λ (l : Ledger). record before { told = caught_up l before.told }) (sym ledger),
       sees.3,
       subst (λ (l : Ledger). Fits l after.told) (sym ledger) sees.4,
     )
+
+-- a read that was refused, once its moment was seen
+served_untold : (d seen_at later : DriveFields) (before after : SessionFields) (request : Request) (now : ℕ) (e : Refusal) → IsRead request
+    → Sees d seen_at before after now → later.ledger ≡ seen_at.ledger → store_of later ≡ store_of seen_at
+    → IsUnplanned (first_refusal (state_in seen_at) before.role request) later request e → IsServed d later before after request now (Refused e)
+served_untold d seen_at later before after request now e read sees ledger store (inl out) =
+    let judging : state_in seen_at ≡ judged (history_of d) request now = ap (λ (l : Ledger). state_of l.history) sees.0 ∙ read_is_judged (history_of d) request now read in
+    served_refused d later before after request now e
+    (refuses_judged (first_refusal (judged (history_of d) request now) before.role request) (store_of d) (judged (history_of d) request now) request now e
+    (subst (λ (s : State). IsJudgedOut (first_refusal s before.role request) request e) judging out)) (seen_still d seen_at later before after now sees ledger store)
+served_untold d seen_at later before after request now e read sees ledger store (inr busy) =
+    let judging : state_in seen_at ≡ judged (history_of d) request now = ap (λ (l : Ledger). state_of l.history) sees.0 ∙ read_is_judged (history_of d) request now read in
+    served_busy d later before after request now e read busy.0 (subst (λ (s : State). first_refusal s before.role request ≡ None) judging busy.1) busy.2 (seen_still d seen_at later before after now sees ledger store)
 
 -- and one that was answered
 pub served_told : (d seen_at later : DriveFields) (before after : SessionFields) (request : Request) (now : ℕ) (given : Reply) → IsRead request
@@ -308,7 +334,7 @@ served_told d seen_at later before after request now given read sees ledger stor
     record {
       step = subst (λ (l : Ledger). Step (history_of d) before.role request now given l.history) (sym (ledger ∙ sees.0))
           (step_tells (history_of d) before.role request now given unrefused (subst (λ (s : State). reply_to_read s request ≡ Some given) judging tells));
-      refused = told_unrefused _ request given told
+      refused = told_unrefused _ later request given told
           (ap (λ (r : Option Refusal). or_then r (want_of (store_of d) (judged (history_of d) request now) request now)) unrefused ∙ read_wants_nothing (store_of d) (judged (history_of d) request now) request now read);
       stored = leaves_all (is_acceptance given) ((c : Change) → change_of (state_in d) request ≡ Some c → Stores (store_of d) c (stamp (state_in d) now) (store_of later)) (store_of later ≡ store_of d) nothing (store ∙ sees.1);
       fits = fits;
@@ -323,11 +349,21 @@ served_told d seen_at later before after request now given read sees ledger stor
 pub served_read : (d seen_at later : DriveFields) (before after : SessionFields) (role : Role) (request : Request) (now : ℕ) (told : Result Reply Refusal) (given : Reply) → IsRead request
     → Sees d seen_at before after now → later.ledger ≡ seen_at.ledger → store_of later ≡ store_of seen_at → role ≡ before.role
     → IfOk told (λ reply. (first_refusal (state_in seen_at) role request ≡ None) × (reply_to_read (state_in seen_at) request ≡ Some reply)) → IfOk told ReplyFits
-    → IfErr told (IsJudgedOut (first_refusal (state_in seen_at) role request) request)
+    → IfErr told (IsUnplanned (first_refusal (state_in seen_at) role request) later request)
     → MatchResult told (λ reply. given ≡ reply) (λ e. given ≡ Refused e) → IsServed d later before after request now given
 served_read d seen_at later before after role request now (Ok reply) given read sees ledger store same ok fits out is =
     subst (λ (r : Reply). IsServed d later before after request now r) (sym is)
     (served_told d seen_at later before after request now reply read sees ledger store (subst (λ (r : Role). first_refusal (state_in seen_at) r request ≡ None) same ok.0) ok.1 fits)
 served_read d seen_at later before after role request now (Err e) given read sees ledger store same ok fits out is =
     subst (λ (r : Reply). IsServed d later before after request now r) (sym is)
-    (served_untold d seen_at later before after request now e read sees ledger store (subst (λ (r : Role). IsJudgedOut (first_refusal (state_in seen_at) r request) request e) same out))
+    (served_untold d seen_at later before after request now e read sees ledger store (subst (λ (r : Role). IsUnplanned (first_refusal (state_in seen_at) r request) later request e) same out))
+
+-- so of a read that was planned, or wasn't
+pub served_planned : (d seen_at later : DriveFields) (before after : SessionFields) (request : Request) (now : ℕ) (planned : Result PlanFields Refusal) → IsRead request
+    → Sees d seen_at before after now → later.ledger ≡ seen_at.ledger → store_of later ≡ store_of seen_at
+    → OnOk planned ((role : Role) → first_refusal (state_in seen_at) role request ≡ None) → IfOk planned (λ plan. reply_to_read (state_in seen_at) request ≡ Some (Data (bytes_planned plan))) → IfOk planned (λ plan. ReplyFits (Data (bytes_planned plan)))
+    → IfErr planned (λ e. (role : Role) → IsUnplanned (first_refusal (state_in seen_at) role request) later request e) → IsServed d later before after request now (reply_planned planned)
+served_planned d seen_at later before after request now (Ok plan) read sees ledger store free tells fits out =
+    served_told d seen_at later before after request now (Data (bytes_planned plan)) read sees ledger store (free before.role) tells fits
+served_planned d seen_at later before after request now (Err e) read sees ledger store free tells fits out =
+    served_untold d seen_at later before after request now e read sees ledger store (out before.role)

@@ -1,15 +1,16 @@
 -- What an accepted request is answered, and what a request leaves.
-use Rattle.std.specs.Prelude.{◌≡◌, ◌⊎◌, ℕ, Bool, true, false, if◌then◌else◌, List, [], ◌∷◌, ◌++◌, Option, None, Some, Result, MatchResult, MatchBool}
+use Rattle.std.specs.Prelude.{◌≡◌, ◌⊎◌, ◌↔◌, ◌<◌, ◌-◌, ℕ, min, Bool, true, false, if◌then◌else◌, List, [], ◌∷◌, ◌++◌, Option, None, Some, Result, Ok, Err, MatchResult, MatchBool}
+use Rattle.std.specs.List.{list_any}
 use Rattle.s4_types.specs.declared.changes.Change.{Change}
 use Rattle.s4_types.specs.declared.refusals.Refusal.{Refusal}
 use Rattle.s4_types.specs.declared.requests.Request.{Request}
 use Rattle.s4_types.specs.declared.requests.Request.TheVariants.{Read, GetAttr}
 use Rattle.s4_types.specs.declared.replies.Reply.{Reply}
-use Rattle.s4_types.specs.declared.replies.Reply.TheVariants.{Changed, Created}
+use Rattle.s4_types.specs.declared.replies.Reply.TheVariants.{Changed, Created, Data, Refused}
 use Rattle.s4_types.specs.declared.refusals.Refusal.TheVariants.{NoObject, NoMemory}
 use Rattle.s4_model.specs.State.{State}
 use Rattle.s4_model.specs.VersionAt.{version_of}
-use Rattle.s4_model.specs.Refusals.{moment_refusal, is_absent}
+use Rattle.s4_model.specs.Refusals.{moment_refusal, is_absent, asked}
 use Rattle.s4_model.specs.Step.{change_of, stamp, reply_to_change}
 use Rattle.segment_word.specs.AcceptViews.{Ledger, Told, with_change, caught_up, credited}
 use Rattle.codec.specs.declared.inodes.Inode.{Inode}
@@ -19,6 +20,9 @@ use Rattle.object_store.specs.Costs.{subject_inode, blocks_taken}
 use Rattle.s4_model.specs.Effect.{is_of_versions, object_of}
 use Rattle.object_store.specs.Taking.{data_by, Appends}
 use Rattle.segment_word.specs.AcceptRule.{Fits}
+use Rattle.segment_word.specs.Counting.{pins_in}
+use Rattle.time_read.specs.Plans.{PlanFields, bytes_planned, pieces_of, pins_of, is_pinned, is_pinned_in}
+use Rattle.object_store.specs.Versions.{inode_in}
 use Rattle.drive.specs.Fields.{DriveFields, SessionFields, store_of, state_in}
 use Rattle.drive.specs.Refusing.{or_then, want_of, IsRefusal}
 
@@ -70,8 +74,8 @@ pub record RefusesChange (first : Option Refusal) (d later : DriveFields) (befor
   pub session : after ≡ before
 
 -- what a request for a change came to
-abbrev pub Settles : Option Refusal → DriveFields → DriveFields → SessionFields → SessionFields → Request → ℕ → Result Reply Refusal → Type 0
-Settles first d later before after request now result =
+abbrev pub ComesTo : Option Refusal → DriveFields → DriveFields → SessionFields → SessionFields → Request → ℕ → Result Reply Refusal → Type 0
+ComesTo first d later before after request now result =
     MatchResult result (TakesChange first d later before after request now) (RefusesChange first d later before after request now)
 
 -- a request that asks for no change
@@ -92,3 +96,17 @@ telling_refusal s o t = or_then (moment_refusal s o t) (if is_absent (version_of
 -- a moment of an object isn't read: for want of memory where it could be, or for what refuses it
 abbrev pub IsUntold : State → ℕ → ℕ → Refusal → Type 0
 IsUntold s o t refusal = ((refusal ≡ NoMemory) × (moment_refusal s o t ≡ None)) ⊎ (telling_refusal s o t ≡ Some refusal)
+
+-- the reply that a plan of a read stands for: the bytes that it names, or its refusal
+abbrev pub reply_planned : Result PlanFields Refusal → Reply
+reply_planned (Ok plan) = Data (bytes_planned plan)
+reply_planned (Err refusal) = Refused refusal
+
+-- A plan has a piece for each block that a read asks for, of the inode that its object has at the moment asked for: sealed
+-- blocks are pinned, and no other frame is. One without pinned pieces has no seat.
+pub record IsPlanOf (d : DriveFields) (object offset len : ℕ) (at : Option ℕ) (plan : PlanFields) : Type 0 where
+  pub inode : Inode
+  pub there : inode_in (store_of d) object (asked (state_in d) at) ≡ Some inode
+  pub pieces : plan.pieces ≡ pieces_of d.store.table inode offset (min len (inode.size - offset))
+  pub pins : (f : ℕ) → (0 < pins_in f (pins_of plan.pin)) ↔ (list_any (is_pinned_in f) plan.pieces ≡ true)
+  pub seat : list_any is_pinned plan.pieces ≡ false → plan.pin ≡ None

@@ -1,20 +1,25 @@
 -- Why a request is refused, if it is.
-use Rattle.std.specs.Prelude.{◌≡◌, ◌⊎◌, ◌==◌, ℕ, if◌then◌else◌, Option, None, Some, option_and_then}
+use Rattle.std.specs.Prelude.{◌≡◌, ◌⊎◌, ◌==◌, ◌-◌, ℕ, min, true, if◌then◌else◌, Option, None, Some, option_and_then}
+use Rattle.std.specs.List.{list_any}
+use Rattle.codec.specs.declared.inodes.Inode.{Inode}
 use Rattle.s4_types.specs.declared.changes.Change.{Change}
 use Rattle.s4_types.specs.declared.spans.Span.{Span}
 use Rattle.s4_types.specs.declared.requests.Role.{Role}
 use Rattle.s4_types.specs.declared.requests.Request.{Request}
 use Rattle.s4_types.specs.declared.requests.Request.TheVariants.{Create, Read, GetAttr, Flush, FlushO}
 use Rattle.s4_types.specs.declared.refusals.Refusal.{Refusal}
-use Rattle.s4_types.specs.declared.refusals.Refusal.TheVariants.{NoMemory, TooManySpans, ClockEnd}
+use Rattle.s4_types.specs.declared.refusals.Refusal.TheVariants.{NoMemory, Busy, TooManySpans, ClockEnd}
 use Rattle.s4_types.specs.declared.replies.Reply.{Reply}
 use Rattle.s4_types.specs.declared.replies.Reply.TheVariants.{Refused}
 use Rattle.s4_model.specs.State.{State}
-use Rattle.s4_model.specs.Refusals.{first_refusal, is_one_span_too_many, last_number}
+use Rattle.s4_model.specs.Refusals.{first_refusal, asked, is_one_span_too_many, last_number}
 use Rattle.s4_model.specs.Step.{change_of, stamp, MayWantMemory}
 use Rattle.s4_model.specs.Effect.{is_of_versions}
 use Rattle.object_store.specs.Store.{StoreFields}
 use Rattle.object_store.specs.Costs.{change_refusal}
+use Rattle.object_store.specs.Versions.{inode_in}
+use Rattle.time_read.specs.Plans.{pieces_of, is_pinned}
+use Rattle.drive.specs.Fields.{DriveFields, store_of, state_in}
 
 -- the first of two refusals
 abbrev pub or_then : Option Refusal → Option Refusal → Option Refusal
@@ -44,14 +49,30 @@ TakesMemory (Flush first last) = Unit {0}
 TakesMemory (FlushO object first last) = Unit {0}
 TakesMemory _ = ⊥
 
--- The reply is a refusal where there is one, and that one; or want of memory, of a request that may take some.
-abbrev pub RefusesBy : Option Refusal → Request → Reply → Type 0
-RefusesBy why request (Refused refusal) = ((refusal ≡ NoMemory) × TakesMemory request) ⊎ (why ≡ Some refusal)
-RefusesBy why request _ = why ≡ None
+-- The bytes that a read asks for, of an object that is there at the moment asked for, need a block of a sealed frame.
+pub record NeedsPin (d : DriveFields) (object offset len : ℕ) (at : Option ℕ) : Type 0 where
+  pub inode : Inode
+  pub there : inode_in (store_of d) object (asked (state_in d) at) ≡ Some inode
+  pub sealed : list_any is_pinned (pieces_of d.store.table inode offset (min len (inode.size - offset))) ≡ true
+
+-- a request that needs a pin: such a read
+abbrev pub WantsPin : DriveFields → Request → Type 0
+WantsPin d (Read object offset len at) = NeedsPin d object offset len at
+WantsPin d _ = ⊥
+
+-- The reply is a refusal where there is one, and that one; or want of memory, of a request that may take some; or want of a pin
+-- where nothing else refuses, of a request that needs one over the drive as it is then.
+abbrev pub RefusesBy : Option Refusal → DriveFields → Request → Reply → Type 0
+RefusesBy why d request (Refused refusal) = ((refusal ≡ NoMemory) × TakesMemory request) ⊎ ((why ≡ Some refusal) ⊎ ((refusal ≡ Busy) × (why ≡ None) × WantsPin d request))
+RefusesBy why d request _ = why ≡ None
 
 -- a refusal by the checks: want of memory where that may stand in place of what refuses first, or that
 abbrev pub IsJudgedOut : Option Refusal → Request → Refusal → Type 0
 IsJudgedOut first request refusal = ((refusal ≡ NoMemory) × MayWantMemory first request × TakesMemory request) ⊎ (first ≡ Some refusal)
+
+-- a read wasn't planned: by the checks, for want of memory, or for want of a pin where they let it pass
+abbrev pub IsUnplanned : Option Refusal → DriveFields → Request → Refusal → Type 0
+IsUnplanned first d request refusal = IsJudgedOut first request refusal ⊎ ((refusal ≡ Busy) × (first ≡ None) × WantsPin d request)
 
 -- a refusal by the checks, where they refuse so, or by what the change that is asked for lacks
 abbrev pub IsRefusal : Option Refusal → StoreFields → State → Request → ℕ → Refusal → Type 0

@@ -12,7 +12,7 @@ ghost use Rattle.object_store.specs.Costs.{subject_inode};
 ghost use Rattle.s4_model.specs.Effect.{object_of as object_of_change};
 ghost use Rattle.object_store.specs.Taking.{Takes};
 ghost use Rattle.drive.specs.Fields.{state_in, store_of};
-ghost use Rattle.drive.specs.Answering.{Settles, size_by};
+ghost use Rattle.drive.specs.Answering.{ComesTo, size_by};
 
 use crate::accepting::accept;
 use crate::drive::Drive;
@@ -119,7 +119,7 @@ impl<J: Naming> Drive<J> {
     ) -> Result<Reply, Refusal>
         requires versions { IsOfVersions request }
         requires within { IsWithin request }
-        ensures { Settles (later_refusal (state_in self.old) request) self.old self.new session.old session.new request now result }
+        ensures { ComesTo (later_refusal (state_in self.old) request) self.old self.new session.old session.new request now result }
     {
         the_present_stays();
         the_state_goes_on_record_by_record();

@@ -8,7 +8,7 @@ ghost use Rattle.window.specs.Timeline.{StandsFor, IsPlanned};
 ghost use Rattle.admission.specs.Later.{later_refusal};
 ghost use Rattle.drive.specs.Fields.{state_in};
 ghost use Rattle.drive.specs.Refusing.{span_refusal};
-ghost use Rattle.drive.specs.Answering.{Settles};
+ghost use Rattle.drive.specs.Answering.{ComesTo};
 
 use crate::accepting::accept;
 use crate::drive::Drive;
@@ -54,7 +54,7 @@ impl<J: Naming> Drive<J> {
         window: u64,
         now: Moment,
     ) -> Result<Reply, Refusal>
-        ensures { Settles (later_refusal (state_in self.old) (SetWindow window)) self.old self.new session.old session.new (SetWindow window) now result }
+        ensures { ComesTo (later_refusal (state_in self.old) (SetWindow window)) self.old self.new session.old session.new (SetWindow window) now result }
     {
         every_history_is_sound();
         the_state_goes_on_record_by_record();
@@ -77,7 +77,7 @@ impl<J: Naming> Drive<J> {
         last: Moment,
         now: Moment,
     ) -> Result<Reply, Refusal>
-        ensures { Settles (later_refusal (state_in self.old) (Flush first last)) self.old self.new session.old session.new (Flush first last) now result }
+        ensures { ComesTo (later_refusal (state_in self.old) (Flush first last)) self.old self.new session.old session.new (Flush first last) now result }
     {
         every_history_is_sound();
         the_state_goes_on_record_by_record();
@@ -107,7 +107,7 @@ impl<J: Naming> Drive<J> {
         last: Moment,
         now: Moment,
     ) -> Result<Reply, Refusal>
-        ensures { Settles (later_refusal (state_in self.old) (FlushO object first last)) self.old self.new session.old session.new (FlushO object first last) now result }
+        ensures { ComesTo (later_refusal (state_in self.old) (FlushO object first last)) self.old self.new session.old session.new (FlushO object first last) now result }
     {
         every_history_is_sound();
         the_state_goes_on_record_by_record();

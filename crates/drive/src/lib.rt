@@ -6,6 +6,8 @@
 //! so, and what is refused leaves objects, window and spans. After each call a session has seen all accepted changes, and only
 //! an accepted one of its own adds to its numbers.
 //!
+//! A Read can be had as a plan, which is fetched without the drive; one that is asked as a request is planned and fetched at once.
+//!
 //! A read of the present costs the blocks of its own bytes, and a change those, its journal's and the sealing of the frames
 //! that it fills, whatever else the drive has; a read of a moment before the drive's last change, of whatever object,
 //! costs one walk of its own object's journal besides.
@@ -19,6 +21,7 @@ mod hiding;
 mod looking;
 mod making;
 mod requests;
+mod resolving;
 mod session;
 mod telling;
 mod upkeep;

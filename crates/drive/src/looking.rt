@@ -3,7 +3,8 @@ ghost use Rattle.std.specs.Prelude.{◌≡◌, ℕ, ◌<◌, None, MatchBool, If
 ghost use Rattle.s4_types.specs.declared.refusals.Refusal.TheVariants.{NoMemory};
 ghost use Rattle.s4_model.specs.Visible.{IsSeenBetween};
 ghost use Rattle.s4_model.specs.Sound.{IsSound};
-ghost use Rattle.object_map.specs.Rows.{row_of, IsNextAbove};
+ghost use Rattle.object_map.specs.Objects.{IsNextAbove};
+ghost use Rattle.object_map.specs.Rows.{row_of};
 ghost use Rattle.segment_table.specs.Room.{pointers_in};
 ghost use Rattle.object_store.specs.Store.{IsStore};
 ghost use Rattle.object_store.specs.Costs.{room};

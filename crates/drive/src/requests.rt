@@ -8,7 +8,7 @@ ghost use Rattle.segment_word.specs.AcceptViews.{with_moment, caught_up};
 ghost use Rattle.segment_word.specs.AcceptRule.{Fits};
 ghost use Rattle.drive.specs.Fields.{history_of, state_in, store_of};
 ghost use Rattle.drive.specs.Refusing.{refusal_of, RefusesBy};
-ghost use Rattle.drive.specs.Answering.{IsRead, Leaves, Settles, told_after, owners_after};
+ghost use Rattle.drive.specs.Answering.{IsRead, Leaves, ComesTo, told_after, owners_after};
 
 use crate::drive::Drive;
 use crate::session::Session;
@@ -44,12 +44,13 @@ impl<J: Naming> Drive<J> {
     /// A refusal is the first of the model's checks that applies. Where none does, a change of an object is refused with
     /// ChainFull where the entries of the object's chain would have more than 11,712 bytes, else with NoSpace where there is
     /// less room than blocks are appended. NoMemory comes only where a growth was refused, and of no change of the window or of
-    /// an object that is there; it stands in place of no check but NoObject, TooManySpans and ClockEnd.
+    /// an object that is there; it stands in place of no check but NoObject, TooManySpans and ClockEnd. Busy comes of a Read
+    /// alone, where no check applies: it needs a block of a sealed frame, and no pin is to be had.
     pub fn request(&mut self, session: &mut Session<J>, request: Request, now: Moment) -> Reply
         // The history goes on by a step of the model.
         ensures step { Step (history_of self.old) session.old.role request now result (history_of self.new) }
         // The reply is a refusal exactly where there is one, but for want of memory.
-        ensures refused { RefusesBy (refusal_of (store_of self.old) (judged (history_of self.old) request now) session.old.role request now) request result }
+        ensures refused { RefusesBy (refusal_of (store_of self.old) (judged (history_of self.old) request now) session.old.role request now) self.new request result }
         // An accepted change appends exactly its blocks; nothing else does.
         ensures stored { Leaves (store_of self.old) (state_in self.old) request now result (store_of self.new) }
         ensures fits { ReplyFits result }
@@ -75,7 +76,7 @@ impl<J: Naming> Drive<J> {
     }
 
     /// A moment is seen, and the session has seen all accepted changes.
-    fn see(&mut self, session: &mut Session<J>, now: Moment)
+    pub(crate) fn see(&mut self, session: &mut Session<J>, now: Moment)
         ensures ledger { self.new.ledger ≡ with_moment self.old.ledger now }
         ensures store { self.new.store ≡ self.old.store }
         ensures session { session.new ≡ record session.old { told = caught_up self.new.ledger session.old.told } }
@@ -97,7 +98,7 @@ impl<J: Naming> Drive<J> {
         now: Moment,
     ) -> Result<Reply, Refusal>
         requires { IsChange request }
-        ensures { Settles (first_refusal (state_in self.old) session.old.role request) self.old self.new session.old session.new request now result }
+        ensures { ComesTo (first_refusal (state_in self.old) session.old.role request) self.old self.new session.old session.new request now result }
     {
         let role = session.role;
         check(role, &request)?;

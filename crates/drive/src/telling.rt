@@ -12,8 +12,9 @@ ghost use Rattle.inode_changes.specs.Contents.{contents_of, bytes_of};
 ghost use Rattle.admission.specs.Later.{later_refusal, IsWithin};
 ghost use Rattle.object_store.specs.Versions.{inode_in};
 ghost use Rattle.drive.specs.Fields.{state_in, store_of};
-ghost use Rattle.drive.specs.Refusing.{IsJudgedOut};
-ghost use Rattle.drive.specs.Answering.{IsRead, IsUntold, telling_refusal};
+ghost use Rattle.time_read.specs.Plans.{bytes_planned};
+ghost use Rattle.drive.specs.Refusing.{IsJudgedOut, IsUnplanned};
+ghost use Rattle.drive.specs.Answering.{IsRead, IsUntold, IsPlanOf, telling_refusal};
 
 use crate::drive::Drive;
 use admission::check;
@@ -22,6 +23,7 @@ use inode_changes::laws::bytes_are_the_blocks_joined;
 use s4_types::{Bytes, Moment, ObjectId, Refusal, Reply, Request, Role};
 use segment_word::Naming;
 use std::alloc::Global;
+use time_read::ReadPlan;
 
 /// The attributes that a live inode tells of its object.
 fn attributes_of(alloc: Global, inode: &Inode) -> Result<Reply, Refusal>
@@ -66,6 +68,27 @@ impl<J: Naming> Drive<J> {
         Ok(inode)
     }
 
+    /// A plan of reading the bytes of an object from an offset on, at a moment.
+    pub(crate) fn planned(
+        &mut self,
+        object: ObjectId,
+        offset: u64,
+        length: u32,
+        at: Option<Moment>,
+    ) -> Result<ReadPlan, Refusal>
+        ensures ledger { self.new.ledger ≡ self.old.ledger }
+        ensures store { store_of self.new ≡ store_of self.old }
+        ensures free { OnOk result (later_refusal (state_in self.old) (Read object offset length at) ≡ None) }
+        ensures bytes { IfOk result (λ plan. reply_to_read (state_in self.old) (Read object offset length at) ≡ Some (Reply.Data (bytes_planned plan))) }
+        ensures plan { IfOk result (IsPlanOf self.new object offset length at) }
+        ensures refused { IfErr result (IsUnplanned (later_refusal (state_in self.old) (Read object offset length at)) self.new (Read object offset length at)) }
+    {
+        let moment = self.moment_asked(at);
+        let inode = self.live_inode(object, moment)?;
+        self.store
+            .plan(object, moment, &inode, offset, u64::from(length))
+    }
+
     /// The bytes of an object from an offset on, at a moment.
     fn read(
         &mut self,
@@ -79,14 +102,10 @@ impl<J: Naming> Drive<J> {
         ensures store { store_of self.new ≡ store_of self.old }
         ensures fits { IfOk result ReplyFits }
         ensures ok { IfOk result (λ reply. (later_refusal (state_in self.old) (Read object offset length at) ≡ None) × (reply_to_read (state_in self.old) (Read object offset length at) ≡ Some reply)) }
-        ensures refused { IfErr result (IsJudgedOut (later_refusal (state_in self.old) (Read object offset length at)) (Read object offset length at)) }
+        ensures refused { IfErr result (IsUnplanned (later_refusal (state_in self.old) (Read object offset length at)) self.new (Read object offset length at)) }
     {
-        let moment = self.moment_asked(at);
-        let inode = self.live_inode(object, moment)?;
-        let bytes = self
-            .store
-            .read(object, moment, &inode, offset, u64::from(length))?;
-        Ok(Reply::Data(Bytes::from_vec(bytes)))
+        let plan = self.planned(object, offset, length, at)?;
+        Ok(Reply::Data(Bytes::from_vec(plan.fetch(self.alloc)?)))
     }
 
     /// An object's size, moments and attribute, at a moment.
@@ -110,7 +129,7 @@ impl<J: Naming> Drive<J> {
         ensures store { store_of self.new ≡ store_of self.old }
         ensures fits { IfOk result ReplyFits }
         ensures ok { IfOk result (λ reply. (first_refusal (state_in self.old) role request.now ≡ None) × (reply_to_read (state_in self.old) request.now ≡ Some reply)) }
-        ensures refused { IfErr result (IsJudgedOut (first_refusal (state_in self.old) role request.now) request.now) }
+        ensures refused { IfErr result (IsUnplanned (first_refusal (state_in self.old) role request.now) self.new request.now) }
     {
         check(role, request)?;
         match request {

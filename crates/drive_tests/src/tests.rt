@@ -11,6 +11,7 @@ mod looking;
 mod memory;
 mod objects;
 mod order;
+mod plans;
 mod sessions;
 mod sizes;
 mod space;

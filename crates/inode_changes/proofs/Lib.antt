@@ -9,5 +9,6 @@ pub mod Stepping
 pub mod Following
 pub mod Writes
 pub mod Truncates
+pub mod Ranges
 pub mod ReadBytes
 pub mod Joining

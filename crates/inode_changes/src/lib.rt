@@ -19,6 +19,7 @@ mod truncating;
 mod writing;
 
 pub use counts::{blocks_of_truncate, blocks_of_write};
+pub use loading::zero_block;
 pub use reading::read;
 pub use status::{created, deleted, with_attribute};
 pub use truncating::truncate;

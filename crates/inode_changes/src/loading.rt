@@ -9,8 +9,9 @@ use codec::Inode;
 use s4_types::Ptr;
 use s4_types::limits::BLOCK_BYTES;
 
+/// A block of zeros, as a hole has them.
 #[tactic(auto, unfolding(crate::specs::Contents::zeros))]
-pub(crate) fn blank() -> Block
+pub fn zero_block() -> Block
     ensures { result ≡ zeros 512 }
 {
     [0; BLOCK_BYTES]
@@ -24,7 +25,7 @@ fn slot_bytes<B: Blocks>(table: &mut B, slot: Option<Ptr>) -> Block
     ensures same { B.log table.new ≡ B.log table.old }
 {
     match slot {
-        None => blank(),
+        None => zero_block(),
         Some(place) => table.get(place),
     }
 }

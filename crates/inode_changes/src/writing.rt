@@ -10,7 +10,7 @@ ghost use Rattle.inode_changes.specs.Changed.{byte_written, block_of, blocks_wri
 
 use crate::appending::append_data;
 use crate::counts::blocks_of_write;
-use crate::loading::{blank, load};
+use crate::loading::{load, zero_block};
 use blocks::{Block, Blocks};
 use codec::Inode;
 use s4_types::limits::BLOCK_BYTES;
@@ -56,7 +56,7 @@ fn write_block<B: Blocks>(
 {
     let start = index * BLOCK_BYTES;
     if offset <= start && start + BLOCK_BYTES <= offset + bytes.len() {
-        let mut block = blank();
+        let mut block = zero_block();
         place(&mut block, index, offset, bytes);
         return append_data(table, object, &block);
     }

@@ -4,6 +4,7 @@ mod deletions;
 mod full_chains;
 mod full_tables;
 mod large_writes;
+mod plans;
 mod pushing;
 mod subject;
 mod tables;

@@ -1,14 +1,12 @@
-ghost use Rattle.std.specs.Prelude.{◌≡◌, ℕ, ◌+◌, ◌<◌, ◌≤◌, ◌^◌, Option, Some, None, IsSome, IfSome, IfNone, IfOk, IfErr, OnOk, OnErr, List, [], length};
-ghost use Rattle.std.specs.Ordering.{nat_cmp};
-ghost use Rattle.std.specs.BTreeMap.{get, Updates};
-ghost use Rattle.object_map.specs.Rows.{row_of, with_row, without_row, fresh_row, IsNextAbove};
+ghost use Rattle.std.specs.Prelude.{◌≡◌, ℕ, ◌+◌, ◌<◌, ◌^◌, None, IsSome, IfSome, IfNone, IfOk, IfErr, [], length};
+ghost use Rattle.object_map.specs.Objects.{IsNextAbove};
+ghost use Rattle.object_map.specs.Rows.{row_of, with_row, without_row, fresh_row};
 ghost use Rattle.s4_types.specs.declared.refusals.Refusal.TheVariants.{NoMemory};
 
+use crate::objects::Objects;
 use s4_types::{Moment, ObjectId, Ptr, Refusal};
 use std::alloc::Global;
-use std::collections::BTreeMap;
 use std::marker::Model;
-use std::ops::Bound;
 
 /// Where an object's versions stand.
 #[derive(Clone, Copy, Debug, PartialEq, Eq)]
@@ -29,10 +27,27 @@ pub struct Row {
     pub stamp: u64,
 }
 
+impl Row {
+    /// The row of an object that was just created: no checkpoint, no journal, stamp 0.
+    pub fn fresh(created: Moment) -> Row
+        ensures { result ≡ fresh_row created }
+    {
+        Row {
+            created,
+            checkpoint: None,
+            checkpoint_moment: Moment::new(0),
+            head: None,
+            journal_bytes: 0,
+            head_bytes: 0,
+            stamp: 0,
+        }
+    }
+}
+
 /// A map from objects to rows.
 #[derive(Drop)]
 pub struct ObjectMap {
-    rows: BTreeMap<u64, Row>,
+    rows: Objects<Row>,
 }
 
 impl Model for ObjectMap {
@@ -41,18 +56,7 @@ impl Model for ObjectMap {
 
     ghost Value = { List (ℕ × Row) };
 
-    ghost view = { λ m. m.rows.entries };
-}
-
-// A value at a key that has none.
-fn put<V: Drop>(map: &mut BTreeMap<u64, V>, key: u64, value: V) -> Result<(), Refusal>
-    requires fresh { get nat_cmp map.old key ≡ None }
-    ensures put { OnOk result (Updates nat_cmp map.old map.new key (Some value)) }
-    ensures refusal { IfErr result (λ e. e ≡ NoMemory) }
-    ensures unchanged { OnErr result (map.new.entries ≡ map.old.entries) }
-{
-    map.insert(key, value)?;
-    Ok(())
+    ghost view = { λ m. m.rows };
 }
 
 impl ObjectMap {
@@ -61,7 +65,7 @@ impl ObjectMap {
         ensures { result ≡ [] }
     {
         ObjectMap {
-            rows: BTreeMap::new(alloc),
+            rows: Objects::new(alloc),
         }
     }
 
@@ -69,7 +73,7 @@ impl ObjectMap {
     pub fn get(&self, object: ObjectId) -> Option<Row>
         ensures { result ≡ row_of self.now object }
     {
-        self.rows.get(&object.number()).copied()
+        self.rows.get(object)
     }
 
     /// A row for an object that has none, without journal and checkpoint and with stamp 0. NoMemory, and nothing has
@@ -79,16 +83,7 @@ impl ObjectMap {
         ensures added { IfOk result (λ _. (q : ℕ) → row_of self.new q ≡ with_row (row_of self.old) object (fresh_row created) q) }
         ensures refusal { IfErr result (λ e. (e ≡ NoMemory) × (self.new ≡ self.old)) }
     {
-        let row = Row {
-            created,
-            checkpoint: None,
-            checkpoint_moment: Moment::new(0),
-            head: None,
-            journal_bytes: 0,
-            head_bytes: 0,
-            stamp: 0,
-        };
-        put(&mut self.rows, object.number(), row)
+        self.rows.add(object, Row::fresh(created))
     }
 
     /// An object's row becomes this one, but for the stamp, which is one above the old row's.
@@ -97,7 +92,7 @@ impl ObjectMap {
         requires some { IsSome (row_of self.old object) }
         ensures changed { IfSome (row_of self.old object) (λ old. (q : ℕ) → row_of self.new q ≡ with_row (row_of self.old) object (record row { stamp = old.stamp + 1 }) q) }
     {
-        if let Some(place) = self.rows.get_mut(&object.number()) {
+        if let Some(place) = self.rows.values.get_mut(&object.number()) {
             let stamp = place.stamp + 1;
             *place = Row { stamp, ..row };
         }
@@ -107,7 +102,7 @@ impl ObjectMap {
     pub fn remove(&mut self, object: ObjectId)
         ensures { (q : ℕ) → row_of self.new q ≡ without_row (row_of self.old) object q }
     {
-        let _ = self.rows.remove(&object.number());
+        self.rows.remove(object);
     }
 
     /// The least object above this one that has a row.
@@ -115,9 +110,7 @@ impl ObjectMap {
         ensures some { IfSome result (λ next. IsNextAbove self.now object next) }
         ensures none { IfNone result ((q : ℕ) → object < q → row_of self.now q ≡ None) }
     {
-        let above = (Bound::Excluded(object.number()), Bound::Unbounded);
-        let (next, _) = self.rows.range(above).next()?;
-        Some(ObjectId::new(*next))
+        self.rows.next_above(object)
     }
 
     /// How many objects have a row.

@@ -1,4 +1,4 @@
-use crate::{ObjectMap, Row};
+use crate::{ObjectMap, Objects, Row};
 use s4_types::{Moment, ObjectId, Ptr};
 use std::process::Abort;
 use std::test::Fail;
@@ -79,5 +79,20 @@ fn a_removed_row_is_gone(rt: HostRuntime) -> Result<(), Fail> {
     map.remove(ObjectId::new(5));
     assert!(&rt; map.get(ObjectId::new(4)).is_none() && map.len() == 2);
     assert!(&rt; map.next_above(ObjectId::new(2)) == Some(ObjectId::new(7)));
+    Ok(())
+}
+
+#[test]
+fn values_are_replaced_one_by_one(rt: HostRuntime) -> Result<(), Fail> {
+    let mut ages = Objects::new(rt.alloc());
+    ages.add(ObjectId::new(2), 20u8)?;
+    if ages.get(ObjectId::new(7)).is_none() {
+        ages.add(ObjectId::new(7), 70)?;
+    }
+    if ages.get(ObjectId::new(7)).is_some() {
+        ages.replace(ObjectId::new(7), 71);
+    }
+    assert!(&rt; ages.get(ObjectId::new(2)) == Some(20) && ages.get(ObjectId::new(7)) == Some(71));
+    assert!(&rt; ages.get(ObjectId::new(3)).is_none() && ages.len() == 2);
     Ok(())
 }

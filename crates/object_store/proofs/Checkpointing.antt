@@ -14,23 +14,6 @@ use Rattle.object_store.specs.Checkpointing.{last_entry}
 
 -- ---- the last entry
 
-pub few_bytes : (held : Place → Option Stored) (o : ℕ) (row : Row) → IsRow held o row → row.journal_bytes ≤ 11712
-few_bytes held o row r = omega (arith, r.chain.bytes, r.chain.limit)
-
-few_newest : (blocks : List (List EntryFields)) → KeepsTheRule blocks → filled_bytes blocks ≤ 488
-unfolding filled_bytes
-few_newest [] h = omega arith
-few_newest (newest ∷ older) h = h.0.few
-
-pub few_in_head : (held : Place → Option Stored) (o : ℕ) (row : Row) → ((entries : List EntryFields) → AllFit entries → KeepsTheRule (packed entries)) → IsRow held o row → row.head_bytes ≤ 488
-few_in_head held o row law r =
-    let few : filled_bytes (packed (entries_of held o row)) ≤ 488 = few_newest (packed (entries_of held o row)) (law (entries_of held o row) r.chain.fit) in
-    omega (arith, few, r.chain.filled)
-
-pub chain_is_there : (held : Place → Option Stored) (o : ℕ) (row : Row) → IsRow held o row → IsSome (chain_entries held o row.head)
-unfolding chain_entries
-chain_is_there held o row r = subst (λ (x : Option (List EntryFields)). IsSome x) (sym r.chain.walk) refl
-
 last_behind : (given : ℕ) (entries : List EntryFields) (e : EntryFields) → last_moment given (entries ++ e ∷ []) ≡ e.moment
 last_behind given [] e = refl
 last_behind given (f ∷ entries) e = last_behind f.moment entries e
@@ -57,17 +40,17 @@ read_last held o row back front e whole gives none =
     ∙ ap (λ (found : Option (List EntryFields)). last_moment 0 (unwrap_or found [])) whole
 
 -- a reader of a whole journal has all entries left
-whole_is : (held : Place → Option Stored) (o : ℕ) (row : Row) (chain : ChainFields) (back : BackFields) → IsRow held o row → chain ≡ chain_of o row
+whole_is : (held : Place → Option Stored) (o : ℕ) (row : Row) (chain : ChainFields) (back : BackFields) → IsSome (chain_entries held o row.head) → chain ≡ chain_of o row
     → (IsSome (chain_entries held chain.object chain.head) → entries_left held back ≡ chain_entries held chain.object chain.head) → entries_left held back ≡ chain_entries held o row.head
-whole_is held o row chain back r is reads =
-    subst (λ (k : ChainFields). IsSome (chain_entries held k.object k.head) → entries_left held back ≡ chain_entries held k.object k.head) is reads (chain_is_there held o row r)
+whole_is held o row chain back walk is reads =
+    subst (λ (k : ChainFields). IsSome (chain_entries held k.object k.head) → entries_left held back ≡ chain_entries held k.object k.head) is reads walk
 
-pub whole_left : (held : Place → Option Stored) (o : ℕ) (row : Row) (chain : ChainFields) (back : BackFields) → IsRow held o row → chain ≡ chain_of o row
+pub whole_left : (held : Place → Option Stored) (o : ℕ) (row : Row) (chain : ChainFields) (back : BackFields) → IsSome (chain_entries held o row.head) → chain ≡ chain_of o row
     → (IsSome (chain_entries held chain.object chain.head) → entries_left held back ≡ chain_entries held chain.object chain.head) → IsSome (entries_left held back)
-whole_left held o row chain back r is reads =
-    subst (λ (found : Option (List EntryFields)). IsSome found) (sym (whole_is held o row chain back r is reads)) (chain_is_there held o row r)
+whole_left held o row chain back walk is reads =
+    subst (λ (found : Option (List EntryFields)). IsSome found) (sym (whole_is held o row chain back walk is reads)) walk
 
-pub last_of : (held : Place → Option Stored) (o : ℕ) (row : Row) (chain : ChainFields) (back : BackFields) (front : List EntryFields) (found : Option EntryFields) (e : EntryFields) → IsRow held o row → chain ≡ chain_of o row
+pub last_of : (held : Place → Option Stored) (o : ℕ) (row : Row) (chain : ChainFields) (back : BackFields) (front : List EntryFields) (found : Option EntryFields) (e : EntryFields) → IsSome (chain_entries held o row.head) → chain ≡ chain_of o row
     → (IsSome (chain_entries held chain.object chain.head) → entries_left held back ≡ chain_entries held chain.object chain.head) → found ≡ Some e → left held back ≡ front ++ option_to_list found → e.moment ≡ last_entry held o row
-last_of held o row chain back front found e r is reads there gives =
-    read_last held o row back front (Some e) (whole_is held o row chain back r is reads) (subst (λ (x : Option EntryFields). left held back ≡ front ++ option_to_list x) there gives) tt
+last_of held o row chain back front found e walk is reads there gives =
+    read_last held o row back front (Some e) (whole_is held o row chain back walk is reads) (subst (λ (x : Option EntryFields). left held back ≡ front ++ option_to_list x) there gives) tt

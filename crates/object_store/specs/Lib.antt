@@ -1,5 +1,4 @@
 pub mod Store
-pub mod Presents
 pub mod Versions
 pub mod Costs
 pub mod Taking

@@ -16,13 +16,13 @@ use Rattle.inode_changes.specs.Contents.{contents_of, meaning}
 use Rattle.object_store.specs.Store.{StoreFields}
 
 -- the journal entries of an object by its row, the oldest first; none where it has no row
-abbrev pub entries_by : (Place → Option Stored) → ℕ → Option Row → List EntryFields
-entries_by held o None = []
-entries_by held o (Some row) = entries_of held o row
+abbrev pub entries_of_row : (Place → Option Stored) → ℕ → Option Row → List EntryFields
+entries_of_row held o None = []
+entries_of_row held o (Some row) = entries_of held o row
 
 -- the journal entries of an object, the oldest first; none where it has no row
 abbrev pub entries_in : StoreFields → ℕ → List EntryFields
-entries_in s o = entries_by s.log.held o (row_of s.rows o)
+entries_in s o = entries_of_row s.log.held o (row_of s.rows o)
 
 -- the inode of an object at a moment, by its row: none where it has no row
 abbrev pub inode_by : (Place → Option Stored) → ℕ → ℕ → Option Row → Option Inode

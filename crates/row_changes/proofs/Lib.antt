@@ -1,4 +1,3 @@
-pub mod Chains
 pub mod Checkpoints
 pub mod Fresh
 pub mod Places

@@ -15,8 +15,8 @@ use inode_links::laws::{
 use journal_chain::Chain;
 use journal_chain::laws::a_chain_has_its_entries;
 use object_map::Row;
-use packing::laws::packing_keeps_the_rule;
 use s4_types::{Moment, ObjectId, Refusal};
+use time_read::laws::a_row_tells_a_chain;
 
 /// Appends to an object's journal what leads from its present inode to the next one, at a moment, and answers its row
 /// after that.
@@ -51,7 +51,7 @@ pub fn record_change<B: Blocks>(
     runs_join_and_part();
     the_inode_at_a_moment();
     a_chain_has_its_entries();
-    packing_keeps_the_rule();
+    a_row_tells_a_chain();
     let entries = entries_between(before, after, moment);
     let mut chain = Chain::of(object, row.head, row.journal_bytes, row.head_bytes);
     chain.push(table, entries.as_slice())?;

@@ -40,7 +40,7 @@ is_change_of o (SetWindow window) = false
 is_change_of o (Flush first last) = false
 is_change_of o (FlushO object first last) = false
 
--- the object that a change is of; 0 for one of all objects
+-- the object that a change is of; 0 for SetWindow and Flush, which are of none or of all
 abbrev pub object_of : Change → ℕ
 object_of (Create object attribute) = object
 object_of (Delete object) = object

@@ -24,7 +24,7 @@ pub record Attended : Type 0 where
 -- keeps its role, and was told of all accepted changes.
 pub record Steps (old : Attended) (request : Request) (now : ℕ) (reply : Reply) (new : Attended) : Type 0 where
   pub step : Step (history_of old.drive) old.session.role request now reply (history_of new.drive)
-  pub refused : RefusesBy (refusal_of (store_of old.drive) (judged (history_of old.drive) request now) old.session.role request now) request reply
+  pub refused : RefusesBy (refusal_of (store_of old.drive) (judged (history_of old.drive) request now) old.session.role request now) new.drive request reply
   pub stored : Leaves (store_of old.drive) (state_in old.drive) request now reply (store_of new.drive)
   pub session : new.session ≡ record old.session { told = told_after reply new.drive.ledger old.session.told }
 

@@ -4,12 +4,12 @@ use Rattle.std.specs.List.{flat_map}
 use Rattle.std.proofs.lemmas.List.{get_or-set_same, reverse-reverse, reverse-append, length-reverse}
 use Rattle.std.proofs.lemmas.Bool.{and_parts, ltb-true}
 use Rattle.s4_types.specs.Pointer.{Place}
-use Rattle.segment_word.specs.Frames.{Phase, Free, Open, Sealed, Emptied, Frame}
+use Rattle.segment_word.specs.Frames.{Phase, Free, Open, Sealed, Emptied, Frame, is_free, is_open}
 use Rattle.segment_word.specs.Layout.{frame_at}
 use Rattle.segment_word.specs.Handles.{Drive}
 use Rattle.segment_table.specs.declared.slots.Slot.{Slot}
 use Rattle.segment_table.specs.Table.{Table, slots_at}
-use Rattle.segment_table.specs.Room.{is_free, is_open, is_filling, can_open, numbers, places, rest_of, whole_of, places_ahead}
+use Rattle.segment_table.specs.Room.{is_filling, can_open, numbers, places, rest_of, whole_of, places_ahead}
 use Rattle.segment_table.specs.Changes.{IsAlone, KeepsGeneration, IsFilling, NoneIsFilling, IsPut}
 use Rattle.segment_table.proofs.Alone.{generation_alone, numbers_alone}
 use Rattle.segment_table.proofs.Numbers.{numbers_first}

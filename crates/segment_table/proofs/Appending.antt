@@ -4,11 +4,11 @@ use Rattle.std.proofs.lemmas.List.{get_or-set_same}
 use Rattle.std.proofs.lemmas.Bool.{cases_lt}
 use Rattle.s4_types.specs.Pointer.{Place}
 use Rattle.codec.specs.declared.summaries.Part.{Part}
-use Rattle.segment_word.specs.Frames.{Open}
+use Rattle.segment_word.specs.Frames.{Open, is_open}
 use Rattle.segment_word.specs.Layout.{frame_at, block_bytes}
 use Rattle.segment_table.specs.declared.slots.Slot.{Slot}
 use Rattle.segment_table.specs.Table.{Table, slots_at}
-use Rattle.segment_table.specs.Room.{is_open, is_filling}
+use Rattle.segment_table.specs.Room.{is_filling}
 use Rattle.segment_table.specs.Sealing.{IsSummed, IsPartFilled}
 use Rattle.segment_table.specs.Changes.{IsAlone, KeepsGeneration, KeepsBlock, IsFilling, NoneIsFilling, IsReady, IsPut, IsSealedIn, IsAppended, with_slot}
 use Rattle.segment_table.proofs.Alone.{alone_then}

@@ -10,7 +10,7 @@ use Rattle.segment_word.specs.Layout.{frame_at, block_bytes}
 use Rattle.segment_word.specs.Handles.{Drive}
 use Rattle.segment_table.specs.declared.slots.Slot.{Slot}
 use Rattle.segment_table.specs.Slots.{no_slot, let_go}
-use Rattle.segment_table.specs.Table.{Table, slots_at, slot_of, stored, held_in, held_at}
+use Rattle.segment_table.specs.Table.{Table, slots_at, slot_of, stored, held_block, held_at}
 use Rattle.segment_table.specs.Changes.{IsAlone, KeepsGeneration, KeepsBlock, IsPut}
 use Rattle.segment_table.proofs.Alone.{elsewhere, generation_alone}
 
@@ -20,7 +20,7 @@ slot_cases s zero = inr refl
 slot_cases s (suc b) = elim (cases_lt b (length s)) [ inl h ↦ inl (omega arith, omega arith) | inr h ↦ inr (get_or_past s b no_slot h) ]
 
 -- the same slot at the same generation, with bytes that are the same where it is used
-pub held_same : (k k' : Frame) (s : List Slot) (b g : ℕ) → k'.generation ≡ k.generation → (1 ≤ b → b ≤ length s → block_bytes k'.contents b ≡ block_bytes k.contents b) → held_in k' s b g ≡ held_in k s b g
+pub held_same : (k k' : Frame) (s : List Slot) (b g : ℕ) → k'.generation ≡ k.generation → (1 ≤ b → b ≤ length s → block_bytes k'.contents b ≡ block_bytes k.contents b) → held_block k' s b g ≡ held_block k s b g
 held_same k k' s b g e same =
     ap (λ (n : ℕ). if n == g then stored (slot_of s b) (block_bytes k'.contents b) else None) e
     ∙ elim (slot_cases s b) [
@@ -33,7 +33,7 @@ held_kept_at : (old new : Table) (f : ℕ) (q : Place) → IsAlone f old.drive n
     → ((b : ℕ) → 1 ≤ b → b ≤ length (slots_at old.slots f) → KeepsBlock f b old.drive new.drive)
     → new.slots ≡ old.slots → held_at new q ≡ held_at old q
 held_kept_at old new f q a k same e =
-    ap (λ (l : List (List Slot)). held_in (frame_at new.drive.frames q.frame) (slots_at l q.frame) q.block q.generation) e
+    ap (λ (l : List (List Slot)). held_block (frame_at new.drive.frames q.frame) (slots_at l q.frame) q.block q.generation) e
     ∙ held_same (frame_at old.drive.frames q.frame) (frame_at new.drive.frames q.frame) (slots_at old.slots q.frame) q.block q.generation (generation_alone old.drive new.drive f q.frame a k)
     (λ low high. elim (cases_eq q.frame f) [
       | inl at ↦ (let P : ℕ → Type 0 = λ n. KeepsBlock n q.block old.drive new.drive in
@@ -66,7 +66,7 @@ slot_last s slot (suc b) e = get_or_push s slot no_slot b (omega arith)
 -- what the place of the new block holds, and the other places of its frame
 put_at : (k k' : Frame) (s : List Slot) (part : Part) (block : List ℕ) (b g : ℕ) → k'.generation ≡ k.generation → block_bytes k'.contents (length s + 1) ≡ block
     → ((c : ℕ) → c < 16 → c ≢ length s + 1 → block_bytes k'.contents c ≡ block_bytes k.contents c) → length s < 15
-    → held_in k' (s ++ (record { part = part; held = true }) ∷ []) b g ≡ (if (length s + 1) == b && k.generation == g then Some (record { kind = part.kind; object = part.object; bytes = block }) else held_in k s b g)
+    → held_block k' (s ++ (record { part = part; held = true }) ∷ []) b g ≡ (if (length s + 1) == b && k.generation == g then Some (record { kind = part.kind; object = part.object; bytes = block }) else held_block k s b g)
 put_at k k' s part block b g e is others room =
     let slot : Slot = record { part = part; held = true } in
     elim (cases_eq b (length s + 1)) [
@@ -75,16 +75,16 @@ put_at k k' s part block b g e is others room =
           ∙ ap (λ (x : List ℕ). if k.generation == g then stored slot x else None) (ap (λ (n : ℕ). block_bytes k'.contents n) at ∙ is)
           ∙ elim (cases_Bool (k.generation == g)) [
             | inl own ↦ ap (λ (x : Bool). if x then stored slot block else None) own
-                ∙ sym (ap (λ (x : Bool). if x && k.generation == g then Some (record { kind = part.kind; object = part.object; bytes = block }) else held_in k s b g) (eq-eqb (length s + 1) b (sym at))
-                ∙ ap (λ (x : Bool). if x then Some (record { kind = part.kind; object = part.object; bytes = block }) else held_in k s b g) own)
+                ∙ sym (ap (λ (x : Bool). if x && k.generation == g then Some (record { kind = part.kind; object = part.object; bytes = block }) else held_block k s b g) (eq-eqb (length s + 1) b (sym at))
+                ∙ ap (λ (x : Bool). if x then Some (record { kind = part.kind; object = part.object; bytes = block }) else held_block k s b g) own)
             | inr other ↦ ap (λ (x : Bool). if x then stored slot block else None) other
-                ∙ sym (ap (λ (x : Bool). if x && k.generation == g then Some (record { kind = part.kind; object = part.object; bytes = block }) else held_in k s b g) (eq-eqb (length s + 1) b (sym at))
-                ∙ ap (λ (x : Bool). if x then Some (record { kind = part.kind; object = part.object; bytes = block }) else held_in k s b g) other
+                ∙ sym (ap (λ (x : Bool). if x && k.generation == g then Some (record { kind = part.kind; object = part.object; bytes = block }) else held_block k s b g) (eq-eqb (length s + 1) b (sym at))
+                ∙ ap (λ (x : Bool). if x then Some (record { kind = part.kind; object = part.object; bytes = block }) else held_block k s b g) other
                 ∙ ap (λ (x : Bool). if x then stored (slot_of s b) (block_bytes k.contents b) else None) other)
           ]
       | inr ne ↦ ap (λ (x : Slot). if k'.generation == g then stored x (block_bytes k'.contents b) else None) (slot_more s slot b ne)
           ∙ held_same k k' s b g e (λ low high. others b (omega arith) ne)
-          ∙ sym (ap (λ (x : Bool). if x && k.generation == g then Some (record { kind = part.kind; object = part.object; bytes = block }) else held_in k s b g) (ne_eqb (length s + 1) b (λ (same : length s + 1 ≡ b). ne (sym same))))
+          ∙ sym (ap (λ (x : Bool). if x && k.generation == g then Some (record { kind = part.kind; object = part.object; bytes = block }) else held_block k s b g) (ne_eqb (length s + 1) b (λ (same : length s + 1 ≡ b). ne (sym same))))
     ]
 
 held_put_at : (old new : Table) (f : ℕ) (part : Part) (block : List ℕ) (q : Place) → f < length old.slots → length (slots_at old.slots f) < 15 → IsPut f (record { part = part; held = true }) block old new
@@ -96,15 +96,15 @@ held_put_at old new f part block q inside room put =
     let k' : Frame = frame_at new.drive.frames f in
     let st : Stored = record { kind = part.kind; object = part.object; bytes = block } in
     elim (cases_eq q.frame f) [
-      | inl at ↦ (let P : ℕ → Type 0 = λ n. held_in (frame_at new.drive.frames n) (slots_at new.slots n) q.block q.generation ≡ (if f == n && ((length s + 1) == q.block && k.generation == q.generation) then Some st else held_in (frame_at old.drive.frames n) (slots_at old.slots n) q.block q.generation) in
+      | inl at ↦ (let P : ℕ → Type 0 = λ n. held_block (frame_at new.drive.frames n) (slots_at new.slots n) q.block q.generation ≡ (if f == n && ((length s + 1) == q.block && k.generation == q.generation) then Some st else held_block (frame_at old.drive.frames n) (slots_at old.slots n) q.block q.generation) in
           let here : slots_at new.slots f ≡ s ++ slot ∷ [] = ap (λ (l : List (List Slot)). slots_at l f) put.slots ∙ get_or-set_same old.slots f (s ++ slot ∷ []) [] inside in
           subst P (sym at)
-          (ap (λ (l : List Slot). held_in k' l q.block q.generation) here
+          (ap (λ (l : List Slot). held_block k' l q.block q.generation) here
           ∙ put_at k k' s part block q.block q.generation put.generation put.bytes put.others room
-          ∙ sym (ap (λ (x : Bool). if x && ((length s + 1) == q.block && k.generation == q.generation) then Some st else held_in k s q.block q.generation) (eq-eqb f f refl))))
-      | inr ne ↦ ap (λ (l : List (List Slot)). held_in (frame_at new.drive.frames q.frame) (slots_at l q.frame) q.block q.generation) put.slots
-          ∙ ap (λ (l : List Slot). held_in (frame_at new.drive.frames q.frame) l q.block q.generation) (get_or-set_other old.slots f q.frame (s ++ slot ∷ []) [] ne)
-          ∙ ap (λ (x : Frame). held_in x (slots_at old.slots q.frame) q.block q.generation) (elsewhere old.drive new.drive f q.frame put.alone ne)
+          ∙ sym (ap (λ (x : Bool). if x && ((length s + 1) == q.block && k.generation == q.generation) then Some st else held_block k s q.block q.generation) (eq-eqb f f refl))))
+      | inr ne ↦ ap (λ (l : List (List Slot)). held_block (frame_at new.drive.frames q.frame) (slots_at l q.frame) q.block q.generation) put.slots
+          ∙ ap (λ (l : List Slot). held_block (frame_at new.drive.frames q.frame) l q.block q.generation) (get_or-set_other old.slots f q.frame (s ++ slot ∷ []) [] ne)
+          ∙ ap (λ (x : Frame). held_block x (slots_at old.slots q.frame) q.block q.generation) (elsewhere old.drive new.drive f q.frame put.alone ne)
           ∙ sym (ap (λ (x : Bool). if x && ((length s + 1) == q.block && k.generation == q.generation) then Some st else held_at old q) (ne_eqb f q.frame (λ (same : f ≡ q.frame). ne (sym same))))
     ]
 
@@ -114,7 +114,7 @@ pub held_put : (old new : Table) (f : ℕ) (part : Part) (block : List ℕ) → 
 held_put old new f part block inside room put = λ i q. held_put_at old new f part block q inside room put i
 
 -- the next unused block holds nothing
-pub held_fresh : (t : Table) (f g : ℕ) → held_in (frame_at t.drive.frames f) (slots_at t.slots f) (length (slots_at t.slots f) + 1) g ≡ None
+pub held_fresh : (t : Table) (f g : ℕ) → held_block (frame_at t.drive.frames f) (slots_at t.slots f) (length (slots_at t.slots f) + 1) g ≡ None
 held_fresh t f g =
     let k : Frame = frame_at t.drive.frames f in
     let s : List Slot = slots_at t.slots f in
@@ -126,9 +126,9 @@ held_fresh t f g =
     ]
 
 -- a block that was let go
-gone_at : (k : Frame) (s : List Slot) (p b g : ℕ) → 1 ≤ p → held_in k (let_go s (p - 1)) b g ≡ (if p == b && k.generation == g then None else held_in k s b g)
+gone_at : (k : Frame) (s : List Slot) (p b g : ℕ) → 1 ≤ p → held_block k (let_go s (p - 1)) b g ≡ (if p == b && k.generation == g then None else held_block k s b g)
 gone_at k s p zero g low =
-    sym (ap (λ (x : Bool). if x && k.generation == g then None else held_in k s 0 g) (ne_eqb p 0 (λ (e : p ≡ 0). omega arith)))
+    sym (ap (λ (x : Bool). if x && k.generation == g then None else held_block k s 0 g) (ne_eqb p 0 (λ (e : p ≡ 0). omega arith)))
 gone_at k s p (suc b) g low =
     let slot : Slot = record (get_or s (p - 1) no_slot) { held = false } in
     let none : Option Stored = None in
@@ -143,15 +143,15 @@ gone_at k s p (suc b) g low =
           ap (λ (x : Option Stored). if k.generation == g then x else None) gone
           ∙ elim (cases_Bool (k.generation == g)) [
             | inl own ↦ ap (λ (x : Bool). cond x none none) own
-                ∙ sym (ap (λ (x : Bool). if x && k.generation == g then None else held_in k s (suc b) g) (eq-eqb p (suc b) same)
-                ∙ ap (λ (x : Bool). if x then None else held_in k s (suc b) g) own)
+                ∙ sym (ap (λ (x : Bool). if x && k.generation == g then None else held_block k s (suc b) g) (eq-eqb p (suc b) same)
+                ∙ ap (λ (x : Bool). if x then None else held_block k s (suc b) g) own)
             | inr other ↦ ap (λ (x : Bool). cond x none none) other
-                ∙ sym (ap (λ (x : Bool). if x && k.generation == g then None else held_in k s (suc b) g) (eq-eqb p (suc b) same)
-                ∙ ap (λ (x : Bool). if x then None else held_in k s (suc b) g) other
+                ∙ sym (ap (λ (x : Bool). if x && k.generation == g then None else held_block k s (suc b) g) (eq-eqb p (suc b) same)
+                ∙ ap (λ (x : Bool). if x then None else held_block k s (suc b) g) other
                 ∙ ap (λ (x : Bool). if x then stored (slot_of s (suc b)) (block_bytes k.contents (suc b)) else None) other)
           ])
       | inr ne ↦ ap (λ (x : Slot). if k.generation == g then stored x (block_bytes k.contents (suc b)) else None) (get_or-set_other s (p - 1) b slot no_slot ne)
-          ∙ sym (ap (λ (x : Bool). if x && k.generation == g then None else held_in k s (suc b) g) (ne_eqb p (suc b) (λ (e : p ≡ suc b). ne (omega arith))))
+          ∙ sym (ap (λ (x : Bool). if x && k.generation == g then None else held_block k s (suc b) g) (ne_eqb p (suc b) (λ (e : p ≡ suc b). ne (omega arith))))
     ]
 
 held_gone_at : (old new : Table) (p q : Place) → p.frame < length old.slots → 1 ≤ p.block → (frame_at old.drive.frames p.frame).generation ≡ p.generation → new.drive ≡ old.drive → new.slots ≡ set old.slots p.frame (let_go (slots_at old.slots p.frame) (p.block - 1))
@@ -160,17 +160,17 @@ held_gone_at old new p q inside low current drive slots =
     let f : ℕ = p.frame in
     let s : List Slot = slots_at old.slots f in
     let k : Frame = frame_at old.drive.frames f in
-    ap (λ (d : Drive). held_in (frame_at d.frames q.frame) (slots_at new.slots q.frame) q.block q.generation) drive
+    ap (λ (d : Drive). held_block (frame_at d.frames q.frame) (slots_at new.slots q.frame) q.block q.generation) drive
     ∙ elim (cases_eq q.frame f) [
-      | inl at ↦ (let P : ℕ → Type 0 = λ n. held_in (frame_at old.drive.frames n) (slots_at new.slots n) q.block q.generation ≡ (if f == n && (p.block == q.block && p.generation == q.generation) then None else held_in (frame_at old.drive.frames n) (slots_at old.slots n) q.block q.generation) in
+      | inl at ↦ (let P : ℕ → Type 0 = λ n. held_block (frame_at old.drive.frames n) (slots_at new.slots n) q.block q.generation ≡ (if f == n && (p.block == q.block && p.generation == q.generation) then None else held_block (frame_at old.drive.frames n) (slots_at old.slots n) q.block q.generation) in
           let here : slots_at new.slots f ≡ let_go s (p.block - 1) = ap (λ (l : List (List Slot)). slots_at l f) slots ∙ get_or-set_same old.slots f (let_go s (p.block - 1)) [] inside in
           subst P (sym at)
-          (ap (λ (l : List Slot). held_in k l q.block q.generation) here
+          (ap (λ (l : List Slot). held_block k l q.block q.generation) here
           ∙ gone_at k s p.block q.block q.generation low
-          ∙ ap (λ (n : ℕ). if p.block == q.block && n == q.generation then None else held_in k s q.block q.generation) current
-          ∙ sym (ap (λ (x : Bool). if x && (p.block == q.block && p.generation == q.generation) then None else held_in k s q.block q.generation) (eq-eqb f f refl))))
-      | inr ne ↦ ap (λ (l : List (List Slot)). held_in (frame_at old.drive.frames q.frame) (slots_at l q.frame) q.block q.generation) slots
-          ∙ ap (λ (l : List Slot). held_in (frame_at old.drive.frames q.frame) l q.block q.generation) (get_or-set_other old.slots f q.frame (let_go s (p.block - 1)) [] ne)
+          ∙ ap (λ (n : ℕ). if p.block == q.block && n == q.generation then None else held_block k s q.block q.generation) current
+          ∙ sym (ap (λ (x : Bool). if x && (p.block == q.block && p.generation == q.generation) then None else held_block k s q.block q.generation) (eq-eqb f f refl))))
+      | inr ne ↦ ap (λ (l : List (List Slot)). held_block (frame_at old.drive.frames q.frame) (slots_at l q.frame) q.block q.generation) slots
+          ∙ ap (λ (l : List Slot). held_block (frame_at old.drive.frames q.frame) l q.block q.generation) (get_or-set_other old.slots f q.frame (let_go s (p.block - 1)) [] ne)
           ∙ sym (ap (λ (x : Bool). if x && (p.block == q.block && p.generation == q.generation) then None else held_at old q) (ne_eqb f q.frame (λ (same : f ≡ q.frame). ne (sym same))))
     ]
 

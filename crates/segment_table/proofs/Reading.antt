@@ -6,13 +6,13 @@ use Rattle.std.proofs.lemmas.List.{get_or_past, get_or_read, get_or-replicate, l
 use Rattle.std.proofs.lemmas.Bool.{cases_Bool, cases_lt, cases_eq, eqb-true, eq-eqb, ne_eqb}
 use Rattle.s4_types.specs.Pointer.{Place}
 use Rattle.blocks.specs.Log.{dropped}
-use Rattle.segment_word.specs.Frames.{Phase, Free, Open, Sealed, Emptied, Frame, no_frame}
+use Rattle.segment_word.specs.Frames.{Phase, Free, Open, Sealed, Emptied, Frame, no_frame, is_open}
 use Rattle.segment_word.specs.Layout.{frame_at, block_bytes}
 use Rattle.segment_word.specs.Handles.{fresh_frame}
 use Rattle.segment_table.specs.declared.slots.Slot.{Slot}
 use Rattle.segment_table.specs.Slots.{no_slot, let_go, held_part}
-use Rattle.segment_table.specs.Table.{Table, slots_at, slot_of, stored, held_in, held_at, part_of}
-use Rattle.segment_table.specs.Room.{is_open, is_filling, can_open, numbers, places, rest_of, whole_of, places_ahead, log_of, new_places}
+use Rattle.segment_table.specs.Table.{Table, slots_at, slot_of, stored, held_block, held_at, part_of}
+use Rattle.segment_table.specs.Room.{is_filling, can_open, numbers, places, rest_of, whole_of, places_ahead, log_of, new_places}
 use Rattle.segment_table.specs.Sealing.{IsLetGo, IsSound}
 use Rattle.segment_table.specs.Changes.{IsFilling, NoneIsFilling}
 use Rattle.segment_table.proofs.Numbers.{numbers_none, numbers_one, numbers_all, numbers_nil}
@@ -40,18 +40,18 @@ used_when_held s (suc b) h = elim (cases_lt b (length s)) [
       absurd (cc))
 ]
 
-pub held_used : (k : Frame) (s : List Slot) (b g : ℕ) → IsSome (held_in k s b g) → IsUsed k s b g
+pub held_used : (k : Frame) (s : List Slot) (b g : ℕ) → IsSome (held_block k s b g) → IsUsed k s b g
 held_used k s b g h = elim (cases_Bool (k.generation == g)) [
   | inl own ↦ elim (cases_Bool ((slot_of s b).held)) [
     | inl held ↦ (let used = used_when_held s b held in
         record { generation = eqb-true k.generation g own; low = used.0; high = used.1; held = held })
-    | inr gone ↦ (let none : held_in k s b g ≡ None =
+    | inr gone ↦ (let none : held_block k s b g ≡ None =
         ap (λ (x : Bool). if x then stored (slot_of s b) (block_bytes k.contents b) else None) own
         ∙ ap (λ (x : Bool). if x then Some (record { kind = (slot_of s b).part.kind; object = (slot_of s b).part.object; bytes = block_bytes k.contents b }) else None) gone in
-        absurd (none_not_some (held_in k s b g) none h))
+        absurd (none_not_some (held_block k s b g) none h))
   ]
-  | inr other ↦ (let none : held_in k s b g ≡ None = ap (λ (x : Bool). if x then stored (slot_of s b) (block_bytes k.contents b) else None) other in
-      absurd (none_not_some (held_in k s b g) none h))
+  | inr other ↦ (let none : held_block k s b g ≡ None = ap (λ (x : Bool). if x then stored (slot_of s b) (block_bytes k.contents b) else None) other in
+      absurd (none_not_some (held_block k s b g) none h))
 ]
 
 all_let_go : (s : List Slot) (b : ℕ) → AllByRecursion IsLetGo s → (slot_of s b).held ≡ true → ⊥
@@ -153,7 +153,7 @@ part_is t p own low =
     ∙ sym (ap (λ (x : Bool). option_map part_of (if x then stored (slot_of s p.block) (block_bytes k.contents p.block) else None)) (eq-eqb k.generation p.generation own)
     ∙ ap (λ (x : Slot). option_map part_of (stored x (block_bytes k.contents p.block))) (slot_before s p.block low))
 
-none_held : (k : Frame) (b g : ℕ) → held_in k [] b g ≡ None
+none_held : (k : Frame) (b g : ℕ) → held_block k [] b g ≡ None
 none_held k zero g = elim (cases_Bool (k.generation == g)) [
   | inl e ↦ ap (λ (x : Bool). if x then stored no_slot (block_bytes k.contents 0) else None) e
   | inr e ↦ ap (λ (x : Bool). if x then stored no_slot (block_bytes k.contents 0) else None) e
@@ -180,7 +180,7 @@ wholes_new t count a (suc n) frames h =
 pub new_log : (t : Table) (count : ℕ) → t.drive.frames ≡ replicate count fresh_frame → t.slots ≡ replicate count [] → log_of t ≡ record { held = λ p. None; ahead = new_places count }
 new_log t count frames slots =
     let held : (p : Place) → held_at t p ≡ None = λ p.
-    ap (λ (l : List Slot). held_in (frame_at t.drive.frames p.frame) l p.block p.generation) (ap (λ (l : List (List Slot)). slots_at l p.frame) slots ∙ no_slots_at count p.frame) ∙ none_held (frame_at t.drive.frames p.frame) p.block p.generation in
+    ap (λ (l : List Slot). held_block (frame_at t.drive.frames p.frame) l p.block p.generation) (ap (λ (l : List (List Slot)). slots_at l p.frame) slots ∙ no_slots_at count p.frame) ∙ none_held (frame_at t.drive.frames p.frame) p.block p.generation in
     let ahead : places_ahead t ≡ new_places count =
     ap (λ (l : List ℕ). flat_map (rest_of t) l ++ flat_map (whole_of t) (numbers can_open 0 t.drive.frames)) (ap (λ (l : List Frame). numbers is_filling 0 l) frames ∙ numbers_nil is_filling 0 count fresh_frame refl)
     ∙ ap (λ (l : List ℕ). flat_map (whole_of t) l) (ap (λ (l : List Frame). numbers can_open 0 l) frames ∙ numbers_all can_open 0 count fresh_frame refl)

@@ -6,13 +6,13 @@ use Rattle.std.proofs.lemmas.Bool.{cases_eq}
 use Rattle.std.proofs.Math.Seq.{map-set_same}
 use Rattle.codec.specs.declared.summaries.Part.{Part}
 use Rattle.codec.specs.Summary.{SpellsSummary}
-use Rattle.segment_word.specs.Frames.{Free, Open, Sealed, Emptied, Frame, no_frame, code_of}
+use Rattle.segment_word.specs.Frames.{Free, Open, Sealed, Emptied, Frame, no_frame, code_of, is_free, is_open}
 use Rattle.segment_word.specs.Layout.{frame_at, block_bytes}
 use Rattle.segment_word.specs.Handles.{Drive, with_changed, fresh_frame}
 use Rattle.segment_table.specs.declared.slots.Slot.{Slot}
 use Rattle.segment_table.specs.Slots.{no_slot, let_go}
 use Rattle.segment_table.specs.Table.{Table, slots_at}
-use Rattle.segment_table.specs.Room.{is_free, is_open, is_filling, can_open, numbers}
+use Rattle.segment_table.specs.Room.{is_filling, can_open, numbers}
 use Rattle.segment_table.specs.Sealing.{payload_of, IsOwned, IsLetGo, IsFit, IsSound}
 use Rattle.segment_table.specs.Changes.{IsAlone, IsFilling, NoneIsFilling, IsPut, IsSealed}
 use Rattle.segment_table.proofs.Numbers.{numbers_lost, numbers_gained, numbers_all, numbers_nil}

@@ -1,29 +1,11 @@
 -- Which places the next appends take.
-use Rattle.std.specs.Prelude.{ℕ, zero, suc, ◌+◌, ◌-◌, ◌^◌, Bool, true, false, ◌&&◌, nat_lt, if◌then◌else◌, List, [], ◌∷◌, ◌++◌, length, filter}
+use Rattle.std.specs.Prelude.{ℕ, zero, suc, ◌+◌, ◌-◌, ◌^◌, Bool, ◌&&◌, nat_lt, if◌then◌else◌, List, [], ◌∷◌, ◌++◌, length, filter}
 use Rattle.std.specs.List.{flat_map, range_with_len}
 use Rattle.s4_types.specs.Pointer.{Place}
 use Rattle.blocks.specs.Log.{Log}
-use Rattle.segment_word.specs.Frames.{Phase, Free, Open, Sealed, Emptied, Frame}
+use Rattle.segment_word.specs.Frames.{Frame, is_free, is_open, is_sealed}
 use Rattle.segment_word.specs.Layout.{frame_at}
 use Rattle.segment_table.specs.Table.{Table, slots_at, held_at, is_of}
-
-abbrev pub is_free : Phase → Bool
-is_free Free = true
-is_free Open = false
-is_free Sealed = false
-is_free Emptied = false
-
-abbrev pub is_open : Phase → Bool
-is_open Free = false
-is_open Open = true
-is_open Sealed = false
-is_open Emptied = false
-
-abbrev pub is_sealed : Phase → Bool
-is_sealed Free = false
-is_sealed Open = false
-is_sealed Sealed = true
-is_sealed Emptied = false
 
 -- the frame takes appends at present
 abbrev pub is_filling : Frame → Bool

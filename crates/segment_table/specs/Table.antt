@@ -27,12 +27,12 @@ abbrev pub stored : Slot → List ℕ → Option Stored
 stored slot bytes = if slot.held then Some (record { kind = slot.part.kind; object = slot.part.object; bytes = bytes }) else None
 
 -- what block b of a frame holds for a pointer of generation g
-abbrev pub held_in : Frame → List Slot → ℕ → ℕ → Option Stored
-held_in k slots b g = if k.generation == g then stored (slot_of slots b) (block_bytes k.contents b) else None
+abbrev pub held_block : Frame → List Slot → ℕ → ℕ → Option Stored
+held_block k slots b g = if k.generation == g then stored (slot_of slots b) (block_bytes k.contents b) else None
 
 -- what a place of the table holds: a pointer to an earlier life of its frame leads to nothing
 abbrev pub held_at : Table → Place → Option Stored
-held_at t p = held_in (frame_at t.drive.frames p.frame) (slots_at t.slots p.frame) p.block p.generation
+held_at t p = held_block (frame_at t.drive.frames p.frame) (slots_at t.slots p.frame) p.block p.generation
 
 -- what a held block is for
 abbrev pub part_of : Stored → Part

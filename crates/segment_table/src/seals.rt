@@ -1,10 +1,8 @@
-//! Steps on one frame of the drive: its generation, and sealing it.
-ghost use Rattle.std.specs.Prelude.{◌≡◌, ℕ, ◌+◌, ◌^◌, ◌<◌, ◌≤◌, length};
+//! Sealing a frame.
+ghost use Rattle.std.specs.Prelude.{◌≡◌, ◌+◌, ◌<◌, ◌≤◌, length};
 ghost use Rattle.std.specs.List.{AllByRecursion};
-ghost use Rattle.segment_word.specs.Frames.{code_of};
 ghost use Rattle.segment_word.specs.Frames.Phase.{Open};
 ghost use Rattle.segment_word.specs.Layout.{frame_at};
-ghost use Rattle.segment_table.specs.Room.{is_sealed};
 ghost use Rattle.segment_table.specs.Sealing.{IsOwned, payload_of};
 ghost use Rattle.segment_table.specs.Changes.{IsSealed, IsCleared};
 
@@ -13,26 +11,6 @@ use blocks::Block;
 use codec::{Summary, encode_summary};
 use s4_types::limits::{BLOCK_BYTES, FRAME_BLOCKS, PAYLOAD_BLOCKS};
 use segment_word::DriveSeat;
-
-/// The generation of a frame.
-pub fn generation(seat: &mut DriveSeat, frame: usize) -> u32
-    requires { frame < length seat.old.frames }
-    ensures value { result ≡ (frame_at seat.old.frames frame).generation }
-    ensures least { 1 ≤ result }
-    ensures most { 0 < code_of (frame_at seat.old.frames frame).phase → result + 1 < 2 ^ 32 }
-    ensures same { seat.new ≡ seat.old }
-{
-    (seat.state(frame) >> 32) as u32
-}
-
-/// Whether a frame is sealed.
-pub fn is_sealed(seat: &mut DriveSeat, frame: usize) -> bool
-    requires { frame < length seat.old.frames }
-    ensures phase { result ≡ is_sealed (frame_at seat.old.frames frame).phase }
-    ensures same { seat.new ≡ seat.old }
-{
-    seat.state(frame) % 4 == 2
-}
 
 // Zeros in the payload blocks behind the first `used`.
 fn clear_unused(seat: &mut DriveSeat, frame: usize, used: usize)
@@ -69,7 +47,7 @@ pub fn seal(seat: &mut DriveSeat, frame: u16, slots: &Slots)
 {
     let number = frame as usize;
     clear_unused(seat, number, slots.len());
-    let generation = generation(seat, number);
+    let generation = seat.generation(number);
     let summary = Summary::new(frame, generation, slots.parts()).unwrap();
     let payload = payload(seat, number);
     seat.store(number, 0, &encode_summary(&summary, &payload));

@@ -4,14 +4,14 @@ ghost use Rattle.std.specs.List.{range_with_len};
 ghost use Rattle.std.specs.Option.{option_to_list};
 ghost use Rattle.s4_types.specs.declared.refusals.Refusal.TheVariants.{NoMemory, Busy};
 ghost use Rattle.blocks.specs.Log.{appended, dropped};
-ghost use Rattle.segment_word.specs.Frames.{Pinned};
+ghost use Rattle.segment_word.specs.Frames.{Pinned, is_sealed};
 ghost use Rattle.segment_word.specs.Frames.Phase.{Open, Sealed};
 ghost use Rattle.segment_word.specs.Layout.{frame_at, block_bytes};
 ghost use Rattle.segment_word.specs.Counting.{pins_in};
 ghost use Rattle.segment_word.specs.FrameRule.{AllAgree};
 ghost use Rattle.segment_word.specs.Handles.{fresh_frame, IsAmong, pin_of};
 ghost use Rattle.segment_table.specs.Table.{Table, slots_at, held_at, is_of, part_of};
-ghost use Rattle.segment_table.specs.Room.{is_filling, is_sealed, can_open, numbers, rest_of, places_ahead, log_of, pointers_in};
+ghost use Rattle.segment_table.specs.Room.{is_filling, can_open, numbers, rest_of, places_ahead, log_of, pointers_in};
 ghost use Rattle.segment_table.specs.Sealing.{IsFit, IsPartFilled};
 ghost use Rattle.segment_table.specs.Changes.{IsFilling, NoneIsFilling, IsReady, IsPut, IsSealed, IsSealedIn};
 
@@ -162,7 +162,7 @@ impl Segments {
         ensures same { self.new ≡ self.old }
     {
         let number = frame as usize;
-        let generation = seals::generation(&mut self.seat, number);
+        let generation = self.seat.generation(number);
         let next = self.slots[number].len() + 1;
         Ptr::new(frame, next as u8, generation).unwrap()
     }
@@ -240,7 +240,16 @@ impl Segments {
         ensures same { self.new ≡ self.old }
     {
         let number = place.frame() as usize;
-        number < self.slots.len() && seals::generation(&mut self.seat, number) == place.generation()
+        number < self.slots.len() && self.seat.generation(number) == place.generation()
+    }
+
+    // What the block is for that a pointer at its frame's generation leads to, where it is held.
+    fn current_part(&self, place: Ptr) -> Option<Part>
+        requires inside { place.frame < length self.now.drive.frames }
+        requires current { (frame_at self.now.drive.frames place.frame).generation ≡ place.generation }
+        ensures { result ≡ option_map part_of (held_at self.now place) }
+    {
+        self.slots[place.frame() as usize].held(place.block() as usize)
     }
 
     /// What the block is for that a pointer leads to, where it is held.
@@ -251,7 +260,7 @@ impl Segments {
         if !self.is_current(place) {
             return None;
         }
-        self.slots[place.frame() as usize].held(place.block() as usize)
+        self.current_part(place)
     }
 
     /// The pointer is held no longer. Where it wasn't, nothing changes.
@@ -266,8 +275,9 @@ impl Segments {
         }
     }
 
-    /// The generation of a frame, where it is there and sealed.
+    // The generation of a frame, where it is there and sealed.
     fn sealed_generation(&mut self, frame: u16) -> Option<u32>
+        ensures inside { IfSome result (λ g. frame < length self.old.drive.frames) }
         ensures sealed { IfSome result (λ g. is_sealed (frame_at self.old.drive.frames frame).phase ≡ true) }
         ensures generation { IfSome result (λ g. g ≡ (frame_at self.old.drive.frames frame).generation) }
         ensures range { IfSome result (λ g. (1 ≤ g) × (g + 1 < 2 ^ 32)) }
@@ -275,18 +285,19 @@ impl Segments {
         ensures same { self.new ≡ self.old }
     {
         let number = frame as usize;
-        if number < self.slots.len() && seals::is_sealed(&mut self.seat, number) {
-            return Some(seals::generation(&mut self.seat, number));
+        if number < self.slots.len() && self.seat.is_sealed(number) {
+            return Some(self.seat.generation(number));
         }
         None
     }
 
-    // Whether a pointer leads to a held block of this object.
-    fn is_of(&mut self, object: ObjectId, place: Ptr) -> bool
-        ensures owned { result ≡ is_of object (held_at self.old place) }
-        ensures same { self.new ≡ self.old }
+    // Whether a pointer at its frame's generation leads to a held block of this object.
+    fn is_of(&self, object: ObjectId, place: Ptr) -> bool
+        requires inside { place.frame < length self.now.drive.frames }
+        requires current { (frame_at self.now.drive.frames place.frame).generation ≡ place.generation }
+        ensures { result ≡ is_of object (held_at self.now place) }
     {
-        match self.part(place) {
+        match self.current_part(place) {
             Some(part) => part.object == object,
             None => false,
         }

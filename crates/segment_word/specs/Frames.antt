@@ -1,5 +1,5 @@
 -- What is known of frames, as plain data.
-use Rattle.std.specs.Prelude.{ℕ, List, []}
+use Rattle.std.specs.Prelude.{ℕ, Bool, true, false, List, []}
 
 -- what a frame is for at present
 pub data Phase : Type 0 where
@@ -14,6 +14,24 @@ code_of Free = 0
 code_of Open = 1
 code_of Sealed = 2
 code_of Emptied = 3
+
+abbrev pub is_free : Phase → Bool
+is_free Free = true
+is_free Open = false
+is_free Sealed = false
+is_free Emptied = false
+
+abbrev pub is_open : Phase → Bool
+is_open Free = false
+is_open Open = true
+is_open Sealed = false
+is_open Emptied = false
+
+abbrev pub is_sealed : Phase → Bool
+is_sealed Free = false
+is_sealed Open = false
+is_sealed Sealed = true
+is_sealed Emptied = false
 
 -- a frame: what it is for, its generation, and its 1,024 block words
 pub record Frame : Type 0 where

@@ -1,6 +1,6 @@
 //! The drive's seat.
 ghost use Rattle.std.specs.Prelude.{◌≡◌, ◌≢◌, ℕ, ◌+◌, ◌*◌, ◌^◌, ◌<◌, ◌≤◌, length};
-ghost use Rattle.segment_word.specs.Frames.{Frame};
+ghost use Rattle.segment_word.specs.Frames.{Frame, code_of, is_sealed};
 ghost use Rattle.segment_word.specs.Frames.Phase.{Free, Open, Sealed};
 ghost use Rattle.segment_word.specs.Layout.{frame_at, block_bytes, with_block};
 ghost use Rattle.segment_word.specs.Steps.{raised, IsStateOf};
@@ -8,7 +8,7 @@ ghost use Rattle.segment_word.specs.Handles.{with_changed};
 
 use crate::blocks::{load_block, store_block};
 use crate::board::Board;
-use crate::layout::FRAME_WORDS;
+use crate::layout::{FRAME_WORDS, GENERATION_SHIFT, ONE_READER, SEALED};
 use crate::steps::{Place, look, raise};
 use std::alloc::Global;
 use std::marker::Model;
@@ -88,6 +88,26 @@ impl DriveSeat {
     {
         let words = &self.board.table.shared;
         look(words, &mut self.seat, FRAME_WORDS * frame)
+    }
+
+    /// The generation of a frame. Only a free frame can have the last one, 2^32 - 1.
+    pub fn generation(&mut self, frame: usize) -> u32
+        requires { frame < length self.old.frames }
+        ensures generation { result ≡ (frame_at self.old.frames frame).generation }
+        ensures least { 1 ≤ result }
+        ensures most { 0 < code_of (frame_at self.old.frames frame).phase → result + 1 < 2 ^ 32 }
+        ensures same { self.new ≡ self.old }
+    {
+        (self.state(frame) >> GENERATION_SHIFT) as u32
+    }
+
+    /// Whether a frame is sealed.
+    pub fn is_sealed(&mut self, frame: usize) -> bool
+        requires { frame < length self.old.frames }
+        ensures sealed { result ≡ is_sealed (frame_at self.old.frames frame).phase }
+        ensures same { self.new ≡ self.old }
+    {
+        self.state(frame) % ONE_READER == SEALED
     }
 
     /// Names a frame, so that it can be pinned.

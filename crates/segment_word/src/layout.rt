@@ -9,8 +9,14 @@ pub const BLOCK_WORDS: usize = 64;
 /// One reader in a state word.
 pub const ONE_READER: u64 = 4;
 
+/// Bits of a state word below its generation: two of the phase, and thirty that count readers.
+pub const GENERATION_SHIFT: u32 = 32;
+
+/// The phase of a sealed frame, as the two low bits of a state word tell it.
+pub const SEALED: u64 = 2;
+
 /// The state word of a free frame at generation 1.
-pub const FIRST_STATE: u64 = 1 << 32;
+pub const FIRST_STATE: u64 = 1 << GENERATION_SHIFT;
 
 /// The word of a perch on which no seat rests.
 pub const EMPTY: u64 = 0;

@@ -1,10 +1,13 @@
 //! Laws of rows, for the layers above: each function does nothing, and its contract is the law.
-ghost use Rattle.std.specs.Prelude.{◌≡◌, ℕ, Option};
+ghost use Rattle.std.specs.Prelude.{◌≡◌, ℕ, ◌≤◌, Option, IsSome};
 ghost use Rattle.s4_types.specs.Pointer.{Place};
 ghost use Rattle.blocks.specs.declared.kinds.BlockKind.TheVariants.{Journal, Checkpoint};
 ghost use Rattle.blocks.specs.Log.{Stored, of_kind};
+ghost use Rattle.journal_chain.specs.Chain.{chain_entries};
 ghost use Rattle.object_map.specs.declared.map.Row.{Row};
 ghost use Rattle.time_read.specs.Rows.{IsRow, inode_of};
+
+use packing::laws::packing_keeps_the_rule;
 
 /// A row is a matter of its object's journal blocks and checkpoints alone: where those are the same, it stands as
 /// before, and the inode at each moment is the same.
@@ -17,3 +20,14 @@ pub fn a_row_is_its_own_blocks()
         → of_kind Journal o later ≡ of_kind Journal o held → of_kind Checkpoint o later ≡ of_kind Checkpoint o held
         → inode_of later o row t ≡ inode_of held o row t }
 {}
+
+/// A row tells a journal that can be read: at most 11,712 bytes of entries, at most 488 of them in the newest block, and each of
+/// its blocks is held.
+#[tactic(auto, using(crate::proofs::Reading::few_bytes, crate::proofs::Reading::chain_is_there))]
+pub fn a_row_tells_a_chain()
+    ensures bytes { (held : Place → Option Stored) (o : ℕ) (row : Row) → IsRow held o row → row.journal_bytes ≤ 11712 }
+    ensures newest { (held : Place → Option Stored) (o : ℕ) (row : Row) → IsRow held o row → row.head_bytes ≤ 488 }
+    ensures walk { (held : Place → Option Stored) (o : ℕ) (row : Row) → IsRow held o row → IsSome (chain_entries held o row.head) }
+{
+    packing_keeps_the_rule();
+}

@@ -8,6 +8,7 @@ use segment_word::Naming;
 use std::alloc::Global;
 use std::process::Abort;
 use std::test::Fail;
+use time_read::ReadPlan;
 
 /// A drive that answers requests, whichever it is.
 pub(super) trait Answering: Drop {
@@ -93,6 +94,15 @@ pub(super) trait LogDrive: Drop {
     fn entries(&mut self, object: u64) -> Result<Vec<Entry>, Refusal>;
 
     fn held_in(&mut self, object: u64, frame: u16) -> Result<Vec<Ptr>, Refusal>;
+
+    /// A plan of reading an object's first bytes at a moment, asked for at moment 0 of the server's clock.
+    fn plan(
+        &mut self,
+        session: &mut Self::Session,
+        object: u64,
+        length: u32,
+        at: u64,
+    ) -> Result<ReadPlan, Refusal>;
 }
 
 impl<J: Naming> LogDrive for Drive<J> {
@@ -158,6 +168,18 @@ impl<J: Naming> LogDrive for Drive<J> {
     fn held_in(&mut self, object: u64, frame: u16) -> Result<Vec<Ptr>, Refusal> {
         Drive::held_in(self, ObjectId::new(object), frame)
     }
+
+    fn plan(
+        &mut self,
+        session: &mut Session<J>,
+        object: u64,
+        length: u32,
+        at: u64,
+    ) -> Result<ReadPlan, Refusal> {
+        let object = ObjectId::new(object);
+        let at = Some(Moment::new(at));
+        Drive::resolve(self, session, object, 0, length, at, Moment::new(0))
+    }
 }
 
 /// A drive over the log with a session of each role.
@@ -180,6 +202,11 @@ impl<D: LogDrive> Party<D> {
             client,
             admin,
         })
+    }
+
+    /// A plan of a client's Read of an object's first bytes at a moment.
+    pub(super) fn plan(&mut self, object: u64, length: u32, at: u64) -> Result<ReadPlan, Refusal> {
+        self.drive.plan(&mut self.client, object, length, at)
     }
 }
 

@@ -5,7 +5,6 @@ ghost use Rattle.s4_types.specs.Pointer.{Place};
 ghost use Rattle.inode_links.specs.Between.{CanLead};
 ghost use Rattle.inode_changes.specs.Contents.{contents_of};
 ghost use Rattle.inode_changes.specs.Tidiness.{Tidy, PointersHeld, PointersLead};
-ghost use Rattle.object_map.specs.Rows.{fresh_row as fresh_row_of};
 ghost use Rattle.time_read.specs.Rows.{chain_of};
 ghost use Rattle.segment_table.specs.Table.{held_at};
 ghost use Rattle.log_tests.specs.Subject.{IsRecorded, IsPresent};
@@ -30,7 +29,7 @@ use segment_table::SegmentTable;
 use std::alloc::Global;
 use std::test::Fail;
 use time_read::laws::a_row_is_its_own_blocks;
-use time_read::{entries, inode_at};
+use time_read::{ReadPlan, entries, inode_at, plan};
 
 /// The object of these tests.
 pub(super) const OBJECT: u64 = 1;
@@ -44,21 +43,6 @@ pub(super) struct Subject<B> {
     latest: Moment,
 }
 
-/// The row of an object that is to be made at a moment.
-fn fresh_row(created: Moment) -> Row
-    ensures { result ≡ fresh_row_of created }
-{
-    Row {
-        created,
-        checkpoint: None,
-        checkpoint_moment: Moment::new(0),
-        head: None,
-        journal_bytes: 0,
-        head_bytes: 0,
-        stamp: 0,
-    }
-}
-
 impl<B: Blocks> Subject<B> {
     /// An object that is to be made at a moment, over a table that holds nothing.
     pub(super) fn new(table: B, made: u64) -> Self
@@ -70,7 +54,7 @@ impl<B: Blocks> Subject<B> {
         let created = Moment::new(made);
         Subject {
             table,
-            row: fresh_row(created),
+            row: Row::fresh(created),
             inode: blank(created),
             latest: Moment::new(0),
         }
@@ -78,6 +62,10 @@ impl<B: Blocks> Subject<B> {
 
     pub(super) fn row(&self) -> Row {
         self.row
+    }
+
+    pub(super) fn inode(&self) -> Inode {
+        self.inode
     }
 
     pub(super) fn blocks_left(&self) -> usize {
@@ -377,5 +365,29 @@ impl Subject<SegmentTable> {
             return Ok(None);
         }
         Ok(Some(read_all(alloc, &mut self.table, inode)?))
+    }
+
+    /// A plan of reading bytes of an inode from an offset on, made once more where memory was refused. None where its pointers
+    /// don't all lead to data of the object.
+    pub(super) fn plan(
+        &mut self,
+        alloc: Global,
+        inode: &Inode,
+        offset: u64,
+        wanted: u64,
+    ) -> Result<Option<ReadPlan>, Refusal>
+        ensures { self.new ≡ self.old }
+    {
+        if inode.size > OBJECT_BYTES as u32 || !leads(&mut self.table, inode) {
+            return Ok(None);
+        }
+        match plan(alloc, &mut self.table, inode, offset, wanted) {
+            Err(Refusal::NoMemory) => {}
+            planned => return Ok(Some(planned?)),
+        }
+        if !leads(&mut self.table, inode) {
+            return Ok(None);
+        }
+        Ok(Some(plan(alloc, &mut self.table, inode, offset, wanted)?))
     }
 }

@@ -15,11 +15,10 @@ use inode_changes::laws::only_its_blocks_matter;
 use inode_links::laws::groups_join_and_part;
 use journal_chain::Chain;
 use object_map::Row;
-use packing::laws::packing_keeps_the_rule;
 use row_changes::laws::{a_row_is_by_later_moments, a_row_keeps_the_making, the_last_inode_stays};
 use row_changes::record_checkpoint;
 use s4_types::{Moment, ObjectId, Refusal};
-use time_read::laws::a_row_is_its_own_blocks;
+use time_read::laws::{a_row_is_its_own_blocks, a_row_tells_a_chain};
 
 /// The moment of an object's last journal entry, and 0 where it has none. It reads one block at most.
 fn last_entry<B: Blocks>(table: &mut B, object: ObjectId, row: &Row) -> Moment
@@ -27,7 +26,7 @@ fn last_entry<B: Blocks>(table: &mut B, object: ObjectId, row: &Row) -> Moment
     ensures moment { result ≡ last_entry (B.log table.old).held object row.now }
     ensures same { B.log table.new ≡ B.log table.old }
 {
-    packing_keeps_the_rule();
+    a_row_tells_a_chain();
     let chain = Chain::of(object, row.head, row.journal_bytes, row.head_bytes);
     let mut back = chain.entries_back();
     match back.next(table) {

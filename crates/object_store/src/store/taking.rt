@@ -29,21 +29,6 @@ use row_changes::record_change;
 use s4_types::{Change, Moment, ObjectId, Refusal};
 use time_read::laws::a_row_is_its_own_blocks;
 
-/// The row of an object that was just created.
-fn fresh_row(created: Moment) -> Row
-    ensures { result ≡ fresh_row created }
-{
-    Row {
-        created,
-        checkpoint: None,
-        checkpoint_moment: Moment::new(0),
-        head: None,
-        journal_bytes: 0,
-        head_bytes: 0,
-        stamp: 0,
-    }
-}
-
 /// An attribute of at most 64 bytes.
 fn attribute_of(bytes: &[u8]) -> Attribute
     requires { length bytes.now ≤ 64 }
@@ -57,10 +42,7 @@ impl<B: Blocks> Store<B> {
     fn subject_row(&self, object: ObjectId, moment: Moment) -> Row
         ensures { result ≡ subject_row (fields_of B.log self.now) object moment }
     {
-        match self.row(object) {
-            Some(row) => row,
-            None => fresh_row(moment),
-        }
+        self.row(object).unwrap_or(Row::fresh(moment))
     }
 
     /// The inode that a change of an object at a moment begins with: its present one, and the blank one of the moment where
@@ -108,7 +90,7 @@ impl<B: Blocks> Store<B> {
         };
         self.rows.change(object, next);
         self.latest = moment;
-        self.presents.replace(object, after);
+        self.presents.replace(object, *after);
     }
 
     /// Takes a deletion.
@@ -190,7 +172,7 @@ impl<B: Blocks> Store<B> {
         ensures unchanged { OnErr result (fields_of B.log self.new ≡ fields_of B.log self.old) }
     {
         a_fresh_row_stands();
-        self.presents.add(object, first)?;
+        self.presents.add(object, *first)?;
         if let Err(refusal) = self.rows.add(object, moment) {
             self.presents.remove(object);
             return Err(refusal);

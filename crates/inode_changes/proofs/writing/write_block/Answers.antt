@@ -8,4 +8,4 @@ pub returns-then-start-offset-clause-log : goal.returns-then-start-offset-clause
 returns-then-start-offset-clause-log g c =
     c.append_data.ensures.log
     ∙ ap (λ (b : List ℕ). grown (g.B.Blocks.log c.args.table.now) (data_block c.args.object b))
-    (covered_block (contents_of (g.B.Blocks.log c.args.table.now).held) c.args.inode.now c.args.index c.args.offset c.args.bytes.now c.blank-block.result c.place.new.block (omega arith) (omega arith) c.place.ensures.count c.place.ensures.bytes)
+    (covered_block (contents_of (g.B.Blocks.log c.args.table.now).held) c.args.inode.now c.args.index c.args.offset c.args.bytes.now c.zero_block-block.result c.place.new.block (omega arith) (omega arith) c.place.ensures.count c.place.ensures.bytes)

@@ -1,11 +1,10 @@
 use Rattle.std.proofs.Common.{rules, refl}
 use Rattle.blocks.specs.declared.kinds.BlockKind.TheVariants.{Checkpoint}
-use Rattle.row_changes.proofs.Chains.{few_in_head}
 use Rattle.row_changes.proofs.Pushing.{Laws, Pushed, with_chain, holding, pushed_row, pushed_by, pushed_inode}
 use Rattle.row_changes.proofs.changing.record_change.Goals as goal
 
 pub of-chain-requires-clause-one_block : goal.of-chain-requires-clause-one_block
-of-chain-requires-clause-one_block g c = few_in_head (g.B.Blocks.log c.args.table.now).held c.args.object c.args.row.now c.packing_keeps_the_rule.ensures.packed c.requires.row
+of-chain-requires-clause-one_block g c = c.a_row_tells_a_chain.ensures.newest (g.B.Blocks.log c.args.table.now).held c.args.object c.args.row.now c.requires.row
 
 pub returns : goal.returns
 returns g c =

@@ -32,6 +32,6 @@ returns c =
     let is : c.unwrap-summary.result ≡ summary_of c.args.frame (frame_at c.payload-payload.new.seat.frames c.args.frame) c.args.slots.now =
     summary_is c.args.frame c.generation-generation.result c.args.slots.now c.parts.result.items c.unwrap-summary.result can c.parts.ensures (subst M c.unwrap-summary.ensures c.new.ensures)
     ∙ ap (λ (g : ℕ). record { frame = c.args.frame; generation = g; parts = map (λ (slot : Slot). slot.part) c.args.slots.now })
-    (c.generation-generation.ensures.value ∙ ap (λ (d : Drive). (frame_at d.frames c.args.frame).generation) (sym same)) in
+    (c.generation-generation.ensures.generation ∙ ap (λ (d : Drive). (frame_at d.frames c.args.frame).generation) (sym same)) in
     sealed_is c.args.frame c.args.slots.now c.args.seat.now c.payload-payload.new.seat c.store.new.self c.seal.new.self c.encode_summary.result c.payload-payload.result c.unwrap-summary.result c.requires.inside c.requires.used.1 cleared
     c.store.ensures.changed c.store.ensures.stored c.store.ensures.others c.seal.ensures paid is c.encode_summary.ensures.decodes

@@ -10,4 +10,4 @@ returns g c =
       count = c.a_blank_inode_has_holes_alone.ensures.count;
       holes = c.a_blank_inode_has_holes_alone.ensures.holes;
     } in
-    fresh_as (g.B.Blocks.log c.args.table).held c.fresh_row.result c.blank.result c.new.result c.new-created.result law c.requires c.fresh_row.ensures c.blank.ensures c.new.ensures
+    fresh_as (g.B.Blocks.log c.args.table).held c.fresh.result c.blank.result c.new.result c.new-created.result law c.requires c.fresh.ensures c.blank.ensures c.new.ensures

@@ -4,18 +4,18 @@ use Rattle.segment_table.specs.declared.slots.Slot.{Slot}
 use Rattle.segment_table.specs.Slots.{held_part}
 use Rattle.segment_table.specs.Table.{Table, slots_at}
 use Rattle.segment_table.proofs.Reading.{part_is}
-use Rattle.segment_table.proofs.segments.Segments.part.Goals as goal
+use Rattle.segment_table.proofs.segments.Segments.current_part.Goals as goal
 
-pub returns-clause-part : goal.returns-clause-part
-returns-clause-part c =
+pub returns : goal.returns
+returns c =
     let old : Table = record { drive = c.self.inside.seat; slots = c.self.inside.slots.items } in
-    let same : old ≡ c.args.self.now = c.self.view_is ∙ c.is_current.ensures.same in
+    let same : old ≡ c.args.self.now = c.self.view_is in
     let I : Table → Type 0 = λ t. c.args.place.frame < length t.drive.frames in
-    let inside : I old = subst I (sym same) c.if-not-is_current.ensures.found.0 in
+    let inside : I old = subst I (sym same) c.requires.inside in
     let within : c.args.place.frame < length old.slots = omega (arith, c.self.invariant.counted) in
     let F : ℕ → Type 0 = λ n. c.index.result.now ≡ get_or old.slots n c.index.result.now in
     let read : c.index.result.now ≡ slots_at old.slots c.args.place.frame = get_or_read old.slots c.args.place.frame c.index.result.now within (subst F c.frame.ensures c.index.ensures) [] in
     c.held.ensures
     ∙ ap (λ (n : ℕ). held_part (slice_get c.index.result.now (n - 1))) c.block.ensures.block
     ∙ ap (λ (l : List Slot). held_part (slice_get l (c.args.place.block - 1))) (read ∙ ap (λ (t : Table). slots_at t.slots c.args.place.frame) same)
-    ∙ part_is c.args.self.now c.args.place c.if-not-is_current.ensures.found.1 c.block.ensures.range.lowest_block
+    ∙ part_is c.args.self.now c.args.place c.requires.current c.block.ensures.range.lowest_block

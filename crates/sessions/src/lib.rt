@@ -1,0 +1,15 @@
+//! Sessions that share one drive under a lock.
+//!
+//! The layer above may rely on this: each reply is that of a step of the model, on a history that begins with all that the session
+//! had seen before, and afterwards the session has seen all that the drive had accepted then. A read holds the lock while it is
+//! planned, and not while its bytes are fetched. In which order sessions that told each other nothing come is not said here.
+#![tactic(auto)]
+
+mod gate;
+mod locked;
+
+pub use gate::{Gate, Open};
+pub use locked::Locked;
+
+#[cfg(test)]
+mod tests;

@@ -1,0 +1,257 @@
+//! Plans of reads: where the bytes come from, and their fetching without the drive.
+ghost use Rattle.std.specs.Prelude.{◌≡◌, ℕ, ◌+◌, ◌-◌, ◌/◌, ◌<◌, ◌≤◌, ◌⊎◌, ◌↔◌, ◌++◌, [], ◌∷◌, length, take, drop, min, true, false, Option, Some, None, IsSome, IfOk, IfErr, OnOk, OnErr, slice_index_or};
+ghost use Rattle.std.specs.List.{list_any};
+ghost use Rattle.s4_types.specs.Pointer.{Place};
+ghost use Rattle.s4_types.specs.declared.refusals.Refusal.TheVariants.{NoMemory, Busy};
+ghost use Rattle.inode_changes.specs.Contents.{contents_of, bytes_of, listed};
+ghost use Rattle.inode_changes.specs.Tidiness.{PointersLead};
+ghost use Rattle.inode_changes.specs.Touched.{touched_count};
+ghost use Rattle.segment_word.specs.Frames.Phase.{Open, Sealed};
+ghost use Rattle.segment_word.specs.Layout.{frame_at};
+ghost use Rattle.segment_word.specs.Counting.{pins_in};
+ghost use Rattle.segment_table.specs.Table.{held_at};
+ghost use Rattle.time_read.specs.Plans.{piece_bytes, pins_of, bytes_planned, byte_planned, piece_of, pieces_of, contents_pinned, is_pinned_in, is_pinned, IsAt};
+ghost use Rattle.time_read.specs.Planning.{CountsOn, Locates, Adds};
+ghost use Rattle.time_read.specs.declared.plans.Piece.TheVariants.{Hole, Pinned};
+
+use blocks::{Block, Blocks};
+use codec::Inode;
+use inode_changes::laws::{bytes_from_an_offset, ranges_join_and_part};
+use inode_changes::zero_block;
+use s4_types::limits::BLOCK_BYTES;
+use s4_types::{Ptr, Refusal};
+use segment_table::SegmentTable;
+use segment_word::Pin;
+use std::alloc::Global;
+use std::marker::Model;
+
+/// Where the bytes of one block come from.
+#[derive(Clone, Copy)]
+pub enum Piece {
+    /// From nowhere: a hole has zeros.
+    Hole,
+    /// From a block of the open frame, which was copied when the plan was made.
+    Copied(Block),
+    /// From a block of a sealed frame, which the plan's pin keeps as it is.
+    Pinned { frame: u16, block: u8 },
+}
+
+/// What a read is to give: pieces of whole blocks, and which of their bytes it asks for. While it lives, each frame of a pinned
+/// piece keeps its contents, whatever other threads do.
+#[derive(Drop)]
+pub struct ReadPlan {
+    pieces: Vec<Piece>,
+    // where the bytes begin in the first piece
+    skip: usize,
+    length: usize,
+    // none where no piece is pinned
+    pin: Option<Pin>,
+}
+
+impl Model for ReadPlan {
+    ghost use Rattle.std.specs.Prelude.{◌<◌, ◌≤◌};
+    ghost use Rattle.time_read.specs.Plans.{PlanFields, AllCounted, pins_of};
+
+    ghost Value = { PlanFields };
+
+    ghost view = { λ p. record { pieces = p.pieces.items; skip = p.skip; length = p.length; pin = p.pin } };
+
+    ghost invariant = { λ p. AllCounted (pins_of p.pin) p.pieces.items × (p.skip < 512) × (p.length ≤ 24576) };
+}
+
+// The bytes of a piece.
+fn piece_block(pin: &mut Option<Pin>, piece: Piece) -> Block
+    requires { (frame block : ℕ) → piece ≡ Pinned frame block → (0 < pins_in frame (pins_of pin.old)) × (block < 16) }
+    ensures bytes { result ≡ piece_bytes (pins_of pin.old) piece }
+    ensures whole { length result ≡ 512 }
+    ensures same { pin.new ≡ pin.old }
+{
+    match piece {
+        Piece::Hole => zero_block(),
+        Piece::Copied(block) => block,
+        Piece::Pinned { frame, block } => match pin {
+            Some(pin) => pin.read_block(frame as usize, block as usize),
+            None => zero_block(),
+        },
+    }
+}
+
+// The pin that a plan has, or a new one without frames.
+fn pin_at(table: &SegmentTable, pin: Option<Pin>) -> Result<Pin, Refusal>
+    requires { IsAt table.now pin }
+    ensures pin { IfOk result (λ p. (p.table ≡ table.now.drive.table) × (p.pins ≡ pins_of pin)) }
+    ensures none { IfErr result (λ e. (e ≡ Busy) × (pin ≡ None)) }
+{
+    match pin {
+        Some(pin) => Ok(pin),
+        None => table.pin(),
+    }
+}
+
+impl ReadPlan {
+    /// Its pieces: one for each block that has one of its bytes, by ascending index.
+    pub fn pieces(&self) -> &[Piece]
+        ensures { result.now ≡ self.now.pieces }
+    {
+        &self.pieces
+    }
+
+    // The piece of an index, and a hole behind the last one.
+    fn piece(&self, index: usize) -> Piece
+        ensures { result ≡ slice_index_or self.now.pieces index Hole }
+    {
+        self.pieces.get(index).copied().unwrap_or(Piece::Hole)
+    }
+
+    // The bytes of the piece of an index, and zeros behind the last one.
+    fn block(&mut self, index: usize) -> Block
+        ensures bytes { result ≡ piece_bytes (pins_of self.old.pin) (slice_index_or self.old.pieces index Hole) }
+        ensures whole { length result ≡ 512 }
+        ensures same { self.new ≡ self.old }
+    {
+        let piece = self.piece(index);
+        piece_block(&mut self.pin, piece)
+    }
+
+    // Adds the bytes of one piece, from a place on and up to an end or to that of the piece, and answers where they end.
+    fn fetch_piece(&mut self, at: usize, end: usize, bytes: &mut Vec<u8>) -> Result<usize, Refusal>
+        requires start { at < end }
+        requires end { end ≤ 25088 }
+        ensures later { IfOk result (λ next. at < next) }
+        ensures within { IfOk result (λ next. next ≤ end) }
+        ensures bytes { IfOk result (λ next. bytes.new.items ≡ bytes.old.items ++ listed (byte_planned self.old) at (next - at)) }
+        ensures refusal { IfErr result (λ e. e ≡ NoMemory) }
+        ensures same { self.new ≡ self.old }
+    {
+        ranges_join_and_part();
+        let index = at / BLOCK_BYTES;
+        let start = index * BLOCK_BYTES;
+        let block = self.block(index);
+        let next = end.min(start + BLOCK_BYTES);
+        bytes.extend_from_slice(&block[at - start..next - start])?;
+        Ok(next)
+    }
+
+    /// The bytes that the plan names. Its pin ends with this call, which needs neither the drive nor a lock.
+    ///
+    /// NoMemory alone, where the memory for the bytes is refused; it is asked for once.
+    pub fn fetch(mut self, alloc: Global) -> Result<Vec<u8>, Refusal>
+        ensures bytes { IfOk result (λ bytes. bytes.items ≡ bytes_planned self) }
+        ensures refusal { IfErr result (λ e. e ≡ NoMemory) }
+    {
+        ranges_join_and_part();
+        let end = self.skip + self.length;
+        let mut bytes = Vec::with_capacity(alloc, self.length)?;
+        let mut at = self.skip;
+        while at < end {
+            at = self.fetch_piece(at, end, &mut bytes)?;
+        }
+        Ok(bytes)
+    }
+
+    // Counts on the sealed frame of a held block.
+    fn count_on(&mut self, table: &mut SegmentTable, place: Ptr) -> Result<(), Refusal>
+        requires at { IsAt table.old self.old.pin }
+        requires held { IsSome (held_at table.old place) }
+        requires sealed { (frame_at table.old.drive.frames place.frame).phase ≡ Sealed }
+        ensures counts { OnOk result (CountsOn table.old place self.old self.new) }
+        ensures refusal { IfErr result (λ e. (e ≡ NoMemory) ⊎ (e ≡ Busy)) }
+        ensures same { table.new ≡ table.old }
+    {
+        let mut pin = pin_at(table, self.pin.take())?;
+        let counted = table.count_on(&mut pin, place);
+        self.pin = Some(pin);
+        counted
+    }
+
+    // Where the bytes behind a slot come from. The frame of a sealed block is counted on from now on.
+    fn locate(&mut self, table: &mut SegmentTable, slot: Option<Ptr>) -> Result<Piece, Refusal>
+        requires at { IsAt table.old self.old.pin }
+        requires held { (p : Place) → slot ≡ Some p → IsSome (held_at table.old p) }
+        ensures piece { IfOk result (λ piece. piece ≡ piece_of table.old slot) }
+        ensures located { OnOk result (Locates table.old slot self.old self.new) }
+        ensures within { IfOk result (λ piece. (frame block : ℕ) → piece ≡ Pinned frame block → block < 16) }
+        ensures refusal { IfErr result (λ e. (e ≡ NoMemory) ⊎ (e ≡ Busy)) }
+        ensures pinned { IfErr result (λ _. is_pinned (piece_of table.old slot) ≡ true) }
+        ensures same { table.new ≡ table.old }
+    {
+        let Some(place) = slot else {
+            return Ok(Piece::Hole);
+        };
+        if table.is_open(place) {
+            return Ok(Piece::Copied(table.get(place)));
+        }
+        self.count_on(table, place)?;
+        Ok(Piece::Pinned {
+            frame: place.frame(),
+            block: place.block(),
+        })
+    }
+
+    // Adds the piece of a slot.
+    fn add(&mut self, table: &mut SegmentTable, slot: Option<Ptr>) -> Result<(), Refusal>
+        requires at { IsAt table.old self.old.pin }
+        requires held { (p : Place) → slot ≡ Some p → IsSome (held_at table.old p) }
+        ensures adds { OnOk result (Adds table.old slot self.old self.new) }
+        ensures refusal { IfErr result (λ e. (e ≡ NoMemory) ⊎ ((e ≡ Busy) × (is_pinned (piece_of table.old slot) ≡ true))) }
+        ensures same { table.new ≡ table.old }
+    {
+        let piece = self.locate(table, slot)?;
+        self.pieces.push(piece)?;
+        Ok(())
+    }
+}
+
+// The index behind the last block that has one of so many bytes from a place on; the place's own index where there are none.
+fn block_behind(start: usize, count: usize) -> usize
+    requires { 0 < count → start + count ≤ 24576 }
+    ensures { result ≡ start / 512 + touched_count start count }
+{
+    if count == 0 {
+        return start / BLOCK_BYTES;
+    }
+    (start + count - 1) / BLOCK_BYTES + 1
+}
+
+/// A plan of reading the bytes of an object from an offset on, `wanted` of them or as many as there are: none where the offset
+/// is at or past the size. Blocks of the open frame are copied. The frames of all others that are needed are pinned, and none of
+/// their bytes is read yet.
+///
+/// NoMemory where memory is refused: it is asked for once, and once for each frame that is pinned. Busy only where a block of a
+/// sealed frame is needed, and all 64 seats of pins are in use, its frame has 1,048,576 readers, or other threads changed the
+/// frame's word between load and exchange 64 times. Then nothing stays pinned.
+pub fn plan(
+    alloc: Global,
+    table: &mut SegmentTable,
+    inode: &Inode,
+    offset: u64,
+    wanted: u64,
+) -> Result<ReadPlan, Refusal>
+    requires size { inode.now.size ≤ 24576 }
+    requires count { length inode.now.pointers ≡ 48 }
+    requires lead { PointersLead (held_at table.old) inode.now }
+    ensures pieces { IfOk result (λ plan. plan.pieces ≡ pieces_of table.old inode.now offset (min wanted (inode.now.size - offset))) }
+    ensures bytes { IfOk result (λ plan. bytes_planned plan ≡ take wanted (drop offset (bytes_of (contents_of (held_at table.old)) inode.now))) }
+    ensures pins { IfOk result (λ plan. (f : ℕ) → (0 < pins_in f (pins_of plan.pin)) ↔ (list_any (is_pinned_in f) plan.pieces ≡ true)) }
+    ensures seat { IfOk result (λ plan. list_any is_pinned plan.pieces ≡ false → plan.pin ≡ None) }
+    ensures refusal { IfErr result (λ e. (e ≡ NoMemory) ⊎ ((e ≡ Busy) × (list_any is_pinned (pieces_of table.old inode.now offset (min wanted (inode.now.size - offset))) ≡ true))) }
+    ensures same { table.new ≡ table.old }
+{
+    ranges_join_and_part();
+    bytes_from_an_offset();
+    let left = (inode.size as u64).saturating_sub(offset);
+    let count = wanted.min(left) as usize;
+    let start = offset as usize;
+    let first = start / BLOCK_BYTES;
+    let end = block_behind(start, count);
+    let mut plan = ReadPlan {
+        pieces: Vec::with_capacity(alloc, end - first)?,
+        skip: start % BLOCK_BYTES,
+        length: count,
+        pin: None,
+    };
+    for index in first..end {
+        plan.add(table, inode.pointers[index])?;
+    }
+    Ok(plan)
+}
