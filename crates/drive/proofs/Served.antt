@@ -300,14 +300,13 @@ served_busy d later before after request now e read is free wants sees =
 
 -- a moment that was seen, and a drive and a ledger that stay then
 seen_still : (d seen_at later : DriveFields) (before after : SessionFields) (now : ℕ) → Sees d seen_at before after now → later.ledger ≡ seen_at.ledger → store_of later ≡ store_of seen_at → Sees d later before after now
-seen_still d seen_at later before after now sees ledger store =
-    (
-      ledger ∙ sees.0,
-      store ∙ sees.1,
-      sees.2 ∙ ap (λ (l : Ledger). record before { told = caught_up l before.told }) (sym ledger),
-      sees.3,
-      subst (λ (l : Ledger). Fits l after.told) (sym ledger) sees.4,
-    )
+seen_still d seen_at later before after now sees ledger store = (
+  ledger ∙ sees.0,
+  store ∙ sees.1,
+  sees.2 ∙ ap (λ (l : Ledger). record before { told = caught_up l before.told }) (sym ledger),
+  sees.3,
+  subst (λ (l : Ledger). Fits l after.told) (sym ledger) sees.4,
+)
 
 -- a read that was refused, once its moment was seen
 served_untold : (d seen_at later : DriveFields) (before after : SessionFields) (request : Request) (now : ℕ) (e : Refusal) → IsRead request
