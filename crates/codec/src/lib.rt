@@ -40,10 +40,3 @@ pub use summaries::{Part, Parts, Summary};
 pub use summary_reading::decode_summary;
 pub use summary_writing::encode_summary;
 pub use writing::Writing;
-
-#[cfg(test)]
-mod journal_tests;
-#[cfg(test)]
-mod summary_tests;
-#[cfg(test)]
-mod tests;

@@ -21,7 +21,9 @@ use Rattle.s4_model.specs.Effect.{is_of_versions, object_of}
 use Rattle.object_store.specs.Taking.{data_by, Appends}
 use Rattle.segment_word.specs.AcceptRule.{Fits}
 use Rattle.segment_word.specs.Counting.{pins_in}
-use Rattle.time_read.specs.Plans.{PlanFields, bytes_planned, pieces_of, pins_of, is_pinned, is_pinned_in}
+use Rattle.segment_word.specs.Handles.{Held}
+use Rattle.atomic_table.specs.Seated.{TableId}
+use Rattle.time_read.specs.Plans.{PlanFields, IsAt, bytes_planned, pieces_of, pins_of, is_pinned, is_pinned_in}
 use Rattle.object_store.specs.Versions.{inode_in}
 use Rattle.drive.specs.Fields.{DriveFields, SessionFields, store_of, state_in}
 use Rattle.drive.specs.Refusing.{or_then, want_of, IsRefusal}
@@ -103,10 +105,15 @@ reply_planned (Ok plan) = Data (bytes_planned plan)
 reply_planned (Err refusal) = Refused refusal
 
 -- A plan has a piece for each block that a read asks for, of the inode that its object has at the moment asked for: sealed
--- blocks are pinned, and no other frame is. One without pinned pieces has no seat.
+-- blocks are pinned, in the drive's own table, and no other frame is. One without pinned pieces has no seat.
 pub record IsPlanOf (d : DriveFields) (object offset len : ℕ) (at : Option ℕ) (plan : PlanFields) : Type 0 where
   pub inode : Inode
   pub there : inode_in (store_of d) object (asked (state_in d) at) ≡ Some inode
   pub pieces : plan.pieces ≡ pieces_of d.store.table inode offset (min len (inode.size - offset))
   pub pins : (f : ℕ) → (0 < pins_in f (pins_of plan.pin)) ↔ (list_any (is_pinned_in f) plan.pieces ≡ true)
   pub seat : list_any is_pinned plan.pieces ≡ false → plan.pin ≡ None
+  pub here : IsAt d.store.table plan.pin
+
+-- a plan's pin, where it has one, is of this table of frames
+abbrev pub IsPinOf : TableId → Option Held → Type 0
+IsPinOf frames pin = (held : Held) → pin ≡ Some held → held.table ≡ frames

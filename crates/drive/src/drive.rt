@@ -7,9 +7,8 @@ ghost use Rattle.segment_word.specs.AcceptViews.{caught_up};
 ghost use Rattle.segment_word.specs.AcceptRule.{Fits};
 
 use crate::session::Session;
-use object_store::Store;
+use object_store::{NamedTable, Store};
 use s4_types::{ObjectId, Refusal, Role};
-use segment_table::SegmentTable;
 use segment_word::{HistorySeat, Naming, Sessions};
 use std::alloc::Global;
 use std::marker::Model;
@@ -24,7 +23,7 @@ pub struct Drive<J: Naming> {
     pub(crate) alloc: Global,
     pub(crate) history: HistorySeat<J>,
     pub(crate) sessions: Sessions<J>,
-    pub(crate) store: Store<SegmentTable>,
+    pub(crate) store: Store<NamedTable<J>>,
     pub(crate) window: Window,
     pub(crate) next: ObjectId,
 }

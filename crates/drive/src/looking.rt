@@ -20,15 +20,17 @@ use segment_word::Naming;
 
 impl<J: Naming> Drive<J> {
     /// Shows what always holds of a drive: at each moment that can be read, the blocks of each object decode to exactly the
-    /// version that the history tells; that history begins with the drive's base and is sound; and the objects stand on
-    /// their blocks.
+    /// version that the history tells; that history begins with the drive's base and is sound; the frames are those
+    /// of the table that `J` names; and the objects stand on their blocks.
     pub fn rules(&self)
         ensures decodes { DecodesWhereVisible (store_of self.now) (state_in self.now) }
         ensures base { (history_of self.now).base ≡ J.base }
+        ensures frames { self.now.store.table.drive.table ≡ J.frames }
         ensures sound { IsSound (state_in self.now) }
         ensures store { IsStore (store_of self.now) }
     {
         let _ = &self.next;
+        self.store.rules();
     }
 
     /// The clock: the last moment given or seen.

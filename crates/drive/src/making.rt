@@ -65,6 +65,7 @@ impl NewDrive {
     /// The drive, under a name that says which one it is and what its history begins with.
     pub fn named<J: Naming>(self) -> Drive<J>
         requires accepts { self.accepts ≡ J.accepts }
+        requires frames { self.store.table.drive.table ≡ J.frames }
         requires base { new_base self.window ≡ J.base }
         ensures ledger { result.ledger ≡ begun J.base }
         ensures store { result.store ≡ self.store }
@@ -80,7 +81,7 @@ impl NewDrive {
             alloc,
             history,
             sessions,
-            store,
+            store: store.named::<J>(),
             window,
             next: ObjectId::new(1),
         }

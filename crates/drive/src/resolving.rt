@@ -11,7 +11,7 @@ ghost use Rattle.segment_word.specs.AcceptRule.{Fits};
 ghost use Rattle.time_read.specs.Plans.{bytes_planned};
 ghost use Rattle.drive.specs.Fields.{history_of, state_in, store_of};
 ghost use Rattle.drive.specs.Refusing.{refusal_of, RefusesBy, IsUnplanned};
-ghost use Rattle.drive.specs.Answering.{IsPlanOf, reply_planned};
+ghost use Rattle.drive.specs.Answering.{IsPlanOf, IsPinOf, reply_planned};
 
 use crate::drive::Drive;
 use crate::session::Session;
@@ -59,6 +59,8 @@ impl<J: Naming> Drive<J> {
         ensures step { Step (history_of self.old) session.old.role (Read object offset length at) now (reply_planned result) (history_of self.new) }
         ensures refused { RefusesBy (refusal_of (store_of self.old) (judged (history_of self.old) (Read object offset length at) now) session.old.role (Read object offset length at) now) self.new (Read object offset length at) (reply_planned result) }
         ensures plan { IfOk result (IsPlanOf self.new object offset length at) }
+        // Its pin is of the table of frames that `J` names.
+        ensures named { IfOk result (λ plan. IsPinOf J.frames plan.pin) }
         ensures fits { ReplyFits (reply_planned result) }
         ensures ledger { self.new.ledger ≡ with_moment self.old.ledger now }
         ensures store { store_of self.new ≡ store_of self.old }
@@ -67,6 +69,8 @@ impl<J: Naming> Drive<J> {
         ensures after { Fits self.new.ledger session.new.told }
     {
         self.see(session, now);
-        self.plan_read(object, offset, length, at)
+        let planned = self.plan_read(object, offset, length, at);
+        self.rules();
+        planned
     }
 }

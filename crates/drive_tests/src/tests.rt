@@ -40,6 +40,7 @@ fn play_named<J: Naming, S: Scene, R: Abort>(
     made: NewDrive,
     scene: S,
 ) -> Result<(), Fail>
+    requires frames { made.store.table.drive.table ≡ J.frames }
     requires accepts { made.accepts ≡ J.accepts }
     requires base { new_base made.window ≡ J.base }
 {

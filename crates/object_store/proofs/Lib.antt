@@ -11,5 +11,6 @@ pub mod Turning
 pub mod Making
 pub mod Tables
 pub mod Sealing
+pub mod InPlace
 pub mod Checkpointing
 pub mod CheckpointSteps

@@ -9,8 +9,10 @@
 
 mod costs;
 pub mod laws;
+mod named;
 mod store;
 #[cfg(test)]
 mod tests;
 
+pub use named::NamedTable;
 pub use store::{MOST_PLACES, Store};

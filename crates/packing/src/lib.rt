@@ -13,6 +13,3 @@ pub mod laws;
 mod sizes;
 
 pub use sizes::{blocks_needed, filled_after, fits};
-
-#[cfg(test)]
-mod tests;

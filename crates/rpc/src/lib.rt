@@ -28,6 +28,3 @@ pub use laws::{one_reading, reading_goes_on};
 pub use reader::{FrameReader, read_all};
 pub use replies::decode_reply;
 pub use requests::decode_request;
-
-#[cfg(test)]
-mod tests;

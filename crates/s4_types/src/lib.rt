@@ -16,8 +16,6 @@ mod refusals;
 mod replies;
 mod requests;
 mod spans;
-#[cfg(test)]
-mod tests;
 mod versions;
 
 pub use byte_list::Bytes;

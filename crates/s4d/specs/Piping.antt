@@ -8,10 +8,10 @@ use Rattle.segment_table.specs.Room.{log_of, new_places}
 use Rattle.drive.specs.Fields.{DriveFields, SessionFields, history_of, state_in, store_of}
 use Rattle.drive.specs.Refusing.{refusal_of, RefusesBy}
 use Rattle.drive.specs.Answering.{Leaves, told_after}
-use Rattle.server.specs.Drawing.{Ticks}
-use Rattle.server.specs.Session.{Serves}
-use Rattle.server.specs.declared.clock.Ticking.{Ticking}
-use Rattle.server.specs.declared.ends.ServeEnd.{ServeEnd}
+use Rattle.serving.specs.Drawing.{Ticks}
+use Rattle.serving.specs.Session.{Serves}
+use Rattle.serving.specs.declared.clock.Ticking.{Ticking}
+use Rattle.serving.specs.declared.ends.ServeEnd.{ServeEnd}
 use Rattle.s4d_command.specs.declared.Pipe.{Pipe}
 
 -- a session with a drive of its own

@@ -12,7 +12,7 @@ mod tests;
 
 use performing::{fail, perform, refuse};
 use s4d_command::CommandError;
-use server::{ReadSource, WriteSink};
+use serving::{ReadSource, WriteSink};
 use std::io;
 use std::process::ExitCode;
 

@@ -5,12 +5,12 @@ ghost use Rattle.clap.specs.Simple.{subcommand_of};
 ghost use Rattle.s4d_command.specs.CommandLine.{line, Spells, SpellsNone};
 ghost use Rattle.s4d_command.specs.declared.Pipe.{Pipe as PipeValue};
 ghost use Rattle.s4d_command.specs.declared.Command.TheVariants as command;
-ghost use Rattle.server.specs.Streams.{taken_by};
+ghost use Rattle.serving.specs.Streams.{taken_by};
 ghost use Rattle.s4d.specs.Piping.{Pipes};
 
 use crate::piping::serve_pipe;
 use s4d_command::{Command, CommandError, command_of};
-use server::{ServeEnd, Sink, Source};
+use serving::{ServeEnd, Sink, Source};
 use std::alloc::Global;
 use std::convert::AsStr;
 use std::fmt::Display;

@@ -1,7 +1,7 @@
 //! A session with a drive of its own, served over a reader and a writer.
 ghost use Rattle.std.specs.Prelude.{◌≡◌, ◌≢◌, ◌⊎◌, ◌+◌, ◌^◌, ◌<◌, ◌≤◌, None, [], IfOk, IfErr, OnErr};
-ghost use Rattle.server.specs.Session.{reading_failures, writing_failures};
-ghost use Rattle.server.specs.Streams.{taken_by};
+ghost use Rattle.serving.specs.Session.{reading_failures, writing_failures};
+ghost use Rattle.serving.specs.Streams.{taken_by};
 ghost use Rattle.s4_types.specs.declared.refusals.Refusal.TheVariants.{NoMemory, Busy};
 ghost use Rattle.s4_model.specs.State.{new_base};
 ghost use Rattle.segment_table.specs.Room.{log_of, new_places};
@@ -11,7 +11,7 @@ use drive::{Drive, NewDrive, Session};
 use s4_types::{Moment, Refusal, Reply, Request, Role};
 use s4d_command::Pipe;
 use segment_word::Naming;
-use server::{Backend, ServeEnd, Sink, Source, Ticking, serve};
+use serving::{Backend, ServeEnd, Sink, Source, Ticking, serve};
 use std::alloc::Global;
 use std::marker::{Brand, Model};
 
@@ -86,6 +86,7 @@ fn serve_named<J: Naming, R: Source, W: Sink>(
     reader: &mut R,
     writer: &mut W,
 ) -> Result<ServeEnd, Refusal>
+    requires frames { made.store.table.drive.table ≡ J.frames }
     requires accepts { made.accepts ≡ J.accepts }
     requires base { new_base made.window ≡ J.base }
     requires window { made.window ≡ pipe.window }

@@ -11,7 +11,7 @@ mod rows;
 
 use crate::performing::perform;
 use crate::tests::hex_text::bytes_of;
-use server::{MemorySink, MemorySource, ReadSource, WriteSink};
+use serving::{MemorySink, MemorySource, ReadSource, WriteSink};
 use std::alloc::{AllocError, Global};
 
 /// What a run left: its status, and what it wrote.

@@ -1,4 +1,1 @@
-pub mod AnsweringLemmas
-pub mod SessionLemmas
-pub mod ClockLemmas
-pub mod StreamLemmas
+pub mod Sharing

@@ -1,18 +1,15 @@
--- Moments that are drawn from a clock.
-use Rattle.std.specs.Prelude.{◌≡◌, ℕ, ◌+◌, ◌-◌, ◌*◌, ◌^◌, min, List, [], ◌∷◌}
-use Rattle.server.specs.declared.clock.Ticking.{Ticking}
+-- Moments that several sessions draw from one clock.
+use Rattle.std.specs.Prelude.{◌≡◌, ℕ, ◌<◌}
+use Rattle.serving.specs.Drawing.{moment_at}
 
--- the moments come from the clock, one draw after another
-abbrev pub Drawn : {C : Type 0} → (C → ℕ → C → Type 0) → C → List ℕ → C → Type 0
-Drawn draws old [] new = new ≡ old
-Drawn {C} draws old (now ∷ moments) new = (mid : C) × draws old now mid × Drawn draws mid moments new
+-- what contracts see of a shared clock: where it stood at first, and how far each draw moves it
+pub record ClockFields : Type 0 where
+  pub start : ℕ
+  pub tick : ℕ
 
--- the k-th moment of a clock, counted from 1: so many ticks after the start, stopping at the last moment
-abbrev pub moment_at : ℕ → ℕ → ℕ → ℕ
-moment_at start tick k = min (start + k * tick) (2 ^ 64 - 1)
-
--- a draw moves the clock by one tick, or to the last moment, and tells the moment that it has come to
-pub record Ticks (old : Ticking) (now : ℕ) (new : Ticking) : Type 0 where
-  pub moved : now ≡ moment_at old.present old.tick 1
-  pub present : new.present ≡ now
-  pub tick : new.tick ≡ old.tick
+-- A draw gives the moment of some tick. Which one it is depends on what the other sessions draw.
+pub record Counts (old : ClockFields) (now : ℕ) (new : ClockFields) : Type 0 where
+  pub count : ℕ
+  pub counted : 0 < count
+  pub moment : now ≡ moment_at old.start old.tick count
+  pub same : new ≡ old

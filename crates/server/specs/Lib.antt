@@ -1,4 +1,3 @@
-pub mod Streams
+pub mod Sharing
 pub mod Drawing
-pub mod Answering
-pub mod Session
+pub mod Attending

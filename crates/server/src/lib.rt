@@ -1,27 +1,19 @@
-//! Serves one session: requests come in as a stream of frames, a backend answers each, and the replies go out.
+//! Sessions that share one drive under a lock.
 //!
-//! The layer above may rely on this: what `serve` writes is exactly the frames of the backend's replies, in
-//! order, to the items that the wire's grammar reads from the bytes that came, however they were cut; where
-//! writing fails, a beginning of them, and where memory is short, those to the items that were taken up, all or
-//! all but the last. The backend is asked nothing else, and what was answered stays done. Each end comes only
-//! where its name says. What the backend answers, and when reading or writing fails, is said elsewhere; where
-//! the bytes of a reader or a writer aren't known, as for a file, nothing is said of these bytes.
+//! The layer above may rely on this: each reply is that of a step of the model, on a history that begins with all that the session
+//! had seen before, and afterwards the session has seen all that the drive had accepted then. A read holds the lock while it is
+//! planned, and not while its bytes are fetched. In which order sessions that told each other nothing come is not said here.
 #![tactic(auto)]
 
-mod backend;
-mod clock;
-mod ends;
-mod fail_after;
-mod memory;
-mod serving;
-mod std_streams;
-mod streams;
+mod clocks;
+mod gate;
+mod locked;
+mod running;
 
-pub use backend::Backend;
-pub use clock::{Clock, Ticking};
-pub use ends::ServeEnd;
-pub use fail_after::FailAfter;
-pub use memory::{MemorySink, MemorySource};
-pub use serving::serve;
-pub use std_streams::{ReadSource, WriteSink};
-pub use streams::{Sink, Source, StreamFailed};
+pub use clocks::SharedClock;
+pub use gate::{Gate, Open};
+pub use locked::Locked;
+pub use running::{Client, MOST_SESSIONS, Outcome, run_sessions};
+
+#[cfg(test)]
+mod tests;

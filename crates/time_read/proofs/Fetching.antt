@@ -1,7 +1,7 @@
 -- The bytes of a plan, piece by piece.
-use Rattle.std.proofs.Common.{◌≡◌, ℕ, ◌+◌, ◌-◌, ◌*◌, ◌/◌, ◌%◌, ◌<◌, ◌≤◌, List, [], ◌++◌, length, take, drop, slice_index, slice_index_or, ap, sym, ◌∙◌, arith}
+use Rattle.std.proofs.Common.{◌≡◌, ℕ, ◌+◌, ◌-◌, ◌*◌, ◌/◌, ◌%◌, ◌<◌, ◌≤◌, List, [], ◌++◌, length, take, drop, slice_index, slice_index_or, ap, sym, ◌∙◌, arith, length-append, get_or-take, get_or-drop}
 use Rattle.inode_changes.specs.Contents.{listed}
-use Rattle.inode_changes.specs.Laws.{RangesJoin, ARangeHasParts, AListIsARange}
+use Rattle.inode_changes.specs.Laws.{RangesJoin, AListIsARange}
 use Rattle.time_read.specs.Plans.{PlanFields, piece_bytes, pins_of, byte_planned}
 use Rattle.time_read.specs.declared.plans.Piece.TheVariants.{Hole}
 
@@ -14,15 +14,19 @@ byte_of_piece plan index n lt =
     ap (λ (k : ℕ). slice_index (piece_bytes (pins_of plan.pin) (slice_index_or plan.pieces k Hole)) n) at
     ∙ ap (λ (r : ℕ). slice_index (piece_bytes (pins_of plan.pin) (slice_index_or plan.pieces ((512 * index + n) / 512) Hole)) r) rest
 
--- a part of a piece is a range of the plan's bytes
-pub piece_is : AListIsARange → ARangeHasParts → (plan : PlanFields) (block : List ℕ) (index at next skip count : ℕ) → block ≡ piece_bytes (pins_of plan.pin) (slice_index_or plan.pieces index Hole) → length block ≡ 512
-    → at / 512 ≡ index → at < next → next ≤ 512 * index + 512 → skip ≡ at - 512 * index → count ≡ next - at → take count (drop skip block) ≡ listed (byte_planned plan) at (next - at)
-piece_is list part plan block index at next skip count is whole is_index lt le is_skip is_count =
-    let all : block ≡ listed (byte_planned plan) (512 * index) 512 = list (byte_planned plan) (512 * index) 512 block whole (λ n below. ap (λ (b : List ℕ). slice_index b n) is ∙ byte_of_piece plan index n below) in
-    ap (λ (b : List ℕ). take count (drop skip b)) all
-    ∙ part (byte_planned plan) (512 * index) 512 skip count (omega arith)
-    ∙ ap (λ (m : ℕ). listed (byte_planned plan) m count) (omega arith)
-    ∙ ap (listed (byte_planned plan) at) is_count
+-- what was added of a piece is a range of the plan's bytes
+pub part_added : AListIsARange → (plan : PlanFields) (index at next from to : ℕ) (old new : List ℕ) → at / 512 ≡ index → at < next → next ≤ 512 * index + 512 → from ≡ at - 512 * index → to ≡ next - 512 * index
+    → new ≡ old ++ take (to - from) (drop from (piece_bytes (pins_of plan.pin) (slice_index_or plan.pieces index Hole))) → length new ≡ length old + (to - from) → new ≡ old ++ listed (byte_planned plan) at (next - at)
+part_added list plan index at next from to old new is_index lt le is_from is_to is long =
+    let block : List ℕ = piece_bytes (pins_of plan.pin) (slice_index_or plan.pieces index Hole) in
+    let part : List ℕ = take (to - from) (drop from (piece_bytes (pins_of plan.pin) (slice_index_or plan.pieces index Hole))) in
+    let both : length new ≡ length old + length part = ap (length {A = ℕ}) is ∙ length-append old part in
+    let whole : length part ≡ next - at = omega (arith, both, long, is_from, is_to, lt, is_index) in
+    is ∙ ap (λ (l : List ℕ). old ++ l) (list (byte_planned plan) at (next - at) part whole (λ n below.
+    get_or-take (to - from) (drop from block) n 0 (omega (arith, is_from, is_to, below))
+    ∙ get_or-drop from block n 0
+    ∙ byte_of_piece plan index (from + n) (omega (arith, is_from, below, le, is_index))
+    ∙ ap (byte_planned plan) (omega (arith, is_from, is_index))))
 
 -- nothing was fetched
 pub none_fetched : AListIsARange → (f : ℕ → ℕ) (first count : ℕ) (bytes : List ℕ) → bytes ≡ [] → count ≡ 0 → bytes ≡ listed f first count

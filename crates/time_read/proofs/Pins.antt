@@ -1,6 +1,7 @@
 -- What the pins of a plan have of a frame.
-use Rattle.std.proofs.Common.{◌≡◌, ℕ, suc, ◌<◌, ◌==◌, cond, List, [], ◌∷◌, inl, inr, refl, ap, sym, ◌∙◌, arith}
+use Rattle.std.proofs.Common.{◌≡◌, ℕ, suc, ◌<◌, ◌==◌, cond, List, [], ◌∷◌, ◌++◌, take, drop, Result, OnOk, subst, inl, inr, refl, ap, sym, ◌∙◌, arith}
 use Rattle.std.proofs.lemmas.Bool.{cases_Bool, eqb-true, cond-true, cond-false}
+use Rattle.s4_types.specs.declared.refusals.Refusal.{Refusal}
 use Rattle.segment_word.specs.Frames.{Pinned}
 use Rattle.segment_word.specs.Handles.{IsAmong}
 use Rattle.segment_word.specs.Layout.{block_bytes}
@@ -40,3 +41,7 @@ pub pinned_bytes : (f b : ℕ) (pins : List Pinned) (bytes : List ℕ) → 0 < p
 pinned_bytes f b pins bytes counted is =
     let there = is_there f pins counted in
     is there.pin there.among there.frame ∙ ap (λ (c : List ℕ). block_bytes c b) (sym there.contents)
+
+-- what was added is a part of the same bytes
+pub of_bytes : (r : Result (Unit {0}) Refusal) (n s : ℕ) (old new bytes same : List ℕ) → bytes ≡ same → OnOk r (new ≡ old ++ take n (drop s bytes)) → OnOk r (new ≡ old ++ take n (drop s same))
+of_bytes r n s old new bytes same is added = subst (λ (l : List ℕ). OnOk r (new ≡ old ++ take n (drop s l))) is added

@@ -12,7 +12,7 @@ mod moving;
 mod plans;
 
 pub use inodes::{entries, inode_at};
-pub use plans::{Piece, ReadPlan, plan};
+pub use plans::{Piece, PlanPiece, ReadPlan, plan};
 
 #[cfg(test)]
 mod tests;

@@ -7,12 +7,12 @@ ghost use Rattle.inode_changes.specs.Contents.{contents_of, bytes_of, listed};
 ghost use Rattle.inode_changes.specs.Tidiness.{PointersLead};
 ghost use Rattle.inode_changes.specs.Touched.{touched_count};
 ghost use Rattle.segment_word.specs.Frames.Phase.{Open, Sealed};
-ghost use Rattle.segment_word.specs.Layout.{frame_at};
+ghost use Rattle.segment_word.specs.Layout.{frame_at, block_bytes};
 ghost use Rattle.segment_word.specs.Counting.{pins_in};
 ghost use Rattle.segment_table.specs.Table.{held_at};
 ghost use Rattle.time_read.specs.Plans.{piece_bytes, pins_of, bytes_planned, byte_planned, piece_of, pieces_of, contents_pinned, is_pinned_in, is_pinned, IsAt};
 ghost use Rattle.time_read.specs.Planning.{CountsOn, Locates, Adds};
-ghost use Rattle.time_read.specs.declared.plans.Piece.TheVariants.{Hole, Pinned};
+ghost use Rattle.time_read.specs.declared.plans.Piece.TheVariants.{Hole, Copied, Pinned};
 
 use blocks::{Block, Blocks};
 use codec::Inode;
@@ -36,11 +36,136 @@ pub enum Piece {
     Pinned { frame: u16, block: u8 },
 }
 
+// Where a plan has a piece's bytes from. It's moved while the drive is held, so it stays small.
+#[derive(Drop)]
+enum Source {
+    Nowhere,
+    Copy(Box<Block>),
+    Frame { frame: u16, block: u8 },
+}
+
+// Adds bytes behind others.
+fn append_slice(bytes: &[u8], into: &mut Vec<u8>) -> Result<(), Refusal>
+    ensures bytes { OnOk result (into.new.items ≡ into.old.items ++ bytes.now) }
+    ensures added { OnOk result (length into.new.items ≡ length into.old.items + length bytes.now) }
+    ensures refusal { IfErr result (λ e. e ≡ NoMemory) }
+{
+    into.extend_from_slice(bytes)?;
+    Ok(())
+}
+
+// Adds bytes of a block of a frame that the pin counts on, from one place of it on and up to another.
+fn append_pinned(
+    pin: &mut Option<Pin>,
+    frame: u16,
+    block: u8,
+    from: usize,
+    to: usize,
+    into: &mut Vec<u8>,
+) -> Result<(), Refusal>
+    requires counted { (0 < pins_in frame (pins_of pin.old)) × (block < 16) }
+    requires range { (from ≤ to) × (to ≤ 512) }
+    ensures bytes { OnOk result (into.new.items ≡ into.old.items ++ take (to - from) (drop from (block_bytes (contents_pinned frame (pins_of pin.old)) block))) }
+    ensures added { OnOk result (length into.new.items ≡ length into.old.items + (to - from)) }
+    ensures refusal { IfErr result (λ e. e ≡ NoMemory) }
+    ensures same { pin.new ≡ pin.old }
+{
+    match pin {
+        Some(pin) => {
+            let bytes = pin.read_block(frame as usize, block as usize);
+            append_slice(&bytes[from..to], into)
+        }
+        None => Ok(()),
+    }
+}
+
+/// A piece as a plan keeps it, in a few bytes: a copied block stands in memory of its own.
+#[derive(Drop)]
+pub struct PlanPiece {
+    source: Source,
+}
+
+impl Model for PlanPiece {
+    ghost use Rattle.time_read.specs.declared.plans.Piece.{Piece};
+    ghost use Rattle.time_read.specs.Sources.{piece_from};
+
+    ghost Value = { Piece };
+
+    ghost view = { λ p. piece_from p.source };
+}
+
+impl PlanPiece {
+    /// Where its bytes come from.
+    pub fn told(&self) -> Piece
+        ensures { result ≡ self.now }
+    {
+        match &self.source {
+            Source::Nowhere => Piece::Hole,
+            Source::Copy(block) => Piece::Copied(**block),
+            Source::Frame { frame, block } => Piece::Pinned {
+                frame: *frame,
+                block: *block,
+            },
+        }
+    }
+
+    fn hole() -> Self
+        ensures { result ≡ Hole }
+    {
+        PlanPiece {
+            source: Source::Nowhere,
+        }
+    }
+
+    fn pinned(place: Ptr) -> Self
+        ensures { result ≡ Pinned place.frame place.block }
+    {
+        PlanPiece {
+            source: Source::Frame {
+                frame: place.frame(),
+                block: place.block(),
+            },
+        }
+    }
+
+    fn copied(alloc: Global, block: Block) -> Result<Self, Refusal>
+        ensures piece { IfOk result (λ p. p ≡ Copied block) }
+        ensures refusal { IfErr result (λ e. e ≡ NoMemory) }
+    {
+        let block = Box::new(alloc, block)?;
+        Ok(PlanPiece {
+            source: Source::Copy(block),
+        })
+    }
+
+    // Adds its bytes from one place on and up to another.
+    fn append(
+        &self,
+        pin: &mut Option<Pin>,
+        from: usize,
+        to: usize,
+        into: &mut Vec<u8>,
+    ) -> Result<(), Refusal>
+        requires counted { (frame block : ℕ) → self.now ≡ Pinned frame block → (0 < pins_in frame (pins_of pin.old)) × (block < 16) }
+        requires range { (from ≤ to) × (to ≤ 512) }
+        ensures bytes { OnOk result (into.new.items ≡ into.old.items ++ take (to - from) (drop from (piece_bytes (pins_of pin.old) self.now))) }
+        ensures added { OnOk result (length into.new.items ≡ length into.old.items + (to - from)) }
+        ensures refusal { IfErr result (λ e. e ≡ NoMemory) }
+        ensures same { pin.new ≡ pin.old }
+    {
+        match &self.source {
+            Source::Nowhere => append_slice(&zero_block()[from..to], into),
+            Source::Copy(block) => append_slice(&block[from..to], into),
+            Source::Frame { frame, block } => append_pinned(pin, *frame, *block, from, to, into),
+        }
+    }
+}
+
 /// What a read is to give: pieces of whole blocks, and which of their bytes it asks for. While it lives, each frame of a pinned
 /// piece keeps its contents, whatever other threads do.
 #[derive(Drop)]
 pub struct ReadPlan {
-    pieces: Vec<Piece>,
+    pieces: Vec<PlanPiece>,
     // where the bytes begin in the first piece
     skip: usize,
     length: usize,
@@ -59,23 +184,6 @@ impl Model for ReadPlan {
     ghost invariant = { λ p. AllCounted (pins_of p.pin) p.pieces.items × (p.skip < 512) × (p.length ≤ 24576) };
 }
 
-// The bytes of a piece.
-fn piece_block(pin: &mut Option<Pin>, piece: Piece) -> Block
-    requires { (frame block : ℕ) → piece ≡ Pinned frame block → (0 < pins_in frame (pins_of pin.old)) × (block < 16) }
-    ensures bytes { result ≡ piece_bytes (pins_of pin.old) piece }
-    ensures whole { length result ≡ 512 }
-    ensures same { pin.new ≡ pin.old }
-{
-    match piece {
-        Piece::Hole => zero_block(),
-        Piece::Copied(block) => block,
-        Piece::Pinned { frame, block } => match pin {
-            Some(pin) => pin.read_block(frame as usize, block as usize),
-            None => zero_block(),
-        },
-    }
-}
-
 // The pin that a plan has, or a new one without frames.
 fn pin_at(table: &SegmentTable, pin: Option<Pin>) -> Result<Pin, Refusal>
     requires { IsAt table.now pin }
@@ -90,27 +198,30 @@ fn pin_at(table: &SegmentTable, pin: Option<Pin>) -> Result<Pin, Refusal>
 
 impl ReadPlan {
     /// Its pieces: one for each block that has one of its bytes, by ascending index.
-    pub fn pieces(&self) -> &[Piece]
+    pub fn pieces(&self) -> &[PlanPiece]
         ensures { result.now ≡ self.now.pieces }
     {
         &self.pieces
     }
 
-    // The piece of an index, and a hole behind the last one.
-    fn piece(&self, index: usize) -> Piece
-        ensures { result ≡ slice_index_or self.now.pieces index Hole }
-    {
-        self.pieces.get(index).copied().unwrap_or(Piece::Hole)
-    }
-
-    // The bytes of the piece of an index, and zeros behind the last one.
-    fn block(&mut self, index: usize) -> Block
-        ensures bytes { result ≡ piece_bytes (pins_of self.old.pin) (slice_index_or self.old.pieces index Hole) }
-        ensures whole { length result ≡ 512 }
+    // Adds bytes of the piece of an index, from one place of it on and up to another; behind the last one they are zeros.
+    fn append(
+        &mut self,
+        index: usize,
+        from: usize,
+        to: usize,
+        bytes: &mut Vec<u8>,
+    ) -> Result<(), Refusal>
+        requires range { (from ≤ to) × (to ≤ 512) }
+        ensures bytes { OnOk result (bytes.new.items ≡ bytes.old.items ++ take (to - from) (drop from (piece_bytes (pins_of self.old.pin) (slice_index_or self.old.pieces index Hole)))) }
+        ensures added { OnOk result (length bytes.new.items ≡ length bytes.old.items + (to - from)) }
+        ensures refusal { IfErr result (λ e. e ≡ NoMemory) }
         ensures same { self.new ≡ self.old }
     {
-        let piece = self.piece(index);
-        piece_block(&mut self.pin, piece)
+        if index >= self.pieces.len() {
+            return PlanPiece::hole().append(&mut None, from, to, bytes);
+        }
+        self.pieces[index].append(&mut self.pin, from, to, bytes)
     }
 
     // Adds the bytes of one piece, from a place on and up to an end or to that of the piece, and answers where they end.
@@ -126,9 +237,8 @@ impl ReadPlan {
         ranges_join_and_part();
         let index = at / BLOCK_BYTES;
         let start = index * BLOCK_BYTES;
-        let block = self.block(index);
         let next = end.min(start + BLOCK_BYTES);
-        bytes.extend_from_slice(&block[at - start..next - start])?;
+        self.append(index, at - start, next - start, bytes)?;
         Ok(next)
     }
 
@@ -165,38 +275,46 @@ impl ReadPlan {
     }
 
     // Where the bytes behind a slot come from. The frame of a sealed block is counted on from now on.
-    fn locate(&mut self, table: &mut SegmentTable, slot: Option<Ptr>) -> Result<Piece, Refusal>
+    fn locate(
+        &mut self,
+        alloc: Global,
+        table: &mut SegmentTable,
+        slot: Option<Ptr>,
+    ) -> Result<PlanPiece, Refusal>
         requires at { IsAt table.old self.old.pin }
         requires held { (p : Place) → slot ≡ Some p → IsSome (held_at table.old p) }
         ensures piece { IfOk result (λ piece. piece ≡ piece_of table.old slot) }
         ensures located { OnOk result (Locates table.old slot self.old self.new) }
         ensures within { IfOk result (λ piece. (frame block : ℕ) → piece ≡ Pinned frame block → block < 16) }
         ensures refusal { IfErr result (λ e. (e ≡ NoMemory) ⊎ (e ≡ Busy)) }
-        ensures pinned { IfErr result (λ _. is_pinned (piece_of table.old slot) ≡ true) }
+        ensures pinned { IfErr result (λ e. (e ≡ NoMemory) ⊎ (is_pinned (piece_of table.old slot) ≡ true)) }
         ensures same { table.new ≡ table.old }
     {
         let Some(place) = slot else {
-            return Ok(Piece::Hole);
+            return Ok(PlanPiece::hole());
         };
         if table.is_open(place) {
-            return Ok(Piece::Copied(table.get(place)));
+            let piece = PlanPiece::copied(alloc, table.get(place))?;
+            return Ok(piece);
         }
         self.count_on(table, place)?;
-        Ok(Piece::Pinned {
-            frame: place.frame(),
-            block: place.block(),
-        })
+        Ok(PlanPiece::pinned(place))
     }
 
     // Adds the piece of a slot.
-    fn add(&mut self, table: &mut SegmentTable, slot: Option<Ptr>) -> Result<(), Refusal>
+    fn add(
+        &mut self,
+        alloc: Global,
+        table: &mut SegmentTable,
+        slot: Option<Ptr>,
+    ) -> Result<(), Refusal>
         requires at { IsAt table.old self.old.pin }
         requires held { (p : Place) → slot ≡ Some p → IsSome (held_at table.old p) }
         ensures adds { OnOk result (Adds table.old slot self.old self.new) }
         ensures refusal { IfErr result (λ e. (e ≡ NoMemory) ⊎ ((e ≡ Busy) × (is_pinned (piece_of table.old slot) ≡ true))) }
         ensures same { table.new ≡ table.old }
     {
-        let piece = self.locate(table, slot)?;
+        let piece = self.locate(alloc, table, slot)?;
         self.pieces.push(piece)?;
         Ok(())
     }
@@ -217,9 +335,9 @@ fn block_behind(start: usize, count: usize) -> usize
 /// is at or past the size. Blocks of the open frame are copied. The frames of all others that are needed are pinned, and none of
 /// their bytes is read yet.
 ///
-/// NoMemory where memory is refused: it is asked for once, and once for each frame that is pinned. Busy only where a block of a
-/// sealed frame is needed, and all 64 seats of pins are in use, its frame has 1,048,576 readers, or other threads changed the
-/// frame's word between load and exchange 64 times. Then nothing stays pinned.
+/// NoMemory where memory is refused: it is asked for once, and once for each block that is copied and each frame that is pinned.
+/// Busy only where a block of a sealed frame is needed, and all 64 seats of pins are in use, its frame has 1,048,576 readers, or
+/// other threads changed the frame's word between load and exchange 64 times. Then nothing stays pinned.
 pub fn plan(
     alloc: Global,
     table: &mut SegmentTable,
@@ -234,6 +352,7 @@ pub fn plan(
     ensures bytes { IfOk result (λ plan. bytes_planned plan ≡ take wanted (drop offset (bytes_of (contents_of (held_at table.old)) inode.now))) }
     ensures pins { IfOk result (λ plan. (f : ℕ) → (0 < pins_in f (pins_of plan.pin)) ↔ (list_any (is_pinned_in f) plan.pieces ≡ true)) }
     ensures seat { IfOk result (λ plan. list_any is_pinned plan.pieces ≡ false → plan.pin ≡ None) }
+    ensures at { IfOk result (λ plan. IsAt table.old plan.pin) }
     ensures refusal { IfErr result (λ e. (e ≡ NoMemory) ⊎ ((e ≡ Busy) × (list_any is_pinned (pieces_of table.old inode.now offset (min wanted (inode.now.size - offset))) ≡ true))) }
     ensures same { table.new ≡ table.old }
 {
@@ -251,7 +370,7 @@ pub fn plan(
         pin: None,
     };
     for index in first..end {
-        plan.add(table, inode.pointers[index])?;
+        plan.add(alloc, table, inode.pointers[index])?;
     }
     Ok(plan)
 }

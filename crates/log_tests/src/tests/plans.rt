@@ -22,13 +22,15 @@ static OTHERS: [u8; 6656] = [b'b'; 6656];
 /// How many pieces of a plan are holes, copied blocks and pinned blocks.
 fn kinds(plan: &ReadPlan) -> [usize; 3] {
     let pieces = plan.pieces();
-    let holes = pieces.iter().filter(|piece| matches!(piece, Piece::Hole));
+    let holes = pieces
+        .iter()
+        .filter(|piece| matches!(piece.told(), Piece::Hole));
     let copied = pieces
         .iter()
-        .filter(|piece| matches!(piece, Piece::Copied(_)));
+        .filter(|piece| matches!(piece.told(), Piece::Copied(_)));
     let pinned = pieces
         .iter()
-        .filter(|piece| matches!(piece, Piece::Pinned { .. }));
+        .filter(|piece| matches!(piece.told(), Piece::Pinned { .. }));
     [holes.count(), copied.count(), pinned.count()]
 }
 

@@ -5,18 +5,50 @@ ghost use Rattle.s4_types.specs.declared.refusals.Refusal.TheVariants.{NoMemory,
 ghost use Rattle.inode_changes.specs.Contents.{contents_of, bytes_of};
 ghost use Rattle.segment_word.specs.Counting.{pins_in};
 ghost use Rattle.segment_table.specs.Room.{log_of, pointers_in};
-ghost use Rattle.time_read.specs.Plans.{pieces_of, bytes_planned, pins_of, is_pinned, is_pinned_in};
+ghost use Rattle.time_read.specs.Plans.{IsAt, pieces_of, bytes_planned, pins_of, is_pinned, is_pinned_in};
 ghost use Rattle.object_store.specs.Store.{fields_of, IsStore};
 ghost use Rattle.object_store.specs.Versions.{inode_in};
 
+use crate::named::NamedTable;
 use crate::store::Store;
 use codec::Inode;
 use inode_changes::laws::held_pointers_lead;
 use s4_types::{Moment, ObjectId, Ptr, Refusal};
 use segment_table::SegmentTable;
+use segment_word::Naming;
 use time_read::ReadPlan;
 
 impl Store<SegmentTable> {
+    /// The store, under the name of the drive whose frames it is over.
+    pub fn named<J: Naming>(self) -> Store<NamedTable<J>>
+        requires frames { self.table.drive.table ≡ J.frames }
+        ensures same { result ≡ self }
+    {
+        let Store {
+            alloc,
+            rows,
+            table,
+            latest,
+            presents,
+        } = self;
+        Store {
+            alloc,
+            rows,
+            table: NamedTable::new(table),
+            latest,
+            presents,
+        }
+    }
+}
+
+impl<J: Naming> Store<NamedTable<J>> {
+    /// Shows that its frames are those of the drive that `J` names.
+    pub fn rules(&self)
+        ensures frames { self.now.table.drive.table ≡ J.frames }
+    {
+        self.table.rules();
+    }
+
     /// The pointers to the held blocks of an object in a frame, by ascending block, and none where the frame isn't sealed or
     /// isn't there.
     ///
@@ -49,10 +81,11 @@ impl Store<SegmentTable> {
         ensures bytes { IfOk result (λ plan. bytes_planned plan ≡ take wanted (drop offset (bytes_of (contents_of (log_of self.old.table).held) inode.now))) }
         ensures pins { IfOk result (λ plan. (f : ℕ) → (0 < pins_in f (pins_of plan.pin)) ↔ (list_any (is_pinned_in f) plan.pieces ≡ true)) }
         ensures seat { IfOk result (λ plan. list_any is_pinned plan.pieces ≡ false → plan.pin ≡ None) }
+        ensures at { IfOk result (λ plan. IsAt self.old.table plan.pin) }
         ensures refusal { IfErr result (λ e. (e ≡ NoMemory) ⊎ ((e ≡ Busy) × (list_any is_pinned (pieces_of self.old.table inode.now offset (min wanted (inode.now.size - offset))) ≡ true))) }
         ensures same { self.new ≡ self.old }
     {
         held_pointers_lead();
-        time_read::plan(self.alloc, &mut self.table, inode, offset, wanted)
+        self.table.plan(self.alloc, inode, offset, wanted)
     }
 }

@@ -6,10 +6,11 @@ ghost use Rattle.object_map.specs.Rows.{row_of};
 ghost use Rattle.object_store.specs.Store.{fields_of, IsStore};
 ghost use Rattle.object_store.specs.Versions.{inode_in, version_in};
 
+use crate::named::NamedTable;
 use crate::store::Store;
-use segment_table::SegmentTable;
+use segment_word::Naming;
 
-impl Store<SegmentTable> {
+impl<J: Naming> Store<NamedTable<J>> {
     /// Seals the open frame of the table, after which none is open; without effect where none was. What is held, and with
     /// it each inode and each version, is as it was; the frame's unused blocks are ahead no longer.
     pub fn seal(&mut self)

@@ -5,10 +5,12 @@ ghost use Rattle.object_store.specs.Store.{fields_of, IsStore};
 
 use super::acts::{Act, Deed, play, play_anew};
 use super::plain::Plain;
-use crate::Store;
+use crate::{NamedTable, Store};
 use s4_types::Refusal;
 use segment_table::SegmentTable;
+use segment_word::Naming;
 use std::alloc::Global;
+use std::marker::Brand;
 use std::process::Abort;
 use std::test::*;
 
@@ -134,10 +136,10 @@ static SEALED: [&[Act]; 4] = [
     ],
 ];
 
-fn play_sealed<R: Abort>(
+fn play_sealed<J: Naming, R: Abort>(
     rt: &R,
     alloc: Global,
-    store: &mut Store<SegmentTable>,
+    store: &mut Store<NamedTable<J>>,
     lists: &[&[Act]],
 ) -> Result<(), Fail>
     requires { IsStore (fields_of log_of store.old) }
@@ -149,9 +151,23 @@ fn play_sealed<R: Abort>(
     Ok(())
 }
 
+/// The same under the name of a drive.
+fn play_named<J: Naming, R: Abort>(
+    rt: &R,
+    alloc: Global,
+    store: Store<SegmentTable>,
+) -> Result<(), Fail>
+    requires frames { store.table.drive.table ≡ J.frames }
+    requires store { IsStore (fields_of log_of store) }
+{
+    let mut named = store.named::<J>();
+    named.rules();
+    play_sealed::<J, R>(rt, alloc, &mut named, SEALED.as_slice())
+}
+
 #[test]
 fn a_seal(rt: HostRuntime) -> Result<(), Fail> {
     let alloc = rt.alloc();
-    let mut store = over_eight_frames(alloc)?;
-    play_sealed(&rt, alloc, &mut store, SEALED.as_slice())
+    let store = over_eight_frames(alloc)?;
+    play_named::<Brand, HostRuntime>(&rt, alloc, store)
 }

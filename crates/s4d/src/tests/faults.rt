@@ -3,7 +3,7 @@
 use crate::performing::perform;
 use crate::tests::hex_text::bytes_of;
 use crate::tests::{run_in_pieces, run_over_slices};
-use server::{FailAfter, MemorySink, MemorySource};
+use serving::{FailAfter, MemorySink, MemorySource};
 use std::test::Fail;
 
 static WORDS: [&str; 3] = ["s4d", "pipe", "client"];

@@ -2,7 +2,7 @@
 
 use s4_model::PlainDrive;
 use s4_types::{Moment, Reply, Request, Role};
-use server::Backend;
+use serving::Backend;
 use std::alloc::Global;
 
 /// A session of one role with a plain drive of its own.

@@ -9,7 +9,7 @@ use crate::tests::plain::PlainSession;
 use drive::NewDrive;
 use s4_types::{Moment, Role};
 use segment_word::Naming;
-use server::{Backend, Clock, MemorySink, MemorySource, ServeEnd, serve};
+use serving::{Backend, Clock, MemorySink, MemorySource, ServeEnd, serve};
 use std::alloc::Global;
 use std::marker::Brand;
 use std::test::Fail;
@@ -157,6 +157,7 @@ fn drive_replies<J: Naming>(
     row: &Row,
     made: NewDrive,
 ) -> Result<(ServeEnd, Vec<u8>), Fail>
+    requires frames { made.store.table.drive.table ≡ J.frames }
     requires accepts { made.accepts ≡ J.accepts }
     requires base { new_base made.window ≡ J.base }
 {

@@ -1,0 +1,149 @@
+#!/usr/bin/env python3
+"""Says what a gate costs: seconds of processor by crate, for its proof, its tests' proof and its must-fail edits.
+
+    bench/gate.py                      at the top of the repository: runs `rt ci`, prints each of its lines behind the time of day, and
+                                       the table behind them. Ends with the gate's own status
+    bench/gate.py run COMMAND ..       the same of another command, as `rt must-fail codec` or `rt check`
+    bench/gate.py read LOG [EARLIER]   the table of a run whose output was kept, `bench/gate.py > LOG`, and how it differs from an
+                                       earlier one. A log without a table, which `rt ci` alone wrote behind times of day: when each
+                                       crate's proof and tests ended, in seconds after its first line
+
+`rt ci` tells no times. So this looks twice a second at all `rattle` processes below it, and adds up what each had taken when it
+was last seen. What processes take behind that, and what `rt` takes itself and the built tests do, is in the line `elsewhere`; the total
+is what the system says of all of them, so it is exact. Nothing here changes how `rt ci` runs."""
+import os
+import re
+import resource
+import subprocess
+import sys
+import threading
+import time
+
+KINDS = ("proof", "tests", "edits")
+TICKS = os.sysconf("SC_CLK_TCK")
+
+
+def processes():
+    """Of each process: its parent, its name, its start and the seconds of processor that it has taken."""
+    found = {}
+    for name in os.listdir("/proc"):
+        if not name.isdigit():
+            continue
+        try:
+            with open(f"/proc/{name}/stat", errors="replace") as it:
+                front, _, back = it.read().rpartition(")")
+        except OSError:
+            continue
+        fields = back.split()
+        taken = (int(fields[11]) + int(fields[12])) / TICKS
+        found[int(name)] = int(fields[1]), front.partition("(")[2], int(fields[19]), taken
+    return found
+
+
+def is_below(number, top, found):
+    while number in found and number != top:
+        number = found[number][0]
+    return number == top
+
+
+def task_of(number):
+    """The crate and the kind of work of a `rattle` process, or None where it has none or is gone."""
+    try:
+        with open(f"/proc/{number}/cmdline", "rb") as it:
+            words = it.read().decode(errors="replace").split("\0")
+        folder = os.path.basename(os.readlink(f"/proc/{number}/cwd"))
+    except OSError:
+        return None
+    if "--crate-name" not in words[:-1]:
+        return None
+    # (an edit is checked in a copy of the crate)
+    kind = "edits" if folder.startswith("rt-edit-") else "tests" if "--test" in words else "proof"
+    return words[words.index("--crate-name") + 1], kind
+
+
+def watch(top, is_over, seen):
+    """Notes the seconds of each `rattle` process below `top`, by what it works at."""
+    tasks = {}
+    while not is_over.wait(0.5):
+        found = processes()
+        for number, (_, name, start, taken) in found.items():
+            if name != "rattle" or not is_below(number, top, found):
+                continue
+            key = number, start
+            tasks[key] = tasks.get(key) or task_of(number)
+            if tasks[key]:
+                seen[key] = tasks[key], taken
+
+
+def show(table, total):
+    """Prints a table of crates, the dearest first."""
+    print(f"gate: {'crate':<16}" + "".join(f"{it:>9}" for it in (*KINDS, "all")))
+    rows = sorted(table.items(), key=lambda it: -sum(it[1].values()))
+    sums = {kind: sum(row[kind] for _, row in rows) for kind in KINDS}
+    for crate, row in [*rows, ("all crates", sums)]:
+        numbers = row.values()
+        print(f"gate: {crate:<16}" + "".join(f"{it:9.1f}" for it in (*numbers, sum(numbers))))
+    print(f"gate: {'elsewhere':<43}{total - sum(sums.values()):9.1f}")
+    print(f"gate: {'total':<43}{total:9.1f}", flush=True)
+
+
+def run(words):
+    began, seen, is_over = time.time(), {}, threading.Event()
+    child = subprocess.Popen(words, stdout=subprocess.PIPE, stderr=subprocess.STDOUT, text=True, errors="replace")
+    watcher = threading.Thread(target=watch, args=(child.pid, is_over, seen))
+    watcher.start()
+    for line in child.stdout:
+        print(time.strftime("%H:%M:%S"), line, end="", flush=True)
+    status = child.wait()
+    is_over.set()
+    watcher.join()
+    table = {}
+    for (crate, kind), taken in seen.values():
+        table.setdefault(crate, dict.fromkeys(KINDS, 0.0))[kind] += taken
+    taken = resource.getrusage(resource.RUSAGE_CHILDREN)
+    show(table, taken.ru_utime + taken.ru_stime)
+    print(f"gate: status {status} after {time.time() - began:.0f} s by the clock")
+    return status
+
+
+def read(file):
+    """The rows of the table of a log: crate, and its seconds."""
+    rows = {}
+    with open(file, errors="replace") as it:
+        for line in it:
+            row = re.match(r"(?:\S+ )?gate: (\S.*?) +([-\d. ]+)$", line.rstrip("\n"))
+            if row and row[2].strip():
+                rows[row[1]] = [float(number) for number in row[2].split()]
+    return rows
+
+
+def show_ends(file):
+    """When each proof ended, by the clock."""
+    first = None
+    with open(file, errors="replace") as it:
+        for line in it:
+            if not re.match(r"\d\d:\d\d:\d\d ", line):
+                continue
+            at = sum(60 ** place * int(part) for place, part in zip((2, 1, 0), line[:8].split(":")))
+            first = at if first is None else first
+            if re.search(r" rt: .* (NOT )?(proved|PROVED)$", line):
+                print(f"{(at - first) % 86400:6d} {line[9:].rstrip()}")
+
+
+def main(words):
+    if not words or words[0] == "run" and len(words) > 1:
+        return run(words[1:] or ["rt", "ci"])
+    if words[0] != "read" or len(words) not in (2, 3):
+        sys.exit(__doc__)
+    rows = [read(it) for it in words[1:]]
+    if not rows[0]:
+        return show_ends(words[1])
+    for crate in [*rows[0], *(it for it in rows[-1] if it not in rows[0])]:
+        now = rows[0].get(crate, [0.0])
+        change = f"{now[-1] - rows[1].get(crate, [0.0])[-1]:+9.1f}" if len(rows) == 2 else ""
+        print(f"{crate:<16}" + "".join(f"{it:9.1f}" for it in now) + change)
+    return 0
+
+
+if __name__ == "__main__":
+    sys.exit(main(sys.argv[1:]))

@@ -1,0 +1,7 @@
+//! The formats, byte by byte.
+mod journals;
+mod packings;
+mod records;
+mod summaries;
+mod values;
+mod wire;

@@ -1,0 +1,175 @@
+//! Pointers, entries and checkpoints.
+use codec::{
+    Attribute, Checkpoint, Entry, Inode, Status, Triple, Triples, Writing, decode_checkpoint,
+    decode_entry, decode_ptr, encode_checkpoint, encode_entry, encode_ptr,
+};
+use s4_types::{Moment, ObjectId, Ptr};
+use std::test::Fail;
+
+/// Block 2 of frame 0, at generation 1.
+pub(super) const POINTER: [u8; 8] = [0, 0, 2, 0, 0, 0, 0, 1];
+
+/// The entry that made an object at moment 10.
+pub(super) const MADE: [u8; 34] = [
+    0, 0, 0, 0, 0, 0, 0, 10, 2, 0, 0, 0, 0, 0, 0, 0, 0, 0, 0, 0, 0, 0, 0, 0, 0, 0, 0, 0, 0, 0, 0,
+    0, 0, 10,
+];
+
+/// The entry that wrote three bytes into it at moment 11.
+pub(super) const WRITTEN: [u8; 51] = [
+    0, 0, 0, 0, 0, 0, 0, 11, 3, 1, 0, 0, 0, 0, 0, 0, 0, 3, 0, 0, 0, 0, 0, 0, 0, 10, 0, 0, 0, 0, 0,
+    0, 0, 11, 0, 0, 0, 0, 0, 0, 0, 0, 0, 0, 0, 2, 0, 0, 0, 0, 1,
+];
+
+/// Bytes, and what is read from them: None where they spell nothing.
+static POINTERS: [([u8; 8], Option<(u16, u8, u32)>); 7] = [
+    (POINTER, Some((0, 2, 1))),
+    // Block 0, block 16, a byte that is not zero, generations 0 and 2^32 - 1.
+    ([0, 0, 0, 0, 0, 0, 0, 1], None),
+    ([0, 0, 16, 0, 0, 0, 0, 1], None),
+    ([0, 0, 2, 1, 0, 0, 0, 1], None),
+    ([0, 0, 2, 0, 0, 0, 0, 0], None),
+    ([0, 0, 2, 0, 255, 255, 255, 255], None),
+    (
+        [255, 255, 15, 0, 255, 255, 255, 254],
+        Some((u16::MAX, 15, u32::MAX - 1)),
+    ),
+];
+
+/// Whether a pointer has this spelling, and the spelling is read as the pointer.
+fn is_spelled(pointer: Option<Ptr>, bytes: &[u8; 8]) -> bool {
+    match decode_ptr(bytes) {
+        Some(read) => read == pointer && encode_ptr(pointer) == *bytes,
+        None => false,
+    }
+}
+
+fn is_read(bytes: &[u8; 8], told: Option<(u16, u8, u32)>) -> bool {
+    match told {
+        Some((frame, block, generation)) => is_spelled(Ptr::new(frame, block, generation), bytes),
+        None => decode_ptr(bytes).is_none(),
+    }
+}
+
+#[test]
+fn pointers(rt: HostRuntime) {
+    for (bytes, told) in &POINTERS {
+        assert!(rt; is_read(bytes, *told), "{bytes:?}");
+    }
+    assert!(rt; is_spelled(None, &[0; 8]));
+}
+
+fn status(alive: bool, size: u32, changed: u64) -> Status {
+    Status {
+        alive,
+        size,
+        changed: Moment::new(changed),
+    }
+}
+
+/// The pointer that the write sets.
+fn triple() -> Triple {
+    Triple {
+        index: 0,
+        before: None,
+        after: Ptr::new(0, 2, 1),
+    }
+}
+
+fn made() -> Option<Entry> {
+    let none = status(false, 0, 0);
+    Entry::new(
+        Moment::new(10),
+        none,
+        status(true, 0, 10),
+        None,
+        Triples::new(),
+    )
+}
+
+fn written() -> Option<Entry> {
+    let mut triples = Triples::new();
+    triples.push(triple());
+    let before = status(true, 0, 10);
+    Entry::new(Moment::new(11), before, status(true, 3, 11), None, triples)
+}
+
+fn is_spelling(entry: &Entry, bytes: &[u8]) -> bool {
+    let mut out = Writing::new();
+    put_entry(entry, &mut out);
+    out.as_slice() == bytes
+}
+
+/// Whether an entry tells what the write did.
+fn is_written(entry: &Entry) -> bool {
+    entry.moment() == Moment::new(11)
+        && entry.before() == status(true, 0, 10)
+        && entry.after() == status(true, 3, 11)
+        && entry.pair().is_none()
+        && entry.triples() == [triple()].as_slice()
+}
+
+#[test]
+fn entries_are_spelled(rt: HostRuntime) -> Result<(), Fail> {
+    assert!(rt; is_spelling(&made().ok_or("made")?, &MADE));
+    assert!(rt; is_spelling(&written().ok_or("written")?, &WRITTEN));
+    Ok(())
+}
+
+#[test]
+fn an_entry_is_read(rt: HostRuntime) -> Result<(), Fail> {
+    let (read, rest) = decode_entry(&WRITTEN).ok_or("read")?;
+    assert!(rt; rest.is_empty() && is_written(&read));
+    Ok(())
+}
+
+fn put_entry(entry: &Entry, out: &mut Writing) {
+    if entry.byte_count() <= out.remaining_capacity() {
+        encode_entry(entry, out);
+    }
+}
+
+fn pointers_of_one() -> [Option<Ptr>; 48] {
+    let mut pointers = [None; 48];
+    pointers[0] = Ptr::new(0, 2, 1);
+    pointers
+}
+
+fn inode() -> Option<Inode> {
+    Some(Inode {
+        alive: true,
+        size: 3,
+        created: Moment::new(10),
+        changed: Moment::new(11),
+        attribute: Attribute::new(b"ab")?,
+        pointers: pointers_of_one(),
+    })
+}
+
+/// The object at moment 12, with an attribute `ab`.
+pub(super) fn checkpoint_bytes() -> [u8; 512] {
+    let mut block = [0; 512];
+    block[..4].copy_from_slice(&[2, 1, 2, 0]);
+    block[7] = 3;
+    block[15] = 1;
+    block[23] = 12;
+    block[31] = 10;
+    block[39] = 11;
+    block[40..42].copy_from_slice(b"ab");
+    block[104..112].copy_from_slice(&POINTER);
+    block
+}
+
+fn is_told(read: &Checkpoint, inode: &Inode) -> bool {
+    read.object() == ObjectId::new(1) && read.moment() == Moment::new(12) && read.inode() == inode
+}
+
+#[test]
+fn checkpoints(rt: HostRuntime) -> Result<(), Fail> {
+    let inode = inode().ok_or("an attribute")?;
+    let made = Checkpoint::new(ObjectId::new(1), Moment::new(12), inode).ok_or("a checkpoint")?;
+    assert!(rt; encode_checkpoint(&made).as_slice() == checkpoint_bytes().as_slice());
+    let read = decode_checkpoint(&checkpoint_bytes()).ok_or("read")?;
+    assert!(rt; is_told(&read, &inode));
+    Ok(())
+}

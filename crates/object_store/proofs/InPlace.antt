@@ -1,0 +1,22 @@
+-- What is changed in a segment table stays in its drive's table of frames.
+use Rattle.std.proofs.Common.{◌≡◌, ℕ, ◌≤◌, List, [], ◌∷◌, length, refl, ap, arith}
+use Rattle.std.specs.Prelude.{Result, Ok, Err, IfOk, OnErr}
+use Rattle.s4_types.specs.Pointer.{Place}
+use Rattle.s4_types.specs.declared.refusals.Refusal.{Refusal}
+use Rattle.codec.specs.declared.summaries.Part.{Part}
+use Rattle.segment_word.specs.Handles.{Drive}
+use Rattle.segment_table.specs.Table.{Table}
+use Rattle.segment_table.specs.Room.{is_filling, numbers}
+use Rattle.segment_table.specs.Changes.{IsFilling, NoneIsFilling, IsAppended, IsSealedIn}
+
+pub appended_here : (r : Result Place Refusal) (part : Part) (block : List ℕ) (old new : Table) → IfOk r (λ p. IsAppended p part block old new) → OnErr r (new ≡ old) → new.drive.table ≡ old.drive.table
+appended_here (Ok p) part block old new exact same = ap (λ (d : Drive). d.table) exact.alone
+appended_here (Err e) part block old new exact same = ap (λ (t : Table). t.drive.table) same
+
+by_filling : (filling : List ℕ) (old new : Table) → length filling ≤ 1 → (filling ≡ [] → new ≡ old) → ((f : ℕ) → filling ≡ f ∷ [] → IsSealedIn f old new) → new.drive.table ≡ old.drive.table
+by_filling [] old new one idle sealed = ap (λ (t : Table). t.drive.table) (idle refl)
+by_filling (f ∷ []) old new one idle sealed = ap (λ (d : Drive). d.table) (sealed f refl).0.alone
+by_filling (f ∷ g ∷ filling) old new one idle sealed = absurd (omega (arith, one))
+
+pub sealed_here : (old new : Table) → length (numbers is_filling 0 old.drive.frames) ≤ 1 → (NoneIsFilling old → new ≡ old) → ((f : ℕ) → IsFilling f old → IsSealedIn f old new) → new.drive.table ≡ old.drive.table
+sealed_here old new one idle sealed = by_filling (numbers is_filling 0 old.drive.frames) old new one idle sealed

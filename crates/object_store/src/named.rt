@@ -1,0 +1,143 @@
+//! The segment table of the drive that a type names.
+ghost use Rattle.std.specs.Prelude.{◌≡◌, ℕ, ◌<◌, ◌≤◌, ◌-◌, ◌↔◌, ◌⊎◌, ◌++◌, true, false, Some, None, length, min, take, drop, IsSome, IfSome, IfOk, IfErr};
+ghost use Rattle.std.specs.List.{list_any};
+ghost use Rattle.s4_types.specs.declared.refusals.Refusal.TheVariants.{NoMemory, Busy, NoSpace};
+ghost use Rattle.blocks.specs.Log.{appended, dropped};
+ghost use Rattle.inode_changes.specs.Contents.{contents_of, bytes_of};
+ghost use Rattle.inode_changes.specs.Tidiness.{PointersLead};
+ghost use Rattle.segment_word.specs.Counting.{pins_in};
+ghost use Rattle.segment_table.specs.Table.{held_at};
+ghost use Rattle.segment_table.specs.Room.{is_filling, numbers, rest_of, places_ahead, log_of, pointers_in};
+ghost use Rattle.segment_table.specs.Changes.{IsFilling, NoneIsFilling, IsSealedIn};
+ghost use Rattle.time_read.specs.Plans.{IsAt, pieces_of, bytes_planned, pins_of, is_pinned, is_pinned_in};
+
+use blocks::{Block, BlockKind, Blocks};
+use codec::Inode;
+use s4_types::{ObjectId, Ptr, Refusal};
+use segment_table::SegmentTable;
+use segment_word::Naming;
+use std::alloc::Global;
+use std::marker::{Model, PhantomData};
+use time_read::ReadPlan;
+
+/// A segment table whose frames are those of the drive that `J` names. That stays so through every call over `Blocks`, since
+/// the type says it. Contracts see the segment table.
+#[derive(Drop)]
+pub struct NamedTable<J: Naming> {
+    table: SegmentTable,
+    of: PhantomData<J>,
+}
+
+impl<J: Naming> Model for NamedTable<J> {
+    ghost use Rattle.std.specs.Prelude.{◌≡◌};
+    ghost use Rattle.segment_table.specs.Table.{Table};
+
+    ghost Value = { Table };
+
+    ghost view = { λ t. t.table };
+
+    ghost invariant = { λ t. t.table.drive.table ≡ J.frames };
+}
+
+impl<J: Naming> NamedTable<J> {
+    /// A table under the name of its drive.
+    pub(crate) fn new(table: SegmentTable) -> Self
+        requires { table.drive.table ≡ J.frames }
+        ensures { result ≡ table }
+    {
+        NamedTable {
+            table,
+            of: PhantomData,
+        }
+    }
+
+    /// Shows that its frames are the drive's, and that at most one of them is open.
+    pub(crate) fn rules(&self)
+        ensures frames { self.now.drive.table ≡ J.frames }
+        ensures one_open { length (numbers is_filling 0 self.now.drive.frames) ≤ 1 }
+    {
+        self.table.rules();
+    }
+
+    /// `SegmentTable::seal_open`.
+    pub(crate) fn seal_open(&mut self)
+        ensures closed { NoneIsFilling self.new }
+        ensures idle { NoneIsFilling self.old → self.new ≡ self.old }
+        ensures sealed { (f : ℕ) → IsFilling f self.old → IsSealedIn f self.old self.new }
+        ensures held { (log_of self.new).held ≡ (log_of self.old).held }
+        ensures ahead { (f : ℕ) → IsFilling f self.old → rest_of self.old f ++ places_ahead self.new ≡ places_ahead self.old }
+    {
+        self.table.rules();
+        self.table.seal_open();
+    }
+
+    /// `SegmentTable::held_in`.
+    pub(crate) fn held_in(
+        &mut self,
+        alloc: Global,
+        object: ObjectId,
+        frame: u16,
+    ) -> Result<Vec<Ptr>, Refusal>
+        ensures pointers { IfOk result (λ pointers. pointers.items ≡ pointers_in self.old object frame) }
+        ensures refusal { IfErr result (λ e. e ≡ NoMemory) }
+        ensures same { self.new ≡ self.old }
+    {
+        self.table.held_in(alloc, object, frame)
+    }
+
+    /// `time_read::plan` over the table.
+    pub(crate) fn plan(
+        &mut self,
+        alloc: Global,
+        inode: &Inode,
+        offset: u64,
+        wanted: u64,
+    ) -> Result<ReadPlan, Refusal>
+        requires size { inode.now.size ≤ 24576 }
+        requires count { length inode.now.pointers ≡ 48 }
+        requires lead { PointersLead (held_at self.old) inode.now }
+        ensures pieces { IfOk result (λ plan. plan.pieces ≡ pieces_of self.old inode.now offset (min wanted (inode.now.size - offset))) }
+        ensures bytes { IfOk result (λ plan. bytes_planned plan ≡ take wanted (drop offset (bytes_of (contents_of (held_at self.old)) inode.now))) }
+        ensures pins { IfOk result (λ plan. (f : ℕ) → (0 < pins_in f (pins_of plan.pin)) ↔ (list_any (is_pinned_in f) plan.pieces ≡ true)) }
+        ensures seat { IfOk result (λ plan. list_any is_pinned plan.pieces ≡ false → plan.pin ≡ None) }
+        ensures at { IfOk result (λ plan. IsAt self.old plan.pin) }
+        ensures refusal { IfErr result (λ e. (e ≡ NoMemory) ⊎ ((e ≡ Busy) × (list_any is_pinned (pieces_of self.old inode.now offset (min wanted (inode.now.size - offset))) ≡ true))) }
+        ensures same { self.new ≡ self.old }
+    {
+        time_read::plan(alloc, &mut self.table, inode, offset, wanted)
+    }
+}
+
+impl<J: Naming> Blocks for NamedTable<J> {
+    ghost log = { log_of };
+
+    #[tactic(auto, using(crate::proofs::InPlace::appended_here))]
+    fn append(&mut self, kind: BlockKind, object: ObjectId, block: &Block) -> Result<Ptr, Refusal>
+        requires { 1 ≤ object }
+        ensures appended { IfOk result (λ p. appended (log_of self.old) (record { kind = kind; object = object; bytes = block.now }) ≡ Some (p, log_of self.new)) }
+        ensures fresh { IfOk result (λ p. (log_of self.old).held p ≡ None) }
+        ensures full { IfErr result (λ e. (e ≡ NoSpace) × ((length (log_of self.old).ahead ≡ 0) × (log_of self.new ≡ log_of self.old))) }
+    {
+        self.table.append(kind, object, block)
+    }
+
+    fn get(&mut self, place: Ptr) -> Block
+        requires { IsSome ((log_of self.old).held place) }
+        ensures bytes { IfSome ((log_of self.old).held place) (λ block. result ≡ block.bytes) }
+        ensures same { log_of self.new ≡ log_of self.old }
+    {
+        self.table.get(place)
+    }
+
+    fn drop_block(&mut self, place: Ptr)
+        ensures { log_of self.new ≡ dropped (log_of self.old) place }
+    {
+        self.table.drop_block(place);
+    }
+
+    fn blocks_left(&self) -> usize
+        ensures { result ≡ length (log_of self.now).ahead }
+    {
+        self.table.blocks_left()
+    }
+}

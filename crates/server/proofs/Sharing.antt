@@ -1,0 +1,58 @@
+-- What a session was told after a plan, and after one that couldn't be fetched.
+use Rattle.std.proofs.Common.{◌≡◌, ℕ, List, Option, None, Result, Ok, Err, inl, inr, refl, sym, ap, subst, ◌∙◌}
+use Rattle.std.proofs.lemmas.Option.{none-some}
+use Rattle.s4_types.specs.History.{Base, History}
+use Rattle.s4_types.specs.declared.requests.Role.{Role}
+use Rattle.s4_types.specs.declared.requests.Request.TheVariants.{Read}
+use Rattle.s4_types.specs.declared.replies.Reply.{Reply}
+use Rattle.s4_types.specs.declared.replies.Reply.TheVariants.{Data, Refused}
+use Rattle.s4_types.specs.declared.refusals.Refusal.{Refusal}
+use Rattle.s4_types.specs.declared.refusals.Refusal.TheVariants.{NoMemory}
+use Rattle.s4_model.specs.State.{grown}
+use Rattle.s4_model.specs.Refusals.{first_refusal}
+use Rattle.s4_model.specs.Step.{Step, Refuses, Serves, Alters, Reads, ForMemory, MayWantMemory, judged}
+use Rattle.segment_word.specs.AcceptViews.{Ledger, Told, caught_up}
+use Rattle.time_read.specs.Plans.{PlanFields, bytes_planned}
+use Rattle.drive.specs.Fields.{SessionFields}
+use Rattle.drive.specs.Answering.{told_after, reply_planned}
+use Rattle.server.specs.Sharing.{SharedStep, IsFetched}
+
+-- a plan accepts nothing
+pub planned_told : (planned : Result PlanFields Refusal) (l : Ledger) (t : Told) → told_after (reply_planned planned) l t ≡ caught_up l t
+planned_told (Ok plan) l t = refl
+planned_told (Err refusal) l t = refl
+
+-- whether a reply is a refusal
+abbrev pub IsRefused : Reply → Type 0
+IsRefused (Refused refusal) = Unit {0}
+IsRefused _ = ⊥
+
+free_wants : (first : Option Refusal) → first ≡ None → (o off len : ℕ) (at : Option ℕ) → MayWantMemory first (Read o off len at)
+free_wants first free o off len at = subst (λ (r : Option Refusal). MayWantMemory r (Read o off len at)) (sym free) tt
+
+-- a read that is answered may be refused for want of memory in place of that
+unfetched : (h after : History) (role : Role) (o off len now : ℕ) (at : Option ℕ) (bytes : List ℕ) → Step h role (Read o off len at) now (Data bytes) after → Step h role (Read o off len at) now (Refused NoMemory) after
+unfetched h after role o off len now at bytes (Refuses refusal is may grows) = absurd (subst IsRefused (sym is) tt)
+unfetched h after role o off len now at bytes (Serves r free (Alters change asked reply is) grows) = absurd (none-some change asked)
+unfetched h after role o off len now at bytes (Serves r free (Reads tells is) grows) =
+    Refuses NoMemory refl (ForMemory refl (free_wants (first_refusal (judged h (Read o off len at) now) role (Read o off len at)) free o off len at)) (grows ∙ ap (grown h) is)
+
+-- so of a session that shares its drive
+pub shared_unfetched : (base : Base) (old new : SessionFields) (o off len now : ℕ) (at : Option ℕ) (bytes : List ℕ) → SharedStep base old (Read o off len at) now (Data bytes) new → SharedStep base old (Read o off len at) now (Refused NoMemory) new
+shared_unfetched base old new o off len now at bytes s = record {
+  before = s.before;
+  after = s.after;
+  begins = s.begins;
+  had_seen = s.had_seen;
+  step = unfetched s.before.history s.after.history old.role o off len now at bytes s.step;
+  told = s.told;
+  has_seen = s.has_seen;
+}
+
+-- a plan that was fetched, or couldn't be
+pub shared_fetched : (base : Base) (old new : SessionFields) (o off len now : ℕ) (at : Option ℕ) (planned : Result PlanFields Refusal) (reply : Reply)
+    → SharedStep base old (Read o off len at) now (reply_planned planned) new → IsFetched planned reply → SharedStep base old (Read o off len at) now reply new
+shared_fetched base old new o off len now at (Ok plan) reply s (inl is) = subst (λ (r : Reply). SharedStep base old (Read o off len at) now r new) (sym is) s
+shared_fetched base old new o off len now at (Ok plan) reply s (inr is) =
+    subst (λ (r : Reply). SharedStep base old (Read o off len at) now r new) (sym is) (shared_unfetched base old new o off len now at (bytes_planned plan) s)
+shared_fetched base old new o off len now at (Err refusal) reply s is = subst (λ (r : Reply). SharedStep base old (Read o off len at) now r new) (sym is) s

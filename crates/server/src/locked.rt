@@ -1,0 +1,190 @@
+//! A session with a drive under a lock.
+ghost use Rattle.std.specs.Prelude.{◌≡◌, IfOk, IfErr};
+ghost use Rattle.s4_types.specs.declared.refusals.Refusal.TheVariants.{Busy};
+ghost use Rattle.s4_types.specs.Sizes.{ReplyFits};
+ghost use Rattle.s4_types.specs.declared.requests.Request.TheVariants.{Read};
+ghost use Rattle.drive.specs.Answering.{reply_planned};
+ghost use Rattle.server.specs.Sharing.{SharedStep, HasMet, IsFresh, IsFetched};
+
+use crate::gate::Gate;
+use drive::{Drive, Session};
+use s4_types::{Bytes, Moment, ObjectId, Refusal, Reply, Request, Role};
+use segment_word::Naming;
+use serving::Backend;
+use std::alloc::Global;
+use std::marker::Model;
+use std::sync::{Mutex, Wait};
+use time_read::ReadPlan;
+
+/// A session of a role.
+fn enter<J: Naming>(
+    rt: &impl Wait,
+    drive: &Mutex<Drive<J>>,
+    role: Role,
+) -> Result<Session<J>, Refusal>
+    ensures session { IfOk result (IsFresh J.base role) }
+    ensures busy { IfErr result (λ e. e ≡ Busy) }
+{
+    let mut drive = drive.lock(rt);
+    drive.rules();
+    drive.session(role)
+}
+
+/// A plan of a Read, made under the lock.
+fn resolve<J: Naming>(
+    rt: &impl Wait,
+    drive: &Mutex<Drive<J>>,
+    session: &mut Session<J>,
+    object: ObjectId,
+    offset: u64,
+    length: u32,
+    at: Option<Moment>,
+    now: Moment,
+) -> Result<ReadPlan, Refusal>
+    ensures step { SharedStep J.base session.old (Read object offset length at) now (reply_planned result) session.new }
+    ensures fits { ReplyFits (reply_planned result) }
+{
+    let mut drive = drive.lock(rt);
+    drive.rules();
+    drive.resolve(session, object, offset, length, at, now)
+}
+
+/// The reply to a request, all of it under the lock.
+fn ask<J: Naming>(
+    rt: &impl Wait,
+    drive: &Mutex<Drive<J>>,
+    session: &mut Session<J>,
+    request: Request,
+    now: Moment,
+) -> Reply
+    ensures step { SharedStep J.base session.old request now result session.new }
+    ensures fits { ReplyFits result }
+{
+    let mut drive = drive.lock(rt);
+    drive.rules();
+    drive.request(session, request, now)
+}
+
+/// A meeting of a session and the drive, under the lock.
+fn meet<J: Naming>(rt: &impl Wait, drive: &Mutex<Drive<J>>, session: &mut Session<J>)
+    ensures met { HasMet J.base session.old session.new }
+{
+    let mut drive = drive.lock(rt);
+    drive.rules();
+    drive.meet(session);
+}
+
+/// The reply to a Read that was planned so: the bytes that the plan names, where there is memory for them.
+fn fetched(alloc: Global, planned: Result<ReadPlan, Refusal>) -> Reply
+    ensures { IsFetched planned result }
+{
+    let plan = match planned {
+        Ok(plan) => plan,
+        Err(refusal) => return Reply::Refused(refusal),
+    };
+    match plan.fetch(alloc) {
+        Ok(bytes) => Reply::Data(Bytes::from_vec(bytes)),
+        Err(refusal) => Reply::Refused(refusal),
+    }
+}
+
+/// A session with a drive that others share, under a lock. Contracts see the session.
+#[derive(Drop)]
+pub struct Locked<'a, J: Naming, R: Wait, G: Gate> {
+    rt: &'a R,
+    alloc: Global,
+    drive: &'a Mutex<Drive<J>>,
+    session: Session<J>,
+    gate: &'a G,
+    number: usize,
+    calls: u64,
+}
+
+impl<'a, J: Naming, R: Wait, G: Gate> Model for Locked<'a, J, R, G> {
+    ghost use Rattle.drive.specs.Fields.{SessionFields};
+
+    ghost Value = { SessionFields };
+
+    ghost view = { λ l. l.session };
+}
+
+impl<'a, J: Naming, R: Wait, G: Gate> Locked<'a, J, R, G> {
+    /// The session of that number, from 1 on, of a role. It has seen all that the drive had accepted then, and nothing is its
+    /// own yet. Busy where no seat is to be had.
+    pub fn new(
+        rt: &'a R,
+        alloc: Global,
+        drive: &'a Mutex<Drive<J>>,
+        role: Role,
+        gate: &'a G,
+        number: usize,
+    ) -> Result<Self, Refusal>
+        ensures session { IfOk result (IsFresh J.base role) }
+        ensures busy { IfErr result (λ e. e ≡ Busy) }
+    {
+        let session = enter(rt, drive, role)?;
+        Ok(Locked {
+            rt,
+            alloc,
+            drive,
+            session,
+            gate,
+            number,
+            calls: 0,
+        })
+    }
+
+    /// The session has seen all that the drive had accepted when it was met, without a request.
+    pub fn meet(&mut self)
+        ensures { HasMet J.base self.old self.new }
+    {
+        meet(self.rt, self.drive, &mut self.session);
+    }
+
+    /// The reply to a Read. The lock isn't held while its bytes are fetched.
+    fn read(
+        &mut self,
+        object: ObjectId,
+        offset: u64,
+        length: u32,
+        at: Option<Moment>,
+        now: Moment,
+    ) -> Reply
+        ensures step { SharedStep J.base self.old (Read object offset length at) now result self.new }
+        ensures fits { ReplyFits result }
+    {
+        let planned = resolve(
+            self.rt,
+            self.drive,
+            &mut self.session,
+            object,
+            offset,
+            length,
+            at,
+            now,
+        );
+        self.gate.between(self.number, self.calls);
+        fetched(self.alloc, planned)
+    }
+}
+
+impl<J: Naming, R: Wait, G: Gate> Backend for Locked<'_, J, R, G> {
+    ghost use Rattle.server.specs.Sharing.{SharedStep};
+
+    ghost steps = { SharedStep J.base };
+
+    fn request(&mut self, request: Request, now: Moment) -> Reply {
+        self.calls = self.calls.saturating_add(1);
+        let reply = match request {
+            Request::Read {
+                object,
+                offset,
+                length,
+                at,
+            } => self.read(object, offset, length, at, now),
+            other => ask(self.rt, self.drive, &mut self.session, other, now),
+        };
+        self.gate.answered(self.number, self.calls);
+        reply
+    }
+}

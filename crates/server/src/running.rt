@@ -1,0 +1,135 @@
+//! Sessions that are served at once, each from its own reader to its own writer, over one drive.
+ghost use Rattle.std.specs.Prelude.{◌≡◌, ℕ, ◌+◌, ◌^◌, ◌<◌, ◌≤◌, All, length, slice_index_or};
+ghost use Rattle.server.specs.Attending.{IsAttended, failures_in};
+ghost use Rattle.server.specs.Drawing.{Counts};
+ghost use Rattle.serving.specs.Session.{reading_failures, writing_failures};
+ghost use Rattle.serving.specs.Streams.{taken_by};
+
+use crate::clocks::SharedClock;
+use crate::gate::Gate;
+use crate::locked::Locked;
+use drive::Drive;
+use s4_types::{Moment, Refusal, Role};
+use segment_word::Naming;
+use serving::{ServeEnd, Sink, Source, serve};
+use std::alloc::Global;
+use std::sync::atomic::AtomicU64;
+use std::sync::{Mutex, Wait};
+use std::thread::{Threads, for_each_mut};
+
+/// Sessions that are served at once, at most.
+pub const MOST_SESSIONS: usize = 16;
+
+/// What became of a session.
+#[derive(Clone, Copy, Debug, PartialEq, Eq)]
+pub enum Outcome {
+    /// It was not begun yet.
+    Waiting,
+    /// It was served, and ended so.
+    Served(ServeEnd),
+    /// The drive gave it no seat, for this reason. Nothing was read or written.
+    Refused(Refusal),
+}
+
+/// A session to be served: what it may do, where its requests come from and where its replies go.
+#[derive(Drop)]
+pub struct Client<S: Source, W: Sink> {
+    pub role: Role,
+    pub reader: S,
+    pub writer: W,
+    pub outcome: Outcome,
+}
+
+/// Serves one session of that number, from 1 on: it draws its moments from the clock.
+fn attend<J: Naming, R: Wait, G: Gate, S: Source, W: Sink>(
+    rt: &R,
+    alloc: Global,
+    drive: &Mutex<Drive<J>>,
+    gate: &G,
+    mut clock: SharedClock<'_>,
+    number: usize,
+    client: &mut Client<S, W>,
+)
+    requires reader { S.failures client.old.reader + 1 < 2 ^ 64 }
+    requires writer { W.failures client.old.writer + 1 < 2 ^ 64 }
+    ensures attended { IsAttended J.base clock.entry client.old.role client.new.outcome
+        (S.remaining client.old.reader) (taken_by W.passed W.held client.old.writer)
+        (S.remaining client.new.reader) (taken_by W.passed W.held client.new.writer) }
+    ensures reading { S.failures client.new.reader ≡ S.failures client.old.reader + failures_in reading_failures client.new.outcome }
+    ensures writing { W.failures client.new.writer ≡ W.failures client.old.writer + failures_in writing_failures client.new.outcome }
+    ensures role { client.new.role ≡ client.old.role }
+{
+    let mut session = match Locked::new(rt, alloc, drive, client.role, gate, number) {
+        Ok(session) => session,
+        Err(refusal) => {
+            client.outcome = Outcome::Refused(refusal);
+            return;
+        }
+    };
+    let end = serve(
+        alloc,
+        &mut client.reader,
+        &mut client.writer,
+        &mut session,
+        &mut clock,
+    );
+    client.outcome = Outcome::Served(end);
+}
+
+/// Serves sessions of one drive at once, each on a thread of its own and with its own reader and writer, until each has ended, and
+/// says of each what became of it. The sessions have the numbers from 1 on, by their order.
+///
+/// A Read holds the lock while it is planned and not while it is fetched, and passes the gate between the two; each other request is
+/// one call under the lock. The k-th moment that all sessions together draw, from 1 on, is `start + k * tick`, and the last one,
+/// 2^64 - 1, where that is less. A session for which the drive has no seat is refused with Busy, and the others go on. Where the
+/// system gives no thread for a session, it is served after another one.
+pub fn run_sessions<
+    J: Naming + Send + Sync,
+    R: Threads + Wait + Sync,
+    G: Gate + Sync,
+    S: Source + Send,
+    W: Sink + Send,
+>(
+    rt: &R,
+    alloc: Global,
+    drive: &Mutex<Drive<J>>,
+    gate: &G,
+    start: Moment,
+    tick: u64,
+    clients: &mut [Client<S, W>],
+)
+    requires count { length clients.old ≤ 16 }
+    requires readers { All (λ c. S.failures c.reader + 1 < 2 ^ 64) clients.old }
+    requires writers { All (λ c. W.failures c.writer + 1 < 2 ^ 64) clients.old }
+    // Each session was answered by steps of the shared drive, or the drive had no seat for it.
+    ensures attended { (i : ℕ) (d : _) → i < length clients.old
+        → IsAttended J.base (record { start = start; tick = tick }) (slice_index_or clients.old i d).role (slice_index_or clients.new i d).outcome
+        (S.remaining (slice_index_or clients.old i d).reader) (taken_by W.passed W.held (slice_index_or clients.old i d).writer)
+        (S.remaining (slice_index_or clients.new i d).reader) (taken_by W.passed W.held (slice_index_or clients.new i d).writer) }
+    ensures reading { (i : ℕ) (d : _) → i < length clients.old
+        → S.failures (slice_index_or clients.new i d).reader ≡ S.failures (slice_index_or clients.old i d).reader + failures_in reading_failures (slice_index_or clients.new i d).outcome }
+    ensures writing { (i : ℕ) (d : _) → i < length clients.old
+        → W.failures (slice_index_or clients.new i d).writer ≡ W.failures (slice_index_or clients.old i d).writer + failures_in writing_failures (slice_index_or clients.new i d).outcome }
+{
+    let drawn = AtomicU64::new(0);
+    let serve_one = |index: usize, client: &mut Client<S, W>|
+        requires { (S.failures client.now.reader + 1 < 2 ^ 64) × (W.failures client.now.writer + 1 < 2 ^ 64) }
+        ensures attended { IsAttended J.base (record { start = start; tick = tick }) client.entry.now.role client.exit.now.outcome
+            (S.remaining client.entry.now.reader) (taken_by W.passed W.held client.entry.now.writer)
+            (S.remaining client.exit.now.reader) (taken_by W.passed W.held client.exit.now.writer) }
+        ensures reading { S.failures client.exit.now.reader ≡ S.failures client.entry.now.reader + failures_in reading_failures client.exit.now.outcome }
+        ensures writing { W.failures client.exit.now.writer ≡ W.failures client.entry.now.writer + failures_in writing_failures client.exit.now.outcome }
+    {
+        let clock = SharedClock::new(&drawn, start, tick);
+        attend(
+            rt,
+            alloc,
+            drive,
+            gate,
+            clock,
+            index.saturating_add(1),
+            client,
+        );
+    };
+    for_each_mut(rt, clients, MOST_SESSIONS, &serve_one);
+}

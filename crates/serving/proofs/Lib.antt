@@ -1,0 +1,4 @@
+pub mod AnsweringLemmas
+pub mod SessionLemmas
+pub mod ClockLemmas
+pub mod StreamLemmas

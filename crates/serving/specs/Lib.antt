@@ -1,0 +1,4 @@
+pub mod Streams
+pub mod Drawing
+pub mod Answering
+pub mod Session

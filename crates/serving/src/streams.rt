@@ -1,0 +1,59 @@
+ghost use Rattle.std.specs.Prelude.{◌≡◌, ℕ, ◌+◌, ◌^◌, ◌<◌, ◌≤◌, List, [], length, Option, IfOk, OnOk, OnErr};
+ghost use Rattle.std.specs.Io.KnownBytes.{Appends, Keeps, ReadConsumes};
+ghost use Rattle.serving.specs.Streams.{taken_by, AppendsPart, failures_after};
+
+use thiserror::Error;
+
+/// A reader or a writer failed, and counted it.
+#[derive(Clone, Copy, Debug, PartialEq, Eq, Error)]
+#[error("the stream failed")]
+pub struct StreamFailed;
+
+/// What a session reads from. It counts its failures.
+pub trait Source {
+    // The bytes that are left to come, where they are known.
+    ghost remaining: { Self → Option (List ℕ) };
+
+    // How often it has failed.
+    ghost failures: { Self → ℕ };
+
+    // How many more reads give bytes, at most.
+    ghost turns: { Self → ℕ };
+
+    /// Reads some bytes to the front of `into`, and says how many. None come only at the end, or where `into`
+    /// has no room.
+    fn read(&mut self, into: &mut [u8]) -> Result<usize, StreamFailed>
+        requires { failures self.old + 1 < 2 ^ 64 }
+        ensures bound { IfOk result (λ count. count ≤ length into.new) }
+        ensures bytes { ReadConsumes (remaining self.old) (remaining self.new) result into.new }
+        ensures failures { failures self.new ≡ failures_after (failures self.old) result }
+        ensures turns { IfOk result (λ count. 0 < count → turns self.new < turns self.old) };
+}
+
+/// What a session writes to. It counts its failures, and may hold bytes back until it passes them on.
+pub trait Sink {
+    // The bytes that it has passed on, where they are known.
+    ghost passed: { Self → Option (List ℕ) };
+
+    // The bytes that it holds, which come behind those.
+    ghost held: { Self → List ℕ };
+
+    // How often it has failed.
+    ghost failures: { Self → ℕ };
+
+    /// Takes all the bytes, or fails and has taken a beginning of them.
+    fn put(&mut self, bytes: &[u8]) -> Result<(), StreamFailed>
+        requires { failures self.old + 1 < 2 ^ 64 }
+        ensures ok { OnOk result
+            (Appends (taken_by passed held self.old) (taken_by passed held self.new) bytes.now) }
+        ensures err { OnErr result
+            (AppendsPart (taken_by passed held self.old) (taken_by passed held self.new) bytes.now) }
+        ensures failures { failures self.new ≡ failures_after (failures self.old) result };
+
+    /// Passes on all that it holds.
+    fn pass_on(&mut self) -> Result<(), StreamFailed>
+        requires { failures self.old + 1 < 2 ^ 64 }
+        ensures bytes { Keeps (taken_by passed held self.old) (taken_by passed held self.new) }
+        ensures ok { OnOk result (held self.new ≡ []) }
+        ensures failures { failures self.new ≡ failures_after (failures self.old) result };
+}
