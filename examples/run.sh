@@ -1,15 +1,24 @@
 #!/usr/bin/env bash
-# Runs `s4d pipe client` on an example and shows what goes in and what comes out.
-#     run.sh [FILE.hex [ROLE]]       S4D names the program, else `rt run` builds it
+# Runs `s4d pipe` on an example, and shows each request with its comment and its reply.
+#     run.sh [FILE.hex [ROLE [OPTION..]]]     such as: run.sh first_requests.hex client --tick 0 --window 1000
 set -euo pipefail
-here=$(cd "$(dirname "$0")" && pwd)
-requests=${1:-$here/first_requests.hex}
+. "$(dirname "$0")/program.sh"
+file=$(realpath "${1:-$here/first_requests.hex}")
 role=${2:-client}
-s4d=${S4D:-$here/../crates/s4d/out/s4d}
-if [ -z "${S4D:-}" ]; then
-    echo "building s4d" >&2
-    (cd "$here/../crates/s4d" && rt run -- pipe client < /dev/null > /dev/null)
+shift $(($# < 2 ? $# : 2))
+if ! command -v python3 > /dev/null; then
+    echo "run.sh: python3 is needed" >&2
+    exit 2
 fi
-python3 "$here/hex.py" bytes "$requests" | python3 "$here/hex.py" requests
-echo
-python3 "$here/hex.py" bytes "$requests" | "$s4d" pipe "$role" | python3 "$here/hex.py" replies
+if find_program; then
+    echo "run.sh: running $kind, $program" >&2
+    exec python3 -B "$here/hex.py" session "$file" "$program" pipe "$@" "$role"
+fi
+if ! command -v rt > /dev/null; then
+    echo "run.sh: neither a built program nor the Rattle kit's command rt is here" >&2
+    exit 2
+fi
+echo "run.sh: building and proving s4d first; see the README for how long that takes" >&2
+(cd "$crate" && rt run -- pipe client < /dev/null > /dev/null) || exit 1
+find_program || exit 1
+exec python3 -B "$here/hex.py" session "$file" "$program" pipe "$@" "$role"

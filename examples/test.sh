@@ -1,0 +1,18 @@
+#!/usr/bin/env bash
+# Runs the examples' tests over the built program, and ends with one line.
+#     test.sh        S4D names the program, else the one that `rt ci` or `rt run` left in crates/s4d/out
+set -uo pipefail
+. "$(dirname "$0")/program.sh"
+if ! find_program; then
+    echo "examples: FAILED: no program in crates/s4d/out; build it by (cd crates/s4d && rt run -- pipe client < /dev/null)"
+    exit 1
+fi
+log=$(mktemp)
+trap 'rm -f "$log"' EXIT
+if (cd "$here" && S4D=$program timeout 55 python3 -B -m unittest test_client) > "$log" 2>&1; then
+    echo "examples: $(grep '^Ran ' "$log"), ok"
+else
+    cat "$log"
+    echo "examples: FAILED"
+    exit 1
+fi
