@@ -4,7 +4,7 @@ ghost use mathlib.Core.List.{IsPrefix};
 ghost use Rattle.s4_types.specs.History.{accepted};
 ghost use Rattle.s4_types.specs.declared.refusals.Refusal.TheVariants.{Busy};
 ghost use Rattle.segment_word.specs.AcceptViews.{caught_up};
-ghost use Rattle.segment_word.specs.AcceptRule.{Fits};
+ghost use Rattle.segment_word.specs.AcceptRule.{Fits, ShareNone};
 
 use crate::session::Session;
 use object_store::{NamedTable, Store};
@@ -69,5 +69,14 @@ impl<J: Naming> Drive<J> {
         ensures same { self.new ≡ self.old }
     {
         self.history.meet(&mut session.seat);
+    }
+
+    /// Ends a session, and gives its seat back. No number is its own and another session's too. That one is as before.
+    pub fn end_beside(&self, stays: &mut Session<J>, ends: Session<J>)
+        ensures none { ShareNone stays.old.told ends.told }
+        ensures same { stays.new ≡ stays.old }
+    {
+        let Session { seat, role: _ } = ends;
+        self.history.end_beside(&mut stays.seat, seat);
     }
 }

@@ -6,7 +6,7 @@ use lib.ListN.{get_elem?}
 use Rattle.atomic_table.proofs.Lists.{at_longer, at_last}
 use Rattle.s4_types.specs.declared.changes.Change.{Change}
 use Rattle.s4_types.specs.History.{accepted}
-use Rattle.segment_word.specs.AcceptViews.{Told, Ledger, View, Driving, Lent, Attending, Carried, Spent, new_session, told_of, with_change, count_of, caught_up, credited}
+use Rattle.segment_word.specs.AcceptViews.{Told, Ledger, View, Driving, Lent, Attending, Beside, Carried, Spent, new_session, told_of, with_change, count_of, caught_up, credited}
 use Rattle.segment_word.specs.AcceptRule.{Fits, Suits, first_ledger}
 use Rattle.segment_word.specs.AcceptHandles.{SessionsShareNone, ToldShareNone}
 use Rattle.segment_word.proofs.AcceptLists.{prefix_all, prefix_trans, prefix_length, count-change, own_more, own_one_more, own_at}
@@ -41,6 +41,7 @@ pub suits_more : (l l' : Ledger) → IsPrefix (accepted l.history) (accepted l'.
 suits_more l l' changes owners id (Driving m) s = tt
 suits_more l l' changes owners id (Lent m t) s = fits_more l l' t changes owners s
 suits_more l l' changes owners id (Attending t) s = (s.0, fits_more l l' t changes owners s.1)
+suits_more l l' changes owners id (Beside t u) s = (s.0, fits_more l l' t changes owners s.1, s.2)
 suits_more l l' changes owners id (Carried t) s = fits_more l l' t changes owners s
 suits_more l l' changes owners id Spent s = tt
 
@@ -49,6 +50,7 @@ pub fits_told : (l : Ledger) (id : ℕ) (v : View) → Suits l id v → Fits l (
 fits_told l id (Driving m) s = fits_new l 0
 fits_told l id (Lent m t) s = s
 fits_told l id (Attending t) s = s.1
+fits_told l id (Beside t u) s = s.1
 fits_told l id (Carried t) s = s
 fits_told l id Spent s = fits_new l 0
 

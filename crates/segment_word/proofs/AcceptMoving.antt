@@ -1,19 +1,20 @@
 -- What a session was told goes from one seat to another: the rule is kept where a view is cut in two, and where two are joined.
-use Rattle.std.proofs.Common.{◌≡◌, ℕ, List, [], ◌∷◌, ◌++◌, set, refl, sym, ◌∙◌}
+use Rattle.std.proofs.Common.{◌≡◌, ℕ, List, [], ◌∷◌, ◌++◌, set, refl, sym, ◌∙◌, subst}
 use mathlib.Core.Option.{some}
 use lib.ListN.{get_elem?}
 use Rattle.atomic_table.specs.Table.{Splits, Joins}
 use Rattle.atomic_table.proofs.Lists.{set_else}
-use Rattle.segment_word.specs.AcceptViews.{Ledger, View, Driving, Lent, Attending, Carried, Spent, begun, blank_base, ledger_of, told_of}
-use Rattle.segment_word.specs.AcceptRule.{Fits, Suits, AcceptRule, first_ledger}
-use Rattle.segment_word.specs.AcceptSteps.{unlent, copied, joined, IsFor}
-use Rattle.segment_word.proofs.AcceptFits.{fits_told}
+use Rattle.segment_word.specs.AcceptViews.{Ledger, View, Told, Driving, Lent, Attending, Beside, Carried, Spent, begun, blank_base, ledger_of, told_of}
+use Rattle.segment_word.specs.AcceptRule.{Fits, ShareNone, Suits, AcceptRule, first_ledger}
+use Rattle.segment_word.specs.AcceptSteps.{Sat, unlent, copied, joined, absorbed, IsFor}
+use Rattle.segment_word.proofs.AcceptFits.{fits_told, told_apart}
 use Rattle.segment_word.proofs.AcceptViews.{first-kept, first-added, suits_set, suits_added, same_ledger}
 
 ledger-unlent : (v : View) → ledger_of (unlent v) ≡ ledger_of v
 ledger-unlent (Driving l) = refl
 ledger-unlent (Lent l t) = refl
 ledger-unlent (Attending t) = refl
+ledger-unlent (Beside t u) = refl
 ledger-unlent (Carried t) = refl
 ledger-unlent Spent = refl
 
@@ -21,6 +22,7 @@ suits_unlent : (l : Ledger) (id : ℕ) (v : View) → Suits l id v → Suits l i
 suits_unlent l id (Driving m) s = tt
 suits_unlent l id (Lent m t) s = tt
 suits_unlent l id (Attending t) s = s
+suits_unlent l id (Beside t u) s = s
 suits_unlent l id (Carried t) s = s
 suits_unlent l id Spent s = tt
 
@@ -28,6 +30,7 @@ ledger-joined : (v w : View) → ledger_of (joined v w) ≡ ledger_of v
 ledger-joined (Driving l) w = refl
 ledger-joined (Lent l t) w = refl
 ledger-joined (Attending t) w = refl
+ledger-joined (Beside t u) w = refl
 ledger-joined (Carried t) w = refl
 ledger-joined Spent w = refl
 
@@ -35,6 +38,7 @@ suits_joined : (l : Ledger) (id : ℕ) (v w : View) → Suits l id v → Fits l 
 suits_joined l id (Driving m) w s f its = f
 suits_joined l id (Lent m t) w s f its = s
 suits_joined l id (Attending t) w s f its = (its ∙ s.0, f)
+suits_joined l id (Beside t u) w s f its = s
 suits_joined l id (Carried t) w s f its = s
 suits_joined l id Spent w s f its = tt
 
@@ -53,3 +57,20 @@ joins id v other w bare its s r at apart there =
     let fits : Fits l (told_of w) = fits_told l other w (r.suits other w was) in
     same_ledger s.words s.words s.views (set both other Spent) refl (first-kept both other w Spent there (sym bare) ∙ first-kept s.views id v (joined v w) at (ledger-joined v w)) r
     (suits_set l both other Spent (suits_set l s.views id (joined v w) r.suits (suits_joined l id v w (r.suits id v at) fits its)) tt)
+
+-- a session's seat takes in another's: the two are different seats, so they share no number
+absorbs_told : (id : ℕ) (t : Told) (other : ℕ) (u : Told) → Joins {S = Unit {0}} AcceptRule id (Attending t) other (Attending u) (Beside t u) Spent
+absorbs_told id t other u s r at apart there =
+    let both : List View = set s.views id (Beside t u) in
+    let l : Ledger = first_ledger s.views in
+    let was : get_elem? s.views other ≡ some (Attending u) = sym (set_else s.views id other (Beside t u) apart) ∙ there in
+    let mine : Suits l id (Attending t) = r.suits id (Attending t) at in
+    let its : Suits l other (Attending u) = r.suits other (Attending u) was in
+    let none : ShareNone t u = told_apart l t u (λ e. apart (sym its.0 ∙ sym e ∙ mine.0)) mine.1 its.1 in
+    same_ledger s.words s.words s.views (set both other Spent) refl (first-kept both other (Attending u) Spent there refl ∙ first-kept s.views id (Attending t) (Beside t u) at refl) r
+    (suits_set l both other Spent (suits_set l s.views id (Beside t u) r.suits (mine.0, mine.1, none)) tt)
+
+pub absorbs : (id : ℕ) (me : Sat) (other : ℕ) (its : Sat) → me ≡ (Attending (told_of me.0), []) → its ≡ (Attending (told_of its.0), []) → Joins {S = Unit {0}} AcceptRule id me.0 other its.0 (absorbed me.0 its.0) Spent
+absorbs id me other its is are =
+    subst (λ (x : Sat). Joins {S = Unit {0}} AcceptRule id x.0 other its.0 (absorbed x.0 its.0) Spent) (sym is)
+    (subst (λ (x : Sat). Joins {S = Unit {0}} AcceptRule id (Attending (told_of me.0)) other x.0 (Beside (told_of me.0) (told_of x.0)) Spent) (sym are) (absorbs_told id (told_of me.0) other (told_of its.0)))

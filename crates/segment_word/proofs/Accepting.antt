@@ -8,12 +8,12 @@ use Rattle.atomic_table.specs.Table.{step, keeps, opening, Allows, Enters}
 use Rattle.atomic_table.proofs.Lists.{set_again}
 use Rattle.s4_types.specs.declared.changes.Change.{Change}
 use Rattle.s4_types.specs.History.{Base, accepted}
-use Rattle.segment_word.specs.AcceptViews.{Told, Ledger, View, Driving, Lent, Attending, begun, blank_base, new_session, ledger_of, told_of, with_moment, with_change, next_change, count_of, caught_up, credited}
+use Rattle.segment_word.specs.AcceptViews.{Told, Ledger, View, Driving, Lent, Attending, Beside, begun, blank_base, new_session, ledger_of, told_of, with_moment, with_change, next_change, count_of, caught_up, credited}
 use Rattle.segment_word.specs.AcceptRule.{Fits, Suits, AreNumbered, Rules, AcceptRule, first_ledger}
-use Rattle.segment_word.specs.AcceptSteps.{Sat, Takes, Learns, Notes, Counts, Begins, Comes}
+use Rattle.segment_word.specs.AcceptSteps.{Sat, Takes, Learns, Notes, Counts, Begins, Comes, Parts}
 use Rattle.segment_word.proofs.AcceptLists.{prefix_all, prefix_trans, after_moment, after_change, count-change, numbered_one_more}
 use Rattle.segment_word.proofs.AcceptFits.{fits_new, fits_caught_up, fits_credited, suits_more}
-use Rattle.segment_word.proofs.AcceptViews.{first-at, first-added, suits_added, drive_step, same_ledger}
+use Rattle.segment_word.proofs.AcceptViews.{first-at, first-kept, first-added, suits_set, suits_added, drive_step, same_ledger}
 
 only : (id : ℕ) (v : View) → get_elem? (Driving (begun blank_base) ∷ []) id ≡ some v → Suits (begun blank_base) id v
 only zero v e = subst (λ (x : View). Suits (begun blank_base) 0 x) (some-injective (Driving (begun blank_base)) v e) tt
@@ -107,6 +107,18 @@ comes slots v s rule _ small =
       (length s.views, refl),
     )
 
+pub parts : (slots id : ℕ) (t u : Told) → Allows AcceptRule slots id (Beside t u, []) 0 (λ n. n) (Parts (step slots 0 0 0 none) (Beside t u, []))
+parts slots id t u s rule _ at small =
+    let l : Ledger = first_ledger s.views in
+    let mine : Suits l id (Beside t u) = rule.suits id (Beside t u) at in (
+      Attending t,
+      keeps,
+      tt,
+      same_ledger s.words (set s.words 0 (slice_index s.words 0)) s.views (set s.views id (Attending t)) (set-get_or s.words 0 0) (first-kept s.views id (Beside t u) (Attending t) at refl) rule
+          (suits_set l s.views id (Attending t) rule.suits (mine.0, mine.1)),
+      record { view = refl; none = mine.2 },
+    )
+
 -- the same steps, at a view that is known to be of its kind
 pub takes_of : (slots id m : ℕ) (c : Change) (me : Sat) → id ≡ 0 → me ≡ (Lent (ledger_of me.0) (told_of me.0), []) → count_of (ledger_of me.0) + 1 < 2 ^ 64
     → Allows AcceptRule slots id me 0 (λ n. (n + 1) % 2 ^ 64) (Takes m c (step slots 0 1 0 none) me)
@@ -120,3 +132,6 @@ notes_of slots id m me z is = subst (λ (x : Sat). Allows AcceptRule slots id x 
 
 pub begins_of : (slots id : ℕ) (base : Base) (me : Sat) → id ≡ 0 → me ≡ (Driving (begun blank_base), []) → Allows AcceptRule slots id me 0 (λ n. n) (Begins base (step slots 0 0 0 none) me)
 begins_of slots id base me z is = subst (λ (x : Sat). Allows AcceptRule slots id x 0 (λ n. n) (Begins base (step slots 0 0 0 none) x)) (sym is) (begins slots id base z)
+
+pub parts_of : (slots id : ℕ) (me : Sat) (t u : Told) → me ≡ (Beside t u, []) → Allows AcceptRule slots id me 0 (λ n. n) (Parts (step slots 0 0 0 none) me)
+parts_of slots id me t u is = subst (λ (x : Sat). Allows AcceptRule slots id x 0 (λ n. n) (Parts (step slots 0 0 0 none) x)) (sym is) (parts slots id t u)

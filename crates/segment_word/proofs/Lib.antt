@@ -9,6 +9,7 @@ pub mod Moving
 pub mod Opening
 pub mod BlockWords
 pub mod BlockBytes
+pub mod BlockParts
 pub mod HeldPins
 pub mod AcceptLists
 pub mod AcceptFits

@@ -1,6 +1,5 @@
 -- What the handles of the accept table keep, and what follows for any two sessions.
 use Rattle.std.specs.Prelude.{◌≡◌, ◌≢◌, ℕ, []}
-use Rattle.std.specs.List.{Contains}
 use mathlib.Core.Option.{some}
 use lib.ListN.{get_elem?}
 use Rattle.atomic_table.specs.Table.{State}
@@ -8,7 +7,7 @@ use Rattle.atomic_table.specs.Seated.{TableId}
 use Rattle.atomic_table.specs.declared.shared.Seat.{Seat}
 use Rattle.s4_types.specs.History.{Base}
 use Rattle.segment_word.specs.AcceptViews.{Told, Ledger, View, Driving, Attending, begun, blank_base, ledger_of, told_of}
-use Rattle.segment_word.specs.AcceptRule.{Fits, AcceptRule}
+use Rattle.segment_word.specs.AcceptRule.{Fits, ShareNone, AcceptRule}
 
 -- stands where no table is named
 abbrev pub no_table : TableId
@@ -32,10 +31,6 @@ pub record IsFirstSeat (s : Seat (Unit {0}) View) : Type 0 where
   pub one_word : s.table_id.words ≡ 1
   pub first : s.id ≡ 0
   pub view : s.me ≡ (Driving (begun blank_base), [])
-
--- no number is both sessions' own
-abbrev pub ShareNone : Told → Told → Type 0
-ShareNone a b = (n : ℕ) → Contains a.mine n → ¬ Contains b.mine n
 
 -- whatever the seats know, the sessions of two seats share no number
 abbrev pub SessionsShareNone : Type 0

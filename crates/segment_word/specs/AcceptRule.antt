@@ -1,12 +1,13 @@
 -- The accept rule: what holds of the accept word and of all that the seats know, between any two steps.
 use Rattle.std.specs.Prelude.{◌≡◌, ℕ, ◌+◌, ◌-◌, ◌<◌, ◌≤◌, List, [], ◌∷◌, length}
+use Rattle.std.specs.List.{Contains}
 use mathlib.Core.Option.{some}
 use mathlib.Core.List.{IsPrefix}
 use lib.ListN.{get_elem?}
 use Rattle.atomic_table.specs.Table.{State}
 use Rattle.s4_types.specs.declared.changes.Accepted.{Accepted}
 use Rattle.s4_types.specs.History.{accepted}
-use Rattle.segment_word.specs.AcceptViews.{Told, Ledger, View, Driving, Lent, Attending, Carried, Spent, begun, blank_base, ledger_of, count_of}
+use Rattle.segment_word.specs.AcceptViews.{Told, Ledger, View, Driving, Lent, Attending, Beside, Carried, Spent, begun, blank_base, ledger_of, count_of}
 
 -- the changes have the numbers behind n, in order
 abbrev pub AreNumbered : ℕ → List Accepted → Type 0
@@ -24,11 +25,16 @@ pub record Fits (l : Ledger) (t : Told) : Type 0 where
   pub seen : IsPrefix t.seen (accepted l.history)
   pub mine : AreOwn l.owners t.seat 0 (length t.seen) t.mine
 
+-- no number is both sessions' own
+abbrev pub ShareNone : Told → Told → Type 0
+ShareNone a b = (n : ℕ) → Contains a.mine n → ¬ Contains b.mine n
+
 -- what the rule says of one seat, by its number. A session has the number of its own seat.
 abbrev pub Suits : Ledger → ℕ → View → Type 0
 Suits l id (Driving m) = Unit {0}
 Suits l id (Lent m t) = Fits l t
 Suits l id (Attending t) = (t.seat ≡ id) × Fits l t
+Suits l id (Beside t u) = (t.seat ≡ id) × Fits l t × ShareNone t u
 Suits l id (Carried t) = Fits l t
 Suits l id Spent = Unit {0}
 

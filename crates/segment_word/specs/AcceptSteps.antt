@@ -5,8 +5,8 @@ use Rattle.atomic_table.specs.Table.{Me, Step}
 use Rattle.atomic_table.specs.declared.shared.Seat.{Seat}
 use Rattle.s4_types.specs.declared.changes.Change.{Change}
 use Rattle.s4_types.specs.History.{Base, accepted}
-use Rattle.segment_word.specs.AcceptViews.{Told, View, Driving, Lent, Attending, Carried, Spent, begun, new_session, ledger_of, told_of, with_moment, with_change, count_of, caught_up, credited}
-use Rattle.segment_word.specs.AcceptRule.{Fits, AreNumbered}
+use Rattle.segment_word.specs.AcceptViews.{Told, View, Driving, Lent, Attending, Beside, Carried, Spent, begun, new_session, ledger_of, told_of, with_moment, with_change, count_of, caught_up, credited}
+use Rattle.segment_word.specs.AcceptRule.{Fits, ShareNone, AreNumbered}
 
 abbrev pub Sat : Type 0
 Sat = Me (Unit {0}) View
@@ -16,6 +16,7 @@ abbrev pub taking : ℕ → Change → View → View
 taking m c (Driving l) = Driving l
 taking m c (Lent l t) = Lent (with_change l t.seat m c) (credited (with_change l t.seat m c) t)
 taking m c (Attending t) = Attending t
+taking m c (Beside t u) = Beside t u
 taking m c (Carried t) = Carried t
 taking m c Spent = Spent
 
@@ -24,6 +25,7 @@ abbrev pub learning : View → View
 learning (Driving l) = Driving l
 learning (Lent l t) = Lent l (caught_up l t)
 learning (Attending t) = Attending t
+learning (Beside t u) = Beside t u
 learning (Carried t) = Carried t
 learning Spent = Spent
 
@@ -70,6 +72,7 @@ abbrev pub unlent : View → View
 unlent (Driving l) = Driving l
 unlent (Lent l t) = Driving l
 unlent (Attending t) = Attending t
+unlent (Beside t u) = Beside t u
 unlent (Carried t) = Carried t
 unlent Spent = Spent
 
@@ -82,6 +85,7 @@ abbrev pub joined : View → View → View
 joined (Driving l) w = Lent l (told_of w)
 joined (Lent l t) w = Lent l t
 joined (Attending t) w = Attending (told_of w)
+joined (Beside t u) w = Beside t u
 joined (Carried t) w = Carried t
 joined Spent w = Spent
 
@@ -90,8 +94,41 @@ abbrev pub IsFor : Told → View → Type 0
 IsFor u (Driving l) = Unit {0}
 IsFor u (Lent l t) = Unit {0}
 IsFor u (Attending t) = u.seat ≡ t.seat
+IsFor u (Beside t w) = Unit {0}
 IsFor u (Carried t) = Unit {0}
 IsFor u Spent = Unit {0}
+
+-- a session's view with what another one was told, whose seat it takes in
+abbrev pub absorbed : View → View → View
+absorbed (Driving l) w = Driving l
+absorbed (Lent l t) w = Lent l t
+absorbed (Attending t) w = Beside t (told_of w)
+absorbed (Beside t u) w = Beside t u
+absorbed (Carried t) w = Carried t
+absorbed Spent w = Spent
+
+-- the view without that
+abbrev pub parted : View → View
+parted (Driving l) = Driving l
+parted (Lent l t) = Lent l t
+parted (Attending t) = Attending t
+parted (Beside t u) = Attending t
+parted (Carried t) = Carried t
+parted Spent = Spent
+
+-- the session shares no number with the one that it took in
+abbrev pub SharesNone : View → Type 0
+SharesNone (Driving l) = Unit {0}
+SharesNone (Lent l t) = Unit {0}
+SharesNone (Attending t) = Unit {0}
+SharesNone (Beside t u) = ShareNone t u
+SharesNone (Carried t) = Unit {0}
+SharesNone Spent = Unit {0}
+
+-- a load by a session's seat that took in another: it is as it was before, and shares no number with that one
+pub record Parts (st : Step (Unit {0})) (me : Sat) (n : ℕ) (me' : Sat) : Type 0 where
+  pub view : me' ≡ (parted me.0, me.1)
+  pub none : SharesNone me.0
 
 -- the step left the seat its table and its number
 abbrev pub IsSameSeat : Seat (Unit {0}) View → Seat (Unit {0}) View → Type 0

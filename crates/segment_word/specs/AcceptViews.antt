@@ -17,11 +17,13 @@ pub record Ledger : Type 0 where
   pub owners : List ℕ
 
 -- What a seat knows, by what it is: the drive's seat, alone or with what a session was told lent to it; a session's
--- seat; a copy of what a session was told, under way; a seat that is spent.
+-- seat, alone or with what a session was told that has ended; a copy of what a session was told, under way; a seat that
+-- is spent.
 pub data View : Type 0 where
   Driving : Ledger → View
   Lent : Ledger → Told → View
   Attending : Told → View
+  Beside : Told → Told → View
   Carried : Told → View
   Spent : View
 
@@ -42,6 +44,7 @@ abbrev pub ledger_of : View → Ledger
 ledger_of (Driving l) = l
 ledger_of (Lent l t) = l
 ledger_of (Attending t) = begun blank_base
+ledger_of (Beside t u) = begun blank_base
 ledger_of (Carried t) = begun blank_base
 ledger_of Spent = begun blank_base
 
@@ -50,8 +53,18 @@ abbrev pub told_of : View → Told
 told_of (Driving l) = new_session 0
 told_of (Lent l t) = t
 told_of (Attending t) = t
+told_of (Beside t u) = t
 told_of (Carried t) = t
 told_of Spent = new_session 0
+
+-- what a session was told whose seat this one took in, in a view
+abbrev pub guest_of : View → Told
+guest_of (Driving l) = new_session 0
+guest_of (Lent l t) = new_session 0
+guest_of (Attending t) = new_session 0
+guest_of (Beside t u) = u
+guest_of (Carried t) = new_session 0
+guest_of Spent = new_session 0
 
 -- the history with a record behind it
 abbrev pub with_record : History → Record → History

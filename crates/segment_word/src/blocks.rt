@@ -1,17 +1,19 @@
 //! Whole blocks, word by word. The highest byte of each word stands first.
-ghost use Rattle.std.specs.Prelude.{◌≡◌, ℕ, ◌+◌, ◌*◌, ◌/◌, ◌%◌, ◌^◌, ◌<◌, ◌≤◌, [], ◌∷◌, length, flat_map};
+ghost use Rattle.std.specs.Prelude.{◌≡◌, ℕ, ◌+◌, ◌*◌, ◌/◌, ◌%◌, ◌^◌, ◌<◌, ◌≤◌, [], ◌∷◌, ◌-◌, ◌++◌, length, take, drop, flat_map, OnOk, IfErr};
 ghost use mathlib.Core.Option.{some};
 ghost use lib.ListN.{get_elem?};
 ghost use Rattle.byteorder.specs.Endian.{big_bytes};
+ghost use Rattle.s4_types.specs.declared.refusals.Refusal.TheVariants.{NoMemory};
 ghost use Rattle.segment_word.specs.Frames.{Pinned};
 ghost use Rattle.segment_word.specs.Frames.Phase.{Open};
 ghost use Rattle.segment_word.specs.Layout.{frame_at, block_bytes, block_words, with_block};
 ghost use Rattle.segment_word.specs.Counting.{pins_in};
 ghost use Rattle.segment_word.specs.Steps.{with_frame, IsSameSeat};
 
-use crate::layout::{BLOCK_WORDS, FRAME_WORDS};
+use crate::layout::{BLOCK_WORDS, FRAME_WORDS, WORD_BYTES};
 use crate::steps::{Place, Words, look, read, store};
 use byteorder::{BigEndian, ByteOrder};
+use s4_types::Refusal;
 
 fn bytes_of(words: &[u64; 64]) -> [u8; 512]
     ensures { result ≡ flat_map (big_bytes 8) words.now }
@@ -62,6 +64,54 @@ pub fn read_block(words: &Words, seat: &mut Place, frame: usize, block: usize) -
         found[i] = read(words, seat, first + i);
     }
     bytes_of(&found)
+}
+
+/// Adds the bytes of a word from one place on and up to another. A whole word is the common case.
+fn append_word(word: u64, from: usize, to: usize, into: &mut Vec<u8>) -> Result<(), Refusal>
+    requires range { (from ≤ to) × (to ≤ 8) }
+    ensures bytes { OnOk result (into.new.items ≡ into.old.items ++ take (to - from) (drop from (big_bytes 8 word))) }
+    ensures added { OnOk result (length into.new.items ≡ length into.old.items + (to - from)) }
+    ensures refusal { IfErr result (λ e. e ≡ NoMemory) }
+{
+    let mut bytes = [0; 8];
+    BigEndian::write_u64(&mut bytes, word);
+    if to - from == 8 {
+        into.extend_from_slice(&bytes)?;
+    } else {
+        into.extend_from_slice(&bytes[from..to])?;
+    }
+    Ok(())
+}
+
+/// Adds the bytes of a block from one place on and up to another, of a frame that the seat of a pin counts on.
+pub fn append_bytes(
+    words: &Words,
+    seat: &mut Place,
+    frame: usize,
+    block: usize,
+    from: usize,
+    to: usize,
+    into: &mut Vec<u8>,
+) -> Result<(), Refusal>
+    requires table { seat.old.table_id ≡ words.now.table_id }
+    requires inside { (1025 * frame + 1024 < words.now.table_id.words) × (words.now.table_id.words ≤ 1049600) × (block < 16) }
+    requires range { (from ≤ to) × (to ≤ 512) }
+    ensures seat { IsSameSeat seat.old seat.new }
+    ensures view { seat.new.me.0 ≡ seat.old.me.0 }
+    ensures bytes { OnOk result ((i : ℕ) (p : Pinned) → get_elem? seat.old.me.0.pins i ≡ some p → p.number ≡ frame → into.new.items ≡ into.old.items ++ take (to - from) (drop from (block_bytes p.contents block))) }
+    ensures added { OnOk result (length into.new.items ≡ length into.old.items + (to - from)) }
+    ensures refusal { IfErr result (λ e. e ≡ NoMemory) }
+{
+    let first = FRAME_WORDS * frame + 1 + BLOCK_WORDS * block;
+    let mut at = from;
+    while at < to {
+        let word = read(words, seat, first + at / WORD_BYTES);
+        let start = at % WORD_BYTES;
+        let end = WORD_BYTES.min(start + (to - at));
+        append_word(word, start, end, into)?;
+        at += end - start;
+    }
+    Ok(())
 }
 
 /// These bytes become a block of an open frame.

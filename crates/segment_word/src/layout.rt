@@ -6,6 +6,9 @@ pub const FRAME_WORDS: usize = 1025;
 /// Words of a block.
 pub const BLOCK_WORDS: usize = 64;
 
+/// Bytes of a word.
+pub const WORD_BYTES: usize = 8;
+
 /// One reader in a state word.
 pub const ONE_READER: u64 = 4;
 

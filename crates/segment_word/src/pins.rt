@@ -1,5 +1,5 @@
 //! Pins: frames that stay as they are while somebody counts on them.
-ghost use Rattle.std.specs.Prelude.{◌≡◌, ◌≢◌, ℕ, ◌+◌, ◌*◌, ◌<◌, ◌≤◌, ◌⊎◌, ◌↔◌, [], ◌∷◌, length, MatchBool, IsTrue, OnOk, OnErr, IfErr, IsOk, vec_len};
+ghost use Rattle.std.specs.Prelude.{◌≡◌, ◌≢◌, ℕ, ◌+◌, ◌-◌, ◌*◌, ◌<◌, ◌≤◌, ◌⊎◌, ◌↔◌, [], ◌∷◌, ◌++◌, length, take, drop, MatchBool, IsTrue, OnOk, OnErr, IfErr, IsOk, vec_len};
 ghost use Rattle.s4_types.specs.declared.refusals.Refusal.TheVariants.{NoMemory, Busy};
 ghost use Rattle.std.specs.Arc.{arc_value};
 ghost use Rattle.segment_word.specs.Frames.{Pinned, nothing_known};
@@ -10,7 +10,7 @@ ghost use Rattle.segment_word.specs.FrameRule.{AllAgree};
 ghost use Rattle.segment_word.specs.Steps.{older};
 ghost use Rattle.segment_word.specs.Handles.{IsAmong, pin_of};
 
-use crate::blocks::read_block;
+use crate::blocks::{append_bytes, read_block};
 use crate::board::Board;
 use crate::drive::{DriveSeat, FrameToken};
 use crate::layout::{EMPTY, RESTING};
@@ -112,6 +112,38 @@ impl Pin {
         ensures same { self.new ≡ self.old }
     {
         read_block(&self.board.table.shared, &mut self.seat, frame, block)
+    }
+
+    /// Adds the bytes `from..to` of the 512 of block `block`, from 0 to 15, of a frame that it counts on, as they were when the
+    /// frame was pinned. Each goes from its word straight into `into`.
+    ///
+    /// NoMemory alone, where `into` has no room and more is refused; it may have some of the bytes then. Where it has room,
+    /// nothing is asked for.
+    pub fn append_bytes(
+        &mut self,
+        frame: usize,
+        block: usize,
+        from: usize,
+        to: usize,
+        into: &mut Vec<u8>,
+    ) -> Result<(), Refusal>
+        requires counted { 0 < pins_in frame self.old.pins }
+        requires inside { block < 16 }
+        requires range { (from ≤ to) × (to ≤ 512) }
+        ensures bytes { OnOk result ((p : Pinned) → IsAmong p self.old.pins → p.number ≡ frame → into.new.items ≡ into.old.items ++ take (to - from) (drop from (block_bytes p.contents block))) }
+        ensures added { OnOk result (length into.new.items ≡ length into.old.items + (to - from)) }
+        ensures refusal { IfErr result (λ e. e ≡ NoMemory) }
+        ensures same { self.new ≡ self.old }
+    {
+        append_bytes(
+            &self.board.table.shared,
+            &mut self.seat,
+            frame,
+            block,
+            from,
+            to,
+            into,
+        )
     }
 
     // Unpins the newest frame, and says whether there was one.

@@ -12,9 +12,24 @@ use s4_types::{Bytes, Moment, ObjectId, Refusal, Reply, Request, Role};
 use segment_word::Naming;
 use serving::Backend;
 use std::alloc::Global;
+use std::hint::spin_loop;
 use std::marker::Model;
-use std::sync::{Mutex, Wait};
+use std::sync::{Mutex, MutexGuard, Wait};
 use time_read::ReadPlan;
+
+/// How often a session looks whether the lock is free before it sleeps: it is held for a few microseconds, and waking takes longer.
+const LOOKS: usize = 300;
+
+/// The drive, once the lock is had.
+fn hold<'a, J: Naming>(rt: &impl Wait, drive: &'a Mutex<Drive<J>>) -> MutexGuard<'a, Drive<J>> {
+    for _ in 0..LOOKS {
+        if let Some(held) = drive.try_lock() {
+            return held;
+        }
+        spin_loop();
+    }
+    drive.lock(rt)
+}
 
 /// A session of a role.
 fn enter<J: Naming>(
@@ -25,7 +40,7 @@ fn enter<J: Naming>(
     ensures session { IfOk result (IsFresh J.base role) }
     ensures busy { IfErr result (λ e. e ≡ Busy) }
 {
-    let mut drive = drive.lock(rt);
+    let mut drive = hold(rt, drive);
     drive.rules();
     drive.session(role)
 }
@@ -44,7 +59,7 @@ fn resolve<J: Naming>(
     ensures step { SharedStep J.base session.old (Read object offset length at) now (reply_planned result) session.new }
     ensures fits { ReplyFits (reply_planned result) }
 {
-    let mut drive = drive.lock(rt);
+    let mut drive = hold(rt, drive);
     drive.rules();
     drive.resolve(session, object, offset, length, at, now)
 }
@@ -60,7 +75,7 @@ fn ask<J: Naming>(
     ensures step { SharedStep J.base session.old request now result session.new }
     ensures fits { ReplyFits result }
 {
-    let mut drive = drive.lock(rt);
+    let mut drive = hold(rt, drive);
     drive.rules();
     drive.request(session, request, now)
 }
@@ -69,7 +84,7 @@ fn ask<J: Naming>(
 fn meet<J: Naming>(rt: &impl Wait, drive: &Mutex<Drive<J>>, session: &mut Session<J>)
     ensures met { HasMet J.base session.old session.new }
 {
-    let mut drive = drive.lock(rt);
+    let mut drive = hold(rt, drive);
     drive.rules();
     drive.meet(session);
 }

@@ -1,5 +1,5 @@
 -- What the pins of a plan have of a frame.
-use Rattle.std.proofs.Common.{◌≡◌, ℕ, suc, ◌<◌, ◌==◌, cond, List, [], ◌∷◌, ◌++◌, take, drop, Result, OnOk, subst, inl, inr, refl, ap, sym, ◌∙◌, arith}
+use Rattle.std.proofs.Common.{◌≡◌, ℕ, suc, ◌<◌, ◌==◌, cond, List, [], ◌∷◌, ◌++◌, take, drop, Result, Ok, Err, OnOk, inl, inr, refl, ap, sym, ◌∙◌, arith}
 use Rattle.std.proofs.lemmas.Bool.{cases_Bool, eqb-true, cond-true, cond-false}
 use Rattle.s4_types.specs.declared.refusals.Refusal.{Refusal}
 use Rattle.segment_word.specs.Frames.{Pinned}
@@ -42,6 +42,10 @@ pinned_bytes f b pins bytes counted is =
     let there = is_there f pins counted in
     is there.pin there.among there.frame ∙ ap (λ (c : List ℕ). block_bytes c b) (sym there.contents)
 
--- what was added is a part of the same bytes
-pub of_bytes : (r : Result (Unit {0}) Refusal) (n s : ℕ) (old new bytes same : List ℕ) → bytes ≡ same → OnOk r (new ≡ old ++ take n (drop s bytes)) → OnOk r (new ≡ old ++ take n (drop s same))
-of_bytes r n s old new bytes same is added = subst (λ (l : List ℕ). OnOk r (new ≡ old ++ take n (drop s l))) is added
+-- what is added of a pinned block is a part of what the pins have of it
+pub pinned_part : (r : Result (Unit {0}) Refusal) (f b n s : ℕ) (pins : List Pinned) (old new : List ℕ) → 0 < pins_in f pins → OnOk r ((p : Pinned) → IsAmong p pins → p.number ≡ f → new ≡ old ++ take n (drop s (block_bytes p.contents b)))
+    → OnOk r (new ≡ old ++ take n (drop s (block_bytes (contents_pinned f pins) b)))
+pinned_part (Err e) f b n s pins old new counted told = tt
+pinned_part (Ok u) f b n s pins old new counted told =
+    let there = is_there f pins counted in
+    told there.pin there.among there.frame ∙ ap (λ (c : List ℕ). old ++ take n (drop s (block_bytes c b))) (sym there.contents)

@@ -71,10 +71,7 @@ fn append_pinned(
     ensures same { pin.new ≡ pin.old }
 {
     match pin {
-        Some(pin) => {
-            let bytes = pin.read_block(frame as usize, block as usize);
-            append_slice(&bytes[from..to], into)
-        }
+        Some(pin) => pin.append_bytes(frame as usize, block as usize, from, to, into),
         None => Ok(()),
     }
 }

@@ -70,6 +70,8 @@ pub(super) trait LogDrive: Drop {
 
     fn meet(&mut self, session: &mut Self::Session);
 
+    fn end_beside(&self, stays: &mut Self::Session, ends: Self::Session);
+
     fn ask(&mut self, session: &mut Self::Session, request: Request, now: Moment) -> Reply;
 
     fn seal(&mut self);
@@ -114,6 +116,10 @@ impl<J: Naming> LogDrive for Drive<J> {
 
     fn meet(&mut self, session: &mut Session<J>) {
         Drive::meet(self, session);
+    }
+
+    fn end_beside(&self, stays: &mut Session<J>, ends: Session<J>) {
+        Drive::end_beside(self, stays, ends);
     }
 
     fn ask(&mut self, session: &mut Session<J>, request: Request, now: Moment) -> Reply {

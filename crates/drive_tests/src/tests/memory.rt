@@ -4,12 +4,13 @@ use crate::tests::asking::{Ask, Row, Told, reply_of};
 use crate::tests::beside::pass_moment;
 use crate::tests::drives::{Answering, LogDrive, Party, Plain};
 use crate::tests::{Scene, play};
-use s4_types::Refusal::{Flushed, NoMemory, NoObject, NoSpace, TooLarge};
+use s4_types::Refusal::{Busy, Flushed, NoMemory, NoObject, NoSpace, TooLarge};
 use s4_types::Role::{Admin, Client};
-use s4_types::{Reply, Role};
+use s4_types::{Refusal, Reply, Role};
 use std::alloc::Global;
 use std::process::Abort;
 use std::test::Fail;
+use time_read::ReadPlan;
 
 /// Who asks, the server's clock, and what is asked.
 type Asked = (Role, u64, Ask);
@@ -247,4 +248,64 @@ impl Scene for Again {
 fn memory_refused_once(rt: HostRuntime) -> Result<(), Fail> {
     answers_again(&rt, &mut Plain::new(rt.alloc(), 100))?;
     play(&rt, rt.alloc(), 16, 100, Again)
+}
+
+/// An object of 13 blocks. They fill a frame with the journal's two, so that it is sealed.
+static SEALED: [Asked; 2] = [
+    (Client, 10, Ask::Create(b"")),
+    (Client, 20, Ask::Fill(1, 0, 6656, 7)),
+];
+
+/// A plan of the sealed bytes, made once more where memory was refused.
+fn plan_again<D: LogDrive>(party: &mut Party<D>) -> Result<ReadPlan, Refusal> {
+    let at = party.drive.clock();
+    match party.plan(1, 6656, at) {
+        Err(NoMemory) => party.plan(1, 6656, at),
+        planned => planned,
+    }
+}
+
+/// Memory for so many plans, asked for a second time where it was refused once.
+fn room_for_plans(alloc: Global, count: usize) -> Result<Vec<ReadPlan>, Fail> {
+    match Vec::with_capacity(alloc, count) {
+        Ok(made) => Ok(made),
+        Err(_) => Ok(Vec::with_capacity(alloc, count)?),
+    }
+}
+
+/// Plans of the sealed bytes, all kept, until no seat is left or 65 were had.
+fn all_plans<D: LogDrive>(alloc: Global, party: &mut Party<D>) -> Result<Vec<ReadPlan>, Fail> {
+    let mut plans = room_for_plans(alloc, 65)?;
+    for _ in 0..65 {
+        match plan_again(party) {
+            Ok(plan) => plans.push(plan)?,
+            Err(Busy) => return Ok(plans),
+            Err(refusal) => return Err(Fail::from(refusal)),
+        }
+    }
+    Ok(plans)
+}
+
+/// No pin stays of a plan that memory was refused for, when it was made or fetched: each time all 64 seats are to be had.
+#[derive(Drop)]
+struct Unpinned;
+
+impl Scene for Unpinned {
+    fn play<D: LogDrive, R: Abort>(self, rt: &R, alloc: Global, drive: D) -> Result<(), Fail> {
+        let mut party = Party::new(alloc, drive)?;
+        ask_all(&mut party, &SEALED)?;
+        for _ in 0..2 {
+            let plans = all_plans(alloc, &mut party)?;
+            assert_eq!(rt; plans.len(), 64);
+            for plan in plans {
+                drop(plan.fetch(alloc));
+            }
+        }
+        Ok(())
+    }
+}
+
+#[test]
+fn short_of_memory_for_plans(rt: HostRuntime) -> Result<(), Fail> {
+    play(&rt, rt.alloc(), 16, 100, Unpinned)
 }

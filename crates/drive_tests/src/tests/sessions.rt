@@ -116,6 +116,35 @@ fn sessions_in_turn(rt: HostRuntime) -> Result<(), Fail> {
     play(&rt, rt.alloc(), 8, 100, InTurn)
 }
 
+/// A session that ends beside another gives its seat back, and the other one goes on as before.
+#[derive(Drop)]
+struct Ending;
+
+impl Scene for Ending {
+    fn play<D: LogDrive, R: Abort>(self, rt: &R, alloc: Global, drive: D) -> Result<(), Fail> {
+        let mut drive = drive;
+        let sessions = clients(alloc, &mut drive, 62)?;
+        let mut stays = drive.session(Client)?;
+        let mut ends = drive.session(Client)?;
+        let one = reply_to(&mut drive, &mut stays, alloc, 1, Ask::Create(b""))?;
+        assert!(rt; one == reply_of(alloc, Told::Created(1, 1))?);
+        let two = reply_to(&mut drive, &mut ends, alloc, 1, Ask::Create(b""))?;
+        assert!(rt; two == reply_of(alloc, Told::Created(2, 2))?);
+        assert!(rt; is_busy(&mut drive, Client));
+        drive.end_beside(&mut stays, ends);
+        assert!(rt; drive.session(Admin).is_ok());
+        let reply = reply_to(&mut drive, &mut stays, alloc, 2, Ask::Append(2, b"z"))?;
+        assert!(rt; reply == reply_of(alloc, Told::Changed(3))?);
+        drop(sessions);
+        Ok(())
+    }
+}
+
+#[test]
+fn a_session_ends_beside_another(rt: HostRuntime) -> Result<(), Fail> {
+    play(&rt, rt.alloc(), 8, 100, Ending)
+}
+
 /// Passes under each refusal of memory.
 #[test]
 fn refused_memory_gives_no_drive(rt: HostRuntime) {

@@ -3,10 +3,10 @@ ghost use Rattle.std.specs.Prelude.{◌≡◌, ◌+◌, ◌^◌, ◌<◌, length
 ghost use mathlib.Core.List.{IsPrefix};
 ghost use Rattle.s4_types.specs.History.{accepted};
 ghost use Rattle.segment_word.specs.AcceptViews.{count_of, with_change, with_moment, credited, caught_up};
-ghost use Rattle.segment_word.specs.AcceptRule.{Fits, AreNumbered};
+ghost use Rattle.segment_word.specs.AcceptRule.{Fits, ShareNone, AreNumbered};
 
 use crate::accepts::board::AcceptBoard;
-use crate::accepts::lending::{accept, meet, see};
+use crate::accepts::lending::{accept, end_beside, meet, see};
 use crate::accepts::naming::{Naming, Taking};
 use crate::accepts::sessions::SessionSeat;
 use crate::accepts::steps::{Place, count};
@@ -81,5 +81,19 @@ impl<J: Naming> HistorySeat<J> {
     {
         let word = &self.board.table.shared;
         accept::<C>(word, &mut self.seat, &mut session.seat)
+    }
+
+    /// Ends a session, and gives its seat back. No number is its own and another session's too. That one is as before.
+    pub fn end_beside(&self, stays: &mut SessionSeat<J>, ends: SessionSeat<J>)
+        ensures none { ShareNone stays.old ends }
+        ensures same { stays.new ≡ stays.old }
+    {
+        let SessionSeat {
+            seat,
+            permit,
+            of: _,
+        } = ends;
+        end_beside(&self.board.table.shared, &mut stays.seat, seat);
+        drop(permit);
     }
 }

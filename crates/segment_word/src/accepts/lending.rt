@@ -3,11 +3,11 @@ ghost use Rattle.std.specs.Prelude.{◌≡◌, ◌+◌, ◌^◌, ◌<◌, []};
 ghost use mathlib.Core.List.{IsPrefix};
 ghost use Rattle.s4_types.specs.History.{accepted};
 ghost use Rattle.segment_word.specs.AcceptViews.{Driving, Lent, Attending, ledger_of, told_of, with_moment, with_change, count_of, caught_up, credited};
-ghost use Rattle.segment_word.specs.AcceptRule.{Fits};
+ghost use Rattle.segment_word.specs.AcceptRule.{Fits, ShareNone};
 ghost use Rattle.segment_word.specs.AcceptSteps.{IsSameSeat};
 
 use crate::accepts::naming::{Passing, Taking};
-use crate::accepts::steps::{Place, Word, hand, learn, note, receive, take};
+use crate::accepts::steps::{Place, Word, absorb, hand, learn, note, part, receive, take};
 use s4_types::Moment;
 
 // What the session was told comes to the drive's seat too.
@@ -78,4 +78,17 @@ pub fn see<T: Passing>(word: &Word, drive: &mut Place, moment: Moment)
     ensures view { drive.new.me ≡ (Driving (with_moment (ledger_of drive.old.me.0) moment), []) }
 {
     note::<T>(word, drive);
+}
+
+/// One session's seat ends beside another one's, which is as it was. No number is both sessions' own: the one takes the
+/// other in, as only another seat can be, and a look at the word then tells it.
+pub fn end_beside(word: &Word, stays: &mut Place, ends: Place)
+    requires table { (stays.old.table_id ≡ word.now.table_id) × (ends.table_id ≡ word.now.table_id) × (word.now.table_id.words ≡ 1) }
+    requires stays { stays.old.me ≡ (Attending (told_of stays.old.me.0), []) }
+    requires ends { ends.me ≡ (Attending (told_of ends.me.0), []) }
+    ensures stays { IsSameSeat stays.old stays.new × (stays.new.me ≡ stays.old.me) }
+    ensures none { ShareNone (told_of stays.old.me.0) (told_of ends.me.0) }
+{
+    absorb(word, stays, ends);
+    part(word, stays);
 }

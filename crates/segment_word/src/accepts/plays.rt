@@ -1,6 +1,6 @@
 //! What each step on the accept word tells its seat, and how what a session was told goes from one seat to another.
 ghost use Rattle.segment_word.specs.AcceptViews.{Spent};
-ghost use Rattle.segment_word.specs.AcceptSteps.{Takes, Learns, Notes, Counts, Begins, Comes, unlent, copied, joined};
+ghost use Rattle.segment_word.specs.AcceptSteps.{Takes, Learns, Notes, Counts, Begins, Comes, Parts, unlent, copied, joined, absorbed};
 
 use crate::accepts::naming::{Naming, Passing, Taking};
 use crate::accepts::rule::Known;
@@ -53,6 +53,22 @@ pub struct Come;
 
 impl Play<(), Known> for Come {
     ghost then = { Comes };
+}
+
+/// A session's seat lets go of what it took in.
+pub struct Part;
+
+impl Play<(), Known> for Part {
+    ghost then = { Parts };
+}
+
+/// A session's seat takes in another session's.
+pub struct Absorb;
+
+impl Join<Known> for Absorb {
+    ghost both = { absorbed };
+
+    ghost spent = { Spent };
 }
 
 /// What a session was told goes to a seat of its own: a copy off the session's seat, the lent one off the drive's.

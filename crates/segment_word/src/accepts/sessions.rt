@@ -37,8 +37,8 @@ pub struct Sessions<J: Naming> {
 #[derive(Drop)]
 pub struct SessionSeat<J: Naming> {
     pub(crate) seat: Place,
-    permit: Permit,
-    of: PhantomData<J>,
+    pub(crate) permit: Permit,
+    pub(crate) of: PhantomData<J>,
 }
 
 impl<J: Naming> Model for SessionSeat<J> {

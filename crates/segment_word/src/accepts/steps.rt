@@ -2,11 +2,12 @@
 ghost use Rattle.std.specs.Prelude.{◌≡◌, ◌+◌, ◌^◌, ◌<◌, []};
 ghost use mathlib.Core.Option.{none};
 ghost use Rattle.atomic_table.specs.Table.{step};
-ghost use Rattle.segment_word.specs.AcceptViews.{Driving, Lent, Attending, Carried, Told, begun, blank_base, ledger_of, told_of, with_moment, count_of, new_session};
+ghost use Rattle.segment_word.specs.AcceptViews.{Driving, Lent, Attending, Beside, Carried, Told, begun, blank_base, ledger_of, told_of, guest_of, with_moment, count_of, new_session};
 ghost use Rattle.segment_word.specs.AcceptSteps.{Takes, Learns, Counts, IsSameSeat, IsFor, unlent, joined};
+ghost use Rattle.segment_word.specs.AcceptRule.{ShareNone};
 
 use crate::accepts::naming::{Naming, Passing, Taking};
-use crate::accepts::plays::{Begin, Come, Count, Hand, Learn, Note, Receive, Take};
+use crate::accepts::plays::{Absorb, Begin, Come, Count, Hand, Learn, Note, Part, Receive, Take};
 use crate::accepts::rule::{Known, OneHistory};
 use atomic_table::{Seat, Shared};
 
@@ -94,4 +95,26 @@ pub fn receive(word: &Word, seat: &mut Place, other: Place)
     ensures view { seat.new.me ≡ (joined seat.old.me.0 other.me.0, seat.old.me.1) }
 {
     word.join_seat::<Receive>(seat, other);
+}
+
+/// A session's seat takes in another session's, which is spent.
+pub fn absorb(word: &Word, seat: &mut Place, other: Place)
+    requires table { (seat.old.table_id ≡ word.now.table_id) × (other.table_id ≡ word.now.table_id) × (word.now.table_id.words ≡ 1) }
+    requires session { seat.old.me ≡ (Attending (told_of seat.old.me.0), []) }
+    requires other { other.me ≡ (Attending (told_of other.me.0), []) }
+    ensures seat { IsSameSeat seat.old seat.new }
+    ensures view { seat.new.me ≡ (Beside (told_of seat.old.me.0) (told_of other.me.0), []) }
+{
+    word.join_seat::<Absorb>(seat, other);
+}
+
+/// A session's seat that took in another's is as it was before that. The two sessions share no number.
+pub fn part(word: &Word, seat: &mut Place)
+    requires table { (seat.old.table_id ≡ word.now.table_id) × (word.now.table_id.words ≡ 1) }
+    requires both { seat.old.me ≡ (Beside (told_of seat.old.me.0) (guest_of seat.old.me.0), []) }
+    ensures seat { IsSameSeat seat.old seat.new }
+    ensures view { seat.new.me ≡ (Attending (told_of seat.old.me.0), []) }
+    ensures none { ShareNone (told_of seat.old.me.0) (guest_of seat.old.me.0) }
+{
+    word.load::<Part>(seat, 0);
 }
