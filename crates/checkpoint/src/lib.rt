@@ -6,6 +6,3 @@
 mod calls;
 
 pub use calls::{read_checkpoint, write_checkpoint};
-
-#[cfg(test)]
-mod tests;

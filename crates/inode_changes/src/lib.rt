@@ -13,8 +13,6 @@ pub mod laws;
 mod loading;
 mod reading;
 mod status;
-#[cfg(test)]
-mod tests;
 mod truncating;
 mod writing;
 

@@ -51,13 +51,13 @@ fn bytes_of_a_log_lead_from_inode_to_inode(rt: HostRuntime) -> Result<(), Fail> 
     let write = read(WRITE.as_slice())?;
     let mut inode = blank(Moment::new(10));
     redo(&create, &mut inode);
-    assert_eq!(rt; inode, made());
+    assert!(rt; inode == made());
     redo(&write, &mut inode);
-    assert_eq!(rt; inode, written(11, 3, 1, 0));
+    assert!(rt; inode == written(11, 3, 1, 0));
     undo(&write, &mut inode);
-    assert_eq!(rt; inode, made());
+    assert!(rt; inode == made());
     undo(&create, &mut inode);
-    assert_eq!(rt; inode, blank(Moment::new(10)));
+    assert!(rt; inode == blank(Moment::new(10)));
     Ok(())
 }
 
@@ -76,10 +76,10 @@ fn making(created: Moment) -> Entries
 #[test]
 fn a_making_is_the_entry_of_a_create(rt: HostRuntime) -> Result<(), Fail> {
     let entries = making(Moment::new(10));
-    assert_eq!(rt; entries.len(), 1);
+    assert!(rt; entries.len() == 1);
     let mut inode = blank(Moment::new(10));
     redo_all(entries.as_slice(), &mut inode);
-    assert_eq!(rt; inode, made());
+    assert!(rt; inode == made());
     Ok(())
 }
 
@@ -102,23 +102,23 @@ fn pointers_stand_sixteen_in_an_entry(rt: HostRuntime) -> Result<(), Fail> {
         }
         let entries = told_between(&before, &after, Moment::new(12)).ok_or("refused")?;
         let sizes = entry_sizes(count, 0);
-        assert_eq!(rt; entries.len(), triples.len());
-        assert_eq!(rt; sizes.len(), triples.len());
+        assert!(rt; entries.len() == triples.len());
+        assert!(rt; sizes.len() == triples.len());
         for ((entry, size), wanted) in entries
             .as_slice()
             .iter()
             .zip(sizes.as_slice())
             .zip(triples)
         {
-            assert_eq!(rt; entry.triples().len(), *wanted);
-            assert_eq!(rt; entry.byte_count(), *size);
-            assert_eq!(rt; entry.moment(), Moment::new(12));
+            assert!(rt; entry.triples().len() == *wanted);
+            assert!(rt; entry.byte_count() == *size);
+            assert!(rt; entry.moment() == Moment::new(12));
         }
         let mut inode = before;
         redo_all(entries.as_slice(), &mut inode);
-        assert_eq!(rt; inode, after);
+        assert!(rt; inode == after);
         undo_all(entries.as_slice(), &mut inode);
-        assert_eq!(rt; inode, before);
+        assert!(rt; inode == before);
     }
     Ok(())
 }
@@ -131,9 +131,9 @@ fn a_pair_takes_its_bytes(rt: HostRuntime) -> Result<(), Fail> {
     after.attribute = Attribute::new(b"abc").ok_or("attribute")?;
     let entries = told_between(&before, &after, Moment::new(12)).ok_or("refused")?;
     let sizes = entry_sizes(0, 5);
-    assert_eq!(rt; sizes.as_slice(), [39].as_slice());
+    assert!(rt; sizes.as_slice() == [39].as_slice());
     for entry in entries.as_slice() {
-        assert_eq!(rt; entry.byte_count(), 39);
+        assert!(rt; entry.byte_count() == 39);
     }
     Ok(())
 }
@@ -153,14 +153,14 @@ fn three_entries_become_one(rt: HostRuntime) -> Result<(), Fail> {
         }
     }
     let composed = compose(run.as_slice()).ok_or("refused")?;
-    assert_eq!(rt; composed.len(), 1);
+    assert!(rt; composed.len() == 1);
     for entry in composed.as_slice() {
-        assert_eq!(rt; entry.moment(), Moment::new(13));
-        assert_eq!(rt; entry.triples().len(), 1);
+        assert!(rt; entry.moment() == Moment::new(13));
+        assert!(rt; entry.triples().len() == 1);
     }
     let mut inode = first;
     redo_all(composed.as_slice(), &mut inode);
-    assert_eq!(rt; inode, third);
+    assert!(rt; inode == third);
     assert!(rt; compose(&[]).is_none());
     Ok(())
 }

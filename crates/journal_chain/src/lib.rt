@@ -19,6 +19,3 @@ mod writing;
 
 pub use back::EntriesBack;
 pub use chain::Chain;
-
-#[cfg(test)]
-mod tests;

@@ -10,6 +10,3 @@ mod objects;
 
 pub use map::{ObjectMap, Row};
 pub use objects::Objects;
-
-#[cfg(test)]
-mod tests;

@@ -12,6 +12,3 @@ pub mod laws;
 
 pub use changing::record_change;
 pub use checkpointing::record_checkpoint;
-
-#[cfg(test)]
-mod tests;

@@ -1,12 +1,13 @@
 -- Filling twice tops up: the first time the length is told, the second time the frame is whole.
-use Rattle.std.proofs.Common.{◌≡◌, ℕ, ◌+◌, ◌<◌, ◌≤◌, List, [], ◌∷◌, ◌++◌, length, Option, refl, sym, ap, subst, ◌∙◌, append_assoc, arith, inl, inr}
+use Rattle.std.proofs.Common.{◌≡◌, ℕ, ◌+◌, ◌<◌, ◌≤◌, List, [], ◌∷◌, ◌++◌, length, Option, Some, None, refl, sym, ap, subst, ◌∙◌, append_assoc, arith, inl, inr}
 use Rattle.std.proofs.lemmas.Bool.{cases_lt, lt-ltb, le-ltb}
-use Rattle.std.proofs.lemmas.List.{length-append, nil_from_length}
+use Rattle.std.proofs.lemmas.List.{append-nil, length-append, nil_from_length}
 use Rattle.s4_types.specs.declared.limits.TheConstants.{FRAME_BODY_BYTES}
 use Rattle.rpc.specs.declared.items.Item.{Item}
-use Rattle.rpc.specs.Stream.{frame, length_told, IsPartial, BeginsWith, IsItem, Adds}
+use Rattle.rpc.specs.declared.items.Item.TheVariants.{BadFrame}
+use Rattle.rpc.specs.Stream.{frame, length_told, IsPartial, IsOversized, BeginsWith, IsItem, Adds}
 use Rattle.rpc.specs.Filling.{wanted, IsFilled, IsToppedUp}
-use Rattle.rpc.proofs.StreamLaws.{told_on, frame_told, frame_length, frame_on, Leads-start, Leads-frame, Leads-adds}
+use Rattle.rpc.proofs.StreamLaws.{told_on, frame_told, frame_length, frame_on, oversized_on, Leads-start, Leads-frame, Leads-oversized, Leads-adds}
 
 -- ---- the wanted length, by cases
 
@@ -128,3 +129,18 @@ frame_and_left {T} spells old new seen piece left body rest before pushed after 
     } in
     let first = Leads-frame spells (old ++ piece) before before (old ++ piece) body left item (Leads-start spells (old ++ piece) before) begins_left is in
     Leads-adds spells (old ++ piece) before (before ++ item ∷ []) after left end first (subst (λ (x : List (Item T)). Adds spells left x after end) grew adds)
+
+-- an oversized length among the topped up bytes is the last of the held bytes and the piece
+pub oversized_held : {T : Type 0} (spells : List ℕ → T → Type 0) (old new seen piece left : List ℕ) (before pushed : List (Item T)) → IsToppedUp old new piece left → seen ≡ new → IsOversized seen → pushed ≡ before ++ BadFrame ∷ [] → Adds spells (old ++ piece) before pushed None
+oversized_held {T} spells old new seen piece left before pushed t saw over grew =
+    let joined : old ++ piece ≡ seen ++ left = topped_up_whole old new piece left t ∙ ap (λ (x : List ℕ). x ++ left) (sym saw) in
+    let whole = subst IsOversized (sym joined) (oversized_on seen left over) in
+    subst (λ (x : List (Item T)). Adds spells (old ++ piece) before x None) (sym grew)
+    (Leads-oversized spells (old ++ piece) before before (old ++ piece) (Leads-start spells (old ++ piece) before) whole)
+
+-- topped up bytes that are less than a frame are all that there is, and add nothing
+pub partial_held : {T : Type 0} (spells : List ℕ → T → Type 0) (old new seen piece left : List ℕ) (before after : List (Item T)) → IsToppedUp old new piece left → seen ≡ new → IsPartial seen → after ≡ before → Adds spells (old ++ piece) before after (Some new)
+partial_held spells old new seen piece left before after t saw at_front same =
+    let partial = subst IsPartial saw at_front in
+    let none : left ≡ [] = t.ended partial in
+    ([], same ∙ sym (append-nil before), (topped_up_whole old new piece left t ∙ ap (λ (x : List ℕ). new ++ x) none ∙ append-nil new, partial))

@@ -8,7 +8,7 @@ use Rattle.std.proofs.lemmas.Nat.{from_be_bytes-to_be_bytes_4}
 use Rattle.s4_types.specs.declared.limits.TheConstants.{FRAME_BODY_BYTES}
 use Rattle.rpc.specs.declared.items.Item.{Item}
 use Rattle.rpc.specs.declared.items.Item.TheVariants.{Whole, BadFrame}
-use Rattle.rpc.specs.Stream.{frame, length_told, IsPartial, IsOversized, BeginsWith, IsItem, Reads, Adds}
+use Rattle.rpc.specs.Stream.{frame, length_told, IsPartial, IsOversized, BeginsWith, IsItem, Reads, AddsOne, Adds}
 
 -- ---- a frame at the front
 
@@ -92,6 +92,9 @@ module _ {T : Type 0} (spells : List ℕ → T → Type 0) where
     whole = ap (λ (x : List (Item T)). x ++ item ∷ []) l.whole ∙ append_assoc old l.front (item ∷ []);
     on = λ more end r. subst (λ (x : List (Item T)). Reads spells start x end) (sym (append_assoc l.front (item ∷ []) more)) (l.on (item ∷ more) end (inl (body, rest, begins, is, r)));
   }
+
+  pub Leads-one : (start : List ℕ) (old items new : List (Item T)) (left rest : List ℕ) → Leads start old items left → AddsOne spells left items new rest → Leads start old new rest
+  Leads-one start old items new left rest l a = subst (λ (x : List (Item T)). Leads start old x rest) (sym a.added) (Leads-frame start old items left a.body rest a.item l a.begins a.is)
 
   pub Leads-partial : (start : List ℕ) (old items : List (Item T)) (left : List ℕ) → Leads start old items left → IsPartial left → Adds spells start old items (Some left)
   Leads-partial start old items left l partial = (l.front, l.whole, subst (λ (x : List (Item T)). Reads spells start x (Some left)) (append-nil l.front) (l.on [] (Some left) (refl, partial)))

@@ -44,3 +44,11 @@ Reads spells stream (item ∷ items) end =
 -- from so many items on, the bytes were read behind these, and this is left
 abbrev pub Adds : {T : Type 0} → (List ℕ → T → Type 0) → List ℕ → List (Item T) → List (Item T) → Option (List ℕ) → Type 0
 Adds {T} spells bytes old new end = (more : List (Item T)) × (new ≡ old ++ more) × Reads spells bytes more end
+
+-- the frame at the front of the bytes was read as one item behind the old ones, and the rest is behind it
+pub record AddsOne {T : Type 0} (spells : List ℕ → T → Type 0) (bytes : List ℕ) (old new : List (Item T)) (rest : List ℕ) : Type 0 where
+  pub body : List ℕ
+  pub item : Item T
+  pub begins : BeginsWith bytes body rest
+  pub is : IsItem spells body item
+  pub added : new ≡ old ++ item ∷ []

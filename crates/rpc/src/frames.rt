@@ -2,7 +2,8 @@ ghost use Rattle.std.specs.Prelude.{◌≡◌, ◌⊎◌, ℕ, ◌+◌, ◌≤�
 ghost use Rattle.std.specs.Option.{option_map};
 ghost use Rattle.s4_types.specs.declared.limits.TheConstants.{FRAME_BODY_BYTES};
 ghost use Rattle.s4_types.specs.declared.refusals.Refusal.TheVariants.{NoMemory};
-ghost use Rattle.rpc.specs.Stream.{length_told, IsPartial, IsOversized, BeginsWith, IsItem, Adds};
+ghost use Rattle.rpc.specs.Stream.{length_told, IsPartial, IsOversized, BeginsWith, IsItem, AddsOne, Adds};
+ghost use Rattle.rpc.specs.declared.items.Item.TheVariants.{BadFrame};
 
 use crate::items::{Item, Message};
 use s4_types::Refusal;
@@ -53,6 +54,31 @@ pub(crate) fn item_of<T: Message>(alloc: Global, body: &[u8]) -> Result<Item<T>,
     }
 }
 
+/// Adds the item of the frame that stands whole at the front of the bytes, and gives the bytes behind it, or None where no
+/// frame is whole yet. An oversized length is added as a bad frame. The only error is NoMemory.
+pub(crate) fn read_first<'a, T: Message>(
+    alloc: Global,
+    items: &mut Vec<Item<T>>,
+    bytes: &'a [u8],
+) -> Result<Result<Option<&'a [u8]>, TooLong>, Refusal>
+    ensures whole { IfOk result (λ front. IfOk front (λ behind. IfSome behind (λ rest. AddsOne T.spells bytes.now items.old.items items.new.items rest.now))) }
+    ensures partial { IfOk result (λ front. IfOk front (λ behind. IfNone behind (IsPartial bytes.now × (items.new.items ≡ items.old.items)))) }
+    ensures oversized { IfOk result (λ front. OnErr front (IsOversized bytes.now × (items.new.items ≡ items.old.items ++ BadFrame ∷ []))) }
+    ensures memory { IfErr result (λ refusal. refusal ≡ NoMemory) }
+{
+    match front_of(bytes) {
+        Err(TooLong) => {
+            items.push(Item::BadFrame)?;
+            Ok(Err(TooLong))
+        }
+        Ok(None) => Ok(Ok(None)),
+        Ok(Some((body, rest))) => {
+            items.push(item_of(alloc, body)?)?;
+            Ok(Ok(Some(rest)))
+        }
+    }
+}
+
 /// Adds the items of the frames that stand whole in the bytes, and gives the bytes behind them, or None
 /// where an oversized length came. The only error is NoMemory.
 pub(crate) fn read_frames<'a, T: Message>(
@@ -66,16 +92,10 @@ pub(crate) fn read_frames<'a, T: Message>(
 {
     let mut left = bytes;
     loop {
-        match front_of(left) {
-            Err(TooLong) => {
-                items.push(Item::BadFrame)?;
-                return Ok(None);
-            }
+        match read_first(alloc, items, left)? {
+            Err(TooLong) => return Ok(None),
             Ok(None) => return Ok(Some(left)),
-            Ok(Some((body, rest))) => {
-                items.push(item_of(alloc, body)?)?;
-                left = rest;
-            }
+            Ok(Some(rest)) => left = rest,
         }
     }
 }

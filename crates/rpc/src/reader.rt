@@ -7,7 +7,7 @@ ghost use Rattle.rpc.specs.Stream.{IsPartial, Reads, Adds};
 ghost use Rattle.rpc.specs.Filling.{HasFrameRoom, IsGrown};
 
 use crate::filling::top_up;
-use crate::frames::{TooLong, front_of, item_of, read_frames};
+use crate::frames::{TooLong, read_first, read_frames};
 use crate::items::{Item, Message};
 use crate::room::put;
 use s4_types::Refusal;
@@ -60,16 +60,10 @@ fn read_piece<T: Message>(
         return read_rest(alloc, held, items, piece);
     }
     let left = top_up(held, piece);
-    match front_of(held.as_slice()) {
-        Err(TooLong) => {
-            items.push(Item::BadFrame)?;
-            Ok(false)
-        }
+    match read_first(alloc, items, held.as_slice())? {
+        Err(TooLong) => Ok(false),
         Ok(None) => Ok(true),
-        Ok(Some((body, _))) => {
-            items.push(item_of(alloc, body)?)?;
-            read_rest(alloc, held, items, left)
-        }
+        Ok(Some(_)) => read_rest(alloc, held, items, left),
     }
 }
 

@@ -13,5 +13,3 @@ mod plays;
 mod rule;
 pub mod sessions;
 mod steps;
-#[cfg(test)]
-mod tests;

@@ -30,8 +30,6 @@ mod plays;
 mod pool;
 mod rule;
 mod steps;
-#[cfg(test)]
-mod tests;
 
 pub use accepts::board::Accepts;
 pub use accepts::history::HistorySeat;

@@ -16,7 +16,7 @@ use Rattle.window.proofs.Ranges.{below, count_by-range, sum_by-range-more}
 run_count_of_all-more : (floor clock k : ℕ) (spans : List Span) → run_count_of_all floor spans clock (suc k) ≡ run_count_of_all floor spans clock k + run_count (is_covered floor spans k) clock
 run_count_of_all-more floor clock k spans = sum_by-range-more (λ list. run_count (is_covered floor spans list) clock) k
 
-abbrev tally : Bool → ℕ
+abbrev pub tally : Bool → ℕ
 tally b = cond b 1 0
 
 below-same : (p q : ℕ → Bool) (n : ℕ) → ((t : ℕ) → p t ≡ q t) → below p n ≡ below q n
@@ -96,7 +96,7 @@ near m l t le = elim (cases_order t m) [
   ]
 ]
 
-or_false : (a : Bool) → (a || false) ≡ a
+pub or_false : (a : Bool) → (a || false) ≡ a
 or_false true = refl
 or_false false = refl
 
@@ -171,7 +171,7 @@ covered_without floor list t run runs dead = elim (cases_Bool (nat_le floor t)) 
   | inr under ↦ ap (λ b. b && (covers list t run || list_any (covers list t) runs)) under ∙ sym (ap (λ b. b && list_any (covers list t) runs) under)
 ]
 
-count_cons : (p : Span → Bool) (run : Span) (runs : List Span) → count_by p (run ∷ runs) ≡ tally (p run) + count_by p runs
+pub count_cons : (p : Span → Bool) (run : Span) (runs : List Span) → count_by p (run ∷ runs) ≡ tally (p run) + count_by p runs
 count_cons p run runs = sum_by-cons (λ x. cond (p x) 1 0) run runs
 
 -- the runs of a list that reach the floor are as many as the model counts

@@ -2,7 +2,12 @@ pub mod Ordering
 pub mod Covering
 pub mod Ranges
 pub mod Counting
+pub mod Live
+pub mod Chunked
+pub mod Dividing
 pub mod Lists
 pub mod Walking
 pub mod Standing
 pub mod Seeing
+pub mod Forgetting
+pub mod Planning

@@ -1,24 +1,30 @@
 -- How a window goes on standing for the state of a history.
-use Rattle.std.proofs.Common.{◌≡◌, inl, inr, ℕ, Bool, true, false, ◌&&◌, ◌||◌, ◌-◌, ◌<◌, ◌≤◌, nat_lt, nat_le, max, List, [], ◌∷◌, ◌++◌, count_by, filter, Option, Some, None, refl, sym, ap, subst, ◌∙◌, append_assoc, append-nil, arith}
+use Rattle.std.proofs.Common.{◌≡◌, ◌⊎◌, inl, inr, ℕ, Bool, true, false, ◌&&◌, ◌||◌, ◌-◌, ◌^◌, ◌<◌, ◌≤◌, nat_lt, nat_le, max, List, [], ◌∷◌, ◌++◌, length, count_by, filter, Option, Some, None, Result, Ok, Err, IfErr, MatchResult, refl, sym, ap, subst, ◌∙◌, append_assoc, append-nil, arith}
 use Rattle.std.specs.List.{list_any, filter_map, cons_option, AllByRecursion}
 use Rattle.std.proofs.lemmas.List.Elements.{filter_map-append}
-use Rattle.std.proofs.lemmas.Bool.{false≢true, leb-true, and_left, cases_Bool}
+use Rattle.std.proofs.lemmas.List.Sums.{length-filter}
+use Rattle.std.proofs.lemmas.Bool.{false≢true, leb-true, lt-ltb, le-ltb, and_left, or_left, or_right, or_from, cases_Bool}
 use Rattle.s4_types.specs.declared.spans.Span.{Span}
 use Rattle.s4_types.specs.declared.changes.Accepted.{Accepted}
 use Rattle.s4_types.specs.declared.changes.Change.{Change}
 use Rattle.s4_types.specs.declared.changes.Change.TheVariants.{Create, Delete, Write, Truncate, SetAttr, SetWindow, Flush, FlushO}
 use Rattle.s4_types.specs.declared.limits.TheConstants.{RUNS_IN_A_LIST, RUNS_IN_ALL}
+use Rattle.s4_types.specs.declared.refusals.Refusal.{Refusal}
+use Rattle.s4_types.specs.declared.refusals.Refusal.TheVariants.{NoMemory, TooManySpans}
 use Rattle.s4_model.specs.Numbers.{window_by, next_by}
-use Rattle.s4_model.specs.State.{State, took}
+use Rattle.s4_model.specs.State.{State, seen, took}
 use Rattle.s4_model.specs.Visible.{is_hidden, span_by, span_of, spans_of}
 use Rattle.s4_model.specs.Runs.{is_covered, run_count, run_count_of_all}
 use Rattle.s4_model.specs.Refusals.{is_one_span_too_many}
 use Rattle.s4_model.specs.Sound.{IsOfGiven}
 use Rattle.window.specs.Runs.{covers, Ascend, AllEndBy, with_span, is_live, is_live_in}
-use Rattle.window.specs.Timeline.{Timeline, CoverAlike, StandsFor, Plan, IsPlanned}
+use Rattle.window.specs.declared.chunks.Chunk.{Chunk}
+use Rattle.window.specs.Chunks.{flat, AllNumbered}
+use Rattle.window.specs.Timeline.{Timeline, CoverAlike, StandsFor, Plan, chunks_by, IsMade, HasMoved}
 use Rattle.s4_model.specs.Effect.{is_of_versions}
 use Rattle.window.proofs.Ordering.{Ascend-with_span, Ascend-filter, all_with_span, all_filter}
 use Rattle.window.proofs.Covering.{covers_with_span, covers_live, covers_push, hides_either}
+use Rattle.window.proofs.Live.{live_twice, count_live_in}
 use Rattle.window.proofs.Counting.{count_live, count_live_of_all, run_count-same, run_count_of_all-same}
 
 spans_at_end : (a : Accepted) (found : Option Span) → span_of a ≡ found → filter_map span_of (a ∷ []) ≡ cons_option found []
@@ -66,14 +72,14 @@ span_leaves_window (Flush first last) span window h = refl
 span_leaves_window (FlushO o first last) span window h = refl
 
 -- the window as it is after a change
-abbrev pub after_change : Timeline → ℕ → ℕ → List Span → Timeline
-after_change w moment window runs = record { clock = moment; window = window; floor = max w.floor (moment - window); runs = runs }
+abbrev pub after_change : Timeline → ℕ → ℕ → List Span → List Chunk → Timeline
+after_change w moment window runs chunks = record { clock = moment; window = window; floor = max w.floor (moment - window); runs = runs; chunks = chunks }
 
 floor_after : (a b m n k l : ℕ) → a ≡ b → m ≡ n → k ≡ l → max a (m - k) ≡ max b (n - l)
 floor_after a b m n k l e f g = omega arith
 
 -- a change that hides nothing
-pub stands_took : (w : Timeline) (s : State) (a : Accepted) (moment window : ℕ) → a.moment ≡ moment → window ≡ window_by a.change s.window → span_of a ≡ None → StandsFor w s → StandsFor (after_change w moment window w.runs) (took s a)
+pub stands_took : (w : Timeline) (s : State) (a : Accepted) (moment window : ℕ) → a.moment ≡ moment → window ≡ window_by a.change s.window → span_of a ≡ None → StandsFor w s → StandsFor (after_change w moment window w.runs w.chunks) (took s a)
 stands_took w s a moment window at set none stands = record {
   clock = sym at;
   window = set;
@@ -90,8 +96,8 @@ alike_with_span w s span stands ascend ordered list t le =
     ∙ sym (covers_push list t (spans_of s) span)
 
 -- a change that hides a span
-pub stands_took_span : (w : Timeline) (s : State) (a : Accepted) (span : Span) (runs : List Span) (moment : ℕ) → a.moment ≡ moment → span_of a ≡ Some span → runs ≡ with_span span w.runs → span.first ≤ span.last → span.object < s.next → Ascend w.runs → StandsFor w s → StandsFor (after_change w moment w.window runs) (took s a)
-stands_took_span w s a span runs moment at is planned ordered given ascend stands =
+pub stands_took_span : (w : Timeline) (s : State) (a : Accepted) (span : Span) (runs : List Span) (chunks : List Chunk) (moment : ℕ) → a.moment ≡ moment → span_of a ≡ Some span → runs ≡ with_span span w.runs → span.first ≤ span.last → span.object < s.next → Ascend w.runs → StandsFor w s → StandsFor (after_change w moment w.window runs chunks) (took s a)
+stands_took_span w s a span runs chunks moment at is planned ordered given ascend stands =
     let window : window_by a.change s.window ≡ s.window = span_leaves_window a.change span s.window is in
     let set : w.window ≡ window_by a.change s.window = stands.window ∙ sym window in
     let next : s.next ≤ next_by a.change s.next = next_grows a.change s.next in
@@ -107,16 +113,42 @@ stands_took_span w s a span runs moment at is planned ordered given ascend stand
       owned = subst P (sym planned) (all_given s.next (next_by a.change s.next) (with_span span w.runs) next (all_with_span (IsOfGiven s.next) span w.runs (λ x y p q. p) given stands.owned));
     }
 
--- a window that forgets runs below the floor
-pub stands_forget : (w : Timeline) (s : State) (runs : List Span) → runs ≡ filter (is_live w.floor) w.runs → StandsFor w s → StandsFor (record w { runs = runs }) s
-stands_forget w s runs is stands =
-    let P : List Span → Type 0 = λ xs. AllByRecursion (IsOfGiven s.next) xs in
+-- a state goes on being stood for where the runs below the floor are left out
+pub stands_later : (x later : Timeline) (t : State) → StandsFor x t → later.clock ≡ x.clock → later.window ≡ x.window → later.floor ≡ x.floor → later.runs ≡ filter (is_live later.floor) x.runs → StandsFor later t
+stands_later x later t stands clock window floor is =
+    let P : List Span → Type 0 = λ xs. AllByRecursion (IsOfGiven t.next) xs in
+    let same : later.floor ≡ t.floor = floor ∙ stands.floor in
     record {
-      clock = stands.clock;
-      window = stands.window;
-      floor = stands.floor;
-      alike = λ list t le. ap (λ xs. list_any (covers list t) xs) is ∙ covers_live w.floor list t w.runs (let e : w.floor ≡ s.floor = stands.floor in omega arith) ∙ stands.alike list t le;
-      owned = subst P (sym is) (all_filter (IsOfGiven s.next) (is_live w.floor) w.runs stands.owned);
+      clock = clock ∙ stands.clock;
+      window = window ∙ stands.window;
+      floor = same;
+      alike = λ list m le. ap (λ xs. list_any (covers list m) xs) is ∙ covers_live later.floor list m x.runs (omega arith) ∙ stands.alike list m le;
+      owned = subst P (sym is) (all_filter (IsOfGiven t.next) (is_live later.floor) x.runs stands.owned);
+    }
+
+-- a change that hides nothing, and what then falls below the floor
+pub stands_changed : (w x later : Timeline) (s : State) (a : Accepted) (moment window : ℕ) → x.window ≡ window → x.floor ≡ w.floor → x.runs ≡ w.runs → HasMoved x later moment → a.moment ≡ moment → window ≡ window_by a.change s.window → span_of a ≡ None → StandsFor w s → StandsFor later (took s a)
+stands_changed w x later s a moment window wide floor runs moved at set none stands =
+    let by : later.floor ≡ max x.floor (moment - x.window) = moved.floor in
+    stands_later (after_change w moment window w.runs w.chunks) later (took s a) (stands_took w s a moment window at set none stands) moved.clock (moved.window ∙ wide) (omega arith)
+    (moved.runs ∙ ap (filter (is_live later.floor)) runs)
+
+-- a moment seen
+pub stands_seen : (w later : Timeline) (s : State) (now clock : ℕ) → HasMoved w later clock → clock ≡ max w.clock now → StandsFor w s → StandsFor later (seen s now)
+stands_seen w later s now clock moved is stands =
+    let P : List Span → Type 0 = λ xs. AllByRecursion (IsOfGiven s.next) xs in
+    let c : w.clock ≡ s.clock = stands.clock in
+    let v : w.window ≡ s.window = stands.window in
+    let f : w.floor ≡ s.floor = stands.floor in
+    let later_clock : later.clock ≡ clock = moved.clock in
+    let later_floor : later.floor ≡ max w.floor (clock - w.window) = moved.floor in
+    let by : later.floor ≡ max s.floor (max s.clock now - s.window) = omega arith in
+    record {
+      clock = omega arith;
+      window = moved.window ∙ stands.window;
+      floor = by;
+      alike = λ list m le. ap (λ xs. list_any (covers list m) xs) moved.runs ∙ covers_live later.floor list m w.runs (omega arith) ∙ stands.alike list m (omega arith);
+      owned = subst P (sym moved.runs) (all_filter (IsOfGiven s.next) (is_live later.floor) w.runs stands.owned);
     }
 
 covered_alike : (floor list t : ℕ) (xs ys : List Span) → CoverAlike floor xs ys → is_covered floor xs list t ≡ is_covered floor ys list t
@@ -156,37 +188,61 @@ hidden_is w s o t stands le =
     ∙ ap (λ b. b || list_any (covers o t) (spans_of s)) (sym (stands.alike 0 t le))
     ∙ ap (λ b. list_any (covers 0 t) w.runs || b) (sym (stands.alike o t le))
 
--- a window without the runs below the floor
-abbrev pub forgotten : Timeline → Timeline
-forgotten w = record { clock = w.clock; window = w.window; floor = w.floor; runs = filter (is_live w.floor) w.runs }
-
-pub stands_forgotten : (w : Timeline) (s : State) → StandsFor w s → StandsFor (forgotten w) s
-stands_forgotten w s stands = stands_forget w s (filter (is_live w.floor) w.runs) refl stands
-
 -- what the runs of a window keep
 abbrev pub AreKept : Timeline → Type 0
 AreKept w = Ascend w.runs × AllEndBy w.clock w.runs
 
--- the runs of a plan are in order and past
-pub planned_kept : (w : Timeline) (plan : Plan) → IsPlanned w plan → AreKept w → Ascend plan.runs × AllEndBy w.clock plan.runs
-planned_kept w plan planned kept =
-    let P : List Span → Type 0 = λ xs. Ascend xs × AllEndBy w.clock xs in
-    subst P (sym planned.runs) (
-      Ascend-with_span plan.span (filter (is_live w.floor) w.runs) planned.ordered (Ascend-filter (is_live w.floor) w.runs kept.0),
-      all_with_span (λ run. run.last ≤ w.clock) plan.span (filter (is_live w.floor) w.runs) (λ x y p q. omega arith) planned.past (all_filter (λ run. run.last ≤ w.clock) (is_live w.floor) w.runs kept.1),
+-- the runs of a window with a planned span
+abbrev pub runs_by : Timeline → Plan → List Span
+runs_by w plan = flat (chunks_by w plan)
+
+-- are in order, past and numbered
+pub planned_kept : (w : Timeline) (plan : Plan) → IsMade w plan → AreKept w → AllNumbered w.runs → Ascend (runs_by w plan) × AllEndBy w.clock (runs_by w plan) × AllNumbered (runs_by w plan)
+planned_kept w plan made kept numbered =
+    let P : List Span → Type 0 = λ xs. Ascend xs × AllEndBy w.clock xs × AllNumbered xs in
+    let whole : List Span = with_span plan.span w.runs in
+    subst P (sym made.runs) (
+      Ascend-filter (is_live w.floor) whole (Ascend-with_span plan.span w.runs made.ordered kept.0),
+      all_filter (λ run. run.last ≤ w.clock) (is_live w.floor) whole (all_with_span (λ run. run.last ≤ w.clock) plan.span w.runs (λ x y p q. omega arith) made.past kept.1),
+      all_filter (λ run. run.object < 2 ^ 64) (is_live w.floor) whole (all_with_span (λ run. run.object < 2 ^ 64) plan.span w.runs (λ x y p q. p) made.numbered numbered),
     )
 
--- a plan that is carried out
-pub stands_flushed : (w : Timeline) (s : State) (a : Accepted) (plan : Plan) (moment : ℕ) → a.moment ≡ moment → span_of a ≡ Some plan.span → IsPlanned w plan → plan.span.object < s.next → AreKept w → StandsFor w s → StandsFor (after_change w moment w.window plan.runs) (took s a)
-stands_flushed w s a plan moment at is planned given kept stands =
-    stands_took_span (forgotten w) s a plan.span plan.runs moment at is planned.runs planned.ordered given (Ascend-filter (is_live w.floor) w.runs kept.0) (stands_forgotten w s stands)
+-- a plan that is carried out, and what then falls below the floor
+pub stands_flushed : (w x later : Timeline) (s : State) (a : Accepted) (plan : Plan) (moment : ℕ) → x.window ≡ w.window → x.floor ≡ w.floor → x.runs ≡ runs_by w plan → HasMoved x later moment → a.moment ≡ moment → span_of a ≡ Some plan.span → IsMade w plan → plan.span.object < s.next → AreKept w → StandsFor w s → StandsFor later (took s a)
+stands_flushed w x later s a plan moment window floor runs moved at is made given kept stands =
+    let all : List Span = with_span plan.span w.runs in
+    let later_floor : later.floor ≡ max x.floor (moment - x.window) = moved.floor in
+    let whole : StandsFor (after_change w moment w.window all w.chunks) (took s a) = stands_took_span w s a plan.span all w.chunks moment at is refl made.ordered given kept.0 stands in
+    stands_later (after_change w moment w.window all w.chunks) later (took s a) whole moved.clock (moved.window ∙ window) (omega arith)
+    (moved.runs ∙ ap (filter (is_live later.floor)) (runs ∙ made.runs) ∙ live_twice w.floor later.floor all (omega arith))
 
 -- a planned span is too much exactly where the model says
-pub planned_too_many : (w : Timeline) (s : State) (span : Span) (runs : List Span) → runs ≡ with_span span (filter (is_live w.floor) w.runs) → StandsFor w s → AreKept w → span.first ≤ span.last → span.last ≤ w.clock → span.object < s.next
-    → is_one_span_too_many s span ≡ (nat_lt RUNS_IN_A_LIST (count_by (is_live_in w.floor span.object) runs) || nat_lt RUNS_IN_ALL (count_by (is_live w.floor) runs))
-planned_too_many w s span runs is stands kept ordered past given =
-    too_many_is (forgotten w) s span (stands_forgotten w s stands) (Ascend-filter (is_live w.floor) w.runs kept.0) (all_filter (λ run. run.last ≤ w.clock) (is_live w.floor) w.runs kept.1) ordered past given
-    ∙ ap (λ xs. nat_lt RUNS_IN_A_LIST (count_by (is_live_in w.floor span.object) xs) || nat_lt RUNS_IN_ALL (count_by (is_live w.floor) xs)) (sym is)
+pub made_too_many : (w : Timeline) (s : State) (plan : Plan) → StandsFor w s → AreKept w → IsMade w plan → plan.span.object < s.next → is_one_span_too_many s plan.span ≡ (nat_lt RUNS_IN_A_LIST plan.own || nat_lt RUNS_IN_ALL plan.count)
+made_too_many w s plan stands kept made given =
+    let all : List Span = with_span plan.span w.runs in
+    let own : count_by (is_live_in w.floor plan.span.object) all ≡ plan.own =
+    sym (count_live_in w.floor plan.span.object all) ∙ ap (count_by (is_live_in w.floor plan.span.object)) (sym made.runs) ∙ sym made.own in
+    let count : count_by (is_live w.floor) all ≡ plan.count = sym (length-filter (is_live w.floor) all) ∙ ap (λ (xs : List Span). length xs) (sym made.runs) ∙ sym made.count in
+    too_many_is w s plan.span stands kept.0 kept.1 made.ordered made.past given
+    ∙ ap (λ n. nat_lt RUNS_IN_A_LIST n || nat_lt RUNS_IN_ALL (count_by (is_live w.floor) all)) own
+    ∙ ap (λ n. nat_lt RUNS_IN_A_LIST plan.own || nat_lt RUNS_IN_ALL n) count
+
+-- so where it is judged
+pub refused_where : (w : Timeline) (s : State) (plan : Plan) → StandsFor w s → AreKept w → IsMade w plan → plan.span.object < s.next → (RUNS_IN_A_LIST < plan.own) ⊎ ((plan.own ≤ RUNS_IN_A_LIST) × (RUNS_IN_ALL < plan.count)) → is_one_span_too_many s plan.span ≡ true
+refused_where w s plan stands kept made given more =
+    made_too_many w s plan stands kept made given ∙ elim more as (λ _. (nat_lt RUNS_IN_A_LIST plan.own || nat_lt RUNS_IN_ALL plan.count) ≡ true) [
+      | inl own ↦ or_left (nat_lt RUNS_IN_A_LIST plan.own) (nat_lt RUNS_IN_ALL plan.count) (lt-ltb _ _ own)
+      | inr all ↦ or_right (nat_lt RUNS_IN_A_LIST plan.own) (nat_lt RUNS_IN_ALL plan.count) (lt-ltb _ _ all.1)
+    ]
+
+pub accepted_where : (w : Timeline) (s : State) (plan : Plan) → StandsFor w s → AreKept w → IsMade w plan → plan.span.object < s.next → plan.own ≤ RUNS_IN_A_LIST → plan.count ≤ RUNS_IN_ALL → is_one_span_too_many s plan.span ≡ false
+accepted_where w s plan stands kept made given own count =
+    made_too_many w s plan stands kept made given ∙ or_from (nat_lt RUNS_IN_A_LIST plan.own) (nat_lt RUNS_IN_ALL plan.count) (le-ltb _ _ own) (le-ltb _ _ count)
+
+-- what a plan that can only want memory tells
+pub judged_by : (r : Result Plan Refusal) (s : State) (span : Span) → is_one_span_too_many s span ≡ false → IfErr r (λ refusal. refusal ≡ NoMemory) → MatchResult r (λ _. is_one_span_too_many s span ≡ false) (λ refusal. (refusal ≡ NoMemory) ⊎ ((refusal ≡ TooManySpans) × (is_one_span_too_many s span ≡ true)))
+judged_by (Ok plan) s span few err = few
+judged_by (Err refusal) s span few err = inl err
 
 or_first : (a b : Bool) → a ≡ true → a ≡ (a || b)
 or_first true b e = refl

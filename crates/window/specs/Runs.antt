@@ -1,5 +1,5 @@
 -- Runs of hidden moments in one list: each is a span, of all objects under number 0 or of one object.
-use Rattle.std.specs.Prelude.{◌≡◌, ℕ, Bool, true, false, ◌==◌, ◌&&◌, ◌||◌, ◌-◌, ◌≤◌, nat_le, nat_lt, min, max, if◌then◌else◌, List, [], ◌∷◌}
+use Rattle.std.specs.Prelude.{◌≡◌, ℕ, Bool, true, false, ◌==◌, ◌&&◌, ◌||◌, ◌-◌, ◌^◌, ◌≤◌, nat_le, nat_lt, min, max, if◌then◌else◌, List, [], ◌∷◌}
 use Rattle.std.specs.List.{list_any, AllByRecursion}
 use Rattle.s4_types.specs.declared.spans.Span.{Span}
 use Rattle.s4_model.specs.Visible.{is_within}
@@ -24,6 +24,15 @@ Ascend (x ∷ runs) = (x.first ≤ x.last) × IsBeforeAll x runs × Ascend runs
 -- no run ends after the clock
 abbrev pub AllEndBy : ℕ → List Span → Type 0
 AllEndBy clock runs = AllByRecursion (λ run. run.last ≤ clock) runs
+
+-- no run ends before a moment
+abbrev pub AllEndFrom : ℕ → List Span → Type 0
+AllEndFrom from runs = AllByRecursion (λ run. from ≤ run.last) runs
+
+-- the earliest end of these runs, or the last moment where there is none
+abbrev pub earliest : List Span → ℕ
+earliest [] = 2 ^ 64 - 1
+earliest (run ∷ runs) = min run.last (earliest runs)
 
 -- the one run that two make which overlap or touch
 abbrev pub joined : Span → Span → Span

@@ -1,20 +1,23 @@
 -- What contracts see of a window, and which states of a history it stands for.
-use Rattle.std.specs.Prelude.{◌≡◌, ℕ, Bool, true, false, ◌≤◌, List, filter}
+use Rattle.std.specs.Prelude.{◌≡◌, ℕ, ◌-◌, ◌<◌, ◌≤◌, ◌^◌, max, List, length, filter, count_by}
 use Rattle.std.specs.List.{list_any, AllByRecursion}
 use Rattle.s4_types.specs.declared.spans.Span.{Span}
-use Rattle.s4_types.specs.declared.changes.Change.{Change}
-use Rattle.s4_types.specs.declared.changes.Change.TheVariants.{SetWindow, Flush, FlushO}
+use Rattle.s4_types.specs.declared.limits.TheConstants.{RUNS_IN_ALL}
 use Rattle.s4_model.specs.State.{State}
 use Rattle.s4_model.specs.Visible.{spans_of}
 use Rattle.s4_model.specs.Sound.{IsOfGiven}
-use Rattle.window.specs.Runs.{covers, with_span, is_live}
+use Rattle.window.specs.declared.chunks.Chunk.{Chunk}
+use Rattle.window.specs.declared.chunks.Fresh.{Fresh}
+use Rattle.window.specs.Runs.{covers, with_span, is_live, is_live_in}
+use Rattle.window.specs.Chunks.{flat, Parted, AllDated, renewed}
 
--- the clock, the window, the floor, and the runs of hidden moments of all lists
+-- the clock, the window, the floor, and the runs of hidden moments of all lists, which stand in chunks
 pub record Timeline : Type 0 where
   pub clock : ℕ
   pub window : ℕ
   pub floor : ℕ
   pub runs : List Span
+  pub chunks : List Chunk
 
 -- from the floor on, runs cover on each list what the spans do
 abbrev pub CoverAlike : ℕ → List Span → List Span → Type 0
@@ -29,14 +32,38 @@ pub record StandsFor (w : Timeline) (s : State) : Type 0 where
   pub alike : CoverAlike s.floor w.runs (spans_of s)
   pub owned : AllByRecursion (IsOfGiven s.next) w.runs
 
--- a span, and the runs that it makes of a window's
+-- A span, the chunks that it makes anew, how many runs there are then in all, and how many of them are of the
+-- span's list.
 pub record Plan : Type 0 where
   pub span : Span
-  pub runs : List Span
+  pub fresh : Fresh
+  pub count : ℕ
+  pub own : ℕ
 
--- The plan is this window's: its span is in order and past, and its runs are those of the window that reach
--- the floor, with the span.
-pub record IsPlanned (w : Timeline) (plan : Plan) : Type 0 where
+-- the chunks of a window with what a plan makes anew
+abbrev pub chunks_by : Timeline → Plan → List Chunk
+chunks_by w plan = renewed plan.span.object plan.fresh w.chunks
+
+-- The plan is made from this window: its span is in order and past, and its chunks hold the window's runs with the
+-- span, those that reach the floor.
+pub record IsMade (w : Timeline) (plan : Plan) : Type 0 where
   pub ordered : plan.span.first ≤ plan.span.last
   pub past : plan.span.last ≤ w.clock
-  pub runs : plan.runs ≡ with_span plan.span (filter (is_live w.floor) w.runs)
+  pub numbered : plan.span.object < 2 ^ 64
+  pub parted : Parted 0 (chunks_by w plan)
+  pub dated : AllDated (chunks_by w plan)
+  pub runs : flat (chunks_by w plan) ≡ filter (is_live w.floor) (with_span plan.span w.runs)
+  pub count : plan.count ≡ length (flat (chunks_by w plan))
+  pub own : plan.own ≡ count_by (is_live_in w.floor plan.span.object) (flat (chunks_by w plan))
+
+-- The plan is this window's, and all lists together don't have too many runs by it.
+pub record IsPlanned (w : Timeline) (plan : Plan) : Type 0 where
+  pub made : IsMade w plan
+  pub few : plan.count ≤ RUNS_IN_ALL
+
+-- The clock moved on, the floor with it, and the runs that end below the floor are forgotten.
+pub record HasMoved (w later : Timeline) (moment : ℕ) : Type 0 where
+  pub clock : later.clock ≡ moment
+  pub window : later.window ≡ w.window
+  pub floor : later.floor ≡ max w.floor (moment - w.window)
+  pub runs : later.runs ≡ filter (is_live later.floor) w.runs

@@ -9,6 +9,7 @@
 //! Nothing here says which objects there are, who may ask, or how long a call takes.
 #![tactic(auto)]
 
+mod chunks;
 mod runs;
 mod window;
 

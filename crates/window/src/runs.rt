@@ -1,12 +1,9 @@
 //! Runs of hidden moments in order, of all lists in one slice.
 ghost use Rattle.std.specs.Prelude.{◌≡◌, ℕ, ◌==◌, ◌≤◌, ◌||◌, nat_le, nat_lt, count_by, false, ◌∷◌, filter, IfOk, IfErr, MatchBool, MatchOption};
-ghost use Rattle.std.specs.List.{list_any};
 ghost use Rattle.s4_model.specs.Visible.{is_within};
-ghost use Rattle.window.specs.Runs.{is_before, Ascend, joined, with_span, is_live, is_live_in, is_of, covers, cover, BeginInOrder, IsLeft};
-ghost use Rattle.s4_types.specs.declared.limits.TheConstants.{RUNS_IN_A_LIST, RUNS_IN_ALL};
+ghost use Rattle.window.specs.Runs.{is_before, Ascend, joined, with_span, is_live, is_live_in, earliest, is_of, cover, BeginInOrder, IsLeft};
 ghost use Rattle.s4_types.specs.declared.refusals.Refusal.TheVariants.{NoMemory};
 
-use s4_types::limits::{RUNS_IN_A_LIST, RUNS_IN_ALL};
 use s4_types::{Moment, ObjectId, Refusal, Span};
 use std::alloc::Global;
 
@@ -55,7 +52,7 @@ pub fn with_span(alloc: Global, runs: &[Span], added: &Span) -> Result<Vec<Span>
 }
 
 /// How many runs of a list reach the floor.
-fn live_in(floor: Moment, list: ObjectId, runs: &[Span]) -> usize
+pub fn live_in(floor: Moment, list: ObjectId, runs: &[Span]) -> usize
     ensures { result ≡ count_by (is_live_in floor list) runs.now }
 {
     runs.iter()
@@ -63,32 +60,24 @@ fn live_in(floor: Moment, list: ObjectId, runs: &[Span]) -> usize
         .count()
 }
 
-/// How many runs reach the floor.
-fn live(floor: Moment, runs: &[Span]) -> usize
-    ensures { result ≡ count_by (is_live floor) runs.now }
+/// Leaves out the runs that end below the floor.
+pub fn sift(runs: &mut Vec<Span>, floor: Moment)
+    ensures { runs.new.items ≡ filter (is_live floor) runs.old.items }
 {
-    runs.iter().filter(|run| floor <= run.last).count()
+    let lowest = floor.number();
+    runs.retain(|run| lowest <= run.last.number());
 }
 
-/// Whether the list of a span, or all lists together, have more runs at or above the floor than they may.
-pub fn are_too_many(floor: Moment, added: &Span, runs: &[Span]) -> bool
-    ensures { result ≡ (nat_lt RUNS_IN_A_LIST (count_by (is_live_in floor added.now.object) runs.now)
-        || nat_lt RUNS_IN_ALL (count_by (is_live floor) runs.now)) }
+/// The earliest end of these runs, or the last moment where there is none.
+#[tactic(auto, using(crate::proofs::Live::earliest_bound))]
+pub fn earliest(runs: &[Span]) -> Moment
+    ensures { result ≡ earliest runs.now }
 {
-    live_in(floor, added.object, runs) > RUNS_IN_A_LIST || live(floor, runs) > RUNS_IN_ALL
-}
-
-/// The runs that reach the floor.
-pub fn live_runs(alloc: Global, floor: Moment, runs: &[Span]) -> Result<Vec<Span>, Refusal>
-    ensures ok { IfOk result (λ live. live.items ≡ filter (is_live floor) runs.now) }
-    ensures err { IfErr result (λ refusal. refusal ≡ NoMemory) }
-{
-    let live = runs
-        .iter()
-        .filter(|run| floor <= run.last)
-        .copied()
-        .collect(alloc)?;
-    Ok(live)
+    let mut end = Moment::new(u64::MAX);
+    for run in runs {
+        end = end.min(run.last);
+    }
+    end
 }
 
 /// Whether a run has the moment in it.
@@ -125,18 +114,10 @@ pub fn of_list(runs: &[Span], list: ObjectId) -> &[Span]
 }
 
 /// Whether one of these runs, of whatever list, has the moment in it.
-fn cover(runs: &[Span], at: Moment) -> bool
+pub fn cover(runs: &[Span], at: Moment) -> bool
     ensures { result ≡ cover runs.now at }
 {
     runs.iter().any(|run| is_within(run, at))
-}
-
-/// Whether a run of the list has the moment in it. Logarithmic in all runs, then linear in those of the list.
-pub fn covers(runs: &[Span], list: ObjectId, at: Moment) -> bool
-    requires { Ascend runs.now }
-    ensures { result ≡ list_any (covers list at) runs.now }
-{
-    cover(of_list(runs, list), at)
 }
 
 /// The first of these runs and the others, if it begins by a moment. If not, no run has that moment in it.

@@ -1,5 +1,5 @@
 //! The window of a drive: what can be read, and each step of clock, floor and hidden runs.
-ghost use Rattle.std.specs.Prelude.{◌≡◌, ◌⊎◌, ℕ, true, false, ◌+◌, ◌-◌, ◌<◌, ◌≤◌, max, Some, MatchBool, MatchResult, IfOk};
+ghost use Rattle.std.specs.Prelude.{◌≡◌, ◌⊎◌, ℕ, true, false, ◌+◌, ◌-◌, ◌<◌, ◌≤◌, max, Some, MatchBool, MatchResult, IfOk, IfErr, filter};
 ghost use Rattle.s4_types.specs.declared.changes.Accepted.{Accepted};
 ghost use Rattle.s4_types.specs.declared.changes.Change.TheVariants.{SetWindow};
 ghost use Rattle.s4_types.specs.declared.requests.Request.TheVariants.{Flush, FlushO};
@@ -7,10 +7,14 @@ ghost use Rattle.s4_types.specs.declared.refusals.Refusal.TheVariants.{NoMemory,
 ghost use Rattle.s4_model.specs.State.{State, state_of, new_history, seen, took};
 ghost use Rattle.s4_model.specs.Refusals.{last_number, is_bad_span, is_one_span_too_many, moment_refusal};
 ghost use Rattle.s4_model.specs.Visible.{span_of, IsVisible, IsSeenBetween, is_hidden};
-ghost use Rattle.window.specs.Timeline.{StandsFor, IsPlanned};
+ghost use Rattle.window.specs.Chunks.{holder, is_longer};
+ghost use Rattle.window.specs.Timeline.{StandsFor, IsMade, IsPlanned, HasMoved};
+ghost use Rattle.window.specs.Runs.{is_live};
 ghost use Rattle.s4_model.specs.Effect.{is_of_versions};
 
+use crate::chunks::{self, Chunk, Fresh};
 use crate::runs;
+use s4_types::limits::{RUNS_IN_A_LIST, RUNS_IN_ALL};
 use s4_types::{Moment, ObjectId, Refusal, Span};
 use std::alloc::Global;
 use std::marker::Model;
@@ -24,18 +28,23 @@ pub struct Window {
     clock: Moment,
     window: u64,
     floor: Moment,
-    runs: Vec<Span>,
+    /// All runs reach the floor.
+    chunks: Vec<Chunk>,
+    /// How many runs there are.
+    count: usize,
+    /// No run ends before it.
+    earliest: Moment,
 }
 
 impl Model for Window {
     ghost use Rattle.window.specs.Timeline.{Timeline};
-    ghost use Rattle.window.specs.Runs.{Ascend, AllEndBy};
+    ghost use Rattle.window.specs.Chunks.{flat, IsSound};
 
     ghost Value = { Timeline };
 
-    ghost view = { λ w. record { clock = w.clock; window = w.window; floor = w.floor; runs = w.runs.items } };
+    ghost view = { λ w. record { clock = w.clock; window = w.window; floor = w.floor; runs = flat w.chunks.items; chunks = w.chunks.items } };
 
-    ghost invariant = { λ w. Ascend w.runs.items × AllEndBy w.clock w.runs.items };
+    ghost invariant = { λ w. IsSound w.clock w.floor w.earliest w.count w.chunks.items };
 }
 
 /// A span that may be hidden, with the runs that it makes: [`Window::plan_flush`] gives it, and
@@ -43,7 +52,11 @@ impl Model for Window {
 #[derive(Drop)]
 pub struct FlushPlan {
     span: Span,
-    runs: Vec<Span>,
+    fresh: Fresh,
+    /// How many runs there are then.
+    count: usize,
+    /// How many of them are of the span's list.
+    own: usize,
 }
 
 impl Model for FlushPlan {
@@ -51,7 +64,16 @@ impl Model for FlushPlan {
 
     ghost Value = { Plan };
 
-    ghost view = { λ p. record { span = p.span; runs = p.runs.items } };
+    ghost view = { λ p. record { span = p.span; fresh = p.fresh; count = p.count; own = p.own } };
+}
+
+impl FlushPlan {
+    /// Whether it makes one chunk that is too long.
+    fn is_too_long(&self) -> bool
+        ensures { result ≡ is_longer 512 self.now.fresh }
+    {
+        self.fresh.is_too_long()
+    }
 }
 
 impl Window {
@@ -64,7 +86,9 @@ impl Window {
             clock: Moment::new(0),
             window,
             floor: Moment::new(0),
-            runs: Vec::new(alloc),
+            chunks: Vec::new(alloc),
+            count: 0,
+            earliest: Moment::new(u64::MAX),
         }
     }
 
@@ -133,7 +157,9 @@ impl Window {
 
     /// Judges a span, of all objects under number 0 or of one object, and takes the memory that hiding it
     /// needs; nothing is hidden yet. `TooManySpans` where its list would have more than 64 runs that reach the
-    /// floor, or all lists together more than 65,536; `NoMemory` where a growth was refused. Linear in all runs.
+    /// floor, or all lists together more than 65,536; `NoMemory` where a growth was refused. Costs a search
+    /// and the at most 512 runs that stand in one chunk with the span's list; in one of 384 flushes or more, where
+    /// they become more, all runs.
     pub fn plan_flush(&self, span: Span) -> Result<FlushPlan, Refusal>
         requires ordered { span.first ≤ span.last }
         requires past { span.last ≤ self.now.clock }
@@ -142,23 +168,94 @@ impl Window {
             (λ _. is_one_span_too_many s span ≡ false)
             (λ refusal. (refusal ≡ NoMemory) ⊎ ((refusal ≡ TooManySpans) × (is_one_span_too_many s span ≡ true))) }
     {
-        let live = runs::live_runs(self.alloc, self.floor, self.runs.as_slice())?;
-        let runs = runs::with_span(self.alloc, live.as_slice(), &span)?;
-        if runs::are_too_many(self.floor, &span, runs.as_slice()) {
+        // Reading a field shows what a window keeps.
+        let _ = &self.alloc;
+        let plan = self.plan_first(span)?;
+        if plan.own > RUNS_IN_A_LIST || plan.count > RUNS_IN_ALL {
             return Err(Refusal::TooManySpans);
         }
-        Ok(FlushPlan { span, runs })
+        self.shortened(plan)
     }
 
-    /// Hides a planned span, at a moment as [`Window::stamp`] gives it, and forgets the runs that end below the
-    /// floor as it was. The window must not have changed since the plan was made from it.
+    /// The plan, or all chunks anew where it makes one that is too long.
+    fn shortened(&self, plan: FlushPlan) -> Result<FlushPlan, Refusal>
+        requires { IsPlanned self.now plan }
+        ensures planned { IfOk result (λ p. (p.span ≡ plan.span) × IsPlanned self.now p) }
+        ensures err { IfErr result (λ refusal. refusal ≡ NoMemory) }
+    {
+        if plan.is_too_long() {
+            self.plan_all(plan.span)
+        } else {
+            Ok(plan)
+        }
+    }
+
+    /// What a span makes of the chunk of its list, or of all runs where there are no chunks yet.
+    fn plan_first(&self, span: Span) -> Result<FlushPlan, Refusal>
+        requires ordered { span.first ≤ span.last }
+        requires past { span.last ≤ self.now.clock }
+        ensures made { IfOk result (λ plan. (plan.span ≡ span) × IsMade self.now plan) }
+        ensures err { IfErr result (λ refusal. refusal ≡ NoMemory) }
+    {
+        match chunks::holder(self.chunks.as_slice(), span.object) {
+            Some(chunk) => self.plan_one(chunk, span),
+            None => self.plan_all(span),
+        }
+    }
+
+    /// What a span makes of the chunk of its list.
+    fn plan_one(&self, chunk: &Chunk, span: Span) -> Result<FlushPlan, Refusal>
+        requires ordered { span.first ≤ span.last }
+        requires past { span.last ≤ self.now.clock }
+        requires held { holder span.object self.now.chunks ≡ Some chunk.now }
+        ensures made { IfOk result (λ plan. (plan.span ≡ span) × IsMade self.now plan) }
+        ensures err { IfErr result (λ refusal. refusal ≡ NoMemory) }
+    {
+        let mut runs = runs::with_span(self.alloc, chunk.runs.as_slice(), &span)?;
+        runs::sift(&mut runs, self.floor);
+        let others = self.count.saturating_sub(chunk.runs.len());
+        let count = others.saturating_add(runs.len());
+        let own = runs::live_in(self.floor, span.object, runs.as_slice());
+        Ok(FlushPlan {
+            span,
+            fresh: Fresh::One(chunks::new_chunk(chunk.up_to, runs)),
+            count,
+            own,
+        })
+    }
+
+    /// What a span makes of all runs, in new chunks. Linear in all runs.
+    fn plan_all(&self, span: Span) -> Result<FlushPlan, Refusal>
+        requires ordered { span.first ≤ span.last }
+        requires past { span.last ≤ self.now.clock }
+        ensures made { IfOk result (λ plan. (plan.span ≡ span) × IsMade self.now plan) }
+        ensures err { IfErr result (λ refusal. refusal ≡ NoMemory) }
+    {
+        let all = chunks::all_runs(self.alloc, self.chunks.as_slice())?;
+        let mut runs = runs::with_span(self.alloc, all.as_slice(), &span)?;
+        runs::sift(&mut runs, self.floor);
+        let own = runs::live_in(self.floor, span.object, runs.as_slice());
+        let fresh = Fresh::All(chunks::divide(self.alloc, runs.as_slice())?);
+        Ok(FlushPlan {
+            span,
+            fresh,
+            count: runs.len(),
+            own,
+        })
+    }
+
+    /// Hides a planned span, at a moment as [`Window::stamp`] gives it. The window must not have
+    /// changed since the plan was made from it.
     pub fn flush(&mut self, plan: FlushPlan, now: Moment) -> Moment
         requires clock { self.old.clock < last_number }
         requires planned { IsPlanned self.old plan }
         ensures moment { result ≡ max now (self.old.clock + 1) }
         ensures taken { (s : State) (a : Accepted) → StandsFor self.old s → plan.span.object < s.next → a.moment ≡ result → span_of a ≡ Some plan.span → StandsFor self.new (took s a) }
     {
-        self.runs = plan.runs;
+        let span = plan.span;
+        chunks::renew(&mut self.chunks, span.object, plan.fresh);
+        self.count = plan.count;
+        self.earliest = self.earliest.min(self.floor.max(span.last));
         self.advance(now)
     }
 
@@ -189,10 +286,10 @@ impl Window {
         if to < from {
             return false;
         }
-        let runs = self.runs.as_slice();
+        let chunks = self.chunks.as_slice();
         let list_of_all = ObjectId::new(0);
-        let all = runs::of_list(runs, list_of_all);
-        let own = runs::of_list(runs, object);
+        let all = chunks::of_list(chunks, list_of_all);
+        let own = chunks::of_list(chunks, object);
         runs::is_any_left(all, own, from, to)
     }
 
@@ -200,29 +297,44 @@ impl Window {
     fn is_hidden(&self, object: ObjectId, at: Moment) -> bool
         ensures { (s : State) → StandsFor self.now s → s.floor ≤ at → result ≡ is_hidden s object at }
     {
-        let runs = self.runs.as_slice();
-        runs::covers(runs, ObjectId::new(0), at) || runs::covers(runs, object, at)
+        let chunks = self.chunks.as_slice();
+        chunks::covers(chunks, ObjectId::new(0), at) || chunks::covers(chunks, object, at)
     }
 
     /// Moves on to the moment of a change.
     fn advance(&mut self, now: Moment) -> Moment
         requires { self.old.clock < last_number }
         ensures moment { result ≡ max now (self.old.clock + 1) }
-        ensures moved { self.new ≡ record self.old { clock = result; floor = max self.old.floor (result - self.old.window) } }
+        ensures moved { HasMoved self.old self.new result }
     {
         let moment = Moment::new(now.number().max(self.clock.number() + 1));
         self.set_clock(moment);
         moment
     }
 
-    /// Sets the clock, which never falls, and the floor by it.
+    /// Sets the clock, which never falls, the floor by it, and forgets the runs that end below the floor.
     fn set_clock(&mut self, clock: Moment)
         requires { self.old.clock ≤ clock }
-        ensures { self.new ≡ record self.old { clock = clock; floor = max self.old.floor (clock - self.old.window) } }
+        ensures { HasMoved self.old self.new clock }
     {
         self.clock = clock;
         let reach = clock.number().saturating_sub(self.window);
-        self.floor = self.floor.max(Moment::new(reach));
+        let floor = self.floor.max(Moment::new(reach));
+        self.raise_floor(floor);
+    }
+
+    /// Sets the floor, and forgets the runs that end below it. Looks at the chunks only when the floor passes the
+    /// earliest end of a run, and at the runs of those that have such a run.
+    fn raise_floor(&mut self, floor: Moment)
+        ensures kept { (self.new.clock ≡ self.old.clock) × (self.new.window ≡ self.old.window) × (self.new.floor ≡ floor) }
+        ensures forgot { self.new.runs ≡ filter (is_live floor) self.old.runs }
+    {
+        self.floor = floor;
+        if self.earliest.number() < floor.number() {
+            chunks::forget(&mut self.chunks, floor);
+            self.count = chunks::count(self.chunks.as_slice());
+            self.earliest = chunks::earliest(self.chunks.as_slice());
+        }
     }
 }
 

@@ -80,7 +80,7 @@ fn take_step(rt: &impl Abort, window: &mut Window, step: Step) {
         Step::Hide(list, first, last, told) => {
             assert_eq!(rt; hide(window, list, first, last), told, "{step:?}");
         }
-        Step::Runs(count) => assert_eq!(rt; window.runs.len(), count, "{step:?}"),
+        Step::Runs(count) => assert_eq!(rt; window.count, count, "{step:?}"),
         Step::Look(object, at, told) => {
             assert_eq!(rt; look(window, object, at), told, "{step:?}");
         }

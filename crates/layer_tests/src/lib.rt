@@ -1,0 +1,9 @@
+//! Tests of the log's layers, each over a small table or by itself.
+//!
+//! What a layer's clauses say is proved in its crate. What no clause says is that the bytes and numbers are those that were
+//! counted by hand, that each call succeeds where it should, and that seats come back. So this crate stands on the layers and
+//! has nothing but tests, which need only what is public there: a crate with tests of its own is proved twice.
+#![tactic(auto)]
+
+#[cfg(test)]
+mod tests;

@@ -1,0 +1,10 @@
+//! The layers, from frames up to the rows of objects.
+mod changes;
+mod checkpoint_blocks;
+mod empty_chains;
+mod inodes;
+mod maps;
+mod numbers;
+mod one_place;
+mod plain;
+mod seats;

@@ -1,0 +1,40 @@
+use Rattle.std.proofs.Common.{◌≡◌, ◌≤◌, ◌<◌, ◌^◌, refl, sym, ap, subst, ◌∙◌, filter, count_by, length, List, arith}
+use Rattle.s4_types.specs.declared.spans.Span.{Span}
+use Rattle.window.specs.declared.chunks.Fresh.TheVariants.{All}
+use Rattle.window.specs.Runs.{with_span, is_live, is_live_in}
+use Rattle.window.specs.Chunks.{flat}
+use Rattle.window.specs.Timeline.{Timeline, IsMade}
+use Rattle.window.proofs.Planning.{all_ready, all_made}
+use Rattle.window.proofs.window.Window.plan_all.Goals as goal
+
+pub divide-requires-clause-ordered : goal.divide-requires-clause-ordered
+divide-requires-clause-ordered c =
+    let w : Timeline = record { clock = c.self.inside.clock; window = c.self.inside.window; floor = c.self.inside.floor; runs = flat c.self.inside.chunks.items; chunks = c.self.inside.chunks.items } in
+    let is : c.as_slice-4.result.now ≡ filter (is_live w.floor) (with_span c.args.span w.runs) =
+    c.as_slice-4.ensures.value ∙ c.sift.ensures
+    ∙ ap (λ (xs : List Span). filter (is_live c.self.inside.floor) xs) (c.in_ok-runs.ensures.ok ∙ ap (λ (xs : List Span). with_span c.args.span xs) (c.as_slice-2.ensures.value ∙ c.in_ok-all.ensures.ok ∙ ap flat c.as_slice.ensures.value)) in
+    let below : c.args.span.object < 2 ^ 64 = omega arith in
+    (all_ready w c.args.span c.as_slice-4.result.now is (c.self.invariant.0, c.self.invariant.1) c.self.invariant.2 c.requires.ordered below).0
+
+pub divide-requires-clause-numbered : goal.divide-requires-clause-numbered
+divide-requires-clause-numbered c =
+    let w : Timeline = record { clock = c.self.inside.clock; window = c.self.inside.window; floor = c.self.inside.floor; runs = flat c.self.inside.chunks.items; chunks = c.self.inside.chunks.items } in
+    let is : c.as_slice-4.result.now ≡ filter (is_live w.floor) (with_span c.args.span w.runs) =
+    c.as_slice-4.ensures.value ∙ c.sift.ensures
+    ∙ ap (λ (xs : List Span). filter (is_live c.self.inside.floor) xs) (c.in_ok-runs.ensures.ok ∙ ap (λ (xs : List Span). with_span c.args.span xs) (c.as_slice-2.ensures.value ∙ c.in_ok-all.ensures.ok ∙ ap flat c.as_slice.ensures.value)) in
+    let below : c.args.span.object < 2 ^ 64 = omega arith in
+    (all_ready w c.args.span c.as_slice-4.result.now is (c.self.invariant.0, c.self.invariant.1) c.self.invariant.2 c.requires.ordered below).1
+
+pub returns-clause-made : goal.returns-clause-made
+returns-clause-made c =
+    let w : Timeline = record { clock = c.self.inside.clock; window = c.self.inside.window; floor = c.self.inside.floor; runs = flat c.self.inside.chunks.items; chunks = c.self.inside.chunks.items } in
+    let is : c.as_slice-4.result.now ≡ filter (is_live w.floor) (with_span c.args.span w.runs) =
+    c.as_slice-4.ensures.value ∙ c.sift.ensures
+    ∙ ap (λ (xs : List Span). filter (is_live c.self.inside.floor) xs) (c.in_ok-runs.ensures.ok ∙ ap (λ (xs : List Span). with_span c.args.span xs) (c.as_slice-2.ensures.value ∙ c.in_ok-all.ensures.ok ∙ ap flat c.as_slice.ensures.value)) in
+    let below : c.args.span.object < 2 ^ 64 = omega arith in
+    let S : Timeline → Type 0 = λ x. c.args.span.last ≤ x.clock in
+    let counted : c.len.result ≡ length c.as_slice-4.result.now = c.len.ensures ∙ sym c.as_slice-4.ensures.len in
+    let own : c.live_in-own.result ≡ count_by (is_live_in w.floor c.args.span.object) c.as_slice-4.result.now =
+    c.live_in-own.ensures ∙ ap (λ (xs : List Span). count_by (is_live_in c.self.inside.floor c.args.span.object) xs) (c.as_slice-3.ensures.value ∙ sym c.as_slice-4.ensures.value) in
+    let P : Timeline → Type 0 = λ x. IsMade x (record { span = c.args.span; fresh = All c.in_ok-divide.field-0; count = c.len.result; own = c.live_in-own.result }) in
+    (refl, subst P c.self.view_is (all_made w c.args.span c.in_ok-divide.field-0 c.as_slice-4.result.now c.len.result c.live_in-own.result c.requires.ordered (subst S (sym c.self.view_is) c.requires.past) below is c.in_ok-divide.ensures.ok counted own))
