@@ -1,6 +1,7 @@
 //! The records of the log over a segment table.
 mod checkpoints;
 mod deletions;
+mod frames;
 mod full_chains;
 mod full_tables;
 mod large_writes;

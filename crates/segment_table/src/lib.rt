@@ -15,8 +15,6 @@ mod seals;
 mod segments;
 mod slots;
 mod table;
-#[cfg(test)]
-mod tests;
 
 pub use slots::Slot;
 pub use table::SegmentTable;

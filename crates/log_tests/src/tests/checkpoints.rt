@@ -4,7 +4,7 @@ ghost use Rattle.log_tests.specs.Subject.{IsPresent};
 
 use crate::tests::subject::Subject;
 use crate::tests::tables::{block_of, new_table};
-use blocks::{Block, Blocks};
+use blocks::Blocks;
 use codec::{Attribute, Checkpoint, Inode};
 use inode_links::blank;
 use object_map::Row;
@@ -23,70 +23,103 @@ static FIELDS: [u8; 41] = [
 /// The first of its pointers, to block 4 of frame 0. The others are holes.
 static POINTER: [u8; 8] = [0, 0, 4, 0, 0, 0, 0, 1];
 
-/// The object, made at moment 10, alive: its size, the moment of its last change, its attribute, and its first two
-/// pointers.
-fn live(size: u32, changed: u64, name: &[u8], pointers: [Option<Ptr>; 2]) -> Result<Inode, Fail> {
+/// What the object is from a moment on: its size, its attribute, and the blocks of frame 0 of its first two pointers.
+#[derive(Clone, Copy)]
+struct Version {
+    moment: u64,
+    size: u32,
+    name: &'static [u8],
+    blocks: [Option<u8>; 2],
+}
+
+const MADE: Version = Version {
+    moment: 10,
+    size: 0,
+    name: b"k",
+    blocks: [None, None],
+};
+
+const WRITTEN: Version = Version {
+    moment: 20,
+    size: 3,
+    name: b"k",
+    blocks: [Some(2), None],
+};
+
+/// The checkpoint tells this one.
+const WRITTEN_AGAIN: Version = Version {
+    moment: 30,
+    size: 3,
+    name: b"k",
+    blocks: [Some(4), None],
+};
+
+const NAMED: Version = Version {
+    moment: 40,
+    size: 3,
+    name: b"other",
+    blocks: [Some(4), None],
+};
+
+/// A byte was written behind the first block.
+const LONGER: Version = Version {
+    moment: 50,
+    size: 601,
+    name: b"other",
+    blocks: [Some(4), Some(8)],
+};
+
+/// Moments before the checkpoint's, and shortly behind it, and what the object is then.
+static EARLY: [(u64, Option<Version>); 8] = [
+    (0, None),
+    (9, None),
+    (10, Some(MADE)),
+    (19, Some(MADE)),
+    (20, Some(WRITTEN)),
+    (29, Some(WRITTEN)),
+    (30, Some(WRITTEN_AGAIN)),
+    (39, Some(WRITTEN_AGAIN)),
+];
+
+/// Moments around the checkpoint's, 35, and behind it.
+static LATE: [(u64, Option<Version>); 8] = [
+    (34, Some(WRITTEN_AGAIN)),
+    (35, Some(WRITTEN_AGAIN)),
+    (36, Some(WRITTEN_AGAIN)),
+    (40, Some(NAMED)),
+    (49, Some(NAMED)),
+    (50, Some(LONGER)),
+    (51, Some(LONGER)),
+    (u64::MAX, Some(LONGER)),
+];
+
+fn place_of(block: Option<u8>) -> Option<Ptr> {
+    Ptr::new(0, block?, 1)
+}
+
+/// The inode of a version, or of an object that isn't made yet.
+fn inode_of(version: Option<Version>) -> Result<Inode, Fail> {
     let mut inode = blank(Moment::new(10));
+    let Some(version) = version else {
+        return Ok(inode);
+    };
+    inode.attribute = Attribute::new(version.name).ok_or("attribute")?;
     inode.alive = true;
-    inode.size = size;
-    inode.changed = Moment::new(changed);
-    inode.attribute = Attribute::new(name).ok_or("attribute")?;
-    inode.pointers[0] = pointers[0];
-    inode.pointers[1] = pointers[1];
+    inode.size = version.size;
+    inode.changed = Moment::new(version.moment);
+    inode.pointers[0] = place_of(version.blocks[0]);
+    inode.pointers[1] = place_of(version.blocks[1]);
     Ok(inode)
 }
 
-/// The object after it was made at moment 10.
-fn made() -> Result<Inode, Fail> {
-    live(0, 10, b"k", [None, None])
-}
-
-/// The object after the first write, at moment 20.
-fn written() -> Result<Inode, Fail> {
-    live(3, 20, b"k", [Ptr::new(0, 2, 1), None])
-}
-
-/// The object after the second write, at moment 30, as the checkpoint tells it.
-fn written_again() -> Result<Inode, Fail> {
-    live(3, 30, b"k", [Ptr::new(0, 4, 1), None])
-}
-
-/// The object after its attribute was set at moment 40.
-fn named() -> Result<Inode, Fail> {
-    live(3, 40, b"other", [Ptr::new(0, 4, 1), None])
-}
-
-/// The object after a byte was written behind the first block at moment 50.
-fn longer() -> Result<Inode, Fail> {
-    live(601, 50, b"other", [Ptr::new(0, 4, 1), Ptr::new(0, 8, 1)])
-}
-
-/// The inodes at moments before the checkpoint's, and shortly behind it.
-fn early() -> Result<[(u64, Inode); 8], Fail> {
-    Ok([
-        (0, blank(Moment::new(10))),
-        (9, blank(Moment::new(10))),
-        (10, made()?),
-        (19, made()?),
-        (20, written()?),
-        (29, written()?),
-        (30, written_again()?),
-        (39, written_again()?),
-    ])
-}
-
-/// The inodes at moments around the checkpoint's, 35, and behind it.
-fn late() -> Result<[(u64, Inode); 8], Fail> {
-    Ok([
-        (34, written_again()?),
-        (35, written_again()?),
-        (36, written_again()?),
-        (40, named()?),
-        (49, named()?),
-        (50, longer()?),
-        (51, longer()?),
-        (u64::MAX, longer()?),
-    ])
+/// The inodes at these moments.
+fn inodes(told: &[(u64, Option<Version>); 8]) -> Result<[(u64, Inode); 8], Fail> {
+    let mut inodes = [(0, blank(Moment::new(10))); 8];
+    for i in 0..8 {
+        let (moment, version) = told[i];
+        inodes[i] = (moment, inode_of(version)?);
+    }
+    Ok(inodes)
 }
 
 /// The object is made at moment 10, and written at 20 and 30.
@@ -99,11 +132,6 @@ fn write_twice<B: Blocks>(subject: &mut Subject<B>) -> Result<(), Fail>
     subject.write(30, 1, b"Z")
 }
 
-/// Looks at the first moment, if any, at which an inode is another than it must be.
-fn check_moments(rt: &impl Abort, wrong: Option<u64>, when: &str) {
-    assert_eq!(rt; wrong, None, "{when}");
-}
-
 /// Looks at the inodes before the checkpoint and after it, and goes on behind it.
 fn check_inodes<B: Blocks>(
     rt: &impl Abort,
@@ -112,14 +140,18 @@ fn check_inodes<B: Blocks>(
 ) -> Result<(), Fail>
     requires { IsPresent (B.log subject.old.table).held subject.old.row subject.old.inode subject.old.latest }
 {
-    let early = early()?;
-    check_moments(rt, subject.wrong_moment(alloc, &early)?, "without");
+    let early = inodes(&EARLY)?;
+    let late = inodes(&LATE)?;
+    assert!(rt; subject.wrong_moment(alloc, &early)?.is_none(), "without");
     subject.checkpoint(35)?;
-    check_moments(rt, subject.wrong_moment(alloc, &early)?, "at the end");
+    assert!(rt;
+        subject.wrong_moment(alloc, &early)?.is_none(),
+        "at the end"
+    );
     subject.set_attribute(40, b"other")?;
     subject.write(50, 600, b"x")?;
-    check_moments(rt, subject.wrong_moment(alloc, &early)?, "back");
-    check_moments(rt, subject.wrong_moment(alloc, &late()?)?, "forth");
+    assert!(rt; subject.wrong_moment(alloc, &early)?.is_none(), "back");
+    assert!(rt; subject.wrong_moment(alloc, &late)?.is_none(), "forth");
     Ok(())
 }
 
@@ -134,7 +166,7 @@ fn back_and_forth<B: Blocks>(
     write_twice(subject)?;
     check_inodes(rt, alloc, subject)?;
     let row = subject.row();
-    assert_eq!(rt; (row.head, subject.blocks_left()), (Ptr::new(0, 9, 1), 111));
+    assert!(rt; row.head == Ptr::new(0, 9, 1) && subject.blocks_left() == 111);
     Ok(())
 }
 
@@ -154,35 +186,29 @@ fn read_back<B: Blocks>(subject: &mut Subject<B>) -> Result<Checkpoint, Fail>
     Ok(subject.read_checkpoint().ok_or("a checkpoint")?)
 }
 
-/// Looks at the checkpoint that was read, and at the row.
-fn check_checkpoint(rt: &impl Abort, checkpoint: &Checkpoint, row: &Row) -> Result<Ptr, Fail> {
-    assert_eq!(rt; checkpoint.moment(), Moment::new(35));
-    assert_eq!(rt; *checkpoint.inode(), written_again()?);
-    let place = Ptr::new(0, 6, 1);
-    assert_eq!(rt;
-        (row.checkpoint, row.checkpoint_moment),
-        (place, Moment::new(35))
-    );
-    Ok(place.ok_or("a place")?)
+/// Whether the checkpoint that was read tells the second write, and the row its place and its moment.
+fn is_told(checkpoint: &Checkpoint, row: &Row, place: Ptr) -> Result<bool, Fail> {
+    let moment = Moment::new(35);
+    let told = inode_of(Some(WRITTEN_AGAIN))?;
+    let at_row = row.checkpoint == Some(place) && row.checkpoint_moment == moment;
+    Ok(at_row && checkpoint.moment() == moment && *checkpoint.inode() == told)
 }
 
 /// The same, and looks at it and at the row, which tells its place.
 fn read_and_look<B: Blocks>(rt: &impl Abort, subject: &mut Subject<B>) -> Result<Ptr, Fail>
     requires { IsPresent (B.log subject.old.table).held subject.old.row subject.old.inode subject.old.latest }
 {
+    let place = Ptr::new(0, 6, 1).ok_or("a place")?;
     let checkpoint = read_back(subject)?;
-    check_checkpoint(rt, &checkpoint, &subject.row())
-}
-
-/// Looks at the checkpoint's block.
-fn check_block(rt: &impl Abort, block: Option<Block>) {
-    assert!(rt; block == Some(block_of(&[&FIELDS, &[0; 63], &POINTER])));
+    assert!(rt; is_told(&checkpoint, &subject.row(), place)?);
+    Ok(place)
 }
 
 #[test]
 fn a_checkpoint_read_back(rt: HostRuntime) -> Result<(), Fail> {
     let mut subject = Subject::new(new_table(rt.alloc(), 8)?, 10);
     let place = read_and_look(&rt, &mut subject)?;
-    check_block(&rt, subject.held_bytes(place));
+    let block = subject.held_bytes(place).ok_or("a block")?;
+    assert!(rt; block == block_of(&[&FIELDS, &[0; 63], &POINTER]));
     Ok(())
 }

@@ -76,8 +76,8 @@ fn live_and_die<B: Blocks>(alloc: Global, subject: &mut Subject<B>) -> Result<Op
 /// Looks at the row, and at the number of blocks that are left.
 fn check_row(rt: &impl Abort, row: &Row, blocks_left: usize) {
     // The entries have 37, 85, 68, 34, 39 and 34 bytes.
-    assert_eq!(rt; (row.journal_bytes, row.head_bytes), (297, 297));
-    assert_eq!(rt; (row.head, blocks_left), (Ptr::new(0, 10, 1), 110));
+    assert!(rt; (row.journal_bytes, row.head_bytes) == (297, 297));
+    assert!(rt; (row.head, blocks_left) == (Ptr::new(0, 10, 1), 110));
 }
 
 /// Looks at the bytes that an inode of this size tells.
@@ -112,7 +112,7 @@ fn check_life<B: Blocks>(
 ) -> Result<(), Fail>
     requires { IsPresent (B.log subject.old.table).held subject.old.row subject.old.inode subject.old.latest }
 {
-    assert_eq!(rt; live_and_die(alloc, subject)?, None);
+    assert!(rt; live_and_die(alloc, subject)? == None);
     check_row(rt, &subject.row(), subject.blocks_left());
     Ok(())
 }

@@ -22,12 +22,12 @@ use std::test::Fail;
 
 /// Looks at the number of a chain's bytes, and of those in its head.
 fn check_bytes(rt: &impl Abort, chain: &Chain, bytes: usize, filled: usize) {
-    assert_eq!(rt; (chain.bytes(), chain.filled()), (bytes, filled));
+    assert!(rt; (chain.bytes(), chain.filled()) == (bytes, filled));
 }
 
 /// Looks at the number of the place of a chain's head, and at how many blocks are left.
 fn check_head(rt: &impl Abort, chain: &Chain, blocks_left: usize, number: usize, left: usize) {
-    assert_eq!(rt; (chain.head(), blocks_left), (place(number), left));
+    assert!(rt; (chain.head(), blocks_left) == (place(number), left));
 }
 
 /// Pushes 48 entries of moments 1 to 48, each of 244 bytes, two at a time: each push fills a block.
@@ -57,7 +57,7 @@ fn full_chain<B: Blocks>(rt: &impl Abort, table: &mut B) -> Result<Chain, Fail>
 
 /// Looks at one of the 48 entries.
 fn check_entry(rt: &impl Abort, entry: &Entry, moment: u64) {
-    assert_eq!(rt; Some(entry), long_entry(moment).as_ref(), "{moment}");
+    assert!(rt; Some(entry) == long_entry(moment).as_ref(), "{moment}");
 }
 
 /// Looks at the 48 entries, oldest first.
@@ -70,7 +70,7 @@ fn check_entries<B: Blocks>(
     requires { Holds (B.log table.old).held chain.now (entries_held (B.log table.old).held chain.now) }
 {
     let entries = entries(alloc, table, chain)?;
-    assert_eq!(rt; entries.len(), 48);
+    assert!(rt; entries.len() == 48);
     for (entry, moment) in entries.iter().zip(1..49u64) {
         check_entry(rt, entry, moment);
     }
@@ -97,7 +97,7 @@ fn check_filled(rt: &impl Abort, chain: &Chain, told: &[(u64, usize)]) {
     assert!(rt; chain.bytes() == 11_712 && chain.is_full_for(1) && !chain.is_full_for(0));
     for (k, (moment, pointers)) in told.iter().enumerate() {
         let expected = if k < 48 { (48 - k as u64, 12) } else { (0, 0) };
-        assert_eq!(rt; (*moment, *pointers), expected);
+        assert!(rt; (*moment, *pointers) == expected);
     }
 }
 
@@ -124,10 +124,10 @@ fn fill_and_push<B: Blocks>(rt: &impl Abort, table: &mut B) -> Result<(), Fail>
     let mut chain = full_chain(rt, table)?;
     let before = chain;
     let short = [short_entry(49).ok_or("an entry")?];
-    assert_eq!(rt; short[0].byte_count(), 34);
-    assert_eq!(rt; push(table, &mut chain, &short), Err(Refusal::ChainFull));
+    assert!(rt; short[0].byte_count() == 34);
+    assert!(rt; push(table, &mut chain, &short) == Err(Refusal::ChainFull));
     assert!(rt; chain == before && table.blocks_left() == 96);
-    assert_eq!(rt; push(table, &mut chain, &[]), Ok(()));
+    assert!(rt; push(table, &mut chain, &[]) == Ok(()));
     assert!(rt; chain == before && table.blocks_left() == 96);
     Ok(())
 }
@@ -142,7 +142,7 @@ fn blocks_of_full_chain(rt: &impl Abort, alloc: Global) -> Result<[Option<Block>
 /// Looks at which blocks are held: those from a number on, up to another.
 fn check_held(rt: &impl Abort, blocks: &[Option<Block>; 120], first: usize, end: usize) {
     for (k, block) in blocks.iter().enumerate() {
-        assert_eq!(rt; block.is_some(), first <= k && k < end, "{k}");
+        assert!(rt; block.is_some() == (first <= k && k < end), "{k}");
     }
 }
 
@@ -262,7 +262,7 @@ fn fill_journal<B: Blocks>(
         (81, named(81, &[b'b'; 64])?),
         (82, named(82, &[b'a'; 64])?),
     ];
-    assert_eq!(rt; subject.wrong_moment(alloc, &told)?, None);
+    assert!(rt; subject.wrong_moment(alloc, &told)? == None);
     Ok(())
 }
 
@@ -288,11 +288,11 @@ fn check_refused<B: Blocks>(
     requires { IsPresent (B.log subject.old.table).held subject.old.row subject.old.inode subject.old.latest }
 {
     let (answer, row) = fill_and_delete(rt, alloc, subject)?;
-    assert_eq!(rt; answer, Err(Refusal::ChainFull));
+    assert!(rt; answer == Err(Refusal::ChainFull));
     // The entries have 34, 67 and 131 bytes, and 70 of them 164, two in a block.
-    assert_eq!(rt; (row.journal_bytes, row.head_bytes), (11_712, 164));
-    assert_eq!(rt; (row.head, subject.blocks_left()), (place(72), 47));
-    assert_eq!(rt; subject.row(), row);
+    assert!(rt; (row.journal_bytes, row.head_bytes) == (11_712, 164));
+    assert!(rt; (row.head, subject.blocks_left()) == (place(72), 47));
+    assert!(rt; subject.row() == row);
     Ok(())
 }
 
@@ -306,7 +306,7 @@ fn blocks_of_full_journal(rt: &impl Abort, alloc: Global) -> Result<[Option<Bloc
 /// Looks at the blocks of a full journal, which are as those of another.
 fn check_journal(rt: &impl Abort, blocks: &[Option<Block>; 120], others: &[Option<Block>; 120]) {
     assert!(rt; *blocks == *others);
-    assert_eq!(rt; blocks.iter().filter(|block| block.is_some()).count(), 36);
+    assert!(rt; blocks.iter().filter(|block| block.is_some()).count() == 36);
 }
 
 #[test]

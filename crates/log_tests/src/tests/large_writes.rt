@@ -49,19 +49,13 @@ fn check_entry(rt: &impl Abort, entry: &Entry, first_index: usize, first_place: 
     requires index { first_index ≤ 100 }
     requires place { first_place ≤ 100 }
 {
-    assert_eq!(rt;
-        (entry.moment(), entry.byte_count()),
-        (Moment::new(11), 306)
-    );
-    assert_eq!(rt; entry.after(), whole(11));
+    assert!(rt; (entry.moment(), entry.byte_count()) == (Moment::new(11), 306));
+    assert!(rt; entry.after() == whole(11));
     assert!(rt; entry.pair().is_none());
-    assert_eq!(rt; entry.triples().len(), 16);
+    assert!(rt; entry.triples().len() == 16);
     for (k, triple) in entry.triples().iter().enumerate() {
-        assert_eq!(rt; triple.index as usize, first_index + k);
-        assert_eq!(rt;
-            (triple.before, triple.after),
-            (None, place(first_place + k))
-        );
+        assert!(rt; triple.index as usize == first_index + k);
+        assert!(rt; (triple.before, triple.after) == (None, place(first_place + k)));
     }
 }
 
@@ -89,20 +83,17 @@ fn entries_told<B: Blocks>(
 
 /// Looks at the entries of both.
 fn check_entries(rt: &impl Abort, entries: &[Entry]) -> Result<(), Fail> {
-    assert_eq!(rt; entries.len(), 4);
+    assert!(rt; entries.len() == 4);
     let [creation, first, second, third] = entries else {
         return Err(Fail::from("four entries"));
     };
-    assert_eq!(rt;
-        (creation.moment(), creation.byte_count()),
-        (Moment::new(10), 34)
-    );
+    assert!(rt; (creation.moment(), creation.byte_count()) == (Moment::new(10), 34));
     check_entry(rt, first, 0, 1);
     check_entry(rt, second, 16, 17);
     check_entry(rt, third, 32, 33);
-    assert_eq!(rt; first.before().size, 0);
-    assert_eq!(rt; first.before().changed, Moment::new(10));
-    assert_eq!(rt; (second.before(), third.before()), (whole(11), whole(11)));
+    assert!(rt; first.before().size == 0);
+    assert!(rt; first.before().changed == Moment::new(10));
+    assert!(rt; (second.before(), third.before()) == (whole(11), whole(11)));
     Ok(())
 }
 
@@ -116,9 +107,9 @@ fn check_told<B: Blocks>(
 {
     let mut told = [(0, 0); 5];
     let entries = entries_told(alloc, subject, &mut told)?;
-    assert_eq!(rt; told, [(11, 16), (11, 16), (11, 16), (10, 0), (0, 0)]);
+    assert!(rt; told == [(11, 16), (11, 16), (11, 16), (10, 0), (0, 0)]);
     let row = subject.row();
-    assert_eq!(rt; (row.journal_bytes, row.head_bytes), (34 + 3 * 306, 306));
+    assert!(rt; (row.journal_bytes, row.head_bytes) == (34 + 3 * 306, 306));
     check_entries(rt, &entries)
 }
 
@@ -137,21 +128,18 @@ fn check_journal(
     bytes: usize,
 ) -> Result<(), Fail> {
     let journal = decode_journal(block).ok_or("a journal block")?;
-    assert_eq!(rt; journal.object(), ObjectId::new(OBJECT));
-    assert_eq!(rt; journal.previous(), previous);
-    assert_eq!(rt;
-        (journal.entries().len(), journal.entry_bytes()),
-        (count, bytes)
-    );
+    assert!(rt; journal.object() == ObjectId::new(OBJECT));
+    assert!(rt; journal.previous() == previous);
+    assert!(rt; (journal.entries().len(), journal.entry_bytes()) == (count, bytes));
     Ok(())
 }
 
 /// Looks at the journal's blocks.
 fn check_blocks(rt: &impl Abort, subject: &mut Subject<SegmentTable>) -> Result<(), Fail> {
     // The creation's block, 48 of data, and three of the journal: the first entry fits behind the creation's.
-    assert_eq!(rt; subject.blocks_left(), 240 - 1 - 48 - 3);
+    assert!(rt; subject.blocks_left() == 240 - 1 - 48 - 3);
     let places = [Ptr::new(3, 5, 1), Ptr::new(3, 6, 1), Ptr::new(3, 7, 1)];
-    assert_eq!(rt; subject.row().head, places[2]);
+    assert!(rt; subject.row().head == places[2]);
     for (there, previous, count, bytes) in [
         (places[0], None, 2, 340),
         (places[1], places[0], 1, 306),
@@ -205,10 +193,10 @@ fn check_inodes<B: Blocks>(
 ) -> Result<(), Fail>
     requires { IsPresent (B.log subject.old.table).held subject.old.row subject.old.inode subject.old.latest }
 {
-    assert_eq!(rt; write_again(alloc, subject)?, None);
+    assert!(rt; write_again(alloc, subject)? == None);
     // No entry of the second write fits behind the 306 bytes in the head.
-    assert_eq!(rt; subject.row().head, place(102));
-    assert_eq!(rt; subject.blocks_left(), 240 - 52 - 51);
+    assert!(rt; subject.row().head == place(102));
+    assert!(rt; subject.blocks_left() == 240 - 52 - 51);
     Ok(())
 }
 

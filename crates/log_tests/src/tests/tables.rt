@@ -58,7 +58,7 @@ pub(super) fn block_of(parts: &[&[u8]]) -> Block {
     block
 }
 
-fn read_blocks(pin: &mut Pin, frame: usize) -> [Block; 16]
+pub(super) fn read_blocks(pin: &mut Pin, frame: usize) -> [Block; 16]
     requires { 0 < pins_in frame pin.old.pins }
 {
     let mut blocks = [[0; 512]; 16];

@@ -82,7 +82,7 @@ fn summary_block() -> Block {
 /// The place of the head, which must have these bytes.
 fn head_at(rt: &impl Abort, row: &Row, bytes: [u8; 8]) -> Result<Ptr, Fail> {
     let head = row.head.ok_or("a head")?;
-    assert_eq!(rt; encode_ptr(Some(head)), bytes);
+    assert!(rt; encode_ptr(Some(head)) == bytes);
     Ok(head)
 }
 
@@ -91,7 +91,7 @@ fn check_create(rt: &impl Abort, subject: &mut Subject<SegmentTable>) -> Result<
     let head = head_at(rt, &subject.row(), [0, 0, 1, 0, 0, 0, 0, 1])?;
     let block = subject.held_bytes(head);
     assert!(rt; block == Some(created_block()));
-    assert_eq!(rt; subject.blocks_left(), 239);
+    assert!(rt; subject.blocks_left() == 239);
     Ok(())
 }
 
@@ -113,7 +113,7 @@ fn check_both(rt: &impl Abort, subject: &mut Subject<SegmentTable>) -> Result<()
     let first = Ptr::new(0, 1, 1).ok_or("a place")?;
     let block = subject.held_bytes(first);
     assert!(rt; block.is_none(), "no longer held");
-    assert_eq!(rt; subject.blocks_left(), 237);
+    assert!(rt; subject.blocks_left() == 237);
     Ok(())
 }
 
@@ -211,10 +211,10 @@ fn check_rows<B: Blocks>(
 {
     let mut rows = one_row(alloc)?;
     let object = ObjectId::new(OBJECT);
-    assert_eq!(rt; rows.get(object), Some(subject.row()));
+    assert!(rt; rows.get(object) == Some(subject.row()));
     create_and_write_with_rows(&mut rows, subject)?;
-    assert_eq!(rt; rows.get(object), Some(row_of_both()));
-    assert_eq!(rt; rows.len(), 1);
+    assert!(rt; rows.get(object) == Some(row_of_both()));
+    assert!(rt; rows.len() == 1);
     Ok(())
 }
 
