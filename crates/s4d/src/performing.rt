@@ -1,12 +1,7 @@
 //! What a line of words asks for, and the status of the program.
-ghost use Rattle.std.specs.Prelude.{◌≡◌, ◌≢◌, ◌+◌, ◌^◌, ◌<◌, [], map, true};
-ghost use Rattle.clap.specs.Takes.{takes};
-ghost use Rattle.clap.specs.Simple.{subcommand_of};
-ghost use Rattle.s4d_command.specs.CommandLine.{line, Spells, SpellsNone};
-ghost use Rattle.s4d_command.specs.declared.Pipe.{Pipe as PipeValue};
-ghost use Rattle.s4d_command.specs.declared.Command.TheVariants as command;
+ghost use Rattle.std.specs.Prelude.{◌≡◌, ◌+◌, ◌^◌, ◌<◌, ◌≤◌, [], map};
 ghost use Rattle.serving.specs.Streams.{taken_by};
-ghost use Rattle.s4d.specs.Piping.{Pipes};
+ghost use Rattle.s4d.specs.Performing.{IsDone, IsUsage};
 
 use crate::piping::serve_pipe;
 use s4d_command::{Command, CommandError, command_of};
@@ -36,14 +31,12 @@ pub fn perform<S: AsStr, R: Source, W: Sink, E: Write>(
 ) -> u8
     requires reader { R.failures reader.old + 1 < 2 ^ 64 }
     requires writer { W.failures writer.old + 1 < 2 ^ 64 }
-    ensures done { result ≡ 0 → (pipe : PipeValue)
-        × Spells (subcommand_of line (map S.text words.now)) (command.Pipe pipe)
-        × Pipes pipe ServeEnd.Ended
+    ensures status { result ≤ 2 }
+    ensures done { result ≡ 0 → IsDone (map S.text words.now)
         (R.remaining reader.old) (taken_by W.passed W.held writer.old)
         (R.remaining reader.new) (taken_by W.passed W.held writer.new) }
     ensures passed { result ≡ 0 → W.held writer.new ≡ [] }
-    ensures usage { result ≡ 2 → takes line (map S.text words.now) ≡ true
-        → SpellsNone (subcommand_of line (map S.text words.now)) }
+    ensures usage { result ≡ 2 → IsUsage (map S.text words.now) }
 {
     match command_of(alloc, words) {
         Ok(Command::Pipe(pipe)) => match serve_pipe(alloc, pipe, reader, writer) {
