@@ -263,6 +263,12 @@ class Hex(unittest.TestCase):
         self.assertIn("Changed at moment 2", lines[wrote + 4])
         self.assertIn("Refused: NotAdmin", shown)
 
+    def test_history_ages(self):
+        status, shown, _ = self.run_hex("session", str(HERE / "aged.hex"), PROGRAM, "pipe", "--window", "4", "client")
+        self.assertEqual(status, 0)
+        told = [line.strip() for line in shown.splitlines() if line.strip().startswith(("Data:", "Refused:"))]
+        self.assertEqual(told, ["Data: 'first'", "Data: 'later'", "Data: 'first'", "Refused: Expired", "Data: 'later'"])
+
     def test_frames_that_say_nothing(self):
         for told, frame in (
                 ("no request: is empty", "00000000"),
