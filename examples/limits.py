@@ -16,6 +16,7 @@ HERE = os.path.dirname(os.path.abspath(__file__))
 CRATE = os.path.join(HERE, "..", "crates", "s4d")
 STACK_STEP = 2  # in KiB, as all limits here
 STACK_MOST = 1024
+STACK_CHANCE = 16  # the system begins each program's stack at a place of its own choice within 8 KiB, in whole pages
 SPACE_STEP = 2
 SPACE_BEYOND = 1024  # how far to go on by small steps once all is answered
 SPACE_LARGE_STEP = 1024
@@ -82,20 +83,20 @@ class Sweep:
         seen[status] = seen.get(status, 0) + 1
         return status == 0 and output == self.full
 
-    def limits(self, flag, step, most):
-        """From the first limit under which the program is loaded on."""
+    def limits(self, flag, step, most, chance):
+        """From the first limit under which the program is loaded on, whatever place the system chooses."""
         for limit in range(step, LOADED_MOST, step):
             if is_loaded(self.program, flag, limit):
-                return range(limit, most + 1, step)
+                return range(limit + chance, most + 1, step)
         sys.exit(f"ulimit {flag}: the program is never loaded")
 
     def tell(self, flag, limits, answered, seen):
         counts = ", ".join(f"{count} of status {status}" for status, count in sorted(seen.items()))
-        print(f"ulimit {flag}: loaded from {limits[0]} KiB on, all answered from {answered} KiB on; {counts}")
+        print(f"ulimit {flag}: run from {limits[0]} KiB on, all answered from {answered} KiB on; {counts}")
 
-    def sweep(self, flag, step, most, beyond, large_step):
+    def sweep(self, flag, step, most, chance, beyond, large_step):
         """Small steps until all is answered over `beyond` KiB, then large ones."""
-        limits, answered, seen = self.limits(flag, step, most), None, {}
+        limits, answered, seen = self.limits(flag, step, most, chance), None, {}
         limit = limits[0]
         while limit <= most:
             if not self.is_answered(flag, limit, seen):
@@ -126,8 +127,8 @@ def main():
     if status != 2 or output or not is_one_line(errors):
         sys.exit(f"words that spell no command: status {status}, {errors!r}")
     sweep = Sweep(program, data, full)
-    sweep.sweep("-s", STACK_STEP, STACK_MOST, STACK_MOST, STACK_STEP)
-    sweep.sweep("-v", SPACE_STEP, SPACE_MOST, SPACE_BEYOND, SPACE_LARGE_STEP)
+    sweep.sweep("-s", STACK_STEP, STACK_MOST, STACK_CHANCE, STACK_MOST, STACK_STEP)
+    sweep.sweep("-v", SPACE_STEP, SPACE_MOST, 0, SPACE_BEYOND, SPACE_LARGE_STEP)
     print(f"limits: {sweep.faults} faults")
     return 1 if sweep.faults else 0
 
