@@ -9,8 +9,8 @@ use Rattle.s4_model.specs.VersionAt.{version_of}
 use Rattle.s4_model.specs.Laws.{ANewDriveIsSound}
 use Rattle.object_map.specs.declared.map.Row.{Row}
 use Rattle.object_map.specs.Rows.{row_of}
-use Rattle.object_store.specs.Store.{StoreFields, IsStore}
-use Rattle.object_store.specs.Versions.{version_in, version_by, inode_by}
+use Rattle.version_store.specs.Store.{StoreFields, IsStore}
+use Rattle.version_store.specs.Versions.{version_in, version_by, inode_by}
 use Rattle.segment_table.specs.Room.{places, new_places}
 use Rattle.window.specs.Timeline.{Timeline, StandsFor}
 use Rattle.drive.specs.Keeping.{IsKept}

@@ -24,11 +24,11 @@ use Rattle.inode_changes.specs.Contents.{contents_of, bytes_of, meaning}
 use Rattle.inode_changes.specs.Laws.{TheSizeCountsTheBytes}
 use Rattle.object_map.specs.declared.map.Row.{Row}
 use Rattle.object_map.specs.Rows.{row_of}
-use Rattle.object_store.specs.Store.{StoreFields}
-use Rattle.object_store.specs.Costs.{subject_inode}
-use Rattle.object_store.specs.Versions.{inode_in, inode_by, version_in, version_by}
-use Rattle.object_store.specs.Taking.{Takes, IsReady, IsThere}
-use Rattle.object_store.specs.Laws.{ThePresentStays, ChangesBeginWithThePresent}
+use Rattle.version_store.specs.Store.{StoreFields}
+use Rattle.version_store.specs.Costs.{subject_inode}
+use Rattle.version_store.specs.Versions.{inode_in, inode_by, version_in, version_by}
+use Rattle.version_store.specs.Taking.{Takes, IsReady, IsThere}
+use Rattle.version_store.specs.Laws.{ThePresentStays, ChangesBeginWithThePresent}
 use Rattle.window.specs.Timeline.{Timeline}
 use Rattle.admission.specs.Later.{later_refusal, IsWithin, IsOfVersions, IsAllowed, HasSize, object_asked}
 use Rattle.s4_model.specs.Effect.{object_of}

@@ -15,10 +15,10 @@ use Rattle.s4_model.specs.VersionAt.{version_of, is_by}
 use Rattle.s4_model.specs.Sound.{IsSound}
 use Rattle.object_map.specs.declared.map.Row.{Row}
 use Rattle.object_map.specs.Rows.{row_of}
-use Rattle.object_store.specs.Store.{StoreFields, IsStore}
-use Rattle.object_store.specs.Versions.{version_in, version_taken}
-use Rattle.object_store.specs.Taking.{IsReady, IsThere}
-use Rattle.object_store.specs.Laws.{ThePresentStays}
+use Rattle.version_store.specs.Store.{StoreFields, IsStore}
+use Rattle.version_store.specs.Versions.{version_in, version_taken}
+use Rattle.version_store.specs.Taking.{IsReady, IsThere}
+use Rattle.version_store.specs.Laws.{ThePresentStays}
 use Rattle.window.specs.Timeline.{Timeline, StandsFor}
 use Rattle.s4_model.specs.Plain.{HasNext}
 use Rattle.drive.specs.Keeping.{IsKept}

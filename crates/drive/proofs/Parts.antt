@@ -7,7 +7,7 @@ use Rattle.s4_model.specs.Sound.{IsSound}
 use Rattle.segment_word.specs.AcceptViews.{Ledger, count_of}
 use Rattle.segment_table.specs.Table.{Table}
 use Rattle.segment_table.specs.Room.{log_of}
-use Rattle.object_store.specs.Store.{StoreOf, fields_of}
+use Rattle.version_store.specs.Store.{StoreOf, fields_of}
 use Rattle.window.specs.Timeline.{Timeline}
 use Rattle.drive.specs.Fields.{DriveFields, state_in, store_of}
 use Rattle.drive.specs.Keeping.{IsKept}

@@ -24,7 +24,7 @@ use Rattle.s4_model.specs.Step.{Step, Refuses, MayRefuse, AsFirst, ForMemory, As
 use Rattle.s4_model.specs.Plain.{IsChange}
 use Rattle.segment_word.specs.AcceptViews.{Ledger, with_moment, credited, caught_up}
 use Rattle.segment_word.specs.AcceptRule.{Fits}
-use Rattle.object_store.specs.Store.{StoreFields}
+use Rattle.version_store.specs.Store.{StoreFields}
 use Rattle.drive.specs.Fields.{DriveFields, SessionFields, store_of, state_in, history_of}
 use Rattle.drive.specs.Refusing.{or_then, want_of, refusal_of, WantsPin, RefusesBy, IsRefusal, IsJudgedOut, IsUnplanned}
 use Rattle.time_read.specs.Plans.{PlanFields, bytes_planned}

@@ -19,8 +19,8 @@ use Rattle.s4_model.specs.Sound.{IsSound}
 use Rattle.s4_model.specs.Laws.{EveryStepKeepsSoundness}
 use Rattle.segment_word.specs.AcceptViews.{Ledger}
 use Rattle.s4_model.specs.Effect.{is_of_versions}
-use Rattle.object_store.specs.Store.{StoreFields}
-use Rattle.object_store.specs.Costs.{change_refusal}
+use Rattle.version_store.specs.Store.{StoreFields}
+use Rattle.version_store.specs.Costs.{change_refusal}
 use Rattle.drive.specs.Refusing.{or_then, storing_refusal, want_of, IsRefusal}
 use Rattle.drive.specs.Fields.{DriveFields, SessionFields, store_of, state_in}
 use Rattle.drive.specs.Answering.{TakesChange}

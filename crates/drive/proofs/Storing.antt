@@ -21,11 +21,11 @@ use Rattle.window.specs.Timeline.{Timeline, StandsFor}
 use Rattle.blocks.specs.Log.{Stored}
 use Rattle.object_map.specs.declared.map.Row.{Row}
 use Rattle.object_map.specs.Rows.{row_of}
-use Rattle.object_store.specs.Store.{StoreFields, IsStore}
+use Rattle.version_store.specs.Store.{StoreFields, IsStore}
 use Rattle.s4_model.specs.Effect.{is_of_versions, object_of}
-use Rattle.object_store.specs.Versions.{inode_by, version_by, version_in, version_taken}
-use Rattle.object_store.specs.Taking.{IsThere, IsReady}
-use Rattle.object_store.specs.Laws.{ThePresentStays}
+use Rattle.version_store.specs.Versions.{inode_by, version_by, version_in, version_taken}
+use Rattle.version_store.specs.Taking.{IsThere, IsReady}
+use Rattle.version_store.specs.Laws.{ThePresentStays}
 use Rattle.drive.specs.Keeping.{IsKept}
 use Rattle.drive.specs.Refusing.{or_then, want_of, TakesMemory, IsRefusal, IsJudgedOut}
 use Rattle.drive.proofs.Kept.{kept_taken, given_by}

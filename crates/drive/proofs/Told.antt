@@ -13,8 +13,8 @@ use Rattle.s4_model.specs.Visible.{IsVisible, is_hidden}
 use Rattle.s4_model.specs.Refusals.{moment_refusal, is_absent}
 use Rattle.codec.specs.declared.inodes.Inode.{Inode}
 use Rattle.inode_changes.specs.Contents.{contents_of, bytes_of, meaning}
-use Rattle.object_store.specs.Store.{StoreFields}
-use Rattle.object_store.specs.Versions.{inode_in, version_by}
+use Rattle.version_store.specs.Store.{StoreFields}
+use Rattle.version_store.specs.Versions.{inode_in, version_by}
 use Rattle.window.specs.Timeline.{Timeline}
 use Rattle.drive.specs.Keeping.{IsKept}
 use Rattle.drive.specs.Refusing.{or_then}

@@ -21,7 +21,7 @@ use Rattle.s4_model.specs.Laws.{EveryStepKeepsSoundness}
 use Rattle.segment_word.specs.AcceptViews.{Ledger, with_change, with_moment}
 use Rattle.window.specs.Timeline.{Timeline, StandsFor}
 use Rattle.s4_model.specs.Effect.{is_of_versions}
-use Rattle.object_store.specs.Store.{StoreFields}
+use Rattle.version_store.specs.Store.{StoreFields}
 use Rattle.drive.specs.Fields.{DriveFields, SessionFields, store_of, state_in}
 use Rattle.drive.specs.Keeping.{IsKept}
 use Rattle.admission.specs.Later.{later_refusal}

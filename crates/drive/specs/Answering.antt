@@ -15,16 +15,16 @@ use Rattle.s4_model.specs.Step.{change_of, stamp, reply_to_change}
 use Rattle.segment_word.specs.AcceptViews.{Ledger, Told, with_change, caught_up, credited}
 use Rattle.codec.specs.declared.inodes.Inode.{Inode}
 use Rattle.inode_changes.specs.Contents.{contents_of}
-use Rattle.object_store.specs.Store.{StoreFields}
-use Rattle.object_store.specs.Costs.{subject_inode, blocks_taken}
+use Rattle.version_store.specs.Store.{StoreFields}
+use Rattle.version_store.specs.Costs.{subject_inode, blocks_taken}
 use Rattle.s4_model.specs.Effect.{is_of_versions, object_of}
-use Rattle.object_store.specs.Taking.{data_by, Appends}
+use Rattle.version_store.specs.Taking.{data_by, Appends}
 use Rattle.segment_word.specs.AcceptRule.{Fits}
 use Rattle.segment_word.specs.Counting.{pins_in}
 use Rattle.segment_word.specs.Handles.{Held}
 use Rattle.atomic_table.specs.Seated.{TableId}
 use Rattle.time_read.specs.Plans.{PlanFields, IsAt, bytes_planned, pieces_of, pins_of, is_pinned, is_pinned_in}
-use Rattle.object_store.specs.Versions.{inode_in}
+use Rattle.version_store.specs.Versions.{inode_in}
 use Rattle.drive.specs.Fields.{DriveFields, SessionFields, store_of, state_in}
 use Rattle.drive.specs.Refusing.{or_then, want_of, IsRefusal}
 

@@ -7,7 +7,7 @@ use Rattle.s4_model.specs.State.{State, state_of}
 use Rattle.segment_word.specs.AcceptViews.{Ledger, Told}
 use Rattle.segment_table.specs.Table.{Table}
 use Rattle.segment_table.specs.Room.{log_of}
-use Rattle.object_store.specs.Store.{StoreOf, StoreFields, fields_of}
+use Rattle.version_store.specs.Store.{StoreOf, StoreFields, fields_of}
 
 -- a drive: its history, with the seat that each change was accepted for, and its objects
 pub record DriveFields : Type 0 where

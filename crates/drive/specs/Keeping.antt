@@ -5,8 +5,8 @@ use Rattle.s4_model.specs.VersionAt.{version_of}
 use Rattle.s4_model.specs.Visible.{IsVisible}
 use Rattle.s4_model.specs.Sound.{IsSound}
 use Rattle.object_map.specs.Rows.{row_of}
-use Rattle.object_store.specs.Store.{StoreFields, IsStore}
-use Rattle.object_store.specs.Versions.{version_in}
+use Rattle.version_store.specs.Store.{StoreFields, IsStore}
+use Rattle.version_store.specs.Versions.{version_in}
 use Rattle.window.specs.Timeline.{Timeline, StandsFor}
 
 -- the blocks of each object stand, at each moment, for the version of a state

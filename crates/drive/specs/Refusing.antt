@@ -15,9 +15,9 @@ use Rattle.s4_model.specs.State.{State}
 use Rattle.s4_model.specs.Refusals.{first_refusal, asked, is_one_span_too_many, last_number}
 use Rattle.s4_model.specs.Step.{change_of, stamp, MayWantMemory}
 use Rattle.s4_model.specs.Effect.{is_of_versions}
-use Rattle.object_store.specs.Store.{StoreFields}
-use Rattle.object_store.specs.Costs.{change_refusal}
-use Rattle.object_store.specs.Versions.{inode_in}
+use Rattle.version_store.specs.Store.{StoreFields}
+use Rattle.version_store.specs.Costs.{change_refusal}
+use Rattle.version_store.specs.Versions.{inode_in}
 use Rattle.time_read.specs.Plans.{pieces_of, is_pinned}
 use Rattle.drive.specs.Fields.{DriveFields, store_of, state_in}
 

@@ -8,9 +8,9 @@ ghost use Rattle.s4_model.specs.Step.{change_of, stamp, accepted_record, reply_a
 ghost use Rattle.s4_model.specs.Sound.{IsSound};
 ghost use Rattle.s4_model.specs.Plain.{HasNext};
 ghost use Rattle.admission.specs.Later.{later_refusal, IsWithin, IsOfVersions};
-ghost use Rattle.object_store.specs.Costs.{subject_inode};
+ghost use Rattle.version_store.specs.Costs.{subject_inode};
 ghost use Rattle.s4_model.specs.Effect.{object_of as object_of_change};
-ghost use Rattle.object_store.specs.Taking.{Takes};
+ghost use Rattle.version_store.specs.Taking.{Takes};
 ghost use Rattle.drive.specs.Fields.{state_in, store_of};
 ghost use Rattle.drive.specs.Answering.{ComesTo, size_by};
 
@@ -21,7 +21,7 @@ use admission::{judge, object_of};
 use codec::Inode;
 use inode_changes::laws::bytes_are_the_blocks_joined;
 use inode_links::blank;
-use object_store::laws::{changes_begin_with_the_present, the_present_stays};
+use version_store::laws::{changes_begin_with_the_present, the_present_stays};
 use s4_model::laws::{every_history_is_sound, the_state_goes_on_record_by_record};
 use s4_types::{Change, Moment, ObjectId, Refusal, Reply, Request};
 use segment_word::Naming;

@@ -7,7 +7,7 @@ ghost use Rattle.segment_word.specs.AcceptViews.{caught_up};
 ghost use Rattle.segment_word.specs.AcceptRule.{Fits, ShareNone};
 
 use crate::session::Session;
-use object_store::{NamedTable, Store};
+use version_store::{NamedTable, Store};
 use s4_types::{ObjectId, Refusal, Role};
 use segment_word::{HistorySeat, Naming, Sessions};
 use std::alloc::Global;
@@ -32,7 +32,7 @@ impl<J: Naming> Model for Drive<J> {
     ghost use Rattle.std.specs.Prelude.{◌≡◌};
     ghost use Rattle.s4_model.specs.State.{state_of};
     ghost use Rattle.segment_table.specs.Room.{log_of};
-    ghost use Rattle.object_store.specs.Store.{fields_of};
+    ghost use Rattle.version_store.specs.Store.{fields_of};
     ghost use Rattle.drive.specs.Fields.{DriveFields};
     ghost use Rattle.drive.specs.Keeping.{IsKept};
 

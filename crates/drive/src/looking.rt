@@ -6,9 +6,9 @@ ghost use Rattle.s4_model.specs.Sound.{IsSound};
 ghost use Rattle.object_map.specs.Objects.{IsNextAbove};
 ghost use Rattle.object_map.specs.Rows.{row_of};
 ghost use Rattle.segment_table.specs.Room.{pointers_in};
-ghost use Rattle.object_store.specs.Store.{IsStore};
-ghost use Rattle.object_store.specs.Costs.{room};
-ghost use Rattle.object_store.specs.Versions.{entries_in, inode_in};
+ghost use Rattle.version_store.specs.Store.{IsStore};
+ghost use Rattle.version_store.specs.Costs.{room};
+ghost use Rattle.version_store.specs.Versions.{entries_in, inode_in};
 ghost use Rattle.drive.specs.Fields.{history_of, state_in, store_of};
 ghost use Rattle.drive.specs.Keeping.{DecodesWhereVisible};
 

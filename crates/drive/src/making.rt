@@ -6,7 +6,7 @@ ghost use Rattle.segment_word.specs.AcceptViews.{begun};
 ghost use Rattle.segment_table.specs.Room.{log_of, new_places};
 
 use crate::drive::Drive;
-use object_store::Store;
+use version_store::Store;
 use s4_model::laws::every_history_is_sound;
 use s4_types::{ObjectId, Refusal};
 use segment_table::SegmentTable;
@@ -27,7 +27,7 @@ pub struct NewDrive {
 impl Model for NewDrive {
     ghost use Rattle.s4_model.specs.State.{state_of, new_history};
     ghost use Rattle.segment_table.specs.Room.{log_of};
-    ghost use Rattle.object_store.specs.Store.{fields_of};
+    ghost use Rattle.version_store.specs.Store.{fields_of};
     ghost use Rattle.drive.specs.Fields.{NewFields};
     ghost use Rattle.drive.specs.Keeping.{IsKept};
 

@@ -10,7 +10,7 @@ ghost use Rattle.s4_model.specs.Refusals.{first_refusal, asked};
 ghost use Rattle.s4_model.specs.Step.{reply_to_read};
 ghost use Rattle.inode_changes.specs.Contents.{contents_of, bytes_of};
 ghost use Rattle.admission.specs.Later.{later_refusal, IsWithin};
-ghost use Rattle.object_store.specs.Versions.{inode_in};
+ghost use Rattle.version_store.specs.Versions.{inode_in};
 ghost use Rattle.drive.specs.Fields.{state_in, store_of};
 ghost use Rattle.time_read.specs.Plans.{bytes_planned};
 ghost use Rattle.drive.specs.Refusing.{IsJudgedOut, IsUnplanned};

@@ -5,8 +5,8 @@ ghost use Rattle.segment_table.specs.Changes.{IsFilling, NoneIsFilling, IsSealed
 ghost use Rattle.segment_table.specs.Room.{rest_of, places_ahead};
 ghost use Rattle.object_map.specs.Rows.{row_of};
 ghost use Rattle.time_read.specs.Rows.{entries_of};
-ghost use Rattle.object_store.specs.Versions.{inode_in, version_in};
-ghost use Rattle.object_store.specs.Checkpointing.{checkpoint_refusal, Checkpoints};
+ghost use Rattle.version_store.specs.Versions.{inode_in, version_in};
+ghost use Rattle.version_store.specs.Checkpointing.{checkpoint_refusal, Checkpoints};
 ghost use Rattle.drive.specs.Fields.{store_of};
 
 use crate::drive::Drive;

@@ -7,8 +7,8 @@ use Rattle.s4_model.specs.Sound.{IsSound}
 use Rattle.s4_model.specs.Plain.{HasNext}
 use Rattle.segment_word.specs.AcceptViews.{Ledger}
 use Rattle.segment_table.specs.Room.{log_of}
-use Rattle.object_store.specs.Store.{StoreFields, fields_of}
-use Rattle.object_store.specs.Taking.{Takes}
+use Rattle.version_store.specs.Store.{StoreFields, fields_of}
+use Rattle.version_store.specs.Taking.{Takes}
 use Rattle.drive.specs.Fields.{DriveFields, store_of}
 use Rattle.drive.specs.Keeping.{IsKept}
 use Rattle.drive.proofs.Parts.{can_count}

@@ -2,8 +2,8 @@ use Rattle.std.proofs.Common.{subst}
 use Rattle.std.specs.Prelude.{OnOk}
 use Rattle.s4_model.specs.State.{state_of}
 use Rattle.segment_table.specs.Room.{log_of}
-use Rattle.object_store.specs.Store.{fields_of}
-use Rattle.object_store.specs.Checkpointing.{Checkpoints}
+use Rattle.version_store.specs.Store.{fields_of}
+use Rattle.version_store.specs.Checkpointing.{Checkpoints}
 use Rattle.drive.specs.Fields.{DriveFields, store_of}
 use Rattle.drive.proofs.Kept.{kept_alike}
 use Rattle.drive.proofs.drive.Drive.checkpoint.Goals as goal

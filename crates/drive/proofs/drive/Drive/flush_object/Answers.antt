@@ -7,7 +7,7 @@ use Rattle.s4_model.specs.State.{State, state_of}
 use Rattle.s4_model.specs.Step.{stamp, accepted_record}
 use Rattle.segment_word.specs.AcceptViews.{Ledger}
 use Rattle.segment_table.specs.Room.{log_of}
-use Rattle.object_store.specs.Store.{fields_of}
+use Rattle.version_store.specs.Store.{fields_of}
 use Rattle.std.proofs.lemmas.Result.{err_from_is_err_and}
 use Rattle.admission.specs.Later.{later_refusal}
 use Rattle.drive.specs.Fields.{state_in, store_of}

@@ -7,11 +7,11 @@ use Rattle.s4_model.specs.Step.{change_of, stamp, accepted_record}
 use Rattle.s4_model.specs.Sound.{IsSound}
 use Rattle.admission.specs.Later.{later_refusal, HasSize, IsAllowed}
 use Rattle.segment_table.specs.Room.{log_of}
-use Rattle.object_store.specs.Store.{StoreFields, fields_of}
-use Rattle.object_store.specs.Versions.{inode_in}
+use Rattle.version_store.specs.Store.{StoreFields, fields_of}
+use Rattle.version_store.specs.Versions.{inode_in}
 use Rattle.s4_model.specs.Effect.{object_of as object_of_change}
-use Rattle.object_store.specs.Costs.{subject_inode}
-use Rattle.object_store.specs.Taking.{Takes}
+use Rattle.version_store.specs.Costs.{subject_inode}
+use Rattle.version_store.specs.Taking.{Takes}
 use Rattle.drive.specs.Fields.{DriveFields, state_in, store_of}
 use Rattle.drive.specs.Answering.{size_by}
 use Rattle.drive.proofs.Judging.{size_asked, subject_is, can_take, admin_is_later}

@@ -1,7 +1,7 @@
 use Rattle.std.proofs.Common.{◌≡◌, ap, ◌∙◌}
 use Rattle.segment_table.specs.Table.{Table}
 use Rattle.segment_table.specs.Room.{log_of}
-use Rattle.object_store.specs.Store.{StoreOf, fields_of}
+use Rattle.version_store.specs.Store.{StoreOf, fields_of}
 use Rattle.drive.specs.Fields.{SessionFields}
 use Rattle.drive.proofs.Served.{Sees, served_read, served_change, served_refusal}
 use Rattle.drive.proofs.drive.Drive.request.Goals as goal

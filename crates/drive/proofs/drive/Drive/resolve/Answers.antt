@@ -5,7 +5,7 @@ use Rattle.s4_types.specs.declared.refusals.Refusal.{Refusal}
 use Rattle.s4_types.specs.declared.requests.Request.TheVariants.{Read}
 use Rattle.segment_table.specs.Table.{Table}
 use Rattle.segment_table.specs.Room.{log_of}
-use Rattle.object_store.specs.Store.{StoreOf, fields_of}
+use Rattle.version_store.specs.Store.{StoreOf, fields_of}
 use Rattle.time_read.specs.Plans.{PlanFields}
 use Rattle.drive.specs.Fields.{DriveFields}
 use Rattle.drive.specs.Answering.{IsPlanOf, IsPinOf}

@@ -4,7 +4,7 @@ use Rattle.object_map.specs.declared.map.Row.{Row}
 use Rattle.object_map.specs.Rows.{row_of}
 use Rattle.s4_model.specs.State.{state_of}
 use Rattle.segment_table.specs.Room.{log_of}
-use Rattle.object_store.specs.Store.{fields_of}
+use Rattle.version_store.specs.Store.{fields_of}
 use Rattle.drive.proofs.Kept.{kept_alike}
 use Rattle.drive.proofs.drive.Drive.seal.Goals as goal
 

@@ -2,7 +2,7 @@ use Rattle.std.proofs.Common.{◌≡◌, ap, ◌∙◌}
 use Rattle.s4_model.specs.State.{state_of}
 use Rattle.segment_word.specs.AcceptViews.{Ledger, with_moment}
 use Rattle.segment_table.specs.Room.{log_of}
-use Rattle.object_store.specs.Store.{fields_of}
+use Rattle.version_store.specs.Store.{fields_of}
 use Rattle.drive.proofs.Unversioned.{after_moment}
 use Rattle.drive.proofs.drive.Drive.see.Goals as goal
 

@@ -6,7 +6,7 @@ use Rattle.s4_model.specs.State.{State, state_of}
 use Rattle.s4_model.specs.Step.{stamp, accepted_record}
 use Rattle.segment_word.specs.AcceptViews.{Ledger}
 use Rattle.segment_table.specs.Room.{log_of}
-use Rattle.object_store.specs.Store.{fields_of}
+use Rattle.version_store.specs.Store.{fields_of}
 use Rattle.drive.proofs.Parts.{can_count}
 use Rattle.drive.proofs.Unversioned.{window_free, after_hidden}
 use Rattle.drive.proofs.drive.Drive.set_window.Goals as goal

@@ -1,7 +1,0 @@
-use Rattle.std.proofs.Common.{◌≡◌, ◌*◌, ◌≤◌}
-use Rattle.object_store.specs.Costs.{is_past}
-use Rattle.object_store.proofs.Counting.{tally}
-use Rattle.object_store.proofs.costs.blocks_past.Given as goal
-
-abbrev pub invariant-loop-index : goal.invariant-loop-index
-invariant-loop-index l = record { counted : l.count ≡ tally (is_past l.inode l.size) 0 l.index; from : l.size ≤ 512 * l.index }

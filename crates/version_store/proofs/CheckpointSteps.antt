@@ -1,0 +1,300 @@
+-- What a checkpoint that is written leaves of a store.
+use Rattle.std.proofs.Common.{◌≡◌, ℕ, suc, ◌+◌, ◌*◌, ◌-◌, ◌^◌, ◌<◌, ◌≤◌, ◌==◌, ◌&&◌, ◌||◌, leb, ltb, true, false, List, [], ◌∷◌, length, drop, slice_index_or, Option, Some, None, IsSome, IfSome, MatchOption, is_some, refl, sym, ap, subst, ◌∙◌, inl, inr, arith}
+use Rattle.std.specs.Prelude.{is_none}
+use Rattle.std.proofs.lemmas.Bool.{cases_Bool, and_from, and_parts, and_right, or_left, or_right, eqb-true, ltb-true, ltb-false, leb-true, le-leb, false≢true}
+use Rattle.s4_types.specs.Pointer.{Place}
+use Rattle.blocks.specs.Log.{Log, Stored, same_kind}
+use Rattle.blocks.specs.declared.kinds.BlockKind.TheVariants.{Journal, Checkpoint, Data}
+use Rattle.codec.specs.Checkpoint.{holes_past, checkpoint_rules}
+use Rattle.codec.specs.Entry.{EntryFields}
+use Rattle.codec.specs.declared.inodes.Inode.{Inode}
+use Rattle.inode_links.specs.Runs.{AllBy, ascend_from, last_moment}
+use Rattle.inode_links.specs.Groups.{grouped}
+use Rattle.checkpoint.specs.Held.{checkpoint_held}
+use Rattle.inode_changes.specs.Contents.{contents_of, meaning}
+use Rattle.inode_changes.specs.Tidiness.{Tidy, PointersHeld}
+use Rattle.inode_changes.specs.Laws.{OnlyItsBlocksMatter}
+use Rattle.object_map.specs.declared.map.Row.{Row}
+use Rattle.object_map.specs.Rows.{row_of, with_row}
+use Rattle.time_read.specs.Rows.{IsRow, entries_of, inode_of}
+use Rattle.row_changes.specs.Recent.{IsBy}
+use Rattle.row_changes.specs.Moved.{OnlyCheckpointChanged, IsMoved}
+use Rattle.version_store.specs.Store.{StoreFields, IsStore, IsObject, DataIsNamed}
+use Rattle.version_store.specs.Versions.{Stays, inode_by, inode_in, version_by, version_in}
+use Rattle.version_store.specs.Checkpointing.{last_entry, is_behind, IsCheckpointed}
+use Rattle.version_store.specs.CheckpointSteps.{CanCheckpoint, Checkpointed}
+use Rattle.version_store.proofs.Lower.{RowStays, RowInodeStays, IsByStays, IsByLater, LastInodeStays}
+use Rattle.version_store.proofs.Frames.{DataStays, data_agree, data_pointers, stays_object, inode_in_stays, version_in_stays}
+use Rattle.version_store.proofs.Naming.{points_on, stays_pointing}
+use Rattle.version_store.proofs.Steps.{row_here, row_beside, row_cases, none_cases, stamped_row, stamped_inode, taken_places}
+
+-- what the laws below say
+abbrev pub GroupsAscend : Type 0
+GroupsAscend = (entries : List EntryFields) → grouped entries ≡ true → ascend_from 0 entries ≡ true
+
+abbrev pub RowsKeepTheMaking : Type 0
+RowsKeepTheMaking = (held : Place → Option Stored) (o : ℕ) (row : Row) (t : ℕ) → IsRow held o row → (inode_of held o row t).created ≡ row.created
+
+-- ---- the last moment of a journal
+
+last_least : (low : ℕ) (entries : List EntryFields) → ascend_from low entries ≡ true → low ≤ last_moment low entries
+last_least low [] ascend = omega arith
+last_least low (e ∷ entries) ascend =
+    let parts = and_parts (leb low e.moment) (ascend_from e.moment entries) ascend in
+    let first : low ≤ e.moment = leb-true low e.moment parts.0 in
+    let rest : e.moment ≤ last_moment e.moment entries = last_least e.moment entries parts.1 in
+    omega (arith, first, rest)
+
+all_by_last : (low t : ℕ) (entries : List EntryFields) → ascend_from low entries ≡ true → last_moment low entries ≤ t → AllBy t entries
+all_by_last low t [] ascend le = tt
+all_by_last low t (e ∷ entries) ascend le =
+    let parts = and_parts (leb low e.moment) (ascend_from e.moment entries) ascend in
+    let least : e.moment ≤ last_moment e.moment entries = last_least e.moment entries parts.1 in
+    (le-leb e.moment t (omega (arith, least, le)), all_by_last e.moment t entries parts.1 le)
+
+last_by : (given t : ℕ) (entries : List EntryFields) → given ≤ t → AllBy t entries → last_moment given entries ≤ t
+last_by given t [] le by = le
+last_by given t (e ∷ entries) le by = last_by e.moment t entries (leb-true e.moment t by.0) by.1
+
+-- a checkpoint that isn't older than the last entry isn't older than any
+covered : GroupsAscend → (held : Place → Option Stored) (o : ℕ) (row : Row) → IsRow held o row → is_behind held o row ≡ false → AllBy row.checkpoint_moment (entries_of held o row)
+covered ascend held o row stands behind =
+    all_by_last 0 row.checkpoint_moment (entries_of held o row) (ascend (entries_of held o row) stands.groups) (ltb-false row.checkpoint_moment (last_entry held o row) behind)
+
+-- ---- what a checkpoint asks
+
+first_hole : (size : ℕ) (p : Option Place) → (size ≤ 0 → p ≡ None) → (ltb 0 size || is_none p) ≡ true
+first_hole size p none = elim (cases_Bool (ltb 0 size)) [
+  | inl some ↦ or_left (ltb 0 size) (is_none p) some
+  | inr empty ↦ or_right (ltb 0 size) (is_none p) (ap (λ (slot : Option Place). is_none slot) (none (ltb-false 0 size empty)))
+]
+
+holes_all : (size : ℕ) (pointers : List (Option Place)) → ((k : ℕ) → size ≤ 512 * k → slice_index_or pointers k None ≡ None) → holes_past size pointers ≡ true
+unfolding holes_past
+holes_all size [] holes = refl
+holes_all size (p ∷ pointers) holes =
+    and_from (ltb 0 size || is_none p) (holes_past (size - 512) pointers)
+    (first_hole size p (λ le. holes 0 (omega (arith, le))))
+    (holes_all (size - 512) pointers (λ k le. holes (suc k) (omega (arith, le))))
+
+keeps_rules : (o m : ℕ) (i : Inode) → 1 ≤ o → 1 ≤ m → 1 ≤ i.created → i.size ≤ 24576 → holes_past i.size i.pointers ≡ true → checkpoint_rules (record { object = o; moment = m; inode = i }) ≡ true
+unfolding checkpoint_rules
+keeps_rules o m i object moment created size holes =
+    and_from (leb 1 o) (leb 1 m && (leb 1 i.created && (leb i.size 24576 && holes_past i.size i.pointers))) (le-leb 1 o object)
+    (and_from (leb 1 m) (leb 1 i.created && (leb i.size 24576 && holes_past i.size i.pointers)) (le-leb 1 m moment)
+    (and_from (leb 1 i.created) (leb i.size 24576 && holes_past i.size i.pointers) (le-leb 1 i.created created)
+    (and_from (leb i.size 24576) (holes_past i.size i.pointers) (le-leb i.size 24576 size) holes)))
+
+-- what is known where a checkpoint can be written
+pub record Known (s : StoreFields) (o : ℕ) (row : Row) (i : Inode) (m : ℕ) : Type 0 where
+  pub stands : IsRow s.log.held o row
+  pub by : IsBy s.log.held o row m
+  pub inode : i ≡ inode_of s.log.held o row m
+  pub rules : checkpoint_rules (record { object = o; moment = m; inode = i }) ≡ true
+  pub upto : m ≤ s.latest
+  pub stamp : row.stamp + 1 < 2 ^ 64
+  pub ahead : 1 ≤ length s.log.ahead
+
+pub known : GroupsAscend → RowsKeepTheMaking → (s : StoreFields) (o : ℕ) (row : Row) (i : Inode) (m : ℕ) → CanCheckpoint s o row i m → Known s o row i m
+known ascend making s o row i m can =
+    let held = s.log.held in
+    let object = can.store.objects o row can.there in
+    let made = can.store.made o row can.there in
+    let bound = can.store.stamps o row can.there in
+    let free = can.room in
+    let is = can.moment in
+    let behind : row.checkpoint_moment < last_entry held o row = ltb-true row.checkpoint_moment (last_entry held o row) can.behind in
+    let entries : AllBy m (entries_of held o row) = all_by_last 0 m (entries_of held o row) (ascend (entries_of held o row) object.stands.groups) (omega (arith, is)) in
+    let upto : last_entry held o row ≤ s.latest = last_by 0 s.latest (entries_of held o row) (omega arith) object.by.entries in
+    let tidy = object.tidy m in
+    let created : (inode_of held o row m).created ≡ row.created = making held o row m object.stands in
+    let rules = keeps_rules o m (inode_of held o row m) object.stands.object (omega (arith, is, behind)) (omega (arith, created, made)) tidy.size
+    (holes_all (inode_of held o row m).size (inode_of held o row m).pointers tidy.holes) in
+    record {
+      stands = object.stands;
+      by = record { entries = entries; checkpoint = omega (arith, is, behind) };
+      inode = can.inode;
+      rules = subst (λ (k : Inode). checkpoint_rules (record { object = o; moment = m; inode = k }) ≡ true) (sym can.inode) rules;
+      upto = omega (arith, is, upto);
+      stamp = omega (arith, bound);
+      ahead = omega (arith, free);
+    }
+
+-- ---- what a checkpoint leaves
+
+-- what was recorded: the object's next row stands, all its inodes are as they were, and its checkpoint alone was changed
+pub record Rewrites (s : StoreFields) (log : Log) (o : ℕ) (row next : Row) (m : ℕ) : Type 0 where
+  pub stands : IsRow log.held o next
+  pub by : IsBy log.held o next m
+  pub inode : (t : ℕ) → inode_of log.held o next t ≡ inode_of s.log.held o row t
+  pub fields : next ≡ record row { checkpoint = next.checkpoint; checkpoint_moment = m }
+  pub moved : IsMoved s.log.held row.checkpoint next.checkpoint log.held
+  pub some : IsSome next.checkpoint
+  pub others : OnlyCheckpointChanged o s.log.held log.held
+  pub ahead : log.ahead ≡ drop 1 s.log.ahead
+
+-- the store with other rows and another log
+abbrev pub next_store : StoreFields → List (ℕ × Row) → Log → StoreFields
+next_store s rows log = record { rows = rows; log = log; latest = s.latest }
+
+-- the rows with the next one, changed once more
+abbrev pub IsPut : StoreFields → List (ℕ × Row) → ℕ → Row → Row → Type 0
+IsPut s rows o row next = (q : ℕ) → row_of rows q ≡ with_row (row_of s.rows) o (record next { stamp = row.stamp + 1 }) q
+
+checkpoint_stays : (o q : ℕ) (held later : Place → Option Stored) → OnlyCheckpointChanged o held later → (o == q) ≡ false → Stays q held later
+checkpoint_stays o q held later only other = record {
+  journal = only Journal q refl;
+  checkpoints = only Checkpoint q other;
+  kept = λ p there. ap (λ (view : Place → Option (List ℕ)). view p) (only Data q refl);
+}
+
+checkpoint_data : (o : ℕ) (held later : Place → Option Stored) → OnlyCheckpointChanged o held later → DataStays o held later
+checkpoint_data o held later only p there = ap (λ (view : Place → Option (List ℕ)). view p) (only Data o refl)
+
+rewritten_object : IsByLater → OnlyItsBlocksMatter → (s : StoreFields) (log : Log) (o : ℕ) (row next : Row) (m n : ℕ) → Rewrites s log o row next m → m ≤ s.latest → IsObject s.log.held o row s.latest → IsObject log.held o (record next { stamp = n }) s.latest
+rewritten_object later_by matter s log o row next m n writes upto object =
+    let stays = checkpoint_data o s.log.held log.held writes.others in
+    let by = later_by log.held o next m s.latest upto writes.by in
+    let is : (t : ℕ) → inode_of log.held o (record next { stamp = n }) t ≡ inode_of s.log.held o row t = λ t. stamped_inode log.held o next n t ∙ writes.inode t in
+    record {
+      stands = stamped_row log.held o next n writes.stands;
+      by = record { entries = by.entries; checkpoint = by.checkpoint };
+      tidy = λ t. subst (Tidy (contents_of log.held)) (sym (is t))
+          ((matter (contents_of s.log.held) (contents_of log.held) (inode_of s.log.held o row t) (data_agree o s.log.held log.held (inode_of s.log.held o row t) stays (object.pointers t))).1 (object.tidy t));
+      pointers = λ t. subst (PointersHeld log.held o) (sym (is t)) (data_pointers o s.log.held log.held (inode_of s.log.held o row t) stays (object.pointers t));
+    }
+
+-- the data of the object is named as before, and that of each other
+rewritten_here : (s : StoreFields) (log : Log) (o : ℕ) (row next : Row) (m n : ℕ) → Rewrites s log o row next m → DataIsNamed s.log.held o row → DataIsNamed log.held o (record next { stamp = n })
+rewritten_here s log o row next m n writes named p held =
+    points_on s.log.held log.held o row (record next { stamp = n }) p (λ t. stamped_inode log.held o next n t ∙ writes.inode t)
+    (named p (subst (λ (view : Place → Option (List ℕ)). IsSome (view p)) (writes.others Data o refl) held))
+
+rewritten_beside : RowInodeStays → (s : StoreFields) (later : Place → Option Stored) (o q : ℕ) (r : Row) → OnlyCheckpointChanged o s.log.held later → (o == q) ≡ false → DataIsNamed s.log.held q r → DataIsNamed later q r
+rewritten_beside same s later o q r only other named p held =
+    stays_pointing same q s.log.held later r p (checkpoint_stays o q s.log.held later only other)
+    (named p (subst (λ (view : Place → Option (List ℕ)). IsSome (view p)) (only Data q refl) held))
+
+rewritten_store : RowStays → RowInodeStays → IsByStays → IsByLater → OnlyItsBlocksMatter → (s : StoreFields) (rows : List (ℕ × Row)) (log : Log) (o : ℕ) (row next : Row) (i : Inode) (m : ℕ)
+    → CanCheckpoint s o row i m → Known s o row i m → Rewrites s log o row next m → IsPut s rows o row next → IsStore (next_store s rows log)
+rewritten_store stands same by later_by matter s rows log o row next i m can know writes put =
+    let fewer : length log.ahead + 1 ≡ length s.log.ahead = taken_places s.log.ahead log.ahead 1 writes.ahead know.ahead in
+    let created : next.created ≡ row.created = ap (λ (r : Row). r.created) writes.fields in
+    record {
+      objects = row_cases (row_of s.rows) (row_of rows) o (record next { stamp = row.stamp + 1 }) put (λ q r. IsObject log.held q r s.latest)
+          (rewritten_object later_by matter s log o row next m (row.stamp + 1) writes know.upto (can.store.objects o row can.there))
+          (λ q r other e. stays_object stands same by matter q s.log.held log.held r s.latest (checkpoint_stays o q s.log.held log.held writes.others other) (can.store.objects q r e));
+      made = row_cases (row_of s.rows) (row_of rows) o (record next { stamp = row.stamp + 1 }) put (λ q r. 1 ≤ r.created)
+          (let least = can.store.made o row can.there in omega (arith, least, created))
+          (λ q r other e. can.store.made q r e);
+      named = row_cases (row_of s.rows) (row_of rows) o (record next { stamp = row.stamp + 1 }) put (λ q r. DataIsNamed log.held q r)
+          (rewritten_here s log o row next m (row.stamp + 1) writes (can.store.named o row can.there))
+          (λ q r other e. rewritten_beside same s log.held o q r writes.others other (can.store.named q r e));
+      nothing = λ q none kind p.
+          let gone = none_cases (row_of s.rows) (row_of rows) o (record next { stamp = row.stamp + 1 }) put q none in
+          ap (λ (view : Place → Option (List ℕ)). view p) (writes.others kind q (and_right (same_kind Checkpoint kind) (o == q) gone.0)) ∙ can.store.nothing q gone.1 kind p;
+      stamps = row_cases (row_of s.rows) (row_of rows) o (record next { stamp = row.stamp + 1 }) put (λ q r. r.stamp + length log.ahead ≤ 15360)
+          (let bound = can.store.stamps o row can.there in omega (arith, bound, fewer))
+          (λ q r other e. let bound = can.store.stamps q r e in omega (arith, bound, fewer));
+      few = let bound = can.store.few in omega (arith, bound, fewer);
+    }
+
+rewritten_inodes : RowInodeStays → (s : StoreFields) (rows : List (ℕ × Row)) (log : Log) (o : ℕ) (row next : Row) (m : ℕ) → row_of s.rows o ≡ Some row → Rewrites s log o row next m → IsPut s rows o row next
+    → (q t : ℕ) → inode_in (next_store s rows log) q t ≡ inode_in s q t
+rewritten_inodes same s rows log o row next m there writes put q t = elim (cases_Bool (o == q)) [
+  | inl is ↦
+      let here : o ≡ q = eqb-true o q is in
+      let found : row_of rows o ≡ Some (record next { stamp = row.stamp + 1 }) = put o ∙ row_here (row_of s.rows) o (record next { stamp = row.stamp + 1 }) in
+      subst (λ (k : ℕ). inode_in (next_store s rows log) k t ≡ inode_in s k t) here
+      (ap (inode_by log.held o t) found
+      ∙ ap (λ (i : Inode). Some i) (stamped_inode log.held o next (row.stamp + 1) t ∙ writes.inode t)
+      ∙ sym (ap (inode_by s.log.held o t) there))
+  | inr other ↦ inode_in_stays same s (next_store s rows log) q t (put q ∙ row_beside (row_of s.rows) o q (record next { stamp = row.stamp + 1 }) other) (checkpoint_stays o q s.log.held log.held writes.others other)
+]
+
+rewritten_versions : RowInodeStays → OnlyItsBlocksMatter → (s : StoreFields) (rows : List (ℕ × Row)) (log : Log) (o : ℕ) (row next : Row) (m : ℕ) → IsStore s → row_of s.rows o ≡ Some row → Rewrites s log o row next m → IsPut s rows o row next
+    → (q t : ℕ) → version_in (next_store s rows log) q t ≡ version_in s q t
+rewritten_versions same matter s rows log o row next m store there writes put q t = elim (cases_Bool (o == q)) [
+  | inl is ↦
+      let here : o ≡ q = eqb-true o q is in
+      let found : row_of rows o ≡ Some (record next { stamp = row.stamp + 1 }) = put o ∙ row_here (row_of s.rows) o (record next { stamp = row.stamp + 1 }) in
+      let i : Inode = inode_of s.log.held o row t in
+      subst (λ (k : ℕ). version_in (next_store s rows log) k t ≡ version_in s k t) here
+      (ap (λ (r : Option Row). version_by log.held (inode_by log.held o t r)) found
+      ∙ ap (meaning (contents_of log.held)) (stamped_inode log.held o next (row.stamp + 1) t ∙ writes.inode t)
+      ∙ (matter (contents_of s.log.held) (contents_of log.held) i (data_agree o s.log.held log.held i (checkpoint_data o s.log.held log.held writes.others) ((store.objects o row there).pointers t))).0
+      ∙ sym (ap (λ (r : Option Row). version_by s.log.held (inode_by s.log.held o t r)) there))
+  | inr other ↦ version_in_stays same matter s (next_store s rows log) q t store (put q ∙ row_beside (row_of s.rows) o q (record next { stamp = row.stamp + 1 }) other) (checkpoint_stays o q s.log.held log.held writes.others other)
+]
+
+rewritten_rows : (s : StoreFields) (rows : List (ℕ × Row)) (o : ℕ) (row next : Row) → row_of s.rows o ≡ Some row → IsPut s rows o row next → (q : ℕ) → is_some (row_of rows q) ≡ is_some (row_of s.rows q)
+rewritten_rows s rows o row next there put q = elim (cases_Bool (o == q)) [
+  | inl is ↦
+      let here : o ≡ q = eqb-true o q is in
+      subst (λ (k : ℕ). is_some (row_of rows k) ≡ is_some (row_of s.rows k)) here
+      (ap (λ (r : Option Row). is_some r) (put o ∙ row_here (row_of s.rows) o (record next { stamp = row.stamp + 1 })) ∙ sym (ap (λ (r : Option Row). is_some r) there))
+  | inr other ↦ ap (λ (r : Option Row). is_some r) (put q ∙ row_beside (row_of s.rows) o q (record next { stamp = row.stamp + 1 }) other)
+]
+
+some_place : (c : Option Place) → IsSome c → (p : Place) × (c ≡ Some p)
+some_place None some = absurd (false≢true some)
+some_place (Some p) some = (p, refl)
+
+-- the checkpoint that stands then is the present inode
+rewritten_told : LastInodeStays → (s : StoreFields) (log : Log) (o : ℕ) (row next : Row) (i : Inode) (m : ℕ) (p : Place) → CanCheckpoint s o row i m → Known s o row i m → Rewrites s log o row next m → next.checkpoint ≡ Some p
+    → checkpoint_held log.held o p ≡ Some (record { object = o; moment = last_entry s.log.held o row; inode = inode_of s.log.held o row s.latest })
+rewritten_told last s log o row next i m p can know writes at =
+    let told = subst (λ (c : Option Place). MatchOption c (next.checkpoint_moment ≡ 0) (λ q. checkpoint_held log.held o q ≡ Some (record { object = o; moment = next.checkpoint_moment; inode = inode_of log.held o next next.checkpoint_moment }))) at writes.stands.checkpoint in
+    let moment : next.checkpoint_moment ≡ m = ap (λ (r : Row). r.checkpoint_moment) writes.fields in
+    told
+    ∙ ap (λ (k : ℕ). Some (record { object = o; moment = k; inode = inode_of log.held o next k })) moment
+    ∙ ap (λ (j : Inode). Some (record { object = o; moment = m; inode = j })) (writes.inode m ∙ sym (last s.log.held o row m s.latest know.by know.upto))
+    ∙ ap (λ (k : ℕ). Some (record { object = o; moment = k; inode = inode_of s.log.held o row s.latest })) can.moment
+
+rewritten_made : LastInodeStays → (s : StoreFields) (rows : List (ℕ × Row)) (log : Log) (o : ℕ) (row next : Row) (i : Inode) (m : ℕ) → CanCheckpoint s o row i m → Known s o row i m → Rewrites s log o row next m → IsPut s rows o row next
+    → IsCheckpointed s o row (next_store s rows log)
+rewritten_made last s rows log o row next i m can know writes put =
+    let (p, at) = some_place next.checkpoint writes.some in
+    let is : record next { stamp = row.stamp + 1 } ≡ record row { checkpoint = Some p; checkpoint_moment = last_entry s.log.held o row; stamp = row.stamp + 1 } =
+    ap (λ (r : Row). record r { stamp = row.stamp + 1 }) writes.fields
+    ∙ ap (λ (c : Option Place). record row { checkpoint = c; checkpoint_moment = m; stamp = row.stamp + 1 }) at
+    ∙ ap (λ (k : ℕ). record row { checkpoint = Some p; checkpoint_moment = k; stamp = row.stamp + 1 }) can.moment in
+    record {
+      place = p;
+      put = λ q. put q ∙ ap (λ (r : Row). with_row (row_of s.rows) o r q) is;
+      written = rewritten_told last s log o row next i m p can know writes at;
+      moved = subst (λ (c : Option Place). IsMoved s.log.held row.checkpoint c log.held) at writes.moved;
+      others = writes.others;
+      ahead = writes.ahead;
+    }
+
+rewritten_current : (s : StoreFields) (rows : List (ℕ × Row)) (log : Log) (o : ℕ) (row next : Row) (m : ℕ) → Rewrites s log o row next m → IsPut s rows o row next
+    → IfSome (row_of rows o) (λ r. AllBy r.checkpoint_moment (entries_of log.held o r))
+rewritten_current s rows log o row next m writes put =
+    let found : row_of rows o ≡ Some (record next { stamp = row.stamp + 1 }) = put o ∙ row_here (row_of s.rows) o (record next { stamp = row.stamp + 1 }) in
+    let moment : next.checkpoint_moment ≡ m = ap (λ (r : Row). r.checkpoint_moment) writes.fields in
+    let by : AllBy next.checkpoint_moment (entries_of log.held o next) = subst (λ (k : ℕ). AllBy k (entries_of log.held o next)) (sym moment) writes.by.entries in
+    subst (λ (r : Option Row). IfSome r (λ x. AllBy x.checkpoint_moment (entries_of log.held o x))) (sym found) by
+
+pub rewritten : RowStays → RowInodeStays → IsByStays → IsByLater → LastInodeStays → OnlyItsBlocksMatter → (s : StoreFields) (rows : List (ℕ × Row)) (log : Log) (o : ℕ) (row next : Row) (i : Inode) (m : ℕ)
+    → CanCheckpoint s o row i m → Known s o row i m → Rewrites s log o row next m → IsPut s rows o row next → Checkpointed s o row (next_store s rows log)
+rewritten stands same by later_by last matter s rows log o row next i m can know writes put = record {
+  stands = record {
+    store = rewritten_store stands same by later_by matter s rows log o row next i m can know writes put;
+    versions = rewritten_versions same matter s rows log o row next m can.store can.there writes put;
+    inodes = rewritten_inodes same s rows log o row next m can.there writes put;
+    latest = refl;
+    rows = rewritten_rows s rows o row next can.there put;
+  };
+  made = rewritten_made last s rows log o row next i m can know writes put;
+  current = rewritten_current s rows log o row next m writes put;
+}
+
+-- ---- where nothing has to be written
+
+pub same_current : GroupsAscend → (s later : StoreFields) (o : ℕ) (row : Row) → later ≡ s → IsStore s → row_of s.rows o ≡ Some row → is_behind s.log.held o row ≡ false
+    → IfSome (row_of later.rows o) (λ r. AllBy r.checkpoint_moment (entries_of later.log.held o r))
+same_current ascend s later o row same store there behind =
+    subst (λ (v : StoreFields). IfSome (row_of v.rows o) (λ r. AllBy r.checkpoint_moment (entries_of v.log.held o r))) (sym same)
+    (subst (λ (found : Option Row). IfSome found (λ r. AllBy r.checkpoint_moment (entries_of s.log.held o r))) (sym there)
+    (covered ascend s.log.held o row (store.objects o row there).stands behind))

@@ -1,0 +1,80 @@
+-- Sizes and counts as the code takes them.
+use Rattle.std.proofs.Common.{◌≡◌, ℕ, ◌+◌, ◌-◌, ◌*◌, ◌/◌, ◌%◌, ◌<◌, ◌≤◌, ◌==◌, ◌&&◌, ltb, leb, min, true, false, cond, List, [], ◌∷◌, ◌++◌, length, sum, get_or, Option, Some, None, sym, ap, ◌∙◌, arith}
+use Rattle.std.specs.Prelude.{is_some}
+use Rattle.std.specs.Cmp.Lexicographic.{pointwise}
+use Rattle.std.proofs.lemmas.Bool.{cond_both, and_left, lt-leb, le-leb}
+use Rattle.std.proofs.lemmas.List.Sums.{sum_by-append, sum_by-cons}
+use Rattle.std.proofs.lemmas.List.{get_or_default}
+use lib.Pointwise.{bytes_decides}
+use Rattle.s4_types.specs.Pointer.{Place}
+use Rattle.codec.specs.Checkpoint.{pointer_at}
+use Rattle.codec.specs.Entry.{pair_length}
+use Rattle.codec.specs.declared.inodes.Inode.{Inode}
+use Rattle.inode_links.specs.Between.{pair_between}
+use Rattle.inode_links.specs.Sizes.{later_size, entry_sizes}
+use Rattle.version_store.specs.Costs.{is_past, past_count}
+use Rattle.version_store.proofs.Counting.{tally, tally-none, tally-more}
+
+-- ---- the bytes of entries
+
+sum-cons : (n : ℕ) (ns : List ℕ) → sum (n ∷ ns) ≡ n + sum ns
+sum-cons n ns = sum_by-cons (λ k. k) n ns
+
+later_most : (count : ℕ) → sum (later_size count) ≤ 34 + 17 * count
+later_most count =
+    let one : sum ((34 + 17 * count) ∷ []) ≡ 34 + 17 * count + 0 = sum-cons (34 + 17 * count) [] in
+    cond_both (ltb 0 count) ((34 + 17 * count) ∷ []) [] (λ (sizes : List ℕ). sum sizes ≤ 34 + 17 * count) (λ is. omega (arith, one)) (λ none. omega arith)
+
+pub sizes_most : (count pair : ℕ) → count ≤ 48 → pair ≤ 130 → sum (entry_sizes count pair) ≤ 1048
+unfolding entry_sizes
+sizes_most count pair few short =
+    let first : sum (entry_sizes count pair) ≡ (34 + pair + 17 * min 16 count) + sum (later_size (min 16 (count - 16)) ++ later_size (count - 16 - 16)) = sum-cons (34 + pair + 17 * min 16 count) (later_size (min 16 (count - 16)) ++ later_size (count - 16 - 16)) in
+    let joined : sum (later_size (min 16 (count - 16)) ++ later_size (count - 16 - 16)) ≡ sum (later_size (min 16 (count - 16))) + sum (later_size (count - 16 - 16)) = sum_by-append (λ n. n) (later_size (min 16 (count - 16))) (later_size (count - 16 - 16)) in
+    let second = later_most (min 16 (count - 16)) in
+    let third = later_most (count - 16 - 16) in
+    omega (arith, few, short, first, joined, second, third)
+
+-- ---- the bytes of attributes
+
+pub pair_same : (a b : List ℕ) → a ≡ b → pair_length (pair_between a b) ≡ 0
+unfolding pair_length
+pair_same a b e = ap (λ same. pair_length (cond same None (Some (record { before = a; after = b })))) ((bytes_decides a b).1 e)
+
+pub pair_found : (a b : List ℕ) → pointwise ◌==◌ a b ≡ true → pair_length (pair_between a b) ≡ 0
+unfolding pair_length
+pair_found a b e = ap (λ same. pair_length (cond same None (Some (record { before = a; after = b })))) e
+
+pub pair_other : (a b : List ℕ) → pointwise ◌==◌ a b ≡ false → pair_length (pair_between a b) ≡ (1 + length a) + (1 + length b)
+unfolding pair_length
+pair_other a b e = ap (λ same. pair_length (cond same None (Some (record { before = a; after = b })))) e
+
+-- ---- the blocks past a size
+
+pub past_more : (i : Inode) (size n : ℕ) → tally (is_past i size) 0 (n + 1) ≡ tally (is_past i size) 0 n + cond (is_past i size n) 1 0
+past_more i size n = tally-more (is_past i size) 0 n n (omega arith)
+
+pub past_none : (i : Inode) (size n : ℕ) → 512 * n < size + 512 → tally (is_past i size) 0 n ≡ 0
+past_none i size n low = tally-none (is_past i size) 0 n (λ k from below. and_left (leb size (512 * k)) (is_some (pointer_at i k)) (lt-leb size (512 * k) (omega (arith, below, low))))
+
+pub past_start : (i : Inode) (size first : ℕ) → first ≡ size / 512 + min 1 (size % 512) → (0 ≡ tally (is_past i size) 0 first) × (size ≤ 512 * first)
+past_start i size first e = (sym (past_none i size first (omega (arith, e))), omega (arith, e))
+
+-- one block more: it is there, or it is a hole
+past_slot : (i : Inode) (size k : ℕ) (slot : Option Place) → size ≤ 512 * k → k < length i.pointers → is_past i size k ≡ is_some (get_or i.pointers k slot)
+past_slot i size k slot le lt = ap (λ b. b && is_some (pointer_at i k)) (le-leb size (512 * k) le) ∙ ap is_some (get_or_default i.pointers k None slot lt)
+
+pub past_some : (i : Inode) (size k count : ℕ) (slot : Option Place) → size ≤ 512 * k → k < length i.pointers → is_some (get_or i.pointers k slot) ≡ true → count ≡ tally (is_past i size) 0 k → count + 1 ≡ tally (is_past i size) 0 (k + 1)
+past_some i size k count slot le lt some e =
+    let one : ◌≡◌ {A = ℕ} (cond (is_past i size k) 1 0) 1 = ap (λ b. cond b 1 0) (past_slot i size k slot le lt ∙ some) in
+    let more = past_more i size k in
+    omega (arith, one, more, e)
+
+pub past_hole : (i : Inode) (size k count : ℕ) (slot : Option Place) → size ≤ 512 * k → k < length i.pointers → is_some (get_or i.pointers k slot) ≡ false → count ≡ tally (is_past i size) 0 k → count ≡ tally (is_past i size) 0 (k + 1)
+past_hole i size k count slot le lt hole e =
+    let none : ◌≡◌ {A = ℕ} (cond (is_past i size k) 1 0) 0 = ap (λ b. cond b 1 0) (past_slot i size k slot le lt ∙ hole) in
+    let more = past_more i size k in
+    omega (arith, none, more, e)
+
+pub past_all : (i : Inode) (size n : ℕ) → n ≡ 48 → tally (is_past i size) 0 n ≡ past_count i size
+unfolding past_count
+past_all i size n e = ap (tally (is_past i size) 0) e

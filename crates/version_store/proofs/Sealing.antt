@@ -1,0 +1,58 @@
+-- A store whose table has fewer places ahead and holds what it held.
+use Rattle.std.proofs.Common.{◌≡◌, ℕ, ◌+◌, ◌≤◌, List, [], ◌∷◌, ◌++◌, length, Option, None, refl, sym, ap, subst, ◌∙◌, arith, length-append}
+use Rattle.s4_types.specs.Pointer.{Place}
+use Rattle.blocks.specs.Log.{Log, Stored}
+use Rattle.segment_table.specs.Table.{Table}
+use Rattle.segment_table.specs.Room.{is_filling, numbers, places, rest_of, places_ahead, new_places}
+use Rattle.segment_table.specs.Changes.{IsFilling, NoneIsFilling}
+use Rattle.object_map.specs.Rows.{row_of}
+use Rattle.version_store.specs.Store.{StoreFields, IsStore}
+use Rattle.version_store.specs.Versions.{inode_by, inode_in, version_by, version_in}
+
+fewer_by : (filling : List ℕ) (rest : ℕ → List Place) (before after : List Place) → length filling ≤ 1 → (filling ≡ [] → after ≡ before) → ((f : ℕ) → filling ≡ f ∷ [] → rest f ++ after ≡ before) → length after ≤ length before
+fewer_by [] rest before after one idle sealed =
+    let same : length after ≡ length before = ap length (idle refl) in
+    omega (arith, same)
+fewer_by (f ∷ []) rest before after one idle sealed =
+    let same : length (rest f ++ after) ≡ length before = ap length (sealed f refl) in
+    let sum : length (rest f ++ after) ≡ length (rest f) + length after = length-append (rest f) after in
+    omega (arith, same, sum)
+fewer_by (f ∷ g ∷ filling) rest before after one idle sealed = absurd (omega (arith, one))
+
+-- a seal leaves no more places ahead
+pub fewer_ahead : (old new : Table) → length (numbers is_filling 0 old.drive.frames) ≤ 1 → (NoneIsFilling old → new ≡ old) → ((f : ℕ) → IsFilling f old → rest_of old f ++ places_ahead new ≡ places_ahead old)
+    → length (places_ahead new) ≤ length (places_ahead old)
+fewer_ahead old new one idle sealed =
+    fewer_by (numbers is_filling 0 old.drive.frames) (rest_of old) (places_ahead old) (places_ahead new) one (λ none. ap (λ (t : Table). places_ahead t) (idle none)) sealed
+
+-- the store over another log
+abbrev pub over : StoreFields → (Place → Option Stored) → List Place → StoreFields
+over s held ahead = record s { log = record { held = held; ahead = ahead } }
+
+pub shrunk_store : (s : StoreFields) (held : Place → Option Stored) (ahead : List Place) → held ≡ s.log.held → length ahead ≤ length s.log.ahead → IsStore s → IsStore (over s held ahead)
+shrunk_store s held ahead same fewer store =
+    subst (λ (h : Place → Option Stored). IsStore (over s h ahead)) (sym same) (record {
+      objects = store.objects;
+      made = store.made;
+      named = store.named;
+      nothing = store.nothing;
+      stamps = λ o row e. let bound = store.stamps o row e in omega (arith, fewer, bound);
+      few = let bound = store.few in omega (arith, fewer, bound);
+    })
+
+pub same_inodes : (s : StoreFields) (held : Place → Option Stored) (ahead : List Place) → held ≡ s.log.held → (o t : ℕ) → inode_in (over s held ahead) o t ≡ inode_in s o t
+same_inodes s held ahead same o t = ap (λ (h : Place → Option Stored). inode_by h o t (row_of s.rows o)) same
+
+pub same_versions : (s : StoreFields) (held : Place → Option Stored) (ahead : List Place) → held ≡ s.log.held → (o t : ℕ) → version_in (over s held ahead) o t ≡ version_in s o t
+same_versions s held ahead same o t = ap (λ (h : Place → Option Stored). version_by h (inode_by h o t (row_of s.rows o))) same
+
+-- ---- a new table, of the tests
+
+new_count : length (new_places 8) ≡ 120
+unfolding places
+new_count = refl
+
+pub few_places : (log : Log) → log ≡ record { held = λ p. None; ahead = new_places 8 } → length log.ahead ≤ 15360
+few_places log is =
+    let count : length log.ahead ≡ 120 = ap (λ (l : Log). length l.ahead) is ∙ new_count in
+    omega (arith, count)

@@ -1,0 +1,331 @@
+-- The steps that a change of an object is made of: its data is appended, its row is added, its journal is written.
+use Rattle.std.proofs.Common.{◌≡◌, ◌⊎◌, ℕ, ◌+◌, ◌-◌, ◌<◌, ◌≤◌, ◌==◌, ◌&&◌, ◌/◌, ◌%◌, leb, Bool, false, cond, List, length, drop, Option, Some, None, IsSome, refl, sym, ap, subst, ◌∙◌, inl, inr, arith}
+use Rattle.std.specs.Prelude.{is_some}
+use Rattle.std.proofs.lemmas.Bool.{cases_Bool, cases_lt, cond-true, cond-false, and_right, eqb-true, eqb-false, eq-eqb, ne_eqb, lt-leb, le-leb, false≢true}
+use Rattle.std.proofs.lemmas.List.{length-drop}
+use Rattle.std.proofs.lemmas.Option.{none-some, same_Some}
+use Rattle.s4_types.specs.Pointer.{Place}
+use Rattle.s4_types.specs.declared.versions.Version.{Version}
+use Rattle.s4_types.specs.declared.versions.Version.TheVariants.{Absent}
+use Rattle.blocks.specs.Log.{Log, Stored, of_kind, same_kind}
+use Rattle.blocks.specs.declared.kinds.BlockKind.TheVariants.{Journal, Checkpoint, Data}
+use Rattle.codec.specs.declared.inodes.Inode.{Inode}
+use Rattle.codec.specs.Checkpoint.{pointer_at}
+use Rattle.inode_links.specs.Runs.{blank}
+use Rattle.journal_chain.specs.Chain.{OnlyJournalChanged}
+use Rattle.inode_changes.specs.Contents.{byte_in, byte_of, contents_of, meaning}
+use Rattle.inode_changes.specs.Tidiness.{Tidy, PointersHeld}
+use Rattle.inode_changes.specs.Growth.{GrowsBy}
+use Rattle.inode_changes.specs.Laws.{OnlyItsBlocksMatter}
+use Rattle.object_map.specs.declared.map.Row.{Row}
+use Rattle.object_map.specs.Rows.{row_of, with_row, fresh_row}
+use Rattle.time_read.specs.Rows.{IsRow, inode_of}
+use Rattle.version_store.specs.Store.{StoreFields, IsStore, IsObject, HasNothing, PointsTo, DataIsNamed}
+use Rattle.row_changes.specs.Recent.{IsBy}
+use Rattle.version_store.specs.Versions.{inode_by, version_by, version_in}
+use Rattle.version_store.specs.Taking.{RowChanges}
+use Rattle.version_store.specs.Turning.{LeadsTo, IsOpenFor, Turns}
+use Rattle.version_store.proofs.Lower.{RowStays, RowInodeStays, IsByStays, IsByLater, LastInodeStays, FreshRowStands, FreshRowIsBy, FreshInode, BlankCount, BlankHoles}
+use Rattle.version_store.proofs.Frames.{DataStays, data_agree, data_pointers, stays_object, growth_stays, journal_stays, version_by_stays}
+use Rattle.version_store.proofs.Naming.{NamesNew, stays_pointing}
+
+-- ---- rows
+
+pub row_here : (rows : ℕ → Option Row) (o : ℕ) (row : Row) → with_row rows o row o ≡ Some row
+row_here rows o row = cond-true (o == o) (Some row) (rows o) (eq-eqb o o refl)
+
+pub row_beside : (rows : ℕ → Option Row) (o q : ℕ) (row : Row) → (o == q) ≡ false → with_row rows o row q ≡ rows q
+row_beside rows o q row other = cond-false (o == q) (Some row) (rows q) other
+
+-- an object with a row isn't one without
+pub other_object : (rows : ℕ → Option Row) (o q : ℕ) → IsSome (rows o) → rows q ≡ None → (o == q) ≡ false
+other_object rows o q there none = ne_eqb o q (λ (e : o ≡ q). false≢true (sym (ap is_some (ap rows e ∙ none)) ∙ there))
+
+-- ---- data is appended
+
+fewer : (before after : List Place) (n : ℕ) → after ≡ drop n before → length after ≤ length before
+fewer before after n e =
+    let count : length after ≡ length before - n = ap length e ∙ length-drop n before in
+    omega (arith, count)
+
+-- each data block that is held is named as before, or the next inode leads to it
+grown_named : RowInodeStays → (s : StoreFields) (log : Log) (object : ℕ) (blocks : List (List ℕ)) (j : Inode) → GrowsBy object blocks s.log log → NamesNew object s.log j log → IsStore s
+    → (o : ℕ) (row : Row) → row_of s.rows o ≡ Some row → (p : Place) → IsSome (of_kind Data o log.held p) → PointsTo log.held o row p ⊎ ((object ≡ o) × LeadsTo j p)
+grown_named same s log object blocks j grows new store o row e p there =
+    let before : IsSome (of_kind Data o s.log.held p) → PointsTo log.held o row p = λ was. stays_pointing same o s.log.held log.held row p (growth_stays object blocks s.log log o grows) (store.named o row e p was) in
+    elim (cases_Bool (object == o)) [
+      | inl is ↦
+          let here : object ≡ o = eqb-true object o is in
+          let cases : IsSome (of_kind Data o s.log.held p) ⊎ LeadsTo j p = subst (λ (n : ℕ). IsSome (of_kind Data n log.held p) → IsSome (of_kind Data n s.log.held p) ⊎ LeadsTo j p) here (new p) there in
+          elim cases [
+            | inl was ↦ inl (before was)
+            | inr leads ↦ inr (here, leads)
+          ]
+      | inr other ↦ inl (before (subst (λ (seen : Option (List ℕ)). IsSome seen) (grows.others Data o p other) there))
+    ]
+
+pub grown_store : RowStays → RowInodeStays → IsByStays → OnlyItsBlocksMatter → (s : StoreFields) (log : Log) (object : ℕ) (blocks : List (List ℕ)) (j : Inode)
+    → GrowsBy object blocks s.log log → NamesNew object s.log j log → IsSome (row_of s.rows object) → IsStore s → IsOpenFor object j (record s { log = log })
+grown_store stands same by matter s log object blocks j grows new there store =
+    let few : length log.ahead ≤ length s.log.ahead = fewer s.log.ahead log.ahead (length blocks) grows.ahead in
+    record {
+      objects = λ o row e. stays_object stands same by matter o s.log.held log.held row s.latest (growth_stays object blocks s.log log o grows) (store.objects o row e);
+      made = store.made;
+      named = grown_named same s log object blocks j grows new store;
+      nothing = λ o none kind p. grows.others kind o p (and_right (same_kind kind Data) (object == o) (other_object (row_of s.rows) object o there none)) ∙ store.nothing o none kind p;
+      stamps = λ o row e. let bound = store.stamps o row e in omega (arith, few, bound);
+      few = let bound = store.few in omega (arith, few, bound);
+    }
+
+pub grown_versions : RowInodeStays → OnlyItsBlocksMatter → (s : StoreFields) (log : Log) (object : ℕ) (blocks : List (List ℕ)) → GrowsBy object blocks s.log log → IsStore s
+    → (o t : ℕ) → version_in (record s { log = log }) o t ≡ version_in s o t
+grown_versions same matter s log object blocks grows store o t =
+    version_by_stays same matter o t s.latest s.log.held log.held (row_of s.rows o) (growth_stays object blocks s.log log o grows) (store.objects o)
+
+-- ---- a row is added
+
+blank_byte : (contents : Place → List ℕ) (m n : ℕ) → BlankHoles → byte_of contents (blank m) n ≡ 0
+unfolding byte_of
+blank_byte contents m n holes = ap (λ (slot : Option Place). byte_in contents slot (n % 512)) (holes m (n / 512))
+
+blank_size : (m : ℕ) → (blank m).size ≡ 0
+unfolding blank
+blank_size m = refl
+
+pub blank_tidy : BlankCount → BlankHoles → (contents : Place → List ℕ) (m : ℕ) → Tidy contents (blank m)
+blank_tidy count holes contents m = record {
+  count = count m;
+  size = let none = blank_size m in omega (arith, none);
+  holes = λ k le. holes m k;
+  zeros = λ n le. blank_byte contents m n holes;
+}
+
+blank_pointers : BlankHoles → (held : Place → Option Stored) (o m : ℕ) → PointersHeld held o (blank m)
+blank_pointers holes held o m k p at = absurd (none-some p (sym (holes m k) ∙ at))
+
+pub blank_means : (contents : Place → List ℕ) (m : ℕ) → meaning contents (blank m) ≡ Absent
+unfolding blank
+blank_means contents m = refl
+
+fresh_object : FreshRowStands → FreshRowIsBy → FreshInode → IsByLater → BlankCount → BlankHoles → (held : Place → Option Stored) (o m latest : ℕ) → 1 ≤ o → HasNothing held o → IsObject held o (fresh_row m) latest
+fresh_object stands by fresh later count holes held o m latest numbered nothing = record {
+  stands = stands held o m numbered (λ p. nothing Journal p) (λ p. nothing Checkpoint p);
+  by = later held o (fresh_row m) 0 latest (omega arith) (by held o m);
+  tidy = λ t. subst (Tidy (contents_of held)) (sym (fresh held o m t)) (blank_tidy count holes (contents_of held) m);
+  pointers = λ t. subst (PointersHeld held o) (sym (fresh held o m t)) (blank_pointers holes held o m);
+}
+
+-- what holds of the row that was put, and of each other row, holds of each
+pub row_cases : (rows after : ℕ → Option Row) (o : ℕ) (row : Row) → ((q : ℕ) → after q ≡ with_row rows o row q) → (P : ℕ → Row → Type 0) → P o row → ((q : ℕ) (r : Row) → (o == q) ≡ false → rows q ≡ Some r → P q r) → (q : ℕ) (r : Row) → after q ≡ Some r → P q r
+row_cases rows after o row put P here others q r e = elim (cases_Bool (o == q)) [
+  | inl is ↦
+      let same : o ≡ q = eqb-true o q is in
+      let found : row ≡ r = same_Some row r (sym (cond-true (o == q) (Some row) (rows q) is) ∙ sym (put q) ∙ e) in
+      subst (λ (n : ℕ). P n r) same (subst (P o) found here)
+  | inr other ↦ others q r other (sym (row_beside rows o q row other) ∙ sym (put q) ∙ e)
+]
+
+pub none_cases : (rows after : ℕ → Option Row) (o : ℕ) (row : Row) → ((q : ℕ) → after q ≡ with_row rows o row q) → (q : ℕ) → after q ≡ None → ((o == q) ≡ false) × (rows q ≡ None)
+none_cases rows after o row put q none = elim (cases_Bool (o == q)) [
+  | inl is ↦ absurd (none-some row (sym none ∙ put q ∙ cond-true (o == q) (Some row) (rows q) is))
+  | inr other ↦ (other, sym (row_beside rows o q row other) ∙ sym (put q) ∙ none)
+]
+
+pub added_store : FreshRowStands → FreshRowIsBy → FreshInode → IsByLater → BlankCount → BlankHoles → (s : StoreFields) (rows : List (ℕ × Row)) (object m : ℕ) (j : Inode)
+    → ((q : ℕ) → row_of rows q ≡ with_row (row_of s.rows) object (fresh_row m) q) → 1 ≤ object → 1 ≤ m → row_of s.rows object ≡ None → IsStore s → IsOpenFor object j (record s { rows = rows })
+added_store stands by fresh later count holes s rows object m j put numbered above none store = record {
+  objects = row_cases (row_of s.rows) (row_of rows) object (fresh_row m) put (λ q r. IsObject s.log.held q r s.latest)
+      (fresh_object stands by fresh later count holes s.log.held object m s.latest numbered (store.nothing object none))
+      (λ q r other e. store.objects q r e);
+  made = row_cases (row_of s.rows) (row_of rows) object (fresh_row m) put (λ q r. 1 ≤ r.created) above (λ q r other e. store.made q r e);
+  named = row_cases (row_of s.rows) (row_of rows) object (fresh_row m) put (λ q r. (p : Place) → IsSome (of_kind Data q s.log.held p) → PointsTo s.log.held q r p ⊎ ((object ≡ q) × LeadsTo j p))
+      (λ p there. absurd (false≢true (sym (ap is_some (store.nothing object none Data p)) ∙ there)))
+      (λ q r other e p there. inl (store.named q r e p there));
+  nothing = λ o gone. store.nothing o (none_cases (row_of s.rows) (row_of rows) object (fresh_row m) put o gone).1;
+  stamps = row_cases (row_of s.rows) (row_of rows) object (fresh_row m) put (λ q r. r.stamp + length s.log.ahead ≤ 15360)
+      (let bound = store.few in omega (arith, bound))
+      (λ q r other e. store.stamps q r e);
+  few = store.few;
+}
+
+pub added_versions : FreshInode → (s : StoreFields) (rows : List (ℕ × Row)) (object m : ℕ) → ((q : ℕ) → row_of rows q ≡ with_row (row_of s.rows) object (fresh_row m) q) → row_of s.rows object ≡ None
+    → (o t : ℕ) → version_in (record s { rows = rows }) o t ≡ version_in s o t
+added_versions fresh s rows object m put none o t =
+    let version : Option Row → Version = λ row. version_by s.log.held (inode_by s.log.held o t row) in
+    elim (cases_Bool (object == o)) [
+      | inl is ↦
+          let same : object ≡ o = eqb-true object o is in
+          ap version (put o ∙ cond-true (object == o) (Some (fresh_row m)) (row_of s.rows o) is)
+          ∙ ap (meaning (contents_of s.log.held)) (fresh s.log.held o m t)
+          ∙ blank_means (contents_of s.log.held) m
+          ∙ sym (ap version (ap (row_of s.rows) (sym same) ∙ none))
+      | inr other ↦ ap version (put o ∙ row_beside (row_of s.rows) object o (fresh_row m) other)
+    ]
+
+-- ---- a journal is written
+
+-- what was recorded: the object's next row stands, its inode is another one from a moment on, and its journal alone was changed
+pub record Records (held later : Place → Option Stored) (o : ℕ) (row next : Row) (i : Inode) (m : ℕ) : Type 0 where
+  pub row_stands : IsRow later o next
+  pub by : IsBy later o next m
+  pub inode : (t : ℕ) → inode_of later o next t ≡ cond (leb m t) i (inode_of held o row t)
+  pub others : OnlyJournalChanged o held later
+
+-- stamps are told of nothing but themselves
+pub stamped_row : (held : Place → Option Stored) (o : ℕ) (row : Row) (n : ℕ) → IsRow held o row → IsRow held o (record row { stamp = n })
+unfolding inode_of
+stamped_row held o row n r = record { object = r.object; chain = r.chain; last = r.last; run = r.run; groups = r.groups; checkpoint = r.checkpoint; only = r.only; created = r.created }
+
+pub stamped_inode : (held : Place → Option Stored) (o : ℕ) (row : Row) (n t : ℕ) → inode_of held o (record row { stamp = n }) t ≡ inode_of held o row t
+unfolding inode_of
+stamped_inode held o row n t = refl
+
+journal_data : (o : ℕ) (held later : Place → Option Stored) → OnlyJournalChanged o held later → DataStays o held later
+journal_data o held later only p there = ap (λ (view : Place → Option (List ℕ)). view p) (only Data o refl)
+
+-- what holds of the next inode and of those before holds of each
+either : (P : Inode → Type 0) (m t : ℕ) (i j : Inode) → P i → P j → P (cond (leb m t) i j)
+either P m t i j p q = elim (cases_Bool (leb m t)) [
+  | inl is ↦ subst P (sym (cond-true (leb m t) i j is)) p
+  | inr less ↦ subst P (sym (cond-false (leb m t) i j less)) q
+]
+
+recorded_object : OnlyItsBlocksMatter → (held later : Place → Option Stored) (o : ℕ) (row next : Row) (i : Inode) (m latest n : ℕ) → Records held later o row next i m → IsObject held o row latest
+    → Tidy (contents_of held) i → PointersHeld held o i → IsObject later o (record next { stamp = n }) m
+recorded_object matter held later o row next i m latest n records object tidy pointers =
+    let stays = journal_data o held later records.others in
+    let tidy_later : (j : Inode) → PointersHeld held o j → Tidy (contents_of held) j → Tidy (contents_of later) j = λ j leads t. (matter (contents_of held) (contents_of later) j (data_agree o held later j stays leads)).1 t in
+    let is : (t : ℕ) → inode_of later o (record next { stamp = n }) t ≡ cond (leb m t) i (inode_of held o row t) = λ t. stamped_inode later o next n t ∙ records.inode t in
+    record {
+      stands = stamped_row later o next n records.row_stands;
+      by = record { entries = records.by.entries; checkpoint = records.by.checkpoint };
+      tidy = λ t. subst (Tidy (contents_of later)) (sym (is t)) (either (Tidy (contents_of later)) m t i (inode_of held o row t) (tidy_later i pointers tidy) (tidy_later (inode_of held o row t) (object.pointers t) (object.tidy t)));
+      pointers = λ t. subst (PointersHeld later o) (sym (is t)) (either (PointersHeld later o) m t i (inode_of held o row t) (data_pointers o held later i stays pointers) (data_pointers o held later (inode_of held o row t) stays (object.pointers t)));
+    }
+
+-- what the object pointed to at some moment it points to at an earlier one than the new inode's
+recorded_points : LastInodeStays → (held later : Place → Option Stored) (o : ℕ) (row next : Row) (i : Inode) (m latest n : ℕ) (p : Place) → Records held later o row next i m → IsBy held o row latest → latest < m → PointsTo held o row p
+    → PointsTo later o (record next { stamp = n }) p
+recorded_points last held later o row next i m latest n p records by before points =
+    let stays : (t : ℕ) → t < m → inode_of later o (record next { stamp = n }) t ≡ inode_of held o row t = λ t less. stamped_inode later o next n t ∙ records.inode t ∙ cond-false (leb m t) i (inode_of held o row t) (lt-leb m t less) in
+    elim (cases_lt points.moment m) [
+      | inl less ↦ record {
+        moment = points.moment;
+        index = points.index;
+        leads = ap (λ (k : Inode). pointer_at k points.index) (stays points.moment less) ∙ points.leads;
+      }
+      | inr past ↦ record {
+        moment = latest;
+        index = points.index;
+        leads = ap (λ (k : Inode). pointer_at k points.index) (stays latest before ∙ sym (last held o row latest points.moment by (omega (arith, past, before)))) ∙ points.leads;
+      }
+    ]
+
+-- so each data block of the object is named
+recorded_here : LastInodeStays → (s : StoreFields) (later : Place → Option Stored) (o : ℕ) (row next : Row) (i : Inode) (m n : ℕ) → Records s.log.held later o row next i m → row_of s.rows o ≡ Some row → s.latest < m → IsOpenFor o i s
+    → DataIsNamed later o (record next { stamp = n })
+recorded_here last s later o row next i m n records there before store p held =
+    let was : IsSome (of_kind Data o s.log.held p) = subst (λ (view : Place → Option (List ℕ)). IsSome (view p)) (records.others Data o refl) held in
+    elim (store.named o row there p was) [
+      | inl points ↦ recorded_points last s.log.held later o row next i m s.latest n p records (store.objects o row there).by before points
+      | inr (is, leads) ↦ record {
+        moment = m;
+        index = leads.0;
+        leads = ap (λ (k : Inode). pointer_at k leads.0) (stamped_inode later o next n m ∙ records.inode m ∙ cond-true (leb m m) i (inode_of s.log.held o row m) (le-leb m m (omega arith))) ∙ leads.1;
+      }
+    ]
+
+-- and each of another object
+recorded_beside : RowInodeStays → (s : StoreFields) (later : Place → Option Stored) (o : ℕ) (i : Inode) → OnlyJournalChanged o s.log.held later → IsOpenFor o i s
+    → (q : ℕ) (r : Row) → (o == q) ≡ false → row_of s.rows q ≡ Some r → DataIsNamed later q r
+recorded_beside same s later o i only store q r other e p held =
+    let was : IsSome (of_kind Data q s.log.held p) = subst (λ (view : Place → Option (List ℕ)). IsSome (view p)) (only Data q refl) held in
+    elim (store.named q r e p was) [
+      | inl points ↦ stays_pointing same q s.log.held later r p (journal_stays o q s.log.held later only other) points
+      | inr (is, leads) ↦ absurd (eqb-false o q other is)
+    ]
+
+by_later : IsByLater → (held : Place → Option Stored) (o : ℕ) (row : Row) (latest m : ℕ) → latest ≤ m → IsObject held o row latest → IsObject held o row m
+by_later later held o row latest m le object = record { stands = object.stands; by = later held o row latest m le object.by; tidy = object.tidy; pointers = object.pointers }
+
+-- blocks that were taken are ahead no longer
+pub taken_places : (before after : List Place) (n : ℕ) → after ≡ drop n before → n ≤ length before → length after + n ≡ length before
+taken_places before after n e room =
+    let count : length after ≡ length before - n = ap length e ∙ length-drop n before in
+    omega (arith, count)
+
+recorded_store : RowStays → RowInodeStays → IsByStays → IsByLater → LastInodeStays → OnlyItsBlocksMatter → (s later : StoreFields) (o m n count : ℕ) (row next : Row) (i : Inode)
+    → IsOpenFor o i s → row_of s.rows o ≡ Some row → s.latest < m → later.latest ≡ m → Records s.log.held later.log.held o row next i m → Tidy (contents_of s.log.held) i → PointersHeld s.log.held o i
+    → ((q : ℕ) → row_of later.rows q ≡ with_row (row_of s.rows) o (record next { stamp = n }) q) → n ≡ row.stamp + 1
+    → next.created ≡ row.created → later.log.ahead ≡ drop count s.log.ahead → 1 ≤ count → count ≤ length s.log.ahead → IsStore later
+recorded_store stands same by later_by last matter s later o m n count row next i store there before latest records tidy pointers put stamp created ahead some room =
+    let le : s.latest ≤ m = omega (arith, before) in
+    let fewer_ahead : length later.log.ahead + count ≡ length s.log.ahead = taken_places s.log.ahead later.log.ahead count ahead room in
+    record {
+      objects = subst (λ (k : ℕ). (q : ℕ) (r : Row) → row_of later.rows q ≡ Some r → IsObject later.log.held q r k) (sym latest)
+          (row_cases (row_of s.rows) (row_of later.rows) o (record next { stamp = n }) put (λ q r. IsObject later.log.held q r m)
+          (recorded_object matter s.log.held later.log.held o row next i m s.latest n records (store.objects o row there) tidy pointers)
+          (λ q r other e. by_later later_by later.log.held q r s.latest m le (stays_object stands same by matter q s.log.held later.log.held r s.latest (journal_stays o q s.log.held later.log.held records.others other) (store.objects q r e))));
+      made = row_cases (row_of s.rows) (row_of later.rows) o (record next { stamp = n }) put (λ q r. 1 ≤ r.created)
+          (let least = store.made o row there in omega (arith, least, created))
+          (λ q r other e. store.made q r e);
+      named = row_cases (row_of s.rows) (row_of later.rows) o (record next { stamp = n }) put (λ q r. DataIsNamed later.log.held q r)
+          (recorded_here last s later.log.held o row next i m n records there before store)
+          (recorded_beside same s later.log.held o i records.others store);
+      nothing = λ q none kind p.
+          let gone = none_cases (row_of s.rows) (row_of later.rows) o (record next { stamp = n }) put q none in
+          ap (λ (view : Place → Option (List ℕ)). view p) (records.others kind q (and_right (same_kind Journal kind) (o == q) gone.0)) ∙ store.nothing q gone.1 kind p;
+      stamps = row_cases (row_of s.rows) (row_of later.rows) o (record next { stamp = n }) put (λ q r. r.stamp + length later.log.ahead ≤ 15360)
+          (let bound = store.stamps o row there in omega (arith, bound, stamp, fewer_ahead, some))
+          (λ q r other e. let bound = store.stamps q r e in omega (arith, bound, fewer_ahead));
+      few = let bound = store.few in omega (arith, bound, fewer_ahead);
+    }
+
+version_of_inode : (held later : Place → Option Stored) (m t : ℕ) (i j : Inode) → OnlyItsBlocksMatter → (o : ℕ) → DataStays o held later → PointersHeld held o i → PointersHeld held o j
+    → meaning (contents_of later) (cond (leb m t) i j) ≡ cond (leb m t) (meaning (contents_of held) i) (meaning (contents_of held) j)
+version_of_inode held later m t i j matter o stays i_leads j_leads = elim (cases_Bool (leb m t)) [
+  | inl is ↦ ap (meaning (contents_of later)) (cond-true (leb m t) i j is)
+      ∙ (matter (contents_of held) (contents_of later) i (data_agree o held later i stays i_leads)).0
+      ∙ sym (cond-true (leb m t) (meaning (contents_of held) i) (meaning (contents_of held) j) is)
+  | inr less ↦ ap (meaning (contents_of later)) (cond-false (leb m t) i j less)
+      ∙ (matter (contents_of held) (contents_of later) j (data_agree o held later j stays j_leads)).0
+      ∙ sym (cond-false (leb m t) (meaning (contents_of held) i) (meaning (contents_of held) j) less)
+]
+
+recorded_version : OnlyItsBlocksMatter → (s later : StoreFields) (o m n : ℕ) (row next : Row) (i : Inode) (t : ℕ) → IsOpenFor o i s → row_of s.rows o ≡ Some row
+    → Records s.log.held later.log.held o row next i m → PointersHeld s.log.held o i → row_of later.rows o ≡ Some (record next { stamp = n })
+    → version_in later o t ≡ cond (leb m t) (meaning (contents_of s.log.held) i) (version_in s o t)
+recorded_version matter s later o m n row next i t store there records pointers found =
+    ap (λ (r : Option Row). version_by later.log.held (inode_by later.log.held o t r)) found
+    ∙ ap (meaning (contents_of later.log.held)) (stamped_inode later.log.held o next n t ∙ records.inode t)
+    ∙ version_of_inode s.log.held later.log.held m t i (inode_of s.log.held o row t) matter o (journal_data o s.log.held later.log.held records.others) pointers ((store.objects o row there).pointers t)
+    ∙ sym (ap (λ (r : Option Row). cond (leb m t) (meaning (contents_of s.log.held) i) (version_by s.log.held (inode_by s.log.held o t r))) there)
+
+recorded_versions : RowInodeStays → OnlyItsBlocksMatter → (s later : StoreFields) (o m n : ℕ) (row next : Row) (i : Inode) → IsOpenFor o i s → row_of s.rows o ≡ Some row
+    → Records s.log.held later.log.held o row next i m → PointersHeld s.log.held o i → ((q : ℕ) → row_of later.rows q ≡ with_row (row_of s.rows) o (record next { stamp = n }) q)
+    → (q t : ℕ) → version_in later q t ≡ cond (o == q && leb m t) (meaning (contents_of s.log.held) i) (version_in s q t)
+recorded_versions same matter s later o m n row next i store there records pointers put q t = elim (cases_Bool (o == q)) [
+  | inl is ↦
+      let here : o ≡ q = eqb-true o q is in
+      subst (λ (k : ℕ). version_in later k t ≡ cond (leb m t) (meaning (contents_of s.log.held) i) (version_in s k t)) here
+      (recorded_version matter s later o m n row next i t store there records pointers (put o ∙ row_here (row_of s.rows) o (record next { stamp = n })))
+      ∙ ap (λ (b : Bool). cond (b && leb m t) (meaning (contents_of s.log.held) i) (version_in s q t)) (sym is)
+  | inr other ↦
+      ap (λ (r : Option Row). version_by later.log.held (inode_by later.log.held q t r)) (put q ∙ row_beside (row_of s.rows) o q (record next { stamp = n }) other)
+      ∙ version_by_stays same matter q t s.latest s.log.held later.log.held (row_of s.rows q) (journal_stays o q s.log.held later.log.held records.others other) (store.objects q)
+      ∙ ap (λ (b : Bool). cond (b && leb m t) (meaning (contents_of s.log.held) i) (version_in s q t)) (sym other)
+]
+
+-- the whole step
+pub recorded : RowStays → RowInodeStays → IsByStays → IsByLater → LastInodeStays → OnlyItsBlocksMatter → (s later : StoreFields) (o m n count : ℕ) (row next : Row) (i : Inode)
+    → IsOpenFor o i s → row_of s.rows o ≡ Some row → s.latest < m → later.latest ≡ m → Records s.log.held later.log.held o row next i m → Tidy (contents_of s.log.held) i → PointersHeld s.log.held o i
+    → ((q : ℕ) → row_of later.rows q ≡ with_row (row_of s.rows) o (record next { stamp = n }) q) → n ≡ row.stamp + 1
+    → next.created ≡ row.created → later.log.ahead ≡ drop count s.log.ahead → 1 ≤ count → count ≤ length s.log.ahead → RowChanges s o m later.rows → Turns s o m i count later
+recorded stands same by later_by last matter s later o m n count row next i store there before latest records tidy pointers put stamp created ahead some room changes = record {
+  store = recorded_store stands same by later_by last matter s later o m n count row next i store there before latest records tidy pointers put stamp created ahead some room;
+  versions = recorded_versions same matter s later o m n row next i store there records pointers put;
+  latest = latest;
+  row = changes;
+  others = records.others;
+  ahead = ahead;
+}

@@ -1,0 +1,85 @@
+-- The turn of an object to its next inode.
+use Rattle.std.proofs.Common.{◌≡◌, ℕ, ◌+◌, ◌-◌, ◌^◌, ◌<◌, ◌≤◌, ◌==◌, nat_le, if◌then◌else◌, ltb, List, length, map, drop, Option, Some, None, sym, ap, refl, subst, ◌∙◌, arith}
+use Rattle.std.proofs.lemmas.Bool.{ltb-false, cond-true, eq-eqb, le-leb}
+use Rattle.std.proofs.lemmas.List.{length-map}
+use Rattle.std.proofs.lemmas.Option.{same_Some}
+use Rattle.s4_types.specs.Pointer.{Place}
+use Rattle.blocks.specs.Log.{Stored}
+use Rattle.codec.specs.Entry.{entry_length, entries_length}
+use Rattle.codec.specs.declared.inodes.Inode.{Inode}
+use Rattle.packing.specs.Sizes.{blocks_needed}
+use Rattle.inode_links.specs.Between.{entries_between}
+use Rattle.journal_chain.specs.Push.{push_refusal, pushed_blocks}
+use Rattle.inode_changes.specs.Laws.{OnlyItsBlocksMatter}
+use Rattle.object_map.specs.declared.map.Row.{Row}
+use Rattle.object_map.specs.Rows.{row_of, with_row}
+use Rattle.time_read.specs.Rows.{IsRow, chain_of, inode_of}
+use Rattle.row_changes.specs.Recent.{IsBy}
+use Rattle.version_store.specs.Store.{StoreFields}
+use Rattle.version_store.specs.Versions.{inode_by}
+use Rattle.version_store.specs.Costs.{row_or_fresh, subject_row}
+use Rattle.version_store.specs.Taking.{RowChanges}
+use Rattle.version_store.specs.Turning.{CanTurn, Turns, blocks_turned}
+use Rattle.version_store.proofs.Lower.{RowStays, RowInodeStays, IsByStays, IsByLater, LastInodeStays, EntriesAreSome, SomeBlocksAreNeeded}
+use Rattle.version_store.proofs.Steps.{Records, recorded}
+use Rattle.version_store.proofs.Subjects.{neither}
+
+-- what is known of the row of an object that can turn
+pub record Known (s : StoreFields) (o : ℕ) (i j : Inode) (m : ℕ) (row : Row) : Type 0 where
+  pub stands : IsRow s.log.held o row
+  pub earlier : IsBy s.log.held o row (m - 1)
+  pub before : i ≡ inode_of s.log.held o row (m - 1)
+  pub free : push_refusal (chain_of o row) s.log.ahead (entries_between i j m) ≡ None
+  pub subject : subject_row s o m ≡ row
+  pub stamp : row.stamp + 1 < 2 ^ 64
+  pub last : LastInodeStays
+
+pub known : IsByLater → LastInodeStays → (s : StoreFields) (o : ℕ) (i j : Inode) (m : ℕ) (row : Row) → CanTurn s o i j m → row_of s.rows o ≡ Some row → Known s o i j m row
+known by last s o i j m row can there =
+    let same : can.row ≡ row = same_Some can.row row (sym can.there ∙ there) in
+    let object = can.store.objects o row there in
+    let later = can.later in
+    let le : s.latest ≤ m - 1 = omega (arith, later) in
+    let bound = can.store.stamps o row there in
+    record {
+      stands = object.stands;
+      earlier = by s.log.held o row s.latest (m - 1) le object.by;
+      before = can.before ∙ ap (λ (r : Row). inode_of s.log.held o r s.latest) same ∙ sym (last s.log.held o row s.latest (m - 1) object.by le);
+      free = subst (λ (r : Row). push_refusal (chain_of o r) s.log.ahead (entries_between i j m) ≡ None) same can.free;
+      subject = ap (row_or_fresh m) there;
+      stamp = omega (arith, bound);
+      last = last;
+    }
+
+-- the stored row is the older one but for its journal, changed once more
+changed : (s : StoreFields) (o m : ℕ) (row next : Row) → subject_row s o m ≡ row → (rows : List (ℕ × Row)) → next ≡ record row { head = next.head; journal_bytes = next.journal_bytes; head_bytes = next.head_bytes }
+    → ((q : ℕ) → row_of rows q ≡ with_row (row_of s.rows) o (record next { stamp = row.stamp + 1 }) q) → RowChanges s o m rows
+changed s o m row next subject rows rest put = record {
+  next = record next { stamp = row.stamp + 1 };
+  rest = ap (λ (r : Row). record r { stamp = row.stamp + 1 }) rest
+      ∙ sym (ap (λ (r : Row). record r { head = next.head; journal_bytes = next.journal_bytes; head_bytes = next.head_bytes; stamp = r.stamp + 1 }) subject);
+  put = put;
+}
+
+pub turned : RowStays → RowInodeStays → IsByStays → IsByLater → OnlyItsBlocksMatter → EntriesAreSome → SomeBlocksAreNeeded → (s later : StoreFields) (o m : ℕ) (i j : Inode) (row next : Row)
+    → CanTurn s o i j m → row_of s.rows o ≡ Some row → Known s o i j m row → later.latest ≡ m → Records s.log.held later.log.held o row next j m
+    → next ≡ record row { head = next.head; journal_bytes = next.journal_bytes; head_bytes = next.head_bytes } → ((q : ℕ) → row_of later.rows q ≡ with_row (row_of s.rows) o (record next { stamp = row.stamp + 1 }) q)
+    → later.log.ahead ≡ drop (pushed_blocks (chain_of o row) (entries_between i j m)) s.log.ahead → Turns s o m j (blocks_turned s o i j m) later
+turned stands same by later_by matter are_some needed s later o m i j row next can there know latest records rest put ahead =
+    let later_is = can.later in
+    let tests = neither (ltb 11712 (row.journal_bytes + entries_length (entries_between i j m))) (ltb (length s.log.ahead) (pushed_blocks (chain_of o row) (entries_between i j m))) know.free in
+    let few : pushed_blocks (chain_of o row) (entries_between i j m) ≤ length s.log.ahead = ltb-false (length s.log.ahead) (pushed_blocks (chain_of o row) (entries_between i j m)) tests.1 in
+    let entries = (are_some i j m).0 in
+    let count : length (map entry_length (entries_between i j m)) ≡ length (entries_between i j m) = length-map (entries_between i j m) entry_length in
+    let least : 0 < blocks_needed row.head_bytes (map entry_length (entries_between i j m)) = needed row.head_bytes (map entry_length (entries_between i j m)) (omega (arith, count, entries)) in
+    subst (λ (r : Row). Turns s o m j (pushed_blocks (chain_of o r) (entries_between i j m)) later) (sym know.subject)
+    (recorded stands same by later_by know.last matter s later o m (row.stamp + 1) (pushed_blocks (chain_of o row) (entries_between i j m)) row next j can.store there later_is latest records can.tidy can.pointers put refl (ap (λ (r : Row). r.created) rest) ahead (omega (arith, least)) few (changed s o m row next know.subject later.rows rest put))
+
+-- from its moment on the object's inode is the new one
+pub present_after : (held later : Place → Option Stored) (o m : ℕ) (old : Row) (rows : List (ℕ × Row)) (olds : ℕ → Option Row) (next : Row) (j : Inode) (stamp : ℕ)
+    → inode_of later o next m ≡ (if nat_le m m then j else inode_of held o old m) → ((q : ℕ) → row_of rows q ≡ with_row olds o (record next { stamp = stamp }) q)
+    → inode_by later o m (row_of rows o) ≡ Some j
+unfolding inode_of
+present_after held later o m old rows olds next j stamp inode put =
+    ap (inode_by later o m) (put o ∙ cond-true (o == o) (Some (record next { stamp = stamp })) (olds o) (eq-eqb o o refl))
+    ∙ ap (λ (i : Inode). Some i) (inode ∙ cond-true (nat_le m m) j (inode_of held o old m) (le-leb m m (omega arith)))

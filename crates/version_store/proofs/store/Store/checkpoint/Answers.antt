@@ -1,0 +1,23 @@
+use Rattle.std.proofs.Common.{sym, ap, subst, ◌∙◌}
+use Rattle.version_store.specs.Store.{StoreFields, fields_of}
+use Rattle.version_store.specs.Versions.{inode_in}
+use Rattle.version_store.specs.Costs.{room}
+use Rattle.version_store.specs.CheckpointSteps.{CanCheckpoint}
+use Rattle.version_store.proofs.Present.{at_last}
+use Rattle.version_store.proofs.CheckpointSteps.{same_current}
+use Rattle.version_store.proofs.store.Store.checkpoint.Goals as goal
+
+pub returns-in_default-entry_past_checkpoint-clause-current : goal.returns-in_default-entry_past_checkpoint-clause-current
+returns-in_default-entry_past_checkpoint-clause-current g c =
+    same_current c.groups_join_and_part.ensures.ascend (fields_of g.B.Blocks.log c.args.self.now) (fields_of g.B.Blocks.log c.entry_past_checkpoint.new.self) c.args.object c.in-Some.row
+    c.entry_past_checkpoint.ensures.same c.requires (sym c.in-Some.ensures) c.in_default-entry_past_checkpoint.ensures.none
+
+pub put_checkpoint-requires : goal.put_checkpoint-requires
+put_checkpoint-requires g c =
+    let s : StoreFields = fields_of g.B.Blocks.log c.args.self.now in
+    let same = c.entry_past_checkpoint.ensures.same in
+    subst (λ (v : StoreFields). CanCheckpoint v c.args.object c.in-Some.row c.in-Some-present.inode c.in-Some-entry_past_checkpoint.moment) (sym same)
+    (at_last c.groups_join_and_part.ensures.ascend c.a_row_keeps_the_making.ensures c.the_last_inode_stays.ensures s c.args.object c.in-Some.row c.in-Some-present.inode c.in-Some-entry_past_checkpoint.moment c.room.result
+    c.requires (sym c.in-Some.ensures) c.in-Some-entry_past_checkpoint.ensures.moment c.in-Some-entry_past_checkpoint.ensures.behind
+    (c.room.ensures ∙ ap (λ (v : StoreFields). room v) same) c.if-room-eq0.false
+    (c.in-Some-present.ensures ∙ ap (λ (v : StoreFields). inode_in v c.args.object v.latest) same))

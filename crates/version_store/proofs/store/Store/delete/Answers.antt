@@ -1,0 +1,22 @@
+use Rattle.s4_types.specs.declared.changes.Change.TheVariants.{Delete}
+use Rattle.inode_changes.specs.Contents.{contents_of}
+use Rattle.version_store.specs.Store.{StoreFields, fields_of}
+use Rattle.version_store.proofs.Kind.{can_turn, taken_of}
+use Rattle.version_store.proofs.Making.{can_subject, deleted_makes}
+use Rattle.version_store.proofs.store.Store.delete.Goals as goal
+
+pub turn-requires : goal.turn-requires
+turn-requires g c =
+    let s : StoreFields = fields_of g.B.Blocks.log c.args.self.now in
+    let subject = can_subject s (Delete c.args.object) c.args.moment c.args.present.now c.requires c.requires.takes.ready in
+    let makes = deleted_makes s c.args.object c.args.moment c.args.present.now c.deleted-after.result c.requires subject c.deleted-after.ensures.inode (c.deleted-after.ensures.meaning (contents_of s.log.held) c.args.object c.args.moment) (c.deleted-after.ensures.tidy (contents_of s.log.held) subject.tidy) in
+    can_turn c.a_row_is_its_own_blocks.ensures.row c.a_row_is_its_own_blocks.ensures.inode c.a_row_is_by_later_moments.ensures.journal c.only_its_blocks_matter.ensures c.the_entries_between_two_inodes.ensures.sizes c.bytes_add_up.ensures.sizes
+    s (Delete c.args.object) c.args.moment s.log c.args.present.now c.deleted-after.result c.requires subject makes
+
+pub returns : goal.returns
+returns g c =
+    let s : StoreFields = fields_of g.B.Blocks.log c.args.self.now in
+    let subject = can_subject s (Delete c.args.object) c.args.moment c.args.present.now c.requires c.requires.takes.ready in
+    let makes = deleted_makes s c.args.object c.args.moment c.args.present.now c.deleted-after.result c.requires subject c.deleted-after.ensures.inode (c.deleted-after.ensures.meaning (contents_of s.log.held) c.args.object c.args.moment) (c.deleted-after.ensures.tidy (contents_of s.log.held) subject.tidy) in
+    taken_of c.a_row_is_its_own_blocks.ensures.inode c.only_its_blocks_matter.ensures c.the_entries_between_two_inodes.ensures.sizes
+    s (fields_of g.B.Blocks.log c.turn.new.self) (Delete c.args.object) c.args.moment s.log c.args.present.now c.deleted-after.result c.requires subject makes c.turn.ensures

@@ -1,0 +1,26 @@
+use Rattle.s4_types.specs.declared.changes.Change.TheVariants.{SetAttr}
+use Rattle.std.proofs.Common.{ℕ, List, ap, ◌∙◌}
+use Rattle.s4_model.specs.Effect.{effect}
+use Rattle.inode_changes.specs.Contents.{contents_of, meaning}
+use Rattle.version_store.specs.Store.{StoreFields, fields_of}
+use Rattle.version_store.proofs.Kind.{can_turn, taken_of}
+use Rattle.version_store.proofs.Making.{can_subject, set_makes}
+use Rattle.version_store.proofs.store.Store.set_attribute.Goals as goal
+
+pub turn-requires : goal.turn-requires
+turn-requires g c =
+    let s : StoreFields = fields_of g.B.Blocks.log c.args.self.now in
+    let subject = can_subject s (SetAttr c.args.object c.args.attribute.now) c.args.moment c.args.present.now c.requires c.requires.takes.ready in
+    let makes = set_makes s c.args.object c.args.moment c.args.attribute.now c.args.present.now c.with_attribute-after.result c.requires subject (c.with_attribute-after.ensures.inode ∙ ap (λ (a : List ℕ). record c.args.present.now { attribute = a; changed = c.args.moment }) c.attribute_of-attribute.ensures)
+    (c.with_attribute-after.ensures.meaning (contents_of s.log.held) c.args.object ∙ ap (λ (a : List ℕ). effect (SetAttr c.args.object a) c.args.moment (meaning (contents_of s.log.held) c.args.present.now)) c.attribute_of-attribute.ensures) (c.with_attribute-after.ensures.tidy (contents_of s.log.held) subject.tidy) in
+    can_turn c.a_row_is_its_own_blocks.ensures.row c.a_row_is_its_own_blocks.ensures.inode c.a_row_is_by_later_moments.ensures.journal c.only_its_blocks_matter.ensures c.the_entries_between_two_inodes.ensures.sizes c.bytes_add_up.ensures.sizes
+    s (SetAttr c.args.object c.args.attribute.now) c.args.moment s.log c.args.present.now c.with_attribute-after.result c.requires subject makes
+
+pub returns : goal.returns
+returns g c =
+    let s : StoreFields = fields_of g.B.Blocks.log c.args.self.now in
+    let subject = can_subject s (SetAttr c.args.object c.args.attribute.now) c.args.moment c.args.present.now c.requires c.requires.takes.ready in
+    let makes = set_makes s c.args.object c.args.moment c.args.attribute.now c.args.present.now c.with_attribute-after.result c.requires subject (c.with_attribute-after.ensures.inode ∙ ap (λ (a : List ℕ). record c.args.present.now { attribute = a; changed = c.args.moment }) c.attribute_of-attribute.ensures)
+    (c.with_attribute-after.ensures.meaning (contents_of s.log.held) c.args.object ∙ ap (λ (a : List ℕ). effect (SetAttr c.args.object a) c.args.moment (meaning (contents_of s.log.held) c.args.present.now)) c.attribute_of-attribute.ensures) (c.with_attribute-after.ensures.tidy (contents_of s.log.held) subject.tidy) in
+    taken_of c.a_row_is_its_own_blocks.ensures.inode c.only_its_blocks_matter.ensures c.the_entries_between_two_inodes.ensures.sizes
+    s (fields_of g.B.Blocks.log c.turn.new.self) (SetAttr c.args.object c.args.attribute.now) c.args.moment s.log c.args.present.now c.with_attribute-after.result c.requires subject makes c.turn.ensures

@@ -1,0 +1,77 @@
+-- What contracts see of a store of objects, and what holds of each store.
+use Rattle.std.specs.Prelude.{◌≡◌, ℕ, ◌+◌, ◌≤◌, List, length, Option, Some, None, IsSome}
+use Rattle.s4_types.specs.Pointer.{Place}
+use Rattle.blocks.specs.declared.kinds.BlockKind.{BlockKind}
+use Rattle.blocks.specs.declared.kinds.BlockKind.TheVariants.{Journal, Checkpoint, Data}
+use Rattle.blocks.specs.Log.{Log, Stored, of_kind}
+use Rattle.codec.specs.Checkpoint.{pointer_at}
+use Rattle.journal_chain.specs.Chain.{times, chain_places}
+use Rattle.object_map.specs.declared.map.Row.{Row}
+use Rattle.object_map.specs.Rows.{row_of}
+use Rattle.time_read.specs.Rows.{IsRow, inode_of}
+use Rattle.row_changes.specs.Recent.{IsBy}
+use Rattle.inode_changes.specs.Contents.{contents_of}
+use Rattle.inode_changes.specs.Tidiness.{Tidy, PointersHeld}
+use Rattle.version_store.specs.declared.store.TheConstants.{MOST_PLACES}
+
+-- the rows of all objects, the table that their blocks are in, and the moment of the last change
+pub record StoreOf (T : Type 0) : Type 0 where
+  pub rows : List (ℕ × Row)
+  pub table : T
+  pub latest : ℕ
+
+-- the same, with the table as its log
+pub record StoreFields : Type 0 where
+  pub rows : List (ℕ × Row)
+  pub log : Log
+  pub latest : ℕ
+
+-- a store over what its table is as a log
+abbrev pub fields_of : {T : Type 0} → (T → Log) → StoreOf T → StoreFields
+fields_of log s = record { rows = s.rows; log = log s.table; latest = s.latest }
+
+-- An object of this row is held: nothing that the row tells of is later than the last change, and at each moment the
+-- object's inode is tidy, with each pointer leading to a data block of the object.
+pub record IsObject (held : Place → Option Stored) (o : ℕ) (row : Row) (latest : ℕ) : Type 0 where
+  pub stands : IsRow held o row
+  pub by : IsBy held o row latest
+  pub tidy : (t : ℕ) → Tidy (contents_of held) (inode_of held o row t)
+  pub pointers : (t : ℕ) → PointersHeld held o (inode_of held o row t)
+
+-- The inode that an object of this row has at some moment has a pointer to this place.
+pub record PointsTo (held : Place → Option Stored) (o : ℕ) (row : Row) (p : Place) : Type 0 where
+  pub moment : ℕ
+  pub index : ℕ
+  pub leads : pointer_at (inode_of held o row moment) index ≡ Some p
+
+-- each data block of an object of this row that is held is one that it points to at some moment
+abbrev pub DataIsNamed : (Place → Option Stored) → ℕ → Row → Type 0
+DataIsNamed held o row = (p : Place) → IsSome (of_kind Data o held p) → PointsTo held o row p
+
+-- no block of an object is held
+abbrev pub HasNothing : (Place → Option Stored) → ℕ → Type 0
+HasNothing held o = (kind : BlockKind) (p : Place) → of_kind kind o held p ≡ None
+
+-- Each object that has a row is held and was made at a moment above 0; of its data no block is held but those that it
+-- points to at some moment, and of an object without a row no block at all. A row was changed no more often than places
+-- were taken: each change takes one.
+pub record IsStore (s : StoreFields) : Type 0 where
+  pub objects : (o : ℕ) (row : Row) → row_of s.rows o ≡ Some row → IsObject s.log.held o row s.latest
+  pub made : (o : ℕ) (row : Row) → row_of s.rows o ≡ Some row → 1 ≤ row.created
+  pub named : (o : ℕ) (row : Row) → row_of s.rows o ≡ Some row → DataIsNamed s.log.held o row
+  pub nothing : (o : ℕ) → row_of s.rows o ≡ None → HasNothing s.log.held o
+  pub stamps : (o : ℕ) (row : Row) → row_of s.rows o ≡ Some row → row.stamp + length s.log.ahead ≤ MOST_PLACES
+  pub few : length s.log.ahead ≤ MOST_PLACES
+
+-- A row names an object's block of this kind at a place: it stands in the object's chain, once; or it is the checkpoint of
+-- the row; or the object points to it at some moment.
+abbrev pub Names : (Place → Option Stored) → ℕ → Row → BlockKind → Place → Type 0
+Names held o row Journal p = times p (chain_places (of_kind Journal o held) o row.head) ≡ 1
+Names held o row Checkpoint p = row.checkpoint ≡ Some p
+Names held o row Data p = PointsTo held o row p
+
+-- an object has a row, which names its block of this kind at a place
+pub record IsNamed (s : StoreFields) (o : ℕ) (kind : BlockKind) (p : Place) : Type 0 where
+  pub row : Row
+  pub there : row_of s.rows o ≡ Some row
+  pub names : Names s.log.held o row kind p

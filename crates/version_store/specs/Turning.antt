@@ -1,0 +1,79 @@
+-- What one change leaves of a whole store. No public clause cites this file.
+use Rattle.std.specs.Prelude.{◌≡◌, ◌⊎◌, ℕ, ◌+◌, ◌<◌, ◌≤◌, ◌==◌, ◌&&◌, ◌||◌, nat_le, if◌then◌else◌, drop, length, Some, None, IsSome, is_some}
+use Rattle.s4_types.specs.Pointer.{Place}
+use Rattle.s4_types.specs.declared.changes.Change.{Change}
+use Rattle.blocks.specs.declared.kinds.BlockKind.TheVariants.{Data}
+use Rattle.blocks.specs.Log.{of_kind}
+use Rattle.codec.specs.Checkpoint.{pointer_at}
+use Rattle.codec.specs.declared.inodes.Inode.{Inode}
+use Rattle.object_map.specs.declared.map.Row.{Row}
+use Rattle.object_map.specs.Rows.{row_of}
+use Rattle.inode_links.specs.Between.{CanLead, entries_between}
+use Rattle.journal_chain.specs.Chain.{OnlyJournalChanged}
+use Rattle.journal_chain.specs.Push.{push_refusal, pushed_blocks}
+use Rattle.time_read.specs.Rows.{chain_of, inode_of}
+use Rattle.inode_changes.specs.Contents.{contents_of, meaning}
+use Rattle.inode_changes.specs.Tidiness.{Tidy, PointersHeld}
+use Rattle.version_store.specs.Store.{StoreFields, IsStore, IsObject, HasNothing, PointsTo}
+use Rattle.version_store.specs.declared.store.TheConstants.{MOST_PLACES}
+use Rattle.version_store.specs.Versions.{version_in, version_taken}
+use Rattle.version_store.specs.Costs.{subject_row, subject_inode, blocks_taken, change_refusal}
+use Rattle.s4_model.specs.Effect.{object_of}
+use Rattle.version_store.specs.Taking.{Takes, RowChanges, data_by, Appends}
+
+-- A change that isn't refused can be taken at a moment, and begins with this inode.
+pub record CanTake (s : StoreFields) (change : Change) (m : ℕ) (present : Inode) : Type 0 where
+  pub store : IsStore s
+  pub later : s.latest < m
+  pub takes : Takes s change
+  pub begins : present ≡ subject_inode s (object_of change) m
+  pub free : change_refusal s change m ≡ None
+
+-- some pointer of an inode leads to this place
+abbrev pub LeadsTo : Inode → Place → Type 0
+LeadsTo i p = (k : ℕ) × (pointer_at i k ≡ Some p)
+
+-- A store, but that data of one object may be held which nothing names yet: this inode, its next one, leads there.
+pub record IsOpenFor (o : ℕ) (i : Inode) (s : StoreFields) : Type 0 where
+  pub objects : (q : ℕ) (row : Row) → row_of s.rows q ≡ Some row → IsObject s.log.held q row s.latest
+  pub made : (q : ℕ) (row : Row) → row_of s.rows q ≡ Some row → 1 ≤ row.created
+  pub named : (q : ℕ) (row : Row) → row_of s.rows q ≡ Some row → (p : Place) → IsSome (of_kind Data q s.log.held p) → PointsTo s.log.held q row p ⊎ ((o ≡ q) × LeadsTo i p)
+  pub nothing : (q : ℕ) → row_of s.rows q ≡ None → HasNothing s.log.held q
+  pub stamps : (q : ℕ) (row : Row) → row_of s.rows q ≡ Some row → row.stamp + length s.log.ahead ≤ MOST_PLACES
+  pub few : length s.log.ahead ≤ MOST_PLACES
+
+-- An object can have another inode from a moment on: it has a row, the first inode is its present one, entries of the
+-- moment lead from it to the next one, which is tidy, and there is room for them.
+pub record CanTurn (s : StoreFields) (o : ℕ) (i j : Inode) (m : ℕ) : Type 0 where
+  pub store : IsOpenFor o j s
+  pub later : s.latest < m
+  pub row : Row
+  pub there : row_of s.rows o ≡ Some row
+  pub before : i ≡ inode_of s.log.held o row s.latest
+  pub lead : CanLead i j m
+  pub tidy : Tidy (contents_of s.log.held) j
+  pub pointers : PointersHeld s.log.held o j
+  pub free : push_refusal (chain_of o row) s.log.ahead (entries_between i j m) ≡ None
+
+-- how many blocks that takes
+abbrev pub blocks_turned : StoreFields → ℕ → Inode → Inode → ℕ → ℕ
+blocks_turned s o i j m = pushed_blocks (chain_of o (subject_row s o m)) (entries_between i j m)
+
+-- From a moment on, which is then the latest, an object has this inode; all other versions are as they were, and so many
+-- blocks were taken for its journal alone.
+pub record Turns (s : StoreFields) (o m : ℕ) (i : Inode) (count : ℕ) (later : StoreFields) : Type 0 where
+  pub store : IsStore later
+  pub versions : (q t : ℕ) → version_in later q t ≡ (if o == q && nat_le m t then meaning (contents_of s.log.held) i else version_in s q t)
+  pub latest : later.latest ≡ m
+  pub row : RowChanges s o m later.rows
+  pub others : OnlyJournalChanged o s.log.held later.log.held
+  pub ahead : later.log.ahead ≡ drop count s.log.ahead
+
+-- A change of an object was taken, which began with this inode.
+pub record IsTaken (s : StoreFields) (change : Change) (m : ℕ) (present : Inode) (later : StoreFields) : Type 0 where
+  pub store : IsStore later
+  pub taken : (o t : ℕ) → version_in later o t ≡ version_taken s change m o t
+  pub latest : later.latest ≡ m
+  pub rows : (o : ℕ) → is_some (row_of later.rows o) ≡ (is_some (row_of s.rows o) || o == object_of change)
+  pub row : RowChanges s (object_of change) m later.rows
+  pub blocks : Appends (object_of change) (data_by (contents_of s.log.held) change present) (blocks_taken s change m) s.log later.log

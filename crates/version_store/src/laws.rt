@@ -1,0 +1,50 @@
+//! Laws of stores, for the layers above: each function does nothing, and its contract is the law.
+
+ghost use Rattle.version_store.specs.Laws.{ObjectsStay, InodesStay, VersionsStay, ThePresentStays, ChangesBeginWithThePresent, ChangesBeginWithThePresentVersion, TheAliveAreThere, HeldIsWhatRowsName, EachHeldBlockIsNamed};
+
+use inode_changes::laws::only_its_blocks_matter;
+use row_changes::laws::{a_fresh_row_stands, a_row_is_by_later_moments, the_last_inode_stays};
+use time_read::laws::a_row_is_its_own_blocks;
+
+/// What an object is at each moment rests on its own blocks alone: where its journal and its checkpoints are the same, and
+/// each of its data blocks is still held, it is an object with the same inodes and the same versions.
+pub fn versions_rest_on_their_objects_blocks()
+    ensures object { ObjectsStay }
+    ensures inode { InodesStay }
+    ensures version { VersionsStay }
+{
+    a_row_is_its_own_blocks();
+    a_row_is_by_later_moments();
+    only_its_blocks_matter();
+}
+
+/// From the last change on each object has one inode and one version.
+pub fn the_present_stays()
+    ensures { ThePresentStays }
+{
+    the_last_inode_stays();
+}
+
+/// A change of an object begins with its present inode, and with the blank one where the object has no row.
+pub fn changes_begin_with_the_present()
+    ensures { ChangesBeginWithThePresent }
+{
+    a_fresh_row_stands();
+}
+
+/// The inode that a change of an object begins with stands for the object's present version, so the object is there exactly
+/// where that inode is alive.
+pub fn changes_begin_with_the_present_version()
+    ensures version { ChangesBeginWithThePresentVersion }
+    ensures there { TheAliveAreThere }
+{
+    a_fresh_row_stands();
+}
+
+/// What is held is exactly what rows name: an object's journal blocks are those of its chain, its one checkpoint is that of
+/// its row, and its data blocks are those that it points to at some moment. Nothing else is held, and no object without a
+/// row has a block.
+pub fn what_is_held_is_what_rows_name()
+    ensures exact { HeldIsWhatRowsName }
+    ensures block { EachHeldBlockIsNamed }
+{}

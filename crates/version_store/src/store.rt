@@ -1,0 +1,180 @@
+//! A store of objects: made, looked at and read.
+ghost use Rattle.std.specs.Prelude.{◌≡◌, ℕ, ◌≤◌, ◌<◌, Some, None, length, take, drop, IfSome, IfNone, IfOk, IfErr};
+ghost use Rattle.s4_types.specs.Pointer.{Place};
+ghost use Rattle.s4_types.specs.declared.refusals.Refusal.TheVariants.{NoMemory};
+ghost use Rattle.object_map.specs.Objects.{IsNextAbove};
+ghost use Rattle.object_map.specs.Rows.{row_of};
+ghost use Rattle.inode_changes.specs.Contents.{contents_of, bytes_of};
+ghost use Rattle.version_store.specs.Store.{fields_of, IsStore};
+ghost use Rattle.version_store.specs.Versions.{entries_in, inode_in};
+ghost use Rattle.version_store.specs.Costs.{room};
+
+mod checkpointing;
+mod frames;
+mod sealing;
+mod taking;
+
+use crate::laws::the_present_stays;
+use blocks::Blocks;
+use codec::{Entry, Inode};
+use inode_changes::laws::held_pointers_lead;
+use object_map::{ObjectMap, Objects, Row};
+use s4_types::limits::RESERVE_BLOCKS;
+use s4_types::{Moment, ObjectId, Refusal};
+use std::alloc::Global;
+use std::marker::Model;
+
+/// Payload blocks of the largest drive: 1,024 frames of 15.
+pub const MOST_PLACES: usize = 15_360;
+
+/// The rows of all objects, and the table that their blocks are in.
+#[derive(Drop)]
+pub struct Store<B: Blocks> {
+    alloc: Global,
+    rows: ObjectMap,
+    table: B,
+    // The moment of the last change, 0 where there was none.
+    latest: Moment,
+    // The present inode of each object that has a row, so that neither a change nor a read of the present walks a journal. An
+    // inode takes 672 bytes, with the gaps of the tree up to 1,450. At most 15,300 objects can have a row, each with at least one
+    // block of 512 bytes in the table: so at worst this takes three times the memory of the table's blocks.
+    presents: Objects<Inode>,
+}
+
+impl<B: Blocks> Model for Store<B> {
+    ghost use Rattle.std.specs.Prelude.{◌≡◌, ℕ};
+    ghost use Rattle.version_store.specs.Store.{StoreOf, fields_of};
+    ghost use Rattle.version_store.specs.Versions.{inode_in};
+    ghost use Rattle.object_map.specs.Objects.{value_of};
+
+    ghost Value = { StoreOf B };
+
+    ghost view = { λ s. record { rows = s.rows; table = s.table; latest = s.latest } };
+
+    ghost invariant = { λ s. (o : ℕ) → value_of s.presents o ≡ inode_in (fields_of B.log (record { rows = s.rows; table = s.table; latest = s.latest })) o s.latest };
+}
+
+impl<B: Blocks> Store<B> {
+    /// A store without objects, over a table that holds no block and has at most 15,360 places.
+    pub fn new(alloc: Global, table: B) -> Self
+        requires nothing { (p : Place) → (B.log table).held p ≡ None }
+        requires few { length (B.log table).ahead ≤ 15360 }
+        ensures store { IsStore (fields_of B.log result) }
+        ensures empty { (o : ℕ) → row_of result.rows o ≡ None }
+        ensures log { B.log result.table ≡ B.log table }
+        ensures latest { result.latest ≡ 0 }
+    {
+        Store {
+            alloc,
+            rows: ObjectMap::new(alloc),
+            table,
+            latest: Moment::new(0),
+            presents: Objects::new(alloc),
+        }
+    }
+
+    /// The moment of the last change, and 0 where there was none.
+    pub fn latest(&self) -> Moment
+        ensures { result ≡ self.now.latest }
+    {
+        self.latest
+    }
+
+    /// How many blocks changes of objects may still append: the reserve is not theirs.
+    pub fn room(&self) -> usize
+        ensures { result ≡ room (fields_of B.log self.now) }
+    {
+        self.table.blocks_left().saturating_sub(RESERVE_BLOCKS)
+    }
+
+    /// The row of an object, if it has one.
+    pub fn row(&self, object: ObjectId) -> Option<Row>
+        ensures { result ≡ row_of self.now.rows object }
+    {
+        self.rows.get(object)
+    }
+
+    /// The least object above this one that has a row.
+    pub fn next_row(&self, object: ObjectId) -> Option<ObjectId>
+        ensures some { IfSome result (λ next. IsNextAbove self.now.rows object next) }
+        ensures none { IfNone result ((q : ℕ) → object < q → row_of self.now.rows q ≡ None) }
+    {
+        self.rows.next_above(object)
+    }
+
+    /// The present inode of an object, and none where it has no row. It is kept beside the row: no journal is walked.
+    pub fn present(&self, object: ObjectId) -> Option<Inode>
+        ensures { result ≡ inode_in (fields_of B.log self.now) object self.now.latest }
+    {
+        self.presents.get(object)
+    }
+
+    /// The inode of an object at a moment by a walk of its journal, and none where it has no row.
+    fn walk(&mut self, object: ObjectId, at: Moment) -> Result<Option<Inode>, Refusal>
+        requires { IsStore (fields_of B.log self.old) }
+        ensures inode { IfOk result (λ inode. inode ≡ inode_in (fields_of B.log self.old) object at) }
+        ensures refusal { IfErr result (λ e. e ≡ NoMemory) }
+        ensures same { fields_of B.log self.new ≡ fields_of B.log self.old }
+    {
+        let Some(row) = self.row(object) else {
+            return Ok(None);
+        };
+        let inode = time_read::inode_at(self.alloc, &mut self.table, object, &row, at)?;
+        Ok(Some(inode))
+    }
+
+    /// The inode of an object at a moment, and none where it has no row. A moment before the store's last change, of whatever
+    /// object, takes one walk of this object's journal; any other takes none.
+    ///
+    /// NoMemory alone, of a moment before the store's last change, where the memory for the journal's entries is refused.
+    pub fn inode_at(&mut self, object: ObjectId, at: Moment) -> Result<Option<Inode>, Refusal>
+        requires { IsStore (fields_of B.log self.old) }
+        ensures inode { IfOk result (λ inode. inode ≡ inode_in (fields_of B.log self.old) object at) }
+        ensures refusal { IfErr result (λ e. e ≡ NoMemory) }
+        ensures memory { IfErr result (λ _. at < self.old.latest) }
+        ensures same { fields_of B.log self.new ≡ fields_of B.log self.old }
+    {
+        the_present_stays();
+        if self.latest <= at {
+            return Ok(self.present(object));
+        }
+        self.walk(object, at)
+    }
+
+    /// The journal entries of an object, the oldest first, and none where it has no row.
+    ///
+    /// NoMemory alone, where the memory for them is refused.
+    pub fn entries(&mut self, object: ObjectId) -> Result<Vec<Entry>, Refusal>
+        requires { IsStore (fields_of B.log self.old) }
+        ensures entries { IfOk result (λ entries. entries.items ≡ entries_in (fields_of B.log self.old) object) }
+        ensures refusal { IfErr result (λ e. e ≡ NoMemory) }
+        ensures same { fields_of B.log self.new ≡ fields_of B.log self.old }
+    {
+        let Some(row) = self.row(object) else {
+            return Ok(Vec::new(self.alloc));
+        };
+        time_read::entries(self.alloc, &mut self.table, object, &row)
+    }
+
+    /// The bytes of an object at a moment from an offset on, `len` of them or as many as there are; the inode is the
+    /// object's at that moment. Each block is read once.
+    ///
+    /// NoMemory alone, where the memory for the bytes is refused.
+    pub fn read(
+        &mut self,
+        object: ObjectId,
+        at: Moment,
+        inode: &Inode,
+        offset: u64,
+        len: u64,
+    ) -> Result<Vec<u8>, Refusal>
+        requires store { IsStore (fields_of B.log self.old) }
+        requires inode { inode_in (fields_of B.log self.old) object at ≡ Some inode.now }
+        ensures bytes { IfOk result (λ bytes. bytes.items ≡ take len (drop offset (bytes_of (contents_of (B.log self.old.table).held) inode.now))) }
+        ensures refusal { IfErr result (λ e. e ≡ NoMemory) }
+        ensures same { fields_of B.log self.new ≡ fields_of B.log self.old }
+    {
+        held_pointers_lead();
+        inode_changes::read(self.alloc, &mut self.table, inode, offset, len)
+    }
+}

@@ -1,0 +1,91 @@
+//! A store over frames: what it holds in one of them, and plans of reads.
+ghost use Rattle.std.specs.Prelude.{◌≡◌, ℕ, ◌<◌, ◌-◌, ◌↔◌, ◌⊎◌, true, false, Some, None, IfOk, IfErr, min, take, drop};
+ghost use Rattle.std.specs.List.{list_any};
+ghost use Rattle.s4_types.specs.declared.refusals.Refusal.TheVariants.{NoMemory, Busy};
+ghost use Rattle.inode_changes.specs.Contents.{contents_of, bytes_of};
+ghost use Rattle.segment_word.specs.Counting.{pins_in};
+ghost use Rattle.segment_table.specs.Room.{log_of, pointers_in};
+ghost use Rattle.time_read.specs.Plans.{IsAt, pieces_of, bytes_planned, pins_of, is_pinned, is_pinned_in};
+ghost use Rattle.version_store.specs.Store.{fields_of, IsStore};
+ghost use Rattle.version_store.specs.Versions.{inode_in};
+
+use crate::named::NamedTable;
+use crate::store::Store;
+use codec::Inode;
+use inode_changes::laws::held_pointers_lead;
+use s4_types::{Moment, ObjectId, Ptr, Refusal};
+use segment_table::SegmentTable;
+use segment_word::Naming;
+use time_read::ReadPlan;
+
+impl Store<SegmentTable> {
+    /// The store, under the name of the drive whose frames it is over.
+    pub fn named<J: Naming>(self) -> Store<NamedTable<J>>
+        requires frames { self.table.drive.table ≡ J.frames }
+        ensures same { result ≡ self }
+    {
+        let Store {
+            alloc,
+            rows,
+            table,
+            latest,
+            presents,
+        } = self;
+        Store {
+            alloc,
+            rows,
+            table: NamedTable::new(table),
+            latest,
+            presents,
+        }
+    }
+}
+
+impl<J: Naming> Store<NamedTable<J>> {
+    /// Shows that its frames are those of the drive that `J` names.
+    pub fn rules(&self)
+        ensures frames { self.now.table.drive.table ≡ J.frames }
+    {
+        self.table.rules();
+    }
+
+    /// The pointers to the held blocks of an object in a frame, by ascending block, and none where the frame isn't sealed or
+    /// isn't there.
+    ///
+    /// NoMemory alone, where the memory for them is refused.
+    pub fn held_in(&mut self, object: ObjectId, frame: u16) -> Result<Vec<Ptr>, Refusal>
+        ensures pointers { IfOk result (λ pointers. pointers.items ≡ pointers_in self.old.table object frame) }
+        ensures refusal { IfErr result (λ e. e ≡ NoMemory) }
+        ensures same { self.new ≡ self.old }
+    {
+        self.table.held_in(self.alloc, object, frame)
+    }
+
+    /// A plan of reading the bytes of an object at a moment from an offset on, `wanted` of them or as many as there are; the
+    /// inode is the object's at that moment. Blocks of the open frame are copied; the frames of all others are pinned.
+    ///
+    /// NoMemory where memory is refused: it is asked for once, and once for each frame that is pinned. Busy only where a block of
+    /// a sealed frame is needed, and no seat is to be had, its frame has 1,048,576 readers, or other threads changed the frame's
+    /// word between load and exchange 64 times.
+    pub fn plan(
+        &mut self,
+        object: ObjectId,
+        at: Moment,
+        inode: &Inode,
+        offset: u64,
+        wanted: u64,
+    ) -> Result<ReadPlan, Refusal>
+        requires store { IsStore (fields_of log_of self.old) }
+        requires inode { inode_in (fields_of log_of self.old) object at ≡ Some inode.now }
+        ensures pieces { IfOk result (λ plan. plan.pieces ≡ pieces_of self.old.table inode.now offset (min wanted (inode.now.size - offset))) }
+        ensures bytes { IfOk result (λ plan. bytes_planned plan ≡ take wanted (drop offset (bytes_of (contents_of (log_of self.old.table).held) inode.now))) }
+        ensures pins { IfOk result (λ plan. (f : ℕ) → (0 < pins_in f (pins_of plan.pin)) ↔ (list_any (is_pinned_in f) plan.pieces ≡ true)) }
+        ensures seat { IfOk result (λ plan. list_any is_pinned plan.pieces ≡ false → plan.pin ≡ None) }
+        ensures at { IfOk result (λ plan. IsAt self.old.table plan.pin) }
+        ensures refusal { IfErr result (λ e. (e ≡ NoMemory) ⊎ ((e ≡ Busy) × (list_any is_pinned (pieces_of self.old.table inode.now offset (min wanted (inode.now.size - offset))) ≡ true))) }
+        ensures same { self.new ≡ self.old }
+    {
+        held_pointers_lead();
+        self.table.plan(self.alloc, inode, offset, wanted)
+    }
+}

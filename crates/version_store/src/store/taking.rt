@@ -1,0 +1,263 @@
+//! A change of an object, from the count of what it takes to its row.
+ghost use Rattle.std.specs.Prelude.{◌≡◌, ◌⊎◌, ℕ, ◌<◌, ◌≤◌, ◌==◌, ◌||◌, Some, None, IfOk, IfErr, OnOk, OnErr, MatchResult, is_some, length};
+ghost use Rattle.s4_types.specs.declared.changes.Change.TheVariants.{Create, Delete, Write, Truncate, SetAttr};
+ghost use Rattle.s4_types.specs.declared.refusals.Refusal.TheVariants.{NoMemory};
+ghost use Rattle.inode_links.specs.Runs.{blank};
+ghost use Rattle.object_map.specs.Rows.{row_of, with_row, fresh_row};
+ghost use Rattle.inode_changes.specs.Contents.{contents_of};
+ghost use Rattle.version_store.specs.Store.{fields_of, IsStore};
+ghost use Rattle.version_store.specs.Versions.{version_in, version_taken};
+ghost use Rattle.version_store.specs.Costs.{subject_row, subject_inode, blocks_taken, change_refusal};
+ghost use Rattle.s4_model.specs.Effect.{object_of};
+ghost use Rattle.version_store.specs.Taking.{Takes, RowChanges, data_by, Appends};
+ghost use Rattle.version_store.specs.Turning.{CanTake, CanTurn, Turns, IsTaken, blocks_turned};
+
+use crate::costs::{object_of, refusal};
+use crate::laws::changes_begin_with_the_present;
+use crate::store::Store;
+use blocks::Blocks;
+use blocks::laws::one_place_has_one_name;
+use codec::{Attribute, Inode};
+use inode_changes::laws::{held_pointers_lead, only_its_blocks_matter};
+use inode_changes::{created, deleted, truncate, with_attribute, write};
+use inode_links::blank;
+use inode_links::laws::{a_blank_inode_has_holes_alone, the_entries_between_two_inodes};
+use object_map::Row;
+use packing::laws::{bytes_add_up, few_blocks_are_needed};
+use row_changes::laws::{a_fresh_row_stands, a_row_is_by_later_moments, the_last_inode_stays};
+use row_changes::record_change;
+use s4_types::{Change, Moment, ObjectId, Refusal};
+use time_read::laws::a_row_is_its_own_blocks;
+
+/// An attribute of at most 64 bytes.
+fn attribute_of(bytes: &[u8]) -> Attribute
+    requires { length bytes.now ≤ 64 }
+    ensures { result ≡ bytes.now }
+{
+    Attribute::new(bytes).unwrap()
+}
+
+impl<B: Blocks> Store<B> {
+    /// The row of an object, and that of its creation at this moment where it has none.
+    fn subject_row(&self, object: ObjectId, moment: Moment) -> Row
+        ensures { result ≡ subject_row (fields_of B.log self.now) object moment }
+    {
+        self.row(object).unwrap_or(Row::fresh(moment))
+    }
+
+    /// The inode that a change of an object at a moment begins with: its present one, and the blank one of the moment where
+    /// the object has no row.
+    pub fn subject(&self, object: ObjectId, moment: Moment) -> Inode
+        ensures { result ≡ subject_inode (fields_of B.log self.now) object moment }
+    {
+        changes_begin_with_the_present();
+        match self.present(object) {
+            Some(inode) => inode,
+            None => blank(moment),
+        }
+    }
+
+    /// ChainFull or NoSpace, where a change at a moment is refused.
+    fn check(&self, change: &Change, present: &Inode, moment: Moment) -> Result<(), Refusal>
+        requires store { IsStore (fields_of B.log self.now) }
+        requires takes { Takes (fields_of B.log self.now) change.now }
+        requires present { present.now ≡ subject_inode (fields_of B.log self.now) (object_of change.now) moment }
+        ensures { MatchResult result (λ _. change_refusal (fields_of B.log self.now) change.now moment ≡ None)
+            (λ e. change_refusal (fields_of B.log self.now) change.now moment ≡ Some e) }
+    {
+        a_fresh_row_stands();
+        a_blank_inode_has_holes_alone();
+        let row = self.subject_row(object_of(change), moment);
+        refusal(self.room(), change, &row, present)
+    }
+
+    /// From a moment on an object has another inode: what leads there is appended to its journal, and its row is changed.
+    fn turn(&mut self, object: ObjectId, before: &Inode, after: &Inode, moment: Moment)
+        requires { CanTurn (fields_of B.log self.old) object before.now after.now moment }
+        ensures { Turns (fields_of B.log self.old) object moment after.now (blocks_turned (fields_of B.log self.old) object before.now after.now moment) (fields_of B.log self.new) }
+    {
+        a_row_is_its_own_blocks();
+        a_row_is_by_later_moments();
+        the_last_inode_stays();
+        only_its_blocks_matter();
+        the_entries_between_two_inodes();
+        few_blocks_are_needed();
+        let Some(row) = self.rows.get(object) else {
+            unreachable!()
+        };
+        let Ok(next) = record_change(&mut self.table, object, &row, before, after, moment) else {
+            unreachable!()
+        };
+        self.rows.change(object, next);
+        self.latest = moment;
+        self.presents.replace(object, *after);
+    }
+
+    /// Takes a deletion.
+    fn delete(&mut self, object: ObjectId, present: &Inode, moment: Moment)
+        requires { CanTake (fields_of B.log self.old) (Delete object) moment present.now }
+        ensures { IsTaken (fields_of B.log self.old) (Delete object) moment present.now (fields_of B.log self.new) }
+    {
+        a_row_is_its_own_blocks();
+        a_row_is_by_later_moments();
+        only_its_blocks_matter();
+        the_entries_between_two_inodes();
+        bytes_add_up();
+        let after = deleted(present);
+        self.turn(object, present, &after, moment);
+    }
+
+    /// Takes a change of the attribute.
+    fn set_attribute(&mut self, object: ObjectId, attribute: &[u8], present: &Inode, moment: Moment)
+        requires { CanTake (fields_of B.log self.old) (SetAttr object attribute.now) moment present.now }
+        ensures { IsTaken (fields_of B.log self.old) (SetAttr object attribute.now) moment present.now (fields_of B.log self.new) }
+    {
+        a_row_is_its_own_blocks();
+        a_row_is_by_later_moments();
+        only_its_blocks_matter();
+        the_entries_between_two_inodes();
+        bytes_add_up();
+        let attribute = attribute_of(attribute);
+        let after = with_attribute(present, attribute, moment);
+        self.turn(object, present, &after, moment);
+    }
+
+    /// Takes a write.
+    fn write(
+        &mut self,
+        object: ObjectId,
+        offset: u64,
+        bytes: &[u8],
+        present: &Inode,
+        moment: Moment,
+    )
+        requires { CanTake (fields_of B.log self.old) (Write object offset bytes.now) moment present.now }
+        ensures { IsTaken (fields_of B.log self.old) (Write object offset bytes.now) moment present.now (fields_of B.log self.new) }
+    {
+        a_row_is_its_own_blocks();
+        a_row_is_by_later_moments();
+        only_its_blocks_matter();
+        held_pointers_lead();
+        one_place_has_one_name();
+        the_entries_between_two_inodes();
+        bytes_add_up();
+        let after = write(&mut self.table, object, present, moment, offset, bytes);
+        self.turn(object, present, &after, moment);
+    }
+
+    /// Takes a truncation.
+    fn truncate(&mut self, object: ObjectId, size: u64, present: &Inode, moment: Moment)
+        requires { CanTake (fields_of B.log self.old) (Truncate object size) moment present.now }
+        ensures { IsTaken (fields_of B.log self.old) (Truncate object size) moment present.now (fields_of B.log self.new) }
+    {
+        a_row_is_its_own_blocks();
+        a_row_is_by_later_moments();
+        only_its_blocks_matter();
+        held_pointers_lead();
+        one_place_has_one_name();
+        the_entries_between_two_inodes();
+        bytes_add_up();
+        let after = truncate(&mut self.table, object, present, moment, size as u32);
+        self.turn(object, present, &after, moment);
+    }
+
+    /// Gives an object its first row, and its inode beside it. NoMemory where one of them couldn't be stored; then nothing
+    /// has changed.
+    fn add_object(&mut self, object: ObjectId, first: &Inode, moment: Moment) -> Result<(), Refusal>
+        requires none { row_of self.old.rows object ≡ None }
+        requires first { first.now ≡ blank moment }
+        ensures added { OnOk result ((q : ℕ) → row_of self.new.rows q ≡ with_row (row_of self.old.rows) object (fresh_row moment) q) }
+        ensures same { OnOk result (fields_of B.log self.new ≡ record (fields_of B.log self.old) { rows = self.new.rows }) }
+        ensures refusal { IfErr result (λ e. e ≡ NoMemory) }
+        ensures unchanged { OnErr result (fields_of B.log self.new ≡ fields_of B.log self.old) }
+    {
+        a_fresh_row_stands();
+        self.presents.add(object, *first)?;
+        if let Err(refusal) = self.rows.add(object, moment) {
+            self.presents.remove(object);
+            return Err(refusal);
+        }
+        Ok(())
+    }
+
+    /// Takes a creation. NoMemory where its row or its inode couldn't be stored; then nothing has changed.
+    fn create(
+        &mut self,
+        object: ObjectId,
+        attribute: &[u8],
+        present: &Inode,
+        moment: Moment,
+    ) -> Result<(), Refusal>
+        requires { CanTake (fields_of B.log self.old) (Create object attribute.now) moment present.now }
+        ensures taken { OnOk result (IsTaken (fields_of B.log self.old) (Create object attribute.now) moment present.now (fields_of B.log self.new)) }
+        ensures refusal { IfErr result (λ e. e ≡ NoMemory) }
+        ensures unchanged { OnErr result (fields_of B.log self.new ≡ fields_of B.log self.old) }
+    {
+        a_fresh_row_stands();
+        a_row_is_by_later_moments();
+        a_blank_inode_has_holes_alone();
+        the_entries_between_two_inodes();
+        bytes_add_up();
+        let attribute = attribute_of(attribute);
+        self.add_object(object, present, moment)?;
+        let after = created(attribute, moment);
+        self.turn(object, present, &after, moment);
+        Ok(())
+    }
+
+    /// Takes a change that isn't refused. NoMemory of a creation alone, and then nothing has changed.
+    fn perform(&mut self, change: &Change, present: &Inode, moment: Moment) -> Result<(), Refusal>
+        requires { CanTake (fields_of B.log self.old) change.now moment present.now }
+        ensures taken { OnOk result (IsTaken (fields_of B.log self.old) change.now moment present.now (fields_of B.log self.new)) }
+        ensures refusal { IfErr result (λ e. (e ≡ NoMemory) × (row_of self.old.rows (object_of change.now) ≡ None)) }
+        ensures unchanged { OnErr result (fields_of B.log self.new ≡ fields_of B.log self.old) }
+    {
+        match change {
+            Change::Create { object, attribute } => {
+                self.create(*object, attribute.as_slice(), present, moment)?;
+            }
+            Change::Delete { object } => self.delete(*object, present, moment),
+            Change::Write {
+                object,
+                offset,
+                bytes,
+            } => self.write(*object, *offset, bytes.as_slice(), present, moment),
+            Change::Truncate { object, size } => self.truncate(*object, *size, present, moment),
+            Change::SetAttr { object, attribute } => {
+                self.set_attribute(*object, attribute.as_slice(), present, moment);
+            }
+            Change::SetWindow { .. } => unreachable!(),
+            Change::Flush { .. } => unreachable!(),
+            Change::FlushO { .. } => unreachable!(),
+        }
+        Ok(())
+    }
+
+    /// Takes a change of an object at a moment later than that of each change before; `present` is the inode that it begins
+    /// with, the object's present one, or the blank one of the moment for a creation. From the moment on the object's
+    /// version is what the model makes of it; the versions of all other moments and objects stay. Data blocks are appended
+    /// by ascending index, and after them the journal's.
+    ///
+    /// ChainFull exactly where the journal's entries would have more than 11,712 bytes; else NoSpace exactly where the
+    /// change appends more blocks than there is room for beside the reserve; else NoMemory where a creation's row or its
+    /// inode couldn't be stored. Then nothing has changed.
+    pub fn take(&mut self, change: &Change, present: &Inode, moment: Moment) -> Result<(), Refusal>
+        requires store { IsStore (fields_of B.log self.old) }
+        requires later { self.old.latest < moment }
+        requires takes { Takes (fields_of B.log self.old) change.now }
+        requires present { present.now ≡ subject_inode (fields_of B.log self.old) (object_of change.now) moment }
+        ensures store { IsStore (fields_of B.log self.new) }
+        ensures taken { OnOk result ((o t : ℕ) → version_in (fields_of B.log self.new) o t ≡ version_taken (fields_of B.log self.old) change.now moment o t) }
+        ensures latest { OnOk result (self.new.latest ≡ moment) }
+        ensures rows { OnOk result ((o : ℕ) → is_some (row_of self.new.rows o) ≡ (is_some (row_of self.old.rows o) || o == object_of change.now)) }
+        ensures row { OnOk result (RowChanges (fields_of B.log self.old) (object_of change.now) moment self.new.rows) }
+        ensures blocks { OnOk result (Appends (object_of change.now) (data_by (contents_of (B.log self.old.table).held) change.now present.now) (blocks_taken (fields_of B.log self.old) change.now moment) (B.log self.old.table) (B.log self.new.table)) }
+        ensures answer { MatchResult result (λ _. change_refusal (fields_of B.log self.old) change.now moment ≡ None)
+            (λ e. (e ≡ NoMemory) ⊎ (change_refusal (fields_of B.log self.old) change.now moment ≡ Some e)) }
+        ensures memory { IfErr result (λ e. e ≡ NoMemory → (change_refusal (fields_of B.log self.old) change.now moment ≡ None) × (row_of self.old.rows (object_of change.now) ≡ None)) }
+        ensures unchanged { OnErr result (fields_of B.log self.new ≡ fields_of B.log self.old) }
+    {
+        self.check(change, present, moment)?;
+        self.perform(change, present, moment)
+    }
+}
