@@ -19,7 +19,7 @@ use Rattle.s4_model.specs.Refusals.{live_size_of, present, is_absent, first_refu
 use Rattle.s4_model.specs.Limits.{Fits}
 use Rattle.blocks.specs.Log.{Stored}
 use Rattle.codec.specs.declared.inodes.Inode.{Inode}
-use Rattle.inode_links.specs.Runs.{blank}
+use Rattle.undo_redo.specs.Runs.{blank}
 use Rattle.inode_changes.specs.Contents.{contents_of, bytes_of, meaning}
 use Rattle.inode_changes.specs.Laws.{TheSizeCountsTheBytes}
 use Rattle.object_map.specs.declared.map.Row.{Row}

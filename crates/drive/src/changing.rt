@@ -1,7 +1,7 @@
 //! Changes of objects: judged by the present inode, then stored and accepted.
 ghost use Rattle.std.specs.Prelude.{◌≡◌, ◌+◌, ◌<◌, max, None, Some, unwrap_or, IfOk, IfErr, OnOk};
 ghost use Rattle.s4_model.specs.Numbers.{next_by};
-ghost use Rattle.inode_links.specs.Runs.{blank};
+ghost use Rattle.undo_redo.specs.Runs.{blank};
 ghost use Rattle.s4_model.specs.State.{took};
 ghost use Rattle.s4_model.specs.Refusals.{last_number};
 ghost use Rattle.s4_model.specs.Step.{change_of, stamp, accepted_record, reply_at};
@@ -20,7 +20,7 @@ use crate::session::Session;
 use admission::{judge, object_of};
 use codec::Inode;
 use inode_changes::laws::bytes_are_the_blocks_joined;
-use inode_links::blank;
+use undo_redo::blank;
 use version_store::laws::{changes_begin_with_the_present, the_present_stays};
 use s4_model::laws::{every_history_is_sound, the_state_goes_on_record_by_record};
 use s4_types::{Change, Moment, ObjectId, Refusal, Reply, Request};

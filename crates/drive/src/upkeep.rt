@@ -1,6 +1,6 @@
 //! Upkeep: what leaves the history and each version as they are, whatever it answers.
 ghost use Rattle.std.specs.Prelude.{◌≡◌, ℕ, None, Some, ◌++◌, IfSome, OnOk, OnErr, MatchResult};
-ghost use Rattle.inode_links.specs.Runs.{AllBy};
+ghost use Rattle.undo_redo.specs.Runs.{AllBy};
 ghost use Rattle.segment_table.specs.Changes.{IsFilling, NoneIsFilling, IsSealedIn};
 ghost use Rattle.segment_table.specs.Room.{rest_of, places_ahead};
 ghost use Rattle.object_map.specs.Rows.{row_of};

@@ -8,7 +8,7 @@ use Rattle.blocks.specs.declared.kinds.BlockKind.TheVariants as kind
 use Rattle.blocks.specs.Log.{Stored, of_kind, seen_as}
 use Rattle.codec.specs.declared.inodes.Inode.{Inode}
 use Rattle.codec.specs.Checkpoint.{pointer_at}
-use Rattle.inode_links.specs.Runs.{blank}
+use Rattle.undo_redo.specs.Runs.{blank}
 use Rattle.inode_changes.specs.Contents.{byte_in, byte_of, contents_of}
 use Rattle.inode_changes.specs.Tidiness.{PointersHeld}
 use Rattle.object_map.specs.declared.map.Row.{Row}

@@ -7,8 +7,8 @@ use Rattle.blocks.specs.declared.kinds.BlockKind.TheVariants.{Journal, Checkpoin
 use Rattle.codec.specs.declared.inodes.Inode.{Inode}
 use Rattle.codec.specs.Entry.{EntryFields}
 use Rattle.packing.specs.Packing.{joined}
-use Rattle.inode_links.specs.Runs.{AllBy, Run, blank, inode_after}
-use Rattle.inode_links.specs.Groups.{grouped}
+use Rattle.undo_redo.specs.Runs.{AllBy, Run, blank, inode_after}
+use Rattle.undo_redo.specs.Groups.{grouped}
 use Rattle.object_map.specs.Rows.{fresh_row}
 use Rattle.journal_chain.specs.Chain.{Holds, chain_entries, chain_links, links_from}
 use Rattle.time_read.specs.Rows.{IsRow, chain_of, entries_of, first_of, inode_before, inode_of}

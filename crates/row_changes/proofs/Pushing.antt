@@ -10,8 +10,8 @@ use Rattle.codec.specs.Fields.{◌>>=◌}
 use Rattle.codec.specs.declared.inodes.Inode.{Inode}
 use Rattle.codec.specs.Entry.{EntryFields}
 use Rattle.codec.specs.Checkpoint.{CheckpointFields}
-use Rattle.inode_links.specs.Runs.{Run, AllAt, AllBy, AllPast, is_by, entries_by, inode_after, redone_all, undone_all}
-use Rattle.inode_links.specs.Groups.{grouped}
+use Rattle.undo_redo.specs.Runs.{Run, AllAt, AllBy, AllPast, is_by, entries_by, inode_after, redone_all, undone_all}
+use Rattle.undo_redo.specs.Groups.{grouped}
 use Rattle.checkpoint.specs.Held.{checkpoint_held, spelled}
 use Rattle.object_map.specs.declared.map.Row.{Row}
 use Rattle.journal_chain.specs.Chain.{View, ChainFields, Holds, entries_held}

@@ -6,8 +6,8 @@ use Rattle.blocks.specs.Log.{Stored, of_kind}
 use Rattle.blocks.specs.declared.kinds.BlockKind.TheVariants.{Journal}
 use Rattle.codec.specs.declared.inodes.Inode.{Inode}
 use Rattle.codec.specs.Entry.{EntryFields}
-use Rattle.inode_links.specs.Runs.{AllBy, Run, ascend_from, entries_by, inode_after}
-use Rattle.inode_links.specs.Groups.{grouped}
+use Rattle.undo_redo.specs.Runs.{AllBy, Run, ascend_from, entries_by, inode_after}
+use Rattle.undo_redo.specs.Groups.{grouped}
 use Rattle.object_map.specs.declared.map.Row.{Row}
 use Rattle.journal_chain.specs.Chain.{View, chain_entries, entries_in}
 use Rattle.time_read.specs.Rows.{entries_of, first_of, inode_of, IsRow}

@@ -2,7 +2,7 @@
 use Rattle.std.specs.Prelude.{ℕ, ◌≤◌, Option}
 use Rattle.s4_types.specs.Pointer.{Place}
 use Rattle.blocks.specs.Log.{Stored}
-use Rattle.inode_links.specs.Runs.{AllBy}
+use Rattle.undo_redo.specs.Runs.{AllBy}
 use Rattle.object_map.specs.declared.map.Row.{Row}
 use Rattle.time_read.specs.Rows.{entries_of}
 

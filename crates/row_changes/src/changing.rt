@@ -1,5 +1,5 @@
 ghost use Rattle.std.specs.Prelude.{◌≡◌, ℕ, ◌-◌, nat_le, if◌then◌else◌, drop, Some, None, IfOk, OnErr, MatchResult};
-ghost use Rattle.inode_links.specs.Between.{CanLead, entries_between};
+ghost use Rattle.undo_redo.specs.Between.{CanLead, entries_between};
 ghost use Rattle.journal_chain.specs.Chain.{OnlyJournalChanged};
 ghost use Rattle.journal_chain.specs.Push.{push_refusal, pushed_blocks};
 ghost use Rattle.time_read.specs.Rows.{IsRow, chain_of, inode_of};
@@ -7,8 +7,8 @@ ghost use Rattle.row_changes.specs.Recent.{IsBy};
 
 use blocks::Blocks;
 use codec::Inode;
-use inode_links::entries_between;
-use inode_links::laws::{
+use undo_redo::entries_between;
+use undo_redo::laws::{
     a_run_has_one_end_and_one_beginning, groups_join_and_part, runs_join_and_part,
     the_inode_at_a_moment,
 };

@@ -3,13 +3,13 @@ ghost use Rattle.std.specs.Prelude.{◌≡◌, ℕ, ◌≤◌, Option, None};
 ghost use Rattle.s4_types.specs.Pointer.{Place};
 ghost use Rattle.blocks.specs.declared.kinds.BlockKind.TheVariants.{Journal, Checkpoint};
 ghost use Rattle.blocks.specs.Log.{Stored, of_kind};
-ghost use Rattle.inode_links.specs.Runs.{blank};
+ghost use Rattle.undo_redo.specs.Runs.{blank};
 ghost use Rattle.object_map.specs.declared.map.Row.{Row};
 ghost use Rattle.object_map.specs.Rows.{fresh_row};
 ghost use Rattle.time_read.specs.Rows.{IsRow, inode_of};
 ghost use Rattle.row_changes.specs.Recent.{IsBy};
 
-use inode_links::laws::{
+use undo_redo::laws::{
     a_run_keeps_the_making, groups_join_and_part, the_inode_at_a_moment,
     the_inode_at_a_moment_stands_in_the_run,
 };

@@ -4,7 +4,7 @@ use Rattle.std.specs.List.{slice_range}
 use Rattle.std.proofs.Math.Seq.{take-add}
 use Rattle.codec.specs.declared.inodes.Inode.{Inode}
 use Rattle.codec.specs.Entry.{EntryFields}
-use Rattle.inode_links.specs.Runs.{Run, redone_all, inode_after, entries_by, entries_past}
+use Rattle.undo_redo.specs.Runs.{Run, redone_all, inode_after, entries_by, entries_past}
 
 -- the front of a list
 front_is : {X : Type 0} (front back : List X) → take (length front) (front ++ back) ≡ front

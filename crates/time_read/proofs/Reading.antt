@@ -8,8 +8,8 @@ use Rattle.codec.specs.declared.inodes.Inode.{Inode}
 use Rattle.codec.specs.Entry.{EntryFields}
 use Rattle.codec.specs.Checkpoint.{CheckpointFields}
 use Rattle.packing.specs.Packing.{packed, filled_bytes, AllFit, KeepsTheRule}
-use Rattle.inode_links.specs.Runs.{Run, blank, inode_after, ascend_from}
-use Rattle.inode_links.specs.Groups.{grouped}
+use Rattle.undo_redo.specs.Runs.{Run, blank, inode_after, ascend_from}
+use Rattle.undo_redo.specs.Groups.{grouped}
 use Rattle.checkpoint.specs.Held.{checkpoint_held, spelled}
 use Rattle.object_map.specs.declared.map.Row.{Row}
 use Rattle.journal_chain.specs.Chain.{chain_entries}

@@ -7,8 +7,8 @@ use Rattle.codec.specs.Fields.{◌>>=◌}
 use Rattle.codec.specs.declared.inodes.Inode.{Inode}
 use Rattle.codec.specs.Entry.{EntryFields}
 use Rattle.codec.specs.Checkpoint.{CheckpointFields}
-use Rattle.inode_links.specs.Runs.{Run, inode_after}
-use Rattle.inode_links.specs.Groups.{grouped}
+use Rattle.undo_redo.specs.Runs.{Run, inode_after}
+use Rattle.undo_redo.specs.Groups.{grouped}
 use Rattle.checkpoint.specs.Held.{checkpoint_held, spelled}
 use Rattle.object_map.specs.declared.map.Row.{Row}
 use Rattle.journal_chain.specs.Chain.{View, IsChain, Holds, chain_entries, entries_in}

@@ -1,11 +1,11 @@
 //! From one moment of a run of inodes to another.
 ghost use Rattle.std.specs.Prelude.{◌≡◌, ℕ, ◌≤◌, true, List, length};
 ghost use Rattle.codec.specs.declared.inodes.Inode.{Inode as InodeFields};
-ghost use Rattle.inode_links.specs.Runs.{Run, inode_after, entries_by, ascend_from};
+ghost use Rattle.undo_redo.specs.Runs.{Run, inode_after, entries_by, ascend_from};
 
 use codec::{Entry, Inode};
-use inode_links::laws::{runs_join_and_part, the_inode_at_a_moment_stands_in_the_run};
-use inode_links::{redo_all, undo_all};
+use undo_redo::laws::{runs_join_and_part, the_inode_at_a_moment_stands_in_the_run};
+use undo_redo::{redo_all, undo_all};
 use s4_types::Moment;
 
 /// How many of the entries have at most this moment.

@@ -8,8 +8,8 @@ use Rattle.blocks.specs.declared.kinds.BlockKind.TheVariants.{Journal, Checkpoin
 use Rattle.codec.specs.Checkpoint.{holes_past, checkpoint_rules}
 use Rattle.codec.specs.Entry.{EntryFields}
 use Rattle.codec.specs.declared.inodes.Inode.{Inode}
-use Rattle.inode_links.specs.Runs.{AllBy, ascend_from, last_moment}
-use Rattle.inode_links.specs.Groups.{grouped}
+use Rattle.undo_redo.specs.Runs.{AllBy, ascend_from, last_moment}
+use Rattle.undo_redo.specs.Groups.{grouped}
 use Rattle.checkpoint.specs.Held.{checkpoint_held}
 use Rattle.inode_changes.specs.Contents.{contents_of, meaning}
 use Rattle.inode_changes.specs.Tidiness.{Tidy, PointersHeld}

@@ -4,7 +4,7 @@ use Rattle.s4_types.specs.Pointer.{Place}
 use Rattle.blocks.specs.Log.{Stored, of_kind}
 use Rattle.codec.specs.Entry.{EntryFields}
 use Rattle.packing.specs.Packing.{packed, filled_bytes, AllFit, KeepsTheRule}
-use Rattle.inode_links.specs.Runs.{last_moment}
+use Rattle.undo_redo.specs.Runs.{last_moment}
 use Rattle.object_map.specs.declared.map.Row.{Row}
 use Rattle.journal_chain.specs.Chain.{ChainFields, chain_entries}
 use Rattle.journal_chain.specs.Back.{BackFields, entries_left, left}

@@ -10,8 +10,8 @@ use Rattle.s4_types.specs.Pointer.{Place}
 use Rattle.codec.specs.Checkpoint.{pointer_at}
 use Rattle.codec.specs.Entry.{pair_length}
 use Rattle.codec.specs.declared.inodes.Inode.{Inode}
-use Rattle.inode_links.specs.Between.{pair_between}
-use Rattle.inode_links.specs.Sizes.{later_size, entry_sizes}
+use Rattle.undo_redo.specs.Between.{pair_between}
+use Rattle.undo_redo.specs.Sizes.{later_size, entry_sizes}
 use Rattle.version_store.specs.Costs.{is_past, past_count}
 use Rattle.version_store.proofs.Counting.{tally, tally-none, tally-more}
 

@@ -12,7 +12,7 @@ use Rattle.codec.specs.Checkpoint.{pointer_at}
 use Rattle.codec.specs.Entry.{same_slot}
 use Rattle.codec.specs.declared.inodes.Inode.{Inode}
 use Rattle.codec.specs.declared.entries.Triple.{Triple}
-use Rattle.inode_links.specs.Between.{triple_at, tells_apart, triples_below, triples_between}
+use Rattle.undo_redo.specs.Between.{triple_at, tells_apart, triples_below, triples_between}
 use Rattle.inode_changes.specs.Touched.{touched_count, is_touched, is_cut, cut_count}
 use Rattle.inode_changes.specs.Changed.{Written, Truncated}
 use Rattle.inode_changes.specs.Tidiness.{PointersLead}

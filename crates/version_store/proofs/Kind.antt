@@ -14,8 +14,8 @@ use Rattle.blocks.specs.Log.{Log}
 use Rattle.codec.specs.Entry.{EntryFields, entry_length}
 use Rattle.codec.specs.declared.inodes.Inode.{Inode}
 use Rattle.packing.specs.Sizes.{blocks_needed}
-use Rattle.inode_links.specs.Runs.{blank}
-use Rattle.inode_links.specs.Between.{CanLead, entries_between, triples_between}
+use Rattle.undo_redo.specs.Runs.{blank}
+use Rattle.undo_redo.specs.Between.{CanLead, entries_between, triples_between}
 use Rattle.inode_changes.specs.Contents.{contents_of, meaning}
 use Rattle.inode_changes.specs.Tidiness.{Tidy, PointersHeld}
 use Rattle.inode_changes.specs.Growth.{GrowsBy, with_data}

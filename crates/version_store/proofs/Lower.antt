@@ -4,12 +4,12 @@ use Rattle.codec.specs.Checkpoint.{pointer_at}
 use Rattle.codec.specs.Entry.{EntryFields, entry_length, entries_length, pair_length}
 use Rattle.codec.specs.declared.inodes.Inode.{Inode}
 use Rattle.packing.specs.Sizes.{blocks_needed}
-use Rattle.inode_links.specs.Between.{entries_between, triples_between, pair_between}
-use Rattle.inode_links.specs.Sizes.{entry_sizes}
+use Rattle.undo_redo.specs.Between.{entries_between, triples_between, pair_between}
+use Rattle.undo_redo.specs.Sizes.{entry_sizes}
 use Rattle.s4_types.specs.Pointer.{Place}
 use Rattle.blocks.specs.Log.{Stored, of_kind, same_place}
 use Rattle.blocks.specs.declared.kinds.BlockKind.TheVariants.{Journal, Checkpoint}
-use Rattle.inode_links.specs.Runs.{blank}
+use Rattle.undo_redo.specs.Runs.{blank}
 use Rattle.object_map.specs.declared.map.Row.{Row}
 use Rattle.object_map.specs.Rows.{fresh_row}
 use Rattle.time_read.specs.Rows.{IsRow, inode_of}

@@ -9,8 +9,8 @@ use Rattle.s4_model.specs.Effect.{effect, object_of}
 use Rattle.blocks.specs.Log.{Log}
 use Rattle.codec.specs.Checkpoint.{pointer_at}
 use Rattle.codec.specs.declared.inodes.Inode.{Inode}
-use Rattle.inode_links.specs.Runs.{blank}
-use Rattle.inode_links.specs.Between.{CanLead}
+use Rattle.undo_redo.specs.Runs.{blank}
+use Rattle.undo_redo.specs.Between.{CanLead}
 use Rattle.inode_changes.specs.Contents.{contents_of, meaning}
 use Rattle.inode_changes.specs.Tidiness.{Tidy, PointersHeld}
 use Rattle.inode_changes.specs.Touched.{touched_count, cut_count}

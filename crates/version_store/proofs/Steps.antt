@@ -11,7 +11,7 @@ use Rattle.blocks.specs.Log.{Log, Stored, of_kind, same_kind}
 use Rattle.blocks.specs.declared.kinds.BlockKind.TheVariants.{Journal, Checkpoint, Data}
 use Rattle.codec.specs.declared.inodes.Inode.{Inode}
 use Rattle.codec.specs.Checkpoint.{pointer_at}
-use Rattle.inode_links.specs.Runs.{blank}
+use Rattle.undo_redo.specs.Runs.{blank}
 use Rattle.journal_chain.specs.Chain.{OnlyJournalChanged}
 use Rattle.inode_changes.specs.Contents.{byte_in, byte_of, contents_of, meaning}
 use Rattle.inode_changes.specs.Tidiness.{Tidy, PointersHeld}

@@ -12,8 +12,8 @@ use Rattle.blocks.specs.Log.{Stored}
 use Rattle.codec.specs.Entry.{EntryFields, entry_length, entries_length, pair_length}
 use Rattle.codec.specs.declared.inodes.Inode.{Inode}
 use Rattle.packing.specs.Sizes.{blocks_needed}
-use Rattle.inode_links.specs.Between.{entries_between, triples_between, pair_between}
-use Rattle.inode_links.specs.Sizes.{entry_sizes}
+use Rattle.undo_redo.specs.Between.{entries_between, triples_between, pair_between}
+use Rattle.undo_redo.specs.Sizes.{entry_sizes}
 use Rattle.journal_chain.specs.Push.{push_refusal}
 use Rattle.inode_changes.specs.Contents.{contents_of, meaning, bytes_of}
 use Rattle.inode_changes.specs.Tidiness.{Tidy, PointersHeld}

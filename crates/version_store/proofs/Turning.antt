@@ -8,7 +8,7 @@ use Rattle.blocks.specs.Log.{Stored}
 use Rattle.codec.specs.Entry.{entry_length, entries_length}
 use Rattle.codec.specs.declared.inodes.Inode.{Inode}
 use Rattle.packing.specs.Sizes.{blocks_needed}
-use Rattle.inode_links.specs.Between.{entries_between}
+use Rattle.undo_redo.specs.Between.{entries_between}
 use Rattle.journal_chain.specs.Push.{push_refusal, pushed_blocks}
 use Rattle.inode_changes.specs.Laws.{OnlyItsBlocksMatter}
 use Rattle.object_map.specs.declared.map.Row.{Row}

@@ -1,7 +1,7 @@
 -- What one checkpoint leaves of a whole store. No public clause cites this file.
 use Rattle.std.specs.Prelude.{◌≡◌, ℕ, ◌<◌, true, Some, IfSome, is_some}
 use Rattle.codec.specs.declared.inodes.Inode.{Inode}
-use Rattle.inode_links.specs.Runs.{AllBy}
+use Rattle.undo_redo.specs.Runs.{AllBy}
 use Rattle.object_map.specs.declared.map.Row.{Row}
 use Rattle.object_map.specs.Rows.{row_of}
 use Rattle.time_read.specs.Rows.{entries_of, inode_of}

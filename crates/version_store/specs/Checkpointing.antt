@@ -4,7 +4,7 @@ use Rattle.s4_types.specs.Pointer.{Place}
 use Rattle.s4_types.specs.declared.refusals.Refusal.{Refusal}
 use Rattle.s4_types.specs.declared.refusals.Refusal.TheVariants.{NoObject, NoSpace}
 use Rattle.blocks.specs.Log.{Stored}
-use Rattle.inode_links.specs.Runs.{last_moment}
+use Rattle.undo_redo.specs.Runs.{last_moment}
 use Rattle.checkpoint.specs.Held.{checkpoint_held}
 use Rattle.object_map.specs.declared.map.Row.{Row}
 use Rattle.object_map.specs.Rows.{row_of, with_row}

@@ -11,8 +11,8 @@ use Rattle.codec.specs.Checkpoint.{pointer_at}
 use Rattle.codec.specs.Entry.{pair_length}
 use Rattle.codec.specs.declared.inodes.Inode.{Inode}
 use Rattle.packing.specs.Sizes.{blocks_needed}
-use Rattle.inode_links.specs.Between.{pair_between}
-use Rattle.inode_links.specs.Sizes.{entry_sizes}
+use Rattle.undo_redo.specs.Between.{pair_between}
+use Rattle.undo_redo.specs.Sizes.{entry_sizes}
 use Rattle.inode_changes.specs.Touched.{touched_count, cut_count}
 use Rattle.object_map.specs.declared.map.Row.{Row}
 use Rattle.object_map.specs.Rows.{row_of, fresh_row}

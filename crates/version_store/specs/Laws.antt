@@ -4,7 +4,7 @@ use Rattle.s4_types.specs.Pointer.{Place}
 use Rattle.blocks.specs.declared.kinds.BlockKind.{BlockKind}
 use Rattle.blocks.specs.Log.{Stored, of_kind}
 use Rattle.codec.specs.declared.inodes.Inode.{Inode}
-use Rattle.inode_links.specs.Runs.{blank}
+use Rattle.undo_redo.specs.Runs.{blank}
 use Rattle.inode_changes.specs.Contents.{contents_of, meaning}
 use Rattle.object_map.specs.declared.map.Row.{Row}
 use Rattle.object_map.specs.Rows.{row_of}

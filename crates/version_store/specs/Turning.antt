@@ -8,7 +8,7 @@ use Rattle.codec.specs.Checkpoint.{pointer_at}
 use Rattle.codec.specs.declared.inodes.Inode.{Inode}
 use Rattle.object_map.specs.declared.map.Row.{Row}
 use Rattle.object_map.specs.Rows.{row_of}
-use Rattle.inode_links.specs.Between.{CanLead, entries_between}
+use Rattle.undo_redo.specs.Between.{CanLead, entries_between}
 use Rattle.journal_chain.specs.Chain.{OnlyJournalChanged}
 use Rattle.journal_chain.specs.Push.{push_refusal, pushed_blocks}
 use Rattle.time_read.specs.Rows.{chain_of, inode_of}

@@ -3,13 +3,13 @@
 ghost use Rattle.std.specs.Prelude.{◌≡◌, ◌+◌, ◌≤◌, length, sum, None, Some, MatchResult};
 ghost use Rattle.s4_model.specs.Limits.{Fits};
 ghost use Rattle.codec.specs.Entry.{pair_length};
-ghost use Rattle.inode_links.specs.Between.{pair_between};
+ghost use Rattle.undo_redo.specs.Between.{pair_between};
 ghost use Rattle.version_store.specs.Costs.{past_count, pointers_moved, data_blocks, attribute_by, sizes_by, blocks_by, refusal_by};
 ghost use Rattle.s4_model.specs.Effect.{object_of};
 
 use codec::Inode;
 use inode_changes::{blocks_of_truncate, blocks_of_write};
-use inode_links::{Sizes, entry_sizes};
+use undo_redo::{Sizes, entry_sizes};
 use object_map::Row;
 use packing::blocks_needed;
 use packing::laws::few_blocks_are_needed;

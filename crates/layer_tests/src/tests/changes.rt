@@ -1,7 +1,7 @@
 //! Changes of an object and its checkpoints over a small table, and its inodes then.
 ghost use Rattle.std.specs.Prelude.{◌≡◌, ◌-◌, ◌≤◌, true, false, length, None, IfOk, IfSome};
 ghost use Rattle.s4_types.specs.Pointer.{Place};
-ghost use Rattle.inode_links.specs.Between.{CanLead};
+ghost use Rattle.undo_redo.specs.Between.{CanLead};
 ghost use Rattle.time_read.specs.Rows.{IsRow};
 ghost use Rattle.row_changes.specs.Recent.{IsBy};
 

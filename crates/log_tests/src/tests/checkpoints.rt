@@ -6,7 +6,7 @@ use crate::tests::subject::Subject;
 use crate::tests::tables::{block_of, new_table};
 use blocks::Blocks;
 use codec::{Attribute, Checkpoint, Inode};
-use inode_links::blank;
+use undo_redo::blank;
 use object_map::Row;
 use s4_types::{Moment, Ptr};
 use std::alloc::Global;

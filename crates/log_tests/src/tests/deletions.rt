@@ -6,7 +6,7 @@ use crate::tests::subject::Subject;
 use crate::tests::tables::new_table;
 use blocks::Blocks;
 use codec::{Attribute, Inode};
-use inode_links::blank;
+use undo_redo::blank;
 use object_map::Row;
 use s4_types::{Moment, Ptr};
 use segment_table::SegmentTable;

@@ -12,7 +12,7 @@ use crate::tests::subject::Subject;
 use crate::tests::tables::{held_blocks, new_table, place};
 use blocks::{Block, Blocks};
 use codec::{Attribute, Entry, Inode};
-use inode_links::blank;
+use undo_redo::blank;
 use journal_chain::Chain;
 use object_map::Row;
 use s4_types::{Moment, Refusal};

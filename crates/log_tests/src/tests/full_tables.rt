@@ -10,7 +10,7 @@ use crate::tests::tables::{held_blocks, new_table, place};
 use blocks::{Block, Blocks};
 use checkpoint::write_checkpoint;
 use codec::Checkpoint;
-use inode_links::blank;
+use undo_redo::blank;
 use journal_chain::Chain;
 use s4_types::{Moment, ObjectId, Refusal};
 use std::alloc::Global;

@@ -6,7 +6,7 @@ use crate::tests::subject::{OBJECT, Subject};
 use crate::tests::tables::{new_table, place};
 use blocks::{Block, Blocks};
 use codec::{Entry, Inode, Status, decode_journal};
-use inode_links::blank;
+use undo_redo::blank;
 use s4_types::{Moment, ObjectId, Ptr};
 use segment_table::SegmentTable;
 use std::alloc::Global;

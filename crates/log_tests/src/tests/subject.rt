@@ -2,7 +2,7 @@
 //! change to the next.
 ghost use Rattle.std.specs.Prelude.{◌≡◌, ◌<◌, ◌≤◌, true, None, IsSome, IsTrue, IfSome, OnOk, length};
 ghost use Rattle.s4_types.specs.Pointer.{Place};
-ghost use Rattle.inode_links.specs.Between.{CanLead};
+ghost use Rattle.undo_redo.specs.Between.{CanLead};
 ghost use Rattle.inode_changes.specs.Contents.{contents_of};
 ghost use Rattle.inode_changes.specs.Tidiness.{Tidy, PointersHeld, PointersLead};
 ghost use Rattle.time_read.specs.Rows.{chain_of};
@@ -17,8 +17,8 @@ use inode_changes::laws::only_its_blocks_matter;
 use inode_changes::{
     blocks_of_truncate, blocks_of_write, created, deleted, read, truncate, with_attribute, write,
 };
-use inode_links::blank;
-use inode_links::laws::a_blank_inode_has_holes_alone;
+use undo_redo::blank;
+use undo_redo::laws::a_blank_inode_has_holes_alone;
 use journal_chain::Chain;
 use object_map::Row;
 use row_changes::laws::{a_fresh_row_stands, a_row_is_by_later_moments, the_last_inode_stays};

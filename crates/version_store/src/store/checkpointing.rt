@@ -1,6 +1,6 @@
 //! The checkpoint of an object: when it has to be written, and its writing.
 ghost use Rattle.std.specs.Prelude.{◌≡◌, ℕ, true, false, None, Some, is_some, IfSome, IfNone, OnOk, OnErr, MatchResult};
-ghost use Rattle.inode_links.specs.Runs.{AllBy};
+ghost use Rattle.undo_redo.specs.Runs.{AllBy};
 ghost use Rattle.object_map.specs.Rows.{row_of};
 ghost use Rattle.time_read.specs.Rows.{IsRow, entries_of};
 ghost use Rattle.version_store.specs.Store.{fields_of, IsStore};
@@ -12,7 +12,7 @@ use crate::store::Store;
 use blocks::Blocks;
 use codec::Inode;
 use inode_changes::laws::only_its_blocks_matter;
-use inode_links::laws::groups_join_and_part;
+use undo_redo::laws::groups_join_and_part;
 use journal_chain::Chain;
 use object_map::Row;
 use row_changes::laws::{a_row_is_by_later_moments, a_row_keeps_the_making, the_last_inode_stays};

@@ -2,7 +2,7 @@ use Rattle.std.proofs.Common.{◌≡◌, ap, ◌∙◌, List}
 use Rattle.blocks.specs.Log.{Log}
 use Rattle.codec.specs.declared.inodes.Inode.{Inode}
 use Rattle.codec.specs.Entry.{EntryFields}
-use Rattle.inode_links.specs.Runs.{inode_after, blank}
+use Rattle.undo_redo.specs.Runs.{inode_after, blank}
 use Rattle.checkpoint.specs.Held.{checkpoint_held}
 use Rattle.journal_chain.specs.Chain.{ChainFields, entries_held}
 use Rattle.time_read.specs.Rows.{entries_of, inode_of}

@@ -1,6 +1,6 @@
 use Rattle.std.proofs.Common.{ℕ, length, sym, subst, ap, arith, ◌∙◌}
 use Rattle.std.specs.List.{slice_range}
-use Rattle.inode_links.specs.Runs.{Run, redone_all, entries_by}
+use Rattle.undo_redo.specs.Runs.{Run, redone_all, entries_by}
 use Rattle.time_read.proofs.Parting.{led_forth, led_back}
 use Rattle.time_read.proofs.moving.lead.Goals as goal
 

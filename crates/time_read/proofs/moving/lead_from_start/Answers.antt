@@ -1,5 +1,5 @@
 use Rattle.std.proofs.Common.{ℕ, take, ap, ◌∙◌}
-use Rattle.inode_links.specs.Runs.{redone_all}
+use Rattle.undo_redo.specs.Runs.{redone_all}
 use Rattle.time_read.proofs.Parting.{led_from_start}
 use Rattle.time_read.proofs.moving.lead_from_start.Goals as goal
 

@@ -1,6 +1,0 @@
-use Rattle.std.proofs.Common.{◌≡◌}
-use Rattle.inode_links.specs.Runs.{undone_all}
-use Rattle.inode_links.proofs.links.put_all_before.Given as goal
-
-abbrev pub invariant-loop-entry : goal.invariant-loop-entry
-invariant-loop-entry l = undone_all l.entry-iterator.iter.rest.now l.inode ≡ undone_all l.entries l.initial.inode

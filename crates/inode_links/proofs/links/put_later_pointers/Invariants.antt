@@ -1,6 +1,0 @@
-use Rattle.std.proofs.Common.{◌≡◌, drop}
-use Rattle.inode_links.specs.Redone.{with_after}
-use Rattle.inode_links.proofs.links.put_later_pointers.Given as goal
-
-abbrev pub invariant-loop-triple : goal.invariant-loop-triple
-invariant-loop-triple l = with_after (drop l.triple-index l.triples) l.pointers ≡ with_after l.triples l.initial.pointers
