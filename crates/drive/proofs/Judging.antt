@@ -20,8 +20,8 @@ use Rattle.s4_model.specs.Limits.{Fits}
 use Rattle.blocks.specs.Log.{Stored}
 use Rattle.codec.specs.declared.inodes.Inode.{Inode}
 use Rattle.undo_redo.specs.Runs.{blank}
-use Rattle.inode_changes.specs.Contents.{contents_of, bytes_of, meaning}
-use Rattle.inode_changes.specs.Laws.{TheSizeCountsTheBytes}
+use Rattle.inode.specs.Contents.{contents_of, bytes_of, meaning}
+use Rattle.inode.specs.Laws.{TheSizeCountsTheBytes}
 use Rattle.object_map.specs.declared.map.Row.{Row}
 use Rattle.object_map.specs.Rows.{row_of}
 use Rattle.version_store.specs.Store.{StoreFields}

@@ -12,7 +12,7 @@ use Rattle.s4_model.specs.VersionAt.{version_of}
 use Rattle.s4_model.specs.Visible.{IsVisible, is_hidden}
 use Rattle.s4_model.specs.Refusals.{moment_refusal, is_absent}
 use Rattle.codec.specs.declared.inodes.Inode.{Inode}
-use Rattle.inode_changes.specs.Contents.{contents_of, bytes_of, meaning}
+use Rattle.inode.specs.Contents.{contents_of, bytes_of, meaning}
 use Rattle.version_store.specs.Store.{StoreFields}
 use Rattle.version_store.specs.Versions.{inode_in, version_by}
 use Rattle.window.specs.Timeline.{Timeline}

@@ -14,7 +14,7 @@ use Rattle.s4_model.specs.Refusals.{moment_refusal, is_absent, asked}
 use Rattle.s4_model.specs.Step.{change_of, stamp, reply_to_change}
 use Rattle.segment_word.specs.AcceptViews.{Ledger, Told, with_change, caught_up, credited}
 use Rattle.codec.specs.declared.inodes.Inode.{Inode}
-use Rattle.inode_changes.specs.Contents.{contents_of}
+use Rattle.inode.specs.Contents.{contents_of}
 use Rattle.version_store.specs.Store.{StoreFields}
 use Rattle.version_store.specs.Costs.{subject_inode, blocks_taken}
 use Rattle.s4_model.specs.Effect.{is_of_versions, object_of}

@@ -19,7 +19,7 @@ use crate::drive::Drive;
 use crate::session::Session;
 use admission::{judge, object_of};
 use codec::Inode;
-use inode_changes::laws::bytes_are_the_blocks_joined;
+use inode::laws::bytes_are_the_blocks_joined;
 use undo_redo::blank;
 use version_store::laws::{changes_begin_with_the_present, the_present_stays};
 use s4_model::laws::{every_history_is_sound, the_state_goes_on_record_by_record};

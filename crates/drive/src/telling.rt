@@ -8,7 +8,7 @@ ghost use Rattle.s4_types.specs.declared.versions.Version.TheVariants.{Live};
 ghost use Rattle.s4_model.specs.VersionAt.{version_of};
 ghost use Rattle.s4_model.specs.Refusals.{first_refusal, asked};
 ghost use Rattle.s4_model.specs.Step.{reply_to_read};
-ghost use Rattle.inode_changes.specs.Contents.{contents_of, bytes_of};
+ghost use Rattle.inode.specs.Contents.{contents_of, bytes_of};
 ghost use Rattle.admission.specs.Later.{later_refusal, IsWithin};
 ghost use Rattle.version_store.specs.Versions.{inode_in};
 ghost use Rattle.drive.specs.Fields.{state_in, store_of};
@@ -19,7 +19,7 @@ ghost use Rattle.drive.specs.Answering.{IsRead, IsUntold, IsPlanOf, telling_refu
 use crate::drive::Drive;
 use admission::check;
 use codec::Inode;
-use inode_changes::laws::bytes_are_the_blocks_joined;
+use inode::laws::bytes_are_the_blocks_joined;
 use s4_types::{Bytes, Moment, ObjectId, Refusal, Reply, Request, Role};
 use segment_word::Naming;
 use std::alloc::Global;

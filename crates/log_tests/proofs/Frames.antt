@@ -10,9 +10,9 @@ use Rattle.blocks.specs.Growth.{Puts}
 use Rattle.codec.specs.declared.inodes.Inode.{Inode}
 use Rattle.codec.specs.Checkpoint.{pointer_at}
 use Rattle.codec.specs.Entry.{EntryFields}
-use Rattle.inode_changes.specs.Contents.{bytes_stored, contents_of}
-use Rattle.inode_changes.specs.Tidiness.{Tidy, PointersHeld, AgreeAt}
-use Rattle.inode_changes.specs.Laws.{OnlyItsBlocksMatter}
+use Rattle.inode.specs.Contents.{bytes_stored, contents_of}
+use Rattle.inode.specs.Tidiness.{Tidy, PointersHeld, AgreeAt}
+use Rattle.inode.specs.Laws.{OnlyItsBlocksMatter}
 use Rattle.object_map.specs.declared.map.Row.{Row}
 use Rattle.journal_chain.specs.Chain.{View, ChainFields, IsChain, Holds, chain_entries, entries_in, entries_held}
 use Rattle.time_read.specs.Rows.{IsRow, inode_of}

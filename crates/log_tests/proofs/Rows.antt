@@ -9,8 +9,8 @@ use Rattle.blocks.specs.Log.{Stored, of_kind, seen_as}
 use Rattle.codec.specs.declared.inodes.Inode.{Inode}
 use Rattle.codec.specs.Checkpoint.{pointer_at}
 use Rattle.undo_redo.specs.Runs.{blank}
-use Rattle.inode_changes.specs.Contents.{byte_in, byte_of, contents_of}
-use Rattle.inode_changes.specs.Tidiness.{PointersHeld}
+use Rattle.inode.specs.Contents.{byte_in, byte_of, contents_of}
+use Rattle.inode.specs.Tidiness.{PointersHeld}
 use Rattle.object_map.specs.declared.map.Row.{Row}
 use Rattle.object_map.specs.Rows.{fresh_row}
 use Rattle.journal_chain.specs.Chain.{ChainFields, Holds, entries_held}

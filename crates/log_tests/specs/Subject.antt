@@ -3,8 +3,8 @@ use Rattle.std.specs.Prelude.{◌≡◌, ℕ, Option}
 use Rattle.s4_types.specs.Pointer.{Place}
 use Rattle.blocks.specs.Log.{Stored}
 use Rattle.codec.specs.declared.inodes.Inode.{Inode}
-use Rattle.inode_changes.specs.Contents.{contents_of}
-use Rattle.inode_changes.specs.Tidiness.{Tidy, PointersHeld}
+use Rattle.inode.specs.Contents.{contents_of}
+use Rattle.inode.specs.Tidiness.{Tidy, PointersHeld}
 use Rattle.object_map.specs.declared.map.Row.{Row}
 use Rattle.time_read.specs.Rows.{IsRow, inode_of}
 use Rattle.row_changes.specs.Recent.{IsBy}

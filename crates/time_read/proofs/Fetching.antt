@@ -1,7 +1,7 @@
 -- The bytes of a plan, piece by piece.
 use Rattle.std.proofs.Common.{◌≡◌, ℕ, ◌+◌, ◌-◌, ◌*◌, ◌/◌, ◌%◌, ◌<◌, ◌≤◌, List, [], ◌++◌, length, take, drop, slice_index, slice_index_or, ap, sym, ◌∙◌, arith, length-append, get_or-take, get_or-drop}
-use Rattle.inode_changes.specs.Contents.{listed}
-use Rattle.inode_changes.specs.Laws.{RangesJoin, AListIsARange}
+use Rattle.inode.specs.Contents.{listed}
+use Rattle.inode.specs.Laws.{RangesJoin, AListIsARange}
 use Rattle.time_read.specs.Plans.{PlanFields, piece_bytes, pins_of, byte_planned}
 use Rattle.time_read.specs.declared.plans.Piece.TheVariants.{Hole}
 

@@ -2,8 +2,8 @@
 use Rattle.std.proofs.Common.{◌≡◌, ℕ, ◌<◌, ◌⊎◌, ◌↔◌, true, false, true≢false, Option, Some, None, inl, inr, refl, ap, sym, subst, ◌∙◌}
 use Rattle.std.proofs.lemmas.Bool.{cond-true, cond-false, eqb-true, eq-eqb}
 use Rattle.s4_types.specs.Pointer.{Place}
-use Rattle.inode_changes.specs.Contents.{contents_of}
-use Rattle.inode_changes.specs.Laws.{slot_bytes}
+use Rattle.inode.specs.Contents.{contents_of}
+use Rattle.inode.specs.Laws.{slot_bytes}
 use Rattle.segment_word.specs.Frames.{Phase, Open, Sealed, is_open}
 use Rattle.segment_word.specs.Layout.{frame_at}
 use Rattle.segment_word.specs.Counting.{pins_in}

@@ -9,9 +9,9 @@ use Rattle.std.proofs.lemmas.List.Folds.{list_any-append, list_any_at}
 use Rattle.s4_types.specs.Pointer.{Place}
 use Rattle.codec.specs.Checkpoint.{pointer_at}
 use Rattle.codec.specs.declared.inodes.Inode.{Inode}
-use Rattle.inode_changes.specs.Contents.{contents_of, byte_in, byte_of, bytes_of, listed, zeros}
-use Rattle.inode_changes.specs.Laws.{slot_bytes, EqualRanges, BytesFromAnOffset}
-use Rattle.inode_changes.specs.Touched.{touched_count}
+use Rattle.inode.specs.Contents.{contents_of, byte_in, byte_of, bytes_of, listed, zeros}
+use Rattle.inode.specs.Laws.{slot_bytes, EqualRanges, BytesFromAnOffset}
+use Rattle.inode.specs.Touched.{touched_count}
 use Rattle.segment_word.specs.Handles.{Held}
 use Rattle.segment_word.specs.Layout.{block_bytes}
 use Rattle.segment_word.specs.Counting.{pins_in}

@@ -1,8 +1,8 @@
 -- How a plan comes about, block by block.
 use Rattle.std.specs.Prelude.{◌≡◌, ℕ, ◌<◌, ◌++◌, ◌⊎◌, ◌↔◌, true, false, [], ◌∷◌, Option}
 use Rattle.s4_types.specs.Pointer.{Place}
-use Rattle.inode_changes.specs.Contents.{contents_of}
-use Rattle.inode_changes.specs.Laws.{slot_bytes}
+use Rattle.inode.specs.Contents.{contents_of}
+use Rattle.inode.specs.Laws.{slot_bytes}
 use Rattle.segment_word.specs.Handles.{Held}
 use Rattle.segment_word.specs.Layout.{block_bytes}
 use Rattle.segment_word.specs.Counting.{pins_in}

@@ -4,8 +4,8 @@ use Rattle.std.specs.List.{range_with_len}
 use Rattle.s4_types.specs.Pointer.{Place}
 use Rattle.codec.specs.Checkpoint.{pointer_at}
 use Rattle.codec.specs.declared.inodes.Inode.{Inode}
-use Rattle.inode_changes.specs.Contents.{contents_of, zeros, listed}
-use Rattle.inode_changes.specs.Touched.{touched_count}
+use Rattle.inode.specs.Contents.{contents_of, zeros, listed}
+use Rattle.inode.specs.Touched.{touched_count}
 use Rattle.segment_word.specs.Frames.{is_open}
 use Rattle.segment_word.specs.Frames.{Pinned as FramePin}
 use Rattle.segment_word.specs.Handles.{Held}

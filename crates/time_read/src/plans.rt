@@ -3,9 +3,9 @@ ghost use Rattle.std.specs.Prelude.{◌≡◌, ℕ, ◌+◌, ◌-◌, ◌/◌, �
 ghost use Rattle.std.specs.List.{list_any};
 ghost use Rattle.s4_types.specs.Pointer.{Place};
 ghost use Rattle.s4_types.specs.declared.refusals.Refusal.TheVariants.{NoMemory, Busy};
-ghost use Rattle.inode_changes.specs.Contents.{contents_of, bytes_of, listed};
-ghost use Rattle.inode_changes.specs.Tidiness.{PointersLead};
-ghost use Rattle.inode_changes.specs.Touched.{touched_count};
+ghost use Rattle.inode.specs.Contents.{contents_of, bytes_of, listed};
+ghost use Rattle.inode.specs.Tidiness.{PointersLead};
+ghost use Rattle.inode.specs.Touched.{touched_count};
 ghost use Rattle.segment_word.specs.Frames.Phase.{Open, Sealed};
 ghost use Rattle.segment_word.specs.Layout.{frame_at, block_bytes};
 ghost use Rattle.segment_word.specs.Counting.{pins_in};
@@ -16,8 +16,8 @@ ghost use Rattle.time_read.specs.declared.plans.Piece.TheVariants.{Hole, Copied,
 
 use blocks::{Block, Blocks};
 use codec::Inode;
-use inode_changes::laws::{bytes_from_an_offset, ranges_join_and_part};
-use inode_changes::zero_block;
+use inode::laws::{bytes_from_an_offset, ranges_join_and_part};
+use inode::zero_block;
 use s4_types::limits::BLOCK_BYTES;
 use s4_types::{Ptr, Refusal};
 use segment_table::SegmentTable;

@@ -13,9 +13,9 @@ use Rattle.codec.specs.Entry.{same_slot}
 use Rattle.codec.specs.declared.inodes.Inode.{Inode}
 use Rattle.codec.specs.declared.entries.Triple.{Triple}
 use Rattle.undo_redo.specs.Between.{triple_at, tells_apart, triples_below, triples_between}
-use Rattle.inode_changes.specs.Touched.{touched_count, is_touched, is_cut, cut_count}
-use Rattle.inode_changes.specs.Changed.{Written, Truncated}
-use Rattle.inode_changes.specs.Tidiness.{PointersLead}
+use Rattle.inode.specs.Touched.{touched_count, is_touched, is_cut, cut_count}
+use Rattle.inode.specs.Changed.{Written, Truncated}
+use Rattle.inode.specs.Tidiness.{PointersLead}
 use Rattle.version_store.specs.Costs.{is_past, past_count}
 use Rattle.version_store.proofs.Lower.{OnePlace}
 

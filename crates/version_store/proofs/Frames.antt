@@ -9,10 +9,10 @@ use Rattle.blocks.specs.declared.kinds.BlockKind.{BlockKind}
 use Rattle.blocks.specs.declared.kinds.BlockKind.TheVariants.{Journal, Checkpoint, Data}
 use Rattle.codec.specs.declared.inodes.Inode.{Inode}
 use Rattle.journal_chain.specs.Chain.{OnlyJournalChanged}
-use Rattle.inode_changes.specs.Contents.{bytes_stored, contents_of, meaning}
-use Rattle.inode_changes.specs.Tidiness.{Tidy, PointersHeld, AgreeAt}
-use Rattle.inode_changes.specs.Growth.{GrowsBy}
-use Rattle.inode_changes.specs.Laws.{OnlyItsBlocksMatter}
+use Rattle.inode.specs.Contents.{bytes_stored, contents_of, meaning}
+use Rattle.inode.specs.Tidiness.{Tidy, PointersHeld, AgreeAt}
+use Rattle.inode.specs.Growth.{GrowsBy}
+use Rattle.inode.specs.Laws.{OnlyItsBlocksMatter}
 use Rattle.object_map.specs.declared.map.Row.{Row}
 use Rattle.object_map.specs.Rows.{row_of}
 use Rattle.time_read.specs.Rows.{inode_of}

@@ -16,10 +16,10 @@ use Rattle.codec.specs.declared.inodes.Inode.{Inode}
 use Rattle.packing.specs.Sizes.{blocks_needed}
 use Rattle.undo_redo.specs.Runs.{blank}
 use Rattle.undo_redo.specs.Between.{CanLead, entries_between, triples_between}
-use Rattle.inode_changes.specs.Contents.{contents_of, meaning}
-use Rattle.inode_changes.specs.Tidiness.{Tidy, PointersHeld}
-use Rattle.inode_changes.specs.Growth.{GrowsBy, with_data}
-use Rattle.inode_changes.specs.Laws.{OnlyItsBlocksMatter}
+use Rattle.inode.specs.Contents.{contents_of, meaning}
+use Rattle.inode.specs.Tidiness.{Tidy, PointersHeld}
+use Rattle.inode.specs.Growth.{GrowsBy, with_data}
+use Rattle.inode.specs.Laws.{OnlyItsBlocksMatter}
 use Rattle.object_map.specs.declared.map.Row.{Row}
 use Rattle.object_map.specs.Rows.{row_of, with_row, fresh_row}
 use Rattle.time_read.specs.Rows.{inode_of}

@@ -11,12 +11,12 @@ use Rattle.codec.specs.Checkpoint.{pointer_at}
 use Rattle.codec.specs.declared.inodes.Inode.{Inode}
 use Rattle.undo_redo.specs.Runs.{blank}
 use Rattle.undo_redo.specs.Between.{CanLead}
-use Rattle.inode_changes.specs.Contents.{contents_of, meaning}
-use Rattle.inode_changes.specs.Tidiness.{Tidy, PointersHeld}
-use Rattle.inode_changes.specs.Touched.{touched_count, cut_count}
-use Rattle.inode_changes.specs.Changed.{Written, Truncated, blocks_from, blocks_written, blocks_cut}
-use Rattle.inode_changes.specs.Growth.{GrowsBy, with_data}
-use Rattle.inode_changes.specs.Laws.{HeldPointersLead}
+use Rattle.inode.specs.Contents.{contents_of, meaning}
+use Rattle.inode.specs.Tidiness.{Tidy, PointersHeld}
+use Rattle.inode.specs.Touched.{touched_count, cut_count}
+use Rattle.inode.specs.Changed.{Written, Truncated, blocks_from, blocks_written, blocks_cut}
+use Rattle.inode.specs.Growth.{GrowsBy, with_data}
+use Rattle.inode.specs.Laws.{HeldPointersLead}
 use Rattle.version_store.specs.Store.{StoreFields}
 use Rattle.version_store.specs.Costs.{subject_row, subject_inode, data_blocks, room}
 use Rattle.version_store.specs.Taking.{IsThere}

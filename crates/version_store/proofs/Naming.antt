@@ -10,9 +10,9 @@ use Rattle.codec.specs.Fields.{bit}
 use Rattle.codec.specs.Checkpoint.{CheckpointFields, pointer_at}
 use Rattle.codec.specs.declared.inodes.Inode.{Inode}
 use Rattle.checkpoint.specs.Held.{checkpoint_held, spelled}
-use Rattle.inode_changes.specs.Touched.{touched_count, is_touched, is_cut, cut_count}
-use Rattle.inode_changes.specs.Changed.{Written, Truncated}
-use Rattle.inode_changes.specs.Growth.{data_block, grown, grown_at, with_data}
+use Rattle.inode.specs.Touched.{touched_count, is_touched, is_cut, cut_count}
+use Rattle.inode.specs.Changed.{Written, Truncated}
+use Rattle.inode.specs.Growth.{data_block, grown, grown_at, with_data}
 use Rattle.object_map.specs.declared.map.Row.{Row}
 use Rattle.object_map.specs.Rows.{row_of}
 use Rattle.time_read.specs.Rows.{IsRow, inode_of}

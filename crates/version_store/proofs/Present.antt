@@ -12,9 +12,9 @@ use Rattle.time_read.specs.Rows.{inode_of}
 use Rattle.s4_model.specs.Refusals.{is_absent}
 use Rattle.s4_types.specs.declared.versions.Version.{Version}
 use Rattle.s4_types.specs.declared.versions.Version.TheVariants.{Absent, Live}
-use Rattle.inode_changes.specs.Contents.{contents_of, bytes_of, meaning}
-use Rattle.inode_changes.specs.Tidiness.{Tidy, PointersHeld}
-use Rattle.inode_changes.specs.Growth.{GrowsBy}
+use Rattle.inode.specs.Contents.{contents_of, bytes_of, meaning}
+use Rattle.inode.specs.Tidiness.{Tidy, PointersHeld}
+use Rattle.inode.specs.Growth.{GrowsBy}
 use Rattle.journal_chain.specs.Chain.{OnlyJournalChanged}
 use Rattle.version_store.specs.Store.{StoreFields, IsStore, IsObject}
 use Rattle.version_store.specs.Versions.{inode_by, inode_in, version_by, version_in}

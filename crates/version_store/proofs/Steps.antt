@@ -13,10 +13,10 @@ use Rattle.codec.specs.declared.inodes.Inode.{Inode}
 use Rattle.codec.specs.Checkpoint.{pointer_at}
 use Rattle.undo_redo.specs.Runs.{blank}
 use Rattle.journal_chain.specs.Chain.{OnlyJournalChanged}
-use Rattle.inode_changes.specs.Contents.{byte_in, byte_of, contents_of, meaning}
-use Rattle.inode_changes.specs.Tidiness.{Tidy, PointersHeld}
-use Rattle.inode_changes.specs.Growth.{GrowsBy}
-use Rattle.inode_changes.specs.Laws.{OnlyItsBlocksMatter}
+use Rattle.inode.specs.Contents.{byte_in, byte_of, contents_of, meaning}
+use Rattle.inode.specs.Tidiness.{Tidy, PointersHeld}
+use Rattle.inode.specs.Growth.{GrowsBy}
+use Rattle.inode.specs.Laws.{OnlyItsBlocksMatter}
 use Rattle.object_map.specs.declared.map.Row.{Row}
 use Rattle.object_map.specs.Rows.{row_of, with_row, fresh_row}
 use Rattle.time_read.specs.Rows.{IsRow, inode_of}

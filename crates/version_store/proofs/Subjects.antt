@@ -15,8 +15,8 @@ use Rattle.packing.specs.Sizes.{blocks_needed}
 use Rattle.undo_redo.specs.Between.{entries_between, triples_between, pair_between}
 use Rattle.undo_redo.specs.Sizes.{entry_sizes}
 use Rattle.journal_chain.specs.Push.{push_refusal}
-use Rattle.inode_changes.specs.Contents.{contents_of, meaning, bytes_of}
-use Rattle.inode_changes.specs.Tidiness.{Tidy, PointersHeld}
+use Rattle.inode.specs.Contents.{contents_of, meaning, bytes_of}
+use Rattle.inode.specs.Tidiness.{Tidy, PointersHeld}
 use Rattle.object_map.specs.declared.map.Row.{Row}
 use Rattle.object_map.specs.Rows.{row_of}
 use Rattle.time_read.specs.Rows.{chain_of, inode_of}

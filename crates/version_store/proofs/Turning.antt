@@ -10,7 +10,7 @@ use Rattle.codec.specs.declared.inodes.Inode.{Inode}
 use Rattle.packing.specs.Sizes.{blocks_needed}
 use Rattle.undo_redo.specs.Between.{entries_between}
 use Rattle.journal_chain.specs.Push.{push_refusal, pushed_blocks}
-use Rattle.inode_changes.specs.Laws.{OnlyItsBlocksMatter}
+use Rattle.inode.specs.Laws.{OnlyItsBlocksMatter}
 use Rattle.object_map.specs.declared.map.Row.{Row}
 use Rattle.object_map.specs.Rows.{row_of, with_row}
 use Rattle.time_read.specs.Rows.{IsRow, chain_of, inode_of}

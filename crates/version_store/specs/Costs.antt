@@ -13,7 +13,7 @@ use Rattle.codec.specs.declared.inodes.Inode.{Inode}
 use Rattle.packing.specs.Sizes.{blocks_needed}
 use Rattle.undo_redo.specs.Between.{pair_between}
 use Rattle.undo_redo.specs.Sizes.{entry_sizes}
-use Rattle.inode_changes.specs.Touched.{touched_count, cut_count}
+use Rattle.inode.specs.Touched.{touched_count, cut_count}
 use Rattle.object_map.specs.declared.map.Row.{Row}
 use Rattle.object_map.specs.Rows.{row_of, fresh_row}
 use Rattle.time_read.specs.Rows.{inode_of}

@@ -5,7 +5,7 @@ use Rattle.blocks.specs.declared.kinds.BlockKind.{BlockKind}
 use Rattle.blocks.specs.Log.{Stored, of_kind}
 use Rattle.codec.specs.declared.inodes.Inode.{Inode}
 use Rattle.undo_redo.specs.Runs.{blank}
-use Rattle.inode_changes.specs.Contents.{contents_of, meaning}
+use Rattle.inode.specs.Contents.{contents_of, meaning}
 use Rattle.object_map.specs.declared.map.Row.{Row}
 use Rattle.object_map.specs.Rows.{row_of}
 use Rattle.time_read.specs.Rows.{inode_of}

@@ -10,8 +10,8 @@ use Rattle.object_map.specs.declared.map.Row.{Row}
 use Rattle.object_map.specs.Rows.{row_of}
 use Rattle.time_read.specs.Rows.{IsRow, inode_of}
 use Rattle.row_changes.specs.Recent.{IsBy}
-use Rattle.inode_changes.specs.Contents.{contents_of}
-use Rattle.inode_changes.specs.Tidiness.{Tidy, PointersHeld}
+use Rattle.inode.specs.Contents.{contents_of}
+use Rattle.inode.specs.Tidiness.{Tidy, PointersHeld}
 use Rattle.version_store.specs.declared.store.TheConstants.{MOST_PLACES}
 
 -- the rows of all objects, the table that their blocks are in, and the moment of the last change

@@ -10,8 +10,8 @@ use Rattle.codec.specs.declared.inodes.Inode.{Inode}
 use Rattle.object_map.specs.declared.map.Row.{Row}
 use Rattle.object_map.specs.Rows.{row_of, with_row}
 use Rattle.journal_chain.specs.Chain.{OnlyJournalChanged}
-use Rattle.inode_changes.specs.Changed.{blocks_written, blocks_cut}
-use Rattle.inode_changes.specs.Growth.{with_data, GrowsBy}
+use Rattle.inode.specs.Changed.{blocks_written, blocks_cut}
+use Rattle.inode.specs.Growth.{with_data, GrowsBy}
 use Rattle.version_store.specs.Store.{StoreFields}
 use Rattle.version_store.specs.Versions.{version_in}
 use Rattle.version_store.specs.Costs.{subject_row}

@@ -12,8 +12,8 @@ use Rattle.undo_redo.specs.Between.{CanLead, entries_between}
 use Rattle.journal_chain.specs.Chain.{OnlyJournalChanged}
 use Rattle.journal_chain.specs.Push.{push_refusal, pushed_blocks}
 use Rattle.time_read.specs.Rows.{chain_of, inode_of}
-use Rattle.inode_changes.specs.Contents.{contents_of, meaning}
-use Rattle.inode_changes.specs.Tidiness.{Tidy, PointersHeld}
+use Rattle.inode.specs.Contents.{contents_of, meaning}
+use Rattle.inode.specs.Tidiness.{Tidy, PointersHeld}
 use Rattle.version_store.specs.Store.{StoreFields, IsStore, IsObject, HasNothing, PointsTo}
 use Rattle.version_store.specs.declared.store.TheConstants.{MOST_PLACES}
 use Rattle.version_store.specs.Versions.{version_in, version_taken}

@@ -12,7 +12,7 @@ use Rattle.codec.specs.Entry.{EntryFields}
 use Rattle.object_map.specs.declared.map.Row.{Row}
 use Rattle.object_map.specs.Rows.{row_of}
 use Rattle.time_read.specs.Rows.{entries_of, inode_of}
-use Rattle.inode_changes.specs.Contents.{contents_of, meaning}
+use Rattle.inode.specs.Contents.{contents_of, meaning}
 use Rattle.version_store.specs.Store.{StoreFields}
 
 -- the journal entries of an object by its row, the oldest first; none where it has no row

@@ -8,7 +8,7 @@ ghost use Rattle.version_store.specs.Costs.{past_count, pointers_moved, data_blo
 ghost use Rattle.s4_model.specs.Effect.{object_of};
 
 use codec::Inode;
-use inode_changes::{blocks_of_truncate, blocks_of_write};
+use inode::{blocks_of_truncate, blocks_of_write};
 use undo_redo::{Sizes, entry_sizes};
 use object_map::Row;
 use packing::blocks_needed;

@@ -2,7 +2,7 @@
 
 ghost use Rattle.version_store.specs.Laws.{ObjectsStay, InodesStay, VersionsStay, ThePresentStays, ChangesBeginWithThePresent, ChangesBeginWithThePresentVersion, TheAliveAreThere, HeldIsWhatRowsName, EachHeldBlockIsNamed};
 
-use inode_changes::laws::only_its_blocks_matter;
+use inode::laws::only_its_blocks_matter;
 use row_changes::laws::{a_fresh_row_stands, a_row_is_by_later_moments, the_last_inode_stays};
 use time_read::laws::a_row_is_its_own_blocks;
 

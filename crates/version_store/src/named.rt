@@ -3,8 +3,8 @@ ghost use Rattle.std.specs.Prelude.{◌≡◌, ℕ, ◌<◌, ◌≤◌, ◌-◌,
 ghost use Rattle.std.specs.List.{list_any};
 ghost use Rattle.s4_types.specs.declared.refusals.Refusal.TheVariants.{NoMemory, Busy, NoSpace};
 ghost use Rattle.blocks.specs.Log.{appended, dropped};
-ghost use Rattle.inode_changes.specs.Contents.{contents_of, bytes_of};
-ghost use Rattle.inode_changes.specs.Tidiness.{PointersLead};
+ghost use Rattle.inode.specs.Contents.{contents_of, bytes_of};
+ghost use Rattle.inode.specs.Tidiness.{PointersLead};
 ghost use Rattle.segment_word.specs.Counting.{pins_in};
 ghost use Rattle.segment_table.specs.Table.{held_at};
 ghost use Rattle.segment_table.specs.Room.{is_filling, numbers, rest_of, places_ahead, log_of, pointers_in};

@@ -4,7 +4,7 @@ ghost use Rattle.s4_types.specs.Pointer.{Place};
 ghost use Rattle.s4_types.specs.declared.refusals.Refusal.TheVariants.{NoMemory};
 ghost use Rattle.object_map.specs.Objects.{IsNextAbove};
 ghost use Rattle.object_map.specs.Rows.{row_of};
-ghost use Rattle.inode_changes.specs.Contents.{contents_of, bytes_of};
+ghost use Rattle.inode.specs.Contents.{contents_of, bytes_of};
 ghost use Rattle.version_store.specs.Store.{fields_of, IsStore};
 ghost use Rattle.version_store.specs.Versions.{entries_in, inode_in};
 ghost use Rattle.version_store.specs.Costs.{room};
@@ -17,7 +17,7 @@ mod taking;
 use crate::laws::the_present_stays;
 use blocks::Blocks;
 use codec::{Entry, Inode};
-use inode_changes::laws::held_pointers_lead;
+use inode::laws::held_pointers_lead;
 use object_map::{ObjectMap, Objects, Row};
 use s4_types::limits::RESERVE_BLOCKS;
 use s4_types::{Moment, ObjectId, Refusal};
@@ -175,6 +175,6 @@ impl<B: Blocks> Store<B> {
         ensures same { fields_of B.log self.new ≡ fields_of B.log self.old }
     {
         held_pointers_lead();
-        inode_changes::read(self.alloc, &mut self.table, inode, offset, len)
+        inode::read(self.alloc, &mut self.table, inode, offset, len)
     }
 }

@@ -1,13 +1,13 @@
 //! Changes of an object over a small table, and what is read then: acts in tables, each with what it must tell.
 ghost use Rattle.std.specs.Prelude.{◌≡◌, IfOk};
-ghost use Rattle.inode_changes.specs.Contents.{contents_of};
-ghost use Rattle.inode_changes.specs.Tidiness.{Tidy, PointersHeld};
+ghost use Rattle.inode.specs.Contents.{contents_of};
+ghost use Rattle.inode.specs.Tidiness.{Tidy, PointersHeld};
 
 use crate::tests::plain::Plain;
 use blocks::Blocks;
 use codec::{Attribute, Inode};
-use inode_changes::laws::held_pointers_lead;
-use inode_changes::{
+use inode::laws::held_pointers_lead;
+use inode::{
     blocks_of_truncate, blocks_of_write, created, deleted, read, truncate, with_attribute, write,
 };
 use s4_types::{Moment, ObjectId, Ptr};

@@ -3,8 +3,8 @@
 ghost use Rattle.std.specs.Prelude.{◌≡◌, ◌<◌, ◌≤◌, true, None, IsSome, IsTrue, IfSome, OnOk, length};
 ghost use Rattle.s4_types.specs.Pointer.{Place};
 ghost use Rattle.undo_redo.specs.Between.{CanLead};
-ghost use Rattle.inode_changes.specs.Contents.{contents_of};
-ghost use Rattle.inode_changes.specs.Tidiness.{Tidy, PointersHeld, PointersLead};
+ghost use Rattle.inode.specs.Contents.{contents_of};
+ghost use Rattle.inode.specs.Tidiness.{Tidy, PointersHeld, PointersLead};
 ghost use Rattle.time_read.specs.Rows.{chain_of};
 ghost use Rattle.segment_table.specs.Table.{held_at};
 ghost use Rattle.log_tests.specs.Subject.{IsRecorded, IsPresent};
@@ -13,8 +13,8 @@ use crate::tests::{pushing, tables};
 use blocks::{Block, BlockKind, Blocks};
 use checkpoint::read_checkpoint;
 use codec::{Attribute, Checkpoint, Entry, Inode};
-use inode_changes::laws::only_its_blocks_matter;
-use inode_changes::{
+use inode::laws::only_its_blocks_matter;
+use inode::{
     blocks_of_truncate, blocks_of_write, created, deleted, read, truncate, with_attribute, write,
 };
 use undo_redo::blank;

@@ -11,7 +11,7 @@ ghost use Rattle.version_store.specs.CheckpointSteps.{CanCheckpoint, Checkpointe
 use crate::store::Store;
 use blocks::Blocks;
 use codec::Inode;
-use inode_changes::laws::only_its_blocks_matter;
+use inode::laws::only_its_blocks_matter;
 use undo_redo::laws::groups_join_and_part;
 use journal_chain::Chain;
 use object_map::Row;

@@ -2,7 +2,7 @@
 ghost use Rattle.std.specs.Prelude.{◌≡◌, ℕ, ◌<◌, ◌-◌, ◌↔◌, ◌⊎◌, true, false, Some, None, IfOk, IfErr, min, take, drop};
 ghost use Rattle.std.specs.List.{list_any};
 ghost use Rattle.s4_types.specs.declared.refusals.Refusal.TheVariants.{NoMemory, Busy};
-ghost use Rattle.inode_changes.specs.Contents.{contents_of, bytes_of};
+ghost use Rattle.inode.specs.Contents.{contents_of, bytes_of};
 ghost use Rattle.segment_word.specs.Counting.{pins_in};
 ghost use Rattle.segment_table.specs.Room.{log_of, pointers_in};
 ghost use Rattle.time_read.specs.Plans.{IsAt, pieces_of, bytes_planned, pins_of, is_pinned, is_pinned_in};
@@ -12,7 +12,7 @@ ghost use Rattle.version_store.specs.Versions.{inode_in};
 use crate::named::NamedTable;
 use crate::store::Store;
 use codec::Inode;
-use inode_changes::laws::held_pointers_lead;
+use inode::laws::held_pointers_lead;
 use s4_types::{Moment, ObjectId, Ptr, Refusal};
 use segment_table::SegmentTable;
 use segment_word::Naming;

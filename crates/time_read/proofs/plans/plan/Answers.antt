@@ -1,7 +1,7 @@
 use Rattle.std.proofs.Common.{◌≡◌, ℕ, ◌+◌, ◌-◌, ◌/◌, ◌<◌, ◌≤◌, true, min, slice_index_or, Option, inl, inr, refl, sym, ap, subst, ◌∙◌, arith}
 use Rattle.std.proofs.lemmas.Result.{err_from_is_err_and}
 use Rattle.codec.specs.Checkpoint.{pointer_at}
-use Rattle.inode_changes.specs.Touched.{touched_count}
+use Rattle.inode.specs.Touched.{touched_count}
 use Rattle.s4_types.specs.Pointer.{Place}
 use Rattle.segment_table.specs.Table.{Table}
 use Rattle.time_read.specs.Plans.{PlanFields, piece_of, is_pinned}

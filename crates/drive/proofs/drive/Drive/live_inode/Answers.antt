@@ -1,6 +1,6 @@
 use Rattle.std.proofs.Common.{◌≡◌, inl, inr, ap, ◌∙◌}
 use Rattle.std.proofs.lemmas.Result.{err_from_is_err_and}
-use Rattle.inode_changes.specs.Contents.{contents_of, bytes_of}
+use Rattle.inode.specs.Contents.{contents_of, bytes_of}
 use Rattle.version_store.specs.Versions.{inode_in}
 use Rattle.drive.specs.Fields.{DriveFields, state_in, store_of}
 use Rattle.drive.specs.Keeping.{IsKept}

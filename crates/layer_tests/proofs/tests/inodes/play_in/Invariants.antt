@@ -1,5 +1,5 @@
-use Rattle.inode_changes.specs.Contents.{contents_of}
-use Rattle.inode_changes.specs.Tidiness.{Tidy, PointersHeld}
+use Rattle.inode.specs.Contents.{contents_of}
+use Rattle.inode.specs.Tidiness.{Tidy, PointersHeld}
 use Rattle.layer_tests.proofs.tests.inodes.play_in.Given as goal
 
 abbrev pub invariant-loop-i : goal.invariant-loop-i

@@ -1,5 +1,5 @@
 use Rattle.std.proofs.Common.{◌-◌, ◌∙◌, ap, arith}
-use Rattle.inode_changes.specs.Contents.{listed}
+use Rattle.inode.specs.Contents.{listed}
 use Rattle.time_read.specs.Plans.{PlanFields, byte_planned}
 use Rattle.time_read.proofs.Fetching.{more_fetched}
 use Rattle.time_read.proofs.plans.ReadPlan.fetch.Goals as goal

@@ -1,5 +1,5 @@
 use Rattle.std.proofs.Common.{◌≡◌, ◌-◌, ◌≤◌}
-use Rattle.inode_changes.specs.Contents.{listed}
+use Rattle.inode.specs.Contents.{listed}
 use Rattle.time_read.specs.Plans.{byte_planned}
 use Rattle.time_read.proofs.plans.ReadPlan.fetch.Given as goal
 

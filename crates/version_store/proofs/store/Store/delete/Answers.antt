@@ -1,5 +1,5 @@
 use Rattle.s4_types.specs.declared.changes.Change.TheVariants.{Delete}
-use Rattle.inode_changes.specs.Contents.{contents_of}
+use Rattle.inode.specs.Contents.{contents_of}
 use Rattle.version_store.specs.Store.{StoreFields, fields_of}
 use Rattle.version_store.proofs.Kind.{can_turn, taken_of}
 use Rattle.version_store.proofs.Making.{can_subject, deleted_makes}

@@ -1,6 +1,6 @@
 use Rattle.std.proofs.Common.{sym, subst}
 use Rattle.version_store.specs.Store.{StoreOf, fields_of}
-use Rattle.inode_changes.specs.Tidiness.{PointersHeld}
+use Rattle.inode.specs.Tidiness.{PointersHeld}
 use Rattle.version_store.proofs.Present.{can_read}
 use Rattle.version_store.proofs.store.Store.read.Goals as goal
 

@@ -1,5 +1,5 @@
 use Rattle.std.proofs.Common.{sym, subst}
-use Rattle.inode_changes.specs.Tidiness.{PointersHeld}
+use Rattle.inode.specs.Tidiness.{PointersHeld}
 use Rattle.segment_table.specs.Table.{Table}
 use Rattle.segment_table.specs.Room.{log_of}
 use Rattle.version_store.specs.Store.{StoreOf, fields_of}

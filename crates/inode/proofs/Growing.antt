@@ -1,0 +1,145 @@
+-- Data blocks appended one by one.
+use Rattle.std.proofs.Common.{◌≡◌, ℕ, zero, suc, ◌+◌, ◌-◌, ◌<◌, ◌==◌, true, false, ◌&&◌, List, [], ◌∷◌, ◌++◌, length, drop, slice_get, Option, Some, None, IsSome, inl, inr, refl, ap, sym, ◌∙◌, subst, arith}
+use Rattle.std.proofs.lemmas.Bool.{cases_lt, cases_Bool, and_parts, and_from, eqb-true, eq-eqb, cond-true, cond-false, false≢true}
+use Rattle.std.proofs.lemmas.List.{length-append, length-drop, drop-drop}
+use Rattle.std.proofs.lemmas.Option.{slice_get_within, same_Some, none-some}
+use Rattle.s4_types.specs.Pointer.{Place}
+use Rattle.blocks.specs.Log.{Log, Stored, with_held, seen_as, same_kind, same_place}
+use Rattle.blocks.specs.declared.kinds.BlockKind.{BlockKind}
+use Rattle.blocks.specs.declared.kinds.BlockKind.TheVariants.{Data}
+use Rattle.inode.specs.Growth.{data_block, grown, grown_at, with_data, GrowsBy}
+
+pub with_data-push : (object : ℕ) (blocks : List (List ℕ)) (bytes : List ℕ) (log : Log) → with_data object (blocks ++ bytes ∷ []) log ≡ grown (with_data object blocks log) (data_block object bytes)
+with_data-push object [] bytes log = refl
+with_data-push object (first ∷ blocks) bytes log = with_data-push object blocks bytes (grown log (data_block object first))
+
+same_place-self : (p : Place) → same_place p p ≡ true
+same_place-self p = and_from (p.frame == p.frame) (p.block == p.block && p.generation == p.generation) (eq-eqb p.frame p.frame refl) (and_from (p.block == p.block) (p.generation == p.generation) (eq-eqb p.block p.block refl) (eq-eqb p.generation p.generation refl))
+
+same_record : (f g b c m n : ℕ) → f ≡ g → b ≡ c → m ≡ n → ◌≡◌ {A = Place} (record { frame = f; block = b; generation = m }) (record { frame = g; block = c; generation = n })
+same_record f g b c m n e1 e2 e3 = cc
+
+same_place-eq : (p q : Place) → same_place p q ≡ true → p ≡ q
+same_place-eq p q e =
+    let parts = and_parts (p.frame == q.frame) (p.block == q.block && p.generation == q.generation) e in
+    let rest = and_parts (p.block == q.block) (p.generation == q.generation) parts.1 in
+    same_record p.frame q.frame p.block q.block p.generation q.generation (eqb-true p.frame q.frame parts.0) (eqb-true p.block q.block rest.0) (eqb-true p.generation q.generation rest.1)
+
+held_here : (held : Place → Option Stored) (p : Place) (block : Stored) → with_held held p block p ≡ Some block
+held_here held p block = cond-true (same_place p p) (Some block) (held p) (same_place-self p)
+
+none_is_some : (o : Option Stored) → o ≡ None → IsSome o → ⊥
+none_is_some None e h = false≢true h
+none_is_some (Some block) e h = none-some block (sym e)
+
+-- a place that is held isn't the one that a block is put at, where that one wasn't held
+held_beside : (held : Place → Option Stored) (p q : Place) (block : Stored) → held p ≡ None → IsSome (held q) → with_held held p block q ≡ held q
+held_beside held p q block free taken =
+    elim (cases_Bool (same_place p q)) [
+      | inl e ↦ absurd (none_is_some (held q) (ap held (sym (same_place-eq p q e)) ∙ free) taken)
+      | inr e ↦ cond-false (same_place p q) (Some block) (held q) e
+    ]
+
+some_is : (o : Option Stored) (block : Stored) → o ≡ Some block → IsSome o
+some_is o block e = subst IsSome (sym e) refl
+
+not_seen : (kind : BlockKind) (o object : ℕ) (bytes : List ℕ) → (same_kind kind Data && object == o) ≡ false → seen_as kind o (Some (data_block object bytes)) ≡ None
+not_seen kind o object bytes other = cond-false (same_kind kind Data && object == o) (Some bytes) None other
+
+-- what isn't this object's data is as it was
+kind_beside : (held : Place → Option Stored) (p q : Place) (object : ℕ) (bytes : List ℕ) (kind : BlockKind) (o : ℕ) → held p ≡ None → (same_kind kind Data && object == o) ≡ false
+    → seen_as kind o (with_held held p (data_block object bytes) q) ≡ seen_as kind o (held q)
+kind_beside held p q object bytes kind o free other =
+    elim (cases_Bool (same_place p q)) [
+      | inl e ↦
+          ap (seen_as kind o) (cond-true (same_place p q) (Some (data_block object bytes)) (held q) e)
+          ∙ not_seen kind o object bytes other
+          ∙ sym (ap (seen_as kind o) (ap held (sym (same_place-eq p q e)) ∙ free))
+      | inr e ↦ ap (seen_as kind o) (cond-false (same_place p q) (Some (data_block object bytes)) (held q) e)
+    ]
+
+slice_get-append_left : {X : Type 0} (xs ys : List X) (n : ℕ) → n < length xs → slice_get (xs ++ ys) n ≡ slice_get xs n
+slice_get-append_left [] ys n lt = absurd (omega arith)
+slice_get-append_left (x ∷ xs) ys zero lt = refl
+slice_get-append_left (x ∷ xs) ys (suc n) lt = slice_get-append_left xs ys n (omega arith)
+
+slice_get-at_end : {X : Type 0} (xs : List X) (y : X) → slice_get (xs ++ y ∷ []) (length xs) ≡ Some y
+slice_get-at_end [] y = refl
+slice_get-at_end (x ∷ xs) y = slice_get-at_end xs y
+
+pub slice_get-drop : {X : Type 0} (xs : List X) (n k m : ℕ) → n + k ≡ m → slice_get (drop n xs) k ≡ slice_get xs m
+slice_get-drop xs zero k m e = ap (slice_get xs) (omega arith)
+slice_get-drop [] (suc n) k m e = refl
+slice_get-drop (x ∷ xs) (suc n) k zero e = absurd (omega arith)
+slice_get-drop (x ∷ xs) (suc n) k (suc m) e = slice_get-drop xs n k m (omega arith)
+
+pub grows-none : (object : ℕ) (log : Log) → GrowsBy object [] log log
+grows-none object log = record {
+  room = omega arith;
+  ahead = refl;
+  fresh = λ n p lt e. absurd (omega arith);
+  taken = λ n p bytes e none. absurd (none-some bytes none);
+  kept = λ p held. refl;
+  others = λ kind o p other. refl;
+}
+
+-- the first place ahead, and those behind it
+ahead_is : (ahead : List Place) (q : Place) → slice_get ahead 0 ≡ Some q → ahead ≡ q ∷ drop 1 ahead
+ahead_is [] q e = absurd (none-some q e)
+ahead_is (p ∷ ahead) q e = ap (λ first. first ∷ ahead) (same_Some p q e)
+
+-- the log after a block at the first place ahead
+abbrev put_at : Log → Stored → Place → Log
+put_at log block q = record { held = with_held log.held q block; ahead = drop 1 log.ahead }
+
+grown_is : (log : Log) (block : Stored) (q : Place) → slice_get log.ahead 0 ≡ Some q → grown log block ≡ put_at log block q
+grown_is log block q e = ap (grown_at log block) (ahead_is log.ahead q e)
+
+taken_more : (object : ℕ) (blocks : List (List ℕ)) (bytes : List ℕ) (before mid : Log) (q : Place) → GrowsBy object blocks before mid → slice_get mid.ahead 0 ≡ Some q → mid.held q ≡ None
+    → (n : ℕ) (p : Place) (found : List ℕ) → slice_get before.ahead n ≡ Some p → slice_get (blocks ++ bytes ∷ []) n ≡ Some found → with_held mid.held q (data_block object bytes) p ≡ Some (data_block object found)
+taken_more object blocks bytes before mid q grows first free n p found at_n is_found =
+    let longer : length (blocks ++ bytes ∷ []) ≡ length blocks + 1 = length-append blocks (bytes ∷ []) in
+    let within : n < length (blocks ++ bytes ∷ []) = slice_get_within (blocks ++ bytes ∷ []) n found is_found in
+    elim (cases_lt n (length blocks)) [
+      | inl below ↦
+          let old : mid.held p ≡ Some (data_block object found) = grows.taken n p found at_n (sym (slice_get-append_left blocks (bytes ∷ []) n below) ∙ is_found) in
+          held_beside mid.held q p (data_block object bytes) free (some_is (mid.held p) (data_block object found) old) ∙ old
+      | inr past ↦
+          let last : n ≡ length blocks = omega arith in
+          let here : q ≡ p = same_Some q p (sym first ∙ ap (λ a. slice_get a 0) grows.ahead ∙ slice_get-drop before.ahead (length blocks) 0 n (omega arith) ∙ at_n) in
+          let same : bytes ≡ found = same_Some bytes found (sym (slice_get-at_end blocks bytes) ∙ ap (slice_get (blocks ++ bytes ∷ [])) (sym last) ∙ is_found) in
+          ap (with_held mid.held q (data_block object bytes)) (sym here) ∙ held_here mid.held q (data_block object bytes) ∙ ap (λ b. Some (data_block object b)) same
+    ]
+
+is_free : (before after : Option Stored) → (IsSome before → after ≡ before) → after ≡ None → before ≡ None
+is_free None after kept free = refl
+is_free (Some block) after kept free = sym (kept refl) ∙ free
+
+fresh_more : (object : ℕ) (blocks : List (List ℕ)) (bytes : List ℕ) (before mid : Log) (q : Place) → GrowsBy object blocks before mid → slice_get mid.ahead 0 ≡ Some q → mid.held q ≡ None
+    → (n : ℕ) (p : Place) → n < length (blocks ++ bytes ∷ []) → slice_get before.ahead n ≡ Some p → before.held p ≡ None
+fresh_more object blocks bytes before mid q grows first free n p lt at_n =
+    let longer : length (blocks ++ bytes ∷ []) ≡ length blocks + 1 = length-append blocks (bytes ∷ []) in
+    elim (cases_lt n (length blocks)) [
+      | inl below ↦ grows.fresh n p below at_n
+      | inr past ↦
+          let here : q ≡ p = same_Some q p (sym first ∙ ap (λ a. slice_get a 0) grows.ahead ∙ slice_get-drop before.ahead (length blocks) 0 n (omega arith) ∙ at_n) in
+          is_free (before.held p) (mid.held p) (grows.kept p) (ap mid.held (sym here) ∙ free)
+    ]
+
+drop_one_more : (before mid : List Place) (n m : ℕ) → mid ≡ drop n before → n + 1 ≡ m → drop 1 mid ≡ drop m before
+drop_one_more before mid n m e more = ap (drop 1) e ∙ drop-drop 1 n before ∙ ap (λ k. drop k before) (omega arith)
+
+pub grows-more : (object : ℕ) (blocks : List (List ℕ)) (bytes : List ℕ) (before mid : Log) (q : Place) → GrowsBy object blocks before mid → slice_get mid.ahead 0 ≡ Some q → mid.held q ≡ None
+    → GrowsBy object (blocks ++ bytes ∷ []) before (grown mid (data_block object bytes))
+grows-more object blocks bytes before mid q grows first free =
+    let longer : length (blocks ++ bytes ∷ []) ≡ length blocks + 1 = length-append blocks (bytes ∷ []) in
+    let within : 0 < length mid.ahead = slice_get_within mid.ahead 0 q first in
+    let left : length mid.ahead ≡ length before.ahead - length blocks = ap length grows.ahead ∙ length-drop (length blocks) before.ahead in
+    subst (GrowsBy object (blocks ++ bytes ∷ []) before) (sym (grown_is mid (data_block object bytes) q first)) (record {
+      room = omega arith;
+      ahead = drop_one_more before.ahead mid.ahead (length blocks) (length (blocks ++ bytes ∷ [])) grows.ahead (sym longer);
+      fresh = fresh_more object blocks bytes before mid q grows first free;
+      taken = taken_more object blocks bytes before mid q grows first free;
+      kept = λ p held. held_beside mid.held q p (data_block object bytes) free (subst IsSome (sym (grows.kept p held)) held) ∙ grows.kept p held;
+      others = λ kind o p other. kind_beside mid.held q p object bytes kind o free other ∙ grows.others kind o p other;
+    })

@@ -1,0 +1,28 @@
+-- What holds of an inode's size and pointers between changes, over the blocks that are held.
+use Rattle.std.specs.Prelude.{◌≡◌, ℕ, ◌*◌, ◌≤◌, List, length, Option, None, Some, IsSome}
+use Rattle.s4_types.specs.Pointer.{Place}
+use Rattle.blocks.specs.Log.{Stored, of_kind}
+use Rattle.blocks.specs.declared.kinds.BlockKind.TheVariants.{Data}
+use Rattle.codec.specs.Checkpoint.{pointer_at}
+use Rattle.codec.specs.declared.inodes.Inode.{Inode}
+use Rattle.inode.specs.Contents.{byte_of}
+
+-- An inode of 48 pointers, within the limit, with holes at and past its size and zeros behind its last byte. So the
+-- byte at a place is that of the object, or 0 past its end.
+pub record Tidy (contents : Place → List ℕ) (i : Inode) : Type 0 where
+  pub count : length i.pointers ≡ 48
+  pub size : i.size ≤ 24576
+  pub holes : (k : ℕ) → i.size ≤ 512 * k → pointer_at i k ≡ None
+  pub zeros : (n : ℕ) → i.size ≤ n → byte_of contents i n ≡ 0
+
+-- each pointer of the inode leads to a block
+abbrev pub PointersLead : (Place → Option Stored) → Inode → Type 0
+PointersLead held i = (k : ℕ) (p : Place) → pointer_at i k ≡ Some p → IsSome (held p)
+
+-- each pointer of the inode leads to a data block of the object
+abbrev pub PointersHeld : (Place → Option Stored) → ℕ → Inode → Type 0
+PointersHeld held object i = (k : ℕ) (p : Place) → pointer_at i k ≡ Some p → IsSome (of_kind Data object held p)
+
+-- two contents have the same bytes wherever a pointer of the inode leads
+abbrev pub AgreeAt : (Place → List ℕ) → (Place → List ℕ) → Inode → Type 0
+AgreeAt contents others i = (k : ℕ) (p : Place) → pointer_at i k ≡ Some p → others p ≡ contents p

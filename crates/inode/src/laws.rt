@@ -1,0 +1,40 @@
+ghost use Rattle.inode.specs.Laws.{TheSizeCountsTheBytes, TheByteAtEachPlace, BlocksJoinedAndCut, OnlyItsBlocksMatter, HeldPointersLead, TouchedBlocksHaveAByte, RangesJoin, ARangeHasParts, AListIsARange, EqualRanges, BytesFromAnOffset};
+
+/// An inode's bytes are as many as its size tells. They are its blocks joined by index, holes as zeros, cut to the size;
+/// where it is tidy, the byte at each place is that of its bytes, or 0 past their end.
+pub fn bytes_are_the_blocks_joined()
+    ensures count { TheSizeCountsTheBytes }
+    ensures joined { BlocksJoinedAndCut }
+    ensures at { TheByteAtEachPlace }
+{}
+
+/// What an inode means, and that it is tidy, rests on the blocks alone that its pointers lead to.
+pub fn only_its_blocks_matter()
+    ensures { OnlyItsBlocksMatter }
+{}
+
+/// Where each pointer leads to a data block of the object, each leads to a block.
+pub fn held_pointers_lead()
+    ensures { HeldPointersLead }
+{}
+
+/// The blocks that a write touches are those that have a byte of it.
+pub fn touched_blocks_have_a_byte()
+    ensures { TouchedBlocksHaveAByte }
+{}
+
+/// Ranges of bytes, told by their places: two in a row are one, a part of one is one, and a list is the range that has its length
+/// and its elements.
+#[tactic(auto, using(crate::proofs::Ranges::ranges_join, crate::proofs::Ranges::parts, crate::proofs::Ranges::list_is, crate::proofs::Ranges::equal_ranges))]
+pub fn ranges_join_and_part()
+    ensures join { RangesJoin }
+    ensures part { ARangeHasParts }
+    ensures list { AListIsARange }
+    ensures equal { EqualRanges }
+{}
+
+/// The bytes of an inode from an offset on are a range of those that its blocks tell.
+#[tactic(auto, using(crate::proofs::Ranges::from_an_offset))]
+pub fn bytes_from_an_offset()
+    ensures { BytesFromAnOffset }
+{}

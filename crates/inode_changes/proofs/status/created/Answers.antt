@@ -1,6 +1,0 @@
-use Rattle.std.proofs.Common.{refl}
-use Rattle.inode_changes.proofs.Standing.{tidy_empty}
-use Rattle.inode_changes.proofs.status.created.Goals as goal
-
-pub returns-clause-tidy : goal.returns-clause-tidy
-returns-clause-tidy c = λ contents. tidy_empty contents _ c.no_pointers.ensures refl
