@@ -1,9 +1,9 @@
 -- The checkpoint that a pointer leads to.
 use Rattle.std.specs.Prelude.{ℕ, List, Option, Some, None}
 use Rattle.s4_types.specs.Pointer.{Place}
-use Rattle.blocks.specs.Log.{Log, Stored, of_kind}
-use Rattle.blocks.specs.Growth.{Puts}
-use Rattle.blocks.specs.declared.kinds.BlockKind.TheVariants as kind
+use Rattle.block_log.specs.Log.{Log, Stored, of_kind}
+use Rattle.block_log.specs.Growth.{Puts}
+use Rattle.block_log.specs.declared.kinds.BlockKind.TheVariants as kind
 use Rattle.codec.specs.Fields.{all_of}
 use Rattle.codec.specs.Checkpoint.{CheckpointFields, checkpoint_at}
 

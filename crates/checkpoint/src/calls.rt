@@ -2,11 +2,11 @@ ghost use Rattle.std.specs.Prelude.{◌≡◌, ℕ, ◌≤◌, Option, Some, Non
 ghost use Rattle.codec.specs.Fields.{Reads};
 ghost use Rattle.codec.specs.Checkpoint.{CheckpointFields};
 ghost use Rattle.checkpoint.specs.Held.{checkpoint_held, PutsCheckpoint};
-ghost use Rattle.blocks.specs.Log.{of_kind};
-ghost use Rattle.blocks.specs.declared.kinds.BlockKind.TheVariants as kind;
+ghost use Rattle.block_log.specs.Log.{of_kind};
+ghost use Rattle.block_log.specs.declared.kinds.BlockKind.TheVariants as kind;
 ghost use Rattle.s4_types.specs.declared.refusals.Refusal.TheVariants.{NoSpace};
 
-use blocks::{BlockKind, Blocks};
+use block_log::{BlockKind, Blocks};
 use codec::{Checkpoint, decode_checkpoint, encode_checkpoint};
 use s4_types::{ObjectId, Ptr, Refusal};
 
@@ -19,7 +19,7 @@ pub fn write_checkpoint<B: Blocks>(table: &mut B, checkpoint: &Checkpoint) -> Re
     ensures full { IfErr result (λ e. (e ≡ NoSpace) × ((length (B.log table.old).ahead ≡ 0) × (B.log table.new ≡ B.log table.old))) }
 {
     codec::laws::a_checkpoint_is_read();
-    blocks::laws::an_append_puts_one_block();
+    block_log::laws::an_append_puts_one_block();
     let block = encode_checkpoint(checkpoint);
     table.append(BlockKind::Checkpoint, checkpoint.object(), &block)
 }

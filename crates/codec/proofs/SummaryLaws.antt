@@ -5,8 +5,8 @@ use Rattle.std.specs.List.{concat, flat_map, AllByRecursion, list_all}
 use Rattle.sha2.specs.Sha256.{sha256, digest_bytes, final_hash, initial_hash_256}
 use Rattle.std.proofs.lemmas.Bool.{eqb-true, ltb-false, le-ltb, leb-true, le-leb, ltb-true, lt-ltb}
 use Rattle.std.proofs.lemmas.List.{take_at, drop_at}
-use Rattle.blocks.specs.declared.kinds.BlockKind.{BlockKind}
-use Rattle.blocks.specs.declared.kinds.BlockKind.TheVariants.{Journal, Checkpoint, Data}
+use Rattle.block_log.specs.declared.kinds.BlockKind.{BlockKind}
+use Rattle.block_log.specs.declared.kinds.BlockKind.TheVariants.{Journal, Checkpoint, Data}
 use Rattle.codec.specs.Fields.{◌>>=◌, Reads, all_of, number, zeros, number_at, many_at}
 use Rattle.codec.specs.Summary.{SummaryFields, SummaryNumbers, KeepsSummaryRules, IsSummary, IsPart, UnusedAreBlank, SpellsSummary, has_object, summary_rules, kind_number, part_spelling, summary_head, frame_digest, summary_spelling, kind_at, part_at, parts_at, checked_summary, head_at}
 use Rattle.codec.specs.declared.summaries.Part.{Part}

@@ -4,8 +4,8 @@ use Rattle.std.specs.Prelude.{◌≡◌, ℕ, ◌+◌, ◌-◌, ◌*◌, ◌^◌
 use Rattle.std.specs.Int.{w16, w32, w64}
 use Rattle.std.specs.List.{concat, flat_map, list_all, AllByRecursion}
 use Rattle.sha2.specs.Sha256.{sha256}
-use Rattle.blocks.specs.declared.kinds.BlockKind.{BlockKind}
-use Rattle.blocks.specs.declared.kinds.BlockKind.TheVariants.{Journal, Checkpoint, Data}
+use Rattle.block_log.specs.declared.kinds.BlockKind.{BlockKind}
+use Rattle.block_log.specs.declared.kinds.BlockKind.TheVariants.{Journal, Checkpoint, Data}
 use Rattle.codec.specs.Fields.{◌>>=◌, number, zeros, kept, byte_at, number_at, zeros_at, mark_at, many_at}
 use Rattle.codec.specs.declared.summaries.Part.{Part}
 

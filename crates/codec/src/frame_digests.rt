@@ -1,7 +1,7 @@
 ghost use Rattle.std.specs.Prelude.{◌≡◌, List};
 ghost use Rattle.codec.specs.Summary.{frame_digest};
 
-use blocks::Block;
+use block_log::Block;
 use s4_types::limits::PAYLOAD_BLOCKS;
 use sha2::{Digest, Sha256};
 

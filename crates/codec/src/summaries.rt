@@ -1,11 +1,11 @@
 ghost use Rattle.std.specs.Prelude.{◌≡◌, ℕ, ◌+◌, ◌^◌, ◌<◌, ◌≤◌, true, List, length};
 ghost use Rattle.std.specs.List.{list_all, AllByRecursion};
-ghost use Rattle.blocks.specs.declared.kinds.BlockKind.TheVariants.{Journal};
+ghost use Rattle.block_log.specs.declared.kinds.BlockKind.TheVariants.{Journal};
 ghost use Rattle.codec.specs.Fields.{Reads};
 ghost use Rattle.codec.specs.Summary.{SummaryFields, has_object, summary_rules, checked_summary};
 
 use arrayvec::ArrayVec;
-use blocks::BlockKind;
+use block_log::BlockKind;
 use s4_types::ObjectId;
 use s4_types::limits::PAYLOAD_BLOCKS;
 use std::marker::Model;

@@ -7,7 +7,7 @@ use crate::fields::{read_byte, read_long, read_mark, read_short, read_word, read
 use crate::frame_digests::digest_of;
 use crate::summaries::{HEAD_BYTES, PART_BYTES, PARTS_AND_ZEROS, Part, Parts, Summary};
 use arrayvec::ArrayVec;
-use blocks::{Block, BlockKind};
+use block_log::{Block, BlockKind};
 use s4_types::ObjectId;
 use s4_types::limits::{BLOCK_BYTES, PAYLOAD_BLOCKS};
 

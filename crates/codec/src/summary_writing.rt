@@ -5,7 +5,7 @@ ghost use Rattle.codec.specs.Summary.{IsSummary, IsPart, UnusedAreBlank, SpellsS
 use crate::frame_digests::digest_of;
 use crate::summaries::{PART_BYTES, PARTS_AND_ZEROS, Part, Summary};
 use crate::writing::{Writing, finished, put, put_byte, put_long, put_short, put_word, put_zeros};
-use blocks::{Block, BlockKind};
+use block_log::{Block, BlockKind};
 use s4_types::limits::PAYLOAD_BLOCKS;
 
 fn number_of(kind: BlockKind) -> u8

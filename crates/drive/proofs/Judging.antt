@@ -17,7 +17,7 @@ use Rattle.s4_types.specs.declared.versions.Version.TheVariants.{Absent, Live}
 use Rattle.s4_model.specs.State.{State}
 use Rattle.s4_model.specs.Refusals.{live_size_of, present, is_absent, first_refusal}
 use Rattle.s4_model.specs.Limits.{Fits}
-use Rattle.blocks.specs.Log.{Stored}
+use Rattle.block_log.specs.Log.{Stored}
 use Rattle.codec.specs.declared.inodes.Inode.{Inode}
 use Rattle.undo_redo.specs.Runs.{blank}
 use Rattle.inode.specs.Contents.{contents_of, bytes_of, meaning}

@@ -18,7 +18,7 @@ use Rattle.s4_model.specs.Plain.{HasNext}
 use Rattle.s4_model.specs.Sound.{IsSound}
 use Rattle.segment_word.specs.AcceptViews.{Ledger, with_change}
 use Rattle.window.specs.Timeline.{Timeline, StandsFor}
-use Rattle.blocks.specs.Log.{Stored}
+use Rattle.block_log.specs.Log.{Stored}
 use Rattle.object_map.specs.declared.map.Row.{Row}
 use Rattle.object_map.specs.Rows.{row_of}
 use Rattle.version_store.specs.Store.{StoreFields, IsStore}

@@ -4,8 +4,8 @@ use Rattle.std.proofs.lemmas.Option.{slice_get-get_or, none-some}
 use Rattle.std.proofs.lemmas.Bool.{and_from, eq-eqb}
 use Rattle.std.proofs.lemmas.List.FromFn.{get_or-map-range_with_len}
 use Rattle.s4_types.specs.Pointer.{Place}
-use Rattle.blocks.specs.Log.{Log, Stored, of_kind, seen_as, same_kind}
-use Rattle.blocks.specs.declared.kinds.BlockKind.TheVariants.{Data}
+use Rattle.block_log.specs.Log.{Log, Stored, of_kind, seen_as, same_kind}
+use Rattle.block_log.specs.declared.kinds.BlockKind.TheVariants.{Data}
 use Rattle.codec.specs.Checkpoint.{pointer_at}
 use Rattle.codec.specs.declared.inodes.Inode.{Inode}
 use Rattle.inode.specs.Contents.{byte_in, byte_of, contents_of, bytes_stored}

@@ -2,9 +2,9 @@
 use Rattle.std.proofs.Common.{◌≡◌, ℕ, ◌+◌, ◌/◌, ◌%◌, cond, List, get_or, Option, Some, None, IsSome, refl, ap, ◌∙◌}
 use Rattle.s4_types.specs.Pointer.{Place}
 use Rattle.s4_types.specs.declared.versions.Version.TheVariants.{Absent, Live}
-use Rattle.blocks.specs.Log.{Stored, seen_as}
-use Rattle.blocks.specs.declared.kinds.BlockKind.{BlockKind}
-use Rattle.blocks.specs.declared.kinds.BlockKind.TheVariants.{Data}
+use Rattle.block_log.specs.Log.{Stored, seen_as}
+use Rattle.block_log.specs.declared.kinds.BlockKind.{BlockKind}
+use Rattle.block_log.specs.declared.kinds.BlockKind.TheVariants.{Data}
 use Rattle.codec.specs.Checkpoint.{pointer_at}
 use Rattle.codec.specs.declared.inodes.Inode.{Inode}
 use Rattle.inode.specs.Contents.{byte_in, byte_of, bytes_of, meaning, contents_of, bytes_stored}

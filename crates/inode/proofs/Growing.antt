@@ -4,9 +4,9 @@ use Rattle.std.proofs.lemmas.Bool.{cases_lt, cases_Bool, and_parts, and_from, eq
 use Rattle.std.proofs.lemmas.List.{length-append, length-drop, drop-drop}
 use Rattle.std.proofs.lemmas.Option.{slice_get_within, same_Some, none-some}
 use Rattle.s4_types.specs.Pointer.{Place}
-use Rattle.blocks.specs.Log.{Log, Stored, with_held, seen_as, same_kind, same_place}
-use Rattle.blocks.specs.declared.kinds.BlockKind.{BlockKind}
-use Rattle.blocks.specs.declared.kinds.BlockKind.TheVariants.{Data}
+use Rattle.block_log.specs.Log.{Log, Stored, with_held, seen_as, same_kind, same_place}
+use Rattle.block_log.specs.declared.kinds.BlockKind.{BlockKind}
+use Rattle.block_log.specs.declared.kinds.BlockKind.TheVariants.{Data}
 use Rattle.inode.specs.Growth.{data_block, grown, grown_at, with_data, GrowsBy}
 
 pub with_data-push : (object : ℕ) (blocks : List (List ℕ)) (bytes : List ℕ) (log : Log) → with_data object (blocks ++ bytes ∷ []) log ≡ grown (with_data object blocks log) (data_block object bytes)

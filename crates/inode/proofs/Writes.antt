@@ -5,7 +5,7 @@ use Rattle.s4_types.specs.Pointer.{Place}
 use Rattle.s4_types.specs.declared.changes.Change.TheVariants.{Write}
 use Rattle.s4_types.specs.declared.versions.Version.TheVariants.{Absent, Live}
 use Rattle.s4_model.specs.Effect.{effect, written}
-use Rattle.blocks.specs.Log.{Log}
+use Rattle.block_log.specs.Log.{Log}
 use Rattle.codec.specs.Checkpoint.{pointer_at}
 use Rattle.codec.specs.declared.inodes.Inode.{Inode}
 use Rattle.inode.specs.Contents.{listed, byte_of, bytes_of, contents_of, meaning}

@@ -1,9 +1,9 @@
 -- What the data blocks of a change make of a log.
 use Rattle.std.specs.Prelude.{◌≡◌, ℕ, ◌<◌, ◌≤◌, ◌==◌, ◌&&◌, false, List, [], ◌∷◌, length, drop, slice_get, None, Some, IsSome}
 use Rattle.s4_types.specs.Pointer.{Place}
-use Rattle.blocks.specs.Log.{Log, Stored, with_held, of_kind, same_kind}
-use Rattle.blocks.specs.declared.kinds.BlockKind.{BlockKind}
-use Rattle.blocks.specs.declared.kinds.BlockKind.TheVariants.{Data}
+use Rattle.block_log.specs.Log.{Log, Stored, with_held, of_kind, same_kind}
+use Rattle.block_log.specs.declared.kinds.BlockKind.{BlockKind}
+use Rattle.block_log.specs.declared.kinds.BlockKind.TheVariants.{Data}
 
 -- a data block of an object
 abbrev pub data_block : ℕ → List ℕ → Stored

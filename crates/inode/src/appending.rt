@@ -1,8 +1,8 @@
 ghost use Rattle.std.specs.Prelude.{◌≡◌, ◌<◌, ◌≤◌, Some, None, length, slice_get};
-ghost use Rattle.blocks.specs.Log.{Log};
+ghost use Rattle.block_log.specs.Log.{Log};
 ghost use Rattle.inode.specs.Growth.{grown, data_block};
 
-use blocks::{Block, BlockKind, Blocks};
+use block_log::{Block, BlockKind, Blocks};
 use s4_types::{ObjectId, Ptr};
 
 /// Appends a data block of an object, for which there is a place.

@@ -4,7 +4,7 @@ ghost use Rattle.inode.specs.Contents.{contents_of, byte_in, byte_of, listed, ze
 ghost use Rattle.inode.specs.Changed.{block_of};
 ghost use Rattle.inode.specs.Tidiness.{PointersLead};
 
-use blocks::{Block, Blocks};
+use block_log::{Block, Blocks};
 use codec::Inode;
 use s4_types::Ptr;
 use s4_types::limits::BLOCK_BYTES;

@@ -4,7 +4,7 @@ ghost use Rattle.inode.specs.Contents.{contents_of, byte_of, bytes_of, listed};
 ghost use Rattle.inode.specs.Tidiness.{PointersLead, Tidy};
 
 use crate::loading::load;
-use blocks::Blocks;
+use block_log::Blocks;
 use codec::Inode;
 use s4_types::Refusal;
 use s4_types::limits::BLOCK_BYTES;

@@ -11,7 +11,7 @@ ghost use Rattle.inode.specs.Changed.{byte_cut, block_of, blocks_cut, Truncated}
 use crate::appending::append_data;
 use crate::counts::blocks_of_truncate;
 use crate::loading::load;
-use blocks::{Block, Blocks};
+use block_log::{Block, Blocks};
 use codec::Inode;
 use s4_types::limits::{BLOCK_BYTES, OBJECT_BLOCKS};
 use s4_types::{Moment, ObjectId, Ptr};

@@ -11,7 +11,7 @@ ghost use Rattle.inode.specs.Changed.{byte_written, block_of, blocks_written, si
 use crate::appending::append_data;
 use crate::counts::blocks_of_write;
 use crate::loading::{load, zero_block};
-use blocks::{Block, Blocks};
+use block_log::{Block, Blocks};
 use codec::Inode;
 use s4_types::limits::BLOCK_BYTES;
 use s4_types::{Moment, ObjectId, Ptr};

@@ -5,8 +5,8 @@ use Rattle.std.proofs.lemmas.List.{length-map}
 use Rattle.std.proofs.lemmas.Option.{none-some, same_Some}
 use Rattle.s4_types.specs.Pointer.{Place}
 use Rattle.s4_types.specs.declared.limits.TheConstants.{CHAIN_BLOCKS}
-use Rattle.blocks.specs.declared.kinds.BlockKind.TheVariants.{Journal}
-use Rattle.blocks.specs.Log.{Log, Stored, of_kind}
+use Rattle.block_log.specs.declared.kinds.BlockKind.TheVariants.{Journal}
+use Rattle.block_log.specs.Log.{Log, Stored, of_kind}
 use Rattle.codec.specs.Fields.{◌>>=◌}
 use Rattle.codec.specs.Entry.{EntryFields}
 use Rattle.codec.specs.Journal.{JournalFields}

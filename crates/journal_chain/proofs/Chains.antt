@@ -7,8 +7,8 @@ use Rattle.std.proofs.lemmas.Bool.{cases_Bool}
 use Rattle.std.proofs.lemmas.Option.{none-some, same_Some}
 use Rattle.s4_types.specs.Pointer.{Place}
 use Rattle.s4_types.specs.declared.limits.TheConstants.{CHAIN_BLOCKS, CHAIN_ENTRY_BYTES}
-use Rattle.blocks.specs.declared.kinds.BlockKind.TheVariants.{Journal}
-use Rattle.blocks.specs.Log.{Log, Stored, of_kind, with_held, without}
+use Rattle.block_log.specs.declared.kinds.BlockKind.TheVariants.{Journal}
+use Rattle.block_log.specs.Log.{Log, Stored, of_kind, with_held, without}
 use Rattle.codec.specs.Fields.{bit}
 use Rattle.codec.specs.Entry.{EntryFields, entry_length, entries_length}
 use Rattle.codec.specs.Journal.{JournalFields, journal_spelling}

@@ -1,8 +1,8 @@
 -- What follows from a chain's being held.
 use Rattle.std.proofs.Common.{◌≡◌, ℕ, true, false, ◌==◌, List, [], Option, None, unwrap_or, is_some, refl, sym, ap, subst, arith}
 use Rattle.s4_types.specs.Pointer.{Place}
-use Rattle.blocks.specs.declared.kinds.BlockKind.TheVariants.{Journal}
-use Rattle.blocks.specs.Log.{Stored, of_kind}
+use Rattle.block_log.specs.declared.kinds.BlockKind.TheVariants.{Journal}
+use Rattle.block_log.specs.Log.{Stored, of_kind}
 use Rattle.codec.specs.Fields.{bit}
 use Rattle.codec.specs.Entry.{EntryFields, entries_length}
 use Rattle.packing.specs.Packing.{joined, filled_bytes}

@@ -2,7 +2,7 @@
 use Rattle.std.proofs.Common.{◌≡◌, inl, inr, ℕ, ◌+◌, ◌≤◌, ◌<◌, true, false, List, [], ◌∷◌, Option, Some, None, is_some, sym, ap, ◌∙◌, subst, arith}
 use Rattle.std.proofs.lemmas.Bool.{cases_Bool, false_from_ne_true}
 use Rattle.s4_types.specs.Pointer.{Place}
-use Rattle.blocks.specs.Log.{same_place}
+use Rattle.block_log.specs.Log.{same_place}
 use Rattle.codec.specs.Fields.{◌>>=◌, bit}
 use Rattle.codec.specs.Entry.{EntryFields}
 use Rattle.journal_chain.specs.Chain.{View, Link, journal_of, places_of, times}

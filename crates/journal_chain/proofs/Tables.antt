@@ -3,9 +3,9 @@ use Rattle.std.proofs.Common.{◌≡◌, inl, inr, ℕ, Bool, true, false, ◌==
 use Rattle.std.proofs.lemmas.Bool.{cases_Bool, both_ways, and_parts, eq-eqb, eqb-true}
 use Rattle.std.proofs.lemmas.Option.{none-some, same_Some}
 use Rattle.s4_types.specs.Pointer.{Place}
-use Rattle.blocks.specs.declared.kinds.BlockKind.{BlockKind}
-use Rattle.blocks.specs.declared.kinds.BlockKind.TheVariants.{Journal, Checkpoint, Data}
-use Rattle.blocks.specs.Log.{Log, Stored, same_place, same_kind, with_held, without, appended, appended_at, seen_as, of_kind}
+use Rattle.block_log.specs.declared.kinds.BlockKind.{BlockKind}
+use Rattle.block_log.specs.declared.kinds.BlockKind.TheVariants.{Journal, Checkpoint, Data}
+use Rattle.block_log.specs.Log.{Log, Stored, same_place, same_kind, with_held, without, appended, appended_at, seen_as, of_kind}
 use Rattle.journal_chain.specs.Chain.{OnlyJournalChanged}
 use Rattle.journal_chain.proofs.Places.{one_place, same_as_itself}
 use Rattle.journal_chain.proofs.Steps.{ChangedAt}

@@ -2,7 +2,7 @@
 use Rattle.std.specs.Prelude.{List, [], ◌++◌, Option, Some, unwrap_or}
 use Rattle.s4_types.specs.Pointer.{Place}
 use Rattle.s4_types.specs.declared.limits.TheConstants.{CHAIN_BLOCKS}
-use Rattle.blocks.specs.Log.{Stored}
+use Rattle.block_log.specs.Log.{Stored}
 use Rattle.codec.specs.Fields.{◌>>=◌}
 use Rattle.codec.specs.Entry.{EntryFields}
 use Rattle.packing.specs.Packing.{joined}

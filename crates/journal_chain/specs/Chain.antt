@@ -2,9 +2,9 @@
 use Rattle.std.specs.Prelude.{◌≡◌, ℕ, zero, suc, ◌+◌, ◌≤◌, false, ◌==◌, ◌&&◌, List, [], ◌∷◌, map, Option, Some, None, is_some, unwrap_or}
 use Rattle.s4_types.specs.Pointer.{Place}
 use Rattle.s4_types.specs.declared.limits.TheConstants.{CHAIN_BLOCKS, CHAIN_ENTRY_BYTES}
-use Rattle.blocks.specs.declared.kinds.BlockKind.{BlockKind}
-use Rattle.blocks.specs.declared.kinds.BlockKind.TheVariants.{Journal}
-use Rattle.blocks.specs.Log.{Stored, of_kind, same_kind, same_place}
+use Rattle.block_log.specs.declared.kinds.BlockKind.{BlockKind}
+use Rattle.block_log.specs.declared.kinds.BlockKind.TheVariants.{Journal}
+use Rattle.block_log.specs.Log.{Stored, of_kind, same_kind, same_place}
 use Rattle.codec.specs.Fields.{◌>>=◌, all_of, kept, bit}
 use Rattle.codec.specs.Entry.{EntryFields, entries_length}
 use Rattle.codec.specs.Journal.{JournalFields, journal_at}

@@ -2,8 +2,8 @@
 -- still in memory.
 use Rattle.std.specs.Prelude.{◌≡◌, ℕ, ◌+◌, if◌then◌else◌, List, [], ◌∷◌, Option, Some, None, is_some}
 use Rattle.s4_types.specs.Pointer.{Place}
-use Rattle.blocks.specs.declared.kinds.BlockKind.TheVariants.{Journal}
-use Rattle.blocks.specs.Log.{Log, Stored, of_kind, with_held}
+use Rattle.block_log.specs.declared.kinds.BlockKind.TheVariants.{Journal}
+use Rattle.block_log.specs.Log.{Log, Stored, of_kind, with_held}
 use Rattle.codec.specs.Fields.{◌>>=◌, all_of, bit}
 use Rattle.codec.specs.Entry.{EntryFields}
 use Rattle.codec.specs.Journal.{JournalFields, journal_at, journal_spelling}

@@ -4,7 +4,7 @@ ghost use Rattle.std.specs.Option.{option_to_list};
 ghost use Rattle.journal_chain.specs.Back.{BackFields, entries_left, left};
 
 use crate::table::read;
-use blocks::Blocks;
+use block_log::Blocks;
 use codec::journal_laws::a_journal_has_few_entries;
 use codec::{Entries, Entry};
 use s4_types::Ptr;

@@ -1,8 +1,8 @@
 //! Laws of chains, for the layers above: each function does nothing, and its contract is the law.
 ghost use Rattle.std.specs.Prelude.{◌≡◌, ◌==◌, ℕ, List, [], Option, None, false};
 ghost use Rattle.s4_types.specs.Pointer.{Place};
-ghost use Rattle.blocks.specs.declared.kinds.BlockKind.TheVariants.{Journal};
-ghost use Rattle.blocks.specs.Log.{Stored, of_kind};
+ghost use Rattle.block_log.specs.declared.kinds.BlockKind.TheVariants.{Journal};
+ghost use Rattle.block_log.specs.Log.{Stored, of_kind};
 ghost use Rattle.codec.specs.Entry.{EntryFields};
 ghost use Rattle.journal_chain.specs.Chain.{ChainFields, Holds, OnlyJournalChanged, entries_held};
 

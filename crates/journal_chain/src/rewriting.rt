@@ -10,7 +10,7 @@ ghost use Rattle.journal_chain.specs.Back.{links_back, places_back};
 
 use crate::table::read;
 use arrayvec::ArrayVec;
-use blocks::Blocks;
+use block_log::Blocks;
 use s4_types::Ptr;
 use s4_types::limits::CHAIN_BLOCKS;
 

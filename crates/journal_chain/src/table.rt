@@ -2,7 +2,7 @@
 ghost use Rattle.std.specs.Prelude.{◌≡◌, ◌≤◌, ◌<◌, length, Some, IsSome};
 ghost use Rattle.journal_chain.specs.Writing.{Put, spelled};
 
-use blocks::{BlockKind, Blocks};
+use block_log::{BlockKind, Blocks};
 use codec::{JournalBlock, decode_journal, encode_journal};
 use s4_types::Ptr;
 

@@ -10,7 +10,7 @@ ghost use Rattle.journal_chain.specs.Writing.{Finished, Unfinished};
 
 use crate::table::write;
 use arrayvec::ArrayVec;
-use blocks::Blocks;
+use block_log::Blocks;
 use codec::{Entry, JournalBlock};
 use s4_types::{ObjectId, Ptr};
 

@@ -1,7 +1,7 @@
 -- What the tests' object carries from one change to the next.
 use Rattle.std.specs.Prelude.{◌≡◌, ℕ, Option}
 use Rattle.s4_types.specs.Pointer.{Place}
-use Rattle.blocks.specs.Log.{Stored}
+use Rattle.block_log.specs.Log.{Stored}
 use Rattle.codec.specs.declared.inodes.Inode.{Inode}
 use Rattle.inode.specs.Contents.{contents_of}
 use Rattle.inode.specs.Tidiness.{Tidy, PointersHeld}

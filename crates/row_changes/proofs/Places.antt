@@ -2,9 +2,9 @@
 use Rattle.std.proofs.Common.{◌≡◌, inl, inr, ℕ, false, ◌==◌, ◌&&◌, Option, Some, None, IsSome, IfSome, is_some, true, refl, sym, ap, subst, ◌∙◌}
 use Rattle.std.proofs.lemmas.Bool.{cases_Bool, both_ways, false≢true, and_from, eq-eqb}
 use Rattle.s4_types.specs.Pointer.{Place}
-use Rattle.blocks.specs.declared.kinds.BlockKind.{BlockKind}
-use Rattle.blocks.specs.declared.kinds.BlockKind.TheVariants.{Journal, Checkpoint, Data}
-use Rattle.blocks.specs.Log.{Log, Stored, same_kind, same_place, seen_as, of_kind}
+use Rattle.block_log.specs.declared.kinds.BlockKind.{BlockKind}
+use Rattle.block_log.specs.declared.kinds.BlockKind.TheVariants.{Journal, Checkpoint, Data}
+use Rattle.block_log.specs.Log.{Log, Stored, same_kind, same_place, seen_as, of_kind}
 use Rattle.checkpoint.specs.Held.{PutsCheckpoint}
 use Rattle.row_changes.specs.Moved.{OnlyCheckpointChanged, is_at}
 

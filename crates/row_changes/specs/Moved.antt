@@ -1,9 +1,9 @@
 -- What becomes of a table's blocks where an object's checkpoint is written anew.
 use Rattle.std.specs.Prelude.{◌≡◌, ℕ, Bool, false, ◌==◌, ◌&&◌, Option, Some, None, IfSome}
 use Rattle.s4_types.specs.Pointer.{Place}
-use Rattle.blocks.specs.declared.kinds.BlockKind.{BlockKind}
-use Rattle.blocks.specs.declared.kinds.BlockKind.TheVariants.{Checkpoint}
-use Rattle.blocks.specs.Log.{Stored, of_kind, same_kind, same_place}
+use Rattle.block_log.specs.declared.kinds.BlockKind.{BlockKind}
+use Rattle.block_log.specs.declared.kinds.BlockKind.TheVariants.{Checkpoint}
+use Rattle.block_log.specs.Log.{Stored, of_kind, same_kind, same_place}
 
 -- of all views, that of the object's checkpoints alone has changed
 abbrev pub OnlyCheckpointChanged : ℕ → (Place → Option Stored) → (Place → Option Stored) → Type 0

@@ -1,7 +1,7 @@
 -- The moment up to which an object's row tells all that it tells.
 use Rattle.std.specs.Prelude.{ℕ, ◌≤◌, Option}
 use Rattle.s4_types.specs.Pointer.{Place}
-use Rattle.blocks.specs.Log.{Stored}
+use Rattle.block_log.specs.Log.{Stored}
 use Rattle.undo_redo.specs.Runs.{AllBy}
 use Rattle.object_map.specs.declared.map.Row.{Row}
 use Rattle.time_read.specs.Rows.{entries_of}

@@ -5,7 +5,7 @@ ghost use Rattle.journal_chain.specs.Push.{push_refusal, pushed_blocks};
 ghost use Rattle.time_read.specs.Rows.{IsRow, chain_of, inode_of};
 ghost use Rattle.row_changes.specs.Recent.{IsBy};
 
-use blocks::Blocks;
+use block_log::Blocks;
 use codec::Inode;
 use undo_redo::entries_between;
 use undo_redo::laws::{

@@ -1,16 +1,16 @@
 ghost use Rattle.std.specs.Prelude.{◌≡◌, ℕ, ◌<◌, true, false, drop, length, Some, None, IsSome, IfSome, IfOk, IfErr, OnErr, MatchResult};
 ghost use Rattle.s4_types.specs.Pointer.{Place};
 ghost use Rattle.s4_types.specs.declared.refusals.Refusal.TheVariants.{NoSpace};
-ghost use Rattle.blocks.specs.declared.kinds.BlockKind.TheVariants as kind;
-ghost use Rattle.blocks.specs.Log.{of_kind};
+ghost use Rattle.block_log.specs.declared.kinds.BlockKind.TheVariants as kind;
+ghost use Rattle.block_log.specs.Log.{of_kind};
 ghost use Rattle.codec.specs.Checkpoint.{checkpoint_rules};
 ghost use Rattle.checkpoint.specs.Held.{checkpoint_held, PutsCheckpoint};
 ghost use Rattle.time_read.specs.Rows.{IsRow, inode_of};
 ghost use Rattle.row_changes.specs.Recent.{IsBy};
 ghost use Rattle.row_changes.specs.Moved.{OnlyCheckpointChanged, IsMoved, is_at};
 
-use blocks::Blocks;
-use blocks::laws::{a_drop_takes_one_block, one_place_has_one_name};
+use block_log::Blocks;
+use block_log::laws::{a_drop_takes_one_block, one_place_has_one_name};
 use checkpoint::write_checkpoint;
 use codec::{Checkpoint, Inode};
 use undo_redo::laws::{a_run_has_one_end_and_one_beginning, the_inode_at_a_moment};

@@ -1,8 +1,8 @@
 //! Laws of rows that change, for the layers above: each function does nothing, and its contract is the law.
 ghost use Rattle.std.specs.Prelude.{◌≡◌, ℕ, ◌≤◌, Option, None};
 ghost use Rattle.s4_types.specs.Pointer.{Place};
-ghost use Rattle.blocks.specs.declared.kinds.BlockKind.TheVariants.{Journal, Checkpoint};
-ghost use Rattle.blocks.specs.Log.{Stored, of_kind};
+ghost use Rattle.block_log.specs.declared.kinds.BlockKind.TheVariants.{Journal, Checkpoint};
+ghost use Rattle.block_log.specs.Log.{Stored, of_kind};
 ghost use Rattle.undo_redo.specs.Runs.{blank};
 ghost use Rattle.object_map.specs.declared.map.Row.{Row};
 ghost use Rattle.object_map.specs.Rows.{fresh_row};

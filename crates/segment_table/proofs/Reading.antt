@@ -5,7 +5,7 @@ use Rattle.std.specs.Option.{option_to_list}
 use Rattle.std.proofs.lemmas.List.{get_or_past, get_or_read, get_or-replicate, length-reverse, length-replicate}
 use Rattle.std.proofs.lemmas.Bool.{cases_Bool, cases_lt, cases_eq, eqb-true, eq-eqb, ne_eqb}
 use Rattle.s4_types.specs.Pointer.{Place}
-use Rattle.blocks.specs.Log.{dropped}
+use Rattle.block_log.specs.Log.{dropped}
 use Rattle.segment_word.specs.Frames.{Phase, Free, Open, Sealed, Emptied, Frame, no_frame, is_open}
 use Rattle.segment_word.specs.Layout.{frame_at, block_bytes}
 use Rattle.segment_word.specs.Handles.{fresh_frame}

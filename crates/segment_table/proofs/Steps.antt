@@ -2,7 +2,7 @@
 use Rattle.std.proofs.Common.{◌≡◌, ◌≢◌, ℕ, ◌+◌, ◌-◌, ◌<◌, ◌≤◌, true, List, [], ◌∷◌, ◌++◌, length, reverse, set, get_or, Option, Some, refl, sym, ap, subst, ◌∙◌, arith}
 use Rattle.std.proofs.lemmas.List.{get_or_read}
 use Rattle.s4_types.specs.Pointer.{Place}
-use Rattle.blocks.specs.Log.{Stored, appended, appended_at, dropped, without}
+use Rattle.block_log.specs.Log.{Stored, appended, appended_at, dropped, without}
 use Rattle.codec.specs.declared.summaries.Part.{Part}
 use Rattle.segment_word.specs.Frames.{Open, Frame}
 use Rattle.segment_word.specs.Layout.{frame_at, block_bytes, with_block}

@@ -2,7 +2,7 @@
 use Rattle.std.specs.Prelude.{ℕ, zero, suc, ◌+◌, ◌-◌, ◌^◌, Bool, ◌&&◌, nat_lt, if◌then◌else◌, List, [], ◌∷◌, ◌++◌, length, filter}
 use Rattle.std.specs.List.{flat_map, range_with_len}
 use Rattle.s4_types.specs.Pointer.{Place}
-use Rattle.blocks.specs.Log.{Log}
+use Rattle.block_log.specs.Log.{Log}
 use Rattle.segment_word.specs.Frames.{Frame, is_free, is_open, is_sealed}
 use Rattle.segment_word.specs.Layout.{frame_at}
 use Rattle.segment_table.specs.Table.{Table, slots_at, held_at, is_of}

@@ -1,6 +1,6 @@
 -- The used payload blocks of one frame, block 1 first.
 use Rattle.std.specs.Prelude.{ℕ, false, if◌then◌else◌, List, slice_index_or, slice_set, Option, Some, None}
-use Rattle.blocks.specs.declared.kinds.BlockKind.TheVariants.{Data}
+use Rattle.block_log.specs.declared.kinds.BlockKind.TheVariants.{Data}
 use Rattle.codec.specs.declared.summaries.Part.{Part}
 use Rattle.segment_table.specs.declared.slots.Slot.{Slot}
 

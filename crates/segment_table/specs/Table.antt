@@ -1,7 +1,7 @@
 -- What contracts see of a segment table, and what a place of it holds.
 use Rattle.std.specs.Prelude.{ℕ, Bool, false, ◌==◌, if◌then◌else◌, List, [], ◌∷◌, slice_index_or, Option, Some, None}
 use Rattle.s4_types.specs.Pointer.{Place}
-use Rattle.blocks.specs.Log.{Stored}
+use Rattle.block_log.specs.Log.{Stored}
 use Rattle.codec.specs.declared.summaries.Part.{Part}
 use Rattle.segment_word.specs.Frames.{Frame}
 use Rattle.segment_word.specs.Layout.{frame_at, block_bytes}

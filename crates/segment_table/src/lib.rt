@@ -1,6 +1,6 @@
 //! The segment table: a map from pointers to blocks, in the frames of a drive.
 //!
-//! The layers above may rely on this: a [`SegmentTable`] is a log as `blocks` tells it. An append takes the lowest
+//! The layers above may rely on this: a [`SegmentTable`] is a log as `block_log` tells it. An append takes the lowest
 //! unused payload block of the open frame, or else opens the free frame of the lowest number, and no other pair of a
 //! pointer and its block changes. A frame is sealed once its last block is filled, or by `seal_open`: its unused blocks
 //! are zeros then, and its block 0 is the summary of what the used ones are for. A pointer has the generation of its

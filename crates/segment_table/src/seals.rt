@@ -7,7 +7,7 @@ ghost use Rattle.segment_table.specs.Sealing.{IsOwned, payload_of};
 ghost use Rattle.segment_table.specs.Changes.{IsSealed, IsCleared};
 
 use crate::slots::Slots;
-use blocks::Block;
+use block_log::Block;
 use codec::{Summary, encode_summary};
 use s4_types::limits::{BLOCK_BYTES, FRAME_BLOCKS, PAYLOAD_BLOCKS};
 use segment_word::DriveSeat;

@@ -3,7 +3,7 @@ ghost use Rattle.std.specs.Prelude.{◌≡◌, ℕ, ◌+◌, ◌-◌, ◌^◌, �
 ghost use Rattle.std.specs.List.{range_with_len};
 ghost use Rattle.std.specs.Option.{option_to_list};
 ghost use Rattle.s4_types.specs.declared.refusals.Refusal.TheVariants.{NoMemory, Busy};
-ghost use Rattle.blocks.specs.Log.{appended, dropped};
+ghost use Rattle.block_log.specs.Log.{appended, dropped};
 ghost use Rattle.segment_word.specs.Frames.{Pinned, is_sealed};
 ghost use Rattle.segment_word.specs.Frames.Phase.{Open, Sealed};
 ghost use Rattle.segment_word.specs.Layout.{frame_at, block_bytes};
@@ -17,7 +17,7 @@ ghost use Rattle.segment_table.specs.Changes.{IsFilling, NoneIsFilling, IsReady,
 
 use crate::seals;
 use crate::slots::Slots;
-use blocks::Block;
+use block_log::Block;
 use codec::Part;
 use s4_types::limits::PAYLOAD_BLOCKS;
 use s4_types::{ObjectId, Ptr, Refusal};

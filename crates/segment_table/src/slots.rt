@@ -3,7 +3,7 @@ ghost use Rattle.std.specs.Prelude.{◌≡◌, ℕ, ◌+◌, ◌-◌, ◌<◌, �
 ghost use Rattle.segment_table.specs.Slots.{let_go, held_part};
 
 use arrayvec::ArrayVec;
-use blocks::BlockKind;
+use block_log::BlockKind;
 use codec::{Part, Parts};
 use s4_types::ObjectId;
 use s4_types::limits::PAYLOAD_BLOCKS;

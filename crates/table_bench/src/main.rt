@@ -5,8 +5,8 @@
 //! The figures differ from run to run, so they go to standard error, and nothing to standard output.
 #![tactic(auto)]
 
-use blocks::laws::an_append_puts_one_block;
-use blocks::{Block, BlockKind, Blocks};
+use block_log::laws::an_append_puts_one_block;
+use block_log::{Block, BlockKind, Blocks};
 use s4_types::limits::{BLOCK_BYTES, MOST_FRAMES, PAYLOAD_BLOCKS};
 use s4_types::{ObjectId, Refusal};
 use segment_table::SegmentTable;

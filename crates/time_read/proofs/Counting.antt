@@ -4,7 +4,7 @@ use Rattle.std.proofs.lemmas.Bool.{cases_Bool, cases_lt, eqb-true, eqb-false, co
 use Rattle.std.proofs.lemmas.Option.{same_Some}
 use Rattle.s4_types.specs.Pointer.{Place}
 use Rattle.s4_types.specs.declared.refusals.Refusal.{Refusal}
-use Rattle.blocks.specs.Log.{Stored}
+use Rattle.block_log.specs.Log.{Stored}
 use Rattle.inode.specs.Contents.{contents_of, bytes_stored}
 use Rattle.segment_word.specs.Frames.{Pinned}
 use Rattle.segment_word.specs.Handles.{Held, IsAmong, pin_of}

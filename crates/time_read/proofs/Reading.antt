@@ -1,8 +1,8 @@
 -- What a row tells of its chain and its checkpoint.
 use Rattle.std.proofs.Common.{◌≡◌, ℕ, ◌≤◌, true, List, [], ◌∷◌, Option, Some, None, IsSome, IfSome, MatchOption, refl, sym, ap, subst, ◌∙◌, arith}
 use Rattle.s4_types.specs.Pointer.{Place}
-use Rattle.blocks.specs.Log.{Stored, of_kind}
-use Rattle.blocks.specs.declared.kinds.BlockKind.TheVariants as kind
+use Rattle.block_log.specs.Log.{Stored, of_kind}
+use Rattle.block_log.specs.declared.kinds.BlockKind.TheVariants as kind
 use Rattle.codec.specs.Fields.{◌>>=◌}
 use Rattle.codec.specs.declared.inodes.Inode.{Inode}
 use Rattle.codec.specs.Entry.{EntryFields}

@@ -1,8 +1,8 @@
 -- What a row tells depends on its object's own blocks alone.
 use Rattle.std.proofs.Common.{◌≡◌, ℕ, true, List, [], Option, Some, None, IsSome, unwrap_or, MatchOption, sym, ap, subst, ◌∙◌}
 use Rattle.s4_types.specs.Pointer.{Place}
-use Rattle.blocks.specs.Log.{Stored, of_kind}
-use Rattle.blocks.specs.declared.kinds.BlockKind.TheVariants.{Journal, Checkpoint}
+use Rattle.block_log.specs.Log.{Stored, of_kind}
+use Rattle.block_log.specs.declared.kinds.BlockKind.TheVariants.{Journal, Checkpoint}
 use Rattle.codec.specs.Fields.{◌>>=◌}
 use Rattle.codec.specs.declared.inodes.Inode.{Inode}
 use Rattle.codec.specs.Entry.{EntryFields}

@@ -1,8 +1,8 @@
 -- The inode of an object that is current at a moment, by the object's row and the blocks that a table holds.
 use Rattle.std.specs.Prelude.{◌≡◌, ℕ, ◌≤◌, true, List, Option, Some, None, IsSome, MatchOption}
 use Rattle.s4_types.specs.Pointer.{Place}
-use Rattle.blocks.specs.Log.{Stored, of_kind}
-use Rattle.blocks.specs.declared.kinds.BlockKind.TheVariants as kind
+use Rattle.block_log.specs.Log.{Stored, of_kind}
+use Rattle.block_log.specs.declared.kinds.BlockKind.TheVariants as kind
 use Rattle.codec.specs.Fields.{◌>>=◌}
 use Rattle.codec.specs.declared.inodes.Inode.{Inode}
 use Rattle.codec.specs.Entry.{EntryFields}

@@ -5,7 +5,7 @@ ghost use Rattle.checkpoint.specs.Held.{checkpoint_held};
 ghost use Rattle.time_read.specs.Rows.{IsRow, entries_of, inode_of};
 
 use crate::moving::{lead, lead_from_start};
-use blocks::Blocks;
+use block_log::Blocks;
 use checkpoint::read_checkpoint;
 use codec::{Entry, Inode};
 use undo_redo::blank;

@@ -14,7 +14,7 @@ ghost use Rattle.time_read.specs.Plans.{piece_bytes, pins_of, bytes_planned, byt
 ghost use Rattle.time_read.specs.Planning.{CountsOn, Locates, Adds};
 ghost use Rattle.time_read.specs.declared.plans.Piece.TheVariants.{Hole, Copied, Pinned};
 
-use blocks::{Block, Blocks};
+use block_log::{Block, Blocks};
 use codec::Inode;
 use inode::laws::{bytes_from_an_offset, ranges_join_and_part};
 use inode::zero_block;

@@ -1,7 +1,7 @@
 -- An object's checkpoint: the last entry of a journal, and what a checkpoint that is written leaves.
 use Rattle.std.proofs.Common.{◌≡◌, ℕ, suc, ◌+◌, ◌*◌, ◌-◌, ◌^◌, ◌<◌, ◌≤◌, ◌==◌, ◌&&◌, leb, ltb, Bool, true, false, List, [], ◌∷◌, ◌++◌, length, drop, slice_index_or, Option, Some, None, IsSome, IfSome, MatchOption, IfNone, unwrap_or, is_none, is_some, refl, sym, ap, subst, ◌∙◌, inl, inr, arith}
 use Rattle.s4_types.specs.Pointer.{Place}
-use Rattle.blocks.specs.Log.{Stored, of_kind}
+use Rattle.block_log.specs.Log.{Stored, of_kind}
 use Rattle.codec.specs.Entry.{EntryFields}
 use Rattle.packing.specs.Packing.{packed, filled_bytes, AllFit, KeepsTheRule}
 use Rattle.undo_redo.specs.Runs.{last_moment}

@@ -4,9 +4,9 @@ use Rattle.std.proofs.lemmas.Bool.{cases_Bool, cond-true, cond-false, false≢tr
 use Rattle.std.proofs.lemmas.Option.{none-some, same_Some}
 use std.Path.{fun_ext}
 use Rattle.s4_types.specs.Pointer.{Place}
-use Rattle.blocks.specs.Log.{Log, Stored, of_kind, seen_as, same_kind}
-use Rattle.blocks.specs.declared.kinds.BlockKind.{BlockKind}
-use Rattle.blocks.specs.declared.kinds.BlockKind.TheVariants.{Journal, Checkpoint, Data}
+use Rattle.block_log.specs.Log.{Log, Stored, of_kind, seen_as, same_kind}
+use Rattle.block_log.specs.declared.kinds.BlockKind.{BlockKind}
+use Rattle.block_log.specs.declared.kinds.BlockKind.TheVariants.{Journal, Checkpoint, Data}
 use Rattle.codec.specs.declared.inodes.Inode.{Inode}
 use Rattle.journal_chain.specs.Chain.{OnlyJournalChanged}
 use Rattle.inode.specs.Contents.{bytes_stored, contents_of, meaning}

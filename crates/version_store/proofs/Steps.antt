@@ -7,8 +7,8 @@ use Rattle.std.proofs.lemmas.Option.{none-some, same_Some}
 use Rattle.s4_types.specs.Pointer.{Place}
 use Rattle.s4_types.specs.declared.versions.Version.{Version}
 use Rattle.s4_types.specs.declared.versions.Version.TheVariants.{Absent}
-use Rattle.blocks.specs.Log.{Log, Stored, of_kind, same_kind}
-use Rattle.blocks.specs.declared.kinds.BlockKind.TheVariants.{Journal, Checkpoint, Data}
+use Rattle.block_log.specs.Log.{Log, Stored, of_kind, same_kind}
+use Rattle.block_log.specs.declared.kinds.BlockKind.TheVariants.{Journal, Checkpoint, Data}
 use Rattle.codec.specs.declared.inodes.Inode.{Inode}
 use Rattle.codec.specs.Checkpoint.{pointer_at}
 use Rattle.undo_redo.specs.Runs.{blank}

@@ -8,7 +8,7 @@ use Rattle.s4_types.specs.declared.changes.Change.{Change}
 use Rattle.s4_types.specs.declared.refusals.Refusal.TheVariants.{ChainFull, NoSpace}
 use Rattle.s4_types.specs.declared.versions.Version.TheVariants.{Absent, Live}
 use Rattle.s4_model.specs.Refusals.{is_absent}
-use Rattle.blocks.specs.Log.{Stored}
+use Rattle.block_log.specs.Log.{Stored}
 use Rattle.codec.specs.Entry.{EntryFields, entry_length, entries_length, pair_length}
 use Rattle.codec.specs.declared.inodes.Inode.{Inode}
 use Rattle.packing.specs.Sizes.{blocks_needed}

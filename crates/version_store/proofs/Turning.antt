@@ -4,7 +4,7 @@ use Rattle.std.proofs.lemmas.Bool.{ltb-false, cond-true, eq-eqb, le-leb}
 use Rattle.std.proofs.lemmas.List.{length-map}
 use Rattle.std.proofs.lemmas.Option.{same_Some}
 use Rattle.s4_types.specs.Pointer.{Place}
-use Rattle.blocks.specs.Log.{Stored}
+use Rattle.block_log.specs.Log.{Stored}
 use Rattle.codec.specs.Entry.{entry_length, entries_length}
 use Rattle.codec.specs.declared.inodes.Inode.{Inode}
 use Rattle.packing.specs.Sizes.{blocks_needed}

@@ -3,7 +3,7 @@ use Rattle.std.specs.Prelude.{◌≡◌, ℕ, ◌+◌, ◌==◌, ◌&&◌, Bool,
 use Rattle.s4_types.specs.Pointer.{Place}
 use Rattle.s4_types.specs.declared.refusals.Refusal.{Refusal}
 use Rattle.s4_types.specs.declared.refusals.Refusal.TheVariants.{NoObject, NoSpace}
-use Rattle.blocks.specs.Log.{Stored}
+use Rattle.block_log.specs.Log.{Stored}
 use Rattle.undo_redo.specs.Runs.{last_moment}
 use Rattle.checkpoint.specs.Held.{checkpoint_held}
 use Rattle.object_map.specs.declared.map.Row.{Row}

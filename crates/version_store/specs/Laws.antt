@@ -1,8 +1,8 @@
 -- What the definitions come to: each of these holds of all stores, and is the contract of a function with an empty body.
 use Rattle.std.specs.Prelude.{◌≡◌, ℕ, ◌≤◌, ◌↔◌, true, Option, Some, None, IsSome}
 use Rattle.s4_types.specs.Pointer.{Place}
-use Rattle.blocks.specs.declared.kinds.BlockKind.{BlockKind}
-use Rattle.blocks.specs.Log.{Stored, of_kind}
+use Rattle.block_log.specs.declared.kinds.BlockKind.{BlockKind}
+use Rattle.block_log.specs.Log.{Stored, of_kind}
 use Rattle.codec.specs.declared.inodes.Inode.{Inode}
 use Rattle.undo_redo.specs.Runs.{blank}
 use Rattle.inode.specs.Contents.{contents_of, meaning}

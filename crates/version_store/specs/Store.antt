@@ -1,9 +1,9 @@
 -- What contracts see of a store of objects, and what holds of each store.
 use Rattle.std.specs.Prelude.{◌≡◌, ℕ, ◌+◌, ◌≤◌, List, length, Option, Some, None, IsSome}
 use Rattle.s4_types.specs.Pointer.{Place}
-use Rattle.blocks.specs.declared.kinds.BlockKind.{BlockKind}
-use Rattle.blocks.specs.declared.kinds.BlockKind.TheVariants.{Journal, Checkpoint, Data}
-use Rattle.blocks.specs.Log.{Log, Stored, of_kind}
+use Rattle.block_log.specs.declared.kinds.BlockKind.{BlockKind}
+use Rattle.block_log.specs.declared.kinds.BlockKind.TheVariants.{Journal, Checkpoint, Data}
+use Rattle.block_log.specs.Log.{Log, Stored, of_kind}
 use Rattle.codec.specs.Checkpoint.{pointer_at}
 use Rattle.journal_chain.specs.Chain.{times, chain_places}
 use Rattle.object_map.specs.declared.map.Row.{Row}

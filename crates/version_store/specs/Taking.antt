@@ -5,7 +5,7 @@ use Rattle.s4_types.specs.declared.changes.Change.{Change}
 use Rattle.s4_types.specs.declared.changes.Change.TheVariants.{Create, Delete, Write, Truncate, SetAttr, SetWindow, Flush, FlushO}
 use Rattle.s4_model.specs.Limits.{Fits}
 use Rattle.s4_model.specs.Refusals.{is_absent}
-use Rattle.blocks.specs.Log.{Log}
+use Rattle.block_log.specs.Log.{Log}
 use Rattle.codec.specs.declared.inodes.Inode.{Inode}
 use Rattle.object_map.specs.declared.map.Row.{Row}
 use Rattle.object_map.specs.Rows.{row_of, with_row}

@@ -2,8 +2,8 @@
 use Rattle.std.specs.Prelude.{◌≡◌, ◌⊎◌, ℕ, ◌+◌, ◌<◌, ◌≤◌, ◌==◌, ◌&&◌, ◌||◌, nat_le, if◌then◌else◌, drop, length, Some, None, IsSome, is_some}
 use Rattle.s4_types.specs.Pointer.{Place}
 use Rattle.s4_types.specs.declared.changes.Change.{Change}
-use Rattle.blocks.specs.declared.kinds.BlockKind.TheVariants.{Data}
-use Rattle.blocks.specs.Log.{of_kind}
+use Rattle.block_log.specs.declared.kinds.BlockKind.TheVariants.{Data}
+use Rattle.block_log.specs.Log.{of_kind}
 use Rattle.codec.specs.Checkpoint.{pointer_at}
 use Rattle.codec.specs.declared.inodes.Inode.{Inode}
 use Rattle.object_map.specs.declared.map.Row.{Row}

@@ -2,7 +2,7 @@
 ghost use Rattle.std.specs.Prelude.{◌≡◌, ℕ, ◌<◌, ◌≤◌, ◌-◌, ◌↔◌, ◌⊎◌, ◌++◌, true, false, Some, None, length, min, take, drop, IsSome, IfSome, IfOk, IfErr};
 ghost use Rattle.std.specs.List.{list_any};
 ghost use Rattle.s4_types.specs.declared.refusals.Refusal.TheVariants.{NoMemory, Busy, NoSpace};
-ghost use Rattle.blocks.specs.Log.{appended, dropped};
+ghost use Rattle.block_log.specs.Log.{appended, dropped};
 ghost use Rattle.inode.specs.Contents.{contents_of, bytes_of};
 ghost use Rattle.inode.specs.Tidiness.{PointersLead};
 ghost use Rattle.segment_word.specs.Counting.{pins_in};
@@ -11,7 +11,7 @@ ghost use Rattle.segment_table.specs.Room.{is_filling, numbers, rest_of, places_
 ghost use Rattle.segment_table.specs.Changes.{IsFilling, NoneIsFilling, IsSealedIn};
 ghost use Rattle.time_read.specs.Plans.{IsAt, pieces_of, bytes_planned, pins_of, is_pinned, is_pinned_in};
 
-use blocks::{Block, BlockKind, Blocks};
+use block_log::{Block, BlockKind, Blocks};
 use codec::Inode;
 use s4_types::{ObjectId, Ptr, Refusal};
 use segment_table::SegmentTable;

@@ -15,7 +15,7 @@ mod sealing;
 mod taking;
 
 use crate::laws::the_present_stays;
-use blocks::Blocks;
+use block_log::Blocks;
 use codec::{Entry, Inode};
 use inode::laws::held_pointers_lead;
 use object_map::{ObjectMap, Objects, Row};

@@ -8,7 +8,7 @@ mod steps;
 
 use crate::Store;
 use acts::{Act, Deed, play, play_anew};
-use blocks::Blocks;
+use block_log::Blocks;
 use plain::{Fresh, Plain};
 use s4_types::{Moment, ObjectId, Refusal};
 use std::alloc::Global;

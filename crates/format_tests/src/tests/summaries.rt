@@ -1,5 +1,5 @@
 //! Summaries of frames.
-use blocks::{Block, BlockKind};
+use block_log::{Block, BlockKind};
 use codec::{Part, Parts, Summary, decode_summary, encode_summary};
 use s4_types::ObjectId;
 use sha2::{Digest, Sha256};

@@ -6,7 +6,7 @@ ghost use Rattle.time_read.specs.Rows.{IsRow};
 ghost use Rattle.row_changes.specs.Recent.{IsBy};
 
 use crate::tests::plain::Plain;
-use blocks::Blocks;
+use block_log::Blocks;
 use codec::{Checkpoint, Inode};
 use object_map::Row;
 use row_changes::laws::{a_fresh_row_stands, a_row_is_by_later_moments};

@@ -1,6 +1,6 @@
 //! A checkpoint that is written and read back, over a table of one place.
 use crate::tests::one_place::OnePlace;
-use blocks::{Block, Blocks};
+use block_log::{Block, Blocks};
 use checkpoint::{read_checkpoint, write_checkpoint};
 use codec::{Attribute, Checkpoint, Inode};
 use s4_types::{Moment, ObjectId, Ptr, Refusal};

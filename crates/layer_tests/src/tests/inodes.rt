@@ -4,7 +4,7 @@ ghost use Rattle.inode.specs.Contents.{contents_of};
 ghost use Rattle.inode.specs.Tidiness.{Tidy, PointersHeld};
 
 use crate::tests::plain::Plain;
-use blocks::Blocks;
+use block_log::Blocks;
 use codec::{Attribute, Inode};
 use inode::laws::held_pointers_lead;
 use inode::{

@@ -1,9 +1,9 @@
 //! A table with one place.
 ghost use Rattle.std.specs.Prelude.{◌≡◌, false, if◌then◌else◌, [], ◌∷◌, None};
 ghost use Rattle.s4_types.specs.Pointer.{Place};
-ghost use Rattle.blocks.specs.Log.{Log, Stored, same_place};
+ghost use Rattle.block_log.specs.Log.{Log, Stored, same_place};
 
-use blocks::{Block, BlockKind, Blocks};
+use block_log::{Block, BlockKind, Blocks};
 use s4_types::{ObjectId, Ptr, Refusal};
 use std::marker::Model;
 
@@ -16,7 +16,7 @@ pub(super) struct Kept {
 }
 
 impl Model for Kept {
-    ghost use Rattle.blocks.specs.Log.{Stored};
+    ghost use Rattle.block_log.specs.Log.{Stored};
 
     ghost Value = { Stored };
 

@@ -2,9 +2,9 @@
 ghost use Rattle.std.specs.Prelude.{◌≡◌, ℕ, ◌-◌, ◌≤◌, ◌==◌, ◌&&◌, if◌then◌else◌, None, length, map, slice_index_or};
 ghost use Rattle.std.specs.List.{range_with_len};
 ghost use Rattle.s4_types.specs.Pointer.{Place};
-ghost use Rattle.blocks.specs.Log.{Log, Stored};
+ghost use Rattle.block_log.specs.Log.{Log, Stored};
 
-use blocks::{Block, BlockKind, Blocks};
+use block_log::{Block, BlockKind, Blocks};
 use s4_types::{ObjectId, Ptr, Refusal};
 use std::marker::Model;
 
@@ -17,7 +17,7 @@ pub(super) struct Kept {
 }
 
 impl Model for Kept {
-    ghost use Rattle.blocks.specs.Log.{Stored};
+    ghost use Rattle.block_log.specs.Log.{Stored};
 
     ghost Value = { Stored };
 

@@ -4,7 +4,7 @@ ghost use Rattle.log_tests.specs.Subject.{IsPresent};
 
 use crate::tests::subject::Subject;
 use crate::tests::tables::{block_of, new_table};
-use blocks::Blocks;
+use block_log::Blocks;
 use codec::{Attribute, Checkpoint, Inode};
 use undo_redo::blank;
 use object_map::Row;

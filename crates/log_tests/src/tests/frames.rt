@@ -1,6 +1,6 @@
 //! The table over its frames: what is done with it in tables, each row with what it must tell.
 use crate::tests::tables::{block_of, held_bytes, new_table, read_blocks};
-use blocks::{Block, BlockKind, Blocks};
+use block_log::{Block, BlockKind, Blocks};
 use codec::{Part, decode_summary, encode_ptr};
 use s4_types::{ObjectId, Ptr, Refusal};
 use segment_table::SegmentTable;

@@ -10,7 +10,7 @@ use crate::tests::pushing::{
 };
 use crate::tests::subject::Subject;
 use crate::tests::tables::{held_blocks, new_table, place};
-use blocks::{Block, Blocks};
+use block_log::{Block, Blocks};
 use codec::{Attribute, Entry, Inode};
 use undo_redo::blank;
 use journal_chain::Chain;

@@ -7,7 +7,7 @@ use crate::tests::pushing::{
     append_data, empty_chain, long_entries, long_entry, push, read_back, rewrite, short_entry,
 };
 use crate::tests::tables::{held_blocks, new_table, place};
-use blocks::{Block, Blocks};
+use block_log::{Block, Blocks};
 use checkpoint::write_checkpoint;
 use codec::Checkpoint;
 use undo_redo::blank;

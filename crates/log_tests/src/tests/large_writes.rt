@@ -4,7 +4,7 @@ ghost use Rattle.log_tests.specs.Subject.{IsPresent};
 
 use crate::tests::subject::{OBJECT, Subject};
 use crate::tests::tables::{new_table, place};
-use blocks::{Block, Blocks};
+use block_log::{Block, Blocks};
 use codec::{Entry, Inode, Status, decode_journal};
 use undo_redo::blank;
 use s4_types::{Moment, ObjectId, Ptr};

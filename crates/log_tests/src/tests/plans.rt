@@ -4,7 +4,7 @@ ghost use Rattle.log_tests.specs.Subject.{IsPresent};
 
 use crate::tests::subject::Subject;
 use crate::tests::tables::new_table;
-use blocks::Blocks;
+use block_log::Blocks;
 use codec::Inode;
 use s4_types::Refusal;
 use segment_table::SegmentTable;

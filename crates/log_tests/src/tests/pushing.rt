@@ -3,8 +3,8 @@ ghost use Rattle.std.specs.Prelude.{◌≡◌, ◌+◌, ◌^◌, ◌<◌, ◌≤
 ghost use Rattle.s4_types.specs.Pointer.{Place};
 ghost use Rattle.journal_chain.specs.Chain.{Holds, entries_held};
 
-use blocks::laws::an_append_puts_one_block;
-use blocks::{Block, BlockKind, Blocks};
+use block_log::laws::an_append_puts_one_block;
+use block_log::{Block, BlockKind, Blocks};
 use codec::{Attribute, Entry, Pair, Status, Triple, Triples};
 use journal_chain::Chain;
 use journal_chain::laws::{a_chain_has_its_entries, an_empty_chain_is_held};

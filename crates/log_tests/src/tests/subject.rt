@@ -10,7 +10,7 @@ ghost use Rattle.segment_table.specs.Table.{held_at};
 ghost use Rattle.log_tests.specs.Subject.{IsRecorded, IsPresent};
 
 use crate::tests::{pushing, tables};
-use blocks::{Block, BlockKind, Blocks};
+use block_log::{Block, BlockKind, Blocks};
 use checkpoint::read_checkpoint;
 use codec::{Attribute, Checkpoint, Entry, Inode};
 use inode::laws::only_its_blocks_matter;

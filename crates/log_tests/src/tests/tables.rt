@@ -3,7 +3,7 @@ ghost use Rattle.std.specs.Prelude.{◌≡◌, ◌<◌, ◌≤◌, None, IfOk};
 ghost use Rattle.s4_types.specs.Pointer.{Place};
 ghost use Rattle.segment_word.specs.Counting.{pins_in};
 
-use blocks::{Block, Blocks};
+use block_log::{Block, Blocks};
 use s4_types::{Ptr, Refusal};
 use segment_table::SegmentTable;
 use segment_word::Pin;

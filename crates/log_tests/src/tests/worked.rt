@@ -3,7 +3,7 @@ ghost use Rattle.log_tests.specs.Subject.{IsPresent};
 
 use crate::tests::subject::{OBJECT, Subject};
 use crate::tests::tables::{block_of, frame_blocks, held_bytes, new_table};
-use blocks::{Block, Blocks};
+use block_log::{Block, Blocks};
 use codec::encode_ptr;
 use object_map::{ObjectMap, Row};
 use s4_types::{Moment, ObjectId, Ptr, Refusal};

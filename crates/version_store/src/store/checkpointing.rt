@@ -9,7 +9,7 @@ ghost use Rattle.version_store.specs.Checkpointing.{last_entry, is_behind, check
 ghost use Rattle.version_store.specs.CheckpointSteps.{CanCheckpoint, Checkpointed};
 
 use crate::store::Store;
-use blocks::Blocks;
+use block_log::Blocks;
 use codec::Inode;
 use inode::laws::only_its_blocks_matter;
 use undo_redo::laws::groups_join_and_part;

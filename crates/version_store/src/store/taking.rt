@@ -15,8 +15,8 @@ ghost use Rattle.version_store.specs.Turning.{CanTake, CanTurn, Turns, IsTaken, 
 use crate::costs::{object_of, refusal};
 use crate::laws::changes_begin_with_the_present;
 use crate::store::Store;
-use blocks::Blocks;
-use blocks::laws::one_place_has_one_name;
+use block_log::Blocks;
+use block_log::laws::one_place_has_one_name;
 use codec::{Attribute, Inode};
 use inode::laws::{held_pointers_lead, only_its_blocks_matter};
 use inode::{created, deleted, truncate, with_attribute, write};

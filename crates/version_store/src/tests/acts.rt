@@ -7,7 +7,7 @@ use super::steps::{
     write,
 };
 use crate::Store;
-use blocks::Blocks;
+use block_log::Blocks;
 use codec::{Entry, Inode};
 use s4_types::{Moment, ObjectId, Refusal};
 use std::alloc::Global;

@@ -11,7 +11,7 @@ ghost use Rattle.s4_model.specs.Effect.{object_of};
 use crate::Store;
 use crate::costs::object_of;
 use crate::laws::changes_begin_with_the_present_version;
-use blocks::Blocks;
+use block_log::Blocks;
 use codec::{Entry, Inode};
 use s4_types::{Bytes, Change, Moment, ObjectId, Refusal};
 use std::alloc::Global;

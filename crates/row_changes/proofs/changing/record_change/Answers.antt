@@ -1,5 +1,5 @@
 use Rattle.std.proofs.Common.{rules, refl}
-use Rattle.blocks.specs.declared.kinds.BlockKind.TheVariants.{Checkpoint}
+use Rattle.block_log.specs.declared.kinds.BlockKind.TheVariants.{Checkpoint}
 use Rattle.row_changes.proofs.Pushing.{Laws, Pushed, with_chain, holding, pushed_row, pushed_by, pushed_inode}
 use Rattle.row_changes.proofs.changing.record_change.Goals as goal
 

@@ -1,6 +1,6 @@
 use Rattle.std.proofs.Common.{rules, ◌≡◌, ◌∙◌, [], length, None, sym, ap, arith}
 use Rattle.std.proofs.lemmas.Grind.{common_steps}
-use Rattle.blocks.specs.Log.{Log}
+use Rattle.block_log.specs.Log.{Log}
 use Rattle.journal_chain.specs.Back.{BackFields, entries_left}
 use Rattle.journal_chain.proofs.Backwards.{turn_reads, turned, all_given, nil_since}
 use Rattle.journal_chain.proofs.back.EntriesBack.turn.Goals as goal

@@ -1,6 +1,6 @@
 use Rattle.std.proofs.Common.{◌∙◌, ◌++◌, ◌∷◌, map, drop, ap}
 use Rattle.std.specs.Option.{option_to_list}
-use Rattle.blocks.specs.Log.{Log}
+use Rattle.block_log.specs.Log.{Log}
 use Rattle.codec.specs.Entry.{entry_length}
 use Rattle.packing.specs.Sizes.{filled_with, breaks}
 use Rattle.journal_chain.specs.Chain.{entries_held}

@@ -1,6 +1,6 @@
 use Rattle.std.proofs.Common.{ℕ, sym, ap, subst, arith}
-use Rattle.blocks.specs.declared.kinds.BlockKind.TheVariants.{Journal, Checkpoint}
-use Rattle.blocks.specs.Log.{seen_as}
+use Rattle.block_log.specs.declared.kinds.BlockKind.TheVariants.{Journal, Checkpoint}
+use Rattle.block_log.specs.Log.{seen_as}
 use Rattle.object_map.specs.Rows.{fresh_row}
 use Rattle.time_read.specs.Rows.{IsRow}
 use Rattle.row_changes.specs.Recent.{IsBy}

@@ -1,7 +1,7 @@
 use Rattle.std.proofs.Common.{refl}
-use Rattle.blocks.specs.declared.kinds.BlockKind.TheVariants.{Data}
-use Rattle.blocks.specs.Log.{Stored}
-use Rattle.blocks.specs.Growth.{Puts}
+use Rattle.block_log.specs.declared.kinds.BlockKind.TheVariants.{Data}
+use Rattle.block_log.specs.Log.{Stored}
+use Rattle.block_log.specs.Growth.{Puts}
 use Rattle.log_tests.proofs.Frames.{same_chain, data_put}
 use Rattle.log_tests.proofs.tests.pushing.append_data.Goals as goal
 

@@ -1,6 +1,6 @@
 use Rattle.std.proofs.Common.{[], None, ap}
-use Rattle.blocks.specs.declared.kinds.BlockKind.TheVariants.{Journal}
-use Rattle.blocks.specs.Log.{seen_as}
+use Rattle.block_log.specs.declared.kinds.BlockKind.TheVariants.{Journal}
+use Rattle.block_log.specs.Log.{seen_as}
 use Rattle.journal_chain.specs.Chain.{ChainFields, Holds}
 use Rattle.log_tests.proofs.Frames.{empty_held}
 use Rattle.log_tests.proofs.tests.pushing.empty_chain.Goals as goal

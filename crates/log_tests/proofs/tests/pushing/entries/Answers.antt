@@ -1,5 +1,5 @@
 use Rattle.std.proofs.Common.{sym, subst, IsSome}
-use Rattle.blocks.specs.Log.{Log}
+use Rattle.block_log.specs.Log.{Log}
 use Rattle.journal_chain.specs.Chain.{chain_entries, entries_held}
 use Rattle.log_tests.proofs.Frames.{held_found}
 use Rattle.log_tests.proofs.tests.pushing.entries.Goals as goal

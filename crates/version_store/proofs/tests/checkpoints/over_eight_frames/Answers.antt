@@ -1,5 +1,5 @@
 use Rattle.std.proofs.Common.{ap}
-use Rattle.blocks.specs.Log.{Log}
+use Rattle.block_log.specs.Log.{Log}
 use Rattle.segment_table.specs.Room.{log_of}
 use Rattle.version_store.proofs.Sealing.{few_places}
 use Rattle.version_store.proofs.tests.checkpoints.over_eight_frames.Goals as goal

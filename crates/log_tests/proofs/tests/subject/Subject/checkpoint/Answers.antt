@@ -1,5 +1,5 @@
 use Rattle.std.proofs.Common.{ℕ, ◌≤◌, refl, sym, subst, arith}
-use Rattle.blocks.specs.declared.kinds.BlockKind.TheVariants.{Data}
+use Rattle.block_log.specs.declared.kinds.BlockKind.TheVariants.{Data}
 use Rattle.row_changes.specs.Recent.{IsBy}
 use Rattle.log_tests.proofs.Frames.{same_tidy, same_pointers}
 use Rattle.log_tests.proofs.Rows.{checked}

@@ -1,5 +1,5 @@
 use Rattle.std.proofs.Common.{refl}
-use Rattle.blocks.specs.declared.kinds.BlockKind.TheVariants.{Data}
+use Rattle.block_log.specs.declared.kinds.BlockKind.TheVariants.{Data}
 use Rattle.time_read.specs.Rows.{inode_of}
 use Rattle.log_tests.proofs.Frames.{same_tidy, same_pointers}
 use Rattle.log_tests.proofs.Rows.{changed}

@@ -1,5 +1,5 @@
 use Rattle.std.proofs.Common.{refl}
-use Rattle.blocks.specs.declared.kinds.BlockKind.TheVariants.{Journal, Checkpoint}
+use Rattle.block_log.specs.declared.kinds.BlockKind.TheVariants.{Journal, Checkpoint}
 use Rattle.log_tests.proofs.Frames.{OwnBlocks, one_view, same_recorded}
 use Rattle.log_tests.proofs.tests.subject.Subject.write.Goals as goal
 

@@ -1,7 +1,7 @@
 ghost use Rattle.std.specs.Prelude.{◌≡◌, ◌≢◌, ℕ, ◌≤◌, length, Option, Some, None, IsSome, IfSome, IfOk, IfErr};
 ghost use Rattle.s4_types.specs.Pointer.{IsPlace};
 ghost use Rattle.s4_types.specs.declared.refusals.Refusal.TheVariants.{NoSpace};
-ghost use Rattle.blocks.specs.Log.{Log, Stored, appended, dropped};
+ghost use Rattle.block_log.specs.Log.{Log, Stored, appended, dropped};
 
 use crate::kinds::BlockKind;
 use s4_types::limits::BLOCK_BYTES;

@@ -1,8 +1,8 @@
 -- What one append, and one drop, leave as they were.
 use Rattle.std.specs.Prelude.{◌≡◌, ℕ, false, ◌==◌, ◌&&◌, ◌∷◌, Option, Some, None}
 use Rattle.s4_types.specs.Pointer.{Place}
-use Rattle.blocks.specs.declared.kinds.BlockKind.{BlockKind}
-use Rattle.blocks.specs.Log.{Log, Stored, same_place, same_kind, of_kind}
+use Rattle.block_log.specs.declared.kinds.BlockKind.{BlockKind}
+use Rattle.block_log.specs.Log.{Log, Stored, same_place, same_kind, of_kind}
 
 -- the blocks of each other kind or object are as they were
 abbrev pub OthersStay : BlockKind → ℕ → (Place → Option Stored) → (Place → Option Stored) → Type 0

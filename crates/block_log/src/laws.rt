@@ -2,8 +2,8 @@
 
 ghost use Rattle.std.specs.Prelude.{◌≡◌, true, Option, Some, None};
 ghost use Rattle.s4_types.specs.Pointer.{Place};
-ghost use Rattle.blocks.specs.Log.{Log, Stored, same_place, appended, dropped};
-ghost use Rattle.blocks.specs.Growth.{Puts, Takes};
+ghost use Rattle.block_log.specs.Log.{Log, Stored, same_place, appended, dropped};
+ghost use Rattle.block_log.specs.Growth.{Puts, Takes};
 
 /// Places that the test finds to be one are equal.
 pub fn one_place_has_one_name()

@@ -2,9 +2,9 @@
 use Rattle.std.proofs.Common.{◌≡◌, inl, inr, ℕ, true, false, ◌==◌, ◌&&◌, List, [], ◌∷◌, Option, Some, None, if◌then◌else◌, refl, sym, ap, ◌∙◌, subst}
 use Rattle.std.proofs.lemmas.Bool.{eqb-true, eq-eqb, and_parts, and_from, cases_Bool}
 use Rattle.s4_types.specs.Pointer.{Place}
-use Rattle.blocks.specs.declared.kinds.BlockKind.{BlockKind}
-use Rattle.blocks.specs.Log.{Log, Stored, same_place, same_kind, seen_as, with_held, appended, appended_at, dropped}
-use Rattle.blocks.specs.Growth.{Puts, Takes}
+use Rattle.block_log.specs.declared.kinds.BlockKind.{BlockKind}
+use Rattle.block_log.specs.Log.{Log, Stored, same_place, same_kind, seen_as, with_held, appended, appended_at, dropped}
+use Rattle.block_log.specs.Growth.{Puts, Takes}
 
 pub one_place : (p q : Place) → same_place p q ≡ true → p ≡ q
 one_place p q h =
