@@ -10,7 +10,7 @@ use Rattle.block_log.specs.Log.{Log, Stored, of_kind, dropped}
 use Rattle.codec.specs.Fields.{bit}
 use Rattle.codec.specs.Entry.{EntryFields, entries_length}
 use Rattle.codec.specs.Journal.{JournalFields}
-use Rattle.packing.specs.Packing.{packed, joined, with_entry, filled_bytes, AllFit}
+use Rattle.journal_chain.specs.Packing.{packed, joined, with_entry, filled_bytes, AllFit}
 use Rattle.journal_chain.specs.Chain.{ChainFields, Holds, OnlyJournalChanged, chain_links, chain_places, places_of, blocks_of, times}
 use Rattle.journal_chain.specs.Writing.{Standing, Finished, Unfinished, Put}
 use Rattle.journal_chain.specs.Back.{links_back, places_back}

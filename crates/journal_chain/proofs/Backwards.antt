@@ -10,7 +10,7 @@ use Rattle.block_log.specs.Log.{Log, Stored, of_kind}
 use Rattle.codec.specs.Fields.{◌>>=◌}
 use Rattle.codec.specs.Entry.{EntryFields}
 use Rattle.codec.specs.Journal.{JournalFields}
-use Rattle.packing.specs.Packing.{joined}
+use Rattle.journal_chain.specs.Packing.{joined}
 use Rattle.journal_chain.specs.Chain.{Link, linked, links_from, chain_links, chain_entries, journal_in, places_of, blocks_of}
 use Rattle.journal_chain.specs.Writing.{spelled}
 use Rattle.journal_chain.specs.Back.{BackFields, links_back, entries_left, left, places_back}

@@ -11,8 +11,8 @@ use Rattle.block_log.specs.Log.{Log, Stored, appended, dropped, with_held, witho
 use Rattle.codec.specs.Fields.{◌>>=◌, all_of, kept, Reads}
 use Rattle.codec.specs.Entry.{EntryFields, entry_length, entries_length}
 use Rattle.codec.specs.Journal.{JournalFields, journal_at, journal_spelling}
-use Rattle.packing.specs.Sizes.{fits, filled_with}
-use Rattle.packing.specs.Packing.{filled_bytes, packed, joined, AllFit}
+use Rattle.journal_chain.specs.Sizes.{fits, filled_with}
+use Rattle.journal_chain.specs.Packing.{filled_bytes, packed, joined, AllFit}
 use Rattle.journal_chain.specs.Chain.{Link, ChainFields, journal_of, journal_in, blocks_of, Holds, OnlyJournalChanged}
 use Rattle.journal_chain.specs.Writing.{head_of, Finished, Unfinished, Put, spelled, reopened}
 use Rattle.journal_chain.proofs.Spelled.{bind_some, bind_is}

@@ -12,8 +12,8 @@ use Rattle.block_log.specs.Log.{Log, Stored, of_kind, with_held, without}
 use Rattle.codec.specs.Fields.{bit}
 use Rattle.codec.specs.Entry.{EntryFields, entry_length, entries_length}
 use Rattle.codec.specs.Journal.{JournalFields, journal_spelling}
-use Rattle.packing.specs.Sizes.{fits}
-use Rattle.packing.specs.Packing.{packed, joined, with_entry, filled_bytes, AllFit}
+use Rattle.journal_chain.specs.Sizes.{fits}
+use Rattle.journal_chain.specs.Packing.{packed, joined, with_entry, filled_bytes, AllFit}
 use Rattle.journal_chain.specs.Chain.{View, Link, ChainFields, journal_of, journal_in, chain_links, chain_places, places_of, blocks_of, times, IsChain, Holds, OnlyJournalChanged}
 use Rattle.journal_chain.specs.Writing.{head_of, fields_of, Stands, Standing, Finished, Unfinished, Put, reopened}
 use Rattle.journal_chain.proofs.Spelled.{bind_some, bind_is, Found, walk_of_stands, stands_of_walk}

@@ -1,3 +1,6 @@
+pub mod Adding
+pub mod Rule
+pub mod Pushing
 pub mod Spelled
 pub mod Places
 pub mod Steps

@@ -4,8 +4,8 @@ use Rattle.std.proofs.lemmas.List.{drop_more, drop_all, drop-drop, map-append, l
 use Rattle.std.proofs.lemmas.Grind.{take_at_read}
 use Rattle.s4_types.specs.Pointer.{Place}
 use Rattle.codec.specs.Entry.{EntryFields, entry_length, entries_length}
-use Rattle.packing.specs.Sizes.{fits, filled_with, breaks}
-use Rattle.packing.specs.Packing.{AllFit}
+use Rattle.journal_chain.specs.Sizes.{fits, filled_with, breaks}
+use Rattle.journal_chain.specs.Packing.{AllFit}
 use Rattle.journal_chain.proofs.Chains.{entries_length-last}
 
 pub next_taken : (xs : List EntryFields) (i : ℕ) (e : EntryFields) → i < length xs → e ≡ get_or xs i e → take (i + 1) xs ≡ take i xs ++ e ∷ []

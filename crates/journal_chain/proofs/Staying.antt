@@ -5,7 +5,7 @@ use Rattle.block_log.specs.declared.kinds.BlockKind.TheVariants.{Journal}
 use Rattle.block_log.specs.Log.{Stored, of_kind}
 use Rattle.codec.specs.Fields.{bit}
 use Rattle.codec.specs.Entry.{EntryFields, entries_length}
-use Rattle.packing.specs.Packing.{joined, filled_bytes}
+use Rattle.journal_chain.specs.Packing.{joined, filled_bytes}
 use Rattle.journal_chain.specs.Chain.{View, ChainFields, IsChain, Holds, OnlyJournalChanged, chain_entries, chain_links, links_from, entries_held, times}
 
 pub same_blocks : (held later : Place → Option Stored) (chain : ChainFields) (entries : List EntryFields)

@@ -5,7 +5,7 @@ use Rattle.s4_types.specs.declared.limits.TheConstants.{CHAIN_BLOCKS}
 use Rattle.block_log.specs.Log.{Stored}
 use Rattle.codec.specs.Fields.{◌>>=◌}
 use Rattle.codec.specs.Entry.{EntryFields}
-use Rattle.packing.specs.Packing.{joined}
+use Rattle.journal_chain.specs.Packing.{joined}
 use Rattle.journal_chain.specs.Chain.{Link, links_from, places_of, blocks_of}
 use Rattle.journal_chain.specs.Writing.{spelled}
 

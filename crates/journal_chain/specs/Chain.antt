@@ -8,7 +8,7 @@ use Rattle.block_log.specs.Log.{Stored, of_kind, same_kind, same_place}
 use Rattle.codec.specs.Fields.{◌>>=◌, all_of, kept, bit}
 use Rattle.codec.specs.Entry.{EntryFields, entries_length}
 use Rattle.codec.specs.Journal.{JournalFields, journal_at}
-use Rattle.packing.specs.Packing.{packed, joined, filled_bytes, AllFit}
+use Rattle.journal_chain.specs.Packing.{packed, joined, filled_bytes, AllFit}
 
 -- what a table of blocks shows of an object's journal: the bytes at each place
 abbrev pub View : Type 0

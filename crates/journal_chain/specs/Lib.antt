@@ -1,3 +1,5 @@
+pub mod Sizes
+pub mod Packing
 pub mod Chain
 pub mod Push
 pub mod Writing

@@ -5,7 +5,7 @@ use Rattle.s4_types.specs.declared.limits.TheConstants.{CHAIN_ENTRY_BYTES}
 use Rattle.s4_types.specs.declared.refusals.Refusal.{Refusal}
 use Rattle.s4_types.specs.declared.refusals.Refusal.TheVariants.{ChainFull, NoSpace, NoRoom}
 use Rattle.codec.specs.Entry.{EntryFields, entry_length, entries_length}
-use Rattle.packing.specs.Sizes.{blocks_needed}
+use Rattle.journal_chain.specs.Sizes.{blocks_needed}
 use Rattle.journal_chain.specs.Chain.{ChainFields}
 
 -- how many blocks a push of these entries appends

@@ -7,8 +7,8 @@ use Rattle.block_log.specs.Log.{Log, Stored, of_kind, with_held}
 use Rattle.codec.specs.Fields.{◌>>=◌, all_of, bit}
 use Rattle.codec.specs.Entry.{EntryFields}
 use Rattle.codec.specs.Journal.{JournalFields, journal_at, journal_spelling}
-use Rattle.packing.specs.Sizes.{fits}
-use Rattle.packing.specs.Packing.{packed}
+use Rattle.journal_chain.specs.Sizes.{fits}
+use Rattle.journal_chain.specs.Packing.{packed}
 use Rattle.journal_chain.specs.Chain.{View, Link, ChainFields, journal_of, journal_in, places_of, blocks_of, times}
 
 -- the place of the newest block, or none

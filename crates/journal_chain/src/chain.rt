@@ -5,8 +5,8 @@ ghost use Rattle.s4_types.specs.declared.refusals.Refusal.TheVariants.{NoMemory}
 ghost use Rattle.block_log.specs.declared.kinds.BlockKind.TheVariants.{Journal};
 ghost use Rattle.block_log.specs.Log.{Stored, of_kind};
 ghost use Rattle.codec.specs.Entry.{entry_length, entries_length};
-ghost use Rattle.packing.specs.Sizes.{blocks_needed, filled_with};
-ghost use Rattle.packing.specs.Packing.{AllFit, filled_bytes, packed};
+ghost use Rattle.journal_chain.specs.Sizes.{blocks_needed, filled_with};
+ghost use Rattle.journal_chain.specs.Packing.{AllFit, filled_bytes, packed};
 ghost use Rattle.journal_chain.specs.Chain.{ChainFields, Holds, OnlyJournalChanged, chain_entries, entries_held};
 ghost use Rattle.journal_chain.specs.Back.{entries_left};
 ghost use Rattle.journal_chain.specs.Push.{pushed_blocks, push_refusal, rewrite_refusal, whole_blocks};
@@ -19,8 +19,8 @@ use crate::writing::{bytes_of, copy_of, finish, first_block, sizes_of, take_all}
 use arrayvec::ArrayVec;
 use block_log::Blocks;
 use codec::{Entry, JournalBlock};
-use packing::laws::{blocks_have_the_entries, bytes_add_up, chains_are_short};
-use packing::{blocks_needed, fits};
+use crate::packing::laws::{blocks_have_the_entries, bytes_add_up, chains_are_short};
+use crate::packing::{blocks_needed, fits};
 use s4_types::limits::{CHAIN_ENTRY_BYTES, SHORTEST_ENTRY_BYTES};
 use s4_types::{ObjectId, Ptr, Refusal};
 use std::alloc::Global;

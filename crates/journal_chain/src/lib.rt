@@ -13,6 +13,7 @@
 mod back;
 mod chain;
 pub mod laws;
+pub mod packing;
 mod rewriting;
 mod table;
 mod writing;

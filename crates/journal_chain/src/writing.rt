@@ -3,8 +3,8 @@ ghost use Rattle.std.specs.Prelude.{◌≡◌, ℕ, ◌+◌, ◌≤◌, ◌<◌,
 ghost use Rattle.std.specs.Option.{option_to_list};
 ghost use Rattle.s4_types.specs.Pointer.{Place};
 ghost use Rattle.codec.specs.Entry.{EntryFields, entry_length, entries_length};
-ghost use Rattle.packing.specs.Sizes.{filled_with, filled_after, breaks};
-ghost use Rattle.packing.specs.Packing.{AllFit};
+ghost use Rattle.journal_chain.specs.Sizes.{filled_with, filled_after, breaks};
+ghost use Rattle.journal_chain.specs.Packing.{AllFit};
 ghost use Rattle.journal_chain.specs.Chain.{OnlyJournalChanged};
 ghost use Rattle.journal_chain.specs.Writing.{Finished, Unfinished};
 

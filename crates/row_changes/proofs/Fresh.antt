@@ -6,7 +6,7 @@ use Rattle.block_log.specs.Log.{Stored, of_kind}
 use Rattle.block_log.specs.declared.kinds.BlockKind.TheVariants.{Journal, Checkpoint}
 use Rattle.codec.specs.declared.inodes.Inode.{Inode}
 use Rattle.codec.specs.Entry.{EntryFields}
-use Rattle.packing.specs.Packing.{joined}
+use Rattle.journal_chain.specs.Packing.{joined}
 use Rattle.undo_redo.specs.Runs.{AllBy, Run, blank, inode_after}
 use Rattle.undo_redo.specs.Groups.{grouped}
 use Rattle.object_map.specs.Rows.{fresh_row}

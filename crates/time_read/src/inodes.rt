@@ -12,7 +12,7 @@ use undo_redo::blank;
 use undo_redo::laws::groups_join_and_part;
 use journal_chain::Chain;
 use object_map::Row;
-use packing::laws::packing_keeps_the_rule;
+use journal_chain::packing::laws::packing_keeps_the_rule;
 use s4_types::{Moment, ObjectId, Ptr, Refusal};
 use std::alloc::Global;
 

@@ -7,7 +7,7 @@ ghost use Rattle.journal_chain.specs.Chain.{chain_entries};
 ghost use Rattle.object_map.specs.declared.map.Row.{Row};
 ghost use Rattle.time_read.specs.Rows.{IsRow, inode_of};
 
-use packing::laws::packing_keeps_the_rule;
+use journal_chain::packing::laws::packing_keeps_the_rule;
 
 /// A row is a matter of its object's journal blocks and checkpoints alone: where those are the same, it stands as
 /// before, and the inode at each moment is the same.

@@ -3,7 +3,7 @@ use Rattle.std.proofs.Common.{◌≡◌, ℕ, suc, ◌+◌, ◌*◌, ◌-◌, �
 use Rattle.s4_types.specs.Pointer.{Place}
 use Rattle.block_log.specs.Log.{Stored, of_kind}
 use Rattle.codec.specs.Entry.{EntryFields}
-use Rattle.packing.specs.Packing.{packed, filled_bytes, AllFit, KeepsTheRule}
+use Rattle.journal_chain.specs.Packing.{packed, filled_bytes, AllFit, KeepsTheRule}
 use Rattle.undo_redo.specs.Runs.{last_moment}
 use Rattle.object_map.specs.declared.map.Row.{Row}
 use Rattle.journal_chain.specs.Chain.{ChainFields, chain_entries}

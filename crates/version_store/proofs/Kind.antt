@@ -13,7 +13,7 @@ use Rattle.s4_model.specs.Effect.{effect, is_change_of, object_of}
 use Rattle.block_log.specs.Log.{Log}
 use Rattle.codec.specs.Entry.{EntryFields, entry_length}
 use Rattle.codec.specs.declared.inodes.Inode.{Inode}
-use Rattle.packing.specs.Sizes.{blocks_needed}
+use Rattle.journal_chain.specs.Sizes.{blocks_needed}
 use Rattle.undo_redo.specs.Runs.{blank}
 use Rattle.undo_redo.specs.Between.{CanLead, entries_between, triples_between}
 use Rattle.inode.specs.Contents.{contents_of, meaning}

@@ -3,7 +3,7 @@ use Rattle.std.proofs.Common.{◌≡◌, ℕ, ◌<◌, ◌≤◌, true, List, le
 use Rattle.codec.specs.Checkpoint.{pointer_at}
 use Rattle.codec.specs.Entry.{EntryFields, entry_length, entries_length, pair_length}
 use Rattle.codec.specs.declared.inodes.Inode.{Inode}
-use Rattle.packing.specs.Sizes.{blocks_needed}
+use Rattle.journal_chain.specs.Sizes.{blocks_needed}
 use Rattle.undo_redo.specs.Between.{entries_between, triples_between, pair_between}
 use Rattle.undo_redo.specs.Sizes.{entry_sizes}
 use Rattle.s4_types.specs.Pointer.{Place}

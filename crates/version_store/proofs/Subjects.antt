@@ -11,7 +11,7 @@ use Rattle.s4_model.specs.Refusals.{is_absent}
 use Rattle.block_log.specs.Log.{Stored}
 use Rattle.codec.specs.Entry.{EntryFields, entry_length, entries_length, pair_length}
 use Rattle.codec.specs.declared.inodes.Inode.{Inode}
-use Rattle.packing.specs.Sizes.{blocks_needed}
+use Rattle.journal_chain.specs.Sizes.{blocks_needed}
 use Rattle.undo_redo.specs.Between.{entries_between, triples_between, pair_between}
 use Rattle.undo_redo.specs.Sizes.{entry_sizes}
 use Rattle.journal_chain.specs.Push.{push_refusal}

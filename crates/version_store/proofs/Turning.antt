@@ -7,7 +7,7 @@ use Rattle.s4_types.specs.Pointer.{Place}
 use Rattle.block_log.specs.Log.{Stored}
 use Rattle.codec.specs.Entry.{entry_length, entries_length}
 use Rattle.codec.specs.declared.inodes.Inode.{Inode}
-use Rattle.packing.specs.Sizes.{blocks_needed}
+use Rattle.journal_chain.specs.Sizes.{blocks_needed}
 use Rattle.undo_redo.specs.Between.{entries_between}
 use Rattle.journal_chain.specs.Push.{push_refusal, pushed_blocks}
 use Rattle.inode.specs.Laws.{OnlyItsBlocksMatter}

@@ -10,7 +10,7 @@ use Rattle.s4_model.specs.Effect.{object_of}
 use Rattle.codec.specs.Checkpoint.{pointer_at}
 use Rattle.codec.specs.Entry.{pair_length}
 use Rattle.codec.specs.declared.inodes.Inode.{Inode}
-use Rattle.packing.specs.Sizes.{blocks_needed}
+use Rattle.journal_chain.specs.Sizes.{blocks_needed}
 use Rattle.undo_redo.specs.Between.{pair_between}
 use Rattle.undo_redo.specs.Sizes.{entry_sizes}
 use Rattle.inode.specs.Touched.{touched_count, cut_count}

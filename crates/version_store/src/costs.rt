@@ -11,8 +11,8 @@ use codec::Inode;
 use inode::{blocks_of_truncate, blocks_of_write};
 use undo_redo::{Sizes, entry_sizes};
 use object_map::Row;
-use packing::blocks_needed;
-use packing::laws::few_blocks_are_needed;
+use journal_chain::packing::blocks_needed;
+use journal_chain::packing::laws::few_blocks_are_needed;
 use s4_types::limits::{BLOCK_BYTES, CHAIN_ENTRY_BYTES, OBJECT_BLOCKS};
 use s4_types::{Change, ObjectId, Refusal};
 

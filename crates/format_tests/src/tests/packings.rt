@@ -1,5 +1,5 @@
 //! How many blocks a push appends.
-use packing::{blocks_needed, filled_after, fits};
+use journal_chain::packing::{blocks_needed, filled_after, fits};
 
 /// The head's bytes, the sizes of a push, how many blocks it appends, and the head's bytes afterwards.
 type Case = (usize, &'static [usize], usize, usize);

@@ -23,7 +23,7 @@ use inode::{created, deleted, truncate, with_attribute, write};
 use undo_redo::blank;
 use undo_redo::laws::{a_blank_inode_has_holes_alone, the_entries_between_two_inodes};
 use object_map::Row;
-use packing::laws::{bytes_add_up, few_blocks_are_needed};
+use journal_chain::packing::laws::{bytes_add_up, few_blocks_are_needed};
 use row_changes::laws::{a_fresh_row_stands, a_row_is_by_later_moments, the_last_inode_stays};
 use row_changes::record_change;
 use s4_types::{Change, Moment, ObjectId, Refusal};

@@ -1,6 +1,6 @@
 use Rattle.std.proofs.Common.{◌≡◌, ◌≤◌, ◌*◌, length, take}
 use Rattle.codec.specs.Entry.{entries_length}
-use Rattle.packing.specs.Packing.{AllFit}
+use Rattle.journal_chain.specs.Packing.{AllFit}
 use Rattle.journal_chain.proofs.writing.bytes_of.Given as goal
 
 abbrev pub invariant-loop-entry : goal.invariant-loop-entry

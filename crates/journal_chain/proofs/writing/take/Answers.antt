@@ -1,7 +1,7 @@
 use Rattle.std.proofs.Common.{◌≡◌, ◌∙◌, sym, ap, ◌++◌, ◌∷◌, [], Some, true, arith}
 use Rattle.codec.specs.Entry.{entry_length, entries_length}
 use Rattle.codec.specs.Journal.{JournalFields}
-use Rattle.packing.specs.Sizes.{fits}
+use Rattle.journal_chain.specs.Sizes.{fits}
 use Rattle.journal_chain.proofs.Chains.{entry_fits}
 use Rattle.journal_chain.proofs.Calls.{filled_fits, filled_begins, new_is, take_begins}
 use Rattle.journal_chain.proofs.writing.take.Goals as goal

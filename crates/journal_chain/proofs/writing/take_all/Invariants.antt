@@ -1,7 +1,7 @@
 use Rattle.std.proofs.Common.{◌≡◌, ◌≤◌, ◌++◌, List, length, map, take, drop}
 use Rattle.s4_types.specs.Pointer.{Place}
 use Rattle.codec.specs.Entry.{EntryFields, entry_length, entries_length}
-use Rattle.packing.specs.Sizes.{breaks}
+use Rattle.journal_chain.specs.Sizes.{breaks}
 use Rattle.journal_chain.specs.Chain.{OnlyJournalChanged}
 use Rattle.journal_chain.specs.Writing.{Unfinished}
 use Rattle.journal_chain.proofs.writing.take_all.Given as goal

@@ -2,7 +2,7 @@ use Rattle.std.proofs.Common.{◌∙◌, ◌∷◌, Option, map, drop, sym, ap, 
 use Rattle.s4_types.specs.Pointer.{Place}
 use Rattle.codec.specs.Entry.{entry_length}
 use Rattle.codec.specs.Journal.{JournalFields}
-use Rattle.packing.specs.Sizes.{filled_with, breaks}
+use Rattle.journal_chain.specs.Sizes.{filled_with, breaks}
 use Rattle.journal_chain.specs.Chain.{ChainFields}
 use Rattle.journal_chain.specs.Writing.{Finished}
 use Rattle.journal_chain.proofs.Calls.{ahead_last}

@@ -2,7 +2,7 @@ use Rattle.std.proofs.Common.{◌∙◌, ◌++◌, ◌∷◌, map, drop, ap}
 use Rattle.std.specs.Option.{option_to_list}
 use Rattle.block_log.specs.Log.{Log}
 use Rattle.codec.specs.Entry.{entry_length}
-use Rattle.packing.specs.Sizes.{filled_with, breaks}
+use Rattle.journal_chain.specs.Sizes.{filled_with, breaks}
 use Rattle.journal_chain.specs.Chain.{entries_held}
 use Rattle.journal_chain.specs.Writing.{reopened}
 use Rattle.journal_chain.proofs.Calls.{Pushed, pushed, pushed_holds, ahead_last}

@@ -1,3 +1,0 @@
-pub mod Adding
-pub mod Rule
-pub mod Pushing

@@ -1,5 +1,0 @@
-use Rattle.packing.proofs.Pushing.{pushed}
-use Rattle.packing.proofs.laws.blocks_needed_are_appended.Goals as goal
-
-pub returns : goal.returns
-returns c = record { kept = λ blocks entries. (pushed blocks entries).kept_are; count = λ blocks entries. (pushed blocks entries).length_is }

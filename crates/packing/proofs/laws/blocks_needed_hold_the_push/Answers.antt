@@ -1,5 +1,0 @@
-use Rattle.packing.proofs.Pushing.{push_held, whole_counted}
-use Rattle.packing.proofs.laws.blocks_needed_hold_the_push.Goals as goal
-
-pub returns : goal.returns
-returns c = record { push = push_held; whole = whole_counted }

@@ -1,5 +1,0 @@
-use Rattle.packing.proofs.Adding.{bytes-append, bytes-sum}
-use Rattle.packing.proofs.laws.bytes_add_up.Goals as goal
-
-pub returns : goal.returns
-returns c = record { joined = bytes-append; sizes = bytes-sum }

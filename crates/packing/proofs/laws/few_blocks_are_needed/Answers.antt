@@ -1,5 +1,0 @@
-use Rattle.packing.proofs.Pushing.{few_needed}
-use Rattle.packing.proofs.laws.few_blocks_are_needed.Goals as goal
-
-pub returns-clause-most : goal.returns-clause-most
-returns-clause-most c = few_needed

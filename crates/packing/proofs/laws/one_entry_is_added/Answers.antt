@@ -1,5 +1,0 @@
-use Rattle.packing.proofs.Adding.{first_entry, entry_fits, entry_begins}
-use Rattle.packing.proofs.laws.one_entry_is_added.Goals as goal
-
-pub returns : goal.returns
-returns c = record { first = first_entry; fits = entry_fits; begins = entry_begins }

@@ -1,8 +1,0 @@
-use Rattle.std.proofs.Common.{[]}
-use Rattle.std.proofs.lemmas.List.Sums.{fold-append}
-use Rattle.packing.specs.Packing.{with_entry}
-use Rattle.packing.proofs.Rule.{packed_on}
-use Rattle.packing.proofs.laws.packing_goes_on.Goals as goal
-
-pub returns : goal.returns
-returns c = record { packed = λ xs ys. fold-append with_entry [] xs ys; of_blocks = packed_on }
