@@ -7,9 +7,9 @@
 #![tactic(auto)]
 
 mod checks;
-mod judging;
+mod judgements;
 #[cfg(test)]
 mod tests;
 
 pub use checks::{check, check_read};
-pub use judging::{check_clock, judge, object_of};
+pub use judgements::{check_clock, judge, object_of};

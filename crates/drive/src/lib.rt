@@ -14,18 +14,18 @@
 //! Nothing here waits or knows of threads: whoever shares a drive holds it under a lock.
 #![tactic(auto)]
 
-mod accepting;
-mod changing;
+mod acceptance;
+mod changes;
 mod drive;
-mod hiding;
-mod looking;
-mod making;
+mod flushes;
+mod holdings;
+mod new_drive;
 mod requests;
-mod resolving;
+mod plans;
 mod session;
-mod telling;
+mod reads;
 mod upkeep;
 
 pub use drive::Drive;
-pub use making::NewDrive;
+pub use new_drive::NewDrive;
 pub use session::Session;

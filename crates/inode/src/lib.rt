@@ -7,18 +7,18 @@
 //! entries lead from one inode to the next, and whether there is room, is told elsewhere.
 #![tactic(auto)]
 
-mod appending;
+mod appends;
 mod counts;
 pub mod laws;
-mod loading;
-mod reading;
+mod loads;
+mod reads;
 mod status;
-mod truncating;
-mod writing;
+mod truncations;
+mod writes;
 
 pub use counts::{blocks_of_truncate, blocks_of_write};
-pub use loading::zero_block;
-pub use reading::read;
+pub use loads::zero_block;
+pub use reads::read;
 pub use status::{created, deleted, with_attribute};
-pub use truncating::truncate;
-pub use writing::write;
+pub use truncations::truncate;
+pub use writes::write;

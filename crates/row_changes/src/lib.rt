@@ -6,9 +6,9 @@
 //! kinds and objects stay.
 #![tactic(auto)]
 
-mod changing;
-mod checkpointing;
+mod changes;
+mod checkpoints;
 pub mod laws;
 
-pub use changing::record_change;
-pub use checkpointing::record_checkpoint;
+pub use changes::record_change;
+pub use checkpoints::record_checkpoint;

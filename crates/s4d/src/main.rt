@@ -11,13 +11,13 @@ ghost use Rattle.clap.specs.Walk.{Text};
 ghost use Rattle.std.specs.declared.io.ErrorKind.TheVariants.{OutOfMemory};
 ghost use Rattle.s4d.specs.Performing.{IsDone};
 
-mod apart;
+mod session_thread;
 mod performing;
 mod piping;
 #[cfg(test)]
 mod tests;
 
-use apart::perform_apart;
+use session_thread::perform_apart;
 use performing::{fail, refuse};
 use s4d_command::CommandError;
 use serving::{ReadSource, WriteSink};

@@ -4,7 +4,7 @@ ghost use Rattle.s4_types.specs.declared.refusals.Refusal.TheVariants.{NoMemory}
 ghost use Rattle.checkpoint.specs.Held.{checkpoint_held};
 ghost use Rattle.time_read.specs.Rows.{IsRow, entries_of, inode_of};
 
-use crate::moving::{lead, lead_from_start};
+use crate::moves::{lead, lead_from_start};
 use block_log::Blocks;
 use checkpoint::read_checkpoint;
 use codec::{Entry, Inode};

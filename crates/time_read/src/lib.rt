@@ -8,7 +8,7 @@
 
 mod inodes;
 pub mod laws;
-mod moving;
+mod moves;
 mod plans;
 
 pub use inodes::{entries, inode_at};

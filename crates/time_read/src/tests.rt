@@ -1,5 +1,5 @@
 //! How many entries are up to a moment.
-use crate::moving::count_by;
+use crate::moves::count_by;
 use codec::{Entry, decode_entry};
 use s4_types::Moment;
 use std::test::Fail;

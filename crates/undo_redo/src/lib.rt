@@ -7,14 +7,14 @@
 #![tactic(auto)]
 
 mod between;
-mod composing;
+mod composition;
 pub mod laws;
 mod links;
 mod pieces;
 mod sizes;
 
 pub use between::{Entries, entries_between};
-pub use composing::compose;
+pub use composition::compose;
 pub use links::{blank, redo, redo_all, undo, undo_all};
 pub use sizes::{Sizes, entry_sizes};
 

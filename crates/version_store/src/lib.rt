@@ -9,10 +9,10 @@
 
 mod costs;
 pub mod laws;
-mod named;
+mod named_table;
 mod store;
 #[cfg(test)]
 mod tests;
 
-pub use named::NamedTable;
+pub use named_table::NamedTable;
 pub use store::{MOST_PLACES, Store};

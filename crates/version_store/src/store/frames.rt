@@ -9,7 +9,7 @@ ghost use Rattle.time_read.specs.Plans.{IsAt, pieces_of, bytes_planned, pins_of,
 ghost use Rattle.version_store.specs.Store.{fields_of, IsStore};
 ghost use Rattle.version_store.specs.Versions.{inode_in};
 
-use crate::named::NamedTable;
+use crate::named_table::NamedTable;
 use crate::store::Store;
 use codec::Inode;
 use inode::laws::held_pointers_lead;

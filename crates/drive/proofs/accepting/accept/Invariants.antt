@@ -1,5 +1,0 @@
-use Rattle.drive.proofs.accepting.accept.Given as goal
-
--- the change and the moment of the call
-abbrev pub ghosts-accept_named : goal.ghosts-accept_named
-ghosts-accept_named g a = record { moment = a.moment; change = a.change.now }

@@ -1,0 +1,64 @@
+ghost use Rattle.std.specs.Prelude.{◌≡◌, ◌+◌, ◌-◌, ◌<◌, ◌≤◌, ◌++◌, length, take, drop, IfOk, IfErr};
+ghost use Rattle.s4_types.specs.declared.refusals.Refusal.TheVariants.{NoMemory};
+ghost use Rattle.inode.specs.Contents.{contents_of, byte_of, bytes_of, listed};
+ghost use Rattle.inode.specs.Tidiness.{PointersLead, Tidy};
+
+use crate::loads::load;
+use block_log::Blocks;
+use codec::Inode;
+use s4_types::Refusal;
+use s4_types::limits::BLOCK_BYTES;
+use std::alloc::Global;
+
+/// Adds the bytes of an object from a place on, up to an end or to that of their block, and answers where they end.
+fn read_piece<B: Blocks>(
+    table: &mut B,
+    inode: &Inode,
+    at: usize,
+    end: usize,
+    bytes: &mut Vec<u8>,
+) -> Result<usize, Refusal>
+    requires start { at < end }
+    requires end { end ≤ 24576 }
+    requires count { length inode.now.pointers ≡ 48 }
+    requires lead { PointersLead (B.log table.old).held inode.now }
+    ensures later { IfOk result (λ next. at < next) }
+    ensures within { IfOk result (λ next. next ≤ end) }
+    ensures bytes { IfOk result (λ next. bytes.new.items ≡ bytes.old.items ++ listed (byte_of (contents_of (B.log table.old).held) inode.now) at (next - at)) }
+    ensures err { IfErr result (λ refusal. refusal ≡ NoMemory) }
+    ensures same { B.log table.new ≡ B.log table.old }
+{
+    let index = at / BLOCK_BYTES;
+    let start = index * BLOCK_BYTES;
+    let block = load(table, inode, index);
+    let next = end.min(start + BLOCK_BYTES);
+    bytes.extend_from_slice(&block[at - start..next - start])?;
+    Ok(next)
+}
+
+/// The bytes of an object from an offset on, `len` of them or as many as there are: none where the offset is at or
+/// past the size. Each block is loaded once, and memory is taken once. NoMemory where that is refused.
+pub fn read<B: Blocks>(
+    alloc: Global,
+    table: &mut B,
+    inode: &Inode,
+    offset: u64,
+    len: u64,
+) -> Result<Vec<u8>, Refusal>
+    requires size { inode.now.size ≤ 24576 }
+    requires count { length inode.now.pointers ≡ 48 }
+    requires lead { PointersLead (B.log table.old).held inode.now }
+    ensures ok { IfOk result (λ bytes. bytes.items ≡ take len (drop offset (bytes_of (contents_of (B.log table.old).held) inode.now))) }
+    ensures err { IfErr result (λ refusal. refusal ≡ NoMemory) }
+    ensures same { B.log table.new ≡ B.log table.old }
+{
+    let left = (inode.size as u64).saturating_sub(offset);
+    let count = len.min(left) as usize;
+    let mut at = offset as usize;
+    let end = at + count;
+    let mut bytes = Vec::with_capacity(alloc, count)?;
+    while at < end {
+        at = read_piece(table, inode, at, end, &mut bytes)?;
+    }
+    Ok(bytes)
+}
