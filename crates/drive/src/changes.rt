@@ -20,11 +20,11 @@ use crate::session::Session;
 use admission::{judge, object_of};
 use codec::Inode;
 use inode::laws::bytes_are_the_blocks_joined;
-use undo_redo::blank;
-use version_store::laws::{changes_begin_with_the_present, the_present_stays};
 use s4_model::laws::{every_history_is_sound, the_state_goes_on_record_by_record};
 use s4_types::{Change, Moment, ObjectId, Refusal, Reply, Request};
 use segment_word::Naming;
+use undo_redo::blank;
+use version_store::laws::{changes_begin_with_the_present, the_present_stays};
 
 /// The moment of a change that is asked for at a moment: the greater of that and the clock plus one.
 pub(crate) fn moment_after(clock: Moment, now: Moment) -> Moment

@@ -7,11 +7,11 @@ ghost use Rattle.segment_word.specs.AcceptViews.{caught_up};
 ghost use Rattle.segment_word.specs.AcceptRule.{Fits, ShareNone};
 
 use crate::session::Session;
-use version_store::{NamedTable, Store};
 use s4_types::{ObjectId, Refusal, Role};
 use segment_word::{HistorySeat, Naming, Sessions};
 use std::alloc::Global;
 use std::marker::Model;
+use version_store::{NamedTable, Store};
 use window::Window;
 
 /// A drive: its one history, and the objects that stand for it.
@@ -71,7 +71,8 @@ impl<J: Naming> Drive<J> {
         self.history.meet(&mut session.seat);
     }
 
-    /// Ends a session, and gives its seat back. No number is its own and another session's too. That one is as before.
+    /// Ends a session, and gives its seat back. No number is its own and also that of the session that
+    /// stays, which is as before.
     pub fn end_beside(&self, stays: &mut Session<J>, ends: Session<J>)
         ensures none { ShareNone stays.old.told ends.told }
         ensures same { stays.new ≡ stays.old }

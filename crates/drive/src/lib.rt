@@ -20,10 +20,10 @@ mod drive;
 mod flushes;
 mod holdings;
 mod new_drive;
-mod requests;
 mod plans;
-mod session;
 mod reads;
+mod requests;
+mod session;
 mod upkeep;
 
 pub use drive::Drive;

@@ -6,13 +6,13 @@ ghost use Rattle.segment_word.specs.AcceptViews.{begun};
 ghost use Rattle.segment_table.specs.Room.{log_of, new_places};
 
 use crate::drive::Drive;
-use version_store::Store;
 use s4_model::laws::every_history_is_sound;
 use s4_types::{ObjectId, Refusal};
 use segment_table::SegmentTable;
 use segment_word::{Accepts, Naming};
 use std::alloc::Global;
 use std::marker::Model;
+use version_store::Store;
 use window::Window;
 
 /// A new drive that has no name yet. Contracts see the table of its accept word, its objects and its window.

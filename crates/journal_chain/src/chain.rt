@@ -13,14 +13,14 @@ ghost use Rattle.journal_chain.specs.Push.{pushed_blocks, push_refusal, rewrite_
 ghost use Rattle.journal_chain.specs.Writing.{Standing, Finished, Unfinished, reopened};
 
 use crate::back::EntriesBack;
+use crate::packing::laws::{blocks_have_the_entries, bytes_add_up, chains_are_short};
+use crate::packing::{blocks_needed, fits};
 use crate::rewriting::{drop_all, places};
 use crate::table::{read, write};
 use crate::writing::{bytes_of, copy_of, finish, first_block, sizes_of, take_all};
 use arrayvec::ArrayVec;
 use block_log::Blocks;
 use codec::{Entry, JournalBlock};
-use crate::packing::laws::{blocks_have_the_entries, bytes_add_up, chains_are_short};
-use crate::packing::{blocks_needed, fits};
 use s4_types::limits::{CHAIN_ENTRY_BYTES, SHORTEST_ENTRY_BYTES};
 use s4_types::{ObjectId, Ptr, Refusal};
 use std::alloc::Global;

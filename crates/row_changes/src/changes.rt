@@ -7,16 +7,16 @@ ghost use Rattle.row_changes.specs.Recent.{IsBy};
 
 use block_log::Blocks;
 use codec::Inode;
-use undo_redo::entries_between;
-use undo_redo::laws::{
-    a_run_has_one_end_and_one_beginning, groups_join_and_part, runs_join_and_part,
-    the_inode_at_a_moment,
-};
 use journal_chain::Chain;
 use journal_chain::laws::a_chain_has_its_entries;
 use object_map::Row;
 use s4_types::{Moment, ObjectId, Refusal};
 use time_read::laws::a_row_tells_a_chain;
+use undo_redo::entries_between;
+use undo_redo::laws::{
+    a_run_has_one_end_and_one_beginning, groups_join_and_part, runs_join_and_part,
+    the_inode_at_a_moment,
+};
 
 /// Appends to an object's journal what leads from its present inode to the next one, at a moment, and answers its row
 /// after that.

@@ -13,9 +13,9 @@ use block_log::Blocks;
 use block_log::laws::{a_drop_takes_one_block, one_place_has_one_name};
 use checkpoint::write_checkpoint;
 use codec::{Checkpoint, Inode};
-use undo_redo::laws::{a_run_has_one_end_and_one_beginning, the_inode_at_a_moment};
 use object_map::Row;
 use s4_types::{Moment, ObjectId, Ptr, Refusal};
+use undo_redo::laws::{a_run_has_one_end_and_one_beginning, the_inode_at_a_moment};
 
 /// Appends the checkpoint of an inode.
 fn put<B: Blocks>(

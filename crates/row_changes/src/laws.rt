@@ -9,11 +9,11 @@ ghost use Rattle.object_map.specs.Rows.{fresh_row};
 ghost use Rattle.time_read.specs.Rows.{IsRow, inode_of};
 ghost use Rattle.row_changes.specs.Recent.{IsBy};
 
+use journal_chain::laws::an_empty_chain_is_held;
 use undo_redo::laws::{
     a_run_keeps_the_making, groups_join_and_part, the_inode_at_a_moment,
     the_inode_at_a_moment_stands_in_the_run,
 };
-use journal_chain::laws::an_empty_chain_is_held;
 
 /// The row of an object that was just made stands where no journal block and no checkpoint of the object is held, tells of
 /// no moment yet, and the inode is blank at each.

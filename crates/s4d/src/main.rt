@@ -11,16 +11,16 @@ ghost use Rattle.clap.specs.Walk.{Text};
 ghost use Rattle.std.specs.declared.io.ErrorKind.TheVariants.{OutOfMemory};
 ghost use Rattle.s4d.specs.Performing.{IsDone};
 
-mod session_thread;
 mod performing;
 mod piping;
+mod session_thread;
 #[cfg(test)]
 mod tests;
 
-use session_thread::perform_apart;
 use performing::{fail, refuse};
 use s4d_command::CommandError;
 use serving::{ReadSource, WriteSink};
+use session_thread::perform_apart;
 use std::io;
 use std::process::ExitCode;
 use std::thread::Threads;

@@ -125,8 +125,8 @@ impl SegmentTable {
         self.frames.seat()
     }
 
-    /// The pin counts on the sealed frame of a held block from now on, so that `read_block` of the pin gives the block's
-    /// bytes for as long as the pin lives. A frame that it counts on already is left so.
+    /// The pin counts on the sealed frame of a held block from now on, so that `read_block` and `append_bytes` of the pin give the
+    /// block's bytes for as long as the pin lives. A frame that it counts on already is left so.
     ///
     /// NoMemory where there was none for the frame's number. Busy where the frame has 1,048,576 readers, or where other
     /// threads changed its word between load and exchange 64 times. After either, nothing has changed.

@@ -2,7 +2,7 @@
 
 /// What is called while sessions are served, never with the lock held. Sessions and the calls of each are counted from 1.
 pub trait Gate {
-    /// A session's read was planned, and is not fetched yet.
+    /// A session's read was planned and is not fetched yet, or its plan was refused.
     fn between(&self, session: usize, call: u64);
 
     /// The reply to a session's call stands.

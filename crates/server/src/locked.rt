@@ -17,7 +17,8 @@ use std::marker::Model;
 use std::sync::{Mutex, MutexGuard, Wait};
 use time_read::ReadPlan;
 
-/// How often a session looks whether the lock is free before it sleeps: it is held for a few microseconds, and waking takes longer.
+/// How often a session looks whether the lock is free before it sleeps: a small request holds it for some
+/// microseconds, which is less than it takes to wake.
 const LOOKS: usize = 300;
 
 /// The drive, once the lock is had.

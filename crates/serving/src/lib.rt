@@ -3,8 +3,8 @@
 //! The layer above may rely on this: what `serve` writes is exactly the frames of the backend's replies, in
 //! order, to the items that the wire's grammar reads from the bytes that came, however they were cut; where
 //! writing fails, a beginning of them, and where memory is short, those to the items that were taken up, all or
-//! all but the last. The backend is asked nothing else, and what was answered stays done. Each end comes only
-//! where its name says. What the backend answers, and when reading or writing fails, is said elsewhere; where
+//! all but the last. The backend is asked nothing else, and what was answered stays done. An end other than for want
+//! of memory comes only where its name says. What the backend answers, and when reading or writing fails, is said elsewhere; where
 //! the bytes of a reader or a writer aren't known, as for a file, nothing is said of these bytes.
 #![tactic(auto)]
 

@@ -8,13 +8,13 @@ use crate::moves::{lead, lead_from_start};
 use block_log::Blocks;
 use checkpoint::read_checkpoint;
 use codec::{Entry, Inode};
-use undo_redo::blank;
-use undo_redo::laws::groups_join_and_part;
 use journal_chain::Chain;
-use object_map::Row;
 use journal_chain::packing::laws::packing_keeps_the_rule;
+use object_map::Row;
 use s4_types::{Moment, ObjectId, Ptr, Refusal};
 use std::alloc::Global;
+use undo_redo::blank;
+use undo_redo::laws::groups_join_and_part;
 
 /// The inode that an object's checkpoint tells.
 #[tactic(auto, using(crate::proofs::Reading::is_there))]

@@ -4,9 +4,9 @@ ghost use Rattle.codec.specs.declared.inodes.Inode.{Inode as InodeFields};
 ghost use Rattle.undo_redo.specs.Runs.{Run, inode_after, entries_by, ascend_from};
 
 use codec::{Entry, Inode};
+use s4_types::Moment;
 use undo_redo::laws::{runs_join_and_part, the_inode_at_a_moment_stands_in_the_run};
 use undo_redo::{redo_all, undo_all};
-use s4_types::Moment;
 
 /// How many of the entries have at most this moment.
 pub(crate) fn count_by(entries: &[Entry], at: Moment) -> usize

@@ -9,12 +9,12 @@ ghost use Rattle.s4_model.specs.Effect.{object_of};
 
 use codec::Inode;
 use inode::{blocks_of_truncate, blocks_of_write};
-use undo_redo::{Sizes, entry_sizes};
-use object_map::Row;
 use journal_chain::packing::blocks_needed;
 use journal_chain::packing::laws::few_blocks_are_needed;
+use object_map::Row;
 use s4_types::limits::{BLOCK_BYTES, CHAIN_ENTRY_BYTES, OBJECT_BLOCKS};
 use s4_types::{Change, ObjectId, Refusal};
+use undo_redo::{Sizes, entry_sizes};
 
 /// The object that a change is of; 0 for one of all objects.
 pub(crate) fn object_of(change: &Change) -> ObjectId

@@ -9,10 +9,10 @@ ghost use Rattle.version_store.specs.Store.{fields_of, IsStore};
 ghost use Rattle.version_store.specs.Versions.{entries_in, inode_in};
 ghost use Rattle.version_store.specs.Costs.{room};
 
+mod changes;
 mod checkpoints;
 mod frames;
 mod seals;
-mod changes;
 
 use crate::laws::the_present_stays;
 use block_log::Blocks;

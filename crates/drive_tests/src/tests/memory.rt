@@ -250,17 +250,17 @@ fn memory_refused_once(rt: HostRuntime) -> Result<(), Fail> {
     play(&rt, rt.alloc(), 16, 100, Again)
 }
 
-/// An object of 13 blocks. They fill a frame with the journal's two, so that it is sealed.
+/// An object of 30 blocks. Behind the journal's first they fill two frames, which are sealed, and the last stands in the open one.
 static SEALED: [Asked; 2] = [
     (Client, 10, Ask::Create(b"")),
-    (Client, 20, Ask::Fill(1, 0, 6656, 7)),
+    (Client, 20, Ask::Fill(1, 0, 15_360, 7)),
 ];
 
-/// A plan of the sealed bytes, made once more where memory was refused.
+/// A plan of all its bytes, made once more where memory was refused.
 fn plan_again<D: LogDrive>(party: &mut Party<D>) -> Result<ReadPlan, Refusal> {
     let at = party.drive.clock();
-    match party.plan(1, 6656, at) {
-        Err(NoMemory) => party.plan(1, 6656, at),
+    match party.plan(1, 15_360, at) {
+        Err(NoMemory) => party.plan(1, 15_360, at),
         planned => planned,
     }
 }
@@ -273,7 +273,7 @@ fn room_for_plans(alloc: Global, count: usize) -> Result<Vec<ReadPlan>, Fail> {
     }
 }
 
-/// Plans of the sealed bytes, all kept, until no seat is left or 65 were had.
+/// Plans of all its bytes, all kept, until no seat is left or 65 were had.
 fn all_plans<D: LogDrive>(alloc: Global, party: &mut Party<D>) -> Result<Vec<ReadPlan>, Fail> {
     let mut plans = room_for_plans(alloc, 65)?;
     for _ in 0..65 {

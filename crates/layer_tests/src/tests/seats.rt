@@ -108,7 +108,6 @@ fn reads_while_another_frame_is_written(rt: HostRuntime) -> Result<(), Fail> {
     Ok(())
 }
 
-// Passes under each refusal of memory: `NoMemory` is the answer, and nothing has changed.
 // Whether the last block of frame 7 is what its parts before and behind a place give.
 fn is_both_parts(pin: &mut Pin, at: usize, into: &mut Vec<u8>) -> Result<bool, Refusal>
     requires { (0 < pins_in 7 pin.old.pins) × (at ≤ 512) }
@@ -141,6 +140,7 @@ fn parts_of_a_block(rt: HostRuntime) -> Result<(), Fail> {
     Ok(())
 }
 
+// Passes under each refusal of memory: `NoMemory` is the answer, and nothing has changed.
 #[test]
 fn refused_memory_changes_nothing(rt: HostRuntime) {
     let (frames, mut drive) = match Frames::new(rt.alloc(), 8) {

@@ -6,12 +6,12 @@ use crate::tests::subject::Subject;
 use crate::tests::tables::{block_of, new_table};
 use block_log::Blocks;
 use codec::{Attribute, Checkpoint, Inode};
-use undo_redo::blank;
 use object_map::Row;
 use s4_types::{Moment, Ptr};
 use std::alloc::Global;
 use std::process::Abort;
 use std::test::Fail;
+use undo_redo::blank;
 
 /// The block of the checkpoint up to the attribute's zeros: alive, an attribute of one byte, 3 bytes, object 1, the
 /// moments 35, 10 and 30, and the attribute `k`.

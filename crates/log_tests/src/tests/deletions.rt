@@ -6,13 +6,13 @@ use crate::tests::subject::Subject;
 use crate::tests::tables::new_table;
 use block_log::Blocks;
 use codec::{Attribute, Inode};
-use undo_redo::blank;
 use object_map::Row;
 use s4_types::{Moment, Ptr};
 use segment_table::SegmentTable;
 use std::alloc::Global;
 use std::process::Abort;
 use std::test::Fail;
+use undo_redo::blank;
 
 /// The object, made at moment 10: its size, the moment of its last change, its attribute, and the blocks of frame 0 to
 /// which its first three pointers lead, 0 for a hole.

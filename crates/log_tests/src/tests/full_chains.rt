@@ -12,13 +12,13 @@ use crate::tests::subject::Subject;
 use crate::tests::tables::{held_blocks, new_table, place};
 use block_log::{Block, Blocks};
 use codec::{Attribute, Entry, Inode};
-use undo_redo::blank;
 use journal_chain::Chain;
 use object_map::Row;
 use s4_types::{Moment, Refusal};
 use std::alloc::Global;
 use std::process::Abort;
 use std::test::Fail;
+use undo_redo::blank;
 
 /// Looks at the number of a chain's bytes, and of those in its head.
 fn check_bytes(rt: &impl Abort, chain: &Chain, bytes: usize, filled: usize) {

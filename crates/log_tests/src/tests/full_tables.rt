@@ -10,12 +10,12 @@ use crate::tests::tables::{held_blocks, new_table, place};
 use block_log::{Block, Blocks};
 use checkpoint::write_checkpoint;
 use codec::Checkpoint;
-use undo_redo::blank;
 use journal_chain::Chain;
 use s4_types::{Moment, ObjectId, Refusal};
 use std::alloc::Global;
 use std::process::Abort;
 use std::test::Fail;
+use undo_redo::blank;
 
 /// Appends 118 data blocks, and pushes an entry of 34 bytes behind them: one place of eight frames is left.
 fn crowd<B: Blocks>(table: &mut B, chain: &mut Chain) -> Result<(), Fail>

@@ -6,12 +6,12 @@ use crate::tests::subject::{OBJECT, Subject};
 use crate::tests::tables::{new_table, place};
 use block_log::{Block, Blocks};
 use codec::{Entry, Inode, Status, decode_journal};
-use undo_redo::blank;
 use s4_types::{Moment, ObjectId, Ptr};
 use segment_table::SegmentTable;
 use std::alloc::Global;
 use std::process::Abort;
 use std::test::Fail;
+use undo_redo::blank;
 
 /// What an entry tells of an object of the largest size, changed at a moment.
 fn whole(changed: u64) -> Status {

@@ -17,8 +17,6 @@ use inode::laws::only_its_blocks_matter;
 use inode::{
     blocks_of_truncate, blocks_of_write, created, deleted, read, truncate, with_attribute, write,
 };
-use undo_redo::blank;
-use undo_redo::laws::a_blank_inode_has_holes_alone;
 use journal_chain::Chain;
 use object_map::Row;
 use row_changes::laws::{a_fresh_row_stands, a_row_is_by_later_moments, the_last_inode_stays};
@@ -30,6 +28,8 @@ use std::alloc::Global;
 use std::test::Fail;
 use time_read::laws::a_row_is_its_own_blocks;
 use time_read::{ReadPlan, entries, inode_at, plan};
+use undo_redo::blank;
+use undo_redo::laws::a_blank_inode_has_holes_alone;
 
 /// The object of these tests.
 pub(super) const OBJECT: u64 = 1;

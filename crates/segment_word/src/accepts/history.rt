@@ -83,7 +83,8 @@ impl<J: Naming> HistorySeat<J> {
         accept::<C>(word, &mut self.seat, &mut session.seat)
     }
 
-    /// Ends a session, and gives its seat back. No number is its own and another session's too. That one is as before.
+    /// Ends a session, and gives its seat back. No number is its own and also that of the session that
+    /// stays, which is as before.
     pub fn end_beside(&self, stays: &mut SessionSeat<J>, ends: SessionSeat<J>)
         ensures none { ShareNone stays.old ends }
         ensures same { stays.new ≡ stays.old }

@@ -1,4 +1,4 @@
-//! Steps of two seats: a session's, and the drive's.
+//! Steps of two seats: a session's and the drive's, or two sessions'.
 ghost use Rattle.std.specs.Prelude.{◌≡◌, ◌+◌, ◌^◌, ◌<◌, []};
 ghost use mathlib.Core.List.{IsPrefix};
 ghost use Rattle.s4_types.specs.History.{accepted};

@@ -20,14 +20,14 @@ use block_log::laws::one_place_has_one_name;
 use codec::{Attribute, Inode};
 use inode::laws::{held_pointers_lead, only_its_blocks_matter};
 use inode::{created, deleted, truncate, with_attribute, write};
-use undo_redo::blank;
-use undo_redo::laws::{a_blank_inode_has_holes_alone, the_entries_between_two_inodes};
-use object_map::Row;
 use journal_chain::packing::laws::{bytes_add_up, few_blocks_are_needed};
+use object_map::Row;
 use row_changes::laws::{a_fresh_row_stands, a_row_is_by_later_moments, the_last_inode_stays};
 use row_changes::record_change;
 use s4_types::{Change, Moment, ObjectId, Refusal};
 use time_read::laws::a_row_is_its_own_blocks;
+use undo_redo::blank;
+use undo_redo::laws::{a_blank_inode_has_holes_alone, the_entries_between_two_inodes};
 
 /// An attribute of at most 64 bytes.
 fn attribute_of(bytes: &[u8]) -> Attribute

@@ -12,13 +12,13 @@ use crate::store::Store;
 use block_log::Blocks;
 use codec::Inode;
 use inode::laws::only_its_blocks_matter;
-use undo_redo::laws::groups_join_and_part;
 use journal_chain::Chain;
 use object_map::Row;
 use row_changes::laws::{a_row_is_by_later_moments, a_row_keeps_the_making, the_last_inode_stays};
 use row_changes::record_checkpoint;
 use s4_types::{Moment, ObjectId, Refusal};
 use time_read::laws::{a_row_is_its_own_blocks, a_row_tells_a_chain};
+use undo_redo::laws::groups_join_and_part;
 
 /// The moment of an object's last journal entry, and 0 where it has none. It reads one block at most.
 fn last_entry<B: Blocks>(table: &mut B, object: ObjectId, row: &Row) -> Moment

@@ -64,7 +64,7 @@ impl<J: Naming> Store<NamedTable<J>> {
     /// A plan of reading the bytes of an object at a moment from an offset on, `wanted` of them or as many as there are; the
     /// inode is the object's at that moment. Blocks of the open frame are copied; the frames of all others are pinned.
     ///
-    /// NoMemory where memory is refused: it is asked for once, and once for each frame that is pinned. Busy only where a block of
+    /// NoMemory where memory is refused: it is asked for once, and once for each block that is copied and each frame that is pinned. Busy only where a block of
     /// a sealed frame is needed, and no seat is to be had, its frame has 1,048,576 readers, or other threads changed the frame's
     /// word between load and exchange 64 times.
     pub fn plan(
