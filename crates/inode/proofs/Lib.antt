@@ -7,7 +7,7 @@ pub mod Touching
 pub mod Placing
 pub mod Stepping
 pub mod Following
-pub mod Writes
+pub mod WriteLemmas
 pub mod Truncates
 pub mod Ranges
 pub mod ReadBytes

@@ -1,4 +1,4 @@
-pub mod Checkpoints
+pub mod CheckpointLemmas
 pub mod Fresh
 pub mod Places
 pub mod Pushing

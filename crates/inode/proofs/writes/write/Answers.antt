@@ -1,6 +1,6 @@
 use Rattle.std.proofs.Common.{length}
 use Rattle.inode.proofs.Frames.{lead}
-use Rattle.inode.proofs.Writes.{is_written, write_means, write_tidy, write_held}
+use Rattle.inode.proofs.WriteLemmas.{is_written, write_means, write_tidy, write_held}
 use Rattle.inode.proofs.writes.write.Goals as goal
 
 pub write_blocks-next-requires-clause-lead : goal.write_blocks-next-requires-clause-lead

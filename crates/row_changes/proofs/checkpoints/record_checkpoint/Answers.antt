@@ -1,6 +1,6 @@
 use Rattle.std.proofs.Common.{rules}
 use Rattle.row_changes.proofs.Places.{put_only}
-use Rattle.row_changes.proofs.Checkpoints.{Laws, written, written_row, written_by, written_inode}
+use Rattle.row_changes.proofs.CheckpointLemmas.{Laws, written, written_row, written_by, written_inode}
 use Rattle.row_changes.proofs.checkpoints.record_checkpoint.Goals as goal
 
 pub returns : goal.returns
