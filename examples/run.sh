@@ -10,15 +10,13 @@ if ! command -v python3 > /dev/null; then
     echo "run.sh: python3 is needed" >&2
     exit 2
 fi
-if find_program; then
-    echo "run.sh: running $kind, $program" >&2
-    exec python3 -B "$here/hex.py" session "$file" "$program" pipe "$@" "$role"
+if ! find_program; then
+    if ! command -v rt > /dev/null; then
+        echo "run.sh: neither a built program nor the Rattle kit's command rt is here" >&2
+        exit 2
+    fi
+    echo "run.sh: no built program is here: compiling s4d by rt try, about a minute, with no proof" >&2
+    program=$here/unproved.sh kind="s4d as rt try compiles it, not proved"
 fi
-if ! command -v rt > /dev/null; then
-    echo "run.sh: neither a built program nor the Rattle kit's command rt is here" >&2
-    exit 2
-fi
-echo "run.sh: building and proving s4d first; see the README for how long that takes" >&2
-(cd "$crate" && rt run -- pipe client < /dev/null > /dev/null) || exit 1
-find_program || exit 1
+echo "run.sh: running $kind, $program" >&2
 exec python3 -B "$here/hex.py" session "$file" "$program" pipe "$@" "$role"
