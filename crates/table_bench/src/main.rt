@@ -84,25 +84,57 @@ fn copy_all(alloc: Global, blocks: &[Block]) -> Result<Vec<Block>, Refusal> {
     Ok(copies)
 }
 
-/// How long it takes to append blocks to a table of their own, to append them to another and read each, and to copy them.
-fn measure(rt: &HostRuntime, blocks: &[Block]) -> Result<[Duration; 3], BenchError> {
-    let mut first = SegmentTable::new(rt.alloc(), MOST_FRAMES)?;
-    let mut second = SegmentTable::new(rt.alloc(), MOST_FRAMES)?;
+/// How long it takes to append blocks to a table of their own.
+fn time_appends(rt: &HostRuntime, blocks: &[Block]) -> Result<Duration, BenchError> {
+    let mut table = SegmentTable::new(rt.alloc(), MOST_FRAMES)?;
     let start = Instant::now(rt)?;
-    append_all(&mut first, blocks)?;
-    let appends = start.elapsed(rt)?;
+    append_all(&mut table, blocks)?;
+    Ok(start.elapsed(rt)?)
+}
 
+/// How long it takes to append them to another one and read each.
+fn time_gets(rt: &HostRuntime, blocks: &[Block]) -> Result<Duration, BenchError> {
+    let mut table = SegmentTable::new(rt.alloc(), MOST_FRAMES)?;
     let start = Instant::now(rt)?;
-    let found = append_and_get_all(rt.alloc(), &mut second, blocks)?;
-    let gets = start.elapsed(rt)?;
+    let found = append_and_get_all(rt.alloc(), &mut table, blocks)?;
+    let time = start.elapsed(rt)?;
+    same(&found, blocks)?;
+    Ok(time)
+}
 
+/// How long it takes to copy them.
+fn time_copies(rt: &HostRuntime, blocks: &[Block]) -> Result<Duration, BenchError> {
     let start = Instant::now(rt)?;
     let copies = copy_all(rt.alloc(), blocks)?;
-    let copying = start.elapsed(rt)?;
-    if found.as_slice() != blocks || copies.as_slice() != blocks {
-        return Err(BenchError::Differs);
+    let time = start.elapsed(rt)?;
+    same(&copies, blocks)?;
+    Ok(time)
+}
+
+/// Refuses blocks that aren't those that were appended.
+fn same(found: &[Block], blocks: &[Block]) -> Result<(), BenchError> {
+    if found == blocks {
+        Ok(())
+    } else {
+        Err(BenchError::Differs)
     }
-    Ok([appends, gets, copying])
+}
+
+/// The three figures for some blocks.
+fn measure(rt: &HostRuntime, blocks: &[Block]) -> Result<[Duration; 3], BenchError> {
+    Ok([
+        time_appends(rt, blocks)?,
+        time_gets(rt, blocks)?,
+        time_copies(rt, blocks)?,
+    ])
+}
+
+/// Prints what all blocks took, and one of them.
+fn print(rt: &HostRuntime, name: &str, total: Duration) -> Result<(), BenchError> {
+    let each = total.as_nanos() / BLOCKS as u128;
+    let all = total.as_micros();
+    eprintln!(rt; "{name}: {all} microseconds in all, {each} nanoseconds each")?;
+    Ok(())
 }
 
 fn main(rt: HostRuntime) -> Result<(), BenchError> {
@@ -121,9 +153,7 @@ fn main(rt: HostRuntime) -> Result<(), BenchError> {
         .iter()
         .zip(totals)
     {
-        let each = total.as_nanos() / BLOCKS as u128;
-        let all = total.as_micros();
-        eprintln!(rt; "{name}: {all} microseconds in all, {each} nanoseconds each")?;
+        print(&rt, name, total)?;
     }
     Ok(())
 }
