@@ -1,6 +1,6 @@
 //! Sessions that are served at once, each from its own reader to its own writer, over one drive.
 ghost use Rattle.std.specs.Prelude.{◌≡◌, ℕ, ◌+◌, ◌^◌, ◌<◌, ◌≤◌, All, length, slice_index_or};
-ghost use Rattle.server.specs.Attending.{IsAttended, failures_in};
+ghost use Rattle.server.specs.Attending.{IsAttended, PassesOn, failures_in};
 ghost use Rattle.server.specs.Drawing.{Counts};
 ghost use Rattle.serving.specs.Session.{reading_failures, writing_failures};
 ghost use Rattle.serving.specs.Streams.{taken_by};
@@ -55,6 +55,7 @@ fn attend<J: Naming, R: Wait, G: Gate, S: Source, W: Sink>(
     ensures attended { IsAttended J.base clock.entry client.old.role client.new.outcome
         (S.remaining client.old.reader) (taken_by W.passed W.held client.old.writer)
         (S.remaining client.new.reader) (taken_by W.passed W.held client.new.writer) }
+    ensures passed { PassesOn client.new.outcome (W.held client.new.writer) }
     ensures reading { S.failures client.new.reader ≡ S.failures client.old.reader + failures_in reading_failures client.new.outcome }
     ensures writing { W.failures client.new.writer ≡ W.failures client.old.writer + failures_in writing_failures client.new.outcome }
     ensures role { client.new.role ≡ client.old.role }
@@ -106,6 +107,7 @@ pub fn run_sessions<
         → IsAttended J.base (record { start = start; tick = tick }) (slice_index_or clients.old i d).role (slice_index_or clients.new i d).outcome
         (S.remaining (slice_index_or clients.old i d).reader) (taken_by W.passed W.held (slice_index_or clients.old i d).writer)
         (S.remaining (slice_index_or clients.new i d).reader) (taken_by W.passed W.held (slice_index_or clients.new i d).writer) }
+    ensures passed { (i : ℕ) (d : _) → i < length clients.old → PassesOn (slice_index_or clients.new i d).outcome (W.held (slice_index_or clients.new i d).writer) }
     ensures reading { (i : ℕ) (d : _) → i < length clients.old
         → S.failures (slice_index_or clients.new i d).reader ≡ S.failures (slice_index_or clients.old i d).reader + failures_in reading_failures (slice_index_or clients.new i d).outcome }
     ensures writing { (i : ℕ) (d : _) → i < length clients.old
@@ -117,6 +119,7 @@ pub fn run_sessions<
         ensures attended { IsAttended J.base (record { start = start; tick = tick }) client.entry.now.role client.exit.now.outcome
             (S.remaining client.entry.now.reader) (taken_by W.passed W.held client.entry.now.writer)
             (S.remaining client.exit.now.reader) (taken_by W.passed W.held client.exit.now.writer) }
+        ensures passed { PassesOn client.exit.now.outcome (W.held client.exit.now.writer) }
         ensures reading { S.failures client.exit.now.reader ≡ S.failures client.entry.now.reader + failures_in reading_failures client.exit.now.outcome }
         ensures writing { W.failures client.exit.now.writer ≡ W.failures client.entry.now.writer + failures_in writing_failures client.exit.now.outcome }
     {
