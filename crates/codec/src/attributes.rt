@@ -15,7 +15,7 @@ pub struct Attribute {
 impl Model for Attribute {
     ghost use Rattle.std.specs.Prelude.{◌≡◌, ◌-◌, ℕ, ◌≤◌, ◌++◌, List, length, take};
     ghost use Rattle.codec.specs.Fields.{zeros, padded};
-    ghost use Rattle.codec.specs.Padding.{cut_padded};
+    ghost use Rattle.codec.specs.private.Padding.{cut_padded};
 
     ghost Value = { List ℕ };
 

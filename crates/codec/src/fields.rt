@@ -2,6 +2,7 @@ ghost use Rattle.std.specs.Prelude.{◌≡◌, ℕ, ◌-◌, ◌+◌, ◌≤◌,
 ghost use Rattle.std.specs.Int.{w16, w32, w64};
 ghost use Rattle.codec.specs.Fields.{Reads, number_at, byte_at, bytes_at, zeros_at, mark_at, flag_at, slot_at, slot_of, number, zeros, slot};
 
+use byteorder::{BigEndian, ByteOrder};
 use s4_types::Ptr;
 
 pub(crate) fn read_byte(bytes: &[u8]) -> Option<(u8, &[u8])>
@@ -21,7 +22,7 @@ pub(crate) fn read_short(bytes: &[u8]) -> Option<(u16, &[u8])>
         return None;
     }
     let (front, rest) = bytes.split_at(2);
-    Some((u16::from_be_bytes([front[0], front[1]]), rest))
+    Some((BigEndian::read_u16(front), rest))
 }
 
 #[tactic(auto, unfolding(crate::specs::Fields::number_at))]
@@ -32,8 +33,7 @@ pub(crate) fn read_word(bytes: &[u8]) -> Option<(u32, &[u8])>
         return None;
     }
     let (front, rest) = bytes.split_at(4);
-    let number = u32::from_be_bytes([front[0], front[1], front[2], front[3]]);
-    Some((number, rest))
+    Some((BigEndian::read_u32(front), rest))
 }
 
 #[tactic(auto, unfolding(crate::specs::Fields::number_at))]
@@ -44,10 +44,7 @@ pub(crate) fn read_long(bytes: &[u8]) -> Option<(u64, &[u8])>
         return None;
     }
     let (front, rest) = bytes.split_at(8);
-    let number = u64::from_be_bytes([
-        front[0], front[1], front[2], front[3], front[4], front[5], front[6], front[7],
-    ]);
-    Some((number, rest))
+    Some((BigEndian::read_u64(front), rest))
 }
 
 /// The next `count` bytes.

@@ -1,5 +1,6 @@
 //! A new drive, before and when it gets its name.
 ghost use Rattle.std.specs.Prelude.{◌≡◌, ◌⊎◌, ◌≤◌, None, IfOk, IfErr};
+ghost use Rattle.s4_types.specs.Sizes.{IsFrameCount};
 ghost use Rattle.s4_types.specs.declared.refusals.Refusal.TheVariants.{NoMemory, Busy};
 ghost use Rattle.s4_model.specs.State.{new_base};
 ghost use Rattle.segment_word.specs.AcceptViews.{begun};
@@ -9,7 +10,8 @@ use crate::drive::Drive;
 use s4_model::laws::every_history_is_sound;
 use s4_types::{ObjectId, Refusal};
 use segment_table::SegmentTable;
-use segment_word::{Accepts, Naming};
+use segment_word::accepts::Accepts;
+use segment_word::Naming;
 use std::alloc::Global;
 use std::marker::Model;
 use version_store::Store;
@@ -44,7 +46,7 @@ impl NewDrive {
     /// NoMemory where memory was refused, Busy where a count of those that share it was full.
     #[tactic(auto, using(crate::proofs::Beginning::few_places, crate::proofs::Beginning::kept_new))]
     pub fn new(alloc: Global, frames: usize, window: u64) -> Result<Self, Refusal>
-        requires { (8 ≤ frames) × (frames ≤ 1024) }
+        requires { IsFrameCount frames }
         ensures window { IfOk result (λ d. d.window ≡ window) }
         ensures log { IfOk result (λ d. log_of d.store.table ≡ record { held = λ p. None; ahead = new_places frames }) }
         ensures refusal { IfErr result (λ e. (e ≡ NoMemory) ⊎ (e ≡ Busy)) }

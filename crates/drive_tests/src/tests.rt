@@ -1,5 +1,6 @@
 //! What is done with a drive, and lists of requests, each with the reply that a drive must give.
 ghost use Rattle.std.specs.Prelude.{◌≡◌, ◌≤◌};
+ghost use Rattle.s4_types.specs.Sizes.{IsFrameCount};
 ghost use Rattle.s4_model.specs.State.{new_base};
 
 mod asking;
@@ -55,7 +56,7 @@ fn play<S: Scene, R: Abort>(
     window: u64,
     scene: S,
 ) -> Result<(), Fail>
-    requires { (8 ≤ frames) × (frames ≤ 1024) }
+    requires { IsFrameCount frames }
 {
     let made = match NewDrive::new(alloc, frames, window) {
         Ok(made) => made,
@@ -85,7 +86,7 @@ fn answers<R: Abort>(
     window: u64,
     rows: &[Row],
 ) -> Result<(), Fail>
-    requires { (8 ≤ frames) × (frames ≤ 1024) }
+    requires { IsFrameCount frames }
 {
     play(rt, alloc, frames, window, Rows { rows })
 }

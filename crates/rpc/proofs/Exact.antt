@@ -6,7 +6,7 @@ use Rattle.std.proofs.lemmas.Bool.{cases_lt, ltb-false, le-ltb}
 use Rattle.std.proofs.lemmas.List.{take_at, drop_at, take-append-drop, length-append, length-take, get_or-drop, get_or-take, get_or_past, append-nil}
 use Rattle.std.proofs.lemmas.Nat.{be_bytes_4, be_bytes_8, from_be_bytes-to_be_bytes_4, from_be_bytes-to_be_bytes_8}
 use Rattle.rpc.specs.Spelling.{long, word, text, at}
-use Rattle.rpc.specs.Reading.{◌>>=◌, number_at, text_at, moment_at, tail_at, ended_at}
+use Rattle.rpc.specs.private.Reading.{◌>>=◌, number_at, text_at, moment_at, tail_at, ended_at}
 
 abbrev pub IsBytes : List ℕ → Type 0
 IsBytes bytes = (i : ℕ) → get_or bytes i 0 < 256

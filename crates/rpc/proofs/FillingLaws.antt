@@ -6,7 +6,7 @@ use Rattle.s4_types.specs.declared.limits.TheConstants.{FRAME_BODY_BYTES}
 use Rattle.rpc.specs.declared.items.Item.{Item}
 use Rattle.rpc.specs.declared.items.Item.TheVariants.{BadFrame}
 use Rattle.rpc.specs.Stream.{frame, length_told, IsPartial, IsOversized, BeginsWith, IsItem, Adds}
-use Rattle.rpc.specs.Filling.{wanted, IsFilled, IsToppedUp}
+use Rattle.rpc.specs.private.Filling.{wanted, IsFilled, IsToppedUp}
 use Rattle.rpc.proofs.StreamLaws.{told_on, frame_told, frame_length, frame_on, oversized_on, Leads-start, Leads-frame, Leads-oversized, Leads-adds}
 
 -- ---- the wanted length, by cases

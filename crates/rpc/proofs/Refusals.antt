@@ -4,7 +4,7 @@ use Rattle.std.proofs.lemmas.Bool.{eqb-true}
 use Rattle.s4_types.specs.RefusalNumber.{number_of, HasWireNumber}
 use Rattle.s4_types.specs.declared.refusals.Refusal.{Refusal}
 use Rattle.s4_types.specs.declared.refusals.Refusal.TheVariants.{NoObject, NotAdmin, Expired, Future, Flushed, TooLarge, BadSpan, TooManySpans, NoSpace, NoMemory, ClockEnd, ChainFull, BadAttr, Busy, BadFrame, Damaged, Stale, NoRoom, InUse}
-use Rattle.rpc.specs.Reading.{refusals, first_with, refusal_of}
+use Rattle.rpc.specs.private.Reading.{refusals, first_with, refusal_of}
 
 -- the first has the number, or the others are asked
 first_or_other : (first refusal : Refusal) (n : ℕ) (b : Bool) (other : Option Refusal) → eqb (number_of first) n ≡ b → (other ≡ Some refusal → number_of refusal ≡ n) → cond b (Some first) other ≡ Some refusal → number_of refusal ≡ n

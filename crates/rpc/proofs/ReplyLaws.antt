@@ -2,12 +2,12 @@
 use Rattle.std.proofs.Common.{◌≡◌, ◌≢◌, ℕ, ◌≤◌, List, [], ◌∷◌, ◌++◌, length, Some, refl, sym, ◌∙◌}
 use Rattle.std.proofs.lemmas.Bool.{eqb-true}
 use Rattle.s4_types.specs.RefusalNumber.{number_of}
-use Rattle.s4_types.specs.declared.limits.TheConstants.{OBJECT_BYTES, ATTRIBUTE_BYTES}
+use Rattle.s4_types.specs.declared.limits.TheConstants.{READ_BYTES, ATTRIBUTE_BYTES}
 use Rattle.s4_types.specs.declared.refusals.Refusal.{Refusal as Reason}
 use Rattle.s4_types.specs.declared.replies.Reply.{Reply}
 use Rattle.s4_types.specs.declared.replies.Reply.TheVariants.{Refused, Changed, Created, Data, Attr}
 use Rattle.rpc.specs.Spelling.{long, word, text, SpellsReply}
-use Rattle.rpc.specs.Reading.{◌>>=◌, ended_at, refusal_of, refused_at, changed_at, created_at, data_at, attr_at, reply_at}
+use Rattle.rpc.specs.private.Reading.{◌>>=◌, ended_at, refusal_of, refused_at, changed_at, created_at, data_at, attr_at, reply_at}
 use Rattle.rpc.proofs.Refusals.{refusal_found, refusal_again}
 use Rattle.rpc.proofs.Exact.{IsBytes, bytes_behind, bind_some, ended_nil, ended_end, Exact, Then, Last, then_exact, last_exact, tail_exact, word_field, long_field, text_field}
 use Rattle.rpc.proofs.RequestLaws.{kind_or_other, IsLong, IsWord}
@@ -22,9 +22,9 @@ created_exact : Exact created_at (Then long IsLong (λ object. Last long IsLong 
 unfolding created_at
 created_exact = then_exact long_field (λ object. last_exact long_field (Created object))
 
-data_exact : Exact data_at (Last (λ b. b) (λ b. length b ≤ OBJECT_BYTES) Data)
+data_exact : Exact data_at (Last (λ b. b) (λ b. length b ≤ READ_BYTES) Data)
 unfolding data_at
-data_exact = tail_exact OBJECT_BYTES Data
+data_exact = tail_exact READ_BYTES Data
 
 attr_exact : Exact attr_at (Then word IsWord (λ size. Then long IsLong (λ created. Then long IsLong (λ changed. Last text (λ b. length b ≤ ATTRIBUTE_BYTES) (Attr size created changed)))))
 unfolding attr_at

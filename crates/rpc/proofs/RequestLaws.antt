@@ -6,7 +6,7 @@ use Rattle.s4_types.specs.declared.limits.TheConstants.{FRAME_BODY_BYTES}
 use Rattle.s4_types.specs.declared.requests.Request.{Request}
 use Rattle.s4_types.specs.declared.requests.Request.TheVariants.{Create, Delete, Read, Write, Append, Truncate, GetAttr, SetAttr, SetWindow, Flush, FlushO}
 use Rattle.rpc.specs.Spelling.{long, word, text, at, SpellsRequest}
-use Rattle.rpc.specs.Reading.{create_at, delete_at, read_at, write_at, append_at, truncate_at, get_attr_at, set_attr_at, set_window_at, flush_at, flush_object_at, request_at}
+use Rattle.rpc.specs.private.Reading.{create_at, delete_at, read_at, write_at, append_at, truncate_at, get_attr_at, set_attr_at, set_window_at, flush_at, flush_object_at, request_at}
 use Rattle.rpc.proofs.Exact.{IsBytes, bytes_behind, Exact, Then, Last, then_exact, last_exact, tail_exact, word_field, long_field, text_field, moment_field}
 
 abbrev pub IsLong : ℕ → Type 0

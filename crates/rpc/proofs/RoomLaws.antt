@@ -1,7 +1,7 @@
 -- One piece written behind another.
 use Rattle.std.proofs.Common.{ℕ, List, ◌++◌, ap, ◌∙◌, append_assoc, arith, length-append}
 use Rattle.std.specs.Global.{Vec}
-use Rattle.rpc.specs.Room.{Appended}
+use Rattle.rpc.specs.private.Room.{Appended}
 
 pub Appended-then : (a b c : Vec ℕ) (x y : List ℕ) → Appended a b x → Appended b c y → Appended a c (x ++ y)
 Appended-then a b c x y p q = record {

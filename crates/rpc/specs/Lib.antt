@@ -1,5 +1,3 @@
 pub mod Spelling
 pub mod Stream
-pub mod Filling
-pub mod Room
-pub mod Reading
+pub mod private

@@ -1,8 +1,9 @@
 ghost use Rattle.std.specs.Prelude.{◌≡◌, ℕ, ◌<◌, List, length};
 ghost use Rattle.std.specs.Int.{w32, w64};
-ghost use Rattle.rpc.specs.Reading.{Gives, number_at, text_at, moment_at, tail_at, ended_at};
+ghost use Rattle.rpc.specs.private.Reading.{Gives, number_at, text_at, moment_at, tail_at, ended_at};
 
 use crate::unread::Unread;
+use byteorder::{BigEndian, ByteOrder};
 use s4_types::Bytes;
 use std::alloc::Global;
 
@@ -13,8 +14,7 @@ pub(crate) fn read_word(bytes: &[u8]) -> Result<(u32, &[u8]), Unread>
         return Err(Unread::Misspelled);
     }
     let (front, rest) = bytes.split_at(4);
-    let number = u32::from_be_bytes([front[0], front[1], front[2], front[3]]);
-    Ok((number, rest))
+    Ok((BigEndian::read_u32(front), rest))
 }
 
 pub(crate) fn read_long(bytes: &[u8]) -> Result<(u64, &[u8]), Unread>
@@ -24,13 +24,10 @@ pub(crate) fn read_long(bytes: &[u8]) -> Result<(u64, &[u8]), Unread>
         return Err(Unread::Misspelled);
     }
     let (front, rest) = bytes.split_at(8);
-    let number = u64::from_be_bytes([
-        front[0], front[1], front[2], front[3], front[4], front[5], front[6], front[7],
-    ]);
-    Ok((number, rest))
+    Ok((BigEndian::read_u64(front), rest))
 }
 
-#[tactic(auto, unfolding(crate::specs::Reading::moment_at))]
+#[tactic(auto, unfolding(crate::specs::private::Reading::moment_at))]
 pub(crate) fn read_at(bytes: &[u8]) -> Result<(Option<u64>, &[u8]), Unread>
     ensures { Gives (λ x. (x.0, x.1.now)) result (moment_at bytes.now) }
 {
@@ -46,7 +43,7 @@ pub(crate) fn read_at(bytes: &[u8]) -> Result<(Option<u64>, &[u8]), Unread>
 }
 
 /// A text of at most `limit` bytes behind the byte that tells its length.
-#[tactic(auto, unfolding(crate::specs::Reading::text_at))]
+#[tactic(auto, unfolding(crate::specs::private::Reading::text_at))]
 pub(crate) fn read_text(alloc: Global, limit: usize, bytes: &[u8]) -> Result<(Bytes, &[u8]), Unread>
     ensures { Gives (λ x. (x.0, x.1.now)) result (text_at limit bytes.now) }
 {
@@ -62,7 +59,7 @@ pub(crate) fn read_text(alloc: Global, limit: usize, bytes: &[u8]) -> Result<(By
 }
 
 /// All of the bytes, at most `limit`.
-#[tactic(auto, unfolding(crate::specs::Reading::tail_at))]
+#[tactic(auto, unfolding(crate::specs::private::Reading::tail_at))]
 pub(crate) fn read_tail(alloc: Global, limit: usize, bytes: &[u8]) -> Result<Bytes, Unread>
     ensures { Gives (λ x. x) result (tail_at limit bytes.now) }
 {
@@ -73,7 +70,7 @@ pub(crate) fn read_tail(alloc: Global, limit: usize, bytes: &[u8]) -> Result<Byt
 }
 
 /// Nothing is left.
-#[tactic(auto, unfolding(crate::specs::Reading::ended_at))]
+#[tactic(auto, unfolding(crate::specs::private::Reading::ended_at))]
 pub(crate) fn read_end(bytes: &[u8]) -> Result<(), Unread>
     ensures { Gives (λ x. x) result (ended_at bytes.now) }
 {

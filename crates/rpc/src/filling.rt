@@ -1,14 +1,14 @@
 ghost use Rattle.std.specs.Prelude.{◌≡◌, ◌⊎◌, ℕ, ◌+◌, ◌≤◌, ◌<◌, List, [], ◌∷◌, ◌++◌, length, take, drop, vec_capacity};
 ghost use Rattle.s4_types.specs.declared.limits.TheConstants.{FRAME_BODY_BYTES};
 ghost use Rattle.rpc.specs.Stream.{IsPartial};
-ghost use Rattle.rpc.specs.Filling.{wanted, HasFrameRoom, IsFilled, IsToppedUp};
+ghost use Rattle.rpc.specs.private.Filling.{wanted, HasFrameRoom, IsFilled, IsToppedUp};
 
 use crate::frames::told_length;
 use crate::room::put;
 use s4_types::limits::FRAME_BODY_BYTES;
 
 /// The length that the held bytes shall get.
-#[tactic(auto, unfolding(crate::specs::Filling::wanted))]
+#[tactic(auto, unfolding(crate::specs::private::Filling::wanted))]
 fn wanted_length(held: &[u8]) -> usize
     ensures length { result ≡ wanted held.now }
     ensures bound { result ≤ 4 + FRAME_BODY_BYTES }

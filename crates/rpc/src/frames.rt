@@ -7,6 +7,7 @@ ghost use Rattle.rpc.specs.declared.items.Item.TheVariants.{BadFrame};
 
 use crate::items::{Item, Message};
 use s4_types::Refusal;
+use byteorder::{BigEndian, ByteOrder};
 use s4_types::limits::FRAME_BODY_BYTES;
 use std::alloc::Global;
 
@@ -19,7 +20,7 @@ pub(crate) fn told_length(bytes: &[u8]) -> u32
     requires { 4 ≤ length bytes.now }
     ensures { result ≡ length_told bytes.now }
 {
-    u32::from_be_bytes([bytes[0], bytes[1], bytes[2], bytes[3]])
+    BigEndian::read_u32(bytes)
 }
 
 /// The body of the frame that stands at the front and the bytes behind it, or None where it isn't whole yet.

@@ -4,7 +4,7 @@ ghost use Rattle.std.specs.Result.{IsErrOf};
 ghost use Rattle.s4_types.specs.declared.limits.TheConstants.{FRAME_BODY_BYTES};
 ghost use Rattle.s4_types.specs.declared.refusals.Refusal.TheVariants.{NoMemory, BadFrame};
 ghost use Rattle.rpc.specs.Stream.{IsPartial, Reads, Adds};
-ghost use Rattle.rpc.specs.Filling.{HasFrameRoom, IsGrown};
+ghost use Rattle.rpc.specs.private.Filling.{HasFrameRoom, IsGrown};
 
 use crate::filling::top_up;
 use crate::frames::{TooLong, read_first, read_frames};

@@ -3,11 +3,11 @@ ghost use Rattle.std.specs.Result.{IsErrOf};
 ghost use Rattle.rpc.specs.Spelling.{SpellsReply};
 ghost use Rattle.s4_types.specs.declared.replies.Reply.{Reply as Answered};
 ghost use Rattle.s4_types.specs.declared.refusals.Refusal.TheVariants.{NoMemory, BadFrame};
-ghost use Rattle.rpc.specs.Reading.{Gives, refusal_of, refused_at, changed_at, created_at, data_at, attr_at, reply_at};
+ghost use Rattle.rpc.specs.private.Reading.{Gives, refusal_of, refused_at, changed_at, created_at, data_at, attr_at, reply_at};
 
 use crate::fields::{read_end, read_long, read_tail, read_text, read_word};
 use crate::unread::Unread;
-use s4_types::limits::{ATTRIBUTE_BYTES, OBJECT_BYTES};
+use s4_types::limits::{ATTRIBUTE_BYTES, READ_BYTES};
 use s4_types::{Moment, ObjectId, Refusal, Reply};
 use std::alloc::Global;
 
@@ -17,7 +17,7 @@ fn refusal_named(number: u8) -> Option<Refusal>
     Refusal::from_number(number)
 }
 
-#[tactic(auto, unfolding(crate::specs::Reading::refused_at))]
+#[tactic(auto, unfolding(crate::specs::private::Reading::refused_at))]
 fn refused_of(bytes: &[u8]) -> Result<Reply, Unread>
     ensures { Gives (λ x. x) result (refused_at bytes.now) }
 {
@@ -31,7 +31,7 @@ fn refused_of(bytes: &[u8]) -> Result<Reply, Unread>
     }
 }
 
-#[tactic(auto, unfolding(crate::specs::Reading::changed_at))]
+#[tactic(auto, unfolding(crate::specs::private::Reading::changed_at))]
 fn changed_of(bytes: &[u8]) -> Result<Reply, Unread>
     ensures { Gives (λ x. x) result (changed_at bytes.now) }
 {
@@ -40,7 +40,7 @@ fn changed_of(bytes: &[u8]) -> Result<Reply, Unread>
     Ok(Reply::Changed(Moment::new(moment)))
 }
 
-#[tactic(auto, unfolding(crate::specs::Reading::created_at))]
+#[tactic(auto, unfolding(crate::specs::private::Reading::created_at))]
 fn created_of(bytes: &[u8]) -> Result<Reply, Unread>
     ensures { Gives (λ x. x) result (created_at bytes.now) }
 {
@@ -50,14 +50,14 @@ fn created_of(bytes: &[u8]) -> Result<Reply, Unread>
     Ok(Reply::Created(ObjectId::new(object), Moment::new(moment)))
 }
 
-#[tactic(auto, unfolding(crate::specs::Reading::data_at))]
+#[tactic(auto, unfolding(crate::specs::private::Reading::data_at))]
 fn data_of(alloc: Global, bytes: &[u8]) -> Result<Reply, Unread>
     ensures { Gives (λ x. x) result (data_at bytes.now) }
 {
-    Ok(Reply::Data(read_tail(alloc, OBJECT_BYTES as usize, bytes)?))
+    Ok(Reply::Data(read_tail(alloc, READ_BYTES as usize, bytes)?))
 }
 
-#[tactic(auto, unfolding(crate::specs::Reading::attr_at))]
+#[tactic(auto, unfolding(crate::specs::private::Reading::attr_at))]
 fn attr_of(alloc: Global, bytes: &[u8]) -> Result<Reply, Unread>
     ensures { Gives (λ x. x) result (attr_at bytes.now) }
 {
@@ -75,7 +75,7 @@ fn attr_of(alloc: Global, bytes: &[u8]) -> Result<Reply, Unread>
 }
 
 /// A reply, by its first byte.
-#[tactic(auto, unfolding(crate::specs::Reading::reply_at))]
+#[tactic(auto, unfolding(crate::specs::private::Reading::reply_at))]
 fn reply_of(alloc: Global, body: &[u8]) -> Result<Reply, Unread>
     ensures { Gives (λ x. x) result (reply_at body.now) }
 {

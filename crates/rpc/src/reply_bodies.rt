@@ -1,5 +1,5 @@
 ghost use Rattle.std.specs.Prelude.{◌≡◌, ℕ, ◌≤◌, ◌+◌, List, length};
-ghost use Rattle.rpc.specs.Room.{HasRoom, Appended};
+ghost use Rattle.rpc.specs.private.Room.{HasRoom, Appended};
 ghost use Rattle.rpc.specs.Spelling.{ReplyNumbers, reply_spelling};
 ghost use Rattle.s4_types.specs.Sizes.{ReplyFits};
 ghost use Rattle.s4_types.specs.declared.limits.TheConstants.{FRAME_BODY_BYTES};

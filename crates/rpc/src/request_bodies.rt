@@ -1,5 +1,5 @@
 ghost use Rattle.std.specs.Prelude.{◌≡◌, ℕ, ◌<◌, ◌≤◌, ◌^◌, ◌+◌, List, length};
-ghost use Rattle.rpc.specs.Room.{HasRoom, Appended};
+ghost use Rattle.rpc.specs.private.Room.{HasRoom, Appended};
 ghost use Rattle.rpc.specs.Spelling.{RequestFits, RequestNumbers, request_spelling, text, at};
 ghost use Rattle.s4_types.specs.declared.limits.TheConstants.{FRAME_BODY_BYTES};
 

@@ -3,7 +3,7 @@ ghost use Rattle.std.specs.Result.{IsErrOf};
 ghost use Rattle.rpc.specs.Spelling.{SpellsRequest};
 ghost use Rattle.s4_types.specs.declared.requests.Request.{Request as Asked};
 ghost use Rattle.s4_types.specs.declared.refusals.Refusal.TheVariants.{NoMemory, BadFrame};
-ghost use Rattle.rpc.specs.Reading.{Gives, create_at, delete_at, read_at, write_at, append_at, truncate_at, get_attr_at, set_attr_at, set_window_at, flush_at, flush_object_at, request_at};
+ghost use Rattle.rpc.specs.private.Reading.{Gives, create_at, delete_at, read_at, write_at, append_at, truncate_at, get_attr_at, set_attr_at, set_window_at, flush_at, flush_object_at, request_at};
 
 use crate::fields::{read_at, read_end, read_long, read_tail, read_text, read_word};
 use crate::unread::Unread;
@@ -20,7 +20,7 @@ fn moment_of(at: Option<u64>) -> Option<Moment>
     }
 }
 
-#[tactic(auto, unfolding(crate::specs::Reading::create_at))]
+#[tactic(auto, unfolding(crate::specs::private::Reading::create_at))]
 fn create_of(alloc: Global, bytes: &[u8]) -> Result<Request, Unread>
     ensures { Gives (λ x. x) result (create_at bytes.now) }
 {
@@ -29,7 +29,7 @@ fn create_of(alloc: Global, bytes: &[u8]) -> Result<Request, Unread>
     Ok(Request::Create { attribute })
 }
 
-#[tactic(auto, unfolding(crate::specs::Reading::delete_at))]
+#[tactic(auto, unfolding(crate::specs::private::Reading::delete_at))]
 fn delete_of(bytes: &[u8]) -> Result<Request, Unread>
     ensures { Gives (λ x. x) result (delete_at bytes.now) }
 {
@@ -40,7 +40,7 @@ fn delete_of(bytes: &[u8]) -> Result<Request, Unread>
     })
 }
 
-#[tactic(auto, unfolding(crate::specs::Reading::read_at))]
+#[tactic(auto, unfolding(crate::specs::private::Reading::read_at))]
 fn read_of(bytes: &[u8]) -> Result<Request, Unread>
     ensures { Gives (λ x. x) result (read_at bytes.now) }
 {
@@ -57,7 +57,7 @@ fn read_of(bytes: &[u8]) -> Result<Request, Unread>
     })
 }
 
-#[tactic(auto, unfolding(crate::specs::Reading::write_at))]
+#[tactic(auto, unfolding(crate::specs::private::Reading::write_at))]
 fn write_of(alloc: Global, bytes: &[u8]) -> Result<Request, Unread>
     ensures { Gives (λ x. x) result (write_at bytes.now) }
 {
@@ -71,7 +71,7 @@ fn write_of(alloc: Global, bytes: &[u8]) -> Result<Request, Unread>
     })
 }
 
-#[tactic(auto, unfolding(crate::specs::Reading::append_at))]
+#[tactic(auto, unfolding(crate::specs::private::Reading::append_at))]
 fn append_of(alloc: Global, bytes: &[u8]) -> Result<Request, Unread>
     ensures { Gives (λ x. x) result (append_at bytes.now) }
 {
@@ -83,7 +83,7 @@ fn append_of(alloc: Global, bytes: &[u8]) -> Result<Request, Unread>
     })
 }
 
-#[tactic(auto, unfolding(crate::specs::Reading::truncate_at))]
+#[tactic(auto, unfolding(crate::specs::private::Reading::truncate_at))]
 fn truncate_of(bytes: &[u8]) -> Result<Request, Unread>
     ensures { Gives (λ x. x) result (truncate_at bytes.now) }
 {
@@ -96,7 +96,7 @@ fn truncate_of(bytes: &[u8]) -> Result<Request, Unread>
     })
 }
 
-#[tactic(auto, unfolding(crate::specs::Reading::get_attr_at))]
+#[tactic(auto, unfolding(crate::specs::private::Reading::get_attr_at))]
 fn get_attr_of(bytes: &[u8]) -> Result<Request, Unread>
     ensures { Gives (λ x. x) result (get_attr_at bytes.now) }
 {
@@ -109,7 +109,7 @@ fn get_attr_of(bytes: &[u8]) -> Result<Request, Unread>
     })
 }
 
-#[tactic(auto, unfolding(crate::specs::Reading::set_attr_at))]
+#[tactic(auto, unfolding(crate::specs::private::Reading::set_attr_at))]
 fn set_attr_of(alloc: Global, bytes: &[u8]) -> Result<Request, Unread>
     ensures { Gives (λ x. x) result (set_attr_at bytes.now) }
 {
@@ -122,7 +122,7 @@ fn set_attr_of(alloc: Global, bytes: &[u8]) -> Result<Request, Unread>
     })
 }
 
-#[tactic(auto, unfolding(crate::specs::Reading::set_window_at))]
+#[tactic(auto, unfolding(crate::specs::private::Reading::set_window_at))]
 fn set_window_of(bytes: &[u8]) -> Result<Request, Unread>
     ensures { Gives (λ x. x) result (set_window_at bytes.now) }
 {
@@ -131,7 +131,7 @@ fn set_window_of(bytes: &[u8]) -> Result<Request, Unread>
     Ok(Request::SetWindow { window })
 }
 
-#[tactic(auto, unfolding(crate::specs::Reading::flush_at))]
+#[tactic(auto, unfolding(crate::specs::private::Reading::flush_at))]
 fn flush_of(bytes: &[u8]) -> Result<Request, Unread>
     ensures { Gives (λ x. x) result (flush_at bytes.now) }
 {
@@ -144,7 +144,7 @@ fn flush_of(bytes: &[u8]) -> Result<Request, Unread>
     })
 }
 
-#[tactic(auto, unfolding(crate::specs::Reading::flush_object_at))]
+#[tactic(auto, unfolding(crate::specs::private::Reading::flush_object_at))]
 fn flush_object_of(bytes: &[u8]) -> Result<Request, Unread>
     ensures { Gives (λ x. x) result (flush_object_at bytes.now) }
 {
@@ -160,7 +160,7 @@ fn flush_object_of(bytes: &[u8]) -> Result<Request, Unread>
 }
 
 /// A request, by its first byte.
-#[tactic(auto, unfolding(crate::specs::Reading::request_at))]
+#[tactic(auto, unfolding(crate::specs::private::Reading::request_at))]
 fn request_of(alloc: Global, body: &[u8]) -> Result<Request, Unread>
     ensures { Gives (λ x. x) result (request_at body.now) }
 {

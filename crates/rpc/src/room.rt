@@ -1,5 +1,5 @@
 ghost use Rattle.std.specs.Prelude.{◌≡◌, ℕ, ◌<◌, ◌^◌, List, length, IfSome};
-ghost use Rattle.rpc.specs.Room.{HasRoom, Appended};
+ghost use Rattle.rpc.specs.private.Room.{HasRoom, Appended};
 ghost use Rattle.rpc.specs.Spelling.{long, word, text, at};
 
 use s4_types::{Bytes, Moment, ObjectId};

@@ -2,6 +2,7 @@
 ghost use Rattle.std.specs.Prelude.{◌≡◌, ◌≢◌, ◌⊎◌, ◌+◌, ◌^◌, ◌<◌, ◌≤◌, None, [], IfOk, IfErr, OnErr};
 ghost use Rattle.serving.specs.Session.{reading_failures, writing_failures};
 ghost use Rattle.serving.specs.Streams.{taken_by};
+ghost use Rattle.s4_types.specs.Sizes.{IsFrameCount};
 ghost use Rattle.s4_types.specs.declared.refusals.Refusal.TheVariants.{NoMemory, Busy};
 ghost use Rattle.s4_model.specs.State.{new_base};
 ghost use Rattle.segment_table.specs.Room.{log_of, new_places};
@@ -62,7 +63,7 @@ pub fn serve_pipe<R: Source, W: Sink>(
     reader: &mut R,
     writer: &mut W,
 ) -> Result<ServeEnd, Refusal>
-    requires frames { (8 ≤ pipe.frames) × (pipe.frames ≤ 1024) }
+    requires frames { IsFrameCount pipe.frames }
     requires reader { R.failures reader.old + 1 < 2 ^ 64 }
     requires writer { W.failures writer.old + 1 < 2 ^ 64 }
     ensures session { IfOk result (λ end. Pipes pipe end

@@ -1,5 +1,6 @@
 //! The segment table: blocks behind pointers, the sealing of frames, and pins that count on them.
 ghost use Rattle.std.specs.Prelude.{◌≡◌, ℕ, ◌+◌, ◌<◌, ◌≤◌, ◌⊎◌, [], ◌∷◌, ◌++◌, length, map, replicate, Some, None, IsSome, IfSome, IfOk, IfErr, OnOk, OnErr, IsOk, MatchBool, option_map};
+ghost use Rattle.s4_types.specs.Sizes.{IsFrameCount};
 ghost use Rattle.s4_types.specs.Pointer.{Place};
 ghost use Rattle.s4_types.specs.declared.refusals.Refusal.TheVariants.{NoMemory, Busy, NoSpace};
 ghost use Rattle.block_log.specs.Log.{Log, appended, dropped};
@@ -47,7 +48,7 @@ impl SegmentTable {
     /// NoMemory where memory was refused, Busy where the count of those that share it was full. No other call but
     /// `count_on` and `held_in` takes memory.
     pub fn new(alloc: Global, frames: usize) -> Result<Self, Refusal>
-        requires { (8 ≤ frames) × (frames ≤ 1024) }
+        requires { IsFrameCount frames }
         ensures frames { IfOk result (λ t. t.drive.frames ≡ replicate frames fresh_frame) }
         ensures unused { IfOk result (λ t. t.slots ≡ replicate frames []) }
         ensures log { IfOk result (λ t. log_of t ≡ record { held = λ p. None; ahead = new_places frames }) }

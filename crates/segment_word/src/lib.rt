@@ -14,12 +14,12 @@
 //! Not said: that a seat is free or comes back, that a pin wins within its 64 tries, and which blocks of a frame are in
 //! use. At most one frame is open at a time only if the layer above keeps it so.
 //!
-//! A second table has one word, which counts the accepted changes of the drive (`accepts`): one history, which only
+//! A second table has one word, which counts the accepted changes of the drive ([`accepts`]): one history, which only
 //! its drive's seat makes grow, and of which each session knows a beginning and its own changes. History and knowledge
 //! stand in the proofs alone and take no memory. Not said there: that one of the 64 seats is free or comes back.
 #![tactic(auto)]
 
-mod accepts;
+pub mod accepts;
 mod blocks;
 mod board;
 mod drive;
@@ -31,11 +31,7 @@ mod pool;
 mod rule;
 mod steps;
 
-pub use accepts::board::Accepts;
-pub use accepts::history::HistorySeat;
-pub use accepts::laws::{sessions_share_none, told_share_none};
-pub use accepts::naming::{Naming, Taking};
-pub use accepts::sessions::{SessionSeat, Sessions};
+pub use accepts::naming::Naming;
 pub use drive::{DriveSeat, FrameToken};
 pub use pins::Pin;
 pub use pool::Frames;

@@ -1,5 +1,6 @@
 //! Making the table, and its seats for pins.
 ghost use Rattle.std.specs.Prelude.{◌≡◌, ℕ, ◌+◌, ◌*◌, ◌^◌, ◌<◌, ◌≤◌, ◌⊎◌, [], All, length, replicate, slice_index, IfOk, IfErr};
+ghost use Rattle.s4_types.specs.Sizes.{IsFrameCount};
 ghost use Rattle.s4_types.specs.declared.refusals.Refusal.TheVariants.{NoMemory, Busy};
 ghost use Rattle.segment_word.specs.Frames.{nothing_known, no_releases};
 ghost use Rattle.segment_word.specs.Steps.{IsSameSeat};
@@ -74,7 +75,7 @@ impl Frames {
     ///
     /// NoMemory where memory was refused, Busy where the count of those that share it was full.
     pub fn new(alloc: Global, count: usize) -> Result<(Frames, DriveSeat), Refusal>
-        requires { (8 ≤ count) × (count ≤ 1024) }
+        requires { IsFrameCount count }
         ensures frames { IfOk result (λ r. r.1 ≡ record { table = r.0; frames = replicate count fresh_frame; releases = no_releases }) }
         ensures refusal { IfErr result (λ e. (e ≡ NoMemory) ⊎ (e ≡ Busy)) }
     {

@@ -12,7 +12,7 @@ use Rattle.segment_word.specs.Layout.{block_bytes}
 use Rattle.segment_word.specs.Counting.{pins_in}
 use Rattle.segment_table.specs.Table.{Table, held_at}
 use Rattle.time_read.specs.Plans.{PlanFields, pins_of, contents_pinned}
-use Rattle.time_read.specs.Planning.{CountsOn}
+use Rattle.time_read.specs.private.Planning.{CountsOn}
 use Rattle.time_read.proofs.Pins.{pinned_bytes}
 
 -- what is told of a pin that counts on a held block's frame

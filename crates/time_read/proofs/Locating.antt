@@ -11,7 +11,7 @@ use Rattle.segment_table.specs.Table.{Table, held_at}
 use Rattle.time_read.specs.declared.plans.Piece.{Piece}
 use Rattle.time_read.specs.declared.plans.Piece.TheVariants.{Hole, Copied, Pinned}
 use Rattle.time_read.specs.Plans.{PlanFields, pins_of, piece_of, piece_bytes, is_pinned, is_pinned_in, IsAt}
-use Rattle.time_read.specs.Planning.{Keeps, CountsOn, Locates}
+use Rattle.time_read.specs.private.Planning.{Keeps, CountsOn, Locates}
 
 phase_of_place : Table → Place → Phase
 phase_of_place t p = (frame_at t.drive.frames p.frame).phase

@@ -19,7 +19,7 @@ use Rattle.segment_table.specs.Table.{Table, held_at}
 use Rattle.time_read.specs.declared.plans.Piece.{Piece}
 use Rattle.time_read.specs.declared.plans.Piece.TheVariants.{Hole, Copied, Pinned}
 use Rattle.time_read.specs.Plans.{PlanFields, pins_of, piece_of, pieces_of, piece_bytes, byte_planned, bytes_planned, is_pinned, is_pinned_in, IsAt}
-use Rattle.time_read.specs.Planning.{Keeps, Adds}
+use Rattle.time_read.specs.private.Planning.{Keeps, Adds}
 
 -- a plan has the pieces of n blocks of an inode, from block `first` on
 pub record Planned (t : Table) (i : Inode) (first n : ℕ) (plan : PlanFields) : Type 0 where

@@ -11,7 +11,7 @@ ghost use Rattle.segment_word.specs.Layout.{frame_at, block_bytes};
 ghost use Rattle.segment_word.specs.Counting.{pins_in};
 ghost use Rattle.segment_table.specs.Table.{held_at};
 ghost use Rattle.time_read.specs.Plans.{piece_bytes, pins_of, bytes_planned, byte_planned, piece_of, pieces_of, contents_pinned, is_pinned_in, is_pinned, IsAt};
-ghost use Rattle.time_read.specs.Planning.{CountsOn, Locates, Adds};
+ghost use Rattle.time_read.specs.private.Planning.{CountsOn, Locates, Adds};
 ghost use Rattle.time_read.specs.declared.plans.Piece.TheVariants.{Hole, Copied, Pinned};
 
 use block_log::{Block, Blocks};
@@ -84,7 +84,7 @@ pub struct PlanPiece {
 
 impl Model for PlanPiece {
     ghost use Rattle.time_read.specs.declared.plans.Piece.{Piece};
-    ghost use Rattle.time_read.specs.Sources.{piece_from};
+    ghost use Rattle.time_read.specs.private.Sources.{piece_from};
 
     ghost Value = { Piece };
 

@@ -22,7 +22,7 @@ use Rattle.row_changes.specs.Moved.{OnlyCheckpointChanged, IsMoved}
 use Rattle.version_store.specs.Store.{StoreFields, IsStore, IsObject, DataIsNamed}
 use Rattle.version_store.specs.Versions.{Stays, inode_by, inode_in, version_by, version_in}
 use Rattle.version_store.specs.Checkpointing.{last_entry, is_behind, IsCheckpointed}
-use Rattle.version_store.specs.CheckpointSteps.{CanCheckpoint, Checkpointed}
+use Rattle.version_store.specs.private.CheckpointSteps.{CanCheckpoint, Checkpointed}
 use Rattle.version_store.proofs.Lower.{RowStays, RowInodeStays, IsByStays, IsByLater, LastInodeStays}
 use Rattle.version_store.proofs.Frames.{DataStays, data_agree, data_pointers, stays_object, inode_in_stays, version_in_stays}
 use Rattle.version_store.proofs.Naming.{points_on, stays_pointing}

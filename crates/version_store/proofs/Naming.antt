@@ -18,7 +18,7 @@ use Rattle.object_map.specs.Rows.{row_of}
 use Rattle.time_read.specs.Rows.{IsRow, inode_of}
 use Rattle.version_store.specs.Store.{StoreFields, IsStore, IsObject, PointsTo, DataIsNamed, Names, IsNamed}
 use Rattle.version_store.specs.Versions.{Stays}
-use Rattle.version_store.specs.Turning.{LeadsTo}
+use Rattle.version_store.specs.private.Turning.{LeadsTo}
 use Rattle.version_store.proofs.Lower.{OnePlace, RowInodeStays}
 use Rattle.version_store.proofs.Frames.{stays_inode}
 use Rattle.version_store.proofs.Counting.{past_uncut}

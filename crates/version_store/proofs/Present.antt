@@ -20,7 +20,7 @@ use Rattle.version_store.specs.Store.{StoreFields, IsStore, IsObject}
 use Rattle.version_store.specs.Versions.{inode_by, inode_in, version_by, version_in}
 use Rattle.version_store.specs.Costs.{row_or_fresh, subject_inode, room}
 use Rattle.version_store.specs.Checkpointing.{last_entry, is_behind}
-use Rattle.version_store.specs.CheckpointSteps.{CanCheckpoint}
+use Rattle.version_store.specs.private.CheckpointSteps.{CanCheckpoint}
 use Rattle.object_map.specs.Objects.{value_of, with_value, without_value}
 use Rattle.version_store.proofs.Lower.{RowInodeStays, LastInodeStays, FreshInode, BlankCount, BlankHoles}
 use Rattle.version_store.proofs.Frames.{growth_stays, journal_stays, inode_in_stays}

@@ -24,7 +24,7 @@ use Rattle.version_store.specs.Store.{StoreFields, IsStore, IsObject, HasNothing
 use Rattle.row_changes.specs.Recent.{IsBy}
 use Rattle.version_store.specs.Versions.{inode_by, version_by, version_in}
 use Rattle.version_store.specs.Taking.{RowChanges}
-use Rattle.version_store.specs.Turning.{LeadsTo, IsOpenFor, Turns}
+use Rattle.version_store.specs.private.Turning.{LeadsTo, IsOpenFor, Turns}
 use Rattle.version_store.proofs.Lower.{RowStays, RowInodeStays, IsByStays, IsByLater, LastInodeStays, FreshRowStands, FreshRowIsBy, FreshInode, BlankCount, BlankHoles}
 use Rattle.version_store.proofs.Frames.{DataStays, data_agree, data_pointers, stays_object, growth_stays, journal_stays, version_by_stays}
 use Rattle.version_store.proofs.Naming.{NamesNew, stays_pointing}

@@ -2,7 +2,6 @@ pub mod Store
 pub mod Versions
 pub mod Costs
 pub mod Taking
-pub mod Turning
 pub mod Laws
 pub mod Checkpointing
-pub mod CheckpointSteps
+pub mod private

@@ -10,7 +10,7 @@ ghost use Rattle.version_store.specs.Versions.{version_in, version_taken};
 ghost use Rattle.version_store.specs.Costs.{subject_row, subject_inode, blocks_taken, change_refusal};
 ghost use Rattle.s4_model.specs.Effect.{object_of};
 ghost use Rattle.version_store.specs.Taking.{Takes, RowChanges, data_by, Appends};
-ghost use Rattle.version_store.specs.Turning.{CanTake, CanTurn, Turns, IsTaken, blocks_turned};
+ghost use Rattle.version_store.specs.private.Turning.{CanTake, CanTurn, Turns, IsTaken, blocks_turned};
 
 use crate::costs::{object_of, refusal};
 use crate::laws::changes_begin_with_the_present;

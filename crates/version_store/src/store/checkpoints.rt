@@ -6,7 +6,7 @@ ghost use Rattle.time_read.specs.Rows.{IsRow, entries_of};
 ghost use Rattle.version_store.specs.Store.{fields_of, IsStore};
 ghost use Rattle.version_store.specs.Versions.{inode_in, version_in};
 ghost use Rattle.version_store.specs.Checkpointing.{last_entry, is_behind, checkpoint_refusal, Checkpoints};
-ghost use Rattle.version_store.specs.CheckpointSteps.{CanCheckpoint, Checkpointed};
+ghost use Rattle.version_store.specs.private.CheckpointSteps.{CanCheckpoint, Checkpointed};
 
 use crate::store::Store;
 use block_log::Blocks;

@@ -5,7 +5,7 @@ use Rattle.inode.specs.Touched.{touched_count}
 use Rattle.s4_types.specs.Pointer.{Place}
 use Rattle.segment_table.specs.Table.{Table}
 use Rattle.time_read.specs.Plans.{PlanFields, piece_of, is_pinned}
-use Rattle.time_read.specs.Planning.{Adds}
+use Rattle.time_read.specs.private.Planning.{Adds}
 use Rattle.time_read.proofs.Planning.{planned_more, planned_bytes, pinned_among, slot_at, passed, inside}
 use Rattle.time_read.proofs.plans.plan.Goals as goal
 

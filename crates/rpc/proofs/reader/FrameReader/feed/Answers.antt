@@ -3,7 +3,7 @@ use Rattle.std.specs.Prelude.{IfSome}
 use Rattle.std.proofs.lemmas.List.{take_at}
 use Rattle.s4_types.specs.declared.limits.TheConstants.{FRAME_BODY_BYTES}
 use Rattle.rpc.specs.Stream.{IsPartial}
-use Rattle.rpc.specs.Filling.{IsGrown}
+use Rattle.rpc.specs.private.Filling.{IsGrown}
 use Rattle.rpc.proofs.StreamLaws.{partial_bound}
 use Rattle.rpc.proofs.reader.FrameReader.feed.Goals as goal
 

@@ -1,5 +1,5 @@
 use Rattle.std.proofs.Common.{sym, ap, ◌∙◌}
-use Rattle.time_read.specs.Sources.{piece_from}
+use Rattle.time_read.specs.private.Sources.{piece_from}
 use Rattle.time_read.proofs.plans.PlanPiece.append.Goals as goal
 
 pub append_pinned-requires-clause-counted : goal.append_pinned-requires-clause-counted

@@ -2,7 +2,7 @@ use Rattle.std.proofs.Common.{sym, ap, subst, ◌∙◌}
 use Rattle.version_store.specs.Store.{StoreFields, fields_of}
 use Rattle.version_store.specs.Versions.{inode_in}
 use Rattle.version_store.specs.Costs.{room}
-use Rattle.version_store.specs.CheckpointSteps.{CanCheckpoint}
+use Rattle.version_store.specs.private.CheckpointSteps.{CanCheckpoint}
 use Rattle.version_store.proofs.Present.{at_last}
 use Rattle.version_store.proofs.CheckpointSteps.{same_current}
 use Rattle.version_store.proofs.store.Store.checkpoint.Goals as goal

@@ -3,7 +3,7 @@ use Rattle.s4_types.specs.declared.changes.Change.TheVariants.{Create}
 use Rattle.s4_model.specs.Effect.{effect}
 use Rattle.inode.specs.Contents.{contents_of, meaning}
 use Rattle.version_store.specs.Store.{StoreFields, fields_of}
-use Rattle.version_store.specs.Turning.{CanTurn, Turns, blocks_turned}
+use Rattle.version_store.specs.private.Turning.{CanTurn, Turns, blocks_turned}
 use Rattle.version_store.proofs.Kind.{can_create, created_taken}
 use Rattle.version_store.proofs.Making.{created_makes}
 use Rattle.version_store.proofs.store.Store.create.Goals as goal

@@ -3,7 +3,7 @@ use Rattle.std.proofs.Common.{◌≡◌, ℕ, ◌+◌, Option, IfSome, sym, subs
 use Rattle.object_map.specs.declared.map.Row.{Row}
 use Rattle.object_map.specs.Rows.{row_of, with_row}
 use Rattle.version_store.specs.Store.{StoreOf, StoreFields, fields_of}
-use Rattle.version_store.specs.CheckpointSteps.{CanCheckpoint, Checkpointed}
+use Rattle.version_store.specs.private.CheckpointSteps.{CanCheckpoint, Checkpointed}
 use Rattle.version_store.proofs.CheckpointSteps.{Rewrites, known, rewritten}
 use Rattle.version_store.proofs.store.Store.put_checkpoint.Goals as goal
 

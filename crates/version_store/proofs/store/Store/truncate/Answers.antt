@@ -1,7 +1,7 @@
 use Rattle.std.proofs.Common.{sym, subst}
 use Rattle.s4_types.specs.declared.changes.Change.TheVariants.{Truncate}
 use Rattle.version_store.specs.Store.{StoreOf, StoreFields, fields_of}
-use Rattle.version_store.specs.Turning.{CanTake, IsTaken}
+use Rattle.version_store.specs.private.Turning.{CanTake, IsTaken}
 use Rattle.version_store.proofs.Kind.{can_turn, taken_of}
 use Rattle.version_store.proofs.Making.{can_subject, truncated_makes}
 use Rattle.version_store.proofs.store.Store.truncate.Goals as goal

@@ -3,7 +3,7 @@ use Rattle.std.proofs.Common.{◌≡◌, ℕ, ◌+◌, Option, Some, IfSome, ref
 use Rattle.object_map.specs.declared.map.Row.{Row}
 use Rattle.object_map.specs.Rows.{row_of, with_row}
 use Rattle.version_store.specs.Store.{StoreOf, StoreFields, fields_of}
-use Rattle.version_store.specs.Turning.{CanTurn, Turns, blocks_turned}
+use Rattle.version_store.specs.private.Turning.{CanTurn, Turns, blocks_turned}
 use Rattle.version_store.proofs.Steps.{Records}
 use Rattle.version_store.proofs.Present.{turned_keeps}
 use Rattle.version_store.proofs.Turning.{known, turned}

@@ -2,7 +2,7 @@
 use Rattle.std.specs.Prelude.{◌≡◌, ℕ, zero, suc, ◌-◌, List, [], ◌∷◌, length, take, drop, Option, Some, None, Result, Ok, Err, nat_lt, ◌==◌, if◌then◌else◌}
 use Rattle.std.specs.Int.{Width, w32, w64, byte_len, from_be_bytes}
 use Rattle.s4_types.specs.RefusalNumber.{number_of}
-use Rattle.s4_types.specs.declared.limits.TheConstants.{FRAME_BODY_BYTES, OBJECT_BYTES, ATTRIBUTE_BYTES}
+use Rattle.s4_types.specs.declared.limits.TheConstants.{FRAME_BODY_BYTES, READ_BYTES, ATTRIBUTE_BYTES}
 use Rattle.s4_types.specs.declared.refusals.Refusal.{Refusal}
 use Rattle.s4_types.specs.declared.refusals.Refusal.TheVariants.{NoObject, NotAdmin, Expired, Future, Flushed, TooLarge, BadSpan, TooManySpans, NoSpace, NoMemory, ClockEnd, ChainFull, BadAttr, Busy, BadFrame, Stale, NoRoom, InUse}
 use Rattle.s4_types.specs.declared.requests.Request.{Request}
@@ -182,7 +182,7 @@ created_at bytes = do
 
 unfoldable pub data_at : List ℕ → Option Reply
 data_at bytes = do
-  found ← tail_at OBJECT_BYTES bytes
+  found ← tail_at READ_BYTES bytes
   Some (Data found)
 
 unfoldable pub attr_at : List ℕ → Option Reply
