@@ -6,8 +6,8 @@ ghost use Rattle.rpc.specs.Stream.{length_told, IsPartial, IsOversized, BeginsWi
 ghost use Rattle.rpc.specs.declared.items.Item.TheVariants.{BadFrame};
 
 use crate::items::{Item, Message};
-use s4_types::Refusal;
 use byteorder::{BigEndian, ByteOrder};
+use s4_types::Refusal;
 use s4_types::limits::FRAME_BODY_BYTES;
 use std::alloc::Global;
 
