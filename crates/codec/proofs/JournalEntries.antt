@@ -88,7 +88,7 @@ rules_push object previous front e h fit =
     let r = rules_say (record { object = object; previous = previous; entries = front }) h in
     rules_hold (record { object = object; previous = previous; entries = front ++ e ∷ [] }) r.object (omega (arith, length-append front (e ∷ []), r.some)) (omega (arith, entries_push front e, fit))
 
-entries_spelled : (entries : List EntryFields) → length (flat_map entry_spelling entries) ≡ entries_length entries
+pub entries_spelled : (entries : List EntryFields) → length (flat_map entry_spelling entries) ≡ entries_length entries
 unfolding entries_length
 entries_spelled [] = refl
 entries_spelled (e ∷ entries) = omega (arith, length-append (entry_spelling e) (flat_map entry_spelling entries), entry_is e, entries_spelled entries)

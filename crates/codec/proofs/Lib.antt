@@ -13,3 +13,4 @@ pub mod Payload
 pub mod SummaryLaws
 pub mod JournalEntries
 pub mod JournalLaws
+pub mod Patched

@@ -1,4 +1,5 @@
 //! The formats, byte by byte.
+mod journal_bytes;
 mod journals;
 mod packings;
 mod records;

@@ -16,11 +16,11 @@ use crate::back::EntriesBack;
 use crate::packing::laws::{blocks_have_the_entries, bytes_add_up, chains_are_short};
 use crate::packing::{blocks_needed, fits};
 use crate::rewriting::{drop_all, places};
-use crate::table::{read, write};
-use crate::writing::{bytes_of, copy_of, finish, first_block, sizes_of, take_all};
+use crate::table::{reopen, write};
+use crate::writing::{bytes_of, finish, first_block, sizes_of, take_all};
 use arrayvec::ArrayVec;
 use block_log::Blocks;
-use codec::{Entry, JournalBlock};
+use codec::{Entry, JournalBytes};
 use s4_types::limits::{CHAIN_ENTRY_BYTES, SHORTEST_ENTRY_BYTES};
 use s4_types::{ObjectId, Ptr, Refusal};
 use std::alloc::Global;
@@ -142,7 +142,7 @@ impl Chain {
 
     /// The block that takes the first entry of a push, with that entry: the head's entries are before it if it fits
     /// there.
-    fn begun<B: Blocks>(&self, table: &mut B, first: &Entry) -> JournalBlock
+    fn begun<B: Blocks>(&self, table: &mut B, first: &Entry) -> JournalBytes
         requires { Holds (B.log table.old).held self.now (entries_held (B.log table.old).held self.now) }
         ensures unfinished { Unfinished (B.log table.new).held self.now.object (option_to_list (reopened self.now (entry_length first.now))) result
             (entries_held (B.log table.old).held self.now ++ first.now ∷ []) }
@@ -150,14 +150,13 @@ impl Chain {
         ensures filled { entries_length result.entries ≡ filled_with self.now.filled (entry_length first.now) }
         ensures same { B.log table.new ≡ B.log table.old }
     {
-        let copy = copy_of(first);
         match self.reopened(first.byte_count()) {
             Some(head) => {
-                let mut block = read(table, head);
-                block.add(copy);
+                let mut block = reopen(table, head);
+                block.add(first);
                 block
             }
-            None => JournalBlock::new(self.object(), self.head(), copy).unwrap(),
+            None => JournalBytes::new(self.object(), self.head(), first).unwrap(),
         }
     }
 

@@ -1,9 +1,9 @@
-//! One journal block read from a table, and one appended to it.
+//! One journal block read from a table, for its entries or to go on with, and one appended to it.
 ghost use Rattle.std.specs.Prelude.{◌≡◌, ◌≤◌, ◌<◌, length, Some, IsSome};
 ghost use Rattle.journal_chain.specs.Writing.{Put, spelled};
 
 use block_log::{BlockKind, Blocks};
-use codec::{JournalBlock, decode_journal, encode_journal};
+use codec::{JournalBlock, JournalBytes, decode_journal};
 use s4_types::Ptr;
 
 /// The journal block at a place where one is held.
@@ -16,14 +16,22 @@ pub(crate) fn read<B: Blocks>(table: &mut B, place: Ptr) -> JournalBlock
     decode_journal(&block).unwrap()
 }
 
+/// The journal block at a place where one is held, as its bytes: no entry is decoded.
+pub(crate) fn reopen<B: Blocks>(table: &mut B, place: Ptr) -> JournalBytes
+    requires { IsSome (spelled ((B.log table.old).held place)) }
+    ensures value { spelled ((B.log table.old).held place) ≡ Some result }
+    ensures same { B.log table.new ≡ B.log table.old }
+{
+    JournalBytes::of(table.get(place))
+}
+
 /// Appends a journal block where a place is ahead, and answers that place.
-pub(crate) fn write<B: Blocks>(table: &mut B, block: &JournalBlock) -> Ptr
+pub(crate) fn write<B: Blocks>(table: &mut B, block: &JournalBytes) -> Ptr
     requires object { 1 ≤ block.now.object }
     requires room { 0 < length (B.log table.old).ahead }
     ensures { Put (B.log table.old) (B.log table.new) result block.now }
 {
-    let bytes = encode_journal(block);
     table
-        .append(BlockKind::Journal, block.object(), &bytes)
+        .append(BlockKind::Journal, block.object(), block.as_bytes())
         .unwrap()
 }

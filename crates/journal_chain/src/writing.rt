@@ -11,15 +11,8 @@ ghost use Rattle.journal_chain.specs.Writing.{Finished, Unfinished};
 use crate::table::write;
 use arrayvec::ArrayVec;
 use block_log::Blocks;
-use codec::{Entry, JournalBlock};
+use codec::{Entry, JournalBytes};
 use s4_types::{ObjectId, Ptr};
-
-/// A copy of an entry. It takes no memory.
-pub(crate) fn copy_of(entry: &Entry) -> Entry
-    ensures { result ≡ entry.now }
-{
-    entry.clone().unwrap()
-}
 
 /// The bytes of each of a few entries.
 pub(crate) fn sizes_of<const N: usize>(entries: &[Entry]) -> ArrayVec<usize, N>
@@ -47,17 +40,17 @@ pub(crate) fn bytes_of(entries: &[Entry]) -> usize
 }
 
 /// The oldest block of a chain, with its first entry.
-pub(crate) fn first_block(object: ObjectId, first: &Entry) -> JournalBlock
+pub(crate) fn first_block(object: ObjectId, first: &Entry) -> JournalBytes
     requires { 1 ≤ object }
     ensures value { result ≡ record { object = object; previous = None; entries = first.now ∷ [] } }
     ensures filled { entries_length result.entries ≡ filled_with 0 (entry_length first.now) }
 {
-    JournalBlock::new(object, None, copy_of(first)).unwrap()
+    JournalBytes::new(object, None, first).unwrap()
 }
 
 /// Takes one entry more into the block, if it fits behind the others there; else the block is appended, and the entry
 /// is the first of the next.
-pub(crate) fn take<B: Blocks>(table: &mut B, block: &mut JournalBlock, entry: &Entry)
+pub(crate) fn take<B: Blocks>(table: &mut B, block: &mut JournalBytes, entry: &Entry)
     requires object { 1 ≤ block.old.object }
     requires room { breaks (entries_length block.old.entries) (entry_length entry.now ∷ []) ≤ length (B.log table.old).ahead }
     ensures unfinished { (stale : List Place) (entries : List EntryFields)
@@ -68,17 +61,16 @@ pub(crate) fn take<B: Blocks>(table: &mut B, block: &mut JournalBlock, entry: &E
     ensures object { block.new.object ≡ block.old.object }
     ensures filled { entries_length block.new.entries ≡ filled_with (entries_length block.old.entries) (entry_length entry.now) }
 {
-    let copy = copy_of(entry);
     if block.fits(entry) {
-        block.add(copy);
+        block.add(entry);
         return;
     }
     let place = write(table, block);
-    *block = JournalBlock::new(block.object(), Some(place), copy).unwrap();
+    *block = JournalBytes::new(block.object(), Some(place), entry).unwrap();
 }
 
 /// Takes entries into the block, one after another, and appends each block that is full.
-pub(crate) fn take_all<B: Blocks>(table: &mut B, block: &mut JournalBlock, entries: &[Entry])
+pub(crate) fn take_all<B: Blocks>(table: &mut B, block: &mut JournalBytes, entries: &[Entry])
     requires object { 1 ≤ block.old.object }
     requires room { breaks (entries_length block.old.entries) (map entry_length entries.now) ≤ length (B.log table.old).ahead }
     ensures unfinished { (stale : List Place) (before : List EntryFields)
@@ -94,7 +86,7 @@ pub(crate) fn take_all<B: Blocks>(table: &mut B, block: &mut JournalBlock, entri
 }
 
 /// Appends the last block, and drops the one that it stands for, if any.
-pub(crate) fn finish<B: Blocks>(table: &mut B, block: &JournalBlock, stale: Option<Ptr>) -> Ptr
+pub(crate) fn finish<B: Blocks>(table: &mut B, block: &JournalBytes, stale: Option<Ptr>) -> Ptr
     requires object { 1 ≤ block.now.object }
     requires room { 0 < length (B.log table.old).ahead }
     ensures finished { (entries : List EntryFields)

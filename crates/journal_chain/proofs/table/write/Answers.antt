@@ -3,5 +3,5 @@ use Rattle.journal_chain.proofs.table.write.Goals as goal
 
 pub returns : goal.returns
 returns g c =
-    put_since (g.B.Blocks.log c.args.table.now) (g.B.Blocks.log c.append.new.self) c.append.result c.unwrap.result c.args.block.now c.object.result c.encode_journal-bytes.result
-    c.unwrap.ensures c.append.ensures.appended c.append.ensures.fresh c.object.ensures c.encode_journal-bytes.ensures.spells.1 c.encode_journal-bytes.ensures.reads
+    put_since (g.B.Blocks.log c.args.table.now) (g.B.Blocks.log c.append.new.self) c.append.result c.unwrap.result c.args.block.now c.object.result c.as_bytes.result.now
+    c.unwrap.ensures c.append.ensures.appended c.append.ensures.fresh c.object.ensures c.as_bytes.ensures.spells.1 c.as_bytes.ensures.reads
