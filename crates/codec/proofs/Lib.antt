@@ -13,3 +13,5 @@ pub mod Payload
 pub mod SummaryLaws
 pub mod JournalEntries
 pub mod JournalLaws
+pub mod Fronts
+pub mod Starts

@@ -4,3 +4,4 @@ pub mod Checkpoint
 pub mod Entry
 pub mod Summary
 pub mod Journal
+pub mod Reader

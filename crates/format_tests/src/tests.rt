@@ -1,6 +1,7 @@
 //! The formats, byte by byte.
 mod journals;
 mod packings;
+mod readings;
 mod records;
 mod summaries;
 mod values;
