@@ -14,3 +14,5 @@ pub mod SummaryLaws
 pub mod JournalEntries
 pub mod JournalLaws
 pub mod Patched
+pub mod Fronts
+pub mod Starts

@@ -5,3 +5,4 @@ pub mod Summary
 pub mod Journal
 pub mod private
 pub mod Patching
+pub mod Reader

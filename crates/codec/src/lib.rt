@@ -11,6 +11,7 @@
 mod attributes;
 mod checkpoints;
 mod entries;
+mod entry_reader;
 mod entry_reading;
 mod entry_writing;
 mod fields;
@@ -31,6 +32,7 @@ mod writing;
 pub use attributes::Attribute;
 pub use checkpoints::{Checkpoint, decode_checkpoint, encode_checkpoint};
 pub use entries::{Entry, Pair, Status, Triple, Triples};
+pub use entry_reader::EntryReader;
 pub use entry_writing::{decode_entry, encode_entry};
 pub use inodes::Inode;
 pub use journal_bytes::JournalBytes;

@@ -2,6 +2,7 @@
 mod journal_bytes;
 mod journals;
 mod packings;
+mod readings;
 mod records;
 mod summaries;
 mod values;

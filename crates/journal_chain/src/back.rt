@@ -3,22 +3,21 @@ ghost use Rattle.std.specs.Prelude.{◌≡◌, ◌++◌, [], IsSome, IfNone};
 ghost use Rattle.std.specs.Option.{option_to_list};
 ghost use Rattle.journal_chain.specs.Back.{BackFields, entries_left, left};
 
-use crate::table::read;
+use crate::table::open;
 use block_log::Blocks;
-use codec::journal_laws::a_journal_has_few_entries;
-use codec::{Entries, Entry};
+use codec::{Entry, EntryReader};
 use s4_types::Ptr;
 use std::marker::Model;
 
 /// A reader of a chain's entries, the newest first.
 ///
-/// Each block is read and decoded once, and no memory is taken.
+/// Each block is read once, an entry of it is decoded when it is asked for, and no memory is taken.
 #[derive(Debug, Drop)]
 pub struct EntriesBack {
     // The block before the one being read.
     previous: Option<Ptr>,
-    // Those of the block being read that were not given.
-    entries: Entries,
+    // The block being read.
+    block: EntryReader,
 }
 
 impl Model for EntriesBack {
@@ -26,7 +25,7 @@ impl Model for EntriesBack {
 
     ghost Value = { BackFields };
 
-    ghost view = { λ b. record { previous = b.previous; entries = b.entries.items } };
+    ghost view = { λ b. record { previous = b.previous; entries = b.block.entries } };
 }
 
 impl EntriesBack {
@@ -36,7 +35,7 @@ impl EntriesBack {
     {
         EntriesBack {
             previous: head,
-            entries: Entries::new(),
+            block: EntryReader::empty(),
         }
     }
 
@@ -47,16 +46,15 @@ impl EntriesBack {
         ensures end { self.new.entries ≡ [] → left (B.log table.old).held self.old ≡ [] }
         ensures same { B.log table.new ≡ B.log table.old }
     {
-        if !self.entries.is_empty() {
+        if !self.block.is_empty() {
             return;
         }
         let Some(place) = self.previous else {
             return;
         };
-        a_journal_has_few_entries();
-        let block = read(table, place);
+        let block = open(table, place);
         self.previous = block.previous();
-        self.entries = block.into_entries();
+        self.block = block;
     }
 
     /// The newest entry that was not given. None where all were.
@@ -68,6 +66,6 @@ impl EntriesBack {
         ensures same { B.log table.new ≡ B.log table.old }
     {
         self.turn(table);
-        self.entries.pop()
+        self.block.pop()
     }
 }

@@ -8,7 +8,7 @@ ghost use Rattle.journal_chain.specs.Chain.{OnlyJournalChanged};
 ghost use Rattle.journal_chain.specs.Writing.{Finished};
 ghost use Rattle.journal_chain.specs.Back.{links_back, places_back};
 
-use crate::table::read;
+use crate::table::open;
 use arrayvec::ArrayVec;
 use block_log::Blocks;
 use s4_types::Ptr;
@@ -27,7 +27,7 @@ pub(crate) fn places<B: Blocks>(table: &mut B, head: Option<Ptr>) -> Places
     let mut next = head;
     while let Some(place) = next {
         places.push(Some(place));
-        next = read(table, place).previous();
+        next = open(table, place).previous();
     }
     places
 }

@@ -3,18 +3,8 @@ ghost use Rattle.std.specs.Prelude.{◌≡◌, ◌≤◌, ◌<◌, length, Some,
 ghost use Rattle.journal_chain.specs.Writing.{Put, spelled};
 
 use block_log::{BlockKind, Blocks};
-use codec::{JournalBlock, JournalBytes, decode_journal};
+use codec::{EntryReader, JournalBytes};
 use s4_types::Ptr;
-
-/// The journal block at a place where one is held.
-pub(crate) fn read<B: Blocks>(table: &mut B, place: Ptr) -> JournalBlock
-    requires { IsSome (spelled ((B.log table.old).held place)) }
-    ensures value { spelled ((B.log table.old).held place) ≡ Some result }
-    ensures same { B.log table.new ≡ B.log table.old }
-{
-    let block = table.get(place);
-    decode_journal(&block).unwrap()
-}
 
 /// The journal block at a place where one is held, as its bytes: no entry is decoded.
 pub(crate) fn reopen<B: Blocks>(table: &mut B, place: Ptr) -> JournalBytes
@@ -23,6 +13,17 @@ pub(crate) fn reopen<B: Blocks>(table: &mut B, place: Ptr) -> JournalBytes
     ensures same { B.log table.new ≡ B.log table.old }
 {
     JournalBytes::of(table.get(place))
+}
+
+/// A reader of the journal block at a place where one is held.
+pub(crate) fn open<B: Blocks>(table: &mut B, place: Ptr) -> EntryReader
+    requires { IsSome (spelled ((B.log table.old).held place)) }
+    ensures value { spelled ((B.log table.old).held place) ≡ Some result }
+    ensures some { 1 ≤ length result.entries }
+    ensures same { B.log table.new ≡ B.log table.old }
+{
+    let block = table.get(place);
+    EntryReader::new(block)
 }
 
 /// Appends a journal block where a place is ahead, and answers that place.

@@ -23,17 +23,17 @@ push-requires g c =
     let room : length c.loop-next.places.items < 47 = omega arith in
     (lit< tt, room)
 
-pub read-requires : goal.read-requires
-read-requires g c =
+pub open-requires : goal.open-requires
+open-requires g c =
     let held = (g.B.Blocks.log c.loop-next.table).held in
     place_reads held c.in-Some.place (subst (λ (q : Option Place). IsSome (links_back held q)) c.in-Some.is c.loop-next.invariant.there)
 
 pub loop-next-smaller : goal.loop-next-smaller
 loop-next-smaller g c =
     let log = g.B.Blocks.log c.loop-next.table in
-    let later = g.B.Blocks.log c.read.new.table in
+    let later = g.B.Blocks.log c.open.new.table in
     let n : NextPlace log.held later.held c.loop-next.next c.previous-next.result c.in-Some.place =
-    next_block log later c.loop-next.next c.previous-next.result c.in-Some.place c.read.result c.in-Some.is c.loop-next.invariant.there c.read.ensures.value c.read.ensures.same c.previous-next.ensures in
+    next_block log later c.loop-next.next c.previous-next.result c.in-Some.place c.open.result c.in-Some.is c.loop-next.invariant.there c.open.ensures.value c.open.ensures.same c.previous-next.ensures in
     let longer : length (places_back log.held c.loop-next.next) ≡ length (c.in-Some.place ∷ places_back later.held c.previous-next.result) = ap length n.places in
     let less : length (places_back later.held c.previous-next.result) < length (places_back log.held c.loop-next.next) = omega arith in
     less
@@ -41,12 +41,12 @@ loop-next-smaller g c =
 pub loop-next-preserved : goal.loop-next-preserved
 loop-next-preserved g c =
     let log = g.B.Blocks.log c.loop-next.table in
-    let later = g.B.Blocks.log c.read.new.table in
+    let later = g.B.Blocks.log c.open.new.table in
     let p = c.in-Some.place in
     let rest = places_back later.held c.previous-next.result in
     let items = c.loop-next.places.items in
     let n : NextPlace log.held later.held c.loop-next.next c.previous-next.result p =
-    next_block log later c.loop-next.next c.previous-next.result p c.read.result c.in-Some.is c.loop-next.invariant.there c.read.ensures.value c.read.ensures.same c.previous-next.ensures in
+    next_block log later c.loop-next.next c.previous-next.result p c.open.result c.in-Some.is c.loop-next.invariant.there c.open.ensures.value c.open.ensures.same c.previous-next.ensures in
     let longer : length (places_back log.held c.loop-next.next) ≡ length (p ∷ rest) = ap length n.places in
     let more : length c.push.new.self.items ≡ length (items ++ Some p ∷ []) = ap length c.push.ensures.items in
     let few = c.loop-next.invariant.few in
@@ -54,7 +54,7 @@ loop-next-preserved g c =
       places = ap (λ l. l ++ map Some rest) c.push.ensures.items ∙ append_assoc items (Some p ∷ []) (map Some rest) ∙ ap (λ l. items ++ map Some l) (sym n.places) ∙ c.loop-next.invariant.places;
       there = n.there;
       few = omega (arith, length-append items (Some p ∷ []));
-      same = c.read.ensures.same ∙ c.loop-next.invariant.same;
+      same = c.open.ensures.same ∙ c.loop-next.invariant.same;
     }
 
 pub returns-clause-places : goal.returns-clause-places

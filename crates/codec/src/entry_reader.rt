@@ -1,0 +1,177 @@
+ghost use Rattle.std.specs.Prelude.{◌≡◌, ℕ, ◌≤◌, ◌++◌, ◌==◌, List, [], ◌∷◌, length, drop, Some, None, IsSome, IfNone};
+ghost use Rattle.std.specs.List.{AllByRecursion};
+ghost use Rattle.std.specs.Option.{option_to_list};
+ghost use Rattle.codec.specs.Fields.{all_of};
+ghost use Rattle.codec.specs.Entry.{EntryFields, BeginsWith, entry_at, entry_length};
+ghost use Rattle.codec.specs.Journal.{JournalFields, journal_at};
+ghost use Rattle.codec.specs.Reader.{BeginsAt, entry_in, entries_in};
+
+use crate::entries::Entry;
+use crate::entry_reading::read_entry;
+use crate::fields::{read_long, read_slot};
+use arrayvec::ArrayVec;
+use s4_types::limits::{BLOCK_BYTES, JOURNAL_ENTRIES, JOURNAL_ENTRY_BYTES, SHORTEST_ENTRY_BYTES};
+use s4_types::{ObjectId, Ptr};
+use std::marker::Model;
+
+// Of a pointer that changed, in an entry.
+const TRIPLE_BYTES: usize = 17;
+
+// Where entries begin in a block, in the order of their bytes.
+type Starts = ArrayVec<u16, JOURNAL_ENTRIES>;
+
+/// How many bytes the entry has that the bytes begin with: its flags, its count of pointers and the lengths of its
+/// attributes tell it.
+fn front_bytes(bytes: &[u8]) -> usize
+    requires { IsSome (entry_at bytes.now) }
+    ensures { (entry : EntryFields) (rest : List ℕ) → BeginsWith bytes.now entry rest → result ≡ entry_length entry }
+{
+    let fixed = SHORTEST_ENTRY_BYTES + TRIPLE_BYTES * bytes[9] as usize;
+    if bytes[8] < 4 {
+        return fixed;
+    }
+    let before = bytes[34] as usize;
+    let after = bytes[35 + before] as usize;
+    fixed + (1 + before) + (1 + after)
+}
+
+/// What stands in a block from a byte on.
+fn bytes_from(block: &[u8], at: usize) -> &[u8]
+    requires { at ≤ length block.now }
+    ensures { result.now ≡ drop at block.now }
+{
+    let (_, rest) = block.split_at(at);
+    rest
+}
+
+/// Where the entries of a journal block begin.
+fn starts_of(block: &[u8]) -> Starts
+    requires { IsSome (all_of journal_at block.now) }
+    ensures entries { (j : JournalFields) → all_of journal_at block.now ≡ Some j → entries_in block.now result.items ≡ j.entries }
+    ensures there { AllByRecursion (BeginsAt block.now) result.items }
+    ensures some { 1 ≤ length result.items }
+{
+    let mut starts = Starts::new();
+    let mut at = BLOCK_BYTES - JOURNAL_ENTRY_BYTES;
+    let count = block[1];
+    for _ in 0..count {
+        starts.push(at as u16);
+        let rest = bytes_from(block, at);
+        at += front_bytes(rest);
+    }
+    starts
+}
+
+/// The object whose journal block it is, and where the one before stands.
+fn head_of(block: &[u8]) -> (ObjectId, Option<Ptr>)
+    requires { IsSome (all_of journal_at block.now) }
+    ensures object { (j : JournalFields) → all_of journal_at block.now ≡ Some j → result.0 ≡ j.object }
+    ensures previous { (j : JournalFields) → all_of journal_at block.now ≡ Some j → result.1 ≡ j.previous }
+{
+    let head = bytes_from(block, 8);
+    let Some((object, rest)) = read_long(head) else {
+        unreachable!()
+    };
+    let Some((previous, _)) = read_slot(rest) else {
+        unreachable!()
+    };
+    (ObjectId::new(object), previous)
+}
+
+/// The entry that begins at a byte of a block.
+fn entry_from(block: &[u8], start: u16) -> Entry
+    requires { BeginsAt block.now start }
+    ensures { entry_in block.now start ≡ result ∷ [] }
+{
+    let rest = bytes_from(block, start as usize);
+    let Some((entry, _)) = read_entry(rest) else {
+        unreachable!()
+    };
+    entry
+}
+
+/// A journal block whose entries are given from the last to the first. Contracts see the block without those that
+/// were given.
+///
+/// It keeps the block's bytes, and decodes an entry when it is asked for.
+#[derive(Debug, Drop)]
+pub struct EntryReader {
+    object: ObjectId,
+    previous: Option<Ptr>,
+    block: [u8; BLOCK_BYTES],
+    // Of the entries that were not given.
+    starts: Starts,
+}
+
+impl Model for EntryReader {
+    ghost use Rattle.std.specs.List.{AllByRecursion};
+    ghost use Rattle.codec.specs.Journal.{JournalFields};
+    ghost use Rattle.codec.specs.Reader.{BeginsAt, entries_in};
+
+    ghost Value = { JournalFields };
+
+    ghost view = { λ r. record { object = r.object; previous = r.previous; entries = entries_in r.block r.starts.items } };
+
+    ghost invariant = { λ r. AllByRecursion (BeginsAt r.block) r.starts.items };
+}
+
+impl EntryReader {
+    /// A reader that has nothing to give.
+    pub fn empty() -> Self
+        ensures { result ≡ record { object = 0; previous = None; entries = [] } }
+    {
+        EntryReader {
+            object: ObjectId::new(0),
+            previous: None,
+            block: [0; BLOCK_BYTES],
+            starts: Starts::new(),
+        }
+    }
+
+    /// A reader of all entries of a block that spells a journal block: 1 to 14.
+    pub fn new(block: [u8; BLOCK_BYTES]) -> Self
+        requires { IsSome (all_of journal_at block) }
+        ensures reads { all_of journal_at block ≡ Some result }
+        ensures some { 1 ≤ length result.entries }
+    {
+        let (object, previous) = head_of(&block);
+        let starts = starts_of(&block);
+        EntryReader {
+            object,
+            previous,
+            block,
+            starts,
+        }
+    }
+
+    pub fn object(&self) -> ObjectId
+        ensures { result ≡ self.now.object }
+    {
+        self.object
+    }
+
+    /// Where the object's previous journal block stands, if it has one.
+    pub fn previous(&self) -> Option<Ptr>
+        ensures { result ≡ self.now.previous }
+    {
+        self.previous
+    }
+
+    /// Whether all entries were given.
+    pub fn is_empty(&self) -> bool
+        ensures { result ≡ (length self.now.entries == 0) }
+    {
+        self.starts.is_empty()
+    }
+
+    /// The last entry that was not given. None where all were.
+    pub fn pop(&mut self) -> Option<Entry>
+        ensures entries { self.old.entries ≡ self.new.entries ++ option_to_list result }
+        ensures end { IfNone result (self.old.entries ≡ []) }
+        ensures object { self.new.object ≡ self.old.object }
+        ensures previous { self.new.previous ≡ self.old.previous }
+    {
+        let start = self.starts.pop()?;
+        Some(entry_from(&self.block, start))
+    }
+}
