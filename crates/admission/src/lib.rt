@@ -8,8 +8,6 @@
 
 mod checks;
 mod judgements;
-#[cfg(test)]
-mod tests;
 
 pub use checks::{check, check_read};
 pub use judgements::{check_clock, judge, object_of};

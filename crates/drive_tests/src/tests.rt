@@ -3,6 +3,7 @@ ghost use Rattle.std.specs.Prelude.{◌≡◌, ◌≤◌};
 ghost use Rattle.s4_types.specs.Sizes.{IsFrameCount};
 ghost use Rattle.s4_model.specs.State.{new_base};
 
+mod acts;
 mod asking;
 mod beside;
 mod dice;

@@ -13,6 +13,3 @@ mod plans;
 
 pub use inodes::{entries, inode_at};
 pub use plans::{Piece, PlanPiece, ReadPlan, plan};
-
-#[cfg(test)]
-mod tests;

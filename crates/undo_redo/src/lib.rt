@@ -17,6 +17,3 @@ pub use between::{Entries, entries_between};
 pub use composition::compose;
 pub use links::{blank, redo, redo_all, undo, undo_all};
 pub use sizes::{Sizes, entry_sizes};
-
-#[cfg(test)]
-mod tests;

@@ -9,7 +9,6 @@ pub mod Present
 pub mod Costing
 pub mod Turning
 pub mod Making
-pub mod Tables
 pub mod Sealing
 pub mod InPlace
 pub mod Checkpointing

@@ -1,9 +1,9 @@
 -- A store whose table has fewer places ahead and holds what it held.
-use Rattle.std.proofs.Common.{◌≡◌, ℕ, ◌+◌, ◌≤◌, List, [], ◌∷◌, ◌++◌, length, Option, None, refl, sym, ap, subst, ◌∙◌, arith, length-append}
+use Rattle.std.proofs.Common.{◌≡◌, ℕ, ◌+◌, ◌≤◌, List, [], ◌∷◌, ◌++◌, length, Option, refl, sym, ap, subst, ◌∙◌, arith, length-append}
 use Rattle.s4_types.specs.Pointer.{Place}
-use Rattle.block_log.specs.Log.{Log, Stored}
+use Rattle.block_log.specs.Log.{Stored}
 use Rattle.segment_table.specs.Table.{Table}
-use Rattle.segment_table.specs.Room.{is_filling, numbers, places, rest_of, places_ahead, new_places}
+use Rattle.segment_table.specs.Room.{is_filling, numbers, rest_of, places_ahead}
 use Rattle.segment_table.specs.Changes.{IsFilling, NoneIsFilling}
 use Rattle.object_map.specs.Rows.{row_of}
 use Rattle.version_store.specs.Store.{StoreFields, IsStore}
@@ -45,14 +45,3 @@ same_inodes s held ahead same o t = ap (λ (h : Place → Option Stored). inode_
 
 pub same_versions : (s : StoreFields) (held : Place → Option Stored) (ahead : List Place) → held ≡ s.log.held → (o t : ℕ) → version_in (over s held ahead) o t ≡ version_in s o t
 same_versions s held ahead same o t = ap (λ (h : Place → Option Stored). version_by h (inode_by h o t (row_of s.rows o))) same
-
--- ---- a new table, of the tests
-
-new_count : length (new_places 8) ≡ 120
-unfolding places
-new_count = refl
-
-pub few_places : (log : Log) → log ≡ record { held = λ p. None; ahead = new_places 8 } → length log.ahead ≤ 15360
-few_places log is =
-    let count : length log.ahead ≡ 120 = ap (λ (l : Log). length l.ahead) is ∙ new_count in
-    omega (arith, count)

@@ -11,8 +11,6 @@ mod costs;
 pub mod laws;
 mod named_table;
 mod store;
-#[cfg(test)]
-mod tests;
 
 pub use named_table::NamedTable;
 pub use store::{MOST_PLACES, Store};

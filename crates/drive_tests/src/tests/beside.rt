@@ -107,7 +107,10 @@ impl Scene for Beside {
         let mut plain = Plain::new(alloc, self.window);
         let full = self.ask_both(rt, &mut party, &mut plain)?;
         assert!(rt; full < self.requests / 2, "the drive was full {full} times");
-        assert_eq!(rt; self.is_small, 0 < full, "the drive was full {full} times");
+        assert!(rt;
+            self.is_small == (0 < full),
+            "the drive was full {full} times"
+        );
         let change = Ask::SetWindow(self.window);
         let Reply::Changed(last) = alike(rt, &mut party, &mut plain, Role::Admin, change)? else {
             return Err(Fail::from("the last change was refused"));

@@ -18,19 +18,21 @@ pub(super) trait Answering: Drop {
     fn reply_to(&mut self, role: Role, now: u64, asked: Ask) -> Result<Reply, Fail>;
 }
 
+/// Whether a row is answered as it says.
+pub(super) fn is_answered<D: Answering>(drive: &mut D, row: Row) -> Result<bool, Fail> {
+    let (role, now, asked, told) = row;
+    let reply = drive.reply_to(role, now, asked)?;
+    Ok(reply == reply_of(drive.alloc(), told)?)
+}
+
 /// Asks the rows one after another.
 pub(super) fn ask_rows<D: Answering>(
     rt: &impl Abort,
     drive: &mut D,
     rows: &[Row],
 ) -> Result<(), Fail> {
-    for (role, now, asked, told) in rows {
-        let reply = drive.reply_to(*role, *now, *asked)?;
-        assert_eq!(rt;
-            reply,
-            reply_of(drive.alloc(), *told)?,
-            "{asked:?} at {now}"
-        );
+    for row in rows {
+        assert!(rt; is_answered(drive, *row)?, "{row:?}");
     }
     Ok(())
 }

@@ -41,6 +41,17 @@ fn gives(alloc: Global, plan: ReadPlan, byte: u8, count: usize) -> Result<bool, 
     Ok(bytes.len() == count && bytes.iter().all(|given| *given == byte))
 }
 
+/// Whether a plan of all bytes at a moment gives this byte throughout.
+fn plan_gives<D: LogDrive>(
+    alloc: Global,
+    party: &mut Party<D>,
+    at: u64,
+    byte: u8,
+) -> Result<bool, Refusal> {
+    let plan = party.plan(1, 6656, at)?;
+    gives(alloc, plan, byte, 6656)
+}
+
 /// A plan is fetched after the bytes that it is of were replaced.
 #[derive(Drop)]
 struct Kept;
@@ -52,10 +63,9 @@ impl Scene for Kept {
         let plan = party.plan(1, 6656, 20)?;
         ask_rows(rt, &mut party, &REPLACED)?;
         assert!(rt; gives(alloc, plan, b'a', 6656)?, "as it was planned");
-        let plan = party.plan(1, 6656, 29)?;
-        assert!(rt; gives(alloc, plan, b'a', 6656)?, "before the change");
-        let plan = party.plan(1, 6656, 30)?;
-        assert!(rt; gives(alloc, plan, b'b', 6656)?, "after it");
+        for (at, byte) in [(29, b'a'), (30, b'b')] {
+            assert!(rt; plan_gives(alloc, &mut party, at, byte)?, "at {at}");
+        }
         Ok(())
     }
 }
@@ -65,6 +75,14 @@ fn a_plan_gives_what_was_there(rt: HostRuntime) -> Result<(), Fail> {
     play(&rt, rt.alloc(), 16, 100, Kept)
 }
 
+/// Objects, lengths and moments of plans, and what they are refused for.
+static REFUSED: [(u64, u32, u64, Refusal); 4] = [
+    (1, 24_577, 20, TooLarge),
+    (1, 1, 21, Future),
+    (1, 1, 9, NoObject),
+    (2, 1, 20, NoObject),
+];
+
 /// What a Read is refused for refuses its plan.
 #[derive(Drop)]
 struct Refused;
@@ -73,10 +91,10 @@ impl Scene for Refused {
     fn play<D: LogDrive, R: Abort>(self, rt: &R, alloc: Global, drive: D) -> Result<(), Fail> {
         let mut party = Party::new(alloc, drive)?;
         ask_rows(rt, &mut party, &SEALED)?;
-        assert!(rt; matches!(&party.plan(1, 24_577, 20), Err(TooLarge)));
-        assert!(rt; matches!(&party.plan(1, 1, 21), Err(Future)));
-        assert!(rt; matches!(&party.plan(1, 1, 9), Err(NoObject)));
-        assert!(rt; matches!(&party.plan(2, 1, 20), Err(NoObject)));
+        for (object, length, at, told) in REFUSED {
+            let refusal = party.plan(object, length, at).err();
+            assert!(rt; refusal == Some(told), "{object} {length} {at}");
+        }
         Ok(())
     }
 }

@@ -5,7 +5,7 @@ use crate::tests::{Scene, play};
 use drive::NewDrive;
 use s4_types::Refusal::{Busy, NoMemory, NotAdmin};
 use s4_types::Role::{Admin, Client};
-use s4_types::{Moment, Reply, Role};
+use s4_types::{Moment, Refusal, Role};
 use std::alloc::Global;
 use std::process::Abort;
 use std::test::Fail;
@@ -64,17 +64,18 @@ fn sixty_four_sessions(rt: HostRuntime) -> Result<(), Fail> {
     play(&rt, rt.alloc(), 8, 100, Crowd)
 }
 
-/// What a session that has met the drive is answered.
-fn reply_to<D: LogDrive>(
+/// Whether a session that has met the drive is answered as a row says.
+fn is_answered<D: LogDrive>(
     drive: &mut D,
     session: &mut D::Session,
     alloc: Global,
-    now: u64,
-    asked: Ask,
-) -> Result<Reply, Fail> {
+    row: Row,
+) -> Result<bool, Fail> {
+    let (_, now, asked, told) = row;
     drive.meet(session);
     let request = request_of(alloc, asked)?;
-    Ok(drive.ask(session, request, Moment::new(now)))
+    let reply = drive.ask(session, request, Moment::new(now));
+    Ok(reply == reply_of(alloc, told)?)
 }
 
 /// What two sessions of a client and one of an administrator ask in turn, by their numbers.
@@ -90,22 +91,42 @@ static TURNS: [(usize, Row); 9] = [
     (1, (Client, 2, Ask::ReadAt(1, 0, 9, 4), Told::Data(b"qr"))),
 ];
 
+/// Three sessions of a drive.
+#[derive(Drop)]
+struct Three<D: LogDrive> {
+    one: D::Session,
+    two: D::Session,
+    three: D::Session,
+}
+
+impl<D: LogDrive> Three<D> {
+    fn new(drive: &mut D) -> Result<Self, Refusal> {
+        Ok(Three {
+            one: drive.session(Client)?,
+            two: drive.session(Client)?,
+            three: drive.session(Admin)?,
+        })
+    }
+
+    fn session(&mut self, number: usize) -> &mut D::Session {
+        match number {
+            0 => &mut self.one,
+            1 => &mut self.two,
+            _ => &mut self.three,
+        }
+    }
+}
+
 #[derive(Drop)]
 struct InTurn;
 
 impl Scene for InTurn {
     fn play<D: LogDrive, R: Abort>(self, rt: &R, alloc: Global, drive: D) -> Result<(), Fail> {
         let mut drive = drive;
-        let mut one = drive.session(Client)?;
-        let mut two = drive.session(Client)?;
-        let mut three = drive.session(Admin)?;
-        for (who, (_, now, asked, told)) in &TURNS {
-            let reply = match *who {
-                0 => reply_to(&mut drive, &mut one, alloc, *now, *asked)?,
-                1 => reply_to(&mut drive, &mut two, alloc, *now, *asked)?,
-                _ => reply_to(&mut drive, &mut three, alloc, *now, *asked)?,
-            };
-            assert_eq!(rt; reply, reply_of(alloc, *told)?, "{asked:?}");
+        let mut sessions = Three::new(&mut drive)?;
+        for (who, row) in &TURNS {
+            let answered = is_answered(&mut drive, sessions.session(*who), alloc, *row)?;
+            assert!(rt; answered, "{row:?}");
         }
         Ok(())
     }
@@ -116,25 +137,41 @@ fn sessions_in_turn(rt: HostRuntime) -> Result<(), Fail> {
     play(&rt, rt.alloc(), 8, 100, InTurn)
 }
 
+/// What the session that stays asks beside the other one, what that one asks, and what is asked once it has ended.
+static ENDING: [Row; 3] = [
+    (Client, 1, Ask::Create(b""), Told::Created(1, 1)),
+    (Client, 1, Ask::Create(b""), Told::Created(2, 2)),
+    (Client, 2, Ask::Append(2, b"z"), Told::Changed(3)),
+];
+
 /// A session that ends beside another gives its seat back, and the other one goes on as before.
 #[derive(Drop)]
 struct Ending;
+
+impl Ending {
+    /// Two sessions for which the last seats are left, and the one of them that stays.
+    fn stays<D: LogDrive>(
+        rt: &impl Abort,
+        drive: &mut D,
+        alloc: Global,
+    ) -> Result<D::Session, Fail> {
+        let mut stays = drive.session(Client)?;
+        let mut ends = drive.session(Client)?;
+        assert!(rt; is_answered(drive, &mut stays, alloc, ENDING[0])?);
+        assert!(rt; is_answered(drive, &mut ends, alloc, ENDING[1])?);
+        assert!(rt; is_busy(drive, Client));
+        drive.end_beside(&mut stays, ends);
+        Ok(stays)
+    }
+}
 
 impl Scene for Ending {
     fn play<D: LogDrive, R: Abort>(self, rt: &R, alloc: Global, drive: D) -> Result<(), Fail> {
         let mut drive = drive;
         let sessions = clients(alloc, &mut drive, 62)?;
-        let mut stays = drive.session(Client)?;
-        let mut ends = drive.session(Client)?;
-        let one = reply_to(&mut drive, &mut stays, alloc, 1, Ask::Create(b""))?;
-        assert!(rt; one == reply_of(alloc, Told::Created(1, 1))?);
-        let two = reply_to(&mut drive, &mut ends, alloc, 1, Ask::Create(b""))?;
-        assert!(rt; two == reply_of(alloc, Told::Created(2, 2))?);
-        assert!(rt; is_busy(&mut drive, Client));
-        drive.end_beside(&mut stays, ends);
+        let mut stays = Ending::stays(rt, &mut drive, alloc)?;
         assert!(rt; drive.session(Admin).is_ok());
-        let reply = reply_to(&mut drive, &mut stays, alloc, 2, Ask::Append(2, b"z"))?;
-        assert!(rt; reply == reply_of(alloc, Told::Changed(3))?);
+        assert!(rt; is_answered(&mut drive, &mut stays, alloc, ENDING[2])?);
         drop(sessions);
         Ok(())
     }

@@ -1,54 +1,69 @@
 //! Versions of a list of changes.
-use crate::tests::asking::text;
+use crate::tests::asking::{Ask, text};
 use s4_model::version_at;
-use s4_types::{Accepted, Bytes, Change, Moment, ObjectId, Version};
+use s4_types::{Accepted, Change, Moment, ObjectId, Version};
 use std::alloc::Global;
 use std::test::Fail;
 
-fn push(changes: &mut Vec<Accepted>, moment: u64, change: Change) -> Result<(), Fail> {
-    let number = u64::try_from(changes.len())?.saturating_add(1);
-    changes.push(Accepted {
-        number,
-        moment: Moment::new(moment),
-        change,
-    })?;
-    Ok(())
-}
-
-fn create(alloc: Global, object: ObjectId) -> Result<Change, Fail> {
-    Ok(Change::Create {
-        object,
-        attribute: text(alloc, b"k")?,
-    })
-}
-
-fn write(alloc: Global, object: ObjectId, offset: u64, bytes: &[u8]) -> Result<Change, Fail> {
-    Ok(Change::Write {
-        object,
-        offset,
-        bytes: text(alloc, bytes)?,
-    })
-}
-
 /// Object 1 made at 10, written at 11 and 14, cut at 16, named anew at 18, deleted at 19; object 2 made at
 /// 12 and written at 13; a flush at 15 and a window at 17, which are of no object.
+static CHANGES: [(u64, u64, Ask); 10] = [
+    (10, 1, Ask::Create(b"k")),
+    (11, 1, Ask::Write(1, 2, b"abc")),
+    (12, 2, Ask::Create(b"k")),
+    (13, 2, Ask::Write(2, 2, b"abc")),
+    (14, 1, Ask::Write(1, 3, b"Z")),
+    (15, 0, Ask::Flush(0, 9)),
+    (16, 1, Ask::Truncate(1, 4)),
+    (17, 0, Ask::SetWindow(1)),
+    (18, 1, Ask::SetAttr(1, b"")),
+    (19, 1, Ask::Delete(1)),
+];
+
+/// What a request changes of an object; of one that changes nothing, a deletion.
+fn change_of(alloc: Global, object: u64, asked: Ask) -> Result<Change, Fail> {
+    let object = ObjectId::new(object);
+    let change = match asked {
+        Ask::Create(attribute) => {
+            let attribute = text(alloc, attribute)?;
+            Change::Create { object, attribute }
+        }
+        Ask::Write(_, offset, bytes) => {
+            let bytes = text(alloc, bytes)?;
+            Change::Write {
+                object,
+                offset,
+                bytes,
+            }
+        }
+        Ask::SetAttr(_, attribute) => {
+            let attribute = text(alloc, attribute)?;
+            Change::SetAttr { object, attribute }
+        }
+        Ask::Truncate(_, size) => Change::Truncate { object, size },
+        Ask::SetWindow(window) => Change::SetWindow { window },
+        Ask::Flush(first, last) => Change::Flush {
+            first: Moment::new(first),
+            last: Moment::new(last),
+        },
+        _ => Change::Delete { object },
+    };
+    Ok(change)
+}
+
+/// The changes, numbered from 1 on.
 fn changes(alloc: Global) -> Result<Vec<Accepted>, Fail> {
-    let object = ObjectId::new(1);
-    let other = ObjectId::new(2);
     let mut changes = Vec::new(alloc);
-    push(&mut changes, 10, create(alloc, object)?)?;
-    push(&mut changes, 11, write(alloc, object, 2, b"abc")?)?;
-    push(&mut changes, 12, create(alloc, other)?)?;
-    push(&mut changes, 13, write(alloc, other, 2, b"abc")?)?;
-    push(&mut changes, 14, write(alloc, object, 3, b"Z")?)?;
-    let first = Moment::new(0);
-    let last = Moment::new(9);
-    push(&mut changes, 15, Change::Flush { first, last })?;
-    push(&mut changes, 16, Change::Truncate { object, size: 4 })?;
-    push(&mut changes, 17, Change::SetWindow { window: 1 })?;
-    let attribute = Bytes::empty(alloc);
-    push(&mut changes, 18, Change::SetAttr { object, attribute })?;
-    push(&mut changes, 19, Change::Delete { object })?;
+    let mut number = 0u64;
+    for (moment, object, asked) in CHANGES {
+        number = number.saturating_add(1);
+        let change = change_of(alloc, object, asked)?;
+        changes.push(Accepted {
+            number,
+            moment: Moment::new(moment),
+            change,
+        })?;
+    }
     Ok(changes)
 }
 
@@ -74,21 +89,28 @@ const VERSIONS: [(u64, u64, Expected); 16] = [
     (3, 19, None),
 ];
 
+/// The version that is expected.
+fn version_of(alloc: Global, expected: Expected) -> Result<Version, Fail> {
+    let Some((bytes, attribute, created, changed)) = expected else {
+        return Ok(Version::Absent);
+    };
+    Ok(Version::Live {
+        bytes: text(alloc, bytes)?,
+        attribute: text(alloc, attribute)?,
+        created: Moment::new(created),
+        changed: Moment::new(changed),
+    })
+}
+
 #[test]
 fn versions(rt: HostRuntime) -> Result<(), Fail> {
     let changes = changes(rt.alloc())?;
     for (object, at, expected) in VERSIONS {
         let version = version_at(rt.alloc(), &changes, ObjectId::new(object), Moment::new(at))?;
-        let expected = match expected {
-            None => Version::Absent,
-            Some((bytes, attribute, created, changed)) => Version::Live {
-                bytes: text(rt.alloc(), bytes)?,
-                attribute: text(rt.alloc(), attribute)?,
-                created: Moment::new(created),
-                changed: Moment::new(changed),
-            },
-        };
-        assert_eq!(rt; version, expected, "{object} at {at}");
+        assert!(rt;
+            version == version_of(rt.alloc(), expected)?,
+            "{object} at {at}"
+        );
     }
     Ok(())
 }

@@ -39,7 +39,7 @@ fn begun<B: Blocks>(table: &B) -> Row
 }
 
 /// Whether an entry can tell an inode's status as the earlier one.
-fn can_be_earlier(inode: &Inode) -> bool
+pub(super) fn can_be_earlier(inode: &Inode) -> bool
     ensures size { result ≡ true → inode.now.size ≤ 24576 }
     ensures nothing { result ≡ true → inode.now.alive ≡ false → (inode.now.size ≡ 0) × (inode.now.changed ≡ 0) }
     ensures count { result ≡ true → length inode.now.pointers ≡ 48 }
@@ -126,9 +126,11 @@ fn size_at<B: Blocks>(alloc: Global, table: &mut B, row: &Row, at: u64) -> Resul
 fn a_change_is_told_from_its_moment_on(rt: HostRuntime) -> Result<(), Fail> {
     let mut table = Plain::new();
     let none = begun(&table);
+    assert!(rt; size_at(rt.alloc(), &mut table, &none, 10)? == None);
     let first = resized(rt.alloc(), &mut table, &none, 10, 0)?;
     let second = resized(rt.alloc(), &mut table, &first, 11, 3)?;
     let third = resized(rt.alloc(), &mut table, &second, 12, 5)?;
+    assert!(rt; size_at(rt.alloc(), &mut table, &third, 0)? == None);
     assert!(rt; size_at(rt.alloc(), &mut table, &third, 9)? == None);
     assert!(rt; size_at(rt.alloc(), &mut table, &third, 10)? == Some(0));
     assert!(rt; size_at(rt.alloc(), &mut table, &third, 11)? == Some(3));

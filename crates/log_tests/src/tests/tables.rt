@@ -1,5 +1,6 @@
 //! Segment tables of the tests, and what their blocks hold.
 ghost use Rattle.std.specs.Prelude.{◌≡◌, ◌<◌, ◌≤◌, None, IfOk};
+ghost use Rattle.s4_types.specs.Sizes.{IsFrameCount};
 ghost use Rattle.s4_types.specs.Pointer.{Place};
 ghost use Rattle.segment_word.specs.Counting.{pins_in};
 
@@ -11,7 +12,7 @@ use std::alloc::Global;
 
 /// The table of a new drive, which holds nothing. It is made once more where memory was refused: one allocation alone is.
 pub(super) fn new_table(alloc: Global, frames: usize) -> Result<SegmentTable, Refusal>
-    requires { (8 ≤ frames) × (frames ≤ 1024) }
+    requires { IsFrameCount frames }
     ensures { IfOk result (λ t. (p : Place) → (⟦<SegmentTable as Blocks>⟧.log t).held p ≡ None) }
 {
     match SegmentTable::new(alloc, frames) {
