@@ -2,9 +2,9 @@
 use crate::tests::asking::{Ask, Row, Told};
 use crate::tests::drives::{LogDrive, Party, ask_rows};
 use crate::tests::{Scene, play};
+use s4_types::ObjectId;
 use s4_types::Refusal::{NoObject, NoSpace};
 use s4_types::Role::{Admin, Client};
-use s4_types::{ObjectId, Refusal};
 use std::alloc::Global;
 use std::process::Abort;
 use std::test::Fail;
@@ -104,20 +104,14 @@ fn row_of<D: LogDrive>(drive: &D, object: u64) -> Option<(u64, u16, bool, bool)>
 }
 
 /// Of an object's inode at a moment: whether it is alive, its size, and whether its first three blocks are there.
-fn inode_of<D: LogDrive>(
-    drive: &mut D,
-    object: u64,
-    at: u64,
-) -> Result<Option<(bool, u32, [bool; 3])>, Refusal> {
-    let Some(inode) = drive.inode_at(object, at)? else {
-        return Ok(None);
-    };
+fn inode_of<D: LogDrive>(drive: &mut D, object: u64, at: u64) -> Option<(bool, u32, [bool; 3])> {
+    let inode = drive.inode_at(object, at)?;
     let there = [
         inode.pointers[0].is_some(),
         inode.pointers[1].is_some(),
         inode.pointers[2].is_some(),
     ];
-    Ok(Some((inode.alive, inode.size, there)))
+    Some((inode.alive, inode.size, there))
 }
 
 #[derive(Drop)]
@@ -136,14 +130,13 @@ impl Looks {
         assert!(rt; row_of(drive, 0).is_none() && row_of(drive, 4).is_none());
     }
 
-    fn inodes<D: LogDrive>(rt: &impl Abort, drive: &mut D) -> Result<(), Fail> {
+    fn inodes<D: LogDrive>(rt: &impl Abort, drive: &mut D) {
         for (at, alive, size, has_third) in &INODES {
             let told = Some((*alive, *size, [false, false, *has_third]));
-            assert_eq!(rt; inode_of(drive, 1, *at)?, told, "at {at}");
+            assert_eq!(rt; inode_of(drive, 1, *at), told, "at {at}");
         }
-        assert!(rt; matches!(inode_of(drive, 2, 8)?, Some((false, ..))));
-        assert!(rt; inode_of(drive, 4, 8)?.is_none());
-        Ok(())
+        assert!(rt; matches!(inode_of(drive, 2, 8), Some((false, ..))));
+        assert!(rt; inode_of(drive, 4, 8).is_none());
     }
 
     fn moments<D: LogDrive>(rt: &impl Abort, drive: &D) {
@@ -160,7 +153,7 @@ impl Scene for Looks {
         ask_rows(rt, &mut party, OBJECTS.as_slice())?;
         party.drive.rules();
         Looks::rows(rt, &party.drive);
-        Looks::inodes(rt, &mut party.drive)?;
+        Looks::inodes(rt, &mut party.drive);
         Looks::moments(rt, &party.drive);
         Ok(())
     }

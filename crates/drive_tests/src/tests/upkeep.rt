@@ -213,10 +213,10 @@ impl Scene for Written {
         let mut party = Party::new(alloc, drive)?;
         for (asked, moment) in &CHANGES {
             party.reply_to(Client, *moment, *asked)?;
-            let before = party.drive.inode_at(1, *moment)?;
+            let before = party.drive.inode_at(1, *moment);
             party.drive.checkpoint(1)?;
             assert_eq!(rt; checkpoint_moment(&party.drive, 1), Some(*moment));
-            let after = party.drive.inode_at(1, *moment)?;
+            let after = party.drive.inode_at(1, *moment);
             assert!(rt; before == after, "at {moment}");
         }
         Ok(())
