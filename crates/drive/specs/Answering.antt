@@ -95,10 +95,6 @@ size_by (Some i) = if i.alive then Some i.size else None
 abbrev pub telling_refusal : State → ℕ → ℕ → Option Refusal
 telling_refusal s o t = or_then (moment_refusal s o t) (if is_absent (version_of s o t) then Some NoObject else None)
 
--- a moment of an object isn't read: for want of memory where it could be, or for what refuses it
-abbrev pub IsUntold : State → ℕ → ℕ → Refusal → Type 0
-IsUntold s o t refusal = ((refusal ≡ NoMemory) × (moment_refusal s o t ≡ None)) ⊎ (telling_refusal s o t ≡ Some refusal)
-
 -- the reply that a plan of a read stands for: the bytes that it names, or its refusal
 abbrev pub reply_planned : Result PlanFields Refusal → Reply
 reply_planned (Ok plan) = Data (bytes_planned plan)

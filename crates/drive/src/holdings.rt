@@ -69,14 +69,11 @@ impl<J: Naming> Drive<J> {
         self.window.sees(object, first, last)
     }
 
-    /// The inode of an object at a moment, and none where it has no row. A moment before the drive's last change, of whatever
-    /// object, takes one walk of this object's journal; any other takes none.
-    ///
-    /// NoMemory alone, of a moment before the drive's last change, where the memory for the journal's entries is refused.
-    pub fn inode_at(&mut self, object: ObjectId, at: Moment) -> Result<Option<Inode>, Refusal>
-        ensures inode { IfOk result (λ inode. inode ≡ inode_in (store_of self.old) object at) }
-        ensures refusal { IfErr result (λ e. e ≡ NoMemory) }
-        ensures memory { IfErr result (λ _. at < self.old.store.latest) }
+    /// The inode of an object at a moment, and none where it has no row. For a moment before the drive's last change, of
+    /// whatever object, this object's journal is walked from its newest entry back to the first that isn't later; for any
+    /// other no block is read.
+    pub fn inode_at(&mut self, object: ObjectId, at: Moment) -> Option<Inode>
+        ensures inode { result ≡ inode_in (store_of self.old) object at }
         ensures ledger { self.new.ledger ≡ self.old.ledger }
         ensures store { store_of self.new ≡ store_of self.old }
     {

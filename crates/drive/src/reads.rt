@@ -14,7 +14,7 @@ ghost use Rattle.version_store.specs.Versions.{inode_in};
 ghost use Rattle.drive.specs.Fields.{state_in, store_of};
 ghost use Rattle.time_read.specs.Plans.{bytes_planned};
 ghost use Rattle.drive.specs.Refusing.{IsJudgedOut, IsUnplanned};
-ghost use Rattle.drive.specs.Answering.{IsRead, IsUntold, IsPlanOf, telling_refusal};
+ghost use Rattle.drive.specs.Answering.{IsRead, IsPlanOf, telling_refusal};
 
 use crate::drive::Drive;
 use admission::check;
@@ -48,18 +48,18 @@ impl<J: Naming> Drive<J> {
         at.unwrap_or(self.window.clock())
     }
 
-    /// The inode of an object at a moment, where that can be read and the object is there. A moment before the drive's last
-    /// change, of whatever object, takes one walk of this object's journal.
+    /// The inode of an object at a moment, where that can be read and the object is there. For a moment before the drive's last
+    /// change, of whatever object, this object's journal is walked back to the first entry that isn't later.
     fn live_inode(&mut self, object: ObjectId, at: Moment) -> Result<Inode, Refusal>
         ensures ledger { self.new.ledger ≡ self.old.ledger }
         ensures store { store_of self.new ≡ store_of self.old }
         ensures free { OnOk result (telling_refusal (state_in self.old) object at ≡ None) }
         ensures inode { IfOk result (λ inode. inode_in (store_of self.old) object at ≡ Some inode) }
         ensures version { IfOk result (λ inode. version_of (state_in self.old) object at ≡ Live (bytes_of (contents_of (store_of self.old).log.held) inode) inode.attribute inode.created inode.changed) }
-        ensures refused { IfErr result (IsUntold (state_in self.old) object at) }
+        ensures refused { IfErr result (λ e. telling_refusal (state_in self.old) object at ≡ Some e) }
     {
         self.window.visible(object, at)?;
-        let Some(inode) = self.store.inode_at(object, at)? else {
+        let Some(inode) = self.store.inode_at(object, at) else {
             return Err(Refusal::NoObject);
         };
         if !inode.alive {

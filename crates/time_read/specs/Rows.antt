@@ -7,7 +7,7 @@ use Rattle.codec.specs.Fields.{◌>>=◌}
 use Rattle.codec.specs.declared.inodes.Inode.{Inode}
 use Rattle.codec.specs.Entry.{EntryFields}
 use Rattle.codec.specs.Checkpoint.{CheckpointFields}
-use Rattle.undo_redo.specs.Runs.{Run, blank, undone_all, entries_by, inode_after}
+use Rattle.undo_redo.specs.Runs.{Run, blank, redone_all, undone_all, entries_by, inode_after}
 use Rattle.undo_redo.specs.Groups.{grouped}
 use Rattle.checkpoint.specs.Held.{checkpoint_held}
 use Rattle.object_map.specs.declared.map.Row.{Row}
@@ -39,6 +39,10 @@ first_of held o row = inode_before row.created row.checkpoint_moment (entries_of
 -- moment are done.
 unfoldable pub inode_of : (Place → Option Stored) → ℕ → Row → ℕ → Inode
 inode_of held o row t = inode_after (first_of held o row) (entries_of held o row) t
+
+-- The inode behind all entries of an object: its present one.
+abbrev pub last_inode : (Place → Option Stored) → ℕ → Row → Inode
+last_inode held o row = redone_all (entries_of held o row) (first_of held o row)
 
 -- The blocks of an object are as its row tells. Its chain is held; the entries lead from the first inode to a last one,
 -- and their moments don't descend. Where the row names a checkpoint, that tells the inode which is current at the

@@ -1,31 +1,23 @@
 //! An object's journal entries, and its inode at a moment.
-ghost use Rattle.std.specs.Prelude.{◌≡◌, IsSome, IfSome, IfOk, IfErr};
+ghost use Rattle.std.specs.Prelude.{◌≡◌, ◌++◌, true, [], ◌∷◌, IsSome, IfSome, IfNone, IfOk, IfErr};
 ghost use Rattle.s4_types.specs.declared.refusals.Refusal.TheVariants.{NoMemory};
-ghost use Rattle.checkpoint.specs.Held.{checkpoint_held};
-ghost use Rattle.time_read.specs.Rows.{IsRow, entries_of, inode_of};
+ghost use Rattle.codec.specs.declared.inodes.Inode.{Inode as InodeFields};
+ghost use Rattle.undo_redo.specs.Runs.{Run, AllPast, inode_after};
+ghost use Rattle.undo_redo.specs.Groups.{grouped};
+ghost use Rattle.journal_chain.specs.Back.{entries_left, left};
+ghost use Rattle.time_read.specs.Rows.{IsRow, entries_of, inode_of, last_inode};
 
-use crate::moves::{lead, lead_from_start};
 use block_log::Blocks;
-use checkpoint::read_checkpoint;
 use codec::{Entry, Inode};
-use journal_chain::Chain;
 use journal_chain::packing::laws::packing_keeps_the_rule;
+use journal_chain::{Chain, EntriesBack};
 use object_map::Row;
-use s4_types::{Moment, ObjectId, Ptr, Refusal};
+use s4_types::{Moment, ObjectId, Refusal};
 use std::alloc::Global;
-use undo_redo::blank;
-use undo_redo::laws::groups_join_and_part;
-
-/// The inode that an object's checkpoint tells.
-#[tactic(auto, using(crate::proofs::Reading::is_there))]
-fn checkpoint_inode<B: Blocks>(table: &mut B, object: ObjectId, place: Ptr) -> Inode
-    requires { IsSome (checkpoint_held (B.log table.old).held object place) }
-    ensures inode { IfSome (checkpoint_held (B.log table.old).held object place) (λ c. result ≡ c.inode) }
-    ensures same { B.log table.new ≡ B.log table.old }
-{
-    let checkpoint = read_checkpoint(table, object, place).unwrap();
-    *checkpoint.inode()
-}
+use undo_redo::laws::{
+    a_run_has_one_end_and_one_beginning, groups_join_and_part, the_last_entry_is_undone_or_stays,
+};
+use undo_redo::undo;
 
 /// All journal entries of an object, the oldest first.
 ///
@@ -47,32 +39,59 @@ pub fn entries<B: Blocks>(
     chain.entries(alloc, table)
 }
 
-/// The inode of an object that is current at a moment: all changes up to the moment are in it, and none behind.
-///
-/// It takes one walk of the object's journal. NoMemory alone, where the memory for the journal's entries is refused.
-#[tactic(auto, using(crate::proofs::Reading::few_bytes, crate::proofs::Reading::few_in_head, crate::proofs::Reading::chain_is_there, crate::proofs::Reading::ascend, crate::proofs::Reading::is_checkpoint))]
-pub fn inode_at<B: Blocks>(
-    alloc: Global,
-    table: &mut B,
-    object: ObjectId,
-    row: &Row,
-    at: Moment,
-) -> Result<Inode, Refusal>
-    requires { IsRow (B.log table.old).held object row.now }
-    ensures inode { IfOk result (λ inode. inode ≡ inode_of (B.log table.old).held object row.now at) }
-    ensures refusal { IfErr result (λ e. e ≡ NoMemory) }
+/// The newest entry that a reader has not given, where it is later than a moment.
+fn next_past<B: Blocks>(back: &mut EntriesBack, table: &mut B, at: Moment) -> Option<Entry>
+    requires there { IsSome (entries_left (B.log table.old).held back.old) }
+    requires groups { grouped (left (B.log table.old).held back.old) ≡ true }
+    ensures gives { IfSome result (λ e. (left (B.log table.old).held back.old ≡ left (B.log table.new).held back.new ++ e ∷ []) × AllPast at (e ∷ [])) }
+    ensures end { IfNone result ((first last : InodeFields) → Run first (left (B.log table.old).held back.old) last → inode_after first (left (B.log table.old).held back.old) at ≡ last) }
+    ensures there { IsSome (entries_left (B.log table.new).held back.new) }
     ensures same { B.log table.new ≡ B.log table.old }
 {
     groups_join_and_part();
+    the_last_entry_is_undone_or_stays();
+    let entry = back.next(table)?;
+    if entry.moment() <= at {
+        return None;
+    }
+    Some(entry)
+}
+
+/// Undoes the entries that a reader has not given and that are later than a moment, the newest first.
+fn undo_past<B: Blocks>(back: &mut EntriesBack, table: &mut B, at: Moment, inode: &mut Inode)
+    requires there { IsSome (entries_left (B.log table.old).held back.old) }
+    requires groups { grouped (left (B.log table.old).held back.old) ≡ true }
+    ensures inode { (first : InodeFields) → Run first (left (B.log table.old).held back.old) inode.old → inode.new ≡ inode_after first (left (B.log table.old).held back.old) at }
+    ensures same { B.log table.new ≡ B.log table.old }
+{
+    groups_join_and_part();
+    the_last_entry_is_undone_or_stays();
+    while let Some(entry) = next_past(back, table, at) {
+        undo(&entry, inode);
+    }
+}
+
+/// The inode of an object that is current at a moment: all changes up to the moment are in it, and none behind.
+///
+/// It is led to from the present one, which all entries have made: those later than the moment are undone, the newest
+/// first. No block behind the first entry that isn't later is read, and no memory is taken.
+pub fn inode_at<B: Blocks>(
+    table: &mut B,
+    object: ObjectId,
+    row: &Row,
+    present: &Inode,
+    at: Moment,
+) -> Inode
+    requires row { IsRow (B.log table.old).held object row.now }
+    requires present { present.now ≡ last_inode (B.log table.old).held object row.now }
+    ensures inode { result ≡ inode_of (B.log table.old).held object row.now at }
+    ensures same { B.log table.new ≡ B.log table.old }
+{
     packing_keeps_the_rule();
+    a_run_has_one_end_and_one_beginning();
     let chain = Chain::of(object, row.head, row.journal_bytes, row.head_bytes);
-    let entries = chain.entries(alloc, table)?;
-    let Some(place) = row.checkpoint else {
-        let mut inode = blank(row.created);
-        lead_from_start(&entries, at, &mut inode);
-        return Ok(inode);
-    };
-    let mut inode = checkpoint_inode(table, object, place);
-    lead(&entries, row.checkpoint_moment, at, &mut inode);
-    Ok(inode)
+    let mut back = chain.entries_back();
+    let mut inode = *present;
+    undo_past(&mut back, table, at, &mut inode);
+    inode
 }

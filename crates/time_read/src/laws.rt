@@ -5,9 +5,11 @@ ghost use Rattle.block_log.specs.declared.kinds.BlockKind.TheVariants.{Journal, 
 ghost use Rattle.block_log.specs.Log.{Stored, of_kind};
 ghost use Rattle.journal_chain.specs.Chain.{chain_entries};
 ghost use Rattle.object_map.specs.declared.map.Row.{Row};
-ghost use Rattle.time_read.specs.Rows.{IsRow, inode_of};
+ghost use Rattle.undo_redo.specs.Runs.{AllBy};
+ghost use Rattle.time_read.specs.Rows.{IsRow, entries_of, inode_of, last_inode};
 
 use journal_chain::packing::laws::packing_keeps_the_rule;
+use undo_redo::laws::the_inode_at_a_moment;
 
 /// A row is a matter of its object's journal blocks and checkpoints alone: where those are the same, it stands as
 /// before, and the inode at each moment is the same.
@@ -20,6 +22,14 @@ pub fn a_row_is_its_own_blocks()
         → of_kind Journal o later ≡ of_kind Journal o held → of_kind Checkpoint o later ≡ of_kind Checkpoint o held
         → inode_of later o row t ≡ inode_of held o row t }
 {}
+
+/// From the moment of its last entry on, an object's inode is the one behind all entries.
+#[tactic(auto, using(crate::proofs::Reading::is_inode_of))]
+pub fn the_last_inode_is_current()
+    ensures { (held : Place → Option Stored) (o t : ℕ) (row : Row) → AllBy t (entries_of held o row) → inode_of held o row t ≡ last_inode held o row }
+{
+    the_inode_at_a_moment();
+}
 
 /// A row tells a journal that can be read: at most 11,712 bytes of entries, at most 488 of them in the newest block, and each of
 /// its blocks is held.

@@ -1,5 +1,5 @@
-//! The inode of an object that is current at a moment, from the object's row: its checkpoint, and the entries of its
-//! journal. And plans of reads: made over the table, and fetched without it.
+//! The inode of an object that is current at a moment, from its present one and the entries of its journal. And plans of
+//! reads: made over the table, and fetched without it.
 //!
 //! The layers above may rely on this: what is told of an object depends on its own journal blocks and checkpoints alone, and
 //! nothing in the log changes. A plan gives the bytes that its inode had over the table when it was made, whatever becomes of
@@ -8,7 +8,6 @@
 
 mod inodes;
 pub mod laws;
-mod moves;
 mod plans;
 
 pub use inodes::{entries, inode_at};

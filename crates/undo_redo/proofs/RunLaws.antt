@@ -5,6 +5,7 @@ use Rattle.std.proofs.lemmas.List.Elements.{filter-append}
 use Rattle.std.proofs.lemmas.Bool.{cases_Bool, and_parts, leb-true, leb-false, le-leb, lt-leb}
 use Rattle.codec.specs.declared.inodes.Inode.{Inode}
 use Rattle.codec.specs.Entry.{EntryFields}
+use Rattle.undo_redo.specs.Linked.{Linked}
 use Rattle.undo_redo.specs.Redone.{redone, undone}
 use Rattle.undo_redo.specs.Runs.{Run, redone_all, undone_all, is_by, entries_by, entries_past, inode_after, AllBy, AllPast, ascend_from}
 use Rattle.undo_redo.proofs.LinkLaws.{is_redone, is_undone}
@@ -100,3 +101,34 @@ by_and_past (e ∷ entries) low t h =
 
 pub run_at : (i k : Inode) (entries : List EntryFields) (low t : ℕ) → ascend_from low entries ≡ true → Run i entries k → Run i (entries_by t entries) (inode_after i entries t) × Run (inode_after i entries t) (entries_past t entries) k
 run_at i k entries low t h r = run_part i k (entries_by t entries) (entries_past t entries) (subst (λ (es : List EntryFields). Run i es k) (by_and_past entries low t h) r)
+
+-- ---- the last entry
+
+-- a run without its last entry ends with that entry undone
+undone_last : (i k : Inode) (front : List EntryFields) (e : EntryFields) → Run i (front ++ e ∷ []) k → Run i front (undone e k)
+undone_last i k front e r =
+    let parts = run_part i k front (e ∷ []) r in
+    let before : Inode = redone_all front i in
+    let linked : Linked before e k = subst (λ (j : Inode). Linked before e j) parts.1.2 parts.1.1 in
+    subst (λ (j : Inode). Run i front j) (is_undone before k e linked) parts.0
+
+pub last_undone : (i k : Inode) (front : List EntryFields) (e : EntryFields) (t : ℕ) → AllPast t (e ∷ []) → Run i (front ++ e ∷ []) k → Run i front (undone e k) × (inode_after i (front ++ e ∷ []) t ≡ inode_after i front t)
+last_undone i k front e t past r = (undone_last i k front e r, later_nothing i front (e ∷ []) t past)
+
+below_last : (front : List EntryFields) (e : EntryFields) (low : ℕ) → ascend_from low (front ++ e ∷ []) ≡ true → low ≤ e.moment
+below_last [] e low h = leb-true low e.moment (and_parts (leb low e.moment) true h).0
+below_last (f ∷ front) e low h =
+    let parts = and_parts (leb low f.moment) (ascend_from f.moment (front ++ e ∷ [])) h in
+    let first : low ≤ f.moment = leb-true low f.moment parts.0 in
+    let rest : f.moment ≤ e.moment = below_last front e f.moment parts.1 in
+    omega (arith, first, rest)
+
+all_by_last : (front : List EntryFields) (e : EntryFields) (low t : ℕ) → ascend_from low (front ++ e ∷ []) ≡ true → e.moment ≤ t → AllBy t (front ++ e ∷ [])
+all_by_last [] e low t h le = (le-leb e.moment t le, tt)
+all_by_last (f ∷ front) e low t h le =
+    let parts = and_parts (leb low f.moment) (ascend_from f.moment (front ++ e ∷ [])) h in
+    let rest : f.moment ≤ e.moment = below_last front e f.moment parts.1 in
+    (le-leb f.moment t (omega (arith, rest, le)), all_by_last front e f.moment t parts.1 le)
+
+pub last_stays : (i k : Inode) (front : List EntryFields) (e : EntryFields) (low t : ℕ) → ascend_from low (front ++ e ∷ []) ≡ true → e.moment ≤ t → Run i (front ++ e ∷ []) k → inode_after i (front ++ e ∷ []) t ≡ k
+last_stays i k front e low t h le r = all_done i (front ++ e ∷ []) t (all_by_last front e low t h le) ∙ sym (run_end i k (front ++ e ∷ []) r)

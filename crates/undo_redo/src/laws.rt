@@ -1,6 +1,6 @@
 //! Laws of links and runs, for the layers above: each function does nothing, and its contract is the law.
 
-ghost use Rattle.std.specs.Prelude.{◌≡◌, ◌↔◌, ℕ, ◌≤◌, ◌++◌, true, List, length, map, None};
+ghost use Rattle.std.specs.Prelude.{◌≡◌, ◌↔◌, ℕ, ◌≤◌, ◌++◌, true, List, [], ◌∷◌, length, map, None};
 ghost use Rattle.std.specs.List.{AllByRecursion};
 ghost use Rattle.codec.specs.declared.inodes.Inode.{Inode};
 ghost use Rattle.codec.specs.Checkpoint.{pointer_at};
@@ -54,6 +54,13 @@ pub fn the_inode_at_a_moment_stands_in_the_run()
     ensures parts { (entries : List EntryFields) (low t : ℕ) → ascend_from low entries ≡ true → entries ≡ entries_by t entries ++ entries_past t entries }
     ensures before { (i k : Inode) (entries : List EntryFields) (low t : ℕ) → ascend_from low entries ≡ true → Run i entries k → Run i (entries_by t entries) (inode_after i entries t) }
     ensures behind { (i k : Inode) (entries : List EntryFields) (low t : ℕ) → ascend_from low entries ≡ true → Run i entries k → Run (inode_after i entries t) (entries_past t entries) k }
+{}
+
+/// Where the last entry of a run is later than a moment, the run without it ends with the entry undone, and the inode
+/// current at the moment is the same one. Where it isn't later and moments don't descend, the run's last inode is that one.
+pub fn the_last_entry_is_undone_or_stays()
+    ensures undone { (i k : Inode) (front : List EntryFields) (e : EntryFields) (t : ℕ) → AllPast t (e ∷ []) → Run i (front ++ e ∷ []) k → Run i front (undone e k) × (inode_after i (front ++ e ∷ []) t ≡ inode_after i front t) }
+    ensures stays { (i k : Inode) (front : List EntryFields) (e : EntryFields) (low t : ℕ) → ascend_from low (front ++ e ∷ []) ≡ true → e.moment ≤ t → Run i (front ++ e ∷ []) k → inode_after i (front ++ e ∷ []) t ≡ k }
 {}
 
 /// A blank inode has 48 pointers, each a hole.

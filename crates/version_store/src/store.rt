@@ -23,6 +23,7 @@ use s4_types::limits::RESERVE_BLOCKS;
 use s4_types::{Moment, ObjectId, Refusal};
 use std::alloc::Global;
 use std::marker::Model;
+use time_read::laws::the_last_inode_is_current;
 
 /// Payload blocks of the largest drive: 1,024 frames of 15.
 pub const MOST_PLACES: usize = 15_360;
@@ -109,36 +110,22 @@ impl<B: Blocks> Store<B> {
         self.presents.get(object)
     }
 
-    /// The inode of an object at a moment by a walk of its journal, and none where it has no row.
-    fn walk(&mut self, object: ObjectId, at: Moment) -> Result<Option<Inode>, Refusal>
+    /// The inode of an object at a moment, and none where it has no row. For a moment before the store's last change, of
+    /// whatever object, this object's journal is walked from its newest entry back to the first that isn't later; for any
+    /// other no block is read.
+    pub fn inode_at(&mut self, object: ObjectId, at: Moment) -> Option<Inode>
         requires { IsStore (fields_of B.log self.old) }
-        ensures inode { IfOk result (λ inode. inode ≡ inode_in (fields_of B.log self.old) object at) }
-        ensures refusal { IfErr result (λ e. e ≡ NoMemory) }
+        ensures inode { result ≡ inode_in (fields_of B.log self.old) object at }
         ensures same { fields_of B.log self.new ≡ fields_of B.log self.old }
     {
-        let Some(row) = self.row(object) else {
-            return Ok(None);
-        };
-        let inode = time_read::inode_at(self.alloc, &mut self.table, object, &row, at)?;
-        Ok(Some(inode))
-    }
-
-    /// The inode of an object at a moment, and none where it has no row. A moment before the store's last change, of whatever
-    /// object, takes one walk of this object's journal; any other takes none.
-    ///
-    /// NoMemory alone, of a moment before the store's last change, where the memory for the journal's entries is refused.
-    pub fn inode_at(&mut self, object: ObjectId, at: Moment) -> Result<Option<Inode>, Refusal>
-        requires { IsStore (fields_of B.log self.old) }
-        ensures inode { IfOk result (λ inode. inode ≡ inode_in (fields_of B.log self.old) object at) }
-        ensures refusal { IfErr result (λ e. e ≡ NoMemory) }
-        ensures memory { IfErr result (λ _. at < self.old.latest) }
-        ensures same { fields_of B.log self.new ≡ fields_of B.log self.old }
-    {
+        the_last_inode_is_current();
         the_present_stays();
+        let present = self.presents.get(object)?;
         if self.latest <= at {
-            return Ok(self.present(object));
+            return Some(present);
         }
-        self.walk(object, at)
+        let row = self.rows.get(object)?;
+        Some(time_read::inode_at(&mut self.table, object, &row, &present, at))
     }
 
     /// The journal entries of an object, the oldest first, and none where it has no row.

@@ -83,8 +83,8 @@ fn has_inode<D: LogDrive>(
     object: u64,
     at: u64,
     told: Option<InodeTold>,
-) -> Result<bool, Fail> {
-    let found = drive.inode_at(object, at)?.map(|inode| {
+) -> bool {
+    let found = drive.inode_at(object, at).map(|inode| {
         let there = [
             inode.pointers[0].is_some(),
             inode.pointers[1].is_some(),
@@ -92,7 +92,7 @@ fn has_inode<D: LogDrive>(
         ];
         (inode.alive, inode.size, there)
     });
-    Ok(found == told)
+    found == told
 }
 
 /// The moment of an object's checkpoint.
@@ -103,12 +103,12 @@ fn checkpoint_moment<D: LogDrive>(drive: &D, object: u64) -> Option<u64> {
 }
 
 /// Whether a checkpoint of an object is written, of that moment, and leaves the inode then.
-fn is_written<D: LogDrive>(drive: &mut D, object: u64, moment: u64) -> Result<bool, Fail> {
-    let before = drive.inode_at(object, moment)?;
+fn is_written<D: LogDrive>(drive: &mut D, object: u64, moment: u64) -> bool {
+    let before = drive.inode_at(object, moment);
     let answer = drive.checkpoint(object);
-    let after = drive.inode_at(object, moment)?;
+    let after = drive.inode_at(object, moment);
     let written = checkpoint_moment(drive, object) == Some(moment);
-    Ok(answer.is_ok() && written && before == after)
+    answer.is_ok() && written && before == after
 }
 
 fn holds<D: LogDrive>(party: &mut Party<D>, act: Act) -> Result<bool, Fail> {
@@ -119,7 +119,7 @@ fn holds<D: LogDrive>(party: &mut Party<D>, act: Act) -> Result<bool, Fail> {
             Ok(true)
         }
         Act::Checkpoints(object, told) => Ok(party.drive.checkpoint(object) == told),
-        Act::Writes(object, moment) => is_written(&mut party.drive, object, moment),
+        Act::Writes(object, moment) => Ok(is_written(&mut party.drive, object, moment)),
         Act::Rules => {
             party.drive.rules();
             Ok(true)
@@ -130,7 +130,7 @@ fn holds<D: LogDrive>(party: &mut Party<D>, act: Act) -> Result<bool, Fail> {
         Act::Entries(object, moments) => has_entries(&mut party.drive, object, moments),
         Act::Next(object, next) => Ok(party.drive.next_row(object) == next.map(ObjectId::new)),
         Act::Row(object, told) => Ok(row_of(&party.drive, object) == told),
-        Act::Inode(object, at, told) => has_inode(&mut party.drive, object, at, told),
+        Act::Inode(object, at, told) => Ok(has_inode(&mut party.drive, object, at, told)),
         Act::Sees(object, first, last, told) => {
             Ok(party.drive.sees(object, first, last) == told)
         }

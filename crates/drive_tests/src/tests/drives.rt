@@ -93,7 +93,7 @@ pub(super) trait LogDrive: Drop {
 
     fn sees(&self, object: u64, first: u64, last: u64) -> bool;
 
-    fn inode_at(&mut self, object: u64, at: u64) -> Result<Option<Inode>, Refusal>;
+    fn inode_at(&mut self, object: u64, at: u64) -> Option<Inode>;
 
     fn entries(&mut self, object: u64) -> Result<Vec<Entry>, Refusal>;
 
@@ -165,7 +165,7 @@ impl<J: Naming> LogDrive for Drive<J> {
         )
     }
 
-    fn inode_at(&mut self, object: u64, at: u64) -> Result<Option<Inode>, Refusal> {
+    fn inode_at(&mut self, object: u64, at: u64) -> Option<Inode> {
         Drive::inode_at(self, ObjectId::new(object), Moment::new(at))
     }
 

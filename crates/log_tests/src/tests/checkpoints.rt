@@ -8,7 +8,6 @@ use block_log::Blocks;
 use codec::{Attribute, Checkpoint, Inode};
 use object_map::Row;
 use s4_types::{Moment, Ptr};
-use std::alloc::Global;
 use std::process::Abort;
 use std::test::Fail;
 use undo_redo::blank;
@@ -133,38 +132,27 @@ fn write_twice<B: Blocks>(subject: &mut Subject<B>) -> Result<(), Fail>
 }
 
 /// Looks at the inodes before the checkpoint and after it, and goes on behind it.
-fn check_inodes<B: Blocks>(
-    rt: &impl Abort,
-    alloc: Global,
-    subject: &mut Subject<B>,
-) -> Result<(), Fail>
+fn check_inodes<B: Blocks>(rt: &impl Abort, subject: &mut Subject<B>) -> Result<(), Fail>
     requires { IsPresent (B.log subject.old.table).held subject.old.row subject.old.inode subject.old.latest }
 {
     let early = inodes(&EARLY)?;
     let late = inodes(&LATE)?;
-    assert!(rt; subject.wrong_moment(alloc, &early)?.is_none(), "without");
+    assert!(rt; subject.wrong_moment(&early).is_none(), "without");
     subject.checkpoint(35)?;
-    assert!(rt;
-        subject.wrong_moment(alloc, &early)?.is_none(),
-        "at the end"
-    );
+    assert!(rt; subject.wrong_moment(&early).is_none(), "at the end");
     subject.set_attribute(40, b"other")?;
     subject.write(50, 600, b"x")?;
-    assert!(rt; subject.wrong_moment(alloc, &early)?.is_none(), "back");
-    assert!(rt; subject.wrong_moment(alloc, &late)?.is_none(), "forth");
+    assert!(rt; subject.wrong_moment(&early).is_none(), "back");
+    assert!(rt; subject.wrong_moment(&late).is_none(), "forth");
     Ok(())
 }
 
 /// The object before its inodes are looked at, and its row behind that.
-fn back_and_forth<B: Blocks>(
-    rt: &impl Abort,
-    alloc: Global,
-    subject: &mut Subject<B>,
-) -> Result<(), Fail>
+fn back_and_forth<B: Blocks>(rt: &impl Abort, subject: &mut Subject<B>) -> Result<(), Fail>
     requires { IsPresent (B.log subject.old.table).held subject.old.row subject.old.inode subject.old.latest }
 {
     write_twice(subject)?;
-    check_inodes(rt, alloc, subject)?;
+    check_inodes(rt, subject)?;
     let row = subject.row();
     assert!(rt; row.head == Ptr::new(0, 9, 1) && subject.blocks_left() == 111);
     Ok(())
@@ -173,7 +161,7 @@ fn back_and_forth<B: Blocks>(
 #[test]
 fn back_and_forth_from_a_checkpoint(rt: HostRuntime) -> Result<(), Fail> {
     let mut subject = Subject::new(new_table(rt.alloc(), 8)?, 10);
-    back_and_forth(&rt, rt.alloc(), &mut subject)
+    back_and_forth(&rt, &mut subject)
 }
 
 /// The checkpoint of moment 35, read back after a write behind it.

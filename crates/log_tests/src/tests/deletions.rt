@@ -64,13 +64,13 @@ fn write_and_cut<B: Blocks>(subject: &mut Subject<B>) -> Result<(), Fail>
 }
 
 /// The object lives as told above. Gives the first of the moments at which its inode is another.
-fn live_and_die<B: Blocks>(alloc: Global, subject: &mut Subject<B>) -> Result<Option<u64>, Fail>
+fn live_and_die<B: Blocks>(subject: &mut Subject<B>) -> Result<Option<u64>, Fail>
     requires { IsPresent (B.log subject.old.table).held subject.old.row subject.old.inode subject.old.latest }
 {
     write_and_cut(subject)?;
     subject.set_attribute(14, b"kk")?;
     subject.delete(15)?;
-    Ok(subject.wrong_moment(alloc, &inodes()?)?)
+    Ok(subject.wrong_moment(&inodes()?))
 }
 
 /// Looks at the row, and at the number of blocks that are left.
@@ -105,14 +105,10 @@ fn check_each(
 }
 
 /// The object lives, and its row and its inodes are looked at.
-fn check_life<B: Blocks>(
-    rt: &impl Abort,
-    alloc: Global,
-    subject: &mut Subject<B>,
-) -> Result<(), Fail>
+fn check_life<B: Blocks>(rt: &impl Abort, subject: &mut Subject<B>) -> Result<(), Fail>
     requires { IsPresent (B.log subject.old.table).held subject.old.row subject.old.inode subject.old.latest }
 {
-    assert!(rt; live_and_die(alloc, subject)? == None);
+    assert!(rt; live_and_die(subject)? == None);
     check_row(rt, &subject.row(), subject.blocks_left());
     Ok(())
 }
@@ -120,6 +116,6 @@ fn check_life<B: Blocks>(
 #[test]
 fn each_moment_of_a_short_life(rt: HostRuntime) -> Result<(), Fail> {
     let mut subject = Subject::new(new_table(rt.alloc(), 8)?, 10);
-    check_life(&rt, rt.alloc(), &mut subject)?;
+    check_life(&rt, &mut subject)?;
     check_each(&rt, rt.alloc(), &mut subject)
 }

@@ -244,11 +244,7 @@ fn rename<B: Blocks>(subject: &mut Subject<B>) -> Result<(), Fail>
 }
 
 /// Changes the object until its chain is full, and looks at its inodes then.
-fn fill_journal<B: Blocks>(
-    rt: &impl Abort,
-    alloc: Global,
-    subject: &mut Subject<B>,
-) -> Result<(), Fail>
+fn fill_journal<B: Blocks>(rt: &impl Abort, subject: &mut Subject<B>) -> Result<(), Fail>
     requires { IsPresent (B.log subject.old.table).held subject.old.row subject.old.inode subject.old.latest }
     ensures { OnOk result (IsPresent (B.log subject.new.table).held subject.new.row subject.new.inode subject.new.latest) }
 {
@@ -262,32 +258,27 @@ fn fill_journal<B: Blocks>(
         (81, named(81, &[b'b'; 64])?),
         (82, named(82, &[b'a'; 64])?),
     ];
-    assert!(rt; subject.wrong_moment(alloc, &told)? == None);
+    assert!(rt; subject.wrong_moment(&told) == None);
     Ok(())
 }
 
 /// The same, and the object is deleted behind that: the answer, and the row before.
 fn fill_and_delete<B: Blocks>(
     rt: &impl Abort,
-    alloc: Global,
     subject: &mut Subject<B>,
 ) -> Result<(Result<(), Refusal>, Row), Fail>
     requires { IsPresent (B.log subject.old.table).held subject.old.row subject.old.inode subject.old.latest }
 {
-    fill_journal(rt, alloc, subject)?;
+    fill_journal(rt, subject)?;
     let row = subject.row();
     Ok((subject.delete(83), row))
 }
 
 /// Fills the journal, deletes the object, and looks at the refusal and at the row, which is as before.
-fn check_refused<B: Blocks>(
-    rt: &impl Abort,
-    alloc: Global,
-    subject: &mut Subject<B>,
-) -> Result<(), Fail>
+fn check_refused<B: Blocks>(rt: &impl Abort, subject: &mut Subject<B>) -> Result<(), Fail>
     requires { IsPresent (B.log subject.old.table).held subject.old.row subject.old.inode subject.old.latest }
 {
-    let (answer, row) = fill_and_delete(rt, alloc, subject)?;
+    let (answer, row) = fill_and_delete(rt, subject)?;
     assert!(rt; answer == Err(Refusal::ChainFull));
     // The entries have 34, 67 and 131 bytes, and 70 of them 164, two in a block.
     assert!(rt; (row.journal_bytes, row.head_bytes) == (11_712, 164));
@@ -299,7 +290,7 @@ fn check_refused<B: Blocks>(
 /// The blocks of a table with an object whose chain is full.
 fn blocks_of_full_journal(rt: &impl Abort, alloc: Global) -> Result<[Option<Block>; 120], Fail> {
     let mut subject = Subject::new(new_table(alloc, 8)?, 10);
-    fill_journal(rt, alloc, &mut subject)?;
+    fill_journal(rt, &mut subject)?;
     Ok(subject.held_blocks())
 }
 
@@ -313,7 +304,7 @@ fn check_journal(rt: &impl Abort, blocks: &[Option<Block>; 120], others: &[Optio
 fn a_change_of_an_object_with_a_full_chain(rt: HostRuntime) -> Result<(), Fail> {
     let others = blocks_of_full_journal(&rt, rt.alloc())?;
     let mut subject = Subject::new(new_table(rt.alloc(), 8)?, 10);
-    check_refused(&rt, rt.alloc(), &mut subject)?;
+    check_refused(&rt, &mut subject)?;
     check_journal(&rt, &subject.held_blocks(), &others);
     Ok(())
 }

@@ -177,23 +177,19 @@ fn inodes() -> [(u64, Inode); 7] {
 
 /// The object is written whole at moment 11, and again at moment 13. Gives the first of the moments above at which its
 /// inode is another.
-fn write_again<B: Blocks>(alloc: Global, subject: &mut Subject<B>) -> Result<Option<u64>, Fail>
+fn write_again<B: Blocks>(subject: &mut Subject<B>) -> Result<Option<u64>, Fail>
     requires { IsPresent (B.log subject.old.table).held subject.old.row subject.old.inode subject.old.latest }
 {
     write_once(subject)?;
     subject.write(13, 0, &[0x62; 24_576])?;
-    Ok(subject.wrong_moment(alloc, &inodes())?)
+    Ok(subject.wrong_moment(&inodes()))
 }
 
 /// The object is written twice, and its inodes and its row are looked at.
-fn check_inodes<B: Blocks>(
-    rt: &impl Abort,
-    alloc: Global,
-    subject: &mut Subject<B>,
-) -> Result<(), Fail>
+fn check_inodes<B: Blocks>(rt: &impl Abort, subject: &mut Subject<B>) -> Result<(), Fail>
     requires { IsPresent (B.log subject.old.table).held subject.old.row subject.old.inode subject.old.latest }
 {
-    assert!(rt; write_again(alloc, subject)? == None);
+    assert!(rt; write_again(subject)? == None);
     // No entry of the second write fits behind the 306 bytes in the head.
     assert!(rt; subject.row().head == place(102));
     assert!(rt; subject.blocks_left() == 240 - 52 - 51);
@@ -225,6 +221,6 @@ fn check_bytes(
 #[test]
 fn inodes_around_one_moment(rt: HostRuntime) -> Result<(), Fail> {
     let mut subject = Subject::new(new_table(rt.alloc(), 16)?, 10);
-    check_inodes(&rt, rt.alloc(), &mut subject)?;
+    check_inodes(&rt, &mut subject)?;
     check_bytes(&rt, rt.alloc(), &mut subject)
 }

@@ -26,7 +26,7 @@ use s4_types::{Moment, ObjectId, Ptr, Refusal};
 use segment_table::SegmentTable;
 use std::alloc::Global;
 use std::test::Fail;
-use time_read::laws::a_row_is_its_own_blocks;
+use time_read::laws::{a_row_is_its_own_blocks, the_last_inode_is_current};
 use time_read::{ReadPlan, entries, inode_at, plan};
 use undo_redo::blank;
 use undo_redo::laws::a_blank_inode_has_holes_alone;
@@ -235,34 +235,28 @@ impl<B: Blocks> Subject<B> {
         read_checkpoint(&mut self.table, ObjectId::new(OBJECT), place)
     }
 
-    /// The inode at a moment, asked for once more where memory was refused.
-    pub(super) fn inode_at(&mut self, alloc: Global, at: u64) -> Result<Inode, Refusal>
+    /// The inode at a moment.
+    pub(super) fn inode_at(&mut self, at: u64) -> Inode
         requires { IsPresent (B.log self.old.table).held self.old.row self.old.inode self.old.latest }
         ensures { IsPresent (B.log self.new.table).held self.new.row self.new.inode self.new.latest }
     {
+        the_last_inode_is_current();
         let object = ObjectId::new(OBJECT);
         let at = Moment::new(at);
-        match inode_at(alloc, &mut self.table, object, &self.row, at) {
-            Err(Refusal::NoMemory) => inode_at(alloc, &mut self.table, object, &self.row, at),
-            told => told,
-        }
+        inode_at(&mut self.table, object, &self.row, &self.inode, at)
     }
 
     /// Asks for the inodes at these moments, and gives the first at which it is another than told here.
-    pub(super) fn wrong_moment(
-        &mut self,
-        alloc: Global,
-        told: &[(u64, Inode)],
-    ) -> Result<Option<u64>, Refusal>
+    pub(super) fn wrong_moment(&mut self, told: &[(u64, Inode)]) -> Option<u64>
         requires { IsPresent (B.log self.old.table).held self.old.row self.old.inode self.old.latest }
         ensures { IsPresent (B.log self.new.table).held self.new.row self.new.inode self.new.latest }
     {
         for (at, inode) in told {
-            if self.inode_at(alloc, *at)? != *inode {
-                return Ok(Some(*at));
+            if self.inode_at(*at) != *inode {
+                return Some(*at);
             }
         }
-        Ok(None)
+        None
     }
 
     /// The chain of the journal.

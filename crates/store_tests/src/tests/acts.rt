@@ -3,8 +3,7 @@ ghost use Rattle.version_store.specs.Store.{fields_of, IsStore};
 
 use super::plain::Fresh;
 use super::steps::{
-    Shown, bytes_at, create, delete, entries_of, inode_of, present_of, set_attribute, truncate,
-    write,
+    Shown, bytes_at, create, delete, entries_of, present_of, set_attribute, truncate, write,
 };
 use block_log::Blocks;
 use codec::{Entry, Inode};
@@ -177,7 +176,7 @@ fn is_same<B: Blocks>(store: &mut Store<B>, object: u64, at: u64) -> Result<bool
     ensures { IsStore (fields_of B.log store.new) }
 {
     let object = ObjectId::new(object);
-    let found = inode_of(store, object, Moment::new(at))?;
+    let found = store.inode_at(object, Moment::new(at));
     Ok(store.present(object) == found)
 }
 
@@ -225,10 +224,7 @@ fn holds<B: Blocks>(alloc: Global, store: &mut Store<B>, act: Act) -> Result<boo
         }
         Act::Inode(object, at, told) => {
             Ok(
-                match (
-                    inode_of(store, ObjectId::new(object), Moment::new(at))?,
-                    told,
-                ) {
+                match (store.inode_at(ObjectId::new(object), Moment::new(at)), told) {
                     (Some(inode), Some(told)) => tells(&inode, told),
                     (found, told) => found.is_none() && told.is_none(),
                 },

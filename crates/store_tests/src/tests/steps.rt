@@ -38,22 +38,6 @@ pub(super) fn present_of<B: Blocks>(
     Ok(store.subject(object, moment))
 }
 
-/// The inode of an object at a moment.
-pub(super) fn inode_of<B: Blocks>(
-    store: &mut Store<B>,
-    object: ObjectId,
-    at: Moment,
-) -> Result<Option<Inode>, Fail>
-    requires { IsStore (fields_of B.log store.old) }
-    ensures inode { IfOk result (λ inode. inode ≡ inode_in (fields_of B.log store.old) object at) }
-    ensures same { fields_of B.log store.new ≡ fields_of B.log store.old }
-{
-    match store.inode_at(object, at) {
-        Ok(inode) => Ok(inode),
-        Err(_) => Ok(store.inode_at(object, at)?),
-    }
-}
-
 /// Creates an object that has no row.
 pub(super) fn create<B: Blocks>(
     alloc: Global,
@@ -191,7 +175,7 @@ pub(super) fn bytes_at<B: Blocks>(
 {
     let object = ObjectId::new(object);
     let at = Moment::new(at);
-    let Some(inode) = inode_of(store, object, at)? else {
+    let Some(inode) = store.inode_at(object, at) else {
         return Ok(None);
     };
     if !inode.alive {
