@@ -5,8 +5,8 @@ ghost use Rattle.segment_word.specs.AcceptViews.{count_of, with_change, credited
 ghost use Rattle.segment_word.specs.AcceptRule.{Fits};
 
 use s4_types::{Change, Moment};
-use segment_word::accepts::{HistorySeat, SessionSeat, Taking};
 use segment_word::Naming;
+use segment_word::accepts::{HistorySeat, SessionSeat, Taking};
 use std::marker::Brand;
 
 /// The change that `C` names is accepted.

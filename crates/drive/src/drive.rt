@@ -8,8 +8,8 @@ ghost use Rattle.segment_word.specs.AcceptRule.{Fits, ShareNone};
 
 use crate::session::Session;
 use s4_types::{ObjectId, Refusal, Role};
-use segment_word::accepts::{HistorySeat, Sessions};
 use segment_word::Naming;
+use segment_word::accepts::{HistorySeat, Sessions};
 use std::alloc::Global;
 use std::marker::Model;
 use version_store::{NamedTable, Store};

@@ -1,7 +1,7 @@
 //! A session of a drive.
 use s4_types::Role;
-use segment_word::accepts::SessionSeat;
 use segment_word::Naming;
+use segment_word::accepts::SessionSeat;
 use std::marker::Model;
 
 /// A session of a drive: what it was told of the drive's history, and what it may do. Contracts see both. Dropping it gives

@@ -78,12 +78,7 @@ fn row_of<D: LogDrive>(drive: &D, object: u64) -> Option<RowTold> {
     ))
 }
 
-fn has_inode<D: LogDrive>(
-    drive: &mut D,
-    object: u64,
-    at: u64,
-    told: Option<InodeTold>,
-) -> bool {
+fn has_inode<D: LogDrive>(drive: &mut D, object: u64, at: u64, told: Option<InodeTold>) -> bool {
     let found = drive.inode_at(object, at).map(|inode| {
         let there = [
             inode.pointers[0].is_some(),

@@ -4,8 +4,8 @@ ghost use Rattle.s4_types.specs.declared.changes.Change.TheVariants.{SetWindow};
 ghost use Rattle.segment_word.specs.AcceptViews.{count_of, with_change};
 
 use s4_types::{Moment, Refusal};
-use segment_word::accepts::{Accepts, HistorySeat, SessionSeat, Taking};
 use segment_word::Naming;
+use segment_word::accepts::{Accepts, HistorySeat, SessionSeat, Taking};
 use std::alloc::Global;
 use std::marker::Brand;
 use std::process::Abort;
