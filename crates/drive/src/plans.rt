@@ -44,9 +44,8 @@ impl<J: Naming> Drive<J> {
     /// A plan of a Read of `length` bytes of an object from an offset on, at a moment, and at the present clock where none is
     /// given: [`ReadPlan::fetch`] gives the bytes, whatever was changed meanwhile. Clock and floor move as by that Read.
     ///
-    /// It is refused as the Read is: TooLarge, Future, Expired, Flushed, NoObject, the first of these that applies; NoMemory
-    /// where memory is refused, which may come in place of NoObject, and Busy where a block of a sealed frame is needed and
-    /// no pin is to be had.
+    /// It is refused as the Read is: TooLarge, Future, Expired, Flushed, NoObject, the first of these that applies; else
+    /// NoMemory where memory is refused, and Busy where a block of a sealed frame is needed and no pin is to be had.
     pub fn resolve(
         &mut self,
         session: &mut Session<J>,
