@@ -49,8 +49,8 @@ def flush(o, at):
 class Session:
     """A server, and the most memory that it had, in KiB."""
 
-    def __init__(self, program, role="client"):
-        words = [program, "pipe", "--frames", "1024", "--window", "1000000", role]
+    def __init__(self, program, role="client", frames=1024, tick=1):
+        words = [program, "pipe", "--frames", str(frames), "--window", "1000000", "--tick", str(tick), role]
         self.server = subprocess.Popen(words, stdin=subprocess.PIPE, stdout=subprocess.PIPE)
 
     def ask(self, requests, kind, count):
