@@ -1,9 +1,11 @@
 #!/usr/bin/env python3
-"""Runs `s4d pipe client` on an example under ever higher limits of stack and of address space.
+"""Runs `s4d pipe client` on an example, with a Write of 48 blocks and an Append behind it, under ever higher limits of
+stack and of address space.
 
 From where the program can be loaded at all to where all is answered: each run ends with status 0, or with status 1
 and one line on standard error. What it wrote is a beginning of the full output, or differs from it first by a reply
-that tells want of memory. No run is ended by a signal. Ends with status 1 where anything else is seen.
+that tells want of memory; from there on each reply is of the kind of the full one's, or a refusal. No run is ended by
+a signal. Ends with status 1 where anything else is seen.
 
     limits.py [FILE.hex [PROGRAM]]    first_requests.hex beside this file and crates/s4d/out/s4d where they aren't given;
                                       a program that isn't there is built by `rt run`
@@ -23,6 +25,14 @@ SPACE_LARGE_STEP = 1024
 SPACE_MOST = 192 * 1024
 LOADED_MOST = 64 * 1024  # a program that isn't loaded by then is not at fault for want of a limit
 NO_MEMORY = bytes.fromhex("00000002000a")
+OBJECT = (1).to_bytes(8, "big")
+LARGE_WRITE = b"\x04" + OBJECT + bytes(8) + bytes(range(256)) * 96  # 24,576 bytes from the first on
+SMALLER = b"\x06" + OBJECT + (3).to_bytes(8, "big")  # so that an Append has room
+APPEND = b"\x05" + OBJECT + b"appended"
+
+
+def frame(body):
+    return len(body).to_bytes(4, "big") + body
 
 
 def run(program, words, data, flag, limit):
@@ -42,16 +52,30 @@ def is_loaded(program, flag, limit):
     return status in (1, 2) and is_one_line(errors)
 
 
-def is_beginning(output, full):
-    """Whether the output is a beginning of the full one, or is so up to a reply that tells want of memory."""
-    at = 0
-    while at < len(full):
-        end = at + 4 + int.from_bytes(full[at:at + 4], "big")
-        if output[at:end] != full[at:end]:
-            break
+def replies_of(output):
+    """The replies, one after the other, of which the last may be cut."""
+    replies, at = [], 0
+    while at < len(output):
+        end = at + 4 + int.from_bytes(output[at:at + 4], "big")
+        replies.append(output[at:end])
         at = end
-    rest = output[at:]
-    return full[at:].startswith(rest) or rest.startswith(NO_MEMORY)
+    return replies
+
+
+def is_beginning(output, full):
+    """Whether the replies are a beginning of the full ones, or are so up to one that tells want of memory."""
+    ours, wanted, short = replies_of(output), replies_of(full), False
+    if len(ours) > len(wanted):
+        return False
+    for place, (reply, other) in enumerate(zip(ours, wanted)):
+        is_cut = place == len(ours) - 1 and other.startswith(reply)
+        if reply == other or is_cut:
+            continue
+        if reply == NO_MEMORY:
+            short = True
+        elif not short or reply[4:5] not in (other[4:5], b"\0"):
+            return False
+    return True
 
 
 def fault_of(status, output, errors, full):
@@ -120,6 +144,7 @@ def main():
         subprocess.run(["rt", "run", "--", "pipe", "client"], check=True, **how)
     turned = [sys.executable, os.path.join(HERE, "hex.py"), "bytes", file]
     data = subprocess.run(turned, capture_output=True, check=True).stdout
+    data += frame(LARGE_WRITE) + frame(SMALLER) + frame(APPEND)
     status, full, errors = run(program, ["pipe", "client"], data, None, None)
     if status != 0 or errors or not full:
         sys.exit(f"with no limit: status {status}, {errors!r}")
