@@ -17,7 +17,7 @@ import time
 
 BYTES = 100
 OBJECTS = 35
-EACH = 200  # Writes of an object: its journal has room for 229 of one block
+EACH = 200  # Writes of an object: its journal has room for 228 of one block
 RUNS = 5
 READ_SECONDS = 1.0  # the least time of the Reads of a run
 STEP = 128  # so that a Write stays in one block of 512 bytes

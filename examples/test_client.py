@@ -8,6 +8,7 @@ import subprocess
 import sys
 import tempfile
 import threading
+import time
 import unittest
 import xml.dom.minidom
 
@@ -143,6 +144,23 @@ class Pipelines(unittest.TestCase):
                 replies = [batch.read(1) for _ in range(100)] + [batch.append(9, b"x" * 30_000) for _ in range(100)]
             self.assertEqual(sum(len(reply.result()) for reply in replies[:100]), 100 * 24_576)
             self.assertTrue(all(reply.refusal() for reply in replies[100:]))
+
+
+class Flushes(unittest.TestCase):
+    def test_a_flush_costs_its_own_list(self):
+        """60,000 flushes of one moment each: the last ones take about as long as the first ones."""
+        with drive(frames=1024) as it:
+            with it.pipeline() as batch:
+                for _ in range(1_000):
+                    batch.create()
+            seconds = []
+            for at in range(1, 120, 2):
+                start = time.monotonic()
+                with it.pipeline() as batch:
+                    flushed = [batch.flush_object(number, at, at) for number in range(1, 1_001)]
+                seconds.append(time.monotonic() - start)
+                self.assertTrue(all(reply.refusal() is None for reply in flushed))
+        self.assertLess(sorted(seconds[-15:])[7], 4 * sorted(seconds[:15])[7])
 
 
 class Ends(unittest.TestCase):
