@@ -4,7 +4,7 @@ use Rattle.std.proofs.lemmas.Bool.{eqb-true, eq-eqb, and_parts, and_from, cases_
 use Rattle.s4_types.specs.Pointer.{Place}
 use Rattle.block_log.specs.declared.kinds.BlockKind.{BlockKind}
 use Rattle.block_log.specs.Log.{Log, Stored, same_place, same_kind, seen_as, with_held, appended, appended_at, dropped}
-use Rattle.block_log.specs.Growth.{Puts, Takes}
+use Rattle.block_log.specs.Growth.{Puts, LetsGo}
 
 pub one_place : (p q : Place) → same_place p q ≡ true → p ≡ q
 one_place p q h =
@@ -68,7 +68,7 @@ puts_at log block (q ∷ ahead) p after h e fresh =
 pub puts : (before after : Log) (block : Stored) (p : Place) → appended before block ≡ Some (p, after) → before.held p ≡ None → Puts before block p after
 puts before after block p e fresh = puts_at before block before.ahead p after refl e fresh
 
-pub takes : (before : Log) (block : Stored) (p : Place) → before.held p ≡ Some block → Takes before block p (dropped before p)
+pub takes : (before : Log) (block : Stored) (p : Place) → before.held p ≡ Some block → LetsGo before block p (dropped before p)
 unfolding put
 takes before block p h = record {
   ahead = refl;

@@ -17,7 +17,7 @@ pub record Puts (before : Log) (block : Stored) (p : Place) (after : Log) : Type
   pub others : OthersStay block.kind block.object before.held after.held
 
 -- The block at a place is held no longer; all else is as it was.
-pub record Takes (before : Log) (block : Stored) (p : Place) (after : Log) : Type 0 where
+pub record LetsGo (before : Log) (block : Stored) (p : Place) (after : Log) : Type 0 where
   pub ahead : after.ahead ≡ before.ahead
   pub here : after.held p ≡ None
   pub kept : (q : Place) → same_place p q ≡ false → after.held q ≡ before.held q

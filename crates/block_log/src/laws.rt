@@ -3,7 +3,7 @@
 ghost use Rattle.std.specs.Prelude.{◌≡◌, true, Option, Some, None};
 ghost use Rattle.s4_types.specs.Pointer.{Place};
 ghost use Rattle.block_log.specs.Log.{Log, Stored, same_place, appended, dropped};
-ghost use Rattle.block_log.specs.Growth.{Puts, Takes};
+ghost use Rattle.block_log.specs.Growth.{Puts, LetsGo};
 
 /// Places that the test finds to be one are equal.
 pub fn one_place_has_one_name()
@@ -17,5 +17,5 @@ pub fn an_append_puts_one_block()
 
 /// Dropping a held block takes it alone.
 pub fn a_drop_takes_one_block()
-    ensures { (before : Log) (block : Stored) (p : Place) → before.held p ≡ Some block → Takes before block p (dropped before p) }
+    ensures { (before : Log) (block : Stored) (p : Place) → before.held p ≡ Some block → LetsGo before block p (dropped before p) }
 {}

@@ -4,7 +4,7 @@ use Rattle.std.specs.List.{flat_map}
 use Rattle.std.proofs.lemmas.List.{get_or-drop}
 use Rattle.std.proofs.Math.Seq.{get_or-append_seam}
 use Rattle.codec.specs.Fields.{number, bit}
-use Rattle.codec.specs.Entry.{EntryFields, BeginsWith, entry_at, entry_spelling, entry_length, pair_length, pair_spelling, triple_spelling, text, flags_byte, flags_of}
+use Rattle.codec.specs.Entry.{EntryFields, BeginsWithEntry, entry_at, entry_spelling, entry_length, pair_length, pair_spelling, triple_spelling, text, flags_byte, flags_of}
 use Rattle.codec.specs.declared.entries.Pair.{Pair}
 use Rattle.codec.proofs.Exact.{IsBytes}
 use Rattle.codec.proofs.EntryLaws.{entry_field}
@@ -82,11 +82,11 @@ front_by e rest (Some p) h =
       paired = λ _. omega (arith, count_here e rest, first, second, length_paired e p h);
     }
 
-pub front_of : (bytes : List ℕ) (e : EntryFields) (rest : List ℕ) → BeginsWith bytes e rest → Front bytes e
+pub front_of : (bytes : List ℕ) (e : EntryFields) (rest : List ℕ) → BeginsWithEntry bytes e rest → Front bytes e
 front_of bytes e rest h = subst (λ (l : List ℕ). Front l e) (sym h.1) (front_by e rest e.pair refl)
 
 -- the bytes begin with the entry that is read there
-pub begins : (bytes : List ℕ) → IsBytes bytes → (x : EntryFields × List ℕ) → entry_at bytes ≡ Some x → BeginsWith bytes x.0 x.1
+pub begins : (bytes : List ℕ) → IsBytes bytes → (x : EntryFields × List ℕ) → entry_at bytes ≡ Some x → BeginsWithEntry bytes x.0 x.1
 begins bytes h x e = (entry_field.fits bytes x h e, entry_field.whole bytes x h e)
 
 some_front : (bytes : List ℕ) (o : Option (EntryFields × List ℕ)) → IsBytes bytes → entry_at bytes ≡ o → IsSome o → (e : EntryFields) × Front bytes e

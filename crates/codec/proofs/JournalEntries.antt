@@ -78,9 +78,6 @@ rules_hold j object some fit =
     let c : leb (entries_length j.entries) 488 ≡ true = le-leb _ _ fit in
     rw (a, b, c) refl
 
-pub fit_of : (object : ℕ) (previous : Option Place) (entries : List EntryFields) → journal_rules (record { object = object; previous = previous; entries = entries }) ≡ true → entries_length entries ≤ 488
-fit_of object previous entries h = (rules_say (record { object = object; previous = previous; entries = entries }) h).fit
-
 -- a block with one entry more, where it fits
 pub rules_push : (object : ℕ) (previous : Option Place) (front : List EntryFields) (e : EntryFields) → journal_rules (record { object = object; previous = previous; entries = front }) ≡ true
     → entries_length front + entry_length e ≤ 488 → journal_rules (record { object = object; previous = previous; entries = front ++ e ∷ [] }) ≡ true

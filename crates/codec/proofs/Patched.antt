@@ -1,15 +1,16 @@
 -- How the spelling of a journal block with one entry more comes from that of the others.
 use Rattle.std.proofs.Common.{◌≡◌, ℕ, ◌+◌, ◌-◌, ◌^◌, ◌<◌, ◌≤◌, List, [], ◌∷◌, ◌++◌, length, get_or, take, drop, Option, Some, refl, sym, ap, subst, ◌∙◌, append_assoc, arith, length-append}
 use Rattle.std.specs.Prelude.{unwrap_or, None, IsSome}
-use Rattle.std.specs.Int.{w16, w64, from_be_bytes}
+use Rattle.std.specs.Int.{w16, w64}
+use Rattle.byteorder.specs.Endian.{big_number}
+use Rattle.byteorder.specs.Numbers.{big_number-reads_back}
 use Rattle.std.specs.List.{flat_map}
 use Rattle.std.proofs.lemmas.List.{take_at, append-nil}
 use Rattle.std.proofs.lemmas.Grind.{common_steps, flat_map-append}
-use Rattle.std.proofs.lemmas.Nat.{from_be_bytes-to_be_bytes_2}
 use Rattle.std.proofs.Math.Seq.{drop-append-add}
 use Rattle.std.proofs.lemmas.Slice.{between_to_end}
 use Rattle.std.specs.List.{between}
-use Rattle.codec.specs.Fields.{Reads, number, zeros, slot, slot_at, number_at, all_of}
+use Rattle.codec.specs.Fields.{Reads, number, zeros, slot, mark_at, slot_at, number_at, all_of}
 use Rattle.codec.specs.Entry.{EntryFields, IsEntry, entry_spelling, entry_length, entries_length}
 use Rattle.codec.specs.Journal.{JournalFields, JournalNumbers, SpellsJournal, journal_spelling, journal_at}
 use Rattle.codec.specs.Patching.{decoded, with_entry}
@@ -21,10 +22,19 @@ use Rattle.codec.proofs.Lengths.{entry_is, slot_length}
 use Rattle.codec.proofs.JournalEntries.{rules_push, rules_fit, entries_push, entries_one, entries_spelled, room}
 use Rattle.codec.proofs.JournalLaws.{journal_field}
 
+-- what is read from a block is what it is seen as
+pub decoded_read : (block : List ℕ) (j : JournalFields) → all_of journal_at block ≡ Some j → decoded block ≡ j
+unfolding decoded
+decoded_read block j e = ap (λ (o : Option JournalFields). unwrap_or o (record { object = 0; previous = None; entries = [] })) e
+
 -- what a block spells is what it is seen as
 pub decoded_is : (block : List ℕ) (j : JournalFields) → SpellsJournal block j → decoded block ≡ j
-unfolding decoded
-decoded_is block j h = ap (λ (o : Option JournalFields). unwrap_or o (record { object = 0; previous = None; entries = [] })) ((all_exact journal_field).again block j h)
+decoded_is block j h = decoded_read block j ((all_exact journal_field).again block j h)
+
+-- a block whose first byte is no journal block's
+pub decoded_other : (rest : List ℕ) → decoded (0 ∷ rest) ≡ record { object = 0; previous = None; entries = [] }
+unfolding decoded journal_at mark_at
+decoded_other rest = refl
 
 some_decoded : (block : List ℕ) (o : Option JournalFields) → all_of journal_at block ≡ o → IsSome o → all_of journal_at block ≡ Some (decoded block)
 unfolding decoded
@@ -40,15 +50,15 @@ reads_decoded block there = some_decoded block (all_of journal_at block) refl th
 
 -- ---- the head
 
-told_at : (n t : ℕ) (rest : List ℕ) → t < 2 ^ 16 → from_be_bytes w16 (get_or (1 ∷ n ∷ (number w16 t ++ rest)) 2 0 ∷ get_or (1 ∷ n ∷ (number w16 t ++ rest)) 3 0 ∷ []) ≡ t
+told_at : (n t : ℕ) (rest : List ℕ) → t < 2 ^ 16 → big_number 2 (drop 2 (1 ∷ n ∷ (number w16 t ++ rest))) ≡ t
 unfolding number
-told_at n t rest lt = from_be_bytes-to_be_bytes_2 t lt
+told_at n t rest lt = big_number-reads_back 2 t rest lt
 
-pub told_is : (block : List ℕ) (j : JournalFields) → SpellsJournal block j → from_be_bytes w16 (get_or block 2 0 ∷ get_or block 3 0 ∷ []) ≡ entries_length j.entries
+pub told_is : (block : List ℕ) (j : JournalFields) → SpellsJournal block j → big_number 2 (drop 2 block) ≡ entries_length j.entries
 unfolding journal_spelling
 told_is block j h =
     let fit : entries_length j.entries ≤ 488 = rules_fit j h.0.0 in
-    ap (λ (b : List ℕ). from_be_bytes w16 (get_or b 2 0 ∷ get_or b 3 0 ∷ [])) h.1 ∙ told_at (length j.entries) (entries_length j.entries) _ (omega arith)
+    ap (λ (b : List ℕ). big_number 2 (drop 2 b)) h.1 ∙ told_at (length j.entries) (entries_length j.entries) _ (omega arith)
 
 pub count_is : (block : List ℕ) (j : JournalFields) → SpellsJournal block j → get_or block 1 0 ≡ length j.entries
 unfolding journal_spelling
@@ -166,7 +176,3 @@ read_some view None read y h e = absurd (let n : None ≡ Some y = sym h ∙ e i
 
 pub read_is : {X Y : Type 0} (view : X → Y) (result : Option X) (read : Option Y) (x : X) (y : Y) → Reads view result read → read ≡ Some y → result ≡ Some x → view x ≡ y
 read_is {X = X} view result read x y h e is = some_is _ _ (sym (subst (λ (r : Option X). Reads view r read) is h) ∙ e)
-
-pub read_none : {X Y : Type 0} (view : X → Y) (result : Option X) (read : Option Y) (y : Y) → Reads view result read → read ≡ Some y → result ≡ None → ⊥
-read_none view (Some x) read y h e n = cc
-read_none view None read y h e n = let m : None ≡ Some y = sym h ∙ e in cc

@@ -1,18 +1,16 @@
 -- Where the entries of a journal block begin, as they are found one behind the other, and as they are given from the last.
 use Rattle.std.proofs.Common.{◌≡◌, ℕ, ◌-◌, ◌+◌, ◌<◌, ◌≤◌, true, false, List, [], ◌∷◌, ◌++◌, length, get_or, drop, Option, Some, None, IsSome, is_some, refl, sym, ap, subst, ◌∙◌, append_assoc, arith, length-append}
-use Rattle.std.specs.Int.{w64}
 use Rattle.std.specs.List.{flat_map, AllByRecursion}
 use Rattle.std.specs.Option.{option_to_list}
 use Rattle.std.proofs.lemmas.Grind.{flat_map-append}
 use Rattle.std.proofs.lemmas.List.{append-nil, drop_at, drop-drop, drop_more, drop_all}
 use Rattle.std.proofs.lemmas.List.Concat.{flat_map-cons}
 use Rattle.s4_types.specs.Pointer.{Place}
-use Rattle.codec.specs.Fields.{◌>>=◌, number, zeros, slot, all_of, number_at, slot_at}
-use Rattle.codec.specs.Entry.{EntryFields, IsEntry, BeginsWith, entry_at, entry_spelling, entry_length, entries_length}
+use Rattle.codec.specs.Fields.{◌>>=◌, number, zeros, slot, all_of}
+use Rattle.codec.specs.Entry.{EntryFields, IsEntry, BeginsWithEntry, entry_at, entry_spelling, entry_length, entries_length}
 use Rattle.codec.specs.Journal.{JournalFields, SpellsJournal, journal_at, journal_spelling}
-use Rattle.codec.specs.Reader.{BeginsAt, entry_in, entries_in}
-use Rattle.codec.proofs.Exact.{IsBytes, long_field, some_is}
-use Rattle.codec.proofs.Slots.{slot_field}
+use Rattle.codec.specs.Reader.{BeginsAt, entry_in, entries_begun_at}
+use Rattle.codec.proofs.Exact.{IsBytes}
 use Rattle.codec.proofs.Whole.{all_exact}
 use Rattle.codec.proofs.EntryLaws.{entry_field}
 use Rattle.codec.proofs.JournalLaws.{journal_field}
@@ -57,30 +55,11 @@ few_there block j h = omega (arith, count_there block j h, fourteen j.entries (r
 unfoldable pub behind : JournalFields → List ℕ
 behind j = flat_map entry_spelling j.entries ++ zeros (488 - entries_length j.entries)
 
-pub object_there : (block : List ℕ) (j : JournalFields) → SpellsJournal block j → number_at w64 (drop 8 block) ≡ Some (j.object, slot j.previous ++ behind j)
-unfolding journal_spelling number zeros behind
-object_there block j h = ap (λ (l : List ℕ). number_at w64 (drop 8 l)) h.1 ∙ long_field.again j.object (slot j.previous ++ behind j) h.0.1.object
-
-pub previous_there : (j : JournalFields) (block : List ℕ) → SpellsJournal block j → slot_at (slot j.previous ++ behind j) ≡ Some (j.previous, behind j)
-previous_there j block h = slot_field.again j.previous (behind j) h.0.1.previous
-
-pub object_is : (block head : List ℕ) (j : JournalFields) (object : ℕ) (rest : List ℕ) → SpellsJournal block j → head ≡ drop 8 block → number_at w64 head ≡ Some (object, rest)
-    → (object ≡ j.object) × (rest ≡ slot j.previous ++ behind j)
-object_is block head j object rest h is reads =
-    let e : (object, rest) ≡ (j.object, slot j.previous ++ behind j) = some_is _ _ (sym reads ∙ ap (number_at w64) is ∙ object_there block j h) in
-    (ap (λ (x : ℕ × List ℕ). x.0) e, ap (λ (x : ℕ × List ℕ). x.1) e)
-
-pub previous_is : (block rest : List ℕ) (j : JournalFields) (previous : Option Place) (after : List ℕ) → SpellsJournal block j → rest ≡ slot j.previous ++ behind j → slot_at rest ≡ Some (previous, after)
-    → previous ≡ j.previous
-previous_is block rest j previous after h is reads =
-    let e : (previous, after) ≡ (j.previous, behind j) = some_is _ _ (sym reads ∙ ap slot_at is ∙ previous_there j block h) in
-    ap (λ (x : Option Place × List ℕ). x.0) e
-
 -- ---- the entries, one behind the other
 
 -- some entries of a journal block were found, and the others stand from a byte on
 pub record Scanned (block : List ℕ) (j : JournalFields) (starts : List ℕ) (at i : ℕ) : Type 0 where
-  pub done : entries_in block starts ++ drop i j.entries ≡ j.entries
+  pub done : entries_begun_at block starts ++ drop i j.entries ≡ j.entries
   pub behind : drop at block ≡ flat_map entry_spelling (drop i j.entries) ++ zeros (488 - entries_length j.entries)
   pub spelled : AllByRecursion IsEntry (drop i j.entries)
   pub place : at + entries_length (drop i j.entries) ≤ length block
@@ -136,7 +115,7 @@ begins_by : (block : List ℕ) (j : JournalFields) (starts : List ℕ) (at i : �
 begins_by block j starts at i d s lt = (standing block j starts at i d s lt).here
 
 next_by : (block : List ℕ) (j : JournalFields) (starts : List ℕ) (at i n : ℕ) (d : EntryFields) → Scanned block j starts at i → i < length j.entries
-    → ((e : EntryFields) (rest : List ℕ) → BeginsWith (drop at block) e rest → n ≡ entry_length e) → Next block j starts at i n
+    → ((e : EntryFields) (rest : List ℕ) → BeginsWithEntry (drop at block) e rest → n ≡ entry_length e) → Next block j starts at i n
 next_by block j starts at i n d s lt sizes =
     let e = get_or j.entries i d in
     let es = drop (i + 1) j.entries in
@@ -144,12 +123,12 @@ next_by block j starts at i n d s lt sizes =
     let size : n ≡ entry_length e = sizes e t.rest (t.fits.0, t.stands) in
     let place = t.place in
     let here : entry_in block at ≡ e ∷ [] = ap (λ (o : Option (EntryFields × List ℕ)). option_to_list (o >>= λ x. Some x.0)) t.reads in
-    let more : entries_in block (starts ++ at ∷ []) ≡ entries_in block starts ++ e ∷ [] =
-    flat_map-append (entry_in block) starts (at ∷ []) ∙ ap (λ (l : List EntryFields). entries_in block starts ++ l) (flat_map-cons (entry_in block) at [] ∙ append-nil (entry_in block at) ∙ here) in
+    let more : entries_begun_at block (starts ++ at ∷ []) ≡ entries_begun_at block starts ++ e ∷ [] =
+    flat_map-append (entry_in block) starts (at ∷ []) ∙ ap (λ (l : List EntryFields). entries_begun_at block starts ++ l) (flat_map-cons (entry_in block) at [] ∙ append-nil (entry_in block at) ∙ here) in
     record {
       here = t.here;
       scanned = record {
-        done = ap (λ (l : List EntryFields). l ++ es) more ∙ append_assoc (entries_in block starts) (e ∷ []) es ∙ ap (λ (l : List EntryFields). entries_in block starts ++ l) (sym t.is) ∙ s.done;
+        done = ap (λ (l : List EntryFields). l ++ es) more ∙ append_assoc (entries_begun_at block starts) (e ∷ []) es ∙ ap (λ (l : List EntryFields). entries_begun_at block starts ++ l) (sym t.is) ∙ s.done;
         behind = sym (drop-drop n at block) ∙ ap (drop n) t.stands ∙ drop_at (entry_spelling e) t.rest n (entry_is e ∙ sym size) ∙ t.rest_is;
         spelled = t.fits.1;
         place = omega (arith, place, size);
@@ -157,12 +136,12 @@ next_by block j starts at i n d s lt sizes =
     }
 
 some_next : (block : List ℕ) (j : JournalFields) (starts : List ℕ) (at i n : ℕ) (entries : List EntryFields) → j.entries ≡ entries → Scanned block j starts at i → i < length entries
-    → ((e : EntryFields) (rest : List ℕ) → BeginsWith (drop at block) e rest → n ≡ entry_length e) → Next block j starts at i n
+    → ((e : EntryFields) (rest : List ℕ) → BeginsWithEntry (drop at block) e rest → n ≡ entry_length e) → Next block j starts at i n
 some_next block j starts at i n [] is s lt sizes = absurd (omega (arith, lt))
 some_next block j starts at i n (d ∷ entries) is s lt sizes = next_by block j starts at i n d s (subst (λ (l : List EntryFields). i < length l) (sym is) lt) sizes
 
 pub next_scanned : (block : List ℕ) (j : JournalFields) (starts : List ℕ) (at i n : ℕ) → Scanned block j starts at i → i < length j.entries
-    → ((e : EntryFields) (rest : List ℕ) → BeginsWith (drop at block) e rest → n ≡ entry_length e) → Next block j starts at i n
+    → ((e : EntryFields) (rest : List ℕ) → BeginsWithEntry (drop at block) e rest → n ≡ entry_length e) → Next block j starts at i n
 next_scanned block j starts at i n s lt sizes = some_next block j starts at i n j.entries refl s lt sizes
 
 there_by : (block : List ℕ) (j : JournalFields) (starts : List ℕ) (at i : ℕ) (entries : List EntryFields) → j.entries ≡ entries → Scanned block j starts at i → i < length entries → BeginsAt block at
@@ -186,17 +165,17 @@ ready block starts at i bytes there scanned lt =
     record { here = next_there block j starts at i (scanned j h) (omega (arith, lt, count_there block j h)); few = omega (arith, lt, few_there block j h); long = length_there block j h }
 
 pub ready_next : (block starts rest : List ℕ) (at i n : ℕ) → ((j : JournalFields) → SpellsJournal block j → Scanned block j starts at i) → i < get_or block 1 0 → rest ≡ drop at block
-    → ((e : EntryFields) (behind : List ℕ) → BeginsWith rest e behind → n ≡ entry_length e) → (j : JournalFields) → SpellsJournal block j → Next block j starts at i n
+    → ((e : EntryFields) (behind : List ℕ) → BeginsWithEntry rest e behind → n ≡ entry_length e) → (j : JournalFields) → SpellsJournal block j → Next block j starts at i n
 ready_next block starts rest at i n scanned lt is sizes j h =
-    next_scanned block j starts at i n (scanned j h) (omega (arith, lt, count_there block j h)) (λ e behind b. sizes e behind (subst (λ (l : List ℕ). BeginsWith l e behind) (sym is) b))
+    next_scanned block j starts at i n (scanned j h) (omega (arith, lt, count_there block j h)) (λ e behind b. sizes e behind (subst (λ (l : List ℕ). BeginsWithEntry l e behind) (sym is) b))
 
-pub all_scanned : (block : List ℕ) (j : JournalFields) (starts : List ℕ) (at i : ℕ) → Scanned block j starts at i → length j.entries ≤ i → entries_in block starts ≡ j.entries
-all_scanned block j starts at i s le = sym (append-nil (entries_in block starts)) ∙ ap (λ (l : List EntryFields). entries_in block starts ++ l) (sym (drop_all i j.entries le)) ∙ s.done
+pub all_scanned : (block : List ℕ) (j : JournalFields) (starts : List ℕ) (at i : ℕ) → Scanned block j starts at i → length j.entries ≤ i → entries_begun_at block starts ≡ j.entries
+all_scanned block j starts at i s le = sym (append-nil (entries_begun_at block starts)) ∙ ap (λ (l : List EntryFields). entries_begun_at block starts ++ l) (sym (drop_all i j.entries le)) ∙ s.done
 
 -- ---- the last entry
 
-pub entries_last : (block starts : List ℕ) (start : ℕ) → entries_in block (starts ++ start ∷ []) ≡ entries_in block starts ++ entry_in block start
-entries_last block starts start = flat_map-append (entry_in block) starts (start ∷ []) ∙ ap (λ (l : List EntryFields). entries_in block starts ++ l) (flat_map-cons (entry_in block) start [] ∙ append-nil (entry_in block start))
+pub entries_last : (block starts : List ℕ) (start : ℕ) → entries_begun_at block (starts ++ start ∷ []) ≡ entries_begun_at block starts ++ entry_in block start
+entries_last block starts start = flat_map-append (entry_in block) starts (start ∷ []) ∙ ap (λ (l : List EntryFields). entries_begun_at block starts ++ l) (flat_map-cons (entry_in block) start [] ∙ append-nil (entry_in block start))
 
 -- what is read where an entry begins
 pub entry_is_there : (block rest : List ℕ) (start : ℕ) (x : EntryFields × List ℕ) → rest ≡ drop start block → entry_at rest ≡ Some x → entry_in block start ≡ x.0 ∷ []
@@ -221,8 +200,8 @@ one_there (Some x) h = refl
 one_there None h = absurd (let e : false ≡ true = h in cc)
 
 -- as many entries as places
-pub as_many : (block starts : List ℕ) → AllByRecursion (BeginsAt block) starts → length (entries_in block starts) ≡ length starts
+pub as_many : (block starts : List ℕ) → AllByRecursion (BeginsAt block) starts → length (entries_begun_at block starts) ≡ length starts
 as_many block [] all = refl
 as_many block (s ∷ starts) all =
-    let front : length (entries_in block (s ∷ starts)) ≡ length (entry_in block s ++ entries_in block starts) = ap length (flat_map-cons (entry_in block) s starts) in
-    omega (arith, front, length-append (entry_in block s) (entries_in block starts), one_there (entry_at (drop s block)) all.0.1, as_many block starts all.1)
+    let front : length (entries_begun_at block (s ∷ starts)) ≡ length (entry_in block s ++ entries_begun_at block starts) = ap length (flat_map-cons (entry_in block) s starts) in
+    omega (arith, front, length-append (entry_in block s) (entries_begun_at block starts), one_there (entry_at (drop s block)) all.0.1, as_many block starts all.1)

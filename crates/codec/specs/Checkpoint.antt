@@ -1,15 +1,19 @@
 -- An inode, and how a checkpoint of it is spelled in one block.
-use Rattle.std.specs.Prelude.{◌≡◌, ℕ, ◌-◌, ◌^◌, ◌<◌, ◌≤◌, Bool, true, List, [], ◌∷◌, ◌++◌, length, slice_index_or, Option, Some, None, IfSome, is_none, nat_lt, nat_le, ◌&&◌, ◌||◌}
+use Rattle.std.specs.Prelude.{◌≡◌, ℕ, ◌-◌, ◌^◌, ◌<◌, ◌≤◌, Bool, true, List, [], ◌∷◌, ◌++◌, length, slice_index_or, replicate, Option, Some, None, IfSome, is_none, nat_lt, nat_le, ◌&&◌, ◌||◌}
 use Rattle.std.specs.Int.{w32, w64}
 use Rattle.std.specs.List.{flat_map, AllByRecursion}
 use Rattle.s4_types.specs.Pointer.{Place, IsPlace}
-use Rattle.s4_types.specs.declared.limits.TheConstants.{OBJECT_BYTES}
+use Rattle.s4_types.specs.declared.limits.TheConstants.{OBJECT_BYTES, OBJECT_BLOCKS}
 use Rattle.codec.specs.Fields.{◌>>=◌, number, zeros, slot, bit, padded, kept, byte_at, number_at, zeros_at, mark_at, flag_at, slot_at, many_at, padded_at}
 use Rattle.codec.specs.declared.inodes.Inode.{Inode}
 
 -- the pointer of that index, or a hole
 abbrev pub pointer_at : Inode → ℕ → Option Place
 pointer_at i n = slice_index_or i.pointers n None
+
+-- so many holes
+unfoldable pub holes : ℕ → List (Option Place)
+holes count = replicate count None
 
 -- an object, a moment, and the object's inode after all changes up to the moment
 pub record CheckpointFields : Type 0 where
@@ -37,7 +41,7 @@ pub record InodeNumbers (i : Inode) : Type 0 where
   pub created : i.created < 2 ^ 64
   pub changed : i.changed < 2 ^ 64
   pub attribute : length i.attribute ≤ 64
-  pub count : length i.pointers ≡ 48
+  pub count : length i.pointers ≡ OBJECT_BLOCKS
   pub pointers : AllByRecursion IsSlot i.pointers
 
 -- the numbers of a checkpoint are in their ranges
@@ -72,7 +76,7 @@ checkpoint_at bytes = do
   created ← number_at w64 moment.1
   changed ← number_at w64 created.1
   attribute ← padded_at len.0 changed.1
-  pointers ← many_at slot_at 48 attribute.1
+  pointers ← many_at slot_at OBJECT_BLOCKS attribute.1
   end ← zeros_at 24 pointers.1
   made ← checked (record { object = object.0; moment = moment.0; inode = record { alive = alive.0; size = size.0; created = created.0; changed = changed.0; attribute = attribute.0; pointers = pointers.0 } })
   Some (made, end.1)

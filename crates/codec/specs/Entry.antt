@@ -4,7 +4,7 @@ use Rattle.std.specs.Int.{w32, w64}
 use Rattle.std.specs.List.{flat_map, AllByRecursion}
 use Rattle.std.specs.Cmp.Lexicographic.{pointwise}
 use Rattle.s4_types.specs.Pointer.{Place}
-use Rattle.s4_types.specs.declared.limits.TheConstants.{OBJECT_BYTES}
+use Rattle.s4_types.specs.declared.limits.TheConstants.{OBJECT_BYTES, OBJECT_BLOCKS}
 use Rattle.codec.specs.Fields.{◌>>=◌, number, slot, bit, kept, byte_at, bytes_at, number_at, slot_at, many_at}
 use Rattle.codec.specs.Checkpoint.{IsSlot}
 use Rattle.codec.specs.declared.entries.Status.{Status}
@@ -31,7 +31,7 @@ same_slot (Some p) (Some q) = p.frame == q.frame && (p.block == q.block && p.gen
 -- The triples' indices ascend from this one on and are below 48, and the two pointers of each differ.
 unfoldable pub ascend_from : ℕ → List Triple → Bool
 ascend_from low [] = true
-ascend_from low (t ∷ triples) = (nat_le low t.index && (nat_lt t.index 48 && not (same_slot t.before t.after))) && ascend_from (t.index + 1) triples
+ascend_from low (t ∷ triples) = (nat_le low t.index && (nat_lt t.index OBJECT_BLOCKS && not (same_slot t.before t.after))) && ascend_from (t.index + 1) triples
 
 -- what was dead had no size and no moment of change
 abbrev pub was_nothing : Status → Bool
@@ -107,8 +107,8 @@ abbrev pub IsEntry : EntryFields → Type 0
 IsEntry e = (entry_rules e ≡ true) × EntryNumbers e
 
 -- the bytes begin with this entry
-abbrev pub BeginsWith : List ℕ → EntryFields → List ℕ → Type 0
-BeginsWith bytes e rest = IsEntry e × (bytes ≡ entry_spelling e ++ rest)
+abbrev pub BeginsWithEntry : List ℕ → EntryFields → List ℕ → Type 0
+BeginsWithEntry bytes e rest = IsEntry e × (bytes ≡ entry_spelling e ++ rest)
 
 -- ---- reading
 

@@ -2,6 +2,7 @@
 use Rattle.std.specs.Prelude.{◌≡◌, ℕ, ◌-◌, ◌^◌, ◌<◌, Bool, true, List, ◌∷◌, ◌++◌, length, Option, Some, None, nat_lt, nat_le, ◌==◌, ◌&&◌, if◌then◌else◌}
 use Rattle.std.specs.Int.{w16, w64}
 use Rattle.std.specs.List.{flat_map, AllByRecursion}
+use Rattle.s4_types.specs.declared.limits.TheConstants.{JOURNAL_ENTRY_BYTES}
 use Rattle.s4_types.specs.Pointer.{Place}
 use Rattle.codec.specs.Fields.{◌>>=◌, number, zeros, slot, kept, byte_at, number_at, zeros_at, mark_at, slot_at, many_at}
 use Rattle.codec.specs.Checkpoint.{IsSlot}
@@ -15,7 +16,7 @@ pub record JournalFields : Type 0 where
 
 -- the rules of a journal block: it is of an object, has an entry, and its entries fit
 unfoldable pub journal_rules : JournalFields → Bool
-journal_rules j = nat_le 1 j.object && (nat_le 1 (length j.entries) && nat_le (entries_length j.entries) 488)
+journal_rules j = nat_le 1 j.object && (nat_le 1 (length j.entries) && nat_le (entries_length j.entries) JOURNAL_ENTRY_BYTES)
 
 -- the numbers of a journal block are in their ranges, and each entry has a spelling
 pub record JournalNumbers (j : JournalFields) : Type 0 where
@@ -30,7 +31,7 @@ IsJournal j = (journal_rules j ≡ true) × JournalNumbers j
 -- the block of a journal
 unfoldable pub journal_spelling : JournalFields → List ℕ
 journal_spelling j =
-    1 ∷ length j.entries ∷ (number w16 (entries_length j.entries) ++ (zeros 4 ++ (number w64 j.object ++ (slot j.previous ++ (flat_map entry_spelling j.entries ++ zeros (488 - entries_length j.entries))))))
+    1 ∷ length j.entries ∷ (number w16 (entries_length j.entries) ++ (zeros 4 ++ (number w64 j.object ++ (slot j.previous ++ (flat_map entry_spelling j.entries ++ zeros (JOURNAL_ENTRY_BYTES - entries_length j.entries))))))
 
 -- the block spells this journal block
 abbrev pub SpellsJournal : List ℕ → JournalFields → Type 0
@@ -54,6 +55,6 @@ journal_at bytes = do
   object ← number_at w64 gap.1
   previous ← slot_at object.1
   entries ← entries_at count.0 previous.1
-  end ← zeros_at (488 - told.0) entries.1
+  end ← zeros_at (JOURNAL_ENTRY_BYTES - told.0) entries.1
   made ← told_journal told.0 (record { object = object.0; previous = previous.0; entries = entries.0 })
   Some (made, end.1)

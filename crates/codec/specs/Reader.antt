@@ -10,8 +10,8 @@ abbrev pub entry_in : List ℕ → ℕ → List EntryFields
 entry_in block start = option_to_list (entry_at (drop start block) >>= λ x. Some x.0)
 
 -- the entries that begin at these bytes
-abbrev pub entries_in : List ℕ → List ℕ → List EntryFields
-entries_in block starts = flat_map (entry_in block) starts
+abbrev pub entries_begun_at : List ℕ → List ℕ → List EntryFields
+entries_begun_at block starts = flat_map (entry_in block) starts
 
 -- an entry begins at this byte of the block
 abbrev pub BeginsAt : List ℕ → ℕ → Type 0

@@ -1,5 +1,6 @@
 ghost use Rattle.std.specs.Prelude.{◌≡◌, ℕ, ◌+◌, ◌*◌, ◌≤◌, ◌<◌, ◌++◌, IsTrue, Bool, true, false, List, [], length, Option, Some, None, IfSome, IfNone, IsSome, ◌&&◌, ◌||◌, not, nat_lt, nat_le};
 ghost use Rattle.std.specs.List.{flat_map, AllByRecursion};
+ghost use Rattle.s4_types.specs.declared.limits.TheConstants.{OBJECT_BLOCKS};
 ghost use Rattle.codec.specs.Fields.{Reads, slot, bit};
 ghost use Rattle.codec.specs.Entry.{EntryFields, same_slot, ascend_from, was_nothing, changes_now, differs, entry_rules, checked_entry, pair_length, entry_length};
 
@@ -118,8 +119,8 @@ fn is_same_slot(one: Option<Ptr>, other: Option<Ptr>) -> bool
 
 /// Whether a triple may stand where indices begin at `low`.
 fn may_stand(low: u8, triple: Triple) -> bool
-    ensures exact { result ≡ (nat_le low triple.index && (nat_lt triple.index 48 && not (same_slot triple.before triple.after))) }
-    ensures room { IsTrue result → triple.index < 48 }
+    ensures exact { result ≡ (nat_le low triple.index && (nat_lt triple.index OBJECT_BLOCKS && not (same_slot triple.before triple.after))) }
+    ensures room { IsTrue result → triple.index < OBJECT_BLOCKS }
 {
     low <= triple.index && triple.index < 48 && !is_same_slot(triple.before, triple.after)
 }

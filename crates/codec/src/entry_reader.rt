@@ -2,16 +2,16 @@ ghost use Rattle.std.specs.Prelude.{◌≡◌, ℕ, ◌≤◌, ◌++◌, ◌==�
 ghost use Rattle.std.specs.List.{AllByRecursion};
 ghost use Rattle.std.specs.Option.{option_to_list};
 ghost use Rattle.codec.specs.Fields.{all_of};
-ghost use Rattle.codec.specs.Entry.{EntryFields, BeginsWith, entry_at, entry_length};
+ghost use Rattle.codec.specs.Entry.{EntryFields, BeginsWithEntry, entry_at, entry_length};
 ghost use Rattle.codec.specs.Journal.{JournalFields, journal_at};
-ghost use Rattle.codec.specs.Reader.{BeginsAt, entry_in, entries_in};
+ghost use Rattle.codec.specs.Reader.{BeginsAt, entry_in, entries_begun_at};
 
 use crate::entries::Entry;
 use crate::entry_reading::read_entry;
-use crate::fields::{read_long, read_slot};
+use crate::fields::read_slot;
 use arrayvec::ArrayVec;
+use s4_types::Ptr;
 use s4_types::limits::{BLOCK_BYTES, JOURNAL_ENTRIES, JOURNAL_ENTRY_BYTES, SHORTEST_ENTRY_BYTES};
-use s4_types::{ObjectId, Ptr};
 use std::marker::Model;
 
 // Of a pointer that changed, in an entry.
@@ -24,7 +24,7 @@ type Starts = ArrayVec<u16, JOURNAL_ENTRIES>;
 /// attributes tell it.
 fn front_bytes(bytes: &[u8]) -> usize
     requires { IsSome (entry_at bytes.now) }
-    ensures { (entry : EntryFields) (rest : List ℕ) → BeginsWith bytes.now entry rest → result ≡ entry_length entry }
+    ensures { (entry : EntryFields) (rest : List ℕ) → BeginsWithEntry bytes.now entry rest → result ≡ entry_length entry }
 {
     let fixed = SHORTEST_ENTRY_BYTES + TRIPLE_BYTES * bytes[9] as usize;
     if bytes[8] < 4 {
@@ -47,7 +47,7 @@ fn bytes_from(block: &[u8], at: usize) -> &[u8]
 /// Where the entries of a journal block begin.
 fn starts_of(block: &[u8]) -> Starts
     requires { IsSome (all_of journal_at block.now) }
-    ensures entries { (j : JournalFields) → all_of journal_at block.now ≡ Some j → entries_in block.now result.items ≡ j.entries }
+    ensures entries { (j : JournalFields) → all_of journal_at block.now ≡ Some j → entries_begun_at block.now result.items ≡ j.entries }
     ensures there { AllByRecursion (BeginsAt block.now) result.items }
     ensures some { 1 ≤ length result.items }
 {
@@ -62,20 +62,16 @@ fn starts_of(block: &[u8]) -> Starts
     starts
 }
 
-/// The object whose journal block it is, and where the one before stands.
-fn head_of(block: &[u8]) -> (ObjectId, Option<Ptr>)
+/// Where the block before a journal block stands, if there is one.
+pub(crate) fn previous_of(block: &[u8]) -> Option<Ptr>
     requires { IsSome (all_of journal_at block.now) }
-    ensures object { (j : JournalFields) → all_of journal_at block.now ≡ Some j → result.0 ≡ j.object }
-    ensures previous { (j : JournalFields) → all_of journal_at block.now ≡ Some j → result.1 ≡ j.previous }
+    ensures { (j : JournalFields) → all_of journal_at block.now ≡ Some j → result ≡ j.previous }
 {
-    let head = bytes_from(block, 8);
-    let Some((object, rest)) = read_long(head) else {
-        unreachable!()
-    };
+    let rest = bytes_from(block, 16);
     let Some((previous, _)) = read_slot(rest) else {
         unreachable!()
     };
-    (ObjectId::new(object), previous)
+    previous
 }
 
 /// The entry that begins at a byte of a block.
@@ -96,7 +92,6 @@ fn entry_from(block: &[u8], start: u16) -> Entry
 /// It keeps the block's bytes, and decodes an entry when it is asked for.
 #[derive(Debug, Drop)]
 pub struct EntryReader {
-    object: ObjectId,
     previous: Option<Ptr>,
     block: [u8; BLOCK_BYTES],
     // Of the entries that were not given.
@@ -106,11 +101,12 @@ pub struct EntryReader {
 impl Model for EntryReader {
     ghost use Rattle.std.specs.List.{AllByRecursion};
     ghost use Rattle.codec.specs.Journal.{JournalFields};
-    ghost use Rattle.codec.specs.Reader.{BeginsAt, entries_in};
+    ghost use Rattle.codec.specs.Patching.{decoded};
+    ghost use Rattle.codec.specs.Reader.{BeginsAt, entries_begun_at};
 
     ghost Value = { JournalFields };
 
-    ghost view = { λ r. record { object = r.object; previous = r.previous; entries = entries_in r.block r.starts.items } };
+    ghost view = { λ r. record { object = (decoded r.block).object; previous = r.previous; entries = entries_begun_at r.block r.starts.items } };
 
     ghost invariant = { λ r. AllByRecursion (BeginsAt r.block) r.starts.items };
 }
@@ -121,7 +117,6 @@ impl EntryReader {
         ensures { result ≡ record { object = 0; previous = None; entries = [] } }
     {
         EntryReader {
-            object: ObjectId::new(0),
             previous: None,
             block: [0; BLOCK_BYTES],
             starts: Starts::new(),
@@ -134,20 +129,13 @@ impl EntryReader {
         ensures reads { all_of journal_at block ≡ Some result }
         ensures some { 1 ≤ length result.entries }
     {
-        let (object, previous) = head_of(&block);
+        let previous = previous_of(&block);
         let starts = starts_of(&block);
         EntryReader {
-            object,
             previous,
             block,
             starts,
         }
-    }
-
-    pub fn object(&self) -> ObjectId
-        ensures { result ≡ self.now.object }
-    {
-        self.object
     }
 
     /// Where the object's previous journal block stands, if it has one.

@@ -1,7 +1,7 @@
 ghost use Rattle.std.specs.Prelude.{◌≡◌, ℕ, ◌+◌, ◌*◌, ◌≤◌, ◌++◌, ◌∷◌, List, length, Option, Some, IfSome};
 ghost use Rattle.std.specs.List.{flat_map, AllByRecursion};
 ghost use Rattle.codec.specs.Fields.{Reads};
-ghost use Rattle.codec.specs.Entry.{EntryFields, IsEntry, IsTriple, IsPair, entry_at, flags_byte, text, pair_spelling, triple_spelling, entry_spelling, entry_length, pair_length, BeginsWith};
+ghost use Rattle.codec.specs.Entry.{EntryFields, IsEntry, IsTriple, IsPair, entry_at, flags_byte, text, pair_spelling, triple_spelling, entry_spelling, entry_length, pair_length, BeginsWithEntry};
 
 use crate::attributes::Attribute;
 use crate::entries::{Entry, Pair, Triple};
@@ -90,8 +90,8 @@ pub fn encode_entry(entry: &Entry, out: &mut Writing)
 /// The entry whose spelling the bytes begin with, and the bytes behind it. None where they begin with the
 /// spelling of no entry.
 pub fn decode_entry(bytes: &[u8]) -> Option<(Entry, &[u8])>
-    ensures found { IfSome result (λ x. BeginsWith bytes.now x.0 x.1.now) }
-    ensures only { (entry : EntryFields) (rest : List ℕ) → BeginsWith bytes.now entry rest → Reads {Y = EntryFields × List ℕ} (λ x. (x.0, x.1.now)) result (Some (entry, rest)) }
+    ensures found { IfSome result (λ x. BeginsWithEntry bytes.now x.0 x.1.now) }
+    ensures only { (entry : EntryFields) (rest : List ℕ) → BeginsWithEntry bytes.now entry rest → Reads {Y = EntryFields × List ℕ} (λ x. (x.0, x.1.now)) result (Some (entry, rest)) }
 {
     read_entry(bytes)
 }

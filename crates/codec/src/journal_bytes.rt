@@ -1,14 +1,17 @@
 ghost use Rattle.std.specs.Prelude.{◌≡◌, ◌+◌, ◌≤◌, ◌++◌, [], ◌∷◌, length, take, drop, Option, Some, IsSome, nat_le};
+ghost use Rattle.s4_types.specs.declared.limits.TheConstants.{JOURNAL_ENTRY_BYTES};
 ghost use Rattle.codec.specs.Fields.{Reads, all_of, kept};
 ghost use Rattle.codec.specs.Entry.{entry_length, entries_length};
 ghost use Rattle.codec.specs.Journal.{JournalFields, SpellsJournal, journal_at};
 ghost use Rattle.codec.specs.Patching.{decoded, with_entry};
 
 use crate::entries::Entry;
+use crate::entry_reader::previous_of;
 use crate::entry_writing::encode_entry;
-use crate::fields::{read_long, read_slot};
+use crate::fields::read_long;
 use crate::journal_writing::encode_entries;
 use crate::writing::Writing;
+use byteorder::{BigEndian, ByteOrder};
 use s4_types::limits::{BLOCK_BYTES, JOURNAL_ENTRY_BYTES};
 use s4_types::{ObjectId, Ptr};
 use std::marker::Model;
@@ -37,26 +40,24 @@ impl Model for JournalBytes {
     ghost invariant = { λ b. SpellsJournal b.block (decoded b.block) };
 }
 
-// A law: bytes that can be read are the spelling of what is read.
-fn can_be_read(block: &[u8; BLOCK_BYTES])
-    requires { IsSome (all_of journal_at block.now) }
-    ensures { SpellsJournal block.now (decoded block.now) }
-{
-    let _told = told_in(block);
-}
-
-// A law: an entry has room in an empty block.
-fn fits_alone(entry: &Entry)
-    ensures { entry_length entry.now ≤ 488 }
-{
-    let _bytes = entry.byte_count();
-}
-
 /// The bytes that the entries were told to have.
 fn told_in(block: &[u8; BLOCK_BYTES]) -> usize
     ensures { (j : JournalFields) → SpellsJournal block.now j → result ≡ entries_length j.entries }
 {
-    u16::from_be_bytes([block[2], block[3]]) as usize
+    BigEndian::read_u16(&block[2..]) as usize
+}
+
+/// A law: bytes that can be read are the spelling of what is read.
+fn can_be_read(block: &[u8])
+    requires { IsSome (all_of journal_at block.now) }
+    ensures { SpellsJournal block.now (decoded block.now) }
+{}
+
+/// Shows that an entry has room in an empty block: its bytes are counted, and the count is used for nothing else.
+fn show_room(entry: &Entry)
+    ensures { entry_length entry.now ≤ JOURNAL_ENTRY_BYTES }
+{
+    let _bytes = entry.byte_count();
 }
 
 fn count_in(block: &[u8; BLOCK_BYTES]) -> u8
@@ -75,7 +76,7 @@ fn put_at(block: &mut [u8; BLOCK_BYTES], at: usize, bytes: &[u8])
 /// Spells the entry behind the others, and counts it and its bytes.
 fn patch(block: &mut [u8; BLOCK_BYTES], entry: &Entry)
     requires spells { SpellsJournal block.old (decoded block.old) }
-    requires room { entries_length (decoded block.old).entries + entry_length entry.now ≤ 488 }
+    requires room { entries_length (decoded block.old).entries + entry_length entry.now ≤ JOURNAL_ENTRY_BYTES }
     ensures { SpellsJournal block.new (with_entry (decoded block.old) entry.now) }
 {
     let mut spelled = Writing::new();
@@ -96,7 +97,7 @@ impl JournalBytes {
         if object.number() < 1 {
             return None;
         }
-        fits_alone(entry);
+        show_room(entry);
         Some(JournalBytes {
             block: encode_entries(object, previous, slice::from_ref(entry)),
         })
@@ -113,14 +114,14 @@ impl JournalBytes {
 
     /// Whether one entry more has room behind the others.
     pub fn fits(&self, entry: &Entry) -> bool
-        ensures { result ≡ nat_le (entries_length self.now.entries + entry_length entry.now) 488 }
+        ensures { result ≡ nat_le (entries_length self.now.entries + entry_length entry.now) JOURNAL_ENTRY_BYTES }
     {
         self.entry_bytes() + entry.byte_count() <= JOURNAL_ENTRY_BYTES
     }
 
     /// Appends an entry that fits: its bytes are written behind the others', and the counts are raised.
     pub fn add(&mut self, entry: &Entry)
-        requires { entries_length self.old.entries + entry_length entry.now ≤ 488 }
+        requires { entries_length self.old.entries + entry_length entry.now ≤ JOURNAL_ENTRY_BYTES }
         ensures object { self.new.object ≡ self.old.object }
         ensures previous { self.new.previous ≡ self.old.previous }
         ensures entries { self.new.entries ≡ self.old.entries ++ entry.now ∷ [] }
@@ -139,16 +140,13 @@ impl JournalBytes {
     pub fn previous(&self) -> Option<Ptr>
         ensures { result ≡ self.now.previous }
     {
-        match read_slot(&self.block[16..]) {
-            Some((previous, _)) => previous,
-            None => None,
-        }
+        previous_of(&self.block)
     }
 
     /// How many bytes the entries have together: 34 to 488.
     pub fn entry_bytes(&self) -> usize
         ensures exact { result ≡ entries_length self.now.entries }
-        ensures most { result ≤ 488 }
+        ensures most { result ≤ JOURNAL_ENTRY_BYTES }
     {
         told_in(&self.block)
     }

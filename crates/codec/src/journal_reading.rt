@@ -1,12 +1,12 @@
 ghost use Rattle.std.specs.Prelude.{◌≡◌, ℕ, List, length, Option, Some, IfSome};
 ghost use Rattle.codec.specs.Fields.{Reads, all_of};
-ghost use Rattle.codec.specs.Journal.{JournalFields, entries_at, journal_at, SpellsJournal};
+ghost use Rattle.codec.specs.Journal.{JournalFields, entries_at, told_journal, journal_at, SpellsJournal};
 
 use crate::entry_reading::read_entry;
 use crate::fields::{read_byte, read_long, read_mark, read_short, read_slot, read_zeros};
-use crate::journals::{Entries, JournalBlock};
-use s4_types::ObjectId;
+use crate::journals::{Entries, JournalBlock, byte_sum};
 use s4_types::limits::{BLOCK_BYTES, JOURNAL_ENTRIES, JOURNAL_ENTRY_BYTES};
+use s4_types::{ObjectId, Ptr};
 
 #[tactic(auto, unfolding(crate::specs::Journal::entries_at))]
 fn read_entries(count: u8, bytes: &[u8]) -> Option<(Entries, &[u8])>
@@ -27,6 +27,22 @@ fn read_entries(count: u8, bytes: &[u8]) -> Option<(Entries, &[u8])>
     Some((entries, rest))
 }
 
+/// The journal block of entries that were told to have so many bytes together.
+#[tactic(auto, unfolding(crate::specs::Journal::told_journal))]
+fn block_told(
+    told: u16,
+    object: ObjectId,
+    previous: Option<Ptr>,
+    entries: Entries,
+) -> Option<JournalBlock>
+    ensures { Reads (λ j. j) result (told_journal told (record { object = object; previous = previous; entries = entries.items })) }
+{
+    if byte_sum(entries.as_slice()) != told as usize {
+        return None;
+    }
+    JournalBlock::new(object, previous, entries)
+}
+
 #[tactic(auto, unfolding(crate::specs::Journal::journal_at))]
 fn read_journal(bytes: &[u8]) -> Option<(JournalBlock, &[u8])>
     ensures { Reads (λ x. (x.0, x.1.now)) result (journal_at bytes.now) }
@@ -43,7 +59,7 @@ fn read_journal(bytes: &[u8]) -> Option<(JournalBlock, &[u8])>
         return None;
     };
     let rest = read_zeros(JOURNAL_ENTRY_BYTES.saturating_sub(told as usize), rest)?;
-    let journal = JournalBlock::told(told, ObjectId::new(object), previous, entries)?;
+    let journal = block_told(told, ObjectId::new(object), previous, entries)?;
     Some((journal, rest))
 }
 

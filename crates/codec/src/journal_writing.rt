@@ -1,6 +1,7 @@
 ghost use Rattle.std.specs.Prelude.{◌≡◌, ℕ, ◌+◌, ◌^◌, ◌<◌, ◌≤◌, ◌++◌, ◌∷◌, List, length, Option, Some, IfSome};
 ghost use Rattle.std.specs.Int.{w16};
 ghost use Rattle.std.specs.List.{flat_map, AllByRecursion};
+ghost use Rattle.s4_types.specs.declared.limits.TheConstants.{JOURNAL_ENTRY_BYTES};
 ghost use Rattle.codec.specs.Fields.{all_of, number};
 ghost use Rattle.codec.specs.Entry.{EntryFields, IsEntry, entry_spelling, entries_length};
 ghost use Rattle.codec.specs.Journal.{JournalFields, SpellsJournal, journal_at};
@@ -34,7 +35,7 @@ pub fn encode_entries(
 ) -> [u8; BLOCK_BYTES]
     requires of_one { 1 ≤ object }
     requires some { 1 ≤ length entries.now }
-    requires fit { entries_length entries.now ≤ 488 }
+    requires fit { entries_length entries.now ≤ JOURNAL_ENTRY_BYTES }
     ensures { SpellsJournal result (record { object = object; previous = previous; entries = entries.now }) }
 {
     let bytes = byte_sum(entries);

@@ -1,10 +1,11 @@
 //! Laws of the spellings, for the layers above: each function does nothing, and its contract is the law.
 
 ghost use Rattle.std.specs.Prelude.{◌≡◌, ◌↔◌, ℕ, ◌≤◌, ◌++◌, true, List, length, Option, Some};
+ghost use Rattle.s4_types.specs.declared.limits.TheConstants.{JOURNAL_ENTRY_BYTES};
 ghost use Rattle.s4_types.specs.Pointer.{Place};
 ghost use Rattle.codec.specs.Fields.{SpellsSlot, all_of};
 ghost use Rattle.codec.specs.Checkpoint.{CheckpointFields, SpellsCheckpoint, checkpoint_at};
-ghost use Rattle.codec.specs.Entry.{EntryFields, IsEntry, BeginsWith, entry_spelling, entry_length, entries_length};
+ghost use Rattle.codec.specs.Entry.{EntryFields, IsEntry, BeginsWithEntry, entry_spelling, entry_length, entries_length};
 ghost use Rattle.codec.specs.Summary.{SummaryFields, KeepsSummaryRules, SpellsSummary, summary_rules, summary_spelling};
 
 /// No two pointers share a spelling, nor a pointer and a hole.
@@ -24,8 +25,8 @@ pub fn a_checkpoint_is_read()
 
 /// No two entries share a spelling, and none is the beginning of another's.
 pub fn one_entry_a_spelling()
-    ensures entry { (bytes rest behind : List ℕ) (e f : EntryFields) → BeginsWith bytes e rest → BeginsWith bytes f behind → e ≡ f }
-    ensures rest { (bytes rest behind : List ℕ) (e f : EntryFields) → BeginsWith bytes e rest → BeginsWith bytes f behind → rest ≡ behind }
+    ensures entry { (bytes rest behind : List ℕ) (e f : EntryFields) → BeginsWithEntry bytes e rest → BeginsWithEntry bytes f behind → e ≡ f }
+    ensures rest { (bytes rest behind : List ℕ) (e f : EntryFields) → BeginsWithEntry bytes e rest → BeginsWithEntry bytes f behind → rest ≡ behind }
 {}
 
 /// The length of an entry is that of its spelling, at least 34 and at most 436 bytes.
@@ -37,7 +38,7 @@ pub fn entry_is_so_long()
 
 /// At most 14 entries fit the 488 bytes of a journal block.
 pub fn fourteen_entries_fit()
-    ensures { (entries : List EntryFields) → entries_length entries ≤ 488 → length entries ≤ 14 }
+    ensures { (entries : List EntryFields) → entries_length entries ≤ JOURNAL_ENTRY_BYTES → length entries ≤ 14 }
 {}
 
 /// The rules of a summary are these: its generation is 1 to 2^32 - 2, one to 15 blocks are used, and each has an object.

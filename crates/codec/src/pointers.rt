@@ -1,6 +1,7 @@
 ghost use Rattle.std.specs.Prelude.{◌≡◌, ℕ, ◌+◌, ◌*◌, ◌≤◌, ◌++◌, [], ◌∷◌, List, length, Option, IfSome};
 ghost use Rattle.s4_types.specs.Pointer.{Place, IsPlace};
 ghost use Rattle.std.specs.List.{flat_map, AllByRecursion};
+ghost use Rattle.s4_types.specs.declared.limits.TheConstants.{OBJECT_BLOCKS};
 ghost use Rattle.codec.specs.Checkpoint.{IsSlot};
 ghost use Rattle.codec.specs.Fields.{Reads, all_of, many_at, slot_at, slot, SpellsSlot};
 
@@ -73,8 +74,8 @@ pub(crate) fn put_slot(out: &mut Writing, ptr: Option<Ptr>)
 
 /// As many pointers as an inode has.
 pub(crate) fn read_slots(bytes: &[u8]) -> Option<(Slots, &[u8])>
-    ensures read { Reads (λ x. (x.0.items, x.1.now)) result (many_at slot_at 48 bytes.now) }
-    ensures all { IfSome result (λ x. length x.0.items ≡ 48) }
+    ensures read { Reads (λ x. (x.0.items, x.1.now)) result (many_at slot_at OBJECT_BLOCKS bytes.now) }
+    ensures all { IfSome result (λ x. length x.0.items ≡ OBJECT_BLOCKS) }
 {
     let mut slots: Slots = ArrayVec::new();
     let mut rest = bytes;
@@ -90,7 +91,7 @@ pub(crate) fn read_slots(bytes: &[u8]) -> Option<(Slots, &[u8])>
 
 /// The pointers of an inode, once all are there.
 pub(crate) fn all_slots(slots: Slots) -> [Option<Ptr>; OBJECT_BLOCKS]
-    requires { length slots.items ≡ 48 }
+    requires { length slots.items ≡ OBJECT_BLOCKS }
     ensures { result ≡ slots.items }
 {
     match slots.into_inner() {
@@ -103,7 +104,7 @@ pub(crate) fn put_slots(out: &mut Writing, slots: &[Option<Ptr>; OBJECT_BLOCKS])
     requires { length out.old.items + 384 ≤ 512 }
     ensures items { out.new.items ≡ out.old.items ++ flat_map slot slots.now }
     ensures len { length out.new.items ≡ length out.old.items + 384 }
-    ensures count { length slots.now ≡ 48 }
+    ensures count { length slots.now ≡ OBJECT_BLOCKS }
     ensures range { AllByRecursion IsSlot slots.now }
 {
     for slot in slots {

@@ -13,7 +13,7 @@ use Rattle.version_store.specs.Store.{StoreFields, IsStore}
 use Rattle.version_store.specs.Versions.{version_in, version_by, inode_by}
 use Rattle.segment_table.specs.Room.{places, new_places}
 use Rattle.window.specs.Timeline.{Timeline, StandsFor}
-use Rattle.drive.specs.Keeping.{IsKept}
+use Rattle.drive.specs.Keeping.{IsKeptDrive}
 
 length-places : (f g b n : ℕ) → length (places f g b n) ≡ n
 unfolding places
@@ -37,12 +37,12 @@ first_version : (window o t : ℕ) → Absent ≡ version_of (state_of (new_hist
 first_version window o t = elim (nat_le t 0) as (λ b. Absent ≡ cond b Absent Absent) [ true ↦ refl | false ↦ refl ]
 
 -- what holds of a drive holds of a new one
-pub kept_new : ANewDriveIsSound → (window : ℕ) (store : StoreFields) (w : Timeline) → IsStore store → ((o : ℕ) → row_of store.rows o ≡ None) → store.latest ≡ 0 → StandsFor w (state_of (new_history window)) → IsKept (state_of (new_history window)) store w 1
+pub kept_new : ANewDriveIsSound → (window : ℕ) (store : StoreFields) (w : Timeline) → IsStore store → ((o : ℕ) → row_of store.rows o ≡ None) → store.latest ≡ 0 → StandsFor w (state_of (new_history window)) → IsKeptDrive (state_of (new_history window)) store w 1
 kept_new sound window store w is_store none latest stands = record {
   window = stands;
   next = refl;
   store = is_store;
-  versions = λ o t. no_version store o t (none o) ∙ first_version window o t;
+  versions = λ o t needed. no_version store o t (none o) ∙ first_version window o t;
   past = omega (arith, latest);
   unborn = λ o ge. none o;
   sound = sound window;

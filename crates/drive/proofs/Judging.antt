@@ -1,8 +1,7 @@
 -- Judging a request for a version by the present inode of its object.
 use Rattle.std.proofs.Common.{◌≡◌, ℕ, ◌+◌, ◌≤◌, Bool, true, false, cond, Option, Some, None, IsSome, List, length, refl, sym, ap, subst, ◌∙◌, arith}
 use Rattle.std.proofs.lemmas.Bool.{le-ltb, false≢true}
-use Rattle.std.proofs.lemmas.Option.{none-some}
-use Rattle.std.specs.Prelude.{nat_lt, unwrap_or}
+use Rattle.std.specs.Prelude.{nat_lt}
 use Rattle.s4_types.specs.Pointer.{Place}
 use Rattle.s4_types.specs.declared.changes.Change.{Change}
 use Rattle.s4_types.specs.declared.changes.Change.TheVariants as change
@@ -19,28 +18,26 @@ use Rattle.s4_model.specs.Refusals.{live_size_of, present, is_absent, first_refu
 use Rattle.s4_model.specs.Limits.{Fits}
 use Rattle.block_log.specs.Log.{Stored}
 use Rattle.codec.specs.declared.inodes.Inode.{Inode}
-use Rattle.undo_redo.specs.Runs.{blank}
 use Rattle.inode.specs.Contents.{contents_of, bytes_of, meaning}
 use Rattle.inode.specs.Laws.{TheSizeCountsTheBytes}
 use Rattle.object_map.specs.declared.map.Row.{Row}
 use Rattle.object_map.specs.Rows.{row_of}
 use Rattle.version_store.specs.Store.{StoreFields}
-use Rattle.version_store.specs.Costs.{subject_inode}
-use Rattle.version_store.specs.Versions.{inode_in, inode_by, version_in, version_by}
-use Rattle.version_store.specs.Taking.{Takes, IsReady, IsThere}
-use Rattle.version_store.specs.Laws.{ThePresentStays, ChangesBeginWithThePresent}
+use Rattle.version_store.specs.Versions.{inode_in, version_in, version_by}
+use Rattle.version_store.specs.Taking.{Takes, IsReadyFor, IsThere}
+use Rattle.version_store.specs.Laws.{ThePresentStays}
 use Rattle.window.specs.Timeline.{Timeline}
 use Rattle.admission.specs.Later.{later_refusal, IsWithin, IsOfVersions, IsAllowed, HasSize, object_asked}
 use Rattle.s4_model.specs.Effect.{object_of}
-use Rattle.drive.specs.Keeping.{IsKept}
+use Rattle.drive.specs.Keeping.{IsKeptDrive}
 use Rattle.drive.specs.Answering.{size_by}
-use Rattle.drive.proofs.Kept.{there_is_given}
+use Rattle.drive.proofs.Kept.{there_is_given, latest_is_present}
 
 -- ---- the present inode
 
 -- the version of an object now is the one that its present inode stands for
-pub present_is : ThePresentStays → (s : State) (store : StoreFields) (w : Timeline) (next o : ℕ) → IsKept s store w next → present s o ≡ version_in store o store.latest
-present_is stays s store w next o kept = sym (kept.versions o s.clock) ∙ (stays store o s.clock kept.store kept.past).1
+pub present_is : ThePresentStays → (s : State) (store : StoreFields) (w : Timeline) (next o : ℕ) → IsKeptDrive s store w next → present s o ≡ version_in store o store.latest
+present_is stays s store w next o kept = sym (latest_is_present stays s store w next o kept)
 
 size_of_meaning : TheSizeCountsTheBytes → (contents : Place → List ℕ) (i : Inode) → live_size_of (meaning contents i) ≡ cond i.alive (Some i.size) None
 size_of_meaning count contents i =
@@ -54,7 +51,7 @@ size_of_version count held None = refl
 size_of_version count held (Some i) = size_of_meaning count (contents_of held) i
 
 -- its size is what that inode tells
-pub size_is : TheSizeCountsTheBytes → ThePresentStays → (s : State) (store : StoreFields) (w : Timeline) (next o : ℕ) (found : Option Inode) → IsKept s store w next → found ≡ inode_in store o store.latest → live_size_of (present s o) ≡ size_by found
+pub size_is : TheSizeCountsTheBytes → ThePresentStays → (s : State) (store : StoreFields) (w : Timeline) (next o : ℕ) (found : Option Inode) → IsKeptDrive s store w next → found ≡ inode_in store o store.latest → live_size_of (present s o) ≡ size_by found
 size_is count stays s store w next o found kept is =
     ap (λ (v : Version). live_size_of v) (present_is stays s store w next o kept)
     ∙ size_of_version count store.log.held (inode_in store o store.latest)
@@ -71,18 +68,6 @@ version_is_there held (Some i) h = alive_is_there i.alive (bytes_of (contents_of
 -- an object that has a size is there
 pub there_is : (store : StoreFields) (o : ℕ) (found : Option Inode) → found ≡ inode_in store o store.latest → IsSome (size_by found) → IsThere store o
 there_is store o found is h = subst (λ (i : Option Inode). is_absent (version_by store.log.held i) ≡ false) is (version_is_there store.log.held found h)
-
-no_row : (store : StoreFields) (o : ℕ) (row : Option Row) → None ≡ inode_by store.log.held o store.latest row → row ≡ None
-no_row store o None is = refl
-no_row store o (Some row) is = absurd (none-some _ is)
-
-begins_with : ChangesBeginWithThePresent → (store : StoreFields) (o m : ℕ) (found : Option Inode) → found ≡ inode_in store o store.latest → unwrap_or found (blank m) ≡ subject_inode store o m
-begins_with begins store o m None is = sym ((begins store o m).1 (no_row store o (row_of store.rows o) is))
-begins_with begins store o m (Some i) is = sym ((begins store o m).0 i (sym is))
-
--- a change begins with the present inode, or with a blank one
-pub subject_is : ChangesBeginWithThePresent → (store : StoreFields) (o q m : ℕ) (found : Option Inode) → q ≡ o → found ≡ inode_in store o store.latest → unwrap_or found (blank m) ≡ subject_inode store q m
-subject_is begins store o q m found same is = begins_with begins store o m found is ∙ ap (λ (x : ℕ). subject_inode store x m) (sym same)
 
 -- ---- the checks
 
@@ -101,7 +86,7 @@ has_size s (FlushO object first last) next size of h = absurd of
 
 -- the size that the present inode tells is that of the object that is asked of
 pub size_asked : TheSizeCountsTheBytes → ThePresentStays → (s : State) (store : StoreFields) (w : Timeline) (next o at : ℕ) (found : Option Inode) (request : Request) (size : Option ℕ)
-    → IsKept s store w next → IsOfVersions request → o ≡ object_asked next request → at ≡ store.latest → found ≡ inode_in store o at → size ≡ size_by found → HasSize s request size
+    → IsKeptDrive s store w next → IsOfVersions request → o ≡ object_asked next request → at ≡ store.latest → found ≡ inode_in store o at → size ≡ size_by found → HasSize s request size
 size_asked count stays s store w next o at found request size kept of is now inode tells =
     has_size s request next size of
     (ap (λ (x : ℕ). live_size_of (present s x)) (sym is)
@@ -128,22 +113,22 @@ admin_is_later s (FlushO object first last) within of = absurd of
 -- ---- what a store takes
 
 -- what is allowed by the present size can be taken
-is_ready : (s : State) (store : StoreFields) (w : Timeline) (next : ℕ) (size : Option ℕ) (c : Change) → IsKept s store w next → IsAllowed next size c → (IsSome size → IsThere store (object_of c)) → (IsReady store c) × (1 ≤ object_of c)
-is_ready s store w next size (change.Create object attribute) kept allowed there =
+is_ready : ThePresentStays → (s : State) (store : StoreFields) (w : Timeline) (next : ℕ) (size : Option ℕ) (c : Change) → IsKeptDrive s store w next → IsAllowed next size c → (IsSome size → IsThere store (object_of c)) → (IsReadyFor store c) × (1 ≤ object_of c)
+is_ready stays s store w next size (change.Create object attribute) kept allowed there =
     let o : object ≡ next = allowed.0 in
     let n : next ≡ s.next = kept.next in
     let low : 1 ≤ s.next = kept.sound.numbered in
     (kept.unborn object (omega arith), omega arith)
-is_ready s store w next size (change.Delete object) kept allowed there = (there allowed, (there_is_given s store w next object kept (there allowed)).0)
-is_ready s store w next size (change.Write object offset bytes) kept allowed there = (there allowed, (there_is_given s store w next object kept (there allowed)).0)
-is_ready s store w next size (change.Truncate object n) kept allowed there = (there allowed, (there_is_given s store w next object kept (there allowed)).0)
-is_ready s store w next size (change.SetAttr object attribute) kept allowed there = (there allowed, (there_is_given s store w next object kept (there allowed)).0)
-is_ready s store w next size (change.SetWindow window) kept allowed there = absurd allowed
-is_ready s store w next size (change.Flush first last) kept allowed there = absurd allowed
-is_ready s store w next size (change.FlushO object first last) kept allowed there = absurd allowed
+is_ready stays s store w next size (change.Delete object) kept allowed there = (there allowed, (there_is_given stays s store w next object kept (there allowed)).0)
+is_ready stays s store w next size (change.Write object offset bytes) kept allowed there = (there allowed, (there_is_given stays s store w next object kept (there allowed)).0)
+is_ready stays s store w next size (change.Truncate object n) kept allowed there = (there allowed, (there_is_given stays s store w next object kept (there allowed)).0)
+is_ready stays s store w next size (change.SetAttr object attribute) kept allowed there = (there allowed, (there_is_given stays s store w next object kept (there allowed)).0)
+is_ready stays s store w next size (change.SetWindow window) kept allowed there = absurd allowed
+is_ready stays s store w next size (change.Flush first last) kept allowed there = absurd allowed
+is_ready stays s store w next size (change.FlushO object first last) kept allowed there = absurd allowed
 
-pub can_take : (s : State) (store : StoreFields) (w : Timeline) (next o : ℕ) (found : Option Inode) (c : Change) → IsKept s store w next → found ≡ inode_in store o store.latest → object_of c ≡ o → Fits c → IsAllowed next (size_by found) c → Takes store c
-can_take s store w next o found c kept is same fits allowed =
+pub can_take : ThePresentStays → (s : State) (store : StoreFields) (w : Timeline) (next o : ℕ) (found : Option Inode) (c : Change) → IsKeptDrive s store w next → found ≡ inode_in store o store.latest → object_of c ≡ o → Fits c → IsAllowed next (size_by found) c → Takes store c
+can_take stays s store w next o found c kept is same fits allowed =
     let there : IsSome (size_by found) → IsThere store (object_of c) = λ h. subst (λ (x : ℕ). IsThere store x) (sym same) (there_is store o found is h) in
-    let ready = is_ready s store w next (size_by found) c kept allowed there in
+    let ready = is_ready stays s store w next (size_by found) c kept allowed there in
     record { fits = fits; numbered = ready.1; ready = ready.0 }

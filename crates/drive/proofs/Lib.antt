@@ -1,4 +1,5 @@
 pub mod Versions
+pub mod Needed
 pub mod Kept
 pub mod Stepping
 pub mod Beginning

@@ -10,7 +10,7 @@ use Rattle.segment_table.specs.Room.{log_of}
 use Rattle.version_store.specs.Store.{StoreOf, fields_of}
 use Rattle.window.specs.Timeline.{Timeline}
 use Rattle.drive.specs.Fields.{DriveFields, state_in, store_of}
-use Rattle.drive.specs.Keeping.{IsKept}
+use Rattle.drive.specs.Keeping.{IsKeptDrive}
 use Rattle.drive.proofs.Versions.{counted_by_moments}
 
 -- a drive of this history and these objects
@@ -18,8 +18,8 @@ abbrev pub drive_as : Ledger → StoreOf Table → DriveFields
 drive_as l store = record { ledger = l; store = store }
 
 pub kept_of : (d : DriveFields) (base : Base) (l : Ledger) (store : StoreOf Table) (w : Timeline) (next : ℕ) → drive_as l store ≡ d
-    → (l.history.base ≡ base) × IsKept (state_of l.history) (fields_of log_of store) w next → IsKept (state_in d) (store_of d) w next
-kept_of d base l store w next is kept = subst (λ (x : DriveFields). IsKept (state_in x) (store_of x) w next) is kept.1
+    → (l.history.base ≡ base) × IsKeptDrive (state_of l.history) (fields_of log_of store) w next → IsKeptDrive (state_in d) (store_of d) w next
+kept_of d base l store w next is kept = subst (λ (x : DriveFields). IsKeptDrive (state_in x) (store_of x) w next) is kept.1
 
 -- a number is left for one more change
 pub can_count : (l : Ledger) → IsSound (state_of l.history) → (state_of l.history).clock < last_number → count_of l + 1 < 2 ^ 64

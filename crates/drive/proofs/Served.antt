@@ -1,5 +1,5 @@
 -- What a request is answered and what it leaves, by what its parts came to.
-use Rattle.std.proofs.Common.{◌≡◌, ◌≢◌, ℕ, Bool, true, false, cond, inl, inr, Option, Some, None, List, [], ◌∷◌, ◌++◌, refl, sym, ap, subst, ◌∙◌, arith}
+use Rattle.std.proofs.Common.{◌≡◌, ◌≢◌, ◌⊎◌, ℕ, Bool, true, false, cond, inl, inr, Option, Some, None, List, [], ◌∷◌, ◌++◌, refl, sym, ap, subst, ◌∙◌, arith}
 use Rattle.std.proofs.lemmas.Option.{none-some, same_Some}
 use Rattle.std.specs.Prelude.{MatchBool, Result, Ok, Err, MatchResult, IfOk, IfErr, OnOk}
 use Rattle.std.specs.List.{find, AllByRecursion}
@@ -23,14 +23,13 @@ use Rattle.s4_model.specs.Refusals.{first_refusal, applies, checks, asked}
 use Rattle.s4_model.specs.Step.{Step, Refuses, MayRefuse, AsFirst, ForMemory, AsOpen, IsLeftOpen, judged, change_of, stamp, reply_at, reply_to_read, data_of, attributes_of}
 use Rattle.s4_model.specs.Plain.{IsChange}
 use Rattle.segment_word.specs.AcceptViews.{Ledger, with_moment, credited, caught_up}
-use Rattle.segment_word.specs.AcceptRule.{Fits}
+use Rattle.segment_word.specs.AcceptRule.{FitsLedger}
 use Rattle.version_store.specs.Store.{StoreFields}
 use Rattle.drive.specs.Fields.{DriveFields, SessionFields, store_of, state_in, history_of}
-use Rattle.drive.specs.Refusing.{or_then, want_of, refusal_of, WantsPin, RefusesBy, IsRefusal, IsJudgedOut, IsUnplanned}
+use Rattle.drive.specs.Refusing.{or_then, want_of, refusal_of, MayLackMemory, WantsPin, RefusesBy, IsRefusal, IsJudgedOut, IsUnplanned}
 use Rattle.time_read.specs.Plans.{PlanFields, bytes_planned}
-use Rattle.drive.specs.Answering.{is_acceptance, told_after, owners_after, Stores, Leaves, TakesChange, RefusesChange, IsRead, reply_planned}
-use Rattle.drive.proofs.Stepping.{may_refuse, step_accepts, step_refuses, step_tells, judged_as_it_was}
-use Rattle.drive.proofs.Storing.{refuses_judged}
+use Rattle.drive.specs.Answering.{is_acceptance, told_after, owners_after, StoresChange, Leaves, TakesChange, RefusesChange, IsRead, reply_planned}
+use Rattle.drive.proofs.Stepping.{open_of_want, or_then_some, may_refuse, step_accepts, step_refuses, step_tells, judged_as_it_was}
 
 -- ---- which replies are of accepted changes
 
@@ -166,8 +165,58 @@ unfolding IsWhole
 refusal_fits s role store request now e is = may_is_whole s role request e (may_refuse (first_refusal s role request) store s request now e is)
 
 refused_by : (first : Option Refusal) (store : StoreFields) (d : DriveFields) (s : State) (request : Request) (now : ℕ) (e : Refusal) → IsRefusal first store s request now e → RefusesBy (or_then first (want_of store s request now)) d request (Refused e)
-refused_by first store d s request now e (inl h) = inl (h.0, h.2)
+refused_by first store d s request now e (inl h) = inl h
 refused_by first store d s request now e (inr is) = inr (inl is)
+
+-- ---- want of memory
+
+IsNoLack : Refusal → Type 0
+IsNoLack r = number_of r ≢ 10
+
+checks_lack_nothing : AllByRecursion IsNoLack checks
+unfolding IsNoLack
+checks_lack_nothing = (
+  λ e. absurd (omega (arith, e)),
+  (λ e. absurd (omega (arith, e)), (λ e. absurd (omega (arith, e)), (λ e. absurd (omega (arith, e)), (λ e. absurd (omega (arith, e)), (λ e. absurd (omega (arith, e)), (λ e. absurd (omega (arith, e)), (λ e. absurd (omega (arith, e)), (λ e. absurd (omega (arith, e)), (λ e. absurd (omega (arith, e)), tt))))))))),
+)
+
+no_check_lacks : (s : State) (role : Role) (request : Request) → first_refusal s role request ≡ Some refusal.NoMemory → ⊥
+unfolding IsNoLack
+no_check_lacks s role request is = found_passes (applies s role request) IsNoLack checks refusal.NoMemory checks_lack_nothing is refl
+
+-- neither a check nor what a change lacks is want of memory
+none_lacks : (s : State) (role : Role) (request : Request) (want : Option Refusal) → (want ≡ Some refusal.NoMemory → ⊥) → (first_refusal s role request ≡ Some refusal.NoMemory) ⊎ ((first_refusal s role request ≡ None) × (want ≡ Some refusal.NoMemory)) → ⊥
+none_lacks s role request want never (inl is) = no_check_lacks s role request is
+none_lacks s role request want never (inr is) = never is.1
+
+busy_lacks : refusal.NoMemory ≡ refusal.Busy → ⊥
+busy_lacks e = let same : number_of refusal.NoMemory ≡ number_of refusal.Busy = ap (λ (r : Refusal). number_of r) e in absurd (omega (arith, same))
+
+first_lacks : (first want : Option Refusal) (request : Request) → MayLackMemory (or_then first want) request → MayLackMemory first request
+first_lacks (Some r) want request lacks = lacks
+first_lacks None want (Create attribute) lacks = refl
+first_lacks None want (Read object offset len at) lacks = refl
+first_lacks None want (GetAttr object at) lacks = refl
+first_lacks None want (Flush first last) lacks = tt
+first_lacks None want (FlushO object first last) lacks = tt
+first_lacks None want (Delete object) lacks = absurd lacks
+first_lacks None want (Write object offset bytes) lacks = absurd lacks
+first_lacks None want (Append object bytes) lacks = absurd lacks
+first_lacks None want (Truncate object size) lacks = absurd lacks
+first_lacks None want (SetAttr object attribute) lacks = absurd lacks
+first_lacks None want (SetWindow window) lacks = absurd lacks
+
+lacked_by : (first want : Option Refusal) (d : DriveFields) (request : Request) → (or_then first want ≡ Some refusal.NoMemory → ⊥) → RefusesBy (or_then first want) d request (Refused refusal.NoMemory) → MayLackMemory first request
+lacked_by first want d request never (inl h) = first_lacks first want request h.1
+lacked_by first want d request never (inr (inl is)) = absurd (never is)
+lacked_by first want d request never (inr (inr busy)) = absurd (busy_lacks busy.0)
+
+-- where want of memory is answered, the checks let it stand
+pub lacked : (store : StoreFields) (s : State) (role : Role) (d : DriveFields) (request : Request) (now : ℕ) (given : Reply) → RefusesBy (refusal_of store s role request now) d request given → given ≡ Refused refusal.NoMemory → MayLackMemory (first_refusal s role request) request
+lacked store s role d request now given refused is =
+    lacked_by (first_refusal s role request) (want_of store s request now) d request
+    (λ e. none_lacks s role request (want_of store s request now) (open_of_want store s request now refusal.NoMemory) (or_then_some (first_refusal s role request) (want_of store s request now) refusal.NoMemory e))
+    (subst (λ (r : Reply). RefusesBy (refusal_of store s role request now) d request r) is refused)
 
 -- ---- the whole
 
@@ -179,8 +228,8 @@ pub record IsServed (d later : DriveFields) (before after : SessionFields) (requ
   pub fits : ReplyFits given
   pub session : after ≡ record before { told = told_after given later.ledger before.told }
   pub owners : later.ledger.owners ≡ owners_after given before.told.seat d.ledger.owners
-  pub true_before : Fits d.ledger before.told
-  pub true_after : Fits later.ledger after.told
+  pub true_before : FitsLedger d.ledger before.told
+  pub true_after : FitsLedger later.ledger after.told
 
 same_change : (asked : Option Change) (c other : Change) → asked ≡ Some c → asked ≡ Some other → c ≡ other
 same_change asked c other is also = same_Some c other (sym is ∙ also)
@@ -199,8 +248,8 @@ served_change d later before after request now given is =
       step = step_accepts d later before after before.role request now given is;
       refused = subst (λ (r : Reply). RefusesBy (refusal_of (store_of d) (judged (history_of d) request now) before.role request now) later request r) (sym is.reply)
           (accepted_unrefused _ later request is.change (stamp (state_in d) now) (ap (λ (s : State). refusal_of (store_of d) s before.role request now) as_it_was ∙ is.free));
-      stored = leaves_change (is_acceptance given) ((c : Change) → change_of (state_in d) request ≡ Some c → Stores (store_of d) c (stamp (state_in d) now) (store_of later)) (store_of later ≡ store_of d) accepts
-          (λ c asked. subst (λ (x : Change). Stores (store_of d) x (stamp (state_in d) now) (store_of later)) (same_change (change_of (state_in d) request) is.change c is.asked asked) is.stored);
+      stored = leaves_change (is_acceptance given) ((c : Change) → change_of (state_in d) request ≡ Some c → StoresChange (store_of d) c (stamp (state_in d) now) (store_of later)) (store_of later ≡ store_of d) accepts
+          (λ c asked. subst (λ (x : Change). StoresChange (store_of d) x (stamp (state_in d) now) (store_of later)) (same_change (change_of (state_in d) request) is.change c is.asked asked) is.stored);
       fits = subst ReplyFits (sym is.reply) (accepted_fits is.change (stamp (state_in d) now));
       session = is.told ∙ ap (λ (b : Bool). record before { told = cond b (credited later.ledger before.told) (caught_up later.ledger before.told) }) (sym accepts);
       owners = ap (λ (l : Ledger). l.owners) is.ledger ∙ ap (λ (b : Bool). cond b (d.ledger.owners ++ before.told.seat ∷ []) d.ledger.owners) (sym accepts);
@@ -224,7 +273,7 @@ change_is_judged h (FlushO object first last) now is = refl
 -- what a session has after a moment was seen
 abbrev pub Sees : DriveFields → DriveFields → SessionFields → SessionFields → ℕ → Type 0
 Sees d later before after now =
-    (later.ledger ≡ with_moment d.ledger now) × (store_of later ≡ store_of d) × (after ≡ record before { told = caught_up later.ledger before.told }) × Fits d.ledger before.told × Fits later.ledger after.told
+    (later.ledger ≡ with_moment d.ledger now) × (store_of later ≡ store_of d) × (after ≡ record before { told = caught_up later.ledger before.told }) × FitsLedger d.ledger before.told × FitsLedger later.ledger after.told
 
 -- a refused request, from the drive and the session that it leaves
 served_refused : (d later : DriveFields) (before after : SessionFields) (request : Request) (now : ℕ) (e : Refusal)
@@ -250,7 +299,7 @@ served_refusal d middle later before between after request now e change is sees 
     let ledger : later.ledger ≡ with_moment d.ledger now = sees.0 ∙ ap (λ (l : Ledger). with_moment l now) is.ledger in
     let store : store_of later ≡ store_of d = sees.1 ∙ is.store in
     let told : after ≡ record before { told = caught_up later.ledger before.told } = sees.2 ∙ ap (λ (x : SessionFields). record x { told = caught_up later.ledger x.told }) is.session in
-    let fits : Fits d.ledger before.told = subst (λ (x : SessionFields). Fits d.ledger x.told) is.session (subst (λ (l : Ledger). Fits l between.told) is.ledger sees.3) in
+    let fits : FitsLedger d.ledger before.told = subst (λ (x : SessionFields). FitsLedger d.ledger x.told) is.session (subst (λ (l : Ledger). FitsLedger l between.told) is.ledger sees.3) in
     served_refused d later before after request now e
     (subst (λ (s : State). IsRefusal (first_refusal s before.role request) (store_of d) s request now e) as_it_was is.why)
     (ledger, store, told, fits, sees.4)
@@ -281,6 +330,16 @@ read_wants_nothing store s (SetWindow window) now is = absurd is
 read_wants_nothing store s (Flush first last) now is = absurd is
 read_wants_nothing store s (FlushO object first last) now is = absurd is
 
+or_then_none_is : (first : Option Refusal) → or_then first None ≡ first
+or_then_none_is None = refl
+or_then_none_is (Some r) = refl
+
+-- what is judged out of a read is refused
+refuses_judged : (first : Option Refusal) (store : StoreFields) (s : State) (request : Request) (now : ℕ) (e : Refusal) → IsRead request → IsJudgedOut first request e → IsRefusal first store s request now e
+refuses_judged first store s request now e read out =
+    let same : first ≡ or_then first (want_of store s request now) = sym (ap (λ (r : Option Refusal). or_then first r) (read_wants_nothing store s request now read) ∙ or_then_none_is first) in
+    subst (λ (r : Option Refusal). ((e ≡ refusal.NoMemory) × MayLackMemory r request) ⊎ (r ≡ Some e)) same out
+
 -- a read that had no pin, from the drive and the session that it leaves
 served_busy : (d later : DriveFields) (before after : SessionFields) (request : Request) (now : ℕ) (e : Refusal) → IsRead request → e ≡ refusal.Busy
     → first_refusal (judged (history_of d) request now) before.role request ≡ None → WantsPin later request → Sees d later before after now → IsServed d later before after request now (Refused e)
@@ -305,7 +364,7 @@ seen_still d seen_at later before after now sees ledger store = (
   store ∙ sees.1,
   sees.2 ∙ ap (λ (l : Ledger). record before { told = caught_up l before.told }) (sym ledger),
   sees.3,
-  subst (λ (l : Ledger). Fits l after.told) (sym ledger) sees.4,
+  subst (λ (l : Ledger). FitsLedger l after.told) (sym ledger) sees.4,
 )
 
 -- a read that was refused, once its moment was seen
@@ -315,7 +374,7 @@ served_untold : (d seen_at later : DriveFields) (before after : SessionFields) (
 served_untold d seen_at later before after request now e read sees ledger store (inl out) =
     let judging : state_in seen_at ≡ judged (history_of d) request now = ap (λ (l : Ledger). state_of l.history) sees.0 ∙ read_is_judged (history_of d) request now read in
     served_refused d later before after request now e
-    (refuses_judged (first_refusal (judged (history_of d) request now) before.role request) (store_of d) (judged (history_of d) request now) request now e
+    (refuses_judged (first_refusal (judged (history_of d) request now) before.role request) (store_of d) (judged (history_of d) request now) request now e read
     (subst (λ (s : State). IsJudgedOut (first_refusal s before.role request) request e) judging out)) (seen_still d seen_at later before after now sees ledger store)
 served_untold d seen_at later before after request now e read sees ledger store (inr busy) =
     let judging : state_in seen_at ≡ judged (history_of d) request now = ap (λ (l : Ledger). state_of l.history) sees.0 ∙ read_is_judged (history_of d) request now read in
@@ -335,13 +394,13 @@ served_told d seen_at later before after request now given read sees ledger stor
           (step_tells (history_of d) before.role request now given unrefused (subst (λ (s : State). reply_to_read s request ≡ Some given) judging tells));
       refused = told_unrefused _ later request given told
           (ap (λ (r : Option Refusal). or_then r (want_of (store_of d) (judged (history_of d) request now) request now)) unrefused ∙ read_wants_nothing (store_of d) (judged (history_of d) request now) request now read);
-      stored = leaves_all (is_acceptance given) ((c : Change) → change_of (state_in d) request ≡ Some c → Stores (store_of d) c (stamp (state_in d) now) (store_of later)) (store_of later ≡ store_of d) nothing (store ∙ sees.1);
+      stored = leaves_all (is_acceptance given) ((c : Change) → change_of (state_in d) request ≡ Some c → StoresChange (store_of d) c (stamp (state_in d) now) (store_of later)) (store_of later ≡ store_of d) nothing (store ∙ sees.1);
       fits = fits;
       session = sees.2 ∙ ap (λ (l : Ledger). record before { told = caught_up l before.told }) (sym ledger)
           ∙ ap (λ (b : Bool). record before { told = cond b (credited later.ledger before.told) (caught_up later.ledger before.told) }) (sym nothing);
       owners = ap (λ (l : Ledger). l.owners) (ledger ∙ sees.0) ∙ ap (λ (b : Bool). cond b (d.ledger.owners ++ before.told.seat ∷ []) d.ledger.owners) (sym nothing);
       true_before = sees.3;
-      true_after = subst (λ (l : Ledger). Fits l after.told) (sym ledger) sees.4;
+      true_after = subst (λ (l : Ledger). FitsLedger l after.told) (sym ledger) sees.4;
     }
 
 -- so of a read, whatever was told

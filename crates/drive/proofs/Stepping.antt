@@ -12,6 +12,7 @@ use Rattle.s4_types.specs.declared.replies.Reply.{Reply}
 use Rattle.s4_types.specs.declared.replies.Reply.TheVariants.{Refused}
 use Rattle.s4_types.specs.declared.refusals.Refusal.{Refusal}
 use Rattle.s4_types.specs.declared.refusals.Refusal.TheVariants.{NoMemory, ChainFull, NoSpace, ClockEnd}
+use Rattle.s4_types.specs.declared.refusals.Refusal.TheVariants as refusal
 use Rattle.s4_model.specs.State.{State, state_of, grown}
 use Rattle.s4_model.specs.Refusals.{first_refusal}
 use Rattle.s4_model.specs.Step.{Step, Refuses, Serves, Alters, Reads, MayRefuse, AsFirst, ForMemory, AsOpen, MayWantMemory, IsLeftOpen, judged, change_of, reply_to_read, accepted_record, stamp, reply_to_change}
@@ -21,7 +22,7 @@ use Rattle.segment_word.specs.AcceptViews.{Ledger}
 use Rattle.s4_model.specs.Effect.{is_of_versions}
 use Rattle.version_store.specs.Store.{StoreFields}
 use Rattle.version_store.specs.Costs.{change_refusal}
-use Rattle.drive.specs.Refusing.{or_then, storing_refusal, want_of, IsRefusal}
+use Rattle.drive.specs.Refusing.{or_then, storing_refusal, want_of, IsFoundLater, MayLackMemory, IsRefusal}
 use Rattle.drive.specs.Fields.{DriveFields, SessionFields, store_of, state_in}
 use Rattle.drive.specs.Answering.{TakesChange}
 
@@ -44,10 +45,10 @@ open_of_wanted : (store : StoreFields) (m : ℕ) (asked : Option Change) (e : Re
 open_of_wanted store m None e is = absurd (none-some e is)
 open_of_wanted store m (Some change) e is = open_where (is_of_versions change) (change_refusal store change m) e (open_of_change store m change) is
 
-open_of_want : (store : StoreFields) (s : State) (request : Request) (now : ℕ) (e : Refusal) → want_of store s request now ≡ Some e → IsLeftOpen e
+pub open_of_want : (store : StoreFields) (s : State) (request : Request) (now : ℕ) (e : Refusal) → want_of store s request now ≡ Some e → IsLeftOpen e
 open_of_want store s request now e is = open_of_wanted store (stamp s now) (change_of s request) e is
 
-or_then_some : (first second : Option Refusal) (e : Refusal) → or_then first second ≡ Some e → (first ≡ Some e) ⊎ ((first ≡ None) × (second ≡ Some e))
+pub or_then_some : (first second : Option Refusal) (e : Refusal) → or_then first second ≡ Some e → (first ≡ Some e) ⊎ ((first ≡ None) × (second ≡ Some e))
 or_then_some (Some r) second e is = inl is
 or_then_some None second e is = inr (refl, is)
 
@@ -59,8 +60,48 @@ may_refuse_it : (first second : Option Refusal) (request : Request) (e : Refusal
 may_refuse_it first second request e opens (inl is) = AsFirst is
 may_refuse_it first second request e opens (inr is) = AsOpen is.0 (opens e is.1)
 
+-- where what hides moments may lack memory, the model lets it want some
+found_later_wants : (first second : Option Refusal) (request : Request) → IsFoundLater (or_then first second) → MayWantMemory first request
+found_later_wants None second request later = tt
+found_later_wants (Some refusal.ChainFull) second request later = absurd later
+found_later_wants (Some refusal.NoSpace) second request later = absurd later
+found_later_wants (Some refusal.Busy) second request later = absurd later
+found_later_wants (Some refusal.NoObject) second request later = absurd later
+found_later_wants (Some refusal.NotAdmin) second request later = absurd later
+found_later_wants (Some refusal.Expired) second request later = absurd later
+found_later_wants (Some refusal.Future) second request later = absurd later
+found_later_wants (Some refusal.Flushed) second request later = absurd later
+found_later_wants (Some refusal.TooLarge) second request later = absurd later
+found_later_wants (Some refusal.BadSpan) second request later = absurd later
+found_later_wants (Some refusal.TooManySpans) second request later = tt
+found_later_wants (Some refusal.NoMemory) second request later = absurd later
+found_later_wants (Some refusal.ClockEnd) second request later = tt
+found_later_wants (Some refusal.BadAttr) second request later = absurd later
+found_later_wants (Some refusal.BadFrame) second request later = absurd later
+found_later_wants (Some (refusal.Damaged cause)) second request later = absurd later
+found_later_wants (Some refusal.Stale) second request later = absurd later
+found_later_wants (Some refusal.NoRoom) second request later = absurd later
+found_later_wants (Some refusal.InUse) second request later = absurd later
+
+none_wants : (first second : Option Refusal) (request : Request) → or_then first second ≡ None → MayWantMemory first request
+none_wants None second request is = tt
+none_wants (Some r) second request is = absurd (none-some r (sym is))
+
+may_want : (first second : Option Refusal) (request : Request) → MayLackMemory (or_then first second) request → MayWantMemory first request
+may_want first second (Create attribute) lacks = none_wants first second (Create attribute) lacks
+may_want first second (Read object offset len at) lacks = none_wants first second (Read object offset len at) lacks
+may_want first second (GetAttr object at) lacks = none_wants first second (GetAttr object at) lacks
+may_want first second (Flush from to) lacks = found_later_wants first second (Flush from to) lacks
+may_want first second (FlushO object from to) lacks = found_later_wants first second (FlushO object from to) lacks
+may_want first second (Delete object) lacks = absurd lacks
+may_want first second (Write object offset bytes) lacks = absurd lacks
+may_want first second (Append object bytes) lacks = absurd lacks
+may_want first second (Truncate object size) lacks = absurd lacks
+may_want first second (SetAttr object attribute) lacks = absurd lacks
+may_want first second (SetWindow window) lacks = absurd lacks
+
 pub may_refuse : (first : Option Refusal) (store : StoreFields) (s : State) (request : Request) (now : ℕ) (e : Refusal) → IsRefusal first store s request now e → MayRefuse first request e
-may_refuse first store s request now e (inl h) = ForMemory h.0 h.1
+may_refuse first store s request now e (inl h) = ForMemory h.0 (may_want first (want_of store s request now) request h.1)
 may_refuse first store s request now e (inr is) =
     may_refuse_it first (want_of store s request now) request e (open_of_want store s request now) (or_then_some first (want_of store s request now) e is)
 

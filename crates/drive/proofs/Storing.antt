@@ -1,8 +1,9 @@
 -- Changes that make a version.
-use Rattle.std.proofs.Common.{◌≡◌, ℕ, ◌==◌, ◌||◌, true, inl, inr, Option, None, Some, refl, sym, ap, subst, ◌∙◌, arith}
-use Rattle.std.specs.Prelude.{is_some}
+use Rattle.std.proofs.Common.{◌≡◌, ℕ, ◌==◌, ◌||◌, ◌⊎◌, inl, inr, Bool, true, false, cond, Option, None, Some, refl, sym, ap, subst, ◌∙◌, arith}
+use Rattle.std.specs.Prelude.{is_some, MatchBool}
 use Rattle.std.proofs.lemmas.Bool.{false≢true}
-use Rattle.std.proofs.lemmas.Option.{same_Some}
+use Rattle.std.proofs.lemmas.Option.{none-some, same_Some}
+use Rattle.std.specs.Option.{option_and_then}
 use Rattle.s4_types.specs.Pointer.{Place}
 use Rattle.s4_types.specs.declared.changes.Accepted.{Accepted}
 use Rattle.s4_types.specs.declared.changes.Change.{Change}
@@ -10,6 +11,7 @@ use Rattle.s4_types.specs.declared.changes.Change.TheVariants as change
 use Rattle.s4_types.specs.declared.requests.Request.{Request}
 use Rattle.s4_types.specs.declared.requests.Request.TheVariants.{Create, Delete, Read, GetAttr, Write, Append, Truncate, SetAttr, SetWindow, Flush, FlushO}
 use Rattle.s4_types.specs.declared.refusals.Refusal.{Refusal}
+use Rattle.s4_types.specs.declared.refusals.Refusal.TheVariants.{NoMemory}
 use Rattle.s4_model.specs.Numbers.{next_by}
 use Rattle.s4_model.specs.State.{State, state_of, took}
 use Rattle.s4_model.specs.Refusals.{is_absent}
@@ -21,18 +23,23 @@ use Rattle.window.specs.Timeline.{Timeline, StandsFor}
 use Rattle.block_log.specs.Log.{Stored}
 use Rattle.object_map.specs.declared.map.Row.{Row}
 use Rattle.object_map.specs.Rows.{row_of}
+use Rattle.codec.specs.declared.inodes.Inode.{Inode}
+use Rattle.inode.specs.Contents.{contents_of}
 use Rattle.version_store.specs.Store.{StoreFields, IsStore}
 use Rattle.s4_model.specs.Effect.{is_of_versions, object_of}
 use Rattle.version_store.specs.Versions.{inode_by, version_by, version_in, version_taken}
-use Rattle.version_store.specs.Taking.{IsThere, IsReady}
+use Rattle.version_store.specs.Costs.{change_refusal, subject_inode, blocks_taken}
+use Rattle.version_store.specs.Taking.{IsThere, IsReadyFor, RowChanges, Appends, data_by}
 use Rattle.version_store.specs.Laws.{ThePresentStays}
-use Rattle.drive.specs.Keeping.{IsKept}
-use Rattle.drive.specs.Refusing.{or_then, want_of, TakesMemory, IsRefusal, IsJudgedOut}
+use Rattle.drive.specs.Keeping.{IsKeptDrive}
+use Rattle.drive.specs.Fields.{DriveFields, SessionFields, store_of, state_in}
+use Rattle.drive.specs.Answering.{StoresVersion, StoresChange, RefusesChange}
+use Rattle.drive.specs.Refusing.{or_then, storing_refusal, want_of, MayLackMemory, IsRefusal}
 use Rattle.drive.proofs.Kept.{kept_taken, given_by}
 use Rattle.drive.proofs.Unversioned.{StateByChanges}
 
 -- what a store takes makes a version
-pub ready_of_versions : (store : StoreFields) (c : Change) → IsReady store c → is_of_versions c ≡ true
+pub ready_of_versions : (store : StoreFields) (c : Change) → IsReadyFor store c → is_of_versions c ≡ true
 ready_of_versions store (change.Create object attribute) ready = refl
 ready_of_versions store (change.Delete object) ready = refl
 ready_of_versions store (change.Write object offset bytes) ready = refl
@@ -42,29 +49,32 @@ ready_of_versions store (change.SetWindow window) ready = absurd ready
 ready_of_versions store (change.Flush first last) ready = absurd ready
 ready_of_versions store (change.FlushO object first last) ready = absurd ready
 
--- what is judged out is refused
-pub refuses_judged : (first : Option Refusal) (store : StoreFields) (s : State) (request : Request) (now : ℕ) (e : Refusal) → IsJudgedOut first request e → IsRefusal first store s request now e
-refuses_judged first store s request now e (inl h) = inl h
-refuses_judged first store s request now e (inr is) = inr (ap (λ (r : Option Refusal). or_then r (want_of store s request now)) is)
+-- what taking a change leaves is what its request stores
+pub stored_version : (store after : StoreFields) (c : Change) (m at : ℕ) → IsReadyFor store c → m ≡ at
+    → Appends (object_of c) (data_by (contents_of store.log.held) c (subject_inode store (object_of c) m)) (blocks_taken store c m) store.log after.log → RowChanges store (object_of c) m after.rows → after.latest ≡ m → StoresChange store c at after
+stored_version store after c m at ready is blocks rows latest =
+    let version : StoresVersion store c m after = record { blocks = blocks; rows = rows; latest = latest } in
+    subst (λ (t : ℕ). StoresChange store c t after) is
+    (subst (λ (b : Bool). MatchBool b (StoresVersion store c m after) (after ≡ store)) (sym (ready_of_versions store c ready)) version)
 
 pub after_stored : ThePresentStays → StateByChanges → (l later : Ledger) (seat : ℕ) (store after : StoreFields) (w last : Timeline) (next now m : ℕ) (c : Change)
-    → IsKept (state_of l.history) store w next
-    → IsReady store c → HasNext (state_of l.history).next c
+    → IsKeptDrive (state_of l.history) store w next
+    → IsReadyFor store c → HasNext (state_of l.history).next c
     → m ≡ stamp (state_of l.history) now → later ≡ with_change l seat m c
     → IsStore after → ((o t : ℕ) → version_in after o t ≡ version_taken store c m o t) → after.latest ≡ m
     → ((o : ℕ) → is_some (row_of after.rows o) ≡ (is_some (row_of store.rows o) || o == object_of c))
     → StandsFor last (took (state_of l.history) (accepted_record (state_of l.history) c now))
     → IsSound (took (state_of l.history) (accepted_record (state_of l.history) c now))
-    → IsKept (state_of later.history) after last (next_by c next)
+    → IsKeptDrive (state_of later.history) after last (next_by c next)
 after_stored stays by l later seat store after w last next now m c kept ready has at is is_store versions latest rows stands sound =
     let s : State = state_of l.history in
     let a : Accepted = accepted_record s c now in
     let goes_on : state_of later.history ≡ took s a =
     ap (λ (x : Ledger). state_of x.history) (is ∙ ap (λ (t : ℕ). with_change l seat t c) at) ∙ by l.history a in
-    subst (λ (x : State). IsKept x after last (next_by c next)) (sym goes_on)
+    subst (λ (x : State). IsKeptDrive x after last (next_by c next)) (sym goes_on)
     (kept_taken stays s store after w last next a kept (omega arith) is_store
     (λ o t. versions o t ∙ ap (λ (x : ℕ). version_taken store c x o t) at)
-    (latest ∙ at) rows (given_by s store w next c kept ready has) stands sound)
+    (latest ∙ at) rows (given_by stays s store w next c kept ready has) stands sound)
 
 -- ---- want of memory
 
@@ -78,7 +88,7 @@ there_by held o t row none = ap (λ (r : Option Row). is_absent (version_by held
 not_there : (store : StoreFields) (o : ℕ) → IsThere store o → row_of store.rows o ≡ None → ⊥
 not_there store o there none = false≢true (sym there ∙ there_by store.log.held o store.latest (row_of store.rows o) none)
 
-creates : (store : StoreFields) (c : Change) → IsReady store c → row_of store.rows (object_of c) ≡ None → IsCreation c
+creates : (store : StoreFields) (c : Change) → IsReadyFor store c → row_of store.rows (object_of c) ≡ None → IsCreation c
 creates store (change.Create object attribute) ready none = tt
 creates store (change.Delete object) ready none = absurd (not_there store object ready none)
 creates store (change.Write object offset bytes) ready none = absurd (not_there store object ready none)
@@ -91,19 +101,68 @@ creates store (change.FlushO object first last) ready none = absurd ready
 creation_of : (c other : Change) → Some other ≡ Some c → IsCreation c → IsCreation other
 creation_of c other is creation = subst IsCreation (sym (same_Some other c is)) creation
 
-asks_creation : (s : State) (request : Request) (c : Change) → change_of s request ≡ Some c → IsCreation c → TakesMemory request
-asks_creation s (Read object offset len at) c asked creation = tt
-asks_creation s (GetAttr object at) c asked creation = tt
-asks_creation s (Create attribute) c asked creation = tt
-asks_creation s (Delete object) c asked creation = absurd (creation_of c _ asked creation)
-asks_creation s (Write object offset bytes) c asked creation = absurd (creation_of c _ asked creation)
-asks_creation s (Append object bytes) c asked creation = absurd (creation_of c _ asked creation)
-asks_creation s (Truncate object size) c asked creation = absurd (creation_of c _ asked creation)
-asks_creation s (SetAttr object attribute) c asked creation = absurd (creation_of c _ asked creation)
-asks_creation s (SetWindow window) c asked creation = absurd (creation_of c _ asked creation)
-asks_creation s (Flush first last) c asked creation = tt
-asks_creation s (FlushO object first last) c asked creation = tt
+lacks_creating : (why : Option Refusal) (s : State) (request : Request) (c : Change) → change_of s request ≡ Some c → IsCreation c → why ≡ None → MayLackMemory why request
+lacks_creating why s (Read object offset len at) c asked creation free = absurd (none-some c asked)
+lacks_creating why s (GetAttr object at) c asked creation free = absurd (none-some c asked)
+lacks_creating why s (Create attribute) c asked creation free = free
+lacks_creating why s (Delete object) c asked creation free = absurd (creation_of c _ asked creation)
+lacks_creating why s (Write object offset bytes) c asked creation free = absurd (creation_of c _ asked creation)
+lacks_creating why s (Append object bytes) c asked creation free = absurd (creation_of c _ asked creation)
+lacks_creating why s (Truncate object size) c asked creation free = absurd (creation_of c _ asked creation)
+lacks_creating why s (SetAttr object attribute) c asked creation free = absurd (creation_of c _ asked creation)
+lacks_creating why s (SetWindow window) c asked creation free = absurd (creation_of c _ asked creation)
+lacks_creating why s (Flush first last) c asked creation free = absurd (creation_of c _ asked creation)
+lacks_creating why s (FlushO object first last) c asked creation free = absurd (creation_of c _ asked creation)
 
--- where a change of an object without a row is taken, its request makes the object, and so it may take memory
-pub memory_of_rows : (store : StoreFields) (s : State) (request : Request) (c : Change) → change_of s request ≡ Some c → IsReady store c → row_of store.rows (object_of c) ≡ None → TakesMemory request
-memory_of_rows store s request c asked ready none = asks_creation s request c asked (creates store c ready none)
+none_where : (b : Bool) (r : Option Refusal) → r ≡ None → cond b r None ≡ None
+none_where true r is = is
+none_where false r is = refl
+
+-- a change that a store takes is wanted by nothing else
+wants_none : (store : StoreFields) (s : State) (request : Request) (now : ℕ) (c : Change) → change_of s request ≡ Some c → change_refusal store c (stamp s now) ≡ None → want_of store s request now ≡ None
+wants_none store s request now c asked free =
+    ap (λ (x : Option Change). option_and_then (storing_refusal store (stamp s now)) x) asked ∙ none_where (is_of_versions c) (change_refusal store c (stamp s now)) free
+
+-- Where nothing refuses a change of an object without a row, its request makes the object, and so it may lack memory.
+memory_of_rows : (first : Option Refusal) (store : StoreFields) (s : State) (request : Request) (now m : ℕ) (c : Change)
+    → change_of s request ≡ Some c → IsReadyFor store c → row_of store.rows (object_of c) ≡ None → first ≡ None → m ≡ stamp s now → change_refusal store c m ≡ None
+    → MayLackMemory (or_then first (want_of store s request now)) request
+memory_of_rows first store s request now m c asked ready none free at fits =
+    lacks_creating (or_then first (want_of store s request now)) s request c asked (creates store c ready none)
+    (ap (λ (r : Option Refusal). or_then r (want_of store s request now)) free ∙ wants_none store s request now c asked (subst (λ (t : ℕ). change_refusal store c t ≡ None) at fits))
+
+-- what a store refuses of a change that its request asks for
+wants_so : (store : StoreFields) (s : State) (request : Request) (now : ℕ) (c : Change) (e : Refusal) → change_of s request ≡ Some c → IsReadyFor store c → change_refusal store c (stamp s now) ≡ Some e → want_of store s request now ≡ Some e
+wants_so store s request now c e asked ready is =
+    ap (λ (x : Option Change). option_and_then (storing_refusal store (stamp s now)) x) asked
+    ∙ ap (λ (b : Bool). cond b (change_refusal store c (stamp s now)) None) (ready_of_versions store c ready)
+    ∙ is
+
+refuses_it : (first : Option Refusal) (store : StoreFields) (s : State) (request : Request) (now m : ℕ) (c : Change) (e : Refusal)
+    → change_of s request ≡ Some c → IsReadyFor store c → first ≡ None → m ≡ stamp s now
+    → (e ≡ NoMemory) ⊎ (change_refusal store c m ≡ Some e) → (e ≡ NoMemory → (change_refusal store c m ≡ None) × (row_of store.rows (object_of c) ≡ None))
+    → IsRefusal first store s request now e
+refuses_it first store s request now m c e asked ready free at (inl is) memory =
+    let lacks = memory is in
+    inl (is, memory_of_rows first store s request now m c asked ready lacks.1 free at lacks.0)
+refuses_it first store s request now m c e asked ready free at (inr is) memory =
+    inr (ap (λ (r : Option Refusal). or_then r (want_of store s request now)) free ∙ wants_so store s request now c e asked ready (subst (λ (t : ℕ). change_refusal store c t ≡ Some e) at is))
+
+-- a change that its store doesn't take is refused before anything has changed
+pub refuses_untaken : (first : Option Refusal) (d later : DriveFields) (before : SessionFields) (request : Request) (now m : ℕ) (c : Change) (e : Refusal) (store : StoreFields)
+    → later.ledger ≡ d.ledger → store_of later ≡ store_of d → store ≡ store_of d
+    → change_of (state_in d) request ≡ Some c → IsReadyFor (store_of d) c → first ≡ None → m ≡ stamp (state_in d) now
+    → (e ≡ NoMemory) ⊎ (change_refusal store c m ≡ Some e) → (e ≡ NoMemory → (change_refusal store c m ≡ None) × (row_of store.rows (object_of c) ≡ None))
+    → RefusesChange first d later before before request now e
+refuses_untaken first d later before request now m c e store ledger same held asked ready free at answer memory = record {
+  why = refuses_it first (store_of d) (state_in d) request now m c e asked ready free at
+      (subst (λ (x : StoreFields). (e ≡ NoMemory) ⊎ (change_refusal x c m ≡ Some e)) held answer)
+      (subst (λ (x : StoreFields). e ≡ NoMemory → (change_refusal x c m ≡ None) × (row_of x.rows (object_of c) ≡ None)) held memory);
+  ledger = ledger;
+  store = same;
+  session = refl;
+}
+
+-- a change that the checks refuse is refused before anything has changed
+pub refuses_checked : (first : Option Refusal) (d : DriveFields) (before : SessionFields) (request : Request) (now : ℕ) (e : Refusal) → first ≡ Some e → RefusesChange first d d before before request now e
+refuses_checked first d before request now e is = record { why = inr (ap (λ (r : Option Refusal). or_then r (want_of (store_of d) (state_in d) request now)) is); ledger = refl; store = refl; session = refl }

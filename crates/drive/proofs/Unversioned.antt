@@ -23,7 +23,7 @@ use Rattle.window.specs.Timeline.{Timeline, StandsFor}
 use Rattle.s4_model.specs.Effect.{is_of_versions}
 use Rattle.version_store.specs.Store.{StoreFields}
 use Rattle.drive.specs.Fields.{DriveFields, SessionFields, store_of, state_in}
-use Rattle.drive.specs.Keeping.{IsKept}
+use Rattle.drive.specs.Keeping.{IsKeptDrive}
 use Rattle.admission.specs.Later.{later_refusal}
 use Rattle.drive.specs.Refusing.{or_then, want_of, span_refusal}
 use Rattle.drive.specs.Answering.{RefusesChange}
@@ -134,23 +134,23 @@ sound_took keeps by h request now change sound free asked =
     subst IsSound (by h (accepted_record (state_of h) change now)) (sound_taken keeps h Admin request now change sound free asked)
 
 pub after_hidden : EveryStepKeepsSoundness → StateByChanges → (l later : Ledger) (seat : ℕ) (store : StoreFields) (w last : Timeline) (next : ℕ) (request : Request) (now m : ℕ) (change : Change)
-    → IsKept (state_of l.history) store w next
+    → IsKeptDrive (state_of l.history) store w next
     → first_refusal (state_of l.history) Admin request ≡ None → change_of (state_of l.history) request ≡ Some change → is_of_versions change ≡ false
     → m ≡ stamp (state_of l.history) now → later ≡ with_change l seat m change
     → StandsFor last (took (state_of l.history) (accepted_record (state_of l.history) change now))
-    → IsKept (state_of later.history) store last next
+    → IsKeptDrive (state_of later.history) store last next
 after_hidden keeps by l later seat store w last next request now m change kept free asked none at is stands =
     let s : State = state_of l.history in
     let a : Accepted = accepted_record s change now in
     let goes_on : state_of later.history ≡ took s a =
     ap (λ (x : Ledger). state_of x.history) (is ∙ ap (λ (t : ℕ). with_change l seat t change) at) ∙ by l.history a in
-    subst (λ (x : State). IsKept x store last next) (sym goes_on)
+    subst (λ (x : State). IsKeptDrive x store last next) (sym goes_on)
     (kept_hidden s store w last next a kept none (omega arith) stands (sound_took keeps by l.history request now change kept.sound free asked))
 
 pub after_moment : EveryStepKeepsSoundness → StateByMoments → (l later : Ledger) (store : StoreFields) (w last : Timeline) (next now : ℕ)
-    → IsKept (state_of l.history) store w next → later ≡ with_moment l now → StandsFor last (seen (state_of l.history) now) → IsKept (state_of later.history) store last next
+    → IsKeptDrive (state_of l.history) store w next → later ≡ with_moment l now → StandsFor last (seen (state_of l.history) now) → IsKeptDrive (state_of later.history) store last next
 after_moment keeps by l later store w last next now kept is stands =
     let s : State = state_of l.history in
     let goes_on : state_of later.history ≡ seen s now = ap (λ (x : Ledger). state_of x.history) is ∙ by l.history now in
-    subst (λ (x : State). IsKept x store last next) (sym goes_on)
+    subst (λ (x : State). IsKeptDrive x store last next) (sym goes_on)
     (kept_seen s store w last next now kept stands (subst IsSound (by l.history now) (sound_seen keeps l.history now kept.sound)))

@@ -18,12 +18,12 @@ use Rattle.inode.specs.Contents.{contents_of}
 use Rattle.version_store.specs.Store.{StoreFields}
 use Rattle.version_store.specs.Costs.{subject_inode, blocks_taken}
 use Rattle.s4_model.specs.Effect.{is_of_versions, object_of}
-use Rattle.version_store.specs.Taking.{data_by, Appends}
-use Rattle.segment_word.specs.AcceptRule.{Fits}
+use Rattle.version_store.specs.Taking.{data_by, Appends, RowChanges}
+use Rattle.segment_word.specs.AcceptRule.{FitsLedger}
 use Rattle.segment_word.specs.Counting.{pins_in}
 use Rattle.segment_word.specs.Handles.{Held}
 use Rattle.atomic_table.specs.Seated.{TableId}
-use Rattle.time_read.specs.Plans.{PlanFields, IsAt, bytes_planned, pieces_of, pins_of, is_pinned, is_pinned_in}
+use Rattle.time_read.specs.Plans.{PlanFields, IsAt, bytes_planned, pieces_of, pins_held, is_pinned, is_pinned_in}
 use Rattle.version_store.specs.Versions.{inode_in}
 use Rattle.drive.specs.Fields.{DriveFields, SessionFields, store_of, state_in}
 use Rattle.drive.specs.Refusing.{or_then, want_of, IsRefusal}
@@ -42,31 +42,36 @@ told_after reply l t = if is_acceptance reply then credited l t else caught_up l
 abbrev pub owners_after : Reply → ℕ → List ℕ → List ℕ
 owners_after reply seat owners = if is_acceptance reply then owners ++ seat ∷ [] else owners
 
--- What a change at a moment leaves of a store's blocks. One that makes a version appends its data blocks by ascending index,
--- and then those of its object's journal; any other leaves them all.
-abbrev pub Stores : StoreFields → Change → ℕ → StoreFields → Type 0
-Stores store change m after = MatchBool (is_of_versions change)
-    (Appends (object_of change) (data_by (contents_of store.log.held) change (subject_inode store (object_of change) m)) (blocks_taken store change m) store.log after.log)
-    (after ≡ store)
+-- What a change that makes a version leaves of a store. It appends its data blocks by ascending index, and then those of its
+-- object's journal. The object's row has another journal, and its stamp is one more; a created one has the row of its creation.
+-- All other rows are as they were, and nothing is later than the change.
+pub record StoresVersion (store : StoreFields) (change : Change) (m : ℕ) (after : StoreFields) : Type 0 where
+  pub blocks : Appends (object_of change) (data_by (contents_of store.log.held) change (subject_inode store (object_of change) m)) (blocks_taken store change m) store.log after.log
+  pub rows : RowChanges store (object_of change) m after.rows
+  pub latest : after.latest ≡ m
+
+-- What a change at a moment leaves of a store: where it makes no version, all.
+abbrev pub StoresChange : StoreFields → Change → ℕ → StoreFields → Type 0
+StoresChange store change m after = MatchBool (is_of_versions change) (StoresVersion store change m after) (after ≡ store)
 
 -- what a request leaves of a store: all, but where a change was accepted
 abbrev pub Leaves : StoreFields → State → Request → ℕ → Reply → StoreFields → Type 0
 Leaves store s request now reply after = MatchBool (is_acceptance reply)
-    ((change : Change) → change_of s request ≡ Some change → Stores store change (stamp s now) after)
+    ((change : Change) → change_of s request ≡ Some change → StoresChange store change (stamp s now) after)
     (after ≡ store)
 
 -- A change was accepted for a session, where the checks refuse so: neither they nor want of blocks refused it, the history
--- has it, its blocks are stored, and the session was told.
+-- has it, its blocks and its row are stored, and the session was told.
 pub record TakesChange (first : Option Refusal) (d later : DriveFields) (before after : SessionFields) (request : Request) (now : ℕ) (given : Reply) : Type 0 where
   pub change : Change
   pub free : or_then first (want_of (store_of d) (state_in d) request now) ≡ None
   pub asked : change_of (state_in d) request ≡ Some change
   pub reply : given ≡ reply_to_change (state_in d) change now
   pub ledger : later.ledger ≡ with_change d.ledger before.told.seat (stamp (state_in d) now) change
-  pub stored : Stores (store_of d) change (stamp (state_in d) now) (store_of later)
+  pub stored : StoresChange (store_of d) change (stamp (state_in d) now) (store_of later)
   pub told : after ≡ record before { told = credited later.ledger before.told }
-  pub true_before : Fits d.ledger before.told
-  pub true_after : Fits later.ledger after.told
+  pub true_before : FitsLedger d.ledger before.told
+  pub true_after : FitsLedger later.ledger after.told
 
 -- a change was refused: nothing has changed yet
 pub record RefusesChange (first : Option Refusal) (d later : DriveFields) (before after : SessionFields) (request : Request) (now : ℕ) (given : Refusal) : Type 0 where
@@ -106,7 +111,7 @@ pub record IsPlanOf (d : DriveFields) (object offset len : ℕ) (at : Option ℕ
   pub inode : Inode
   pub there : inode_in (store_of d) object (asked (state_in d) at) ≡ Some inode
   pub pieces : plan.pieces ≡ pieces_of d.store.table inode offset (min len (inode.size - offset))
-  pub pins : (f : ℕ) → (0 < pins_in f (pins_of plan.pin)) ↔ (list_any (is_pinned_in f) plan.pieces ≡ true)
+  pub pins : (f : ℕ) → (0 < pins_in f (pins_held plan.pin)) ↔ (list_any (is_pinned_in f) plan.pieces ≡ true)
   pub seat : list_any is_pinned plan.pieces ≡ false → plan.pin ≡ None
   pub here : IsAt d.store.table plan.pin
 

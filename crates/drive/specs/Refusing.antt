@@ -13,7 +13,7 @@ use Rattle.s4_types.specs.declared.replies.Reply.{Reply}
 use Rattle.s4_types.specs.declared.replies.Reply.TheVariants.{Refused}
 use Rattle.s4_model.specs.State.{State}
 use Rattle.s4_model.specs.Refusals.{first_refusal, asked, is_one_span_too_many, last_number}
-use Rattle.s4_model.specs.Step.{change_of, stamp, MayWantMemory}
+use Rattle.s4_model.specs.Step.{change_of, stamp}
 use Rattle.s4_model.specs.Effect.{is_of_versions}
 use Rattle.version_store.specs.Store.{StoreFields}
 use Rattle.version_store.specs.Costs.{change_refusal}
@@ -39,15 +39,23 @@ want_of store s request now = option_and_then (storing_refusal store (stamp s no
 abbrev pub refusal_of : StoreFields → State → Role → Request → ℕ → Option Refusal
 refusal_of store s role request now = or_then (first_refusal s role request) (want_of store s request now)
 
--- A request that may take memory: one that makes an object, hides moments, or reads. No change of an object that is there
--- takes any.
-abbrev pub TakesMemory : Request → Type 0
-TakesMemory (Create attribute) = Unit {0}
-TakesMemory (Read object offset length at) = Unit {0}
-TakesMemory (GetAttr object at) = Unit {0}
-TakesMemory (Flush first last) = Unit {0}
-TakesMemory (FlushO object first last) = Unit {0}
-TakesMemory _ = ⊥
+-- what a request for a span is refused for once its memory was had: too many runs, or the clock's end
+abbrev pub IsFoundLater : Option Refusal → Type 0
+IsFoundLater None = Unit {0}
+IsFoundLater (Some TooManySpans) = Unit {0}
+IsFoundLater (Some ClockEnd) = Unit {0}
+IsFoundLater (Some _) = ⊥
+
+-- Where want of memory may be answered, by what refuses a request otherwise, if anything does. A request that makes an object
+-- or reads takes memory only where nothing else refuses it; one that hides moments takes it before its runs are counted and the
+-- clock is looked at. No change of the window or of an object that is there takes any.
+abbrev pub MayLackMemory : Option Refusal → Request → Type 0
+MayLackMemory why (Create attribute) = why ≡ None
+MayLackMemory why (Read object offset length at) = why ≡ None
+MayLackMemory why (GetAttr object at) = why ≡ None
+MayLackMemory why (Flush first last) = IsFoundLater why
+MayLackMemory why (FlushO object first last) = IsFoundLater why
+MayLackMemory why _ = ⊥
 
 -- The bytes that a read asks for, of an object that is there at the moment asked for, need a block of a sealed frame.
 pub record NeedsPin (d : DriveFields) (object offset len : ℕ) (at : Option ℕ) : Type 0 where
@@ -60,24 +68,24 @@ abbrev pub WantsPin : DriveFields → Request → Type 0
 WantsPin d (Read object offset len at) = NeedsPin d object offset len at
 WantsPin d _ = ⊥
 
--- The reply is a refusal where there is one, and that one; or want of memory, of a request that may take some; or want of a pin
+-- The reply is a refusal where there is one, and that one; or want of memory, where that may be answered; or want of a pin
 -- where nothing else refuses, of a request that needs one over the drive as it is then.
 abbrev pub RefusesBy : Option Refusal → DriveFields → Request → Reply → Type 0
-RefusesBy why d request (Refused refusal) = ((refusal ≡ NoMemory) × TakesMemory request) ⊎ ((why ≡ Some refusal) ⊎ ((refusal ≡ Busy) × (why ≡ None) × WantsPin d request))
+RefusesBy why d request (Refused refusal) = ((refusal ≡ NoMemory) × MayLackMemory why request) ⊎ ((why ≡ Some refusal) ⊎ ((refusal ≡ Busy) × (why ≡ None) × WantsPin d request))
 RefusesBy why d request _ = why ≡ None
 
--- a refusal by the checks: want of memory where that may stand in place of what refuses first, or that
+-- a refusal of a read by the checks, or for want of memory
 abbrev pub IsJudgedOut : Option Refusal → Request → Refusal → Type 0
-IsJudgedOut first request refusal = ((refusal ≡ NoMemory) × MayWantMemory first request × TakesMemory request) ⊎ (first ≡ Some refusal)
+IsJudgedOut first request refusal = ((refusal ≡ NoMemory) × MayLackMemory first request) ⊎ (first ≡ Some refusal)
 
 -- a read wasn't planned: by the checks, for want of memory, or for want of a pin where they let it pass
 abbrev pub IsUnplanned : Option Refusal → DriveFields → Request → Refusal → Type 0
 IsUnplanned first d request refusal = IsJudgedOut first request refusal ⊎ ((refusal ≡ Busy) × (first ≡ None) × WantsPin d request)
 
--- a refusal by the checks, where they refuse so, or by what the change that is asked for lacks
+-- a refusal by the checks, where they refuse so, or by what the change that is asked for lacks; or for want of memory
 abbrev pub IsRefusal : Option Refusal → StoreFields → State → Request → ℕ → Refusal → Type 0
 IsRefusal first store s request now refusal =
-    ((refusal ≡ NoMemory) × MayWantMemory first request × TakesMemory request) ⊎ (or_then first (want_of store s request now) ≡ Some refusal)
+    ((refusal ≡ NoMemory) × MayLackMemory (or_then first (want_of store s request now)) request) ⊎ (or_then first (want_of store s request now) ≡ Some refusal)
 
 -- what is left to refuse of a span that is in order, past, and of a number that was given
 abbrev pub span_refusal : State → Span → Option Refusal

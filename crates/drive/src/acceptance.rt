@@ -2,7 +2,7 @@
 ghost use Rattle.std.specs.Prelude.{◌≡◌, ◌+◌, ◌^◌, ◌<◌};
 ghost use Rattle.s4_types.specs.declared.changes.Change.{Change as TheChange};
 ghost use Rattle.segment_word.specs.AcceptViews.{count_of, with_change, credited};
-ghost use Rattle.segment_word.specs.AcceptRule.{Fits};
+ghost use Rattle.segment_word.specs.AcceptRule.{FitsLedger};
 
 use s4_types::{Change, Moment};
 use segment_word::Naming;
@@ -20,8 +20,8 @@ fn accept_named<J: Naming, C: Taking>(
     requires room { count_of history.old + 1 < 2 ^ 64 }
     ensures history { history.new ≡ with_change history.old session.old.seat moment change.now }
     ensures session { session.new ≡ credited history.new session.old }
-    ensures before { Fits history.old session.old }
-    ensures after { Fits history.new session.new }
+    ensures before { FitsLedger history.old session.old }
+    ensures after { FitsLedger history.new session.new }
 {
     let _ = moment;
     let _ = change;
@@ -39,8 +39,8 @@ pub(crate) fn accept<J: Naming>(
     requires { count_of history.old + 1 < 2 ^ 64 }
     ensures history { history.new ≡ with_change history.old session.old.seat moment change.now }
     ensures session { session.new ≡ credited history.new session.old }
-    ensures before { Fits history.old session.old }
-    ensures after { Fits history.new session.new }
+    ensures before { FitsLedger history.old session.old }
+    ensures after { FitsLedger history.new session.new }
 {
     accept_named::<J, Brand>(history, session, moment, change);
 }

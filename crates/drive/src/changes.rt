@@ -1,15 +1,12 @@
 //! Changes of objects: judged by the present inode, then stored and accepted.
-ghost use Rattle.std.specs.Prelude.{◌≡◌, ◌+◌, ◌<◌, max, None, Some, unwrap_or, IfOk, IfErr, OnOk};
+ghost use Rattle.std.specs.Prelude.{◌≡◌, ◌+◌, ◌<◌, max, None, Some, option_copied, IfOk, IfErr, OnOk};
 ghost use Rattle.s4_model.specs.Numbers.{next_by};
-ghost use Rattle.undo_redo.specs.Runs.{blank};
 ghost use Rattle.s4_model.specs.State.{took};
 ghost use Rattle.s4_model.specs.Refusals.{last_number};
 ghost use Rattle.s4_model.specs.Step.{change_of, stamp, accepted_record, reply_at};
 ghost use Rattle.s4_model.specs.Sound.{IsSound};
 ghost use Rattle.s4_model.specs.Plain.{HasNext};
 ghost use Rattle.admission.specs.Later.{later_refusal, IsWithin, IsOfVersions};
-ghost use Rattle.version_store.specs.Costs.{subject_inode};
-ghost use Rattle.s4_model.specs.Effect.{object_of as object_of_change};
 ghost use Rattle.version_store.specs.Taking.{Takes};
 ghost use Rattle.drive.specs.Fields.{state_in, store_of};
 ghost use Rattle.drive.specs.Answering.{ComesTo, size_by};
@@ -23,8 +20,7 @@ use inode::laws::bytes_are_the_blocks_joined;
 use s4_model::laws::{every_history_is_sound, the_state_goes_on_record_by_record};
 use s4_types::{Change, Moment, ObjectId, Refusal, Reply, Request};
 use segment_word::Naming;
-use undo_redo::blank;
-use version_store::laws::{changes_begin_with_the_present, the_present_stays};
+use version_store::laws::the_present_stays;
 
 /// The moment of a change that is asked for at a moment: the greater of that and the clock plus one.
 pub(crate) fn moment_after(clock: Moment, now: Moment) -> Moment
@@ -56,8 +52,8 @@ fn next_after(change: &Change, next: ObjectId) -> ObjectId
 }
 
 /// The size of a live inode.
-fn size_of(inode: &Option<Inode>) -> Option<u64>
-    ensures { result ≡ size_by inode.now }
+fn size_of(inode: Option<&Inode>) -> Option<u64>
+    ensures { result ≡ size_by (option_copied inode.entry) }
 {
     match inode {
         Some(inode) if inode.alive => Some(u64::from(inode.size)),
@@ -65,21 +61,11 @@ fn size_of(inode: &Option<Inode>) -> Option<u64>
     }
 }
 
-/// What a change begins with: the present inode of its object, or a blank one of the change's moment.
-fn present_or_blank(found: Option<Inode>, moment: Moment) -> Inode
-    ensures { result ≡ unwrap_or found (blank moment) }
-{
-    match found {
-        Some(inode) => inode,
-        None => blank(moment),
-    }
-}
-
-/// A change that nothing refuses but its blocks, and the inode that it begins with.
+/// A change that nothing refuses but its blocks, and its moment.
 #[derive(Drop)]
 struct Judged {
     change: Change,
-    present: Inode,
+    moment: Moment,
 }
 
 impl<J: Naming> Drive<J> {
@@ -92,25 +78,24 @@ impl<J: Naming> Drive<J> {
         ensures clock { OnOk result ((state_in self.now).clock < last_number) }
         ensures takes { IfOk result (λ judged. Takes (store_of self.now) judged.change) }
         ensures next { IfOk result (λ judged. HasNext (state_in self.now).next judged.change) }
-        ensures present { IfOk result (λ judged. judged.present ≡ subject_inode (store_of self.now) (object_of_change judged.change) (stamp (state_in self.now) now)) }
+        ensures moment { IfOk result (λ judged. judged.moment ≡ stamp (state_in self.now) now) }
         ensures sound { IfOk result (λ judged. IsSound (took (state_in self.now) (accepted_record (state_in self.now) judged.change now))) }
         ensures refused { IfErr result (λ e. later_refusal (state_in self.now) request ≡ Some e) }
     {
         the_present_stays();
-        changes_begin_with_the_present();
         bytes_are_the_blocks_joined();
         every_history_is_sound();
         the_state_goes_on_record_by_record();
         let object = object_of(self.next, &request);
         let found = self.store.present(object);
         let clock = self.window.clock();
-        let change = judge(clock, self.next, size_of(&found), request)?;
-        let present = present_or_blank(found, moment_after(clock, now));
-        Ok(Judged { change, present })
+        let change = judge(clock, self.next, size_of(found), request)?;
+        let moment = moment_after(clock, now);
+        Ok(Judged { change, moment })
     }
 
     /// A request for a version of an object, once `check` let it pass.
-    #[tactic(auto, using(crate::proofs::Storing::memory_of_rows))]
+    #[tactic(auto, using(crate::proofs::Storing::stored_version))]
     pub(crate) fn change_object(
         &mut self,
         session: &mut Session<J>,
@@ -123,9 +108,8 @@ impl<J: Naming> Drive<J> {
     {
         the_present_stays();
         the_state_goes_on_record_by_record();
-        let Judged { change, present } = self.judge_object(request, now)?;
-        let moment = moment_after(self.window.clock(), now);
-        self.store.take(&change, &present, moment)?;
+        let Judged { change, moment } = self.judge_object(request, now)?;
+        self.store.take(&change, moment)?;
         self.window.stamp(now);
         self.next = next_after(&change, self.next);
         accept(&mut self.history, &mut session.seat, moment, &change);

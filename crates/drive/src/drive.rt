@@ -4,7 +4,7 @@ ghost use mathlib.Core.List.{IsPrefix};
 ghost use Rattle.s4_types.specs.History.{accepted};
 ghost use Rattle.s4_types.specs.declared.refusals.Refusal.TheVariants.{Busy};
 ghost use Rattle.segment_word.specs.AcceptViews.{caught_up};
-ghost use Rattle.segment_word.specs.AcceptRule.{Fits, ShareNone};
+ghost use Rattle.segment_word.specs.AcceptRule.{FitsLedger, ShareNone};
 
 use crate::session::Session;
 use s4_types::{ObjectId, Refusal, Role};
@@ -35,13 +35,13 @@ impl<J: Naming> Model for Drive<J> {
     ghost use Rattle.segment_table.specs.Room.{log_of};
     ghost use Rattle.version_store.specs.Store.{fields_of};
     ghost use Rattle.drive.specs.Fields.{DriveFields};
-    ghost use Rattle.drive.specs.Keeping.{IsKept};
+    ghost use Rattle.drive.specs.Keeping.{IsKeptDrive};
 
     ghost Value = { DriveFields };
 
     ghost view = { λ d. record { ledger = d.history; store = d.store } };
 
-    ghost invariant = { λ d. (d.history.history.base ≡ J.base) × IsKept (state_of d.history.history) (fields_of log_of d.store) d.window d.next };
+    ghost invariant = { λ d. (d.history.history.base ≡ J.base) × IsKeptDrive (state_of d.history.history) (fields_of log_of d.store) d.window d.next };
 }
 
 impl<J: Naming> Drive<J> {
@@ -65,8 +65,8 @@ impl<J: Naming> Drive<J> {
     pub fn meet(&mut self, session: &mut Session<J>)
         ensures session { session.new ≡ record session.old { told = caught_up self.old.ledger session.old.told } }
         ensures grows { IsPrefix session.old.told.seen session.new.told.seen }
-        ensures before { Fits self.old.ledger session.old.told }
-        ensures after { Fits self.new.ledger session.new.told }
+        ensures before { FitsLedger self.old.ledger session.old.told }
+        ensures after { FitsLedger self.new.ledger session.new.told }
         ensures same { self.new ≡ self.old }
     {
         self.history.meet(&mut session.seat);

@@ -8,7 +8,7 @@ ghost use Rattle.object_map.specs.Rows.{row_of};
 ghost use Rattle.segment_table.specs.Room.{pointers_in};
 ghost use Rattle.version_store.specs.Store.{IsStore};
 ghost use Rattle.version_store.specs.Costs.{room};
-ghost use Rattle.version_store.specs.Versions.{entries_in, inode_in};
+ghost use Rattle.version_store.specs.Versions.{entries_of_object, inode_in};
 ghost use Rattle.drive.specs.Fields.{history_of, state_in, store_of};
 ghost use Rattle.drive.specs.Keeping.{DecodesWhereVisible};
 
@@ -84,7 +84,7 @@ impl<J: Naming> Drive<J> {
     ///
     /// NoMemory alone, where the memory for them is refused.
     pub fn entries(&mut self, object: ObjectId) -> Result<Vec<Entry>, Refusal>
-        ensures entries { IfOk result (λ entries. entries.items ≡ entries_in (store_of self.old) object) }
+        ensures entries { IfOk result (λ entries. entries.items ≡ entries_of_object (store_of self.old) object) }
         ensures refusal { IfErr result (λ e. e ≡ NoMemory) }
         ensures ledger { self.new.ledger ≡ self.old.ledger }
         ensures store { store_of self.new ≡ store_of self.old }

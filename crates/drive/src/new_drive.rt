@@ -1,10 +1,12 @@
 //! A new drive, before and when it gets its name.
-ghost use Rattle.std.specs.Prelude.{◌≡◌, ◌⊎◌, ◌≤◌, None, IfOk, IfErr};
+ghost use Rattle.std.specs.Prelude.{◌≡◌, ◌⊎◌, ◌≤◌, ℕ, None, IfOk, IfErr};
 ghost use Rattle.s4_types.specs.Sizes.{IsFrameCount};
 ghost use Rattle.s4_types.specs.declared.refusals.Refusal.TheVariants.{NoMemory, Busy};
 ghost use Rattle.s4_model.specs.State.{new_base};
 ghost use Rattle.segment_word.specs.AcceptViews.{begun};
+ghost use Rattle.object_map.specs.Rows.{row_of};
 ghost use Rattle.segment_table.specs.Room.{log_of, new_places};
+ghost use Rattle.version_store.specs.Store.{fields_of, IsStore};
 
 use crate::drive::Drive;
 use s4_model::laws::every_history_is_sound;
@@ -31,17 +33,18 @@ impl Model for NewDrive {
     ghost use Rattle.segment_table.specs.Room.{log_of};
     ghost use Rattle.version_store.specs.Store.{fields_of};
     ghost use Rattle.drive.specs.Fields.{NewFields};
-    ghost use Rattle.drive.specs.Keeping.{IsKept};
+    ghost use Rattle.drive.specs.Keeping.{IsKeptDrive};
 
     ghost Value = { NewFields };
 
     ghost view = { λ d. record { accepts = d.accepts; store = d.store; window = d.window.window } };
 
-    ghost invariant = { λ d. IsKept (state_of (new_history d.window.window)) (fields_of log_of d.store) d.window 1 };
+    ghost invariant = { λ d. IsKeptDrive (state_of (new_history d.window.window)) (fields_of log_of d.store) d.window 1 };
 }
 
 impl NewDrive {
-    /// A new drive of 8 to 1,024 frames, whose history reaches `window` moments back. Nothing is stored in it.
+    /// A new drive of 8 to 1,024 frames, whose history reaches `window` moments back. Nothing is stored in it,
+    /// and no object has a row.
     ///
     /// NoMemory where memory was refused, Busy where a count of those that share it was full.
     #[tactic(auto, using(crate::proofs::Beginning::few_places, crate::proofs::Beginning::kept_new))]
@@ -49,6 +52,9 @@ impl NewDrive {
         requires { IsFrameCount frames }
         ensures window { IfOk result (λ d. d.window ≡ window) }
         ensures log { IfOk result (λ d. log_of d.store.table ≡ record { held = λ p. None; ahead = new_places frames }) }
+        ensures empty { IfOk result (λ d. (o : ℕ) → row_of d.store.rows o ≡ None) }
+        ensures latest { IfOk result (λ d. d.store.latest ≡ 0) }
+        ensures store { IfOk result (λ d. IsStore (fields_of log_of d.store)) }
         ensures refusal { IfErr result (λ e. (e ≡ NoMemory) ⊎ (e ≡ Busy)) }
     {
         every_history_is_sound();

@@ -1,13 +1,14 @@
 //! Plans of reads: made with the drive, and fetched without it.
 ghost use Rattle.std.specs.Prelude.{◌≡◌, None, Some, IfOk, IfErr, OnOk};
 ghost use Rattle.s4_types.specs.Sizes.{ReplyFits};
-ghost use Rattle.s4_types.specs.declared.replies.Reply.TheVariants.{Data};
+ghost use Rattle.s4_types.specs.declared.refusals.Refusal.TheVariants.{NoMemory};
+ghost use Rattle.s4_types.specs.declared.replies.Reply.TheVariants.{Data, Refused};
 ghost use Rattle.s4_types.specs.declared.requests.Request.TheVariants.{Read};
 ghost use Rattle.s4_types.specs.declared.requests.Role.{Role};
 ghost use Rattle.s4_model.specs.Refusals.{first_refusal};
 ghost use Rattle.s4_model.specs.Step.{Step, judged, reply_to_read};
 ghost use Rattle.segment_word.specs.AcceptViews.{with_moment, caught_up};
-ghost use Rattle.segment_word.specs.AcceptRule.{Fits};
+ghost use Rattle.segment_word.specs.AcceptRule.{FitsLedger};
 ghost use Rattle.time_read.specs.Plans.{bytes_planned};
 ghost use Rattle.drive.specs.Fields.{history_of, state_in, store_of};
 ghost use Rattle.drive.specs.Refusing.{refusal_of, RefusesBy, IsUnplanned};
@@ -58,6 +59,8 @@ impl<J: Naming> Drive<J> {
         // The history goes on by the step of that Read, answered with the bytes that the plan names.
         ensures step { Step (history_of self.old) session.old.role (Read object offset length at) now (reply_planned result) (history_of self.new) }
         ensures refused { RefusesBy (refusal_of (store_of self.old) (judged (history_of self.old) (Read object offset length at) now) session.old.role (Read object offset length at) now) self.new (Read object offset length at) (reply_planned result) }
+        // Want of memory comes only where no check refuses the Read.
+        ensures memory { reply_planned result ≡ Refused NoMemory → first_refusal (judged (history_of self.old) (Read object offset length at) now) session.old.role (Read object offset length at) ≡ None }
         ensures plan { IfOk result (IsPlanOf self.new object offset length at) }
         // Its pin is of the table of frames that `J` names.
         ensures named { IfOk result (λ plan. IsPinOf J.frames plan.pin) }
@@ -65,8 +68,8 @@ impl<J: Naming> Drive<J> {
         ensures ledger { self.new.ledger ≡ with_moment self.old.ledger now }
         ensures store { store_of self.new ≡ store_of self.old }
         ensures session { session.new ≡ record session.old { told = caught_up self.new.ledger session.old.told } }
-        ensures before { Fits self.old.ledger session.old.told }
-        ensures after { Fits self.new.ledger session.new.told }
+        ensures before { FitsLedger self.old.ledger session.old.told }
+        ensures after { FitsLedger self.new.ledger session.new.told }
     {
         self.see(session, now);
         let planned = self.plan_read(object, offset, length, at);

@@ -24,6 +24,7 @@ use s4_types::{Bytes, Moment, ObjectId, Refusal, Reply, Request, Role};
 use segment_word::Naming;
 use std::alloc::Global;
 use time_read::ReadPlan;
+use version_store::laws::the_present_stays;
 
 /// The attributes that a live inode tells of its object.
 fn attributes_of(alloc: Global, inode: &Inode) -> Result<Reply, Refusal>
@@ -68,6 +69,26 @@ impl<J: Naming> Drive<J> {
         Ok(inode)
     }
 
+    /// The present inode of an object, where a moment from the drive's last change on can be read and the object is there.
+    fn live_present(&self, object: ObjectId, moment: Moment) -> Result<&Inode, Refusal>
+        requires present { (store_of self.now).latest ≤ moment }
+        ensures free { OnOk result (telling_refusal (state_in self.now) object moment ≡ None) }
+        ensures present { IfOk result (λ inode. inode_in (store_of self.now) object (store_of self.now).latest ≡ Some inode.now) }
+        ensures inode { IfOk result (λ inode. inode_in (store_of self.now) object moment ≡ Some inode.now) }
+        ensures version { IfOk result (λ inode. version_of (state_in self.now) object moment ≡ Live (bytes_of (contents_of (store_of self.now).log.held) inode.now) inode.now.attribute inode.now.created inode.now.changed) }
+        ensures refused { IfErr result (λ e. telling_refusal (state_in self.now) object moment ≡ Some e) }
+    {
+        the_present_stays();
+        self.window.visible(object, moment)?;
+        let Some(inode) = self.store.present(object) else {
+            return Err(Refusal::NoObject);
+        };
+        if !inode.alive {
+            return Err(Refusal::NoObject);
+        }
+        Ok(inode)
+    }
+
     /// A plan of reading the bytes of an object from an offset on, at a moment.
     pub(crate) fn planned(
         &mut self,
@@ -84,6 +105,10 @@ impl<J: Naming> Drive<J> {
         ensures refused { IfErr result (IsUnplanned (later_refusal (state_in self.old) (Read object offset length at)) self.new (Read object offset length at)) }
     {
         let moment = self.moment_asked(at);
+        if self.store.latest() <= moment {
+            self.live_present(object, moment)?;
+            return self.store.plan_present(object, offset, u64::from(length));
+        }
         let inode = self.live_inode(object, moment)?;
         self.store
             .plan(object, moment, &inode, offset, u64::from(length))
@@ -118,6 +143,9 @@ impl<J: Naming> Drive<J> {
     {
         bytes_are_the_blocks_joined();
         let moment = self.moment_asked(at);
+        if self.store.latest() <= moment {
+            return attributes_of(self.alloc, self.live_present(object, moment)?);
+        }
         let inode = self.live_inode(object, moment)?;
         attributes_of(self.alloc, &inode)
     }

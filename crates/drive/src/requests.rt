@@ -1,13 +1,14 @@
 //! Requests: each is one step of the drive's history.
 ghost use Rattle.std.specs.Prelude.{◌≡◌, MatchBool, MatchResult};
 ghost use Rattle.s4_types.specs.Sizes.{ReplyFits};
+ghost use Rattle.s4_types.specs.declared.refusals.Refusal.TheVariants.{NoMemory};
 ghost use Rattle.s4_model.specs.Refusals.{first_refusal};
 ghost use Rattle.s4_model.specs.Step.{Step, judged};
 ghost use Rattle.s4_model.specs.Plain.{IsChange};
 ghost use Rattle.segment_word.specs.AcceptViews.{with_moment, caught_up};
-ghost use Rattle.segment_word.specs.AcceptRule.{Fits};
+ghost use Rattle.segment_word.specs.AcceptRule.{FitsLedger};
 ghost use Rattle.drive.specs.Fields.{history_of, state_in, store_of};
-ghost use Rattle.drive.specs.Refusing.{refusal_of, RefusesBy};
+ghost use Rattle.drive.specs.Refusing.{refusal_of, RefusesBy, MayLackMemory};
 ghost use Rattle.drive.specs.Answering.{IsRead, Leaves, ComesTo, told_after, owners_after};
 
 use crate::drive::Drive;
@@ -43,23 +44,27 @@ impl<J: Naming> Drive<J> {
     ///
     /// A refusal is the first of the model's checks that applies. Where none does, a change of an object is refused with
     /// ChainFull where the entries of the object's chain would have more than 11,712 bytes, else with NoSpace where there is
-    /// less room than blocks are appended. NoMemory comes only where a growth was refused, and of no change of the window or of
-    /// an object that is there; it stands in place of no check but NoObject, TooManySpans and ClockEnd. Busy comes of a Read
-    /// alone, where no check applies: it needs a block of a sealed frame, and no pin is to be had.
+    /// less room than blocks are appended. NoMemory comes only where a growth was refused. A Create, a Read and a GetAttr are
+    /// answered so only where nothing else refuses them, a Flush and a FlushO also in place of TooManySpans and ClockEnd, and no
+    /// other request is. Busy comes of a Read alone, where no check applies: it needs a block of a sealed frame, and no pin is to
+    /// be had.
     pub fn request(&mut self, session: &mut Session<J>, request: Request, now: Moment) -> Reply
         // The history goes on by a step of the model.
         ensures step { Step (history_of self.old) session.old.role request now result (history_of self.new) }
-        // The reply is a refusal exactly where there is one, but for want of memory.
+        // The reply is a refusal exactly where there is one, but for want of memory, which stands in place of no check of an
+        // object.
         ensures refused { RefusesBy (refusal_of (store_of self.old) (judged (history_of self.old) request now) session.old.role request now) self.new request result }
-        // An accepted change appends exactly its blocks; nothing else does.
+        ensures memory { result ≡ Reply.Refused NoMemory → MayLackMemory (first_refusal (judged (history_of self.old) request now) session.old.role request) request }
+        // An accepted change appends exactly its blocks, and changes its object's row alone, whose stamp it raises by one; it is
+        // the last change then. Nothing else changes blocks, rows or the last change's moment.
         ensures stored { Leaves (store_of self.old) (state_in self.old) request now result (store_of self.new) }
         ensures fits { ReplyFits result }
 
         // The session has seen all accepted changes, and an accepted one is its own.
         ensures session { session.new ≡ record session.old { told = told_after result self.new.ledger session.old.told } }
         ensures owners { self.new.ledger.owners ≡ owners_after result session.old.told.seat self.old.ledger.owners }
-        ensures before { Fits self.old.ledger session.old.told }
-        ensures after { Fits self.new.ledger session.new.told }
+        ensures before { FitsLedger self.old.ledger session.old.told }
+        ensures after { FitsLedger self.new.ledger session.new.told }
     {
         if is_read(&request) {
             self.see(session, now);
@@ -80,8 +85,8 @@ impl<J: Naming> Drive<J> {
         ensures ledger { self.new.ledger ≡ with_moment self.old.ledger now }
         ensures store { self.new.store ≡ self.old.store }
         ensures session { session.new ≡ record session.old { told = caught_up self.new.ledger session.old.told } }
-        ensures before { Fits self.old.ledger session.old.told }
-        ensures after { Fits self.new.ledger session.new.told }
+        ensures before { FitsLedger self.old.ledger session.old.told }
+        ensures after { FitsLedger self.new.ledger session.new.told }
     {
         every_history_is_sound();
         the_state_goes_on_record_by_record();

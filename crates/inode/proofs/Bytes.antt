@@ -5,7 +5,8 @@ use Rattle.std.proofs.lemmas.List.{length-replicate, get_or-replicate, get_or_de
 use Rattle.s4_types.specs.Pointer.{Place}
 use Rattle.codec.specs.Checkpoint.{pointer_at}
 use Rattle.codec.specs.declared.inodes.Inode.{Inode}
-use Rattle.inode.specs.Contents.{listed, zeros, byte_in, byte_of, bytes_of}
+use Rattle.codec.specs.Fields.{zeros}
+use Rattle.inode.specs.Contents.{listed, byte_in, byte_of, bytes_of}
 use Rattle.inode.specs.Changed.{block_of}
 use Rattle.inode.specs.Tidiness.{Tidy}
 use Rattle.inode.proofs.Listing.{listed-length, listed-at, listed-past, listed-same, listed-is}

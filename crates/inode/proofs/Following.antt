@@ -11,16 +11,16 @@ use Rattle.codec.specs.declared.inodes.Inode.{Inode}
 use Rattle.inode.specs.Contents.{byte_in, byte_of, contents_of, bytes_stored}
 use Rattle.inode.specs.Tidiness.{PointersLead, PointersHeld}
 use Rattle.inode.specs.Growth.{data_block, GrowsBy}
-use Rattle.inode.specs.Changed.{block_of, blocks_from}
+use Rattle.inode.specs.Changed.{block_of, listed_blocks}
 use Rattle.inode.proofs.Listing.{listed-at}
 use Rattle.inode.proofs.Frames.{kept-agree, byte_in-same, lead}
-use Rattle.inode.proofs.Stepping.{blocks_from-length}
+use Rattle.inode.proofs.Stepping.{listed_blocks-length}
 
-pub blocks_from-at : (bytes_at : ℕ → ℕ) (first count m k : ℕ) → m < count → first + m ≡ k → slice_get (blocks_from bytes_at first count) m ≡ Some (block_of bytes_at k)
-unfolding blocks_from
-blocks_from-at bytes_at first count m k lt e =
-    let all : length (blocks_from bytes_at first count) ≡ count = blocks_from-length bytes_at first count in
-    slice_get-get_or (blocks_from bytes_at first count) m (block_of bytes_at k) (omega arith) ∙ ap Some (get_or-map-range_with_len (block_of bytes_at) first count m k (block_of bytes_at k) lt e)
+pub listed_blocks-at : (bytes_at : ℕ → ℕ) (first count m k : ℕ) → m < count → first + m ≡ k → slice_get (listed_blocks bytes_at first count) m ≡ Some (block_of bytes_at k)
+unfolding listed_blocks
+listed_blocks-at bytes_at first count m k lt e =
+    let all : length (listed_blocks bytes_at first count) ≡ count = listed_blocks-length bytes_at first count in
+    slice_get-get_or (listed_blocks bytes_at first count) m (block_of bytes_at k) (omega arith) ∙ ap Some (get_or-map-range_with_len (block_of bytes_at) first count m k (block_of bytes_at k) lt e)
 
 there : {X : Type 0} (xs : List X) (m : ℕ) (P : Type 0) → m < length xs → ((x : X) → slice_get xs m ≡ Some x → P) → (o : Option X) → slice_get xs m ≡ o → P
 there xs m P lt f (Some x) e = f x e
@@ -30,18 +30,18 @@ there (x ∷ xs) m P lt f None e = absurd (none-some (get_or (x ∷ xs) m x) (sy
 is_there : {X : Type 0} (xs : List X) (m : ℕ) (P : Type 0) → m < length xs → ((x : X) → slice_get xs m ≡ Some x → P) → P
 is_there xs m P lt f = there xs m P lt f (slice_get xs m) refl
 
-new_byte : (object : ℕ) (bytes_at : ℕ → ℕ) (first count : ℕ) (before after : Log) (k m n : ℕ) (p : Place) → GrowsBy object (blocks_from bytes_at first count) before after
+new_byte : (object : ℕ) (bytes_at : ℕ → ℕ) (first count : ℕ) (before after : Log) (k m n : ℕ) (p : Place) → GrowsBy object (listed_blocks bytes_at first count) before after
     → slice_get before.ahead m ≡ Some p → m < count → first + m ≡ k → n / 512 ≡ k → byte_in (contents_of after.held) (Some p) (n % 512) ≡ bytes_at n
 new_byte object bytes_at first count before after k m n p grows at lt e index =
-    let found : after.held p ≡ Some (data_block object (block_of bytes_at k)) = grows.taken m p (block_of bytes_at k) at (blocks_from-at bytes_at first count m k lt e) in
+    let found : after.held p ≡ Some (data_block object (block_of bytes_at k)) = grows.taken m p (block_of bytes_at k) at (listed_blocks-at bytes_at first count m k lt e) in
     ap (λ b. get_or (bytes_stored b) (n % 512) 0) found ∙ listed-at bytes_at (512 * k) 512 (n % 512) n 0 (omega arith) (omega arith)
 
 -- a byte in a block that was appended
-pub byte_of-new : (object : ℕ) (bytes_at : ℕ → ℕ) (first count : ℕ) (before after : Log) (j : Inode) (k m n : ℕ) → GrowsBy object (blocks_from bytes_at first count) before after
+pub byte_of-new : (object : ℕ) (bytes_at : ℕ → ℕ) (first count : ℕ) (before after : Log) (j : Inode) (k m n : ℕ) → GrowsBy object (listed_blocks bytes_at first count) before after
     → pointer_at j k ≡ slice_get before.ahead m → m < count → first + m ≡ k → n / 512 ≡ k → byte_of (contents_of after.held) j n ≡ bytes_at n
 unfolding byte_of
 byte_of-new object bytes_at first count before after j k m n grows points lt e index =
-    let all : length (blocks_from bytes_at first count) ≡ count = blocks_from-length bytes_at first count in
+    let all : length (listed_blocks bytes_at first count) ≡ count = listed_blocks-length bytes_at first count in
     is_there before.ahead m (byte_of (contents_of after.held) j n ≡ bytes_at n) (omega (arith, grows.room))
     (λ p at.
     ap (λ q. byte_in (contents_of after.held) (pointer_at j q) (n % 512)) index
@@ -63,10 +63,10 @@ seen_data : (object : ℕ) (bytes : List ℕ) → IsSome (seen_as Data object (S
 seen_data object bytes = cond_is_some (same_kind Data Data && object == object) bytes (and_from (same_kind Data Data) (object == object) refl (eq-eqb object object refl))
 
 -- a place that was taken holds a data block of the object
-pub held-new : (object : ℕ) (bytes_at : ℕ → ℕ) (first count : ℕ) (before after : Log) (m : ℕ) (p : Place) → GrowsBy object (blocks_from bytes_at first count) before after
+pub held-new : (object : ℕ) (bytes_at : ℕ → ℕ) (first count : ℕ) (before after : Log) (m : ℕ) (p : Place) → GrowsBy object (listed_blocks bytes_at first count) before after
     → slice_get before.ahead m ≡ Some p → m < count → IsSome (of_kind Data object after.held p)
 held-new object bytes_at first count before after m p grows at lt =
-    subst (λ b. IsSome (seen_as Data object b)) (sym (grows.taken m p (block_of bytes_at (first + m)) at (blocks_from-at bytes_at first count m (first + m) lt refl))) (seen_data object (block_of bytes_at (first + m)))
+    subst (λ b. IsSome (seen_as Data object b)) (sym (grows.taken m p (block_of bytes_at (first + m)) at (listed_blocks-at bytes_at first count m (first + m) lt refl))) (seen_data object (block_of bytes_at (first + m)))
 
 -- a data block of the object that was held still is one
 pub held-old : (object : ℕ) (before after : Place → Option Stored) (i : Inode) (k : ℕ) (p : Place) → ((p : Place) → IsSome (before p) → after p ≡ before p) → PointersHeld before object i

@@ -7,11 +7,11 @@ use Rattle.s4_types.specs.Pointer.{Place}
 use Rattle.block_log.specs.Log.{Log, Stored, with_held, seen_as, same_kind, same_place}
 use Rattle.block_log.specs.declared.kinds.BlockKind.{BlockKind}
 use Rattle.block_log.specs.declared.kinds.BlockKind.TheVariants.{Data}
-use Rattle.inode.specs.Growth.{data_block, grown, grown_at, with_data, GrowsBy}
+use Rattle.inode.specs.Growth.{data_block, log_grown, grown_at, with_data, GrowsBy}
 
-pub with_data-push : (object : ℕ) (blocks : List (List ℕ)) (bytes : List ℕ) (log : Log) → with_data object (blocks ++ bytes ∷ []) log ≡ grown (with_data object blocks log) (data_block object bytes)
+pub with_data-push : (object : ℕ) (blocks : List (List ℕ)) (bytes : List ℕ) (log : Log) → with_data object (blocks ++ bytes ∷ []) log ≡ log_grown (with_data object blocks log) (data_block object bytes)
 with_data-push object [] bytes log = refl
-with_data-push object (first ∷ blocks) bytes log = with_data-push object blocks bytes (grown log (data_block object first))
+with_data-push object (first ∷ blocks) bytes log = with_data-push object blocks bytes (log_grown log (data_block object first))
 
 same_place-self : (p : Place) → same_place p p ≡ true
 same_place-self p = and_from (p.frame == p.frame) (p.block == p.block && p.generation == p.generation) (eq-eqb p.frame p.frame refl) (and_from (p.block == p.block) (p.generation == p.generation) (eq-eqb p.block p.block refl) (eq-eqb p.generation p.generation refl))
@@ -92,7 +92,7 @@ ahead_is (p ∷ ahead) q e = ap (λ first. first ∷ ahead) (same_Some p q e)
 abbrev put_at : Log → Stored → Place → Log
 put_at log block q = record { held = with_held log.held q block; ahead = drop 1 log.ahead }
 
-grown_is : (log : Log) (block : Stored) (q : Place) → slice_get log.ahead 0 ≡ Some q → grown log block ≡ put_at log block q
+grown_is : (log : Log) (block : Stored) (q : Place) → slice_get log.ahead 0 ≡ Some q → log_grown log block ≡ put_at log block q
 grown_is log block q e = ap (grown_at log block) (ahead_is log.ahead q e)
 
 taken_more : (object : ℕ) (blocks : List (List ℕ)) (bytes : List ℕ) (before mid : Log) (q : Place) → GrowsBy object blocks before mid → slice_get mid.ahead 0 ≡ Some q → mid.held q ≡ None
@@ -130,7 +130,7 @@ drop_one_more : (before mid : List Place) (n m : ℕ) → mid ≡ drop n before 
 drop_one_more before mid n m e more = ap (drop 1) e ∙ drop-drop 1 n before ∙ ap (λ k. drop k before) (omega arith)
 
 pub grows-more : (object : ℕ) (blocks : List (List ℕ)) (bytes : List ℕ) (before mid : Log) (q : Place) → GrowsBy object blocks before mid → slice_get mid.ahead 0 ≡ Some q → mid.held q ≡ None
-    → GrowsBy object (blocks ++ bytes ∷ []) before (grown mid (data_block object bytes))
+    → GrowsBy object (blocks ++ bytes ∷ []) before (log_grown mid (data_block object bytes))
 grows-more object blocks bytes before mid q grows first free =
     let longer : length (blocks ++ bytes ∷ []) ≡ length blocks + 1 = length-append blocks (bytes ∷ []) in
     let within : 0 < length mid.ahead = slice_get_within mid.ahead 0 q first in

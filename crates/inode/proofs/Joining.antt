@@ -5,7 +5,8 @@ use Rattle.std.specs.List.{flat_map}
 use Rattle.s4_types.specs.Pointer.{Place}
 use Rattle.codec.specs.Checkpoint.{pointer_at}
 use Rattle.codec.specs.declared.inodes.Inode.{Inode}
-use Rattle.inode.specs.Contents.{listed, zeros, byte_in, byte_of}
+use Rattle.codec.specs.Fields.{zeros}
+use Rattle.inode.specs.Contents.{listed, byte_in, byte_of}
 use Rattle.inode.specs.Laws.{slot_bytes, BlocksJoinedAndCut}
 use Rattle.inode.proofs.Listing.{listed-is, listed-at, listed-join, listed-length}
 use Rattle.inode.proofs.Bytes.{bytes_of_slot, bytes_of_hole, block_of-slot}

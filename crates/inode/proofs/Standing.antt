@@ -6,9 +6,9 @@ use Rattle.s4_types.specs.Pointer.{Place}
 use Rattle.s4_types.specs.declared.versions.Version.TheVariants.{Absent, Live}
 use Rattle.s4_types.specs.declared.changes.Change.TheVariants.{SetAttr}
 use Rattle.s4_model.specs.Effect.{effect}
-use Rattle.codec.specs.Checkpoint.{pointer_at}
+use Rattle.codec.specs.Checkpoint.{pointer_at, holes}
 use Rattle.codec.specs.declared.inodes.Inode.{Inode}
-use Rattle.inode.specs.Contents.{listed, holes, byte_in, byte_of, bytes_of, meaning}
+use Rattle.inode.specs.Contents.{listed, byte_in, byte_of, bytes_of, meaning}
 use Rattle.inode.specs.Tidiness.{Tidy}
 
 replicate_hole : (count k : ℕ) → get_or {A = Option Place} (replicate count None) k None ≡ None

@@ -9,8 +9,8 @@ use Rattle.codec.specs.Checkpoint.{pointer_at}
 use Rattle.codec.specs.declared.inodes.Inode.{Inode}
 use Rattle.inode.specs.Contents.{contents_of}
 use Rattle.inode.specs.Tidiness.{PointersLead, AgreeAt}
-use Rattle.inode.specs.Growth.{data_block, grown, with_data, GrowsBy}
-use Rattle.inode.specs.Changed.{block_of, blocks_from, byte_written}
+use Rattle.inode.specs.Growth.{data_block, log_grown, with_data, GrowsBy}
+use Rattle.inode.specs.Changed.{block_of, listed_blocks, byte_written}
 use Rattle.inode.proofs.Listing.{listed-same}
 use Rattle.inode.proofs.Growing.{with_data-push, grows-none, grows-more, slice_get-drop}
 use Rattle.inode.proofs.Frames.{byte_of-same, kept-agree}
@@ -21,17 +21,17 @@ pointer_upto ahead i first index k = cond (nat_le first k && nat_lt k index) (sl
 
 -- What stands once the blocks from the first up to another index are appended.
 pub record Upto (object : ℕ) (bytes_at : ℕ → ℕ) (i : Inode) (first index : ℕ) (before now : Log) (slots : List (Option Place)) : Type 0 where
-  pub log : now ≡ with_data object (blocks_from bytes_at first (index - first)) before
-  pub growth : GrowsBy object (blocks_from bytes_at first (index - first)) before now
+  pub log : now ≡ with_data object (listed_blocks bytes_at first (index - first)) before
+  pub growth : GrowsBy object (listed_blocks bytes_at first (index - first)) before now
   pub pointers : (k : ℕ) → get_or slots k None ≡ pointer_upto before.ahead i first index k
 
-pub blocks_from-length : (bytes_at : ℕ → ℕ) (first count : ℕ) → length (blocks_from bytes_at first count) ≡ count
-unfolding blocks_from
-blocks_from-length bytes_at first count = length-map-range_with_len (block_of bytes_at) first count
+pub listed_blocks-length : (bytes_at : ℕ → ℕ) (first count : ℕ) → length (listed_blocks bytes_at first count) ≡ count
+unfolding listed_blocks
+listed_blocks-length bytes_at first count = length-map-range_with_len (block_of bytes_at) first count
 
-blocks_from-more : (bytes_at : ℕ → ℕ) (first count more index : ℕ) → count + 1 ≡ more → first + count ≡ index → blocks_from bytes_at first more ≡ blocks_from bytes_at first count ++ block_of bytes_at index ∷ []
-unfolding blocks_from
-blocks_from-more bytes_at first count more index e at = ap (λ n. blocks_from bytes_at first n) (sym e) ∙ map-range_with_len_more (block_of bytes_at) first count index at
+listed_blocks-more : (bytes_at : ℕ → ℕ) (first count more index : ℕ) → count + 1 ≡ more → first + count ≡ index → listed_blocks bytes_at first more ≡ listed_blocks bytes_at first count ++ block_of bytes_at index ∷ []
+unfolding listed_blocks
+listed_blocks-more bytes_at first count more index e at = ap (λ n. listed_blocks bytes_at first n) (sym e) ∙ map-range_with_len_more (block_of bytes_at) first count index at
 
 pointer_upto-in : (ahead : List Place) (i : Inode) (first index k : ℕ) → first ≤ k → k < index → pointer_upto ahead i first index k ≡ slice_get ahead (k - first)
 pointer_upto-in ahead i first index k low high =
@@ -46,10 +46,10 @@ pointer_upto-behind ahead i first index k le =
     cond-false (nat_le first k && nat_lt k index) (slice_get ahead (k - first)) (pointer_at i k) (and_right (nat_le first k) (nat_lt k index) (le-ltb k index le))
 
 pub upto-none : (object : ℕ) (bytes_at : ℕ → ℕ) (i : Inode) (first : ℕ) (log : Log) → Upto object bytes_at i first first log log i.pointers
-unfolding blocks_from
+unfolding listed_blocks
 upto-none object bytes_at i first log = let none : first - first ≡ 0 = omega arith in record {
-  log = ap (λ n. with_data object (blocks_from bytes_at first n) log) (sym none);
-  growth = subst (λ n. GrowsBy object (blocks_from bytes_at first n) log log) (sym none) (grows-none object log);
+  log = ap (λ n. with_data object (listed_blocks bytes_at first n) log) (sym none);
+  growth = subst (λ n. GrowsBy object (listed_blocks bytes_at first n) log log) (sym none) (grows-none object log);
   pointers = λ k. elim (cases_lt k first) [
     | inl before ↦ sym (pointer_upto-before log.ahead i first first k before)
     | inr behind ↦ sym (pointer_upto-behind log.ahead i first first k behind)
@@ -95,28 +95,28 @@ byte_written-same contents others i offset bytes n agree = ap (λ b. cond (nat_l
 
 pub upto-more : (object : ℕ) (bytes_at : ℕ → ℕ) (i : Inode) (first index : ℕ) (before now : Log) (pointers : List (Option Place)) (p : Place) → Upto object bytes_at i first index before now pointers
     → first ≤ index → index < length pointers → slice_get now.ahead 0 ≡ Some p → now.held p ≡ None
-    → Upto object bytes_at i first (index + 1) before (grown now (data_block object (block_of bytes_at index))) (set pointers index (Some p))
+    → Upto object bytes_at i first (index + 1) before (log_grown now (data_block object (block_of bytes_at index))) (set pointers index (Some p))
 upto-more object bytes_at i first index before now pointers p upto le lt at free =
-    let count : length (blocks_from bytes_at first (index - first)) ≡ index - first = blocks_from-length bytes_at first (index - first) in
-    let more : blocks_from bytes_at first (index + 1 - first) ≡ blocks_from bytes_at first (index - first) ++ block_of bytes_at index ∷ [] = blocks_from-more bytes_at first (index - first) (index + 1 - first) index (omega arith) (omega arith) in
-    let place : slice_get before.ahead (index - first) ≡ Some p = sym (slice_get-drop before.ahead (length (blocks_from bytes_at first (index - first))) 0 (index - first) (omega arith)) ∙ ap (λ a. slice_get a 0) (sym upto.growth.ahead) ∙ at in
+    let count : length (listed_blocks bytes_at first (index - first)) ≡ index - first = listed_blocks-length bytes_at first (index - first) in
+    let more : listed_blocks bytes_at first (index + 1 - first) ≡ listed_blocks bytes_at first (index - first) ++ block_of bytes_at index ∷ [] = listed_blocks-more bytes_at first (index - first) (index + 1 - first) index (omega arith) (omega arith) in
+    let place : slice_get before.ahead (index - first) ≡ Some p = sym (slice_get-drop before.ahead (length (listed_blocks bytes_at first (index - first))) 0 (index - first) (omega arith)) ∙ ap (λ a. slice_get a 0) (sym upto.growth.ahead) ∙ at in
     record {
-      log = ap (λ l. grown l (data_block object (block_of bytes_at index))) upto.log ∙ sym (with_data-push object (blocks_from bytes_at first (index - first)) (block_of bytes_at index) before) ∙ ap (λ blocks. with_data object blocks before) (sym more);
-      growth = subst (λ blocks. GrowsBy object blocks before (grown now (data_block object (block_of bytes_at index)))) (sym more) (grows-more object (blocks_from bytes_at first (index - first)) (block_of bytes_at index) before now p upto.growth at free);
+      log = ap (λ l. log_grown l (data_block object (block_of bytes_at index))) upto.log ∙ sym (with_data-push object (listed_blocks bytes_at first (index - first)) (block_of bytes_at index) before) ∙ ap (λ blocks. with_data object blocks before) (sym more);
+      growth = subst (λ blocks. GrowsBy object blocks before (log_grown now (data_block object (block_of bytes_at index)))) (sym more) (grows-more object (listed_blocks bytes_at first (index - first)) (block_of bytes_at index) before now p upto.growth at free);
       pointers = pointers_more before.ahead i first index pointers p le lt upto.pointers place;
     }
 
 pub upto-room : (object : ℕ) (bytes_at : ℕ → ℕ) (i : Inode) (first index : ℕ) (before now : Log) (slots : List (Option Place)) → Upto object bytes_at i first index before now slots → index - first < length before.ahead → 0 < length now.ahead
 upto-room object bytes_at i first index before now slots upto lt =
-    let count : length (blocks_from bytes_at first (index - first)) ≡ index - first = blocks_from-length bytes_at first (index - first) in
-    let left : length now.ahead ≡ length before.ahead - length (blocks_from bytes_at first (index - first)) = ap length upto.growth.ahead ∙ length-drop (length (blocks_from bytes_at first (index - first))) before.ahead in
+    let count : length (listed_blocks bytes_at first (index - first)) ≡ index - first = listed_blocks-length bytes_at first (index - first) in
+    let left : length now.ahead ≡ length before.ahead - length (listed_blocks bytes_at first (index - first)) = ap length upto.growth.ahead ∙ length-drop (length (listed_blocks bytes_at first (index - first))) before.ahead in
     omega arith
 
 -- The step of a write: the block is made over the contents as they are now, which agree with those before wherever the
 -- inode's pointers lead.
 pub write-more : (object offset : ℕ) (bytes : List ℕ) (i : Inode) (first index : ℕ) (before now next : Log) (slots : List (Option Place)) (p : Place)
     → Upto object (byte_written (contents_of before.held) i offset bytes) i first index before now slots → PointersLead before.held i
-    → next ≡ grown now (data_block object (block_of (byte_written (contents_of now.held) i offset bytes) index))
+    → next ≡ log_grown now (data_block object (block_of (byte_written (contents_of now.held) i offset bytes) index))
     → first ≤ index → index < length slots → slice_get now.ahead 0 ≡ Some p → now.held p ≡ None
     → Upto object (byte_written (contents_of before.held) i offset bytes) i first (index + 1) before next (set slots index (Some p))
 write-more object offset bytes i first index before now next slots p upto leads is_next le lt at free =
@@ -124,7 +124,7 @@ write-more object offset bytes i first index before now next slots p upto leads 
     let same : block_of (byte_written (contents_of now.held) i offset bytes) index ≡ block_of (byte_written (contents_of before.held) i offset bytes) index
     = block_of-same (byte_written (contents_of now.held) i offset bytes) (byte_written (contents_of before.held) i offset bytes) index (λ n. byte_written-same (contents_of before.held) (contents_of now.held) i offset bytes n agree) in
     subst (λ l. Upto object (byte_written (contents_of before.held) i offset bytes) i first (index + 1) before l (set slots index (Some p)))
-    (ap (λ b. grown now (data_block object b)) (sym same) ∙ sym is_next)
+    (ap (λ b. log_grown now (data_block object b)) (sym same) ∙ sym is_next)
     (upto-more object (byte_written (contents_of before.held) i offset bytes) i first index before now slots p upto le lt at free)
 
 with_pointers : List (Option Place) → Inode → Inode

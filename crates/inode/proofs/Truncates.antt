@@ -12,9 +12,9 @@ use Rattle.codec.specs.Checkpoint.{pointer_at}
 use Rattle.codec.specs.declared.inodes.Inode.{Inode}
 use Rattle.inode.specs.Contents.{byte_of, bytes_of, contents_of, meaning}
 use Rattle.inode.specs.Tidiness.{Tidy, PointersLead, PointersHeld}
-use Rattle.inode.specs.Growth.{GrowsBy, grown, data_block, with_data}
+use Rattle.inode.specs.Growth.{GrowsBy, log_grown, data_block, with_data}
 use Rattle.inode.specs.Touched.{is_cut, cut_count}
-use Rattle.inode.specs.Changed.{byte_cut, blocks_cut, blocks_from, block_of, Truncated}
+use Rattle.inode.specs.Changed.{byte_cut, blocks_cut, listed_blocks, block_of, Truncated}
 use Rattle.inode.proofs.Listing.{listed-is, listed-at}
 use Rattle.inode.proofs.Bytes.{bytes_of-at}
 use Rattle.inode.proofs.Standing.{byte_of-hole}
@@ -261,21 +261,21 @@ cut_truncated ahead moment size i next p rest count le pointers some at = record
 }
 
 pub blocks_cut-one : (contents : Place → List ℕ) (i : Inode) (size : ℕ) → cut_count i size ≡ 1 → blocks_cut contents i size ≡ block_of (byte_cut contents i size) (size / 512) ∷ []
-unfolding blocks_from
-blocks_cut-one contents i size e = ap (blocks_from (byte_cut contents i size) (size / 512)) e
+unfolding listed_blocks
+blocks_cut-one contents i size e = ap (listed_blocks (byte_cut contents i size) (size / 512)) e
 
 pub blocks_cut-none : (contents : Place → List ℕ) (i : Inode) (size : ℕ) → cut_count i size ≡ 0 → blocks_cut contents i size ≡ []
-unfolding blocks_from
-blocks_cut-none contents i size e = ap (blocks_from (byte_cut contents i size) (size / 512)) e
+unfolding listed_blocks
+blocks_cut-none contents i size e = ap (listed_blocks (byte_cut contents i size) (size / 512)) e
 
-pub cut_growth : (object : ℕ) (contents : Place → List ℕ) (i : Inode) (size : ℕ) (before after : Log) (p : Place) → cut_count i size ≡ 1 → after ≡ grown before (data_block object (block_of (byte_cut contents i size) (size / 512)))
+pub cut_growth : (object : ℕ) (contents : Place → List ℕ) (i : Inode) (size : ℕ) (before after : Log) (p : Place) → cut_count i size ≡ 1 → after ≡ log_grown before (data_block object (block_of (byte_cut contents i size) (size / 512)))
     → slice_get before.ahead 0 ≡ Some p → before.held p ≡ None → GrowsBy object (blocks_cut contents i size) before after
 cut_growth object contents i size before after p one is_after at free =
     subst (λ blocks. GrowsBy object blocks before after) (sym (blocks_cut-one contents i size one))
     (subst (λ l. GrowsBy object (block_of (byte_cut contents i size) (size / 512) ∷ []) before l) (sym is_after)
     (grows-more object [] (block_of (byte_cut contents i size) (size / 512)) before before p (grows-none object before) at free))
 
-pub cut_log : (object : ℕ) (contents : Place → List ℕ) (i : Inode) (size : ℕ) (before after : Log) → cut_count i size ≡ 1 → after ≡ grown before (data_block object (block_of (byte_cut contents i size) (size / 512)))
+pub cut_log : (object : ℕ) (contents : Place → List ℕ) (i : Inode) (size : ℕ) (before after : Log) → cut_count i size ≡ 1 → after ≡ log_grown before (data_block object (block_of (byte_cut contents i size) (size / 512)))
     → after ≡ with_data object (blocks_cut contents i size) before
 cut_log object contents i size before after one is_after = is_after ∙ ap (λ blocks. with_data object blocks before) (sym (blocks_cut-one contents i size one))
 

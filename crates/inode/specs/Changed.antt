@@ -20,16 +20,16 @@ abbrev pub block_of : (ℕ → ℕ) → ℕ → List ℕ
 block_of bytes_at k = listed bytes_at (512 * k) 512
 
 -- so many such blocks from an index on, by ascending index
-unfoldable pub blocks_from : (ℕ → ℕ) → ℕ → ℕ → List (List ℕ)
-blocks_from bytes_at first count = map (block_of bytes_at) (range_with_len first count)
+unfoldable pub listed_blocks : (ℕ → ℕ) → ℕ → ℕ → List (List ℕ)
+listed_blocks bytes_at first count = map (block_of bytes_at) (range_with_len first count)
 
 -- the blocks that a write appends: each one that it touches
 abbrev pub blocks_written : (Place → List ℕ) → Inode → ℕ → List ℕ → List (List ℕ)
-blocks_written contents i offset bytes = blocks_from (byte_written contents i offset bytes) (offset / 512) (touched_count offset (length bytes))
+blocks_written contents i offset bytes = listed_blocks (byte_written contents i offset bytes) (offset / 512) (touched_count offset (length bytes))
 
 -- the block that a truncation appends, where it cuts one
 abbrev pub blocks_cut : (Place → List ℕ) → Inode → ℕ → List (List ℕ)
-blocks_cut contents i size = blocks_from (byte_cut contents i size) (size / 512) (cut_count i size)
+blocks_cut contents i size = listed_blocks (byte_cut contents i size) (size / 512) (cut_count i size)
 
 -- the size after a write: an empty one doesn't move it
 abbrev pub size_written : ℕ → ℕ → ℕ → ℕ

@@ -1,5 +1,5 @@
 -- What an inode means over the blocks that its pointers lead to.
-use Rattle.std.specs.Prelude.{ℕ, ◌/◌, ◌%◌, if◌then◌else◌, List, [], map, replicate, slice_index, Option, None, Some}
+use Rattle.std.specs.Prelude.{ℕ, ◌/◌, ◌%◌, if◌then◌else◌, List, [], map, slice_index, Option, None, Some}
 use Rattle.std.specs.List.{range_with_len}
 use Rattle.s4_types.specs.Pointer.{Place}
 use Rattle.s4_types.specs.declared.versions.Version.{Version}
@@ -25,14 +25,6 @@ byte_in contents (Some p) n = slice_index (contents p) n
 -- an inode's byte at a place of the object, wherever its size ends: blocks of 512 bytes, joined by their index
 unfoldable pub byte_of : (Place → List ℕ) → Inode → ℕ → ℕ
 byte_of contents i n = byte_in contents (pointer_at i (n / 512)) (n % 512)
-
--- so many zeros
-unfoldable pub zeros : ℕ → List ℕ
-zeros count = replicate count 0
-
--- so many holes
-unfoldable pub holes : ℕ → List (Option Place)
-holes count = replicate count None
 
 -- what a function gives at so many numbers from the first one on, in order
 unfoldable pub listed : (ℕ → ℕ) → ℕ → ℕ → List ℕ

@@ -15,13 +15,13 @@ grown_at log block [] = log
 grown_at log block (p ∷ ahead) = record { held = with_held log.held p block; ahead = ahead }
 
 -- the log after a block was appended
-abbrev pub grown : Log → Stored → Log
-grown log block = grown_at log block log.ahead
+abbrev pub log_grown : Log → Stored → Log
+log_grown log block = grown_at log block log.ahead
 
 -- the log after data blocks of an object with these bytes were appended, one after the other
 abbrev pub with_data : ℕ → List (List ℕ) → Log → Log
 with_data object [] log = log
-with_data object (bytes ∷ blocks) log = with_data object blocks (grown log (data_block object bytes))
+with_data object (bytes ∷ blocks) log = with_data object blocks (log_grown log (data_block object bytes))
 
 -- What data blocks of an object with these bytes leave when they are appended: they took the first places ahead, where
 -- no block was; all that was held is, and but for this object's data nothing came.

@@ -6,7 +6,8 @@ use Rattle.s4_types.specs.Pointer.{Place}
 use Rattle.block_log.specs.Log.{Stored}
 use Rattle.codec.specs.Checkpoint.{pointer_at}
 use Rattle.codec.specs.declared.inodes.Inode.{Inode}
-use Rattle.inode.specs.Contents.{zeros, listed, bytes_of, byte_of, meaning}
+use Rattle.codec.specs.Fields.{zeros}
+use Rattle.inode.specs.Contents.{listed, bytes_of, byte_of, meaning}
 use Rattle.inode.specs.Tidiness.{Tidy, PointersHeld, PointersLead, AgreeAt}
 use Rattle.inode.specs.Touched.{HasByteIn, is_touched}
 

@@ -1,5 +1,6 @@
 -- What holds of an inode's size and pointers between changes, over the blocks that are held.
 use Rattle.std.specs.Prelude.{◌≡◌, ℕ, ◌*◌, ◌≤◌, List, length, Option, None, Some, IsSome}
+use Rattle.s4_types.specs.declared.limits.TheConstants.{OBJECT_BLOCKS, OBJECT_BYTES}
 use Rattle.s4_types.specs.Pointer.{Place}
 use Rattle.block_log.specs.Log.{Stored, of_kind}
 use Rattle.block_log.specs.declared.kinds.BlockKind.TheVariants.{Data}
@@ -10,8 +11,8 @@ use Rattle.inode.specs.Contents.{byte_of}
 -- An inode of 48 pointers, within the limit, with holes at and past its size and zeros behind its last byte. So the
 -- byte at a place is that of the object, or 0 past its end.
 pub record Tidy (contents : Place → List ℕ) (i : Inode) : Type 0 where
-  pub count : length i.pointers ≡ 48
-  pub size : i.size ≤ 24576
+  pub count : length i.pointers ≡ OBJECT_BLOCKS
+  pub size : i.size ≤ OBJECT_BYTES
   pub holes : (k : ℕ) → i.size ≤ 512 * k → pointer_at i k ≡ None
   pub zeros : (n : ℕ) → i.size ≤ n → byte_of contents i n ≡ 0
 

@@ -1,4 +1,5 @@
 ghost use Rattle.std.specs.Prelude.{◌≡◌, ◌+◌, ◌-◌, ◌<◌, ◌≤◌, ◌++◌, length, take, drop, IfOk, IfErr};
+ghost use Rattle.s4_types.specs.declared.limits.TheConstants.{OBJECT_BLOCKS, OBJECT_BYTES};
 ghost use Rattle.s4_types.specs.declared.refusals.Refusal.TheVariants.{NoMemory};
 ghost use Rattle.inode.specs.Contents.{contents_of, byte_of, bytes_of, listed};
 ghost use Rattle.inode.specs.Tidiness.{PointersLead, Tidy};
@@ -19,8 +20,8 @@ fn read_piece<B: Blocks>(
     bytes: &mut Vec<u8>,
 ) -> Result<usize, Refusal>
     requires start { at < end }
-    requires end { end ≤ 24576 }
-    requires count { length inode.now.pointers ≡ 48 }
+    requires end { end ≤ OBJECT_BYTES }
+    requires count { length inode.now.pointers ≡ OBJECT_BLOCKS }
     requires lead { PointersLead (B.log table.old).held inode.now }
     ensures later { IfOk result (λ next. at < next) }
     ensures within { IfOk result (λ next. next ≤ end) }
@@ -45,8 +46,8 @@ pub fn read<B: Blocks>(
     offset: u64,
     len: u64,
 ) -> Result<Vec<u8>, Refusal>
-    requires size { inode.now.size ≤ 24576 }
-    requires count { length inode.now.pointers ≡ 48 }
+    requires size { inode.now.size ≤ OBJECT_BYTES }
+    requires count { length inode.now.pointers ≡ OBJECT_BLOCKS }
     requires lead { PointersLead (B.log table.old).held inode.now }
     ensures ok { IfOk result (λ bytes. bytes.items ≡ take len (drop offset (bytes_of (contents_of (B.log table.old).held) inode.now))) }
     ensures err { IfErr result (λ refusal. refusal ≡ NoMemory) }

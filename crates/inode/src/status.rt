@@ -1,10 +1,11 @@
 ghost use Rattle.std.specs.Prelude.{◌≡◌, ℕ, true, false, List, Option, None};
+ghost use Rattle.s4_types.specs.declared.limits.TheConstants.{OBJECT_BLOCKS};
 ghost use Rattle.s4_types.specs.Pointer.{Place};
 ghost use Rattle.s4_types.specs.declared.changes.Change.TheVariants.{Create, Delete, SetAttr};
 ghost use Rattle.s4_types.specs.declared.versions.Version.{Version};
 ghost use Rattle.s4_model.specs.Effect.{effect};
-ghost use Rattle.codec.specs.Checkpoint.{pointer_at};
-ghost use Rattle.inode.specs.Contents.{meaning, holes};
+ghost use Rattle.codec.specs.Checkpoint.{pointer_at, holes};
+ghost use Rattle.inode.specs.Contents.{meaning};
 ghost use Rattle.inode.specs.Tidiness.{Tidy};
 
 use codec::{Attribute, Inode};
@@ -12,9 +13,9 @@ use s4_types::limits::OBJECT_BLOCKS;
 use s4_types::{Moment, Ptr};
 
 /// The pointers of an inode without blocks.
-#[tactic(auto, unfolding(crate::specs::Contents::holes))]
+#[tactic(auto, unfolding(codec::specs::Checkpoint::holes))]
 fn no_pointers() -> [Option<Ptr>; OBJECT_BLOCKS]
-    ensures { result ≡ holes 48 }
+    ensures { result ≡ holes OBJECT_BLOCKS }
 {
     [None; OBJECT_BLOCKS]
 }

@@ -1,10 +1,11 @@
 ghost use Rattle.std.specs.Prelude.{◌≡◌, ℕ, true, ◌+◌, ◌*◌, ◌/◌, ◌<◌, ◌≤◌, nat_le, nat_lt, if◌then◌else◌, Some, None, length, slice_get, slice_index};
+ghost use Rattle.s4_types.specs.declared.limits.TheConstants.{OBJECT_BLOCKS, OBJECT_BYTES};
 ghost use Rattle.s4_types.specs.declared.changes.Change.TheVariants.{Truncate};
 ghost use Rattle.s4_model.specs.Effect.{effect};
 ghost use Rattle.codec.specs.Checkpoint.{pointer_at};
 ghost use Rattle.inode.specs.Contents.{meaning, contents_of};
 ghost use Rattle.inode.specs.Tidiness.{Tidy, PointersHeld, PointersLead};
-ghost use Rattle.inode.specs.Growth.{grown, data_block, with_data, GrowsBy};
+ghost use Rattle.inode.specs.Growth.{log_grown, data_block, with_data, GrowsBy};
 ghost use Rattle.inode.specs.Touched.{cut_count};
 ghost use Rattle.inode.specs.Changed.{byte_cut, block_of, blocks_cut, Truncated};
 
@@ -29,11 +30,11 @@ fn clear_from(block: &mut Block, from: usize)
 #[tactic(auto, using(crate::proofs::Truncates::cut_is))]
 fn cut_block<B: Blocks>(table: &mut B, object: ObjectId, inode: &Inode, size: u32) -> Ptr
     requires object { 1 ≤ object }
-    requires size { size < 24576 }
-    requires count { length inode.now.pointers ≡ 48 }
+    requires size { size < OBJECT_BYTES }
+    requires count { length inode.now.pointers ≡ OBJECT_BLOCKS }
     requires lead { PointersLead (B.log table.old).held inode.now }
     requires room { 0 < length (B.log table.old).ahead }
-    ensures log { B.log table.new ≡ grown (B.log table.old) (data_block object (block_of (byte_cut (contents_of (B.log table.old).held) inode.now size) (size / 512))) }
+    ensures log { B.log table.new ≡ log_grown (B.log table.old) (data_block object (block_of (byte_cut (contents_of (B.log table.old).held) inode.now size) (size / 512))) }
     ensures place { slice_get (B.log table.old).ahead 0 ≡ Some result }
     ensures fresh { (B.log table.old).held result ≡ None }
 {
@@ -45,9 +46,9 @@ fn cut_block<B: Blocks>(table: &mut B, object: ObjectId, inode: &Inode, size: u3
 
 /// The inode with holes at and past a size.
 fn without_pointers_past(inode: &Inode, size: u32) -> Inode
-    requires size { size ≤ 24576 }
-    requires count { length inode.now.pointers ≡ 48 }
-    ensures count { length result.pointers ≡ 48 }
+    requires size { size ≤ OBJECT_BYTES }
+    requires count { length inode.now.pointers ≡ OBJECT_BLOCKS }
+    ensures count { length result.pointers ≡ OBJECT_BLOCKS }
     ensures rest { result ≡ record inode.now { pointers = result.pointers } }
     ensures pointers { (k : ℕ) → pointer_at result k ≡ (if nat_le size (512 * k) then None else pointer_at inode.now k) }
 {
@@ -70,7 +71,7 @@ pub fn truncate<B: Blocks>(
     size: u32,
 ) -> Inode
     requires object { 1 ≤ object }
-    requires size { size ≤ 24576 }
+    requires size { size ≤ OBJECT_BYTES }
     requires tidy { Tidy (contents_of (B.log table.old).held) inode.now }
     requires pointers { PointersHeld (B.log table.old).held object inode.now }
     requires room { cut_count inode.now size ≤ length (B.log table.old).ahead }

@@ -1,10 +1,11 @@
 ghost use Rattle.std.specs.Prelude.{◌≡◌, ℕ, ◌+◌, ◌-◌, ◌*◌, ◌/◌, ◌<◌, ◌≤◌, ◌&&◌, nat_le, nat_lt, if◌then◌else◌, Some, None, length, slice_get, slice_index};
+ghost use Rattle.s4_types.specs.declared.limits.TheConstants.{OBJECT_BLOCKS, OBJECT_BYTES};
 ghost use Rattle.s4_types.specs.declared.changes.Change.TheVariants.{Write};
 ghost use Rattle.s4_model.specs.Effect.{effect};
 ghost use Rattle.codec.specs.Checkpoint.{pointer_at};
 ghost use Rattle.inode.specs.Contents.{meaning, contents_of};
 ghost use Rattle.inode.specs.Tidiness.{Tidy, PointersHeld, PointersLead};
-ghost use Rattle.inode.specs.Growth.{grown, data_block, with_data, GrowsBy};
+ghost use Rattle.inode.specs.Growth.{log_grown, data_block, with_data, GrowsBy};
 ghost use Rattle.inode.specs.Touched.{touched_count, is_touched};
 ghost use Rattle.inode.specs.Changed.{byte_written, block_of, blocks_written, size_written, Written};
 
@@ -18,8 +19,8 @@ use s4_types::{Moment, ObjectId, Ptr};
 
 /// Puts the bytes of a write at an offset, as far as they stand in the block of an index, into that block.
 fn place(block: &mut Block, index: usize, offset: usize, bytes: &[u8])
-    requires index { index < 48 }
-    requires end { offset + length bytes.now ≤ 24576 }
+    requires index { index < OBJECT_BLOCKS }
+    requires end { offset + length bytes.now ≤ OBJECT_BYTES }
     requires low { offset < 512 * index + 512 }
     requires high { 512 * index < offset + length bytes.now }
     ensures count { length block.new ≡ 512 }
@@ -43,14 +44,14 @@ fn write_block<B: Blocks>(
     bytes: &[u8],
 ) -> Ptr
     requires object { 1 ≤ object }
-    requires index { index < 48 }
-    requires end { offset + length bytes.now ≤ 24576 }
+    requires index { index < OBJECT_BLOCKS }
+    requires end { offset + length bytes.now ≤ OBJECT_BYTES }
     requires low { offset < 512 * index + 512 }
     requires high { 512 * index < offset + length bytes.now }
-    requires count { length inode.now.pointers ≡ 48 }
+    requires count { length inode.now.pointers ≡ OBJECT_BLOCKS }
     requires lead { PointersLead (B.log table.old).held inode.now }
     requires room { 0 < length (B.log table.old).ahead }
-    ensures log { B.log table.new ≡ grown (B.log table.old) (data_block object (block_of (byte_written (contents_of (B.log table.old).held) inode.now offset bytes.now) index)) }
+    ensures log { B.log table.new ≡ log_grown (B.log table.old) (data_block object (block_of (byte_written (contents_of (B.log table.old).held) inode.now offset bytes.now) index)) }
     ensures place { slice_get (B.log table.old).ahead 0 ≡ Some result }
     ensures fresh { (B.log table.old).held result ≡ None }
 {
@@ -74,13 +75,13 @@ fn write_blocks<B: Blocks>(
     bytes: &[u8],
 ) -> Inode
     requires object { 1 ≤ object }
-    requires end { offset + length bytes.now ≤ 24576 }
-    requires count { length inode.now.pointers ≡ 48 }
+    requires end { offset + length bytes.now ≤ OBJECT_BYTES }
+    requires count { length inode.now.pointers ≡ OBJECT_BLOCKS }
     requires lead { PointersLead (B.log table.old).held inode.now }
     requires room { touched_count offset (length bytes.now) ≤ length (B.log table.old).ahead }
     ensures log { B.log table.new ≡ with_data object (blocks_written (contents_of (B.log table.old).held) inode.now offset bytes.now) (B.log table.old) }
     ensures growth { GrowsBy object (blocks_written (contents_of (B.log table.old).held) inode.now offset bytes.now) (B.log table.old) (B.log table.new) }
-    ensures count { length result.pointers ≡ 48 }
+    ensures count { length result.pointers ≡ OBJECT_BLOCKS }
     ensures rest { result ≡ record inode.now { pointers = result.pointers } }
     ensures pointers { (k : ℕ) → pointer_at result k ≡ (if is_touched offset (length bytes.now) k then slice_get (B.log table.old).ahead (k - offset / 512) else pointer_at inode.now k) }
 {
@@ -96,7 +97,7 @@ fn write_blocks<B: Blocks>(
 
 /// The size after a write of `len` bytes.
 fn size_after(size: u32, offset: usize, len: usize) -> u32
-    requires { offset + len ≤ 24576 }
+    requires { offset + len ≤ OBJECT_BYTES }
     ensures { result ≡ size_written size offset len }
 {
     if len == 0 {
@@ -117,7 +118,7 @@ pub fn write<B: Blocks>(
     bytes: &[u8],
 ) -> Inode
     requires object { 1 ≤ object }
-    requires end { offset + length bytes.now ≤ 24576 }
+    requires end { offset + length bytes.now ≤ OBJECT_BYTES }
     requires tidy { Tidy (contents_of (B.log table.old).held) inode.now }
     requires pointers { PointersHeld (B.log table.old).held object inode.now }
     requires room { touched_count offset (length bytes.now) ≤ length (B.log table.old).ahead }

@@ -6,7 +6,7 @@ use Rattle.std.proofs.lemmas.List.Sums.{sum_by-cons}
 use Rattle.std.proofs.lemmas.Grind.{common_steps}
 use Rattle.codec.specs.Entry.{EntryFields, entry_length, entries_length}
 use Rattle.journal_chain.specs.Sizes.{fits, filled_with, filled_after}
-use Rattle.journal_chain.specs.Packing.{with_entry, added, joined, filled_bytes}
+use Rattle.journal_chain.specs.Packing.{packed_with, added, joined, filled_bytes}
 
 -- the bytes of joined entries add up
 pub bytes-append : (xs ys : List EntryFields) → entries_length (xs ++ ys) ≡ entries_length xs + entries_length ys
@@ -28,18 +28,18 @@ bytes-sum (e ∷ entries) = sum_by-cons (λ n. n) (entry_length e) (map entry_le
 
 -- an entry that fits
 pub entry_fits : (newest : List EntryFields) (older : List (List EntryFields)) (e : EntryFields) → fits (entries_length newest) (entry_length e) ≡ true
-    → with_entry (newest ∷ older) e ≡ (newest ++ e ∷ []) ∷ older
-unfolding with_entry
+    → packed_with (newest ∷ older) e ≡ (newest ++ e ∷ []) ∷ older
+unfolding packed_with
 entry_fits newest older e h = ap (λ b. cond b ((newest ++ e ∷ []) ∷ older) ((e ∷ []) ∷ newest ∷ older)) h
 
 -- an entry that doesn't
 pub entry_begins : (newest : List EntryFields) (older : List (List EntryFields)) (e : EntryFields) → fits (entries_length newest) (entry_length e) ≡ false
-    → with_entry (newest ∷ older) e ≡ (e ∷ []) ∷ newest ∷ older
-unfolding with_entry
+    → packed_with (newest ∷ older) e ≡ (e ∷ []) ∷ newest ∷ older
+unfolding packed_with
 entry_begins newest older e h = ap (λ b. cond b ((newest ++ e ∷ []) ∷ older) ((e ∷ []) ∷ newest ∷ older)) h
 
-pub first_entry : (e : EntryFields) → with_entry [] e ≡ (e ∷ []) ∷ []
-unfolding with_entry
+pub first_entry : (e : EntryFields) → packed_with [] e ≡ (e ∷ []) ∷ []
+unfolding packed_with
 first_entry e = refl
 
 pub filled-fits : (filled size : ℕ) → fits filled size ≡ true → filled_with filled size ≡ filled + size
@@ -56,7 +56,7 @@ filled-none size = elim (cases_Bool (fits 0 size)) [
 
 -- ---- the entries
 
-one_more : (blocks : List (List EntryFields)) (e : EntryFields) → joined (with_entry blocks e) ≡ joined blocks ++ e ∷ []
+one_more : (blocks : List (List EntryFields)) (e : EntryFields) → joined (packed_with blocks e) ≡ joined blocks ++ e ∷ []
 unfolding joined
 one_more [] e = ap joined (first_entry e)
 one_more (newest ∷ older) e = elim (cases_Bool (fits (entries_length newest) (entry_length e))) [
@@ -66,7 +66,7 @@ one_more (newest ∷ older) e = elim (cases_Bool (fits (entries_length newest) (
 
 pub joined-added : (blocks : List (List EntryFields)) (entries : List EntryFields) → joined (added blocks entries) ≡ joined blocks ++ entries
 joined-added blocks [] = grind (arith, common_steps)
-joined-added blocks (e ∷ entries) = joined-added (with_entry blocks e) entries ∙ ap (λ xs. xs ++ entries) (one_more blocks e) ∙ append_assoc (joined blocks) (e ∷ []) entries
+joined-added blocks (e ∷ entries) = joined-added (packed_with blocks e) entries ∙ ap (λ xs. xs ++ entries) (one_more blocks e) ∙ append_assoc (joined blocks) (e ∷ []) entries
 
 pub joined-packed : (entries : List EntryFields) → joined (added [] entries) ≡ entries
 unfolding joined
@@ -74,7 +74,7 @@ joined-packed entries = joined-added [] entries
 
 -- ---- the bytes in the newest block
 
-filled_step : (blocks : List (List EntryFields)) (e : EntryFields) → filled_bytes (with_entry blocks e) ≡ filled_with (filled_bytes blocks) (entry_length e)
+filled_step : (blocks : List (List EntryFields)) (e : EntryFields) → filled_bytes (packed_with blocks e) ≡ filled_with (filled_bytes blocks) (entry_length e)
 unfolding filled_bytes
 filled_step [] e = ap filled_bytes (first_entry e) ∙ bytes-one e ∙ sym (filled-none (entry_length e))
 filled_step (newest ∷ older) e = elim (cases_Bool (fits (entries_length newest) (entry_length e))) [
@@ -84,4 +84,4 @@ filled_step (newest ∷ older) e = elim (cases_Bool (fits (entries_length newest
 
 pub filled-added : (blocks : List (List EntryFields)) (entries : List EntryFields) → filled_bytes (added blocks entries) ≡ filled_after (filled_bytes blocks) (map entry_length entries)
 filled-added blocks [] = refl
-filled-added blocks (e ∷ entries) = filled-added (with_entry blocks e) entries ∙ ap (λ n. filled_after n (map entry_length entries)) (filled_step blocks e)
+filled-added blocks (e ∷ entries) = filled-added (packed_with blocks e) entries ∙ ap (λ n. filled_after n (map entry_length entries)) (filled_step blocks e)

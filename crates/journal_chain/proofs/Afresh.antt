@@ -10,7 +10,7 @@ use Rattle.block_log.specs.Log.{Log, Stored, of_kind, dropped}
 use Rattle.codec.specs.Fields.{bit}
 use Rattle.codec.specs.Entry.{EntryFields, entries_length}
 use Rattle.codec.specs.Journal.{JournalFields}
-use Rattle.journal_chain.specs.Packing.{packed, joined, with_entry, filled_bytes, AllFit}
+use Rattle.journal_chain.specs.Packing.{packed, joined, packed_with, filled_bytes, AllFit}
 use Rattle.journal_chain.specs.Chain.{ChainFields, Holds, OnlyJournalChanged, chain_links, chain_places, places_of, blocks_of, times}
 use Rattle.journal_chain.specs.Writing.{Standing, Finished, Unfinished, Put}
 use Rattle.journal_chain.specs.Back.{links_back, places_back}
@@ -68,7 +68,7 @@ each_there (p ∷ places) = ap (λ l. p ∷ l) (each_there places)
 
 first_block : (held : Place → Option Stored) (o : ℕ) (stale : List Place) (first : EntryFields) (block : JournalFields)
     → Standing o (of_kind Journal o held) [] stale → block ≡ record { object = o; previous = None; entries = first ∷ [] } → Unfinished held o stale block (first ∷ [])
-unfolding with_entry
+unfolding packed_with
 first_block held o stale first block s is = subst (λ b. Unfinished held o stale b (first ∷ [])) (sym is) (record {
   links = [];
   standing = s;

@@ -12,7 +12,7 @@ use Rattle.codec.specs.Entry.{EntryFields}
 use Rattle.codec.specs.Journal.{JournalFields}
 use Rattle.journal_chain.specs.Packing.{joined}
 use Rattle.journal_chain.specs.Chain.{Link, linked, links_from, chain_links, chain_entries, journal_in, places_of, blocks_of}
-use Rattle.journal_chain.specs.Writing.{spelled}
+use Rattle.journal_chain.specs.Writing.{spelled_journal}
 use Rattle.journal_chain.specs.Back.{BackFields, links_back, entries_left, left, places_back}
 use Rattle.journal_chain.proofs.Spelled.{bind_some, bind_is}
 use Rattle.journal_chain.proofs.Calls.{spelled_since, some_is}
@@ -47,14 +47,14 @@ step fuel blocks p links h =
 
 -- a walk of an object's journal blocks is one of journal blocks
 plain_walk : (fuel o : ℕ) (held : Place → Option Stored) (from : Option Place) (links : List Link)
-    → links_from fuel (journal_in o (of_kind Journal o held)) from ≡ Some links → links_from fuel (λ p. spelled (held p)) from ≡ Some links
+    → links_from fuel (journal_in o (of_kind Journal o held)) from ≡ Some links → links_from fuel (λ p. spelled_journal (held p)) from ≡ Some links
 unfolding links_from
 plain_walk zero o held None links h = h
 plain_walk (suc fuel) o held None links h = h
 plain_walk zero o held (Some p) links h = absurd (none-some links h)
 plain_walk (suc fuel) o held (Some p) links h =
     let blocks = journal_in o (of_kind Journal o held) in
-    let plain : Place → Option JournalFields = λ q. spelled (held q) in
+    let plain : Place → Option JournalFields = λ q. spelled_journal (held q) in
     let (b, (there, after)) = bind_some (blocks p) (λ b. links_from fuel blocks b.previous >>= λ older. Some (linked p b older)) links h in
     let (older, (walk, made)) = bind_some (links_from fuel blocks b.previous) (λ older. Some (linked p b older)) links after in
     bind_is (plain p) (λ b. links_from fuel plain b.previous >>= λ older. Some (linked p b older)) b (spelled_since (held p) o b there)
@@ -78,11 +78,11 @@ reader_begins held o head there =
 
 -- ---- a reader goes on to the block before
 
-back_step : (held : Place → Option Stored) (p : Place) (links : List Link) → links_back held (Some p) ≡ Some links → Step (λ q. spelled (held q)) 46 p links
+back_step : (held : Place → Option Stored) (p : Place) (links : List Link) → links_back held (Some p) ≡ Some links → Step (λ q. spelled_journal (held q)) 46 p links
 unfolding links_back
-back_step held p links h = step 46 (λ q. spelled (held q)) p links h
+back_step held p links h = step 46 (λ q. spelled_journal (held q)) p links h
 
-back_behind : (held : Place → Option Stored) (p : Place) (links : List Link) (s : Step (λ q. spelled (held q)) 46 p links) → links_back held s.block.previous ≡ Some s.older
+back_behind : (held : Place → Option Stored) (p : Place) (links : List Link) (s : Step (λ q. spelled_journal (held q)) 46 p links) → links_back held s.block.previous ≡ Some s.older
 unfolding links_back
 back_behind held p links s = s.behind
 
@@ -92,19 +92,19 @@ links_there held back there =
     let (links, (walk, made)) = bind_some (links_back held back.previous) (λ links. Some (joined (blocks_of links) ++ back.entries)) entries whole in
     (links, walk)
 
-pub turn_reads : (held : Place → Option Stored) (back : BackFields) (p : Place) → IsSome (entries_left held back) → back.previous ≡ Some p → IsSome (spelled (held p))
+pub turn_reads : (held : Place → Option Stored) (back : BackFields) (p : Place) → IsSome (entries_left held back) → back.previous ≡ Some p → IsSome (spelled_journal (held p))
 turn_reads held back p there is =
     let (links, walk) = links_there held back there in
-    let s : Step (λ q. spelled (held q)) 46 p links = back_step held p links (ap (links_back held) (sym is) ∙ walk) in
+    let s : Step (λ q. spelled_journal (held q)) 46 p links = back_step held p links (ap (links_back held) (sym is) ∙ walk) in
     ap is_some s.here
 
 pub turned : (held : Place → Option Stored) (back after : BackFields) (p : Place) (block : JournalFields) → IsSome (entries_left held back) → back.previous ≡ Some p → back.entries ≡ []
-    → spelled (held p) ≡ Some block → after.previous ≡ block.previous → after.entries ≡ block.entries
+    → spelled_journal (held p) ≡ Some block → after.previous ≡ block.previous → after.entries ≡ block.entries
     → entries_left held after ≡ entries_left held back
 unfolding joined
 turned held back after p block there is none reads previous entries =
     let (links, walk) = links_there held back there in
-    let s : Step (λ q. spelled (held q)) 46 p links = back_step held p links (ap (links_back held) (sym is) ∙ walk) in
+    let s : Step (λ q. spelled_journal (held q)) 46 p links = back_step held p links (ap (links_back held) (sym is) ∙ walk) in
     let same : s.block ≡ block = same_Some s.block block (sym s.here ∙ reads) in
     let behind : links_back held after.previous ≡ Some s.older = ap (links_back held) (previous ∙ sym (ap (λ (j : JournalFields). j.previous) same)) ∙ back_behind held p links s in
     bind_is (links_back held after.previous) (λ links. Some (joined (blocks_of links) ++ after.entries)) s.older behind
@@ -141,10 +141,10 @@ pub record PlaceStep (held : Place → Option Stored) (p : Place) (block : Journ
   pub places : places_back held (Some p) ≡ p ∷ places_back held block.previous
   pub there : IsSome (links_back held block.previous)
 
-pub place_step : (held : Place → Option Stored) (p : Place) (block : JournalFields) → IsSome (links_back held (Some p)) → spelled (held p) ≡ Some block → PlaceStep held p block
+pub place_step : (held : Place → Option Stored) (p : Place) (block : JournalFields) → IsSome (links_back held (Some p)) → spelled_journal (held p) ≡ Some block → PlaceStep held p block
 place_step held p block there reads =
     let (links, walk) = some_is (links_back held (Some p)) there in
-    let s : Step (λ q. spelled (held q)) 46 p links = back_step held p links walk in
+    let s : Step (λ q. spelled_journal (held q)) 46 p links = back_step held p links walk in
     let same : s.block ≡ block = same_Some s.block block (sym s.here ∙ reads) in
     let behind : links_back held block.previous ≡ Some s.older = ap (λ (j : JournalFields). links_back held j.previous) (sym same) ∙ back_behind held p links s in
     record {
@@ -152,7 +152,7 @@ place_step held p block there reads =
       there = ap is_some behind;
     }
 
-pub place_reads : (held : Place → Option Stored) (p : Place) → IsSome (links_back held (Some p)) → IsSome (spelled (held p))
+pub place_reads : (held : Place → Option Stored) (p : Place) → IsSome (links_back held (Some p)) → IsSome (spelled_journal (held p))
 place_reads held p there =
     let (links, walk) = some_is (links_back held (Some p)) there in
     ap is_some (back_step held p links walk).here
@@ -176,7 +176,7 @@ pub few_places : (held : Place → Option Stored) (from : Option Place) → IsSo
 unfolding links_back
 few_places held from there =
     let (links, walk) = some_is (links_back held from) there in
-    let le : length links ≤ CHAIN_BLOCKS = few_links CHAIN_BLOCKS (λ p. spelled (held p)) from links walk in
+    let le : length links ≤ CHAIN_BLOCKS = few_links CHAIN_BLOCKS (λ p. spelled_journal (held p)) from links walk in
     let e : length (places_of links) ≡ length links = length-map links (λ (l : Link). l.place) in
     subst (λ n. n ≤ CHAIN_BLOCKS) (sym (ap (λ o. length (places_of (unwrap_or o []))) walk ∙ e)) le
 
@@ -188,7 +188,7 @@ pub record NextPlace (held later : Place → Option Stored) (from after : Option
   pub places : places_back held from ≡ p ∷ places_back later after
   pub there : IsSome (links_back later after)
 
-pub next_block : (log later : Log) (from after : Option Place) (p : Place) (block : JournalFields) → from ≡ Some p → IsSome (links_back log.held from) → spelled (log.held p) ≡ Some block
+pub next_block : (log later : Log) (from after : Option Place) (p : Place) (block : JournalFields) → from ≡ Some p → IsSome (links_back log.held from) → spelled_journal (log.held p) ≡ Some block
     → later ≡ log → after ≡ block.previous → NextPlace log.held later.held from after p
 next_block log later from after p block is there reads same behind =
     let s : PlaceStep log.held p block = place_step log.held p block (subst (λ f. IsSome (links_back log.held f)) is there) reads in
@@ -200,7 +200,7 @@ next_block log later from after p block is there reads same behind =
 pub some_places : (held : Place → Option Stored) (from : Option Place) (p : Place) → from ≡ Some p → IsSome (links_back held from) → 1 ≤ length (places_back held from)
 some_places held from p is there =
     let (links, walk) = some_is (links_back held (Some p)) (subst (λ f. IsSome (links_back held f)) is there) in
-    let s : Step (λ q. spelled (held q)) 46 p links = back_step held p links walk in
+    let s : Step (λ q. spelled_journal (held q)) 46 p links = back_step held p links walk in
     let e : length (places_back held from) ≡ length (places_of (linked p s.block s.older)) =
     ap (λ f. length (places_back held f)) is ∙ ap (λ o. length (places_of (unwrap_or o []))) walk ∙ ap (λ l. length (places_of l)) (sym s.made) in
     omega (arith, e)

@@ -14,7 +14,7 @@ use Rattle.codec.specs.Journal.{JournalFields, journal_at, journal_spelling}
 use Rattle.journal_chain.specs.Sizes.{fits, filled_with}
 use Rattle.journal_chain.specs.Packing.{filled_bytes, packed, joined, AllFit}
 use Rattle.journal_chain.specs.Chain.{Link, ChainFields, journal_of, journal_in, blocks_of, Holds, OnlyJournalChanged}
-use Rattle.journal_chain.specs.Writing.{head_of, Finished, Unfinished, Put, spelled, reopened}
+use Rattle.journal_chain.specs.Writing.{head_of, Finished, Unfinished, Put, spelled_journal, reopened}
 use Rattle.journal_chain.proofs.Spelled.{bind_some, bind_is}
 use Rattle.journal_chain.proofs.Loops.{all_fit-append}
 use Rattle.journal_chain.proofs.Tables.{Taken, append_takes, only-trans}
@@ -90,7 +90,7 @@ shown_bytes : (test : Bool) (bytes shown : List ℕ) → cond test (Some bytes) 
 shown_bytes true bytes shown h = same_Some bytes shown h
 shown_bytes false bytes shown h = absurd (none-some shown h)
 
-pub spelled_since : (there : Option Stored) (o : ℕ) (j : JournalFields) → (seen_as Journal o there >>= journal_of o) ≡ Some j → spelled there ≡ Some j
+pub spelled_since : (there : Option Stored) (o : ℕ) (j : JournalFields) → (seen_as Journal o there >>= journal_of o) ≡ Some j → spelled_journal there ≡ Some j
 unfolding journal_of
 spelled_since None o j h = absurd (none-some j h)
 spelled_since (Some block) o j h =
@@ -111,13 +111,13 @@ some_is None h = absurd (true≢false (sym h))
 some_is (Some x) h = (x, refl)
 
 pub head_spelled : (held : Place → Option Stored) (chain : ChainFields) (entries : List EntryFields) (size : ℕ) (p : Place)
-    → Holds held chain entries → reopened chain size ≡ Some p → IsSome (spelled (held p))
+    → Holds held chain entries → reopened chain size ≡ Some p → IsSome (spelled_journal (held p))
 head_spelled held chain entries size p c again =
     let (j, reads) = some_is (journal_in chain.object (of_kind Journal chain.object held) p) (head_there held chain entries size p c again) in
     ap is_some (spelled_since (held p) chain.object j reads)
 
 pub head_read : (held : Place → Option Stored) (chain : ChainFields) (entries : List EntryFields) (size : ℕ) (p : Place) (block : JournalFields)
-    → Holds held chain entries → reopened chain size ≡ Some p → spelled (held p) ≡ Some block → HeadRead held chain size p block
+    → Holds held chain entries → reopened chain size ≡ Some p → spelled_journal (held p) ≡ Some block → HeadRead held chain size p block
 unfolding filled_bytes
 head_read held chain entries size p block c again here =
     let o = chain.object in
@@ -130,7 +130,7 @@ head_read held chain entries size p block c again here =
     record { reads = reads_it; object = u.object; filled = c.filled ∙ ap filled_bytes u.blocks; fit = fit }
 
 pub begun_head : (log later : Log) (chain : ChainFields) (entries : List EntryFields) (e : EntryFields) (p : Place) (block after : JournalFields)
-    → later ≡ log → Holds log.held chain entries → reopened chain (entry_length e) ≡ Some p → spelled (log.held p) ≡ Some block
+    → later ≡ log → Holds log.held chain entries → reopened chain (entry_length e) ≡ Some p → spelled_journal (log.held p) ≡ Some block
     → after.object ≡ block.object → after.previous ≡ block.previous → after.entries ≡ block.entries ++ e ∷ []
     → Unfinished later.held chain.object (option_to_list (reopened chain (entry_length e))) after (entries ++ e ∷ [])
 begun_head log later chain entries e p block after same c again here object previous more =

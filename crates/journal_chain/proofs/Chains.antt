@@ -13,17 +13,17 @@ use Rattle.codec.specs.Fields.{bit}
 use Rattle.codec.specs.Entry.{EntryFields, entry_length, entries_length}
 use Rattle.codec.specs.Journal.{JournalFields, journal_spelling}
 use Rattle.journal_chain.specs.Sizes.{fits}
-use Rattle.journal_chain.specs.Packing.{packed, joined, with_entry, filled_bytes, AllFit}
-use Rattle.journal_chain.specs.Chain.{View, Link, ChainFields, journal_of, journal_in, chain_links, chain_places, places_of, blocks_of, times, IsChain, Holds, OnlyJournalChanged}
-use Rattle.journal_chain.specs.Writing.{head_of, fields_of, Stands, Standing, Finished, Unfinished, Put, reopened}
+use Rattle.journal_chain.specs.Packing.{packed, joined, packed_with, filled_bytes, AllFit}
+use Rattle.journal_chain.specs.Chain.{BlockView, Link, ChainFields, journal_of, journal_in, chain_links, chain_places, places_of, blocks_of, times, IsChain, Holds, OnlyJournalChanged}
+use Rattle.journal_chain.specs.Writing.{head_of, fields_of_block, Stands, Standing, Finished, Unfinished, Put, reopened}
 use Rattle.journal_chain.proofs.Spelled.{bind_some, bind_is, Found, walk_of_stands, stands_of_walk}
 use Rattle.journal_chain.proofs.Places.{times-here}
 use Rattle.journal_chain.proofs.Steps.{head_stale, block_put, stale_dropped}
 use Rattle.journal_chain.proofs.Tables.{put_changes, dropped_changes, free_in_view, put_only, dropped_only}
 
 -- packing goes on where it stopped
-pub packed_more : (entries : List EntryFields) (e : EntryFields) → packed (entries ++ e ∷ []) ≡ with_entry (packed entries) e
-packed_more entries e = fold-append with_entry [] entries (e ∷ [])
+pub packed_more : (entries : List EntryFields) (e : EntryFields) → packed (entries ++ e ∷ []) ≡ packed_with (packed entries) e
+packed_more entries e = fold-append packed_with [] entries (e ∷ [])
 
 pub entries_length-last : (entries : List EntryFields) (e : EntryFields) → entries_length (entries ++ e ∷ []) ≡ entries_length entries + entry_length e
 unfolding entries_length
@@ -33,7 +33,7 @@ entries_length-last (f ∷ entries) e =
 
 -- ---- a chain that is held stands
 
-finished_view : (view : View) (chain : ChainFields) (entries : List EntryFields) → IsChain view chain entries
+finished_view : (view : BlockView) (chain : ChainFields) (entries : List EntryFields) → IsChain view chain entries
     → (links : List Link) × (Standing chain.object view links [] × ((chain.head ≡ head_of links) × (packed entries ≡ blocks_of links)))
 unfolding chain_links
 finished_view view chain entries c =
@@ -90,7 +90,7 @@ put_finished log later p o stale block entries u put =
     let link : Link = record { place = p; entries = block.entries } in
     let held : Place → Option Stored = with_held log.held p (record { kind = Journal; object = o; bytes = journal_spelling block }) in
     let same : later.held ≡ held = put.held ∙ ap (λ n. with_held log.held p (record { kind = Journal; object = n; bytes = journal_spelling block })) u.object in
-    let spells : journal_of o (journal_spelling block) ≡ Some (fields_of o link u.links) =
+    let spells : journal_of o (journal_spelling block) ≡ Some (fields_of_block o link u.links) =
     ap (λ n. journal_of n (journal_spelling block)) (sym u.object) ∙ put.spells
     ∙ ap (λ n. Some (record { object = n; previous = block.previous; entries = block.entries })) u.object
     ∙ ap (λ q. Some (record { object = o; previous = q; entries = block.entries })) u.previous in
@@ -113,13 +113,13 @@ pub entry_fits : (held : Place → Option Stored) (o : ℕ) (stale : List Place)
     → Unfinished held o stale block entries → fits (entries_length block.entries) (entry_length e) ≡ true
     → later.object ≡ block.object → later.previous ≡ block.previous → later.entries ≡ block.entries ++ e ∷ []
     → Unfinished held o stale later (entries ++ e ∷ [])
-unfolding with_entry
+unfolding packed_with
 entry_fits held o stale block entries e later u fit object previous more = record {
   links = u.links;
   standing = u.standing;
   object = object ∙ u.object;
   previous = previous ∙ u.previous;
-  blocks = packed_more entries e ∙ ap (λ b. with_entry b e) u.blocks
+  blocks = packed_more entries e ∙ ap (λ b. packed_with b e) u.blocks
       ∙ ap (λ t. cond t ((block.entries ++ e ∷ []) ∷ blocks_of u.links) ((e ∷ []) ∷ block.entries ∷ blocks_of u.links)) fit
       ∙ ap (λ b. b ∷ blocks_of u.links) (sym more);
 }
@@ -128,14 +128,14 @@ pub entry_begins : (held : Place → Option Stored) (o : ℕ) (stale : List Plac
     → Finished held o stale (Some p) entries → packed entries ≡ newest ∷ older → fits (entries_length newest) (entry_length e) ≡ false
     → later ≡ record { object = o; previous = Some p; entries = e ∷ [] }
     → Unfinished held o stale later (entries ++ e ∷ [])
-unfolding with_entry
+unfolding packed_with
 entry_begins held o stale p newest older entries e later f blocks breaks is =
     subst (λ l. Unfinished held o stale l (entries ++ e ∷ [])) (sym is) (record {
       links = f.links;
       standing = f.standing;
       object = refl;
       previous = f.head_is;
-      blocks = packed_more entries e ∙ ap (λ b. with_entry b e) blocks
+      blocks = packed_more entries e ∙ ap (λ b. packed_with b e) blocks
           ∙ ap (λ t. cond t ((newest ++ e ∷ []) ∷ older) ((e ∷ []) ∷ newest ∷ older)) breaks
           ∙ ap (λ b. (e ∷ []) ∷ b) (sym blocks ∙ f.blocks);
     })
@@ -143,8 +143,8 @@ entry_begins held o stale p newest older entries e later f blocks breaks is =
 -- ---- the first entry of a push
 
 begun : (chain : ChainFields) (entries : List EntryFields) (e : EntryFields) (links : List Link) → reopened chain (entry_length e) ≡ None → chain.filled ≡ filled_bytes (packed entries)
-    → chain.head ≡ head_of links → packed entries ≡ blocks_of links → with_entry (blocks_of links) e ≡ (e ∷ []) ∷ blocks_of links
-unfolding with_entry filled_bytes
+    → chain.head ≡ head_of links → packed entries ≡ blocks_of links → packed_with (blocks_of links) e ≡ (e ∷ []) ∷ blocks_of links
+unfolding packed_with filled_bytes
 begun chain entries e [] new count head blocks = refl
 begun chain entries e (newest ∷ older) new count head blocks =
     let filled : chain.filled ≡ entries_length newest.entries = count ∙ ap filled_bytes blocks in
@@ -160,7 +160,7 @@ pub begins_block : (held : Place → Option Stored) (chain : ChainFields) (entri
     → Unfinished held chain.object [] block (entries ++ e ∷ [])
 begins_block held chain entries e block c new is =
     let f : Finished held chain.object [] chain.head entries = finished_of held chain entries c in
-    let more : packed (entries ++ e ∷ []) ≡ (e ∷ []) ∷ blocks_of f.links = packed_more entries e ∙ ap (λ b. with_entry b e) f.blocks ∙ begun chain entries e f.links new c.filled f.head_is f.blocks in
+    let more : packed (entries ++ e ∷ []) ≡ (e ∷ []) ∷ blocks_of f.links = packed_more entries e ∙ ap (λ b. packed_with b e) f.blocks ∙ begun chain entries e f.links new c.filled f.head_is f.blocks in
     subst (λ b. Unfinished held chain.object [] b (entries ++ e ∷ [])) (sym is) (record {
       links = f.links;
       standing = f.standing;
@@ -175,7 +175,7 @@ pub head_reopened : (held : Place → Option Stored) (o : ℕ) (entries : List E
 head_reopened held o entries p block [] standing head blocks reads = absurd (none-some p (sym head))
 head_reopened held o entries p block (newest ∷ older) standing head blocks reads =
     let at : p ≡ newest.place = same_Some p newest.place head in
-    let is : fields_of o newest older ≡ block = same_Some (fields_of o newest older) block (sym standing.stands.0 ∙ ap (journal_in o (of_kind Journal o held)) (sym at) ∙ reads) in
+    let is : fields_of_block o newest older ≡ block = same_Some (fields_of_block o newest older) block (sym standing.stands.0 ∙ ap (journal_in o (of_kind Journal o held)) (sym at) ∙ reads) in
     subst (λ b. Unfinished held o (p ∷ []) b entries) is (record {
       links = older;
       standing = subst (λ q. Standing o (of_kind Journal o held) older (q ∷ [])) (sym at) (head_stale o (of_kind Journal o held) newest older standing);

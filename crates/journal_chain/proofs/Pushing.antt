@@ -5,7 +5,7 @@ use Rattle.std.proofs.lemmas.List.{drop-drop}
 use Rattle.std.proofs.lemmas.List.Sums.{fold-append}
 use Rattle.codec.specs.Entry.{EntryFields, entry_length, entries_length}
 use Rattle.journal_chain.specs.Sizes.{fits, filled_with, breaks, blocks_needed}
-use Rattle.journal_chain.specs.Packing.{with_entry, added, packed, joined, filled_bytes, blocks_past, kept}
+use Rattle.journal_chain.specs.Packing.{packed_with, added, packed, joined, filled_bytes, blocks_past, blocks_kept}
 use Rattle.journal_chain.proofs.Adding.{bytes-one, bytes-push, entry_fits, entry_begins, first_entry, filled-fits, filled-begins, filled-none, joined-packed}
 
 breaks_fits : (filled size : ℕ) (sizes : List ℕ) → fits filled size ≡ true → breaks filled (size ∷ sizes) ≡ breaks (filled + size) sizes
@@ -81,8 +81,8 @@ abbrev pub needed_for : List (List EntryFields) → List EntryFields → ℕ
 needed_for blocks entries = blocks_needed (filled_bytes blocks) (map entry_length entries)
 
 -- a push onto any blocks
-pub pushed : (blocks : List (List EntryFields)) (entries : List EntryFields) → Pushed (length (joined blocks)) (needed_for blocks entries) (kept blocks entries) (added blocks entries)
-unfolding kept joined filled_bytes
+pub pushed : (blocks : List (List EntryFields)) (entries : List EntryFields) → Pushed (length (joined blocks)) (needed_for blocks entries) (blocks_kept blocks entries) (added blocks entries)
+unfolding blocks_kept joined filled_bytes
 pushed blocks [] = record { length_is = omega arith; kept_are = refl; past_is = omega arith }
 pushed [] (e ∷ entries) =
     let after = added ((e ∷ []) ∷ []) entries in
@@ -98,8 +98,8 @@ pushed (newest ∷ older) (e ∷ entries) =
     elim (cases_Bool (fits (entries_length newest) (entry_length e))) [
       | inl h ↦ (let same : breaks (entries_length (newest ++ e ∷ [])) sizes ≡ breaks (filled_with (entries_length newest) (entry_length e)) sizes =
           ap (λ n. breaks n sizes) (bytes-push newest e ∙ sym (filled-fits (entries_length newest) (entry_length e) h)) in
-          let old : older ≡ kept (newest ∷ older) (e ∷ entries) = sym (ap (λ b. cond b older (newest ∷ older)) h) in
-          subst (λ blocks. Pushed count (needed_for (newest ∷ older) (e ∷ entries)) (kept (newest ∷ older) (e ∷ entries)) (added blocks entries)) (sym (entry_fits newest older e h)) (
+          let old : older ≡ blocks_kept (newest ∷ older) (e ∷ entries) = sym (ap (λ b. cond b older (newest ∷ older)) h) in
+          subst (λ blocks. Pushed count (needed_for (newest ∷ older) (e ∷ entries)) (blocks_kept (newest ∷ older) (e ∷ entries)) (added blocks entries)) (sym (entry_fits newest older e h)) (
           subst (λ left. Pushed count (needed_for (newest ∷ older) (e ∷ entries)) left (added ((newest ++ e ∷ []) ∷ older) entries)) old (
           subst (λ n. Pushed count (1 + n) older (added ((newest ++ e ∷ []) ∷ older) entries)) same (
           from_block count (newest ++ e ∷ []) older entries (omega (arith, length-append newest (e ∷ [])))
@@ -108,8 +108,8 @@ pushed (newest ∷ older) (e ∷ entries) =
           ))
       | inr h ↦ (let same : breaks (entries_length (e ∷ [])) sizes ≡ breaks (filled_with (entries_length newest) (entry_length e)) sizes =
           ap (λ n. breaks n sizes) (bytes-one e ∙ sym (filled-begins (entries_length newest) (entry_length e) h)) in
-          let old : newest ∷ older ≡ kept (newest ∷ older) (e ∷ entries) = sym (ap (λ b. cond b older (newest ∷ older)) h) in
-          subst (λ blocks. Pushed count (needed_for (newest ∷ older) (e ∷ entries)) (kept (newest ∷ older) (e ∷ entries)) (added blocks entries)) (sym (entry_begins newest older e h)) (
+          let old : newest ∷ older ≡ blocks_kept (newest ∷ older) (e ∷ entries) = sym (ap (λ b. cond b older (newest ∷ older)) h) in
+          subst (λ blocks. Pushed count (needed_for (newest ∷ older) (e ∷ entries)) (blocks_kept (newest ∷ older) (e ∷ entries)) (added blocks entries)) (sym (entry_begins newest older e h)) (
           subst (λ left. Pushed count (needed_for (newest ∷ older) (e ∷ entries)) left (added ((e ∷ []) ∷ newest ∷ older) entries)) old (
           subst (λ n. Pushed count (1 + n) (newest ∷ older) (added ((e ∷ []) ∷ newest ∷ older) entries)) same (
           from_block count (e ∷ []) (newest ∷ older) entries (omega arith)
@@ -119,8 +119,8 @@ pushed (newest ∷ older) (e ∷ entries) =
     ]
 
 -- what is kept of blocks holds only entries that were in them
-kept_hold : (blocks : List (List EntryFields)) (entries : List EntryFields) → blocks_past (length (joined blocks)) (kept blocks entries) ≡ 0
-unfolding kept joined
+kept_hold : (blocks : List (List EntryFields)) (entries : List EntryFields) → blocks_past (length (joined blocks)) (blocks_kept blocks entries) ≡ 0
+unfolding blocks_kept joined
 kept_hold blocks [] = none_past (length (joined blocks)) blocks (omega arith)
 kept_hold [] (e ∷ entries) = none_past 0 [] (omega arith)
 kept_hold (newest ∷ older) (e ∷ entries) =
@@ -137,28 +137,28 @@ push_held xs ys =
     let held = (pushed (packed xs) ys).past_is in
     let none = kept_hold (packed xs) ys in
     let all : needed_for (packed xs) ys ≡ blocks_past (length (joined (packed xs))) (added (packed xs) ys) = omega arith in
-    all ∙ ap (λ n. blocks_past n (added (packed xs) ys)) count ∙ ap (blocks_past (length xs)) (sym (fold-append with_entry [] xs ys))
+    all ∙ ap (λ n. blocks_past n (added (packed xs) ys)) count ∙ ap (blocks_past (length xs)) (sym (fold-append packed_with [] xs ys))
 
 pub whole_counted : (entries : List EntryFields) → blocks_needed 0 (map entry_length entries) ≡ length (packed entries)
-unfolding kept filled_bytes
+unfolding blocks_kept filled_bytes
 whole_counted [] = refl
 whole_counted (e ∷ entries) = let is = (pushed [] (e ∷ entries)).length_is in omega arith
 
 -- ---- which blocks are kept
 
-pub kept_none : (blocks : List (List EntryFields)) → kept blocks [] ≡ blocks
-unfolding kept
+pub kept_none : (blocks : List (List EntryFields)) → blocks_kept blocks [] ≡ blocks
+unfolding blocks_kept
 kept_none [] = refl
 kept_none (newest ∷ older) = refl
 
 pub kept_fits : (newest : List EntryFields) (older : List (List EntryFields)) (e : EntryFields) (entries : List EntryFields) → fits (entries_length newest) (entry_length e) ≡ true
-    → kept (newest ∷ older) (e ∷ entries) ≡ older
-unfolding kept
+    → blocks_kept (newest ∷ older) (e ∷ entries) ≡ older
+unfolding blocks_kept
 kept_fits newest older e entries h = ap (λ b. cond b older (newest ∷ older)) h
 
 pub kept_begins : (newest : List EntryFields) (older : List (List EntryFields)) (e : EntryFields) (entries : List EntryFields) → fits (entries_length newest) (entry_length e) ≡ false
-    → kept (newest ∷ older) (e ∷ entries) ≡ newest ∷ older
-unfolding kept
+    → blocks_kept (newest ∷ older) (e ∷ entries) ≡ newest ∷ older
+unfolding blocks_kept
 kept_begins newest older e entries h = ap (λ b. cond b older (newest ∷ older)) h
 
 -- ---- how many are needed at most

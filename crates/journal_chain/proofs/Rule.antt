@@ -7,7 +7,7 @@ use Rattle.std.proofs.lemmas.Grind.{common_steps}
 use Rattle.s4_types.specs.declared.limits.TheConstants.{JOURNAL_ENTRY_BYTES, CHAIN_ENTRY_BYTES, CHAIN_BLOCKS}
 use Rattle.codec.specs.Entry.{EntryFields, IsEntry, entry_length, entries_length}
 use Rattle.journal_chain.specs.Sizes.{fits}
-use Rattle.journal_chain.specs.Packing.{with_entry, added, packed, joined, first_length, IsBlock, IsBehind, KeepsTheRule, AllFit}
+use Rattle.journal_chain.specs.Packing.{packed_with, added, packed, joined, first_length, IsBlock, IsBehind, KeepsTheRule, AllFit}
 use Rattle.journal_chain.proofs.Adding.{bytes-append, bytes-one, bytes-push, entry_fits, entry_begins, first_entry}
 
 -- ---- packed entries keep the rule
@@ -23,7 +23,7 @@ stays_behind (previous ∷ older) newest e some h = let same = first_stays newes
 one_entry : (e : EntryFields) → entry_length e ≤ JOURNAL_ENTRY_BYTES → IsBlock (e ∷ [])
 one_entry e le = record { some = omega arith; few = omega (arith, bytes-one e) }
 
-one_more : (blocks : List (List EntryFields)) (e : EntryFields) → KeepsTheRule blocks → entry_length e ≤ JOURNAL_ENTRY_BYTES → KeepsTheRule (with_entry blocks e)
+one_more : (blocks : List (List EntryFields)) (e : EntryFields) → KeepsTheRule blocks → entry_length e ≤ JOURNAL_ENTRY_BYTES → KeepsTheRule (packed_with blocks e)
 one_more [] e h le = subst KeepsTheRule (sym (first_entry e)) (one_entry e le, tt, tt)
 one_more (newest ∷ older) e h le = elim (cases_Bool (fits (entries_length newest) (entry_length e))) [
   | inl in_it ↦ (let room = leb-true _ _ in_it in
@@ -38,7 +38,7 @@ one_more (newest ∷ older) e h le = elim (cases_Bool (fits (entries_length newe
 
 pub added_keeps : (blocks : List (List EntryFields)) (entries : List EntryFields) → KeepsTheRule blocks → AllFit entries → KeepsTheRule (added blocks entries)
 added_keeps blocks [] h all = h
-added_keeps blocks (e ∷ entries) h all = added_keeps (with_entry blocks e) entries (one_more blocks e h all.0) all.1
+added_keeps blocks (e ∷ entries) h all = added_keeps (packed_with blocks e) entries (one_more blocks e h all.0) all.1
 
 pub packed_keeps : (entries : List EntryFields) → AllFit entries → KeepsTheRule (packed entries)
 packed_keeps entries all = added_keeps [] entries tt all
@@ -55,7 +55,7 @@ in_one entries older (e ∷ more) le =
     ∙ in_one (entries ++ e ∷ []) older more (omega (arith, bytes-push entries e))
     ∙ ap (λ xs. xs ∷ older) (append_assoc entries (e ∷ []) more)
 
-begins : (older : List (List EntryFields)) (e : EntryFields) (entries : List EntryFields) → IsBehind older (e ∷ entries) → with_entry older e ≡ (e ∷ []) ∷ older
+begins : (older : List (List EntryFields)) (e : EntryFields) (entries : List EntryFields) → IsBehind older (e ∷ entries) → packed_with older e ≡ (e ∷ []) ∷ older
 begins [] e entries h = first_entry e
 begins (previous ∷ older) e entries h = entry_begins previous older e (lt-leb _ _ h)
 
@@ -69,10 +69,10 @@ pub packed_again : (blocks : List (List EntryFields)) → KeepsTheRule blocks �
 unfolding joined
 packed_again [] h = refl
 packed_again (newest ∷ older) h =
-    fold-append with_entry [] (joined older) newest ∙ ap (λ blocks. added blocks newest) (packed_again older h.2) ∙ block_again older newest h.0 h.1
+    fold-append packed_with [] (joined older) newest ∙ ap (λ blocks. added blocks newest) (packed_again older h.2) ∙ block_again older newest h.0 h.1
 
 pub packed_on : (blocks : List (List EntryFields)) (entries : List EntryFields) → KeepsTheRule blocks → packed (joined blocks ++ entries) ≡ added blocks entries
-packed_on blocks entries h = fold-append with_entry [] (joined blocks) entries ∙ ap (λ made. added made entries) (packed_again blocks h)
+packed_on blocks entries h = fold-append packed_with [] (joined blocks) entries ∙ ap (λ made. added made entries) (packed_again blocks h)
 
 -- ---- a chain is short
 

@@ -6,11 +6,11 @@ use Rattle.block_log.specs.Log.{Stored, of_kind}
 use Rattle.codec.specs.Fields.{bit}
 use Rattle.codec.specs.Entry.{EntryFields, entries_length}
 use Rattle.journal_chain.specs.Packing.{joined, filled_bytes}
-use Rattle.journal_chain.specs.Chain.{View, ChainFields, IsChain, Holds, OnlyJournalChanged, chain_entries, chain_links, links_from, entries_held, times}
+use Rattle.journal_chain.specs.Chain.{BlockView, ChainFields, IsChain, Holds, OnlyJournalChanged, chain_entries, chain_links, links_from, entries_held, times}
 
 pub same_blocks : (held later : Place → Option Stored) (chain : ChainFields) (entries : List EntryFields)
     → of_kind Journal chain.object later ≡ of_kind Journal chain.object held → Holds held chain entries → Holds later chain entries
-same_blocks held later chain entries same c = subst (λ (v : View). IsChain v chain entries) (sym same) c
+same_blocks held later chain entries same c = subst (λ (v : BlockView). IsChain v chain entries) (sym same) c
 
 pub its_entries : (held : Place → Option Stored) (chain : ChainFields) (entries : List EntryFields) → Holds held chain entries → entries_held held chain ≡ entries
 unfolding chain_entries

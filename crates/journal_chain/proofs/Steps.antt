@@ -5,15 +5,15 @@ use Rattle.s4_types.specs.Pointer.{Place}
 use Rattle.block_log.specs.Log.{same_place}
 use Rattle.codec.specs.Fields.{◌>>=◌, bit}
 use Rattle.codec.specs.Entry.{EntryFields}
-use Rattle.journal_chain.specs.Chain.{View, Link, journal_of, places_of, times}
-use Rattle.journal_chain.specs.Writing.{fields_of, Stands, Standing}
+use Rattle.journal_chain.specs.Chain.{BlockView, Link, journal_of, places_of, times}
+use Rattle.journal_chain.specs.Writing.{fields_of_block, Stands, Standing}
 use Rattle.journal_chain.proofs.Places.{one_place, other_either_way, times-here, times-other, times-none, times-cons, bit-most}
 
 -- the views agree wherever one of these blocks is
-abbrev pub AgreeOn : List Link → View → View → Type 0
+abbrev pub AgreeOn : List Link → BlockView → BlockView → Type 0
 AgreeOn links view later = (q : Place) → 0 < times q (places_of links) → later q ≡ view q
 
-pub stands-agree : (o : ℕ) (view later : View) (links : List Link) → AgreeOn links view later → Stands o view links → Stands o later links
+pub stands-agree : (o : ℕ) (view later : BlockView) (links : List Link) → AgreeOn links view later → Stands o view links → Stands o later links
 stands-agree o view later [] agree s = tt
 stands-agree o view later (newest ∷ older) agree s =
     let p = newest.place in
@@ -24,11 +24,11 @@ stands-agree o view later (newest ∷ older) agree s =
     )
 
 -- one view is another with a block put at a place, or taken away
-abbrev pub ChangedAt : View → View → Place → Option (List ℕ) → Type 0
+abbrev pub ChangedAt : BlockView → BlockView → Place → Option (List ℕ) → Type 0
 ChangedAt view later p there = (later p ≡ there) × ((q : Place) → same_place p q ≡ false → later q ≡ view q)
 
 -- the head becomes stale
-pub head_stale : (o : ℕ) (view : View) (newest : Link) (older : List Link) → Standing o view (newest ∷ older) [] → Standing o view older (newest.place ∷ [])
+pub head_stale : (o : ℕ) (view : BlockView) (newest : Link) (older : List Link) → Standing o view (newest ∷ older) [] → Standing o view older (newest.place ∷ [])
 head_stale o view newest older s = record {
   stands = s.stands.1;
   once = λ p.
@@ -39,16 +39,16 @@ head_stale o view newest older s = record {
 }
 
 -- the whole chain becomes stale
-pub all_stale : (o : ℕ) (view : View) (links : List Link) → Standing o view links [] → Standing o view [] (places_of links)
+pub all_stale : (o : ℕ) (view : BlockView) (links : List Link) → Standing o view links [] → Standing o view [] (places_of links)
 all_stale o view links s = record {
   stands = tt;
   once = λ p. let h = s.once p in let e : times p [] ≡ 0 = times-none p in omega arith;
 }
 
 -- a block is put in front
-pub block_put : (o : ℕ) (view later : View) (links : List Link) (stale : List Place) (p : Place) (bytes : List ℕ) (entries : List EntryFields)
+pub block_put : (o : ℕ) (view later : BlockView) (links : List Link) (stale : List Place) (p : Place) (bytes : List ℕ) (entries : List EntryFields)
     → Standing o view links stale → view p ≡ None → ChangedAt view later p (Some bytes)
-    → journal_of o bytes ≡ Some (fields_of o (record { place = p; entries = entries }) links)
+    → journal_of o bytes ≡ Some (fields_of_block o (record { place = p; entries = entries }) links)
     → Standing o later (record { place = p; entries = entries } ∷ links) stale
 block_put o view later links stale p bytes entries s free changed spells =
     let none : bit (is_some (view p)) ≡ 0 = ap (λ b. bit (is_some b)) free in
@@ -73,7 +73,7 @@ block_put o view later links stale p bytes entries s free changed spells =
     }
 
 -- the first of the stale blocks is dropped
-pub stale_dropped : (o : ℕ) (view later : View) (links : List Link) (stale : List Place) (p : Place)
+pub stale_dropped : (o : ℕ) (view later : BlockView) (links : List Link) (stale : List Place) (p : Place)
     → Standing o view links (p ∷ stale) → ChangedAt view later p None → Standing o later links stale
 stale_dropped o view later links stale p s changed =
     let none : bit (is_some (later p)) ≡ 0 = ap (λ b. bit (is_some b)) changed.0 in

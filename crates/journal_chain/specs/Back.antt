@@ -7,7 +7,7 @@ use Rattle.codec.specs.Fields.{◌>>=◌}
 use Rattle.codec.specs.Entry.{EntryFields}
 use Rattle.journal_chain.specs.Packing.{joined}
 use Rattle.journal_chain.specs.Chain.{Link, links_from, places_of, blocks_of}
-use Rattle.journal_chain.specs.Writing.{spelled}
+use Rattle.journal_chain.specs.Writing.{spelled_journal}
 
 -- where a reader stands: the entries of the block being read that it hasn't given, oldest first, and the block before
 pub record BackFields : Type 0 where
@@ -16,7 +16,7 @@ pub record BackFields : Type 0 where
 
 -- the journal blocks from a place on, newest first, whosever they are: at most 47
 unfoldable pub links_back : (Place → Option Stored) → Option Place → Option (List Link)
-links_back held from = links_from CHAIN_BLOCKS (λ p. spelled (held p)) from
+links_back held from = links_from CHAIN_BLOCKS (λ p. spelled_journal (held p)) from
 
 -- the entries that a reader hasn't given, oldest first; it gives the last of them next
 abbrev pub entries_left : (Place → Option Stored) → BackFields → Option (List EntryFields)

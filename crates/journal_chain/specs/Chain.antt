@@ -11,15 +11,15 @@ use Rattle.codec.specs.Journal.{JournalFields, journal_at}
 use Rattle.journal_chain.specs.Packing.{packed, joined, filled_bytes, AllFit}
 
 -- what a table of blocks shows of an object's journal: the bytes at each place
-abbrev pub View : Type 0
-View = Place → Option (List ℕ)
+abbrev pub BlockView : Type 0
+BlockView = Place → Option (List ℕ)
 
 -- the fields that these bytes spell, if they are a journal block of the object
 unfoldable pub journal_of : ℕ → List ℕ → Option JournalFields
 journal_of o bytes = all_of journal_at bytes >>= λ j. kept (j.object == o) j
 
 -- the fields that the object's journal block at a place spells, if there is one
-abbrev pub journal_in : ℕ → View → Place → Option JournalFields
+abbrev pub journal_in : ℕ → BlockView → Place → Option JournalFields
 journal_in o view p = view p >>= journal_of o
 
 -- the same of what a table holds
@@ -46,7 +46,7 @@ links_from (suc fuel) blocks (Some p) = do
   Some (linked p block older)
 
 -- the journal blocks of an object's chain from a head on: at most 47
-unfoldable pub chain_links : View → ℕ → Option Place → Option (List Link)
+unfoldable pub chain_links : BlockView → ℕ → Option Place → Option (List Link)
 chain_links view o head = links_from CHAIN_BLOCKS (journal_in o view) head
 
 abbrev pub places_of : List Link → List Place
@@ -56,15 +56,15 @@ abbrev pub blocks_of : List Link → List (List EntryFields)
 blocks_of links = map (λ l. l.entries) links
 
 -- the places of a chain's blocks, newest first
-abbrev pub chain_places : View → ℕ → Option Place → List Place
+abbrev pub chain_places : BlockView → ℕ → Option Place → List Place
 chain_places view o head = places_of (unwrap_or (chain_links view o head) [])
 
 -- the entries of each of a chain's blocks, the newest block first
-abbrev pub chain_blocks : View → ℕ → Option Place → Option (List (List EntryFields))
+abbrev pub chain_blocks : BlockView → ℕ → Option Place → Option (List (List EntryFields))
 chain_blocks view o head = chain_links view o head >>= λ links. Some (blocks_of links)
 
 -- the entries of a chain, oldest first
-abbrev pub entries_in : View → ℕ → Option Place → Option (List EntryFields)
+abbrev pub entries_in : BlockView → ℕ → Option Place → Option (List EntryFields)
 entries_in view o head = chain_links view o head >>= λ links. Some (joined (blocks_of links))
 
 -- the entries of an object's chain from a head on, oldest first, by what a table holds
@@ -90,7 +90,7 @@ times p (q ∷ places) = bit (same_place p q) + times p places
 
 -- A view of an object's journal is a chain of these entries: its blocks, from the head on, are the packing of the entries;
 -- each block that is there stands in the chain once, and no other does; and the two counts of bytes are right.
-pub record IsChain (view : View) (chain : ChainFields) (entries : List EntryFields) : Type 0 where
+pub record IsChain (view : BlockView) (chain : ChainFields) (entries : List EntryFields) : Type 0 where
   pub blocks : chain_blocks view chain.object chain.head ≡ Some (packed entries)
   pub walk : entries_in view chain.object chain.head ≡ Some entries
   pub once : (p : Place) → times p (chain_places view chain.object chain.head) ≡ bit (is_some (view p))

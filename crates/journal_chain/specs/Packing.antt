@@ -7,14 +7,14 @@ use Rattle.codec.specs.Entry.{EntryFields, entry_length, entries_length}
 use Rattle.journal_chain.specs.Sizes.{fits}
 
 -- One more entry: behind those of the newest block if it fits there, else the first of a new block.
-unfoldable pub with_entry : List (List EntryFields) → EntryFields → List (List EntryFields)
-with_entry [] entry = (entry ∷ []) ∷ []
-with_entry (newest ∷ older) entry =
+unfoldable pub packed_with : List (List EntryFields) → EntryFields → List (List EntryFields)
+packed_with [] entry = (entry ∷ []) ∷ []
+packed_with (newest ∷ older) entry =
     if fits (entries_length newest) (entry_length entry) then (newest ++ entry ∷ []) ∷ older else (entry ∷ []) ∷ newest ∷ older
 
 -- several more entries, one after another
 abbrev pub added : List (List EntryFields) → List EntryFields → List (List EntryFields)
-added blocks entries = fold with_entry blocks entries
+added blocks entries = fold packed_with blocks entries
 
 -- the blocks of a chain that has these entries
 abbrev pub packed : List EntryFields → List (List EntryFields)
@@ -66,8 +66,8 @@ blocks_past count (newest ∷ older) =
 
 -- The blocks that a push of these entries leaves as they are: all but the head, where the first entry fits behind its
 -- entries.
-unfoldable pub kept : List (List EntryFields) → List EntryFields → List (List EntryFields)
-kept blocks [] = blocks
-kept [] (entry ∷ entries) = []
-kept (newest ∷ older) (entry ∷ entries) =
+unfoldable pub blocks_kept : List (List EntryFields) → List EntryFields → List (List EntryFields)
+blocks_kept blocks [] = blocks
+blocks_kept [] (entry ∷ entries) = []
+blocks_kept (newest ∷ older) (entry ∷ entries) =
     if fits (entries_length newest) (entry_length entry) then older else newest ∷ older

@@ -9,7 +9,7 @@ use Rattle.codec.specs.Entry.{EntryFields}
 use Rattle.codec.specs.Journal.{JournalFields, journal_at, journal_spelling}
 use Rattle.journal_chain.specs.Sizes.{fits}
 use Rattle.journal_chain.specs.Packing.{packed}
-use Rattle.journal_chain.specs.Chain.{View, Link, ChainFields, journal_of, journal_in, places_of, blocks_of, times}
+use Rattle.journal_chain.specs.Chain.{BlockView, Link, ChainFields, journal_of, journal_in, places_of, blocks_of, times}
 
 -- the place of the newest block, or none
 abbrev pub head_of : List Link → Option Place
@@ -17,17 +17,17 @@ head_of [] = None
 head_of (newest ∷ older) = Some newest.place
 
 -- the fields of a chain's newest block
-abbrev pub fields_of : ℕ → Link → List Link → JournalFields
-fields_of o newest older = record { object = o; previous = head_of older; entries = newest.entries }
+abbrev pub fields_of_block : ℕ → Link → List Link → JournalFields
+fields_of_block o newest older = record { object = o; previous = head_of older; entries = newest.entries }
 
 -- each block stands at its place, and names the place of the one before
-abbrev pub Stands : ℕ → View → List Link → Type 0
+abbrev pub Stands : ℕ → BlockView → List Link → Type 0
 Stands o view [] = Unit {0}
-Stands o view (newest ∷ older) = (journal_in o view newest.place ≡ Some (fields_of o newest older)) × Stands o view older
+Stands o view (newest ∷ older) = (journal_in o view newest.place ≡ Some (fields_of_block o newest older)) × Stands o view older
 
 -- These blocks stand as a chain; each journal block of the object is one of them or is at one of these stale places, and
 -- is there once.
-pub record Standing (o : ℕ) (view : View) (links : List Link) (stale : List Place) : Type 0 where
+pub record Standing (o : ℕ) (view : BlockView) (links : List Link) (stale : List Place) : Type 0 where
   pub stands : Stands o view links
   pub once : (p : Place) → times p (places_of links) + times p stale ≡ bit (is_some (view p))
 
@@ -47,13 +47,13 @@ pub record Unfinished (held : Place → Option Stored) (o : ℕ) (stale : List P
   pub blocks : packed entries ≡ block.entries ∷ blocks_of links
 
 -- a journal block as a table holds it
-abbrev pub stored : JournalFields → Stored
-stored block = record { kind = Journal; object = block.object; bytes = journal_spelling block }
+abbrev pub stored_journal : JournalFields → Stored
+stored_journal block = record { kind = Journal; object = block.object; bytes = journal_spelling block }
 
 -- a journal block was appended, at a place that was free
 pub record Put (log later : Log) (p : Place) (block : JournalFields) : Type 0 where
   pub free : log.held p ≡ None
-  pub held : later.held ≡ with_held log.held p (stored block)
+  pub held : later.held ≡ with_held log.held p (stored_journal block)
   pub ahead : log.ahead ≡ p ∷ later.ahead
   pub spells : journal_of block.object (journal_spelling block) ≡ Some block
 
@@ -62,5 +62,5 @@ abbrev pub reopened : ChainFields → ℕ → Option Place
 reopened chain size = if fits chain.filled size then chain.head else None
 
 -- the fields of the journal block that is here, if one is
-abbrev pub spelled : Option Stored → Option JournalFields
-spelled there = there >>= λ block. all_of journal_at block.bytes
+abbrev pub spelled_journal : Option Stored → Option JournalFields
+spelled_journal there = there >>= λ block. all_of journal_at block.bytes

@@ -1,5 +1,6 @@
 ghost use Rattle.std.specs.Prelude.{◌≡◌, ℕ, ◌+◌, ◌≤◌, ◌<◌, ◌++◌, List, [], ◌∷◌, length, map, drop, nat_lt, None, Some, OnOk, OnErr, MatchResult, IsSome, Option};
 ghost use Rattle.std.specs.Option.{option_to_list};
+ghost use Rattle.s4_types.specs.declared.limits.TheConstants.{CHAIN_ENTRY_BYTES, JOURNAL_ENTRY_BYTES};
 ghost use Rattle.s4_types.specs.Pointer.{Place};
 ghost use Rattle.s4_types.specs.declared.refusals.Refusal.TheVariants.{NoMemory};
 ghost use Rattle.block_log.specs.declared.kinds.BlockKind.TheVariants.{Journal};
@@ -72,8 +73,8 @@ impl Chain {
     /// block's entries.
     pub const fn of(object: ObjectId, head: Option<Ptr>, bytes: u16, filled: u16) -> Self
         requires object { 1 ≤ object }
-        requires limit { bytes ≤ 11712 }
-        requires one_block { filled ≤ 488 }
+        requires limit { bytes ≤ CHAIN_ENTRY_BYTES }
+        requires one_block { filled ≤ JOURNAL_ENTRY_BYTES }
         ensures { result ≡ record { object = object; head = head; bytes = bytes; filled = filled } }
     {
         Chain {
@@ -101,7 +102,7 @@ impl Chain {
     /// The bytes of all entries, at most 11,712.
     pub const fn bytes(self) -> usize
         ensures bytes { result ≡ self.bytes }
-        ensures most { result ≤ 11712 }
+        ensures most { result ≤ CHAIN_ENTRY_BYTES }
     {
         self.bytes as usize
     }
@@ -109,14 +110,14 @@ impl Chain {
     /// The bytes of the newest block's entries, at most 488.
     pub const fn filled(self) -> usize
         ensures filled { result ≡ self.filled }
-        ensures most { result ≤ 488 }
+        ensures most { result ≤ JOURNAL_ENTRY_BYTES }
     {
         self.filled as usize
     }
 
     /// Whether the chain has no room for so many bytes of entries more.
     pub fn is_full_for(&self, bytes: usize) -> bool
-        ensures { result ≡ nat_lt 11712 (self.now.bytes + bytes) }
+        ensures { result ≡ nat_lt CHAIN_ENTRY_BYTES (self.now.bytes + bytes) }
     {
         bytes > CHAIN_ENTRY_BYTES - self.bytes as usize
     }
@@ -162,8 +163,8 @@ impl Chain {
 
     /// The chain has another head, with so many bytes of entries, and so many bytes of entries more than before.
     fn set_head(&mut self, head: Ptr, bytes: usize, filled: usize)
-        requires limit { self.old.bytes + bytes ≤ 11712 }
-        requires one_block { filled ≤ 488 }
+        requires limit { self.old.bytes + bytes ≤ CHAIN_ENTRY_BYTES }
+        requires one_block { filled ≤ JOURNAL_ENTRY_BYTES }
         ensures { self.new ≡ record { object = self.old.object; head = Some head; bytes = self.old.bytes + bytes; filled = filled } }
     {
         self.head = Some(head);
@@ -176,7 +177,7 @@ impl Chain {
         requires held { Holds (B.log table.old).held self.old (entries_held (B.log table.old).held self.old) }
         requires fit { AllFit (first.now ∷ later.now) }
         requires bytes { bytes ≡ entries_length (first.now ∷ later.now) }
-        requires limit { self.old.bytes + bytes ≤ 11712 }
+        requires limit { self.old.bytes + bytes ≤ CHAIN_ENTRY_BYTES }
         requires room { pushed_blocks self.old (first.now ∷ later.now) ≤ length (B.log table.old).ahead }
         ensures holds { Holds (B.log table.new).held self.new (entries_held (B.log table.old).held self.old ++ first.now ∷ later.now) }
         ensures others { OnlyJournalChanged self.old.object (B.log table.old).held (B.log table.new).held }
@@ -257,7 +258,7 @@ impl Chain {
         bytes: usize,
     ) -> Self
         requires object { 1 ≤ object }
-        requires limit { bytes ≤ 11712 }
+        requires limit { bytes ≤ CHAIN_ENTRY_BYTES }
         requires room { whole_blocks (first.now ∷ later.now) ≤ length (B.log table.old).ahead }
         ensures finished { (stale : List Place) → Standing object (of_kind Journal object (B.log table.old).held) [] stale
             → Finished (B.log table.new).held object stale result.head (first.now ∷ later.now) }
@@ -281,7 +282,7 @@ impl Chain {
         requires held { Holds (B.log table.old).held self.old (entries_held (B.log table.old).held self.old) }
         requires fit { AllFit (first.now ∷ later.now) }
         requires bytes { bytes ≡ entries_length (first.now ∷ later.now) }
-        requires limit { bytes ≤ 11712 }
+        requires limit { bytes ≤ CHAIN_ENTRY_BYTES }
         requires room { whole_blocks (first.now ∷ later.now) ≤ length (B.log table.old).ahead }
         ensures holds { Holds (B.log table.new).held self.new (first.now ∷ later.now) }
         ensures others { OnlyJournalChanged self.old.object (B.log table.old).held (B.log table.new).held }
@@ -316,7 +317,7 @@ impl Chain {
     /// NoRoom exactly where fewer places are ahead than the new chain has blocks; then nothing has changed.
     pub fn rewrite<B: Blocks>(&mut self, table: &mut B, entries: &[Entry]) -> Result<(), Refusal>
         requires held { Holds (B.log table.old).held self.old (entries_held (B.log table.old).held self.old) }
-        requires limit { entries_length entries.now ≤ 11712 }
+        requires limit { entries_length entries.now ≤ CHAIN_ENTRY_BYTES }
         ensures holds { OnOk result (Holds (B.log table.new).held self.new entries.now) }
         ensures others { OnlyJournalChanged self.old.object (B.log table.old).held (B.log table.new).held }
         ensures ahead { OnOk result ((B.log table.new).ahead ≡ drop (whole_blocks entries.now) (B.log table.old).ahead) }

@@ -1,6 +1,6 @@
 //! One journal block read from a table, for its entries or to go on with, and one appended to it.
 ghost use Rattle.std.specs.Prelude.{◌≡◌, ◌≤◌, ◌<◌, length, Some, IsSome};
-ghost use Rattle.journal_chain.specs.Writing.{Put, spelled};
+ghost use Rattle.journal_chain.specs.Writing.{Put, spelled_journal};
 
 use block_log::{BlockKind, Blocks};
 use codec::{EntryReader, JournalBytes};
@@ -8,8 +8,8 @@ use s4_types::Ptr;
 
 /// The journal block at a place where one is held, as its bytes: no entry is decoded.
 pub(crate) fn reopen<B: Blocks>(table: &mut B, place: Ptr) -> JournalBytes
-    requires { IsSome (spelled ((B.log table.old).held place)) }
-    ensures value { spelled ((B.log table.old).held place) ≡ Some result }
+    requires { IsSome (spelled_journal ((B.log table.old).held place)) }
+    ensures value { spelled_journal ((B.log table.old).held place) ≡ Some result }
     ensures same { B.log table.new ≡ B.log table.old }
 {
     JournalBytes::of(table.get(place))
@@ -17,8 +17,8 @@ pub(crate) fn reopen<B: Blocks>(table: &mut B, place: Ptr) -> JournalBytes
 
 /// A reader of the journal block at a place where one is held.
 pub(crate) fn open<B: Blocks>(table: &mut B, place: Ptr) -> EntryReader
-    requires { IsSome (spelled ((B.log table.old).held place)) }
-    ensures value { spelled ((B.log table.old).held place) ≡ Some result }
+    requires { IsSome (spelled_journal ((B.log table.old).held place)) }
+    ensures value { spelled_journal ((B.log table.old).held place) ≡ Some result }
     ensures some { 1 ≤ length result.entries }
     ensures same { B.log table.new ≡ B.log table.old }
 {

@@ -2,11 +2,11 @@
 mod changes;
 mod checkpoint_blocks;
 mod empty_chains;
+mod emptying;
 mod inodes;
 mod links;
 mod maps;
 mod numbers;
-mod one_place;
-mod plain;
 mod requests;
 mod seats;
+mod windows;

@@ -14,7 +14,7 @@ use Rattle.inode.specs.Contents.{bytes_stored, contents_of}
 use Rattle.inode.specs.Tidiness.{Tidy, PointersHeld, AgreeAt}
 use Rattle.inode.specs.Laws.{OnlyItsBlocksMatter}
 use Rattle.object_map.specs.declared.map.Row.{Row}
-use Rattle.journal_chain.specs.Chain.{View, ChainFields, IsChain, Holds, chain_entries, entries_in, entries_held}
+use Rattle.journal_chain.specs.Chain.{BlockView, ChainFields, IsChain, Holds, chain_entries, entries_in, entries_held}
 use Rattle.time_read.specs.Rows.{IsRow, inode_of}
 use Rattle.row_changes.specs.Recent.{IsBy}
 use Rattle.log_tests.specs.Subject.{IsRecorded}
@@ -44,7 +44,7 @@ same_recorded held later row inode latest law journal checkpoint r = record {
 pub same_chain : (held later : Place → Option Stored) (chain : ChainFields) → of_kind Journal chain.object later ≡ of_kind Journal chain.object held
     → Holds held chain (entries_held held chain) → Holds later chain (entries_held later chain)
 unfolding chain_entries
-same_chain held later chain same h = subst (λ (v : View). IsChain v chain (unwrap_or (entries_in v chain.object chain.head) [])) (sym same) h
+same_chain held later chain same h = subst (λ (v : BlockView). IsChain v chain (unwrap_or (entries_in v chain.object chain.head) [])) (sym same) h
 
 -- the entries of a chain that is held are found
 pub held_found : (held : Place → Option Stored) (chain : ChainFields) (entries : List EntryFields) → Holds held chain entries → IsSome (chain_entries held chain.object chain.head)
@@ -80,12 +80,12 @@ is_seen (Some block) b e =
     ]
 
 pub same_pointers : (held later : Place → Option Stored) (i : Inode) → of_kind Data 1 later ≡ of_kind Data 1 held → PointersHeld held 1 i → PointersHeld later 1 i
-same_pointers held later i same h = subst (λ (v : View). (k : ℕ) (p : Place) → pointer_at i k ≡ Some p → IsSome (v p)) (sym same) h
+same_pointers held later i same h = subst (λ (v : BlockView). (k : ℕ) (p : Place) → pointer_at i k ≡ Some p → IsSome (v p)) (sym same) h
 
 pub same_tidy : (held later : Place → Option Stored) (i : Inode) → OnlyItsBlocksMatter → of_kind Data 1 later ≡ of_kind Data 1 held
     → PointersHeld held 1 i → Tidy (contents_of held) i → Tidy (contents_of later) i
 same_tidy held later i law same h tidy =
     let agree : AgreeAt (contents_of held) (contents_of later) i = λ k p e.
     (let s = some_of (of_kind Data 1 held p) (h k p e) in
-    is_seen (later p) s.0 (ap (λ (v : View). v p) same ∙ s.1) ∙ sym (is_seen (held p) s.0 s.1)) in
+    is_seen (later p) s.0 (ap (λ (v : BlockView). v p) same ∙ s.1) ∙ sym (is_seen (held p) s.0 s.1)) in
     (law (contents_of held) (contents_of later) i agree).1 tidy

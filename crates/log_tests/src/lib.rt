@@ -11,7 +11,7 @@
 //!   chain is full: row and held blocks are as before; a whole chain written afresh;
 //! - a chain and a checkpoint where no place is ahead, and where one place too few is;
 //! - the three entries of one large write, which stand in three journal blocks, read from either end;
-//! - the inode at each moment around a checkpoint, back and forth from it;
+//! - the inode at each moment before and behind a checkpoint's;
 //! - an object that is cut, lengthened, named anew and deleted, at each moment, with its bytes.
 //!
 //! The numbers that they expect come from the formats and from counting by hand, not from a run. Tests are proved like

@@ -1,6 +1,8 @@
 //! The records of the log over a segment table.
+mod acts;
 mod checkpoints;
 mod deletions;
+mod emptied;
 mod frames;
 mod full_chains;
 mod full_tables;

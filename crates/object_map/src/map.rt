@@ -73,7 +73,7 @@ impl ObjectMap {
     pub fn get(&self, object: ObjectId) -> Option<Row>
         ensures { result ≡ row_of self.now object }
     {
-        self.rows.get(object)
+        self.rows.get(object).copied()
     }
 
     /// A row for an object that has none, without journal and checkpoint and with stamp 0. NoMemory, and nothing has

@@ -1,5 +1,5 @@
 //! A map from objects to values of one type.
-ghost use Rattle.std.specs.Prelude.{◌≡◌, ℕ, ◌<◌, Some, None, IsSome, IfSome, IfNone, IfOk, IfErr, OnOk, OnErr, [], length};
+ghost use Rattle.std.specs.Prelude.{◌≡◌, ℕ, ◌<◌, Some, None, IsSome, IfSome, IfNone, IfOk, IfErr, OnOk, OnErr, [], length, option_copied};
 ghost use Rattle.std.specs.Ordering.{nat_cmp};
 ghost use Rattle.std.specs.BTreeMap.{get, Updates};
 ghost use Rattle.object_map.specs.Objects.{value_of, with_value, without_value, IsNextAbove};
@@ -47,10 +47,10 @@ impl<V: Copy + Drop> Objects<V> {
     }
 
     /// The value of an object, if it has one.
-    pub fn get(&self, object: ObjectId) -> Option<V>
-        ensures { result ≡ value_of self.now object }
+    pub fn get(&self, object: ObjectId) -> Option<&V>
+        ensures { option_copied result ≡ value_of self.now object }
     {
-        self.values.get(&object.number()).copied()
+        self.values.get(&object.number())
     }
 
     /// A value of an object that has none. NoMemory, and nothing has changed, where the map couldn't grow.
@@ -63,12 +63,12 @@ impl<V: Copy + Drop> Objects<V> {
     }
 
     /// Another value of an object that has one, without memory.
-    pub fn replace(&mut self, object: ObjectId, value: V)
+    pub fn replace(&mut self, object: ObjectId, value: &V)
         requires { IsSome (value_of self.old object) }
-        ensures { (q : ℕ) → value_of self.new q ≡ with_value (value_of self.old) object value q }
+        ensures { (q : ℕ) → value_of self.new q ≡ with_value (value_of self.old) object value.now q }
     {
         if let Some(place) = self.values.get_mut(&object.number()) {
-            *place = value;
+            *place = *value;
         }
     }
 

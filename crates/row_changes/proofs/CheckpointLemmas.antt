@@ -7,11 +7,11 @@ use Rattle.block_log.specs.declared.kinds.BlockKind.TheVariants.{Journal, Checkp
 use Rattle.codec.specs.declared.inodes.Inode.{Inode}
 use Rattle.codec.specs.Entry.{EntryFields}
 use Rattle.codec.specs.Checkpoint.{CheckpointFields}
-use Rattle.undo_redo.specs.Runs.{Run, AllBy, is_by, entries_by, inode_after, redone_all, undone_all}
+use Rattle.undo_redo.specs.Runs.{Run, AllBy, entry_is_by, entries_by, inode_after, redone_all, undone_all}
 use Rattle.undo_redo.specs.Groups.{grouped}
-use Rattle.checkpoint.specs.Held.{checkpoint_held, spelled, PutsCheckpoint}
+use Rattle.checkpoint.specs.Held.{checkpoint_held, spelled_checkpoint, PutsCheckpoint}
 use Rattle.object_map.specs.declared.map.Row.{Row}
-use Rattle.journal_chain.specs.Chain.{View, IsChain, Holds}
+use Rattle.journal_chain.specs.Chain.{BlockView, IsChain, Holds}
 use Rattle.time_read.specs.Rows.{chain_of, entries_of, inode_before, first_of, inode_of, IsRow}
 use Rattle.row_changes.specs.Recent.{IsBy}
 use Rattle.row_changes.specs.Moved.{OnlyCheckpointChanged, is_at}
@@ -20,7 +20,7 @@ use Rattle.row_changes.proofs.Recently.{same_entries}
 
 -- ---- the older checkpoint
 
-spelled_there : (block : Option (List ℕ)) → IsSome (spelled block) → IsSome block
+spelled_there : (block : Option (List ℕ)) → IsSome (spelled_checkpoint block) → IsSome block
 spelled_there None h = h
 spelled_there (Some block) h = refl
 
@@ -55,7 +55,7 @@ pub record Written (held later : Place → Option Stored) (o : ℕ) (row : Row) 
 
 -- what is read at a place rests on what is held there
 told_still : (between later : Place → Option Stored) (o : ℕ) (p : Place) (c : CheckpointFields) → later p ≡ between p → checkpoint_held between o p ≡ Some c → checkpoint_held later o p ≡ Some c
-told_still between later o p c same told = ap (λ (there : Option Stored). spelled (seen_as Checkpoint o there)) same ∙ told
+told_still between later o p c same told = ap (λ (there : Option Stored). spelled_checkpoint (seen_as Checkpoint o there)) same ∙ told
 
 -- the checkpoint was put, and then the older one was dropped
 pub written : (log between after : Log) (o : ℕ) (row : Row) (p : Place) (i : Inode) (m : ℕ) →
@@ -75,7 +75,7 @@ written log between after o row p i m one r latest present put told gone kept on
 
 all_by : (t : ℕ) (entries : List EntryFields) → AllBy t entries → entries_by t entries ≡ entries
 all_by t [] h = refl
-all_by t (e ∷ entries) h = cond-true (is_by t e) (e ∷ entries_by t entries) (entries_by t entries) h.0 ∙ ap (λ es. e ∷ es) (all_by t entries h.1)
+all_by t (e ∷ entries) h = cond-true (entry_is_by t e) (e ∷ entries_by t entries) (entries_by t entries) h.0 ∙ ap (λ es. e ∷ es) (all_by t entries h.1)
 
 -- from the last inode of a run, all entries undone lead to the first
 undone : (laws : Laws) (first last i : Inode) (entries : List EntryFields) (m : ℕ) → Run first entries last → AllBy m entries → i ≡ inode_after first entries m → undone_all (entries_by m entries) i ≡ first
@@ -114,7 +114,7 @@ written_row held later o row p i m laws w =
     let entries : entries_of later o next ≡ entries_of held o row = same_entries held later o row w.journal in
     let first : first_of later o next ≡ first_of held o row = first_stays held later o row p i m laws w in
     let run : Run (first_of later o next) (entries_of held o row) w.stands.last = subst (λ (k : Inode). Run k (entries_of held o row) w.stands.last) (sym first) w.stands.run in
-    let chain : Holds later (chain_of o next) (entries_of held o row) = subst (λ (v : View). IsChain v (chain_of o row) (entries_of held o row)) (sym w.journal) w.stands.chain in
+    let chain : Holds later (chain_of o next) (entries_of held o row) = subst (λ (v : BlockView). IsChain v (chain_of o row) (entries_of held o row)) (sym w.journal) w.stands.chain in
     record {
       object = w.stands.object;
       chain = subst (λ (es : List EntryFields). Holds later (chain_of o next) es) (sym entries) chain;

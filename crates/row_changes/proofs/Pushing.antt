@@ -10,11 +10,11 @@ use Rattle.codec.specs.Fields.{◌>>=◌}
 use Rattle.codec.specs.declared.inodes.Inode.{Inode}
 use Rattle.codec.specs.Entry.{EntryFields}
 use Rattle.codec.specs.Checkpoint.{CheckpointFields}
-use Rattle.undo_redo.specs.Runs.{Run, AllAt, AllBy, AllPast, is_by, entries_by, inode_after, redone_all, undone_all}
+use Rattle.undo_redo.specs.Runs.{Run, AllAt, AllBy, AllPast, entry_is_by, entries_by, inode_after, redone_all, undone_all}
 use Rattle.undo_redo.specs.Groups.{grouped}
-use Rattle.checkpoint.specs.Held.{checkpoint_held, spelled}
+use Rattle.checkpoint.specs.Held.{checkpoint_held, spelled_checkpoint}
 use Rattle.object_map.specs.declared.map.Row.{Row}
-use Rattle.journal_chain.specs.Chain.{View, ChainFields, Holds, entries_held}
+use Rattle.journal_chain.specs.Chain.{BlockView, ChainFields, Holds, entries_held}
 use Rattle.time_read.specs.Rows.{chain_of, entries_of, checkpoint_of, inode_before, first_of, inode_of, IsRow}
 use Rattle.row_changes.specs.Recent.{IsBy}
 use Rattle.row_changes.proofs.Recently.{all_by_later}
@@ -27,7 +27,7 @@ past_none t (e ∷ entries) h = cond-false (nat_le e.moment t) (e ∷ entries_by
 
 -- later entries are none of those up to a moment
 front_by : (t : ℕ) (front back : List EntryFields) → AllPast t back → entries_by t (front ++ back) ≡ entries_by t front
-front_by t front back past = filter-append (is_by t) front back ∙ ap (λ es. entries_by t front ++ es) (past_none t back past) ∙ append-nil (entries_by t front)
+front_by t front back past = filter-append (entry_is_by t) front back ∙ ap (λ es. entries_by t front ++ es) (past_none t back past) ∙ append-nil (entries_by t front)
 
 at_past : (m t : ℕ) (entries : List EntryFields) → t < m → AllAt m entries → AllPast t entries
 at_past m t [] lt h = tt
@@ -96,7 +96,7 @@ pub record Pushed (held later : Place → Option Stored) (o : ℕ) (row next : R
   pub checkpoints : of_kind Checkpoint o later ≡ of_kind Checkpoint o held
 
 same_checkpoint : (held later : Place → Option Stored) (o : ℕ) (place : Option Place) → of_kind Checkpoint o later ≡ of_kind Checkpoint o held → (place >>= checkpoint_held later o) ≡ (place >>= checkpoint_held held o)
-same_checkpoint held later o place same = ap (λ (v : View). place >>= λ p. spelled (v p)) same
+same_checkpoint held later o place same = ap (λ (v : BlockView). place >>= λ p. spelled_checkpoint (v p)) same
 
 before_stays : (created t : ℕ) (front back : List EntryFields) (c : Option CheckpointFields) → AllPast t back → inode_before created t (front ++ back) c ≡ inode_before created t front c
 unfolding inode_before
@@ -181,7 +181,7 @@ pushed_row held later o row h b f i j m new laws p =
       last = j;
       run = subst (λ (es : List EntryFields). Run (first_of later o next) es j) (sym p.chain.entries) run;
       groups = ap grouped p.chain.entries ∙ laws.groups (m - 1) old new p.stands.groups p.group p.earlier.entries (at_past m (m - 1) new before p.moments);
-      checkpoint = carried (row.checkpoint_moment ≡ 0) row.checkpoint (checkpoint_held held o) (checkpoint_held later o) (record { object = o; moment = row.checkpoint_moment; inode = inode_of held o row row.checkpoint_moment }) (record { object = o; moment = row.checkpoint_moment; inode = inode_of later o next row.checkpoint_moment }) (λ q. ap (λ (v : View). spelled (v q)) p.checkpoints) (ap (λ (k : Inode). record { object = o; moment = row.checkpoint_moment; inode = k }) inode) p.stands.checkpoint;
-      only = λ q there. p.stands.only q (subst (λ (v : View). IsSome (v q)) p.checkpoints there);
+      checkpoint = carried (row.checkpoint_moment ≡ 0) row.checkpoint (checkpoint_held held o) (checkpoint_held later o) (record { object = o; moment = row.checkpoint_moment; inode = inode_of held o row row.checkpoint_moment }) (record { object = o; moment = row.checkpoint_moment; inode = inode_of later o next row.checkpoint_moment }) (λ q. ap (λ (v : BlockView). spelled_checkpoint (v q)) p.checkpoints) (ap (λ (k : Inode). record { object = o; moment = row.checkpoint_moment; inode = k }) inode) p.stands.checkpoint;
+      only = λ q there. p.stands.only q (subst (λ (v : BlockView). IsSome (v q)) p.checkpoints there);
       created = ap (λ (k : Inode). k.created) first ∙ p.stands.created;
     }

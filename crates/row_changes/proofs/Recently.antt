@@ -6,10 +6,10 @@ use Rattle.block_log.specs.Log.{Stored, of_kind}
 use Rattle.block_log.specs.declared.kinds.BlockKind.TheVariants.{Journal}
 use Rattle.codec.specs.declared.inodes.Inode.{Inode}
 use Rattle.codec.specs.Entry.{EntryFields}
-use Rattle.undo_redo.specs.Runs.{AllBy, Run, ascend_from, entries_by, inode_after}
+use Rattle.undo_redo.specs.Runs.{AllBy, Run, moments_ascend_from, entries_by, inode_after}
 use Rattle.undo_redo.specs.Groups.{grouped}
 use Rattle.object_map.specs.declared.map.Row.{Row}
-use Rattle.journal_chain.specs.Chain.{View, chain_entries, entries_in}
+use Rattle.journal_chain.specs.Chain.{BlockView, chain_entries, entries_in}
 use Rattle.time_read.specs.Rows.{entries_of, first_of, inode_of, IsRow}
 use Rattle.row_changes.specs.Recent.{IsBy}
 
@@ -25,7 +25,7 @@ by_later held o row a b le h = record {
 
 pub same_entries : (held later : Place → Option Stored) (o : ℕ) (row : Row) → of_kind Journal o later ≡ of_kind Journal o held → entries_of later o row ≡ entries_of held o row
 unfolding chain_entries
-same_entries held later o row same = ap (λ (v : View). unwrap_or (entries_in v o row.head) []) same
+same_entries held later o row same = ap (λ (v : BlockView). unwrap_or (entries_in v o row.head) []) same
 
 pub same_by : (held later : Place → Option Stored) (o : ℕ) (row : Row) (t : ℕ) → of_kind Journal o later ≡ of_kind Journal o held → IsBy held o row t → IsBy later o row t
 same_by held later o row t same h = record {
@@ -43,8 +43,8 @@ last_stays since held o row a t by le = since (first_of held o row) (entries_of 
 
 pub kept_making :
     ((i j : Inode) (entries : List EntryFields) → Run i entries j → i.created ≡ j.created) →
-    ((entries : List EntryFields) → grouped entries ≡ true → ascend_from 0 entries ≡ true) →
-    ((i k : Inode) (entries : List EntryFields) (low t : ℕ) → ascend_from low entries ≡ true → Run i entries k → Run i (entries_by t entries) (inode_after i entries t)) →
+    ((entries : List EntryFields) → grouped entries ≡ true → moments_ascend_from 0 entries ≡ true) →
+    ((i k : Inode) (entries : List EntryFields) (low t : ℕ) → moments_ascend_from low entries ≡ true → Run i entries k → Run i (entries_by t entries) (inode_after i entries t)) →
     (held : Place → Option Stored) (o : ℕ) (row : Row) (t : ℕ) → IsRow held o row → (inode_of held o row t).created ≡ row.created
 unfolding inode_of
 kept_making making ascend front held o row t r =

@@ -1,8 +1,8 @@
-ghost use Rattle.std.specs.Prelude.{◌≡◌, ℕ, ◌-◌, nat_le, if◌then◌else◌, drop, Some, None, IfOk, OnErr, MatchResult};
+ghost use Rattle.std.specs.Prelude.{◌≡◌, ℕ, ◌-◌, ◌++◌, nat_le, if◌then◌else◌, drop, Some, None, IfOk, OnErr, MatchResult};
 ghost use Rattle.undo_redo.specs.Between.{CanLead, entries_between};
 ghost use Rattle.journal_chain.specs.Chain.{OnlyJournalChanged};
 ghost use Rattle.journal_chain.specs.Push.{push_refusal, pushed_blocks};
-ghost use Rattle.time_read.specs.Rows.{IsRow, chain_of, inode_of};
+ghost use Rattle.time_read.specs.Rows.{IsRow, chain_of, entries_of, inode_of};
 ghost use Rattle.row_changes.specs.Recent.{IsBy};
 
 use block_log::Blocks;
@@ -38,6 +38,7 @@ pub fn record_change<B: Blocks>(
     ensures row { IfOk result (λ later. IsRow (B.log table.new).held object later) }
     ensures latest { IfOk result (λ later. IsBy (B.log table.new).held object later moment) }
     ensures inode { IfOk result (λ later. (t : ℕ) → inode_of (B.log table.new).held object later t ≡ (if nat_le moment t then after.now else inode_of (B.log table.old).held object row.now t)) }
+    ensures entries { IfOk result (λ later. entries_of (B.log table.new).held object later ≡ entries_of (B.log table.old).held object row.now ++ entries_between before.now after.now moment) }
     ensures fields { IfOk result (λ later. later ≡ record row.now { head = later.head; journal_bytes = later.journal_bytes; head_bytes = later.head_bytes }) }
     ensures others { OnlyJournalChanged object (B.log table.old).held (B.log table.new).held }
     ensures ahead { IfOk result (λ _. (B.log table.new).ahead ≡ drop (pushed_blocks (chain_of object row.now) (entries_between before.now after.now moment)) (B.log table.old).ahead) }

@@ -5,8 +5,8 @@ use Rattle.std.specs.Int.{Width, w32, w64, byte_len, from_be_bytes, to_be_bytes}
 use Rattle.std.proofs.lemmas.Bool.{cases_lt, ltb-false, le-ltb}
 use Rattle.std.proofs.lemmas.List.{take_at, drop_at, take-append-drop, length-append, length-take, get_or-drop, get_or-take, get_or_past, append-nil}
 use Rattle.std.proofs.lemmas.Nat.{be_bytes_4, be_bytes_8, from_be_bytes-to_be_bytes_4, from_be_bytes-to_be_bytes_8}
-use Rattle.rpc.specs.Spelling.{long, word, text, at}
-use Rattle.rpc.specs.private.Reading.{◌>>=◌, number_at, text_at, moment_at, tail_at, ended_at}
+use Rattle.rpc.specs.Spelling.{long, word, wire_text, at}
+use Rattle.rpc.specs.private.Reading.{◌>>=◌, wire_number_at, wire_text_at, wire_moment_at, tail_at, ended_at}
 
 abbrev pub IsBytes : List ℕ → Type 0
 IsBytes bytes = (i : ℕ) → get_or bytes i 0 < 256
@@ -71,7 +71,7 @@ wide_long = record {
   below = λ bytes h. omega (arith, h 0, h 1, h 2, h 3, h 4, h 5, h 6, h 7);
 }
 
-number_takes : (w : Width) (limit : ℕ) → IsWide w limit → (bytes : List ℕ) (x : ℕ × List ℕ) → IsBytes bytes → number_at w bytes ≡ Some x → Took (to_be_bytes w) (λ n. n < limit) bytes x
+number_takes : (w : Width) (limit : ℕ) → IsWide w limit → (bytes : List ℕ) (x : ℕ × List ℕ) → IsBytes bytes → wire_number_at w bytes ≡ Some x → Took (to_be_bytes w) (λ n. n < limit) bytes x
 number_takes w limit wide bytes x h e =
     let p = passed (ltb (length bytes) (byte_len w)) (from_be_bytes w (take (byte_len w) bytes), drop (byte_len w) bytes) x e in
     let enough : byte_len w ≤ length bytes = ltb-false _ _ p.0 in
@@ -80,20 +80,20 @@ number_takes w limit wide bytes x h e =
     rw (wide.back (take (byte_len w) bytes) (omega (arith, length-take (byte_len w) bytes)) front) (sym (take-append-drop (byte_len w) bytes)) in
     subst (Took (to_be_bytes w) (λ n. n < limit) bytes) p.1 (record { whole = whole; rest = bytes_after (byte_len w) bytes h; fits = wide.below (take (byte_len w) bytes) front })
 
-number_again : (w : Width) (limit : ℕ) → IsWide w limit → (n : ℕ) (rest : List ℕ) → n < limit → number_at w (to_be_bytes w n ++ rest) ≡ Some (n, rest)
+number_again : (w : Width) (limit : ℕ) → IsWide w limit → (n : ℕ) (rest : List ℕ) → n < limit → wire_number_at w (to_be_bytes w n ++ rest) ≡ Some (n, rest)
 number_again w limit wide n rest lt =
     let len = wide.len n in
     let enough : ltb (length (to_be_bytes w n ++ rest)) (byte_len w) ≡ false = le-ltb _ _ (omega (arith, length-append (to_be_bytes w n) rest)) in
     rw (enough, take_at (to_be_bytes w n) rest (byte_len w) len, drop_at (to_be_bytes w n) rest (byte_len w) len, wide.same n lt) refl
 
-pub word_field : IsField (number_at w32) word (λ n. n < 2 ^ 32)
+pub word_field : IsField (wire_number_at w32) word (λ n. n < 2 ^ 32)
 word_field = record { takes = number_takes w32 (2 ^ 32) wide_word; again = number_again w32 (2 ^ 32) wide_word }
 
-pub long_field : IsField (number_at w64) long (λ n. n < 2 ^ 64)
+pub long_field : IsField (wire_number_at w64) long (λ n. n < 2 ^ 64)
 long_field = record { takes = number_takes w64 (2 ^ 64) wide_long; again = number_again w64 (2 ^ 64) wide_long }
 
-text_takes : (limit : ℕ) (bytes : List ℕ) (x : List ℕ × List ℕ) → IsBytes bytes → text_at limit bytes ≡ Some x → Took text (λ b. length b ≤ limit) bytes x
-unfolding text_at
+text_takes : (limit : ℕ) (bytes : List ℕ) (x : List ℕ × List ℕ) → IsBytes bytes → wire_text_at limit bytes ≡ Some x → Took wire_text (λ b. length b ≤ limit) bytes x
+unfolding wire_text_at
 text_takes limit [] x h e = absurd cc
 text_takes limit (len ∷ bytes) x h e =
     let p = passed_on (ltb limit len) (cond (ltb (length bytes) len) None (Some (take len bytes, drop len bytes))) x e in
@@ -101,38 +101,38 @@ text_takes limit (len ∷ bytes) x h e =
     let low : len ≤ limit = ltb-false _ _ p.0 in
     let enough : len ≤ length bytes = ltb-false _ _ q.0 in
     let told : length (take len bytes) ≡ len = omega (arith, length-take len bytes) in
-    let whole : len ∷ bytes ≡ text (take len bytes) ++ drop len bytes = rw (told, take-append-drop len bytes) refl in
-    subst (Took text (λ b. length b ≤ limit) (len ∷ bytes)) q.1 (record { whole = whole; rest = bytes_after len bytes (bytes_behind len bytes h); fits = omega arith })
+    let whole : len ∷ bytes ≡ wire_text (take len bytes) ++ drop len bytes = rw (told, take-append-drop len bytes) refl in
+    subst (Took wire_text (λ b. length b ≤ limit) (len ∷ bytes)) q.1 (record { whole = whole; rest = bytes_after len bytes (bytes_behind len bytes h); fits = omega arith })
 
-text_again : (limit : ℕ) (b rest : List ℕ) → length b ≤ limit → text_at limit (text b ++ rest) ≡ Some (b, rest)
-unfolding text_at
+text_again : (limit : ℕ) (b rest : List ℕ) → length b ≤ limit → wire_text_at limit (wire_text b ++ rest) ≡ Some (b, rest)
+unfolding wire_text_at
 text_again limit b rest le =
     let low : ltb limit (length b) ≡ false = le-ltb _ _ le in
     let enough : ltb (length (b ++ rest)) (length b) ≡ false = le-ltb _ _ (omega (arith, length-append b rest)) in
     rw (low, enough, take_at b rest (length b) refl, drop_at b rest (length b) refl) refl
 
-pub text_field : (limit : ℕ) → IsField (text_at limit) text (λ b. length b ≤ limit)
+pub text_field : (limit : ℕ) → IsField (wire_text_at limit) wire_text (λ b. length b ≤ limit)
 text_field limit = record { takes = text_takes limit; again = text_again limit }
 
-moment_takes : (bytes : List ℕ) (x : Option ℕ × List ℕ) → IsBytes bytes → moment_at bytes ≡ Some x → Took at (λ m. IfSome m (λ t. t < 2 ^ 64)) bytes x
-unfolding moment_at
+moment_takes : (bytes : List ℕ) (x : Option ℕ × List ℕ) → IsBytes bytes → wire_moment_at bytes ≡ Some x → Took at (λ m. IfSome m (λ t. t < 2 ^ 64)) bytes x
+unfolding wire_moment_at
 moment_takes [] x h e = absurd cc
 moment_takes (zero ∷ bytes) x h e =
     let same : (None, bytes) ≡ x = cc in
     subst (Took at (λ m. IfSome m (λ t. t < 2 ^ 64)) (0 ∷ bytes)) same (record { whole = refl; rest = bytes_behind 0 bytes h; fits = tt })
 moment_takes (suc zero ∷ bytes) x h e =
-    let b = bind_some (number_at w64 bytes) (λ n. Some (Some n.0, n.1)) x e in
+    let b = bind_some (wire_number_at w64 bytes) (λ n. Some (Some n.0, n.1)) x e in
     let t = long_field.takes bytes b.0 (bytes_behind 1 bytes h) b.1 in
     let same : (Some b.0.0, b.0.1) ≡ x = cc in
     subst (Took at (λ m. IfSome m (λ t. t < 2 ^ 64)) (1 ∷ bytes)) same (record { whole = ap (λ (front : List ℕ). 1 ∷ front) t.whole; rest = t.rest; fits = t.fits })
 moment_takes (suc (suc b) ∷ bytes) x h e = absurd cc
 
-moment_again : (m : Option ℕ) (rest : List ℕ) → IfSome m (λ t. t < 2 ^ 64) → moment_at (at m ++ rest) ≡ Some (m, rest)
-unfolding moment_at
+moment_again : (m : Option ℕ) (rest : List ℕ) → IfSome m (λ t. t < 2 ^ 64) → wire_moment_at (at m ++ rest) ≡ Some (m, rest)
+unfolding wire_moment_at
 moment_again None rest h = refl
 moment_again (Some n) rest h = rw (long_field.again n rest h) refl
 
-pub moment_field : IsField moment_at at (λ m. IfSome m (λ t. t < 2 ^ 64))
+pub moment_field : IsField wire_moment_at at (λ m. IfSome m (λ t. t < 2 ^ 64))
 moment_field = record { takes = moment_takes; again = moment_again }
 
 -- ---- fields one behind the other, to the end

@@ -5,7 +5,7 @@ use Rattle.std.proofs.lemmas.List.{append-nil, length-append, nil_from_length}
 use Rattle.s4_types.specs.declared.limits.TheConstants.{FRAME_BODY_BYTES}
 use Rattle.rpc.specs.declared.items.Item.{Item}
 use Rattle.rpc.specs.declared.items.Item.TheVariants.{BadFrame}
-use Rattle.rpc.specs.Stream.{frame, length_told, IsPartial, IsOversized, BeginsWith, IsItem, Adds}
+use Rattle.rpc.specs.Stream.{frame, length_told, IsPartial, IsOversized, BeginsWithFrame, IsItem, AddsItems}
 use Rattle.rpc.specs.private.Filling.{wanted, IsFilled, IsToppedUp}
 use Rattle.rpc.proofs.StreamLaws.{told_on, frame_told, frame_length, frame_on, oversized_on, Leads-start, Leads-frame, Leads-oversized, Leads-adds}
 
@@ -110,7 +110,7 @@ topped_up_whole old new piece left t =
     ap (λ (x : List ℕ). old ++ x) t.parts ∙ sym (append_assoc old t.taken left) ∙ ap (λ (x : List ℕ). x ++ left) (sym t.grown)
 
 -- nothing stands behind the frame
-nothing_behind : (old new piece left body rest : List ℕ) → IsToppedUp old new piece left → BeginsWith new body rest → rest ≡ []
+nothing_behind : (old new piece left body rest : List ℕ) → IsToppedUp old new piece left → BeginsWithFrame new body rest → rest ≡ []
 nothing_behind old new piece left body rest t begins =
     let told = frame_told new body rest begins in
     let len = frame_length new body rest begins in
@@ -119,27 +119,27 @@ nothing_behind old new piece left body rest t begins =
 
 -- The frame of the held bytes is read first, and then what is left of the piece. Whoever looked at the held
 -- bytes saw `seen`, and `pushed` were the items after the first.
-pub frame_and_left : {T : Type 0} (spells : List ℕ → T → Type 0) (old new seen piece left body rest : List ℕ) (before pushed after : List (Item T)) (item : Item T) (end : Option (List ℕ)) → IsToppedUp old new piece left → seen ≡ new → BeginsWith seen body rest → IsItem spells body item → pushed ≡ before ++ item ∷ [] → Adds spells left pushed after end → Adds spells (old ++ piece) before after end
+pub frame_and_left : {T : Type 0} (spells : List ℕ → T → Type 0) (old new seen piece left body rest : List ℕ) (before pushed after : List (Item T)) (item : Item T) (end : Option (List ℕ)) → IsToppedUp old new piece left → seen ≡ new → BeginsWithFrame seen body rest → IsItem spells body item → pushed ≡ before ++ item ∷ [] → AddsItems spells left pushed after end → AddsItems spells (old ++ piece) before after end
 frame_and_left {T} spells old new seen piece left body rest before pushed after item end t saw at_front is grew adds =
-    let begins = subst (λ (x : List ℕ). BeginsWith x body rest) saw at_front in
+    let begins = subst (λ (x : List ℕ). BeginsWithFrame x body rest) saw at_front in
     let none = nothing_behind old new piece left body rest t begins in
-    let begins_left : BeginsWith (old ++ piece) body left = record {
+    let begins_left : BeginsWithFrame (old ++ piece) body left = record {
       whole = topped_up_whole old new piece left t ∙ (frame_on new body rest left begins).whole ∙ ap (λ (x : List ℕ). frame body ++ (x ++ left)) none;
       size = begins.size;
     } in
     let first = Leads-frame spells (old ++ piece) before before (old ++ piece) body left item (Leads-start spells (old ++ piece) before) begins_left is in
-    Leads-adds spells (old ++ piece) before (before ++ item ∷ []) after left end first (subst (λ (x : List (Item T)). Adds spells left x after end) grew adds)
+    Leads-adds spells (old ++ piece) before (before ++ item ∷ []) after left end first (subst (λ (x : List (Item T)). AddsItems spells left x after end) grew adds)
 
 -- an oversized length among the topped up bytes is the last of the held bytes and the piece
-pub oversized_held : {T : Type 0} (spells : List ℕ → T → Type 0) (old new seen piece left : List ℕ) (before pushed : List (Item T)) → IsToppedUp old new piece left → seen ≡ new → IsOversized seen → pushed ≡ before ++ BadFrame ∷ [] → Adds spells (old ++ piece) before pushed None
+pub oversized_held : {T : Type 0} (spells : List ℕ → T → Type 0) (old new seen piece left : List ℕ) (before pushed : List (Item T)) → IsToppedUp old new piece left → seen ≡ new → IsOversized seen → pushed ≡ before ++ BadFrame ∷ [] → AddsItems spells (old ++ piece) before pushed None
 oversized_held {T} spells old new seen piece left before pushed t saw over grew =
     let joined : old ++ piece ≡ seen ++ left = topped_up_whole old new piece left t ∙ ap (λ (x : List ℕ). x ++ left) (sym saw) in
     let whole = subst IsOversized (sym joined) (oversized_on seen left over) in
-    subst (λ (x : List (Item T)). Adds spells (old ++ piece) before x None) (sym grew)
+    subst (λ (x : List (Item T)). AddsItems spells (old ++ piece) before x None) (sym grew)
     (Leads-oversized spells (old ++ piece) before before (old ++ piece) (Leads-start spells (old ++ piece) before) whole)
 
 -- topped up bytes that are less than a frame are all that there is, and add nothing
-pub partial_held : {T : Type 0} (spells : List ℕ → T → Type 0) (old new seen piece left : List ℕ) (before after : List (Item T)) → IsToppedUp old new piece left → seen ≡ new → IsPartial seen → after ≡ before → Adds spells (old ++ piece) before after (Some new)
+pub partial_held : {T : Type 0} (spells : List ℕ → T → Type 0) (old new seen piece left : List ℕ) (before after : List (Item T)) → IsToppedUp old new piece left → seen ≡ new → IsPartial seen → after ≡ before → AddsItems spells (old ++ piece) before after (Some new)
 partial_held spells old new seen piece left before after t saw at_front same =
     let partial = subst IsPartial saw at_front in
     let none : left ≡ [] = t.ended partial in

@@ -6,8 +6,8 @@ use Rattle.s4_types.specs.declared.limits.TheConstants.{READ_BYTES, ATTRIBUTE_BY
 use Rattle.s4_types.specs.declared.refusals.Refusal.{Refusal as Reason}
 use Rattle.s4_types.specs.declared.replies.Reply.{Reply}
 use Rattle.s4_types.specs.declared.replies.Reply.TheVariants.{Refused, Changed, Created, Data, Attr}
-use Rattle.rpc.specs.Spelling.{long, word, text, SpellsReply}
-use Rattle.rpc.specs.private.Reading.{◌>>=◌, ended_at, refusal_of, refused_at, changed_at, created_at, data_at, attr_at, reply_at}
+use Rattle.rpc.specs.Spelling.{long, word, wire_text, SpellsReply}
+use Rattle.rpc.specs.private.Reading.{◌>>=◌, ended_at, refusal_of_code, refused_at, changed_at, created_at, data_at, attr_at, wire_reply_at}
 use Rattle.rpc.proofs.Refusals.{refusal_found, refusal_again}
 use Rattle.rpc.proofs.Exact.{IsBytes, bytes_behind, bind_some, ended_nil, ended_end, Exact, Then, Last, then_exact, last_exact, tail_exact, word_field, long_field, text_field}
 use Rattle.rpc.proofs.RequestLaws.{kind_or_other, IsLong, IsWord}
@@ -26,7 +26,7 @@ data_exact : Exact data_at (Last (λ b. b) (λ b. length b ≤ READ_BYTES) Data)
 unfolding data_at
 data_exact = tail_exact READ_BYTES Data
 
-attr_exact : Exact attr_at (Then word IsWord (λ size. Then long IsLong (λ created. Then long IsLong (λ changed. Last text (λ b. length b ≤ ATTRIBUTE_BYTES) (Attr size created changed)))))
+attr_exact : Exact attr_at (Then word IsWord (λ size. Then long IsLong (λ created. Then long IsLong (λ changed. Last wire_text (λ b. length b ≤ ATTRIBUTE_BYTES) (Attr size created changed)))))
 unfolding attr_at
 attr_exact = then_exact word_field (λ size. then_exact long_field (λ created. then_exact long_field (λ changed. last_exact (text_field ATTRIBUTE_BYTES) (Attr size created changed))))
 
@@ -36,8 +36,8 @@ refused_found : (rest : List ℕ) (r : Reply) → refused_at rest ≡ Some r →
 unfolding refused_at
 refused_found [] r e = absurd cc
 refused_found (number ∷ rest) r e =
-    let b = bind_some (ended_at rest) (λ _. refusal_of number >>= λ refusal. Some (Refused refusal)) r e in
-    let c = bind_some (refusal_of number) (λ refusal. Some (Refused refusal)) r b.2 in
+    let b = bind_some (ended_at rest) (λ _. refusal_of_code number >>= λ refusal. Some (Refused refusal)) r e in
+    let c = bind_some (refusal_of_code number) (λ refusal. Some (Refused refusal)) r b.2 in
     let nothing : rest ≡ [] = ended_nil rest b.0 b.1 in
     let is : r ≡ Refused c.0 = cc in
     let named = refusal_found number c.0 c.1 in
@@ -60,8 +60,8 @@ module _ (rest : List ℕ) (r : Reply) (h : IsBytes rest) where
       let last = s.after.after.after in
       rw last.is ((last.fits, (s.fits, s.after.fits, s.after.after.fits)), cc)
 
-reply_found : (bytes : List ℕ) (r : Reply) → IsBytes bytes → reply_at bytes ≡ Some r → SpellsReply bytes r
-unfolding reply_at
+reply_found : (bytes : List ℕ) (r : Reply) → IsBytes bytes → wire_reply_at bytes ≡ Some r → SpellsReply bytes r
+unfolding wire_reply_at
 reply_found [] r h e = absurd cc
 reply_found (kind ∷ rest) r h e =
     let behind = bytes_behind kind rest h in
@@ -75,8 +75,8 @@ refused_again : (refusal : Reason) → number_of refusal ≢ 16 → refused_at (
 unfolding refused_at
 refused_again refusal named = rw (ended_end, refusal_again (number_of refusal) refusal (refl, named)) refl
 
-reply_again : (bytes : List ℕ) (r : Reply) → SpellsReply bytes r → reply_at bytes ≡ Some r
-unfolding reply_at
+reply_again : (bytes : List ℕ) (r : Reply) → SpellsReply bytes r → wire_reply_at bytes ≡ Some r
+unfolding wire_reply_at
 reply_again bytes (Refused refusal) s = rw s.1 (refused_again refusal s.0.0)
 reply_again bytes (Changed moment) s = rw s.1 (changed_exact.again _ _ (record { value = moment; fits = s.0.1; whole = refl; is = refl }))
 reply_again bytes (Created object moment) s = rw s.1 (created_exact.again _ _ (record {
@@ -89,17 +89,17 @@ reply_again bytes (Created object moment) s = rw s.1 (created_exact.again _ _ (r
 reply_again bytes (Data found) s = rw s.1 (data_exact.again _ _ (record { value = found; fits = s.0.0; whole = refl; is = refl }))
 reply_again bytes (Attr size created changed attribute) s = rw s.1 (attr_exact.again _ _ (record {
   value = size;
-  rest = long created ++ (long changed ++ text attribute);
+  rest = long created ++ (long changed ++ wire_text attribute);
   fits = s.0.1.0;
   whole = refl;
   after = record {
     value = created;
-    rest = long changed ++ text attribute;
+    rest = long changed ++ wire_text attribute;
     fits = s.0.1.1;
     whole = refl;
     after = record {
       value = changed;
-      rest = text attribute;
+      rest = wire_text attribute;
       fits = s.0.1.2;
       whole = refl;
       after = record { value = attribute; fits = s.0.0; whole = refl; is = refl };
@@ -107,5 +107,5 @@ reply_again bytes (Attr size created changed attribute) s = rw s.1 (attr_exact.a
   };
 }))
 
-pub reply_exact : Exact reply_at SpellsReply
+pub reply_exact : Exact wire_reply_at SpellsReply
 reply_exact = record { found = reply_found; again = reply_again }

@@ -5,7 +5,7 @@ use Rattle.std.proofs.lemmas.Bool.{eqb-true}
 use Rattle.s4_types.specs.declared.limits.TheConstants.{FRAME_BODY_BYTES}
 use Rattle.s4_types.specs.declared.requests.Request.{Request}
 use Rattle.s4_types.specs.declared.requests.Request.TheVariants.{Create, Delete, Read, Write, Append, Truncate, GetAttr, SetAttr, SetWindow, Flush, FlushO}
-use Rattle.rpc.specs.Spelling.{long, word, text, at, SpellsRequest}
+use Rattle.rpc.specs.Spelling.{long, word, wire_text, at, SpellsRequest}
 use Rattle.rpc.specs.private.Reading.{create_at, delete_at, read_at, write_at, append_at, truncate_at, get_attr_at, set_attr_at, set_window_at, flush_at, flush_object_at, request_at}
 use Rattle.rpc.proofs.Exact.{IsBytes, bytes_behind, Exact, Then, Last, then_exact, last_exact, tail_exact, word_field, long_field, text_field, moment_field}
 
@@ -23,7 +23,7 @@ IsShort bytes = length bytes ≤ 255
 
 -- ---- each kind, field by field
 
-create_exact : Exact create_at (Last text IsShort Create)
+create_exact : Exact create_at (Last wire_text IsShort Create)
 unfolding create_at
 create_exact = last_exact (text_field 255) Create
 
@@ -51,7 +51,7 @@ get_attr_exact : Exact get_attr_at (Then long IsLong (λ object. Last at IsAt (G
 unfolding get_attr_at
 get_attr_exact = then_exact long_field (λ object. last_exact moment_field (GetAttr object))
 
-set_attr_exact : Exact set_attr_at (Then long IsLong (λ object. Last text IsShort (SetAttr object)))
+set_attr_exact : Exact set_attr_at (Then long IsLong (λ object. Last wire_text IsShort (SetAttr object)))
 unfolding set_attr_at
 set_attr_exact = then_exact long_field (λ object. last_exact (text_field 255) (SetAttr object))
 
@@ -193,7 +193,7 @@ request_again bytes (GetAttr object moment) s = rw s.1 (get_attr_exact.again _ _
 }))
 request_again bytes (SetAttr object attribute) s = rw s.1 (set_attr_exact.again _ _ (record {
   value = object;
-  rest = text attribute;
+  rest = wire_text attribute;
   fits = s.0.1;
   whole = refl;
   after = record { value = attribute; fits = omega (arith, s.0.0); whole = refl; is = refl };

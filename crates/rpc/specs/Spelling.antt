@@ -18,8 +18,8 @@ abbrev pub word : ℕ → List ℕ
 word n = to_be_bytes w32 n
 
 -- one byte of length, and that many bytes
-abbrev pub text : List ℕ → List ℕ
-text bytes = length bytes ∷ bytes
+abbrev pub wire_text : List ℕ → List ℕ
+wire_text bytes = length bytes ∷ bytes
 
 -- a byte 0 for the present, or a byte 1 and the moment
 abbrev pub at : Option ℕ → List ℕ
@@ -28,14 +28,14 @@ at (Some moment) = 1 ∷ long moment
 
 -- the body of a request
 abbrev pub request_spelling : Request → List ℕ
-request_spelling (Create attribute) = 1 ∷ text attribute
+request_spelling (Create attribute) = 1 ∷ wire_text attribute
 request_spelling (Delete object) = 2 ∷ long object
 request_spelling (Read object offset len moment) = 3 ∷ (long object ++ (long offset ++ (word len ++ at moment)))
 request_spelling (Write object offset bytes) = 4 ∷ (long object ++ (long offset ++ bytes))
 request_spelling (Append object bytes) = 5 ∷ (long object ++ bytes)
 request_spelling (Truncate object size) = 6 ∷ (long object ++ long size)
 request_spelling (GetAttr object moment) = 7 ∷ (long object ++ at moment)
-request_spelling (SetAttr object attribute) = 8 ∷ (long object ++ text attribute)
+request_spelling (SetAttr object attribute) = 8 ∷ (long object ++ wire_text attribute)
 request_spelling (SetWindow window) = 9 ∷ long window
 request_spelling (Flush first last) = 10 ∷ (long first ++ long last)
 request_spelling (FlushO object first last) = 11 ∷ (long object ++ (long first ++ long last))
@@ -46,7 +46,7 @@ reply_spelling (Refused refusal) = 0 ∷ number_of refusal ∷ []
 reply_spelling (Changed moment) = 1 ∷ long moment
 reply_spelling (Created object moment) = 2 ∷ (long object ++ long moment)
 reply_spelling (Data bytes) = 3 ∷ bytes
-reply_spelling (Attr size created changed attribute) = 4 ∷ (word size ++ (long created ++ (long changed ++ text attribute)))
+reply_spelling (Attr size created changed attribute) = 4 ∷ (word size ++ (long created ++ (long changed ++ wire_text attribute)))
 
 -- The request's texts fit their places: an attribute tells its length in one byte, and the bytes of a write
 -- end with the longest body.

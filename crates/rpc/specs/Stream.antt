@@ -23,7 +23,7 @@ pub record IsOversized (bytes : List ℕ) : Type 0 where
   pub above : FRAME_BODY_BYTES < length_told bytes
 
 -- the bytes begin with the frame of this body, and go on with the rest
-pub record BeginsWith (bytes body rest : List ℕ) : Type 0 where
+pub record BeginsWithFrame (bytes body rest : List ℕ) : Type 0 where
   pub whole : bytes ≡ frame body ++ rest
   pub size : length body ≤ FRAME_BODY_BYTES
 
@@ -34,21 +34,21 @@ IsItem {T} spells body BadFrame = (value : T) → spells body value → ⊥
 
 -- The stream is read as these items. At the end are bytes that are less than a whole frame, or none: an
 -- oversized length has come, which is a bad frame and the last item, whatever follows it.
-abbrev pub Reads : {T : Type 0} → (List ℕ → T → Type 0) → List ℕ → List (Item T) → Option (List ℕ) → Type 0
-Reads spells stream [] (Some rest) = (stream ≡ rest) × IsPartial rest
-Reads spells stream [] None = ⊥
-Reads spells stream (item ∷ items) end =
-    ((body : List ℕ) × (rest : List ℕ) × BeginsWith stream body rest × IsItem spells body item × Reads spells rest items end)
+abbrev pub ReadsItems : {T : Type 0} → (List ℕ → T → Type 0) → List ℕ → List (Item T) → Option (List ℕ) → Type 0
+ReadsItems spells stream [] (Some rest) = (stream ≡ rest) × IsPartial rest
+ReadsItems spells stream [] None = ⊥
+ReadsItems spells stream (item ∷ items) end =
+    ((body : List ℕ) × (rest : List ℕ) × BeginsWithFrame stream body rest × IsItem spells body item × ReadsItems spells rest items end)
     ⊎ (IsOversized stream × (item ≡ BadFrame) × (items ≡ []) × (end ≡ None))
 
 -- from so many items on, the bytes were read behind these, and this is left
-abbrev pub Adds : {T : Type 0} → (List ℕ → T → Type 0) → List ℕ → List (Item T) → List (Item T) → Option (List ℕ) → Type 0
-Adds {T} spells bytes old new end = (more : List (Item T)) × (new ≡ old ++ more) × Reads spells bytes more end
+abbrev pub AddsItems : {T : Type 0} → (List ℕ → T → Type 0) → List ℕ → List (Item T) → List (Item T) → Option (List ℕ) → Type 0
+AddsItems {T} spells bytes old new end = (more : List (Item T)) × (new ≡ old ++ more) × ReadsItems spells bytes more end
 
 -- the frame at the front of the bytes was read as one item behind the old ones, and the rest is behind it
 pub record AddsOne {T : Type 0} (spells : List ℕ → T → Type 0) (bytes : List ℕ) (old new : List (Item T)) (rest : List ℕ) : Type 0 where
   pub body : List ℕ
   pub item : Item T
-  pub begins : BeginsWith bytes body rest
+  pub begins : BeginsWithFrame bytes body rest
   pub is : IsItem spells body item
   pub added : new ≡ old ++ item ∷ []

@@ -1,6 +1,6 @@
 ghost use Rattle.std.specs.Prelude.{◌≡◌, ℕ, ◌<◌, List, length};
 ghost use Rattle.std.specs.Int.{w32, w64};
-ghost use Rattle.rpc.specs.private.Reading.{Gives, number_at, text_at, moment_at, tail_at, ended_at};
+ghost use Rattle.rpc.specs.private.Reading.{Gives, wire_number_at, wire_text_at, wire_moment_at, tail_at, ended_at};
 
 use crate::unread::Unread;
 use byteorder::{BigEndian, ByteOrder};
@@ -8,7 +8,7 @@ use s4_types::Bytes;
 use std::alloc::Global;
 
 pub(crate) fn read_word(bytes: &[u8]) -> Result<(u32, &[u8]), Unread>
-    ensures { Gives (λ x. (x.0, x.1.now)) result (number_at w32 bytes.now) }
+    ensures { Gives (λ x. (x.0, x.1.now)) result (wire_number_at w32 bytes.now) }
 {
     if bytes.len() < 4 {
         return Err(Unread::Misspelled);
@@ -18,7 +18,7 @@ pub(crate) fn read_word(bytes: &[u8]) -> Result<(u32, &[u8]), Unread>
 }
 
 pub(crate) fn read_long(bytes: &[u8]) -> Result<(u64, &[u8]), Unread>
-    ensures { Gives (λ x. (x.0, x.1.now)) result (number_at w64 bytes.now) }
+    ensures { Gives (λ x. (x.0, x.1.now)) result (wire_number_at w64 bytes.now) }
 {
     if bytes.len() < 8 {
         return Err(Unread::Misspelled);
@@ -27,9 +27,9 @@ pub(crate) fn read_long(bytes: &[u8]) -> Result<(u64, &[u8]), Unread>
     Ok((BigEndian::read_u64(front), rest))
 }
 
-#[tactic(auto, unfolding(crate::specs::private::Reading::moment_at))]
+#[tactic(auto, unfolding(crate::specs::private::Reading::wire_moment_at))]
 pub(crate) fn read_at(bytes: &[u8]) -> Result<(Option<u64>, &[u8]), Unread>
-    ensures { Gives (λ x. (x.0, x.1.now)) result (moment_at bytes.now) }
+    ensures { Gives (λ x. (x.0, x.1.now)) result (wire_moment_at bytes.now) }
 {
     match bytes {
         [] => Err(Unread::Misspelled),
@@ -43,9 +43,9 @@ pub(crate) fn read_at(bytes: &[u8]) -> Result<(Option<u64>, &[u8]), Unread>
 }
 
 /// A text of at most `limit` bytes behind the byte that tells its length.
-#[tactic(auto, unfolding(crate::specs::private::Reading::text_at))]
+#[tactic(auto, unfolding(crate::specs::private::Reading::wire_text_at))]
 pub(crate) fn read_text(alloc: Global, limit: usize, bytes: &[u8]) -> Result<(Bytes, &[u8]), Unread>
-    ensures { Gives (λ x. (x.0, x.1.now)) result (text_at limit bytes.now) }
+    ensures { Gives (λ x. (x.0, x.1.now)) result (wire_text_at limit bytes.now) }
 {
     let [len, rest @ ..] = bytes else {
         return Err(Unread::Misspelled);

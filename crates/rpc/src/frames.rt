@@ -2,7 +2,7 @@ ghost use Rattle.std.specs.Prelude.{◌≡◌, ◌⊎◌, ℕ, ◌+◌, ◌≤�
 ghost use Rattle.std.specs.Option.{option_map};
 ghost use Rattle.s4_types.specs.declared.limits.TheConstants.{FRAME_BODY_BYTES};
 ghost use Rattle.s4_types.specs.declared.refusals.Refusal.TheVariants.{NoMemory};
-ghost use Rattle.rpc.specs.Stream.{length_told, IsPartial, IsOversized, BeginsWith, IsItem, AddsOne, Adds};
+ghost use Rattle.rpc.specs.Stream.{length_told, IsPartial, IsOversized, BeginsWithFrame, IsItem, AddsOne, AddsItems};
 ghost use Rattle.rpc.specs.declared.items.Item.TheVariants.{BadFrame};
 
 use crate::items::{Item, Message};
@@ -25,7 +25,7 @@ pub(crate) fn told_length(bytes: &[u8]) -> u32
 
 /// The body of the frame that stands at the front and the bytes behind it, or None where it isn't whole yet.
 pub(crate) fn front_of(bytes: &[u8]) -> Result<Option<(&[u8], &[u8])>, TooLong>
-    ensures whole { IfOk result (λ front. IfSome front (λ x. BeginsWith bytes.now x.0.now x.1.now)) }
+    ensures whole { IfOk result (λ front. IfSome front (λ x. BeginsWithFrame bytes.now x.0.now x.1.now)) }
     ensures partial { IfOk result (λ front. IfNone front (IsPartial bytes.now)) }
     ensures oversized { OnErr result (IsOversized bytes.now) }
 {
@@ -87,7 +87,7 @@ pub(crate) fn read_frames<'a, T: Message>(
     items: &mut Vec<Item<T>>,
     bytes: &'a [u8],
 ) -> Result<Option<&'a [u8]>, Refusal>
-    ensures read { IfOk result (λ behind. Adds T.spells bytes.now items.old.items items.new.items (option_map (λ rest. rest.now) behind)) }
+    ensures read { IfOk result (λ behind. AddsItems T.spells bytes.now items.old.items items.new.items (option_map (λ rest. rest.now) behind)) }
     ensures partial { IfOk result (λ behind. IfSome behind (λ rest. IsPartial rest.now)) }
     ensures memory { IfErr result (λ refusal. refusal ≡ NoMemory) }
 {

@@ -3,7 +3,7 @@ ghost use Rattle.std.specs.List.{flat_map};
 ghost use Rattle.std.specs.Result.{IsErrOf};
 ghost use Rattle.s4_types.specs.declared.limits.TheConstants.{FRAME_BODY_BYTES};
 ghost use Rattle.s4_types.specs.declared.refusals.Refusal.TheVariants.{NoMemory, BadFrame};
-ghost use Rattle.rpc.specs.Stream.{IsPartial, Reads, Adds};
+ghost use Rattle.rpc.specs.Stream.{IsPartial, ReadsItems, AddsItems};
 ghost use Rattle.rpc.specs.private.Filling.{HasFrameRoom, IsGrown};
 
 use crate::filling::top_up;
@@ -24,7 +24,7 @@ fn read_rest<T: Message>(
     piece: &[u8],
 ) -> Result<bool, Refusal>
     requires { HasFrameRoom held.old }
-    ensures read { IfOk result (λ goes_on. Adds T.spells piece.now items.old.items items.new.items (if goes_on then Some held.new.items else None)) }
+    ensures read { IfOk result (λ goes_on. AddsItems T.spells piece.now items.old.items items.new.items (if goes_on then Some held.new.items else None)) }
     ensures partial { IfOk result (λ goes_on. IsTrue goes_on → IsPartial held.new.items) }
     ensures kept { OnErr result (held.new.items ≡ held.old.items) }
     ensures memory { IfErr result (λ refusal. refusal ≡ NoMemory) }
@@ -50,7 +50,7 @@ fn read_piece<T: Message>(
 ) -> Result<bool, Refusal>
     requires room { HasFrameRoom held.old }
     requires partial { IsPartial held.old.items }
-    ensures read { IfOk result (λ goes_on. Adds T.spells (held.old.items ++ piece.now) items.old.items items.new.items (if goes_on then Some held.new.items else None)) }
+    ensures read { IfOk result (λ goes_on. AddsItems T.spells (held.old.items ++ piece.now) items.old.items items.new.items (if goes_on then Some held.new.items else None)) }
     ensures partial { IfOk result (λ goes_on. IsTrue goes_on → IsPartial held.new.items) }
     ensures grown { OnErr result (IsGrown held.old.items held.new.items) }
     ensures memory { IfErr result (λ refusal. refusal ≡ NoMemory) }
@@ -104,7 +104,7 @@ impl FrameReader {
     /// again.
     pub fn feed<T: Message>(&mut self, piece: &[u8]) -> Result<Vec<Item<T>>, Refusal>
         // The held bytes and the piece are these items and what is held now.
-        ensures items { IfOk result (λ items. IfSome self.old (λ held. Reads T.spells (held ++ piece.now) items.items self.new)) }
+        ensures items { IfOk result (λ items. IfSome self.old (λ held. ReadsItems T.spells (held ++ piece.now) items.items self.new)) }
         // It fails where it had failed.
         ensures failed { self.old ≡ None → IsErrOf result BadFrame }
         ensures refused { IfErr result (λ refusal. (refusal ≡ NoMemory) ⊎ ((refusal ≡ BadFrame) × (self.old ≡ None))) }
@@ -154,7 +154,7 @@ fn read_on<T: Message>(
     items: &mut Vec<Item<T>>,
     piece: &[u8],
 ) -> Result<(), Refusal>
-    ensures read { OnOk result ((stream : List ℕ) → Reads T.spells stream items.old.items reader.old → Reads T.spells (stream ++ piece.now) items.new.items reader.new) }
+    ensures read { OnOk result ((stream : List ℕ) → ReadsItems T.spells stream items.old.items reader.old → ReadsItems T.spells (stream ++ piece.now) items.new.items reader.new) }
     ensures memory { IfErr result (λ refusal. refusal ≡ NoMemory) }
 {
     if reader.has_failed() {
@@ -172,7 +172,7 @@ pub fn read_all<T: Message>(
     pieces: &[Vec<u8>],
 ) -> Result<(Vec<Item<T>>, FrameReader), Refusal>
     // They are the items of the pieces joined, however these were cut.
-    ensures items { IfOk result (λ x. Reads T.spells (flat_map (λ piece. piece.items) pieces.now) x.0.items x.1) }
+    ensures items { IfOk result (λ x. ReadsItems T.spells (flat_map (λ piece. piece.items) pieces.now) x.0.items x.1) }
     ensures memory { IfErr result (λ refusal. refusal ≡ NoMemory) }
 {
     let mut reader = FrameReader::new(alloc)?;

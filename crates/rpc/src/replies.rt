@@ -3,7 +3,7 @@ ghost use Rattle.std.specs.Result.{IsErrOf};
 ghost use Rattle.rpc.specs.Spelling.{SpellsReply};
 ghost use Rattle.s4_types.specs.declared.replies.Reply.{Reply as Answered};
 ghost use Rattle.s4_types.specs.declared.refusals.Refusal.TheVariants.{NoMemory, BadFrame};
-ghost use Rattle.rpc.specs.private.Reading.{Gives, refusal_of, refused_at, changed_at, created_at, data_at, attr_at, reply_at};
+ghost use Rattle.rpc.specs.private.Reading.{Gives, refusal_of_code, refused_at, changed_at, created_at, data_at, attr_at, wire_reply_at};
 
 use crate::fields::{read_end, read_long, read_tail, read_text, read_word};
 use crate::unread::Unread;
@@ -12,7 +12,7 @@ use s4_types::{Moment, ObjectId, Refusal, Reply};
 use std::alloc::Global;
 
 fn refusal_named(number: u8) -> Option<Refusal>
-    ensures { result ≡ refusal_of number }
+    ensures { result ≡ refusal_of_code number }
 {
     Refusal::from_number(number)
 }
@@ -75,9 +75,9 @@ fn attr_of(alloc: Global, bytes: &[u8]) -> Result<Reply, Unread>
 }
 
 /// A reply, by its first byte.
-#[tactic(auto, unfolding(crate::specs::private::Reading::reply_at))]
+#[tactic(auto, unfolding(crate::specs::private::Reading::wire_reply_at))]
 fn reply_of(alloc: Global, body: &[u8]) -> Result<Reply, Unread>
-    ensures { Gives (λ x. x) result (reply_at body.now) }
+    ensures { Gives (λ x. x) result (wire_reply_at body.now) }
 {
     let [kind, rest @ ..] = body else {
         return Err(Unread::Misspelled);

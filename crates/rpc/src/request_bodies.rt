@@ -1,6 +1,6 @@
 ghost use Rattle.std.specs.Prelude.{◌≡◌, ℕ, ◌<◌, ◌≤◌, ◌^◌, ◌+◌, List, length};
 ghost use Rattle.rpc.specs.private.Room.{HasRoom, Appended};
-ghost use Rattle.rpc.specs.Spelling.{RequestFits, RequestNumbers, request_spelling, text, at};
+ghost use Rattle.rpc.specs.Spelling.{RequestFits, RequestNumbers, request_spelling, wire_text, at};
 ghost use Rattle.s4_types.specs.declared.limits.TheConstants.{FRAME_BODY_BYTES};
 
 use crate::room::{put, put_at, put_bytes, put_long, put_moment, put_object, put_text, put_word};

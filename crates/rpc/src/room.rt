@@ -1,6 +1,6 @@
 ghost use Rattle.std.specs.Prelude.{◌≡◌, ℕ, ◌<◌, ◌^◌, List, length, IfSome};
 ghost use Rattle.rpc.specs.private.Room.{HasRoom, Appended};
-ghost use Rattle.rpc.specs.Spelling.{long, word, text, at};
+ghost use Rattle.rpc.specs.Spelling.{long, word, wire_text, at};
 
 use s4_types::{Bytes, Moment, ObjectId};
 
@@ -60,9 +60,9 @@ pub(crate) fn put_at(out: &mut Vec<u8>, moment: Option<Moment>)
 }
 
 pub(crate) fn put_text(out: &mut Vec<u8>, bytes: &Bytes)
-    requires room { HasRoom out.old (length (text bytes.now)) }
+    requires room { HasRoom out.old (length (wire_text bytes.now)) }
     requires short { length bytes.now < 256 }
-    ensures { Appended out.old out.new (text bytes.now) }
+    ensures { Appended out.old out.new (wire_text bytes.now) }
 {
     put(out, &[bytes.len() as u8]);
     put(out, bytes.as_slice());

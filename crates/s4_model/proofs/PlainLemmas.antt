@@ -14,7 +14,7 @@ use Rattle.s4_types.specs.declared.versions.Version.TheVariants.{Absent, Live}
 use Rattle.s4_model.specs.Effect.{resized, written, effect, is_change_of}
 use Rattle.s4_model.specs.VersionAt.{is_by, effect_of, version_after}
 use Rattle.s4_model.specs.Limits.{Fits, IsWithinLimits}
-use Rattle.s4_model.specs.Plain.{IsKept, EndsBy}
+use Rattle.s4_model.specs.Plain.{IsKeptChange, EndsBy}
 
 EndsBy-later : (c d : ℕ) (change : Change) → c ≤ d → EndsBy c change → EndsBy d change
 EndsBy-later c d (Flush first last) le h = omega arith
@@ -27,12 +27,12 @@ EndsBy-later c d (SetAttr object attribute) le h = tt
 EndsBy-later c d (SetWindow window) le h = tt
 
 -- what is kept at a clock is kept at a later one
-pub AllKept-later : (c d : ℕ) (changes : List Accepted) → c ≤ d → AllByRecursion (IsKept c) changes → AllByRecursion (IsKept d) changes
+pub AllKept-later : (c d : ℕ) (changes : List Accepted) → c ≤ d → AllByRecursion (IsKeptChange c) changes → AllByRecursion (IsKeptChange d) changes
 AllKept-later c d [] le h = tt
 AllKept-later c d (a ∷ changes) le h =
     (record { dated = h.0.dated; fits = h.0.fits; ends = EndsBy-later c d a.change le h.0.ends }, AllKept-later c d changes le h.1)
 
-pub AllKept-push : (c : ℕ) (changes : List Accepted) (a : Accepted) → AllByRecursion (IsKept c) changes → IsKept c a → AllByRecursion (IsKept c) (changes ++ a ∷ [])
+pub AllKept-push : (c : ℕ) (changes : List Accepted) (a : Accepted) → AllByRecursion (IsKeptChange c) changes → IsKeptChange c a → AllByRecursion (IsKeptChange c) (changes ++ a ∷ [])
 AllKept-push c [] a h k = (k, tt)
 AllKept-push c (b ∷ changes) a h k = (h.0, AllKept-push c changes a h.1 k)
 
@@ -41,18 +41,18 @@ not_before true e a rest h = ap (λ x. cond x (a ∷ rest) rest) h
 not_before false e a rest h = refl
 
 -- before the first change there is nothing
-none_before : (c : ℕ) (changes : List Accepted) (o : ℕ) → AllByRecursion (IsKept c) changes → filter (is_by o 0) changes ≡ []
+none_before : (c : ℕ) (changes : List Accepted) (o : ℕ) → AllByRecursion (IsKeptChange c) changes → filter (is_by o 0) changes ≡ []
 none_before c [] o h = refl
 none_before c (a ∷ changes) o h =
     let dated : 0 < a.moment = h.0.dated in
     let late : nat_le a.moment 0 ≡ false = grind (arith, nat_tests) in
     not_before (is_change_of o a.change) (nat_le a.moment 0) a (filter (is_by o 0) changes) late ∙ none_before c changes o h.1
 
-pub version_after-0 : (c : ℕ) (changes : List Accepted) (o : ℕ) → AllByRecursion (IsKept c) changes → version_after Absent changes o 0 ≡ Absent
+pub version_after-0 : (c : ℕ) (changes : List Accepted) (o : ℕ) → AllByRecursion (IsKeptChange c) changes → version_after Absent changes o 0 ≡ Absent
 version_after-0 c changes o h = ap (λ all. fold effect_of Absent all) (none_before c changes o h)
 
 -- the version of an object of a drive that began new
-pub version_of_new : (c : ℕ) (changes : List Accepted) (o t : ℕ) → AllByRecursion (IsKept c) changes → version_after Absent changes o t ≡ cond (nat_le t 0) Absent (version_after Absent changes o t)
+pub version_of_new : (c : ℕ) (changes : List Accepted) (o t : ℕ) → AllByRecursion (IsKeptChange c) changes → version_after Absent changes o t ≡ cond (nat_le t 0) Absent (version_after Absent changes o t)
 version_of_new c changes o zero h = version_after-0 c changes o h
 version_of_new c changes o (suc t) h = ap (λ b. cond b Absent (version_after Absent changes o (suc t))) (sym (leb-suc-zero t))
 
@@ -78,7 +78,7 @@ IsWithinLimits-effect (Flush first last) m version f h = h
 IsWithinLimits-effect (FlushO object first last) m version f h = h
 
 -- versions that kept changes lead to are within the limits
-pub IsWithinLimits-version_after : (c : ℕ) (version : Version) (changes : List Accepted) (o t : ℕ) → AllByRecursion (IsKept c) changes → IsWithinLimits version → IsWithinLimits (version_after version changes o t)
+pub IsWithinLimits-version_after : (c : ℕ) (version : Version) (changes : List Accepted) (o t : ℕ) → AllByRecursion (IsKeptChange c) changes → IsWithinLimits version → IsWithinLimits (version_after version changes o t)
 IsWithinLimits-version_after c version [] o t h w = w
 IsWithinLimits-version_after c version (a ∷ changes) o t h w =
     elim (is_by o t a) as (λ b. IsWithinLimits (fold effect_of version (cond b (a ∷ filter (is_by o t) changes) (filter (is_by o t) changes)))) [
@@ -87,11 +87,11 @@ IsWithinLimits-version_after c version (a ∷ changes) o t h w =
     ]
 
 -- the same of what a call may have answered
-pub IfOk-version_of_new : (r : Result Version Refusal) (c : ℕ) (read changes : List Accepted) (o t : ℕ) → read ≡ changes → AllByRecursion (IsKept c) changes → IfOk r (λ v. v ≡ version_after Absent read o t) → IfOk r (λ v. v ≡ cond (nat_le t 0) Absent (version_after Absent changes o t))
+pub IfOk-version_of_new : (r : Result Version Refusal) (c : ℕ) (read changes : List Accepted) (o t : ℕ) → read ≡ changes → AllByRecursion (IsKeptChange c) changes → IfOk r (λ v. v ≡ version_after Absent read o t) → IfOk r (λ v. v ≡ cond (nat_le t 0) Absent (version_after Absent changes o t))
 IfOk-version_of_new (Ok v) c read changes o t e h is = is ∙ ap (λ all. version_after Absent all o t) e ∙ version_of_new c changes o t h
 IfOk-version_of_new (Err e') c read changes o t e h is = tt
 
-pub IfOk-limits : (r : Result Version Refusal) (c : ℕ) (read changes : List Accepted) (o t : ℕ) → read ≡ changes → AllByRecursion (IsKept c) changes → IfOk r (λ v. v ≡ version_after Absent read o t) → IfOk r IsWithinLimits
+pub IfOk-limits : (r : Result Version Refusal) (c : ℕ) (read changes : List Accepted) (o t : ℕ) → read ≡ changes → AllByRecursion (IsKeptChange c) changes → IfOk r (λ v. v ≡ version_after Absent read o t) → IfOk r IsWithinLimits
 IfOk-limits (Ok v) c read changes o t e h is = subst IsWithinLimits (sym (is ∙ ap (λ all. version_after Absent all o t) e)) (IsWithinLimits-version_after c Absent changes o t h tt)
 IfOk-limits (Err e') c read changes o t e h is = tt
 
@@ -104,7 +104,7 @@ pub fourth_passes : {A : Type 0} (a b d e : Bool) (x y z w rest : A) → a ≡ f
 fourth_passes a b d e x y z w rest f g h k = ap (λ t. cond t x (cond b y (cond d z (cond e w rest)))) f ∙ ap (λ t. cond t y (cond d z (cond e w rest))) g ∙ ap (λ t. cond t z (cond e w rest)) h ∙ ap (λ t. cond t w rest) k
 
 -- the list with one more change is kept at the change's moment
-pub AllKept-took : (c d : ℕ) (old new : List Accepted) (a : Accepted) → new ≡ old ++ a ∷ [] → c ≤ d → 0 < a.moment → Fits a.change → EndsBy c a.change → AllByRecursion (IsKept c) old → AllByRecursion (IsKept d) new
+pub AllKept-took : (c d : ℕ) (old new : List Accepted) (a : Accepted) → new ≡ old ++ a ∷ [] → c ≤ d → 0 < a.moment → Fits a.change → EndsBy c a.change → AllByRecursion (IsKeptChange c) old → AllByRecursion (IsKeptChange d) new
 AllKept-took c d old new a e le dated fits ends h =
-    let P : List Accepted → Type 0 = AllByRecursion (IsKept d) in
+    let P : List Accepted → Type 0 = AllByRecursion (IsKeptChange d) in
     subst P (sym e) (AllKept-push d old a (AllKept-later c d old le h) (record { dated = dated; fits = fits; ends = EndsBy-later c d a.change le ends }))

@@ -14,7 +14,7 @@ use Rattle.s4_model.specs.State.{State}
 use Rattle.s4_model.specs.Refusals.{is_one_span_too_many}
 use Rattle.s4_model.specs.Visible.{is_within, span_by, span_of, spans_of}
 use Rattle.s4_model.specs.Runs.{is_covered, is_first, run_count, run_count_of_all}
-use Rattle.s4_model.specs.Plain.{EndsBy, IsKept}
+use Rattle.s4_model.specs.Plain.{EndsBy, IsKeptChange}
 use Rattle.s4_model.specs.RunCounting.{AllEndBy, has, noted}
 use Rattle.s4_model.proofs.CountLemmas.{range-push, count_by-range, below-length, IsWithoutRepeats}
 
@@ -229,7 +229,7 @@ ends_of clock (SetAttr object attribute) rest h all = all
 ends_of clock (SetWindow window) rest h all = all
 
 -- accepted spans end by the clock
-pub AllEndBy-kept : (clock : ℕ) (changes : List Accepted) → AllByRecursion (IsKept clock) changes → AllEndBy clock (filter_map span_of changes)
+pub AllEndBy-kept : (clock : ℕ) (changes : List Accepted) → AllByRecursion (IsKeptChange clock) changes → AllEndBy clock (filter_map span_of changes)
 AllEndBy-kept clock [] h = tt
 AllEndBy-kept clock (a ∷ changes) h = ends_of clock a.change (filter_map span_of changes) h.0.ends (AllEndBy-kept clock changes h.1)
 

@@ -29,7 +29,7 @@ EndsBy clock (FlushO object first last) = last ≤ clock
 EndsBy clock _ = Unit {0}
 
 -- an accepted change of a drive that began new
-pub record IsKept (clock : ℕ) (a : Accepted) : Type 0 where
+pub record IsKeptChange (clock : ℕ) (a : Accepted) : Type 0 where
   pub dated : 0 < a.moment
   pub fits : Fits a.change
   pub ends : EndsBy clock a.change

@@ -38,7 +38,7 @@ impl Model for PlainDrive {
     ghost use Rattle.std.specs.Prelude.{[]};
     ghost use Rattle.std.specs.List.{AllByRecursion};
     ghost use Rattle.s4_model.specs.State.{State};
-    ghost use Rattle.s4_model.specs.Plain.{IsKept};
+    ghost use Rattle.s4_model.specs.Plain.{IsKeptChange};
 
     ghost Value = { State };
 
@@ -53,7 +53,7 @@ impl Model for PlainDrive {
       next = d.next;
     } };
 
-    ghost invariant = { λ d. AllByRecursion (IsKept d.clock) d.changes.items };
+    ghost invariant = { λ d. AllByRecursion (IsKeptChange d.clock) d.changes.items };
 }
 
 impl PlainDrive {

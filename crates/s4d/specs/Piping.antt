@@ -4,7 +4,10 @@ use Rattle.s4_types.specs.declared.requests.Request.{Request}
 use Rattle.s4_types.specs.declared.replies.Reply.{Reply}
 use Rattle.s4_model.specs.State.{new_history}
 use Rattle.s4_model.specs.Step.{Step, judged}
+use Rattle.object_map.specs.Rows.{row_of}
 use Rattle.segment_table.specs.Room.{log_of, new_places}
+use Rattle.segment_table.specs.Table.{Table}
+use Rattle.version_store.specs.Store.{StoreOf, fields_of, IsStore}
 use Rattle.drive.specs.Fields.{DriveFields, SessionFields, history_of, state_in, store_of}
 use Rattle.drive.specs.Refusing.{refusal_of, RefusesBy}
 use Rattle.drive.specs.Answering.{Leaves, told_after}
@@ -20,20 +23,27 @@ pub record Attended : Type 0 where
   pub session : SessionFields
 
 -- The request is answered by a step of the model on the drive's history. The reply is a refusal exactly where the checks, a
--- full chain or want of room refuse it, but for want of memory; an accepted change appends exactly its blocks. The session
--- keeps its role, and was told of all accepted changes.
+-- full chain or want of room refuse it, but for want of memory; an accepted change appends exactly its blocks, and changes its
+-- object's row alone. The session keeps its role, and was told of all accepted changes.
 pub record Steps (old : Attended) (request : Request) (now : ℕ) (reply : Reply) (new : Attended) : Type 0 where
   pub step : Step (history_of old.drive) old.session.role request now reply (history_of new.drive)
   pub refused : RefusesBy (refusal_of (store_of old.drive) (judged (history_of old.drive) request now) old.session.role request now) new.drive request reply
   pub stored : Leaves (store_of old.drive) (state_in old.drive) request now reply (store_of new.drive)
   pub session : new.session ≡ record old.session { told = told_after reply new.drive.ledger old.session.told }
 
--- One session of a new drive, with a clock that starts at 0, reads the input and writes the output, and comes to
--- the end.
+-- An empty store over a table of so many frames: nothing is held, no object has a row, and nothing was ever changed.
+pub record IsEmptyStore (frames : ℕ) (store : StoreOf Table) : Type 0 where
+  pub log : log_of store.table ≡ record { held = λ p. None; ahead = new_places frames }
+  pub empty : (o : ℕ) → row_of store.rows o ≡ None
+  pub latest : store.latest ≡ 0
+  pub stands : IsStore (fields_of log_of store)
+
+-- One session of a new drive with an empty store, with a clock that starts at 0, reads the input and writes the output, and
+-- comes to the end.
 pub record Pipes (pipe : Pipe) (end : ServeEnd) (input output input' output' : Option (List ℕ)) : Type 0 where
   pub old : Attended
   pub history : history_of old.drive ≡ new_history pipe.window
-  pub log : log_of old.drive.store.table ≡ record { held = λ p. None; ahead = new_places pipe.frames }
+  pub store : IsEmptyStore pipe.frames old.drive.store
   pub role : old.session.role ≡ pipe.role
   pub before : Ticking
   pub start : before.present ≡ 0

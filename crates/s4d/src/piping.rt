@@ -1,12 +1,11 @@
 //! A session with a drive of its own, served over a reader and a writer.
-ghost use Rattle.std.specs.Prelude.{◌≡◌, ◌≢◌, ◌⊎◌, ◌+◌, ◌^◌, ◌<◌, ◌≤◌, None, [], IfOk, IfErr, OnErr};
+ghost use Rattle.std.specs.Prelude.{◌≡◌, ◌≢◌, ◌⊎◌, ◌+◌, ◌^◌, ◌<◌, ◌≤◌, [], IfOk, IfErr, OnErr};
 ghost use Rattle.serving.specs.Session.{reading_failures, writing_failures};
 ghost use Rattle.serving.specs.Streams.{taken_by};
 ghost use Rattle.s4_types.specs.Sizes.{IsFrameCount};
 ghost use Rattle.s4_types.specs.declared.refusals.Refusal.TheVariants.{NoMemory, Busy};
 ghost use Rattle.s4_model.specs.State.{new_base};
-ghost use Rattle.segment_table.specs.Room.{log_of, new_places};
-ghost use Rattle.s4d.specs.Piping.{Pipes};
+ghost use Rattle.s4d.specs.Piping.{IsEmptyStore, Pipes};
 
 use drive::{Drive, NewDrive, Session};
 use s4_types::{Moment, Refusal, Reply, Request, Role};
@@ -91,7 +90,7 @@ fn serve_named<J: Naming, R: Source, W: Sink>(
     requires accepts { made.accepts ≡ J.accepts }
     requires base { new_base made.window ≡ J.base }
     requires window { made.window ≡ pipe.window }
-    requires log { log_of made.store.table ≡ record { held = λ p. None; ahead = new_places pipe.frames } }
+    requires store { IsEmptyStore pipe.frames made.store }
     requires reader { R.failures reader.old + 1 < 2 ^ 64 }
     requires writer { W.failures writer.old + 1 < 2 ^ 64 }
     ensures session { IfOk result (λ end. Pipes pipe end

@@ -10,7 +10,7 @@ use Rattle.segment_table.specs.declared.slots.Slot.{Slot}
 use Rattle.segment_table.specs.Table.{Table, slots_at}
 use Rattle.segment_table.specs.Room.{is_filling}
 use Rattle.segment_table.specs.Sealing.{IsSummed, IsPartFilled}
-use Rattle.segment_table.specs.Changes.{IsAlone, KeepsGeneration, KeepsBlock, IsFilling, NoneIsFilling, IsReady, IsPut, IsSealedIn, IsAppended, with_slot}
+use Rattle.segment_table.specs.Changes.{IsAlone, KeepsGeneration, KeepsBlock, IsFilling, NoneIsFilling, IsReadyFrame, IsPut, IsSealedIn, IsAppended, with_slot}
 use Rattle.segment_table.proofs.Alone.{alone_then}
 use Rattle.segment_table.proofs.Numbers.{numbers_none, numbers_one}
 use Rattle.segment_table.proofs.Ahead.{filling_at}
@@ -36,7 +36,7 @@ record IsTaken (f n : ℕ) (part : Part) (block : List ℕ) (old new : Table) : 
   many : length (slots_at new.slots f) ≡ n
   phase : (frame_at new.drive.frames f).phase ≡ Open
 
-taken : (old ready put : Table) (f : ℕ) (part : Part) (block : List ℕ) → IsReady f old ready → IsPut f (record { part = part; held = true }) block ready put → IsTaken f (length (slots_at ready.slots f) + 1) part block old put
+taken : (old ready put : Table) (f : ℕ) (part : Part) (block : List ℕ) → IsReadyFrame f old ready → IsPut f (record { part = part; held = true }) block ready put → IsTaken f (length (slots_at ready.slots f) + 1) part block old put
 taken old ready put f part block r h =
     let slot : Slot = record { part = part; held = true } in
     let s : List Slot = slots_at ready.slots f in
@@ -81,7 +81,7 @@ appended_full old put new p part block full t s =
     }
 
 -- what an append makes of a table
-pub append_made : (old ready put new : Table) (f : ℕ) (part : Part) (block : List ℕ) (p : Place) → IsReady f old ready → IsPut f (record { part = part; held = true }) block ready put → IsFilling f put
+pub append_made : (old ready put new : Table) (f : ℕ) (part : Part) (block : List ℕ) (p : Place) → IsReadyFrame f old ready → IsPut f (record { part = part; held = true }) block ready put → IsFilling f put
     → p ≡ record { frame = f; block = length (slots_at ready.slots f) + 1; generation = (frame_at ready.drive.frames f).generation }
     → (length (slots_at put.slots f) < 15 → new ≡ put)
     → (length (slots_at put.slots f) ≡ 15 → IsSealedIn f put new × NoneIsFilling new)

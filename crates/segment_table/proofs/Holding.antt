@@ -10,21 +10,21 @@ use Rattle.segment_word.specs.Layout.{frame_at, block_bytes}
 use Rattle.segment_word.specs.Handles.{Drive}
 use Rattle.segment_table.specs.declared.slots.Slot.{Slot}
 use Rattle.segment_table.specs.Slots.{no_slot, let_go}
-use Rattle.segment_table.specs.Table.{Table, slots_at, slot_of, stored, held_block, held_at}
+use Rattle.segment_table.specs.Table.{Table, slots_at, block_slot, stored, held_block, held_at}
 use Rattle.segment_table.specs.Changes.{IsAlone, KeepsGeneration, KeepsBlock, IsPut}
 use Rattle.segment_table.proofs.Alone.{elsewhere, generation_alone}
 
 -- a block is used, or nothing is stored there
-slot_cases : (s : List Slot) (b : ℕ) → ((1 ≤ b) × (b ≤ length s)) ⊎ (slot_of s b ≡ no_slot)
+slot_cases : (s : List Slot) (b : ℕ) → ((1 ≤ b) × (b ≤ length s)) ⊎ (block_slot s b ≡ no_slot)
 slot_cases s zero = inr refl
 slot_cases s (suc b) = elim (cases_lt b (length s)) [ inl h ↦ inl (omega arith, omega arith) | inr h ↦ inr (get_or_past s b no_slot h) ]
 
 -- the same slot at the same generation, with bytes that are the same where it is used
 pub held_same : (k k' : Frame) (s : List Slot) (b g : ℕ) → k'.generation ≡ k.generation → (1 ≤ b → b ≤ length s → block_bytes k'.contents b ≡ block_bytes k.contents b) → held_block k' s b g ≡ held_block k s b g
 held_same k k' s b g e same =
-    ap (λ (n : ℕ). if n == g then stored (slot_of s b) (block_bytes k'.contents b) else None) e
+    ap (λ (n : ℕ). if n == g then stored (block_slot s b) (block_bytes k'.contents b) else None) e
     ∙ elim (slot_cases s b) [
-      | inl h ↦ ap (λ (x : List ℕ). if k.generation == g then stored (slot_of s b) x else None) (same h.0 h.1)
+      | inl h ↦ ap (λ (x : List ℕ). if k.generation == g then stored (block_slot s b) x else None) (same h.0 h.1)
       | inr none ↦ ap (λ (slot : Slot). if k.generation == g then stored slot (block_bytes k'.contents b) else None) none
           ∙ sym (ap (λ (slot : Slot). if k.generation == g then stored slot (block_bytes k.contents b) else None) none)
     ]
@@ -48,7 +48,7 @@ pub held_kept : (old new : Table) (f : ℕ) → IsAlone f old.drive new.drive �
     → new.slots ≡ old.slots → held_at new ≡ held_at old
 held_kept old new f a k same e = λ i q. held_kept_at old new f q a k same e i
 
-slot_more : (s : List Slot) (slot : Slot) (b : ℕ) → b ≢ length s + 1 → slot_of (s ++ slot ∷ []) b ≡ slot_of s b
+slot_more : (s : List Slot) (slot : Slot) (b : ℕ) → b ≢ length s + 1 → block_slot (s ++ slot ∷ []) b ≡ block_slot s b
 slot_more s slot zero ne = refl
 slot_more s slot (suc b) ne = elim (cases_lt b (length s)) [
   | inl h ↦ get_or_append_left s (slot ∷ []) no_slot b h
@@ -59,7 +59,7 @@ slot_more s slot (suc b) ne = elim (cases_lt b (length s)) [
   ]
 ]
 
-slot_last : (s : List Slot) (slot : Slot) (b : ℕ) → b ≡ length s + 1 → slot_of (s ++ slot ∷ []) b ≡ slot
+slot_last : (s : List Slot) (slot : Slot) (b : ℕ) → b ≡ length s + 1 → block_slot (s ++ slot ∷ []) b ≡ slot
 slot_last s slot zero e = absurd (omega arith)
 slot_last s slot (suc b) e = get_or_push s slot no_slot b (omega arith)
 
@@ -70,7 +70,7 @@ put_at : (k k' : Frame) (s : List Slot) (part : Part) (block : List ℕ) (b g : 
 put_at k k' s part block b g e is others room =
     let slot : Slot = record { part = part; held = true } in
     elim (cases_eq b (length s + 1)) [
-      | inl at ↦ ap (λ (n : ℕ). if n == g then stored (slot_of (s ++ slot ∷ []) b) (block_bytes k'.contents b) else None) e
+      | inl at ↦ ap (λ (n : ℕ). if n == g then stored (block_slot (s ++ slot ∷ []) b) (block_bytes k'.contents b) else None) e
           ∙ ap (λ (x : Slot). if k.generation == g then stored x (block_bytes k'.contents b) else None) (slot_last s slot b at)
           ∙ ap (λ (x : List ℕ). if k.generation == g then stored slot x else None) (ap (λ (n : ℕ). block_bytes k'.contents n) at ∙ is)
           ∙ elim (cases_Bool (k.generation == g)) [
@@ -80,7 +80,7 @@ put_at k k' s part block b g e is others room =
             | inr other ↦ ap (λ (x : Bool). if x then stored slot block else None) other
                 ∙ sym (ap (λ (x : Bool). if x && k.generation == g then Some (record { kind = part.kind; object = part.object; bytes = block }) else held_block k s b g) (eq-eqb (length s + 1) b (sym at))
                 ∙ ap (λ (x : Bool). if x then Some (record { kind = part.kind; object = part.object; bytes = block }) else held_block k s b g) other
-                ∙ ap (λ (x : Bool). if x then stored (slot_of s b) (block_bytes k.contents b) else None) other)
+                ∙ ap (λ (x : Bool). if x then stored (block_slot s b) (block_bytes k.contents b) else None) other)
           ]
       | inr ne ↦ ap (λ (x : Slot). if k'.generation == g then stored x (block_bytes k'.contents b) else None) (slot_more s slot b ne)
           ∙ held_same k k' s b g e (λ low high. others b (omega arith) ne)
@@ -118,7 +118,7 @@ pub held_fresh : (t : Table) (f g : ℕ) → held_block (frame_at t.drive.frames
 held_fresh t f g =
     let k : Frame = frame_at t.drive.frames f in
     let s : List Slot = slots_at t.slots f in
-    let none : slot_of s (length s + 1) ≡ no_slot = ap (λ (n : ℕ). slot_of s n) (add-one (length s)) ∙ get_or_past s (length s) no_slot (omega arith) in
+    let none : block_slot s (length s + 1) ≡ no_slot = ap (λ (n : ℕ). block_slot s n) (add-one (length s)) ∙ get_or_past s (length s) no_slot (omega arith) in
     ap (λ (x : Slot). if k.generation == g then stored x (block_bytes k.contents (length s + 1)) else None) none
     ∙ elim (cases_Bool (k.generation == g)) [
       | inl same ↦ ap (λ (x : Bool). if x then stored no_slot (block_bytes k.contents (length s + 1)) else None) same
@@ -148,7 +148,7 @@ gone_at k s p (suc b) g low =
             | inr other ↦ ap (λ (x : Bool). cond x none none) other
                 ∙ sym (ap (λ (x : Bool). if x && k.generation == g then None else held_block k s (suc b) g) (eq-eqb p (suc b) same)
                 ∙ ap (λ (x : Bool). if x then None else held_block k s (suc b) g) other
-                ∙ ap (λ (x : Bool). if x then stored (slot_of s (suc b)) (block_bytes k.contents (suc b)) else None) other)
+                ∙ ap (λ (x : Bool). if x then stored (block_slot s (suc b)) (block_bytes k.contents (suc b)) else None) other)
           ])
       | inr ne ↦ ap (λ (x : Slot). if k.generation == g then stored x (block_bytes k.contents (suc b)) else None) (get_or-set_other s (p - 1) b slot no_slot ne)
           ∙ sym (ap (λ (x : Bool). if x && k.generation == g then None else held_block k s (suc b) g) (ne_eqb p (suc b) (λ (e : p ≡ suc b). ne (omega arith))))

@@ -9,3 +9,6 @@ pub mod Summing
 pub mod Reading
 pub mod Appending
 pub mod Owned
+pub mod Vacating
+pub mod Emptying
+pub mod Freeing

@@ -7,10 +7,10 @@ use Rattle.segment_word.specs.Layout.{frame_at}
 use Rattle.segment_table.specs.Room.{numbers}
 
 module _ (test : Frame → Bool) where
-  numbers_in : (n : ℕ) (k : Frame) (ks : List Frame) → test k ≡ true → numbers test n (k ∷ ks) ≡ n ∷ numbers test (n + 1) ks
+  pub numbers_in : (n : ℕ) (k : Frame) (ks : List Frame) → test k ≡ true → numbers test n (k ∷ ks) ≡ n ∷ numbers test (n + 1) ks
   numbers_in n k ks t = ap (λ (b : Bool). if b then n ∷ numbers test (n + 1) ks else numbers test (n + 1) ks) t
 
-  numbers_out : (n : ℕ) (k : Frame) (ks : List Frame) → test k ≡ false → numbers test n (k ∷ ks) ≡ numbers test (n + 1) ks
+  pub numbers_out : (n : ℕ) (k : Frame) (ks : List Frame) → test k ≡ false → numbers test n (k ∷ ks) ≡ numbers test (n + 1) ks
   numbers_out n k ks t = ap (λ (b : Bool). if b then n ∷ numbers test (n + 1) ks else numbers test (n + 1) ks) t
 
   -- a frame that passes no more and no less leaves the numbers

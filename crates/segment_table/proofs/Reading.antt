@@ -11,9 +11,9 @@ use Rattle.segment_word.specs.Layout.{frame_at, block_bytes}
 use Rattle.segment_word.specs.Handles.{fresh_frame}
 use Rattle.segment_table.specs.declared.slots.Slot.{Slot}
 use Rattle.segment_table.specs.Slots.{no_slot, let_go, held_part}
-use Rattle.segment_table.specs.Table.{Table, slots_at, slot_of, stored, held_block, held_at, part_of}
+use Rattle.segment_table.specs.Table.{Table, slots_at, block_slot, stored, held_block, held_at, part_of}
 use Rattle.segment_table.specs.Room.{is_filling, can_open, numbers, places, rest_of, whole_of, places_ahead, log_of, new_places}
-use Rattle.segment_table.specs.Sealing.{IsLetGo, IsSound}
+use Rattle.segment_table.specs.Sealing.{IsLetGo, IsSoundTable}
 use Rattle.segment_table.specs.Changes.{IsFilling, NoneIsFilling}
 use Rattle.segment_table.proofs.Numbers.{numbers_none, numbers_one, numbers_all, numbers_nil}
 use Rattle.segment_table.proofs.Ahead.{filling_at, numbers_few}
@@ -25,36 +25,36 @@ pub record IsUsed (k : Frame) (s : List Slot) (b g : ℕ) : Type 0 where
   pub generation : k.generation ≡ g
   pub low : 1 ≤ b
   pub high : b ≤ length s
-  pub held : (slot_of s b).held ≡ true
+  pub held : (block_slot s b).held ≡ true
 
 none_not_some : {A : Type 0} (o : Option A) → o ≡ None → IsSome o → ⊥
 none_not_some (Some x) e h = cc
 none_not_some None e h = cc
 
-used_when_held : (s : List Slot) (b : ℕ) → (slot_of s b).held ≡ true → (1 ≤ b) × (b ≤ length s)
+used_when_held : (s : List Slot) (b : ℕ) → (block_slot s b).held ≡ true → (1 ≤ b) × (b ≤ length s)
 used_when_held s zero h = absurd (cc)
 used_when_held s (suc b) h = elim (cases_lt b (length s)) [
   | inl low ↦ (omega arith, omega arith)
-  | inr past ↦ (let none : (slot_of s (suc b)).held ≡ false = ap (λ (x : Slot). x.held) (get_or_past s b no_slot past) in
+  | inr past ↦ (let none : (block_slot s (suc b)).held ≡ false = ap (λ (x : Slot). x.held) (get_or_past s b no_slot past) in
       let clash : true ≡ false = sym h ∙ none in
       absurd (cc))
 ]
 
 pub held_used : (k : Frame) (s : List Slot) (b g : ℕ) → IsSome (held_block k s b g) → IsUsed k s b g
 held_used k s b g h = elim (cases_Bool (k.generation == g)) [
-  | inl own ↦ elim (cases_Bool ((slot_of s b).held)) [
+  | inl own ↦ elim (cases_Bool ((block_slot s b).held)) [
     | inl held ↦ (let used = used_when_held s b held in
         record { generation = eqb-true k.generation g own; low = used.0; high = used.1; held = held })
     | inr gone ↦ (let none : held_block k s b g ≡ None =
-        ap (λ (x : Bool). if x then stored (slot_of s b) (block_bytes k.contents b) else None) own
-        ∙ ap (λ (x : Bool). if x then Some (record { kind = (slot_of s b).part.kind; object = (slot_of s b).part.object; bytes = block_bytes k.contents b }) else None) gone in
+        ap (λ (x : Bool). if x then stored (block_slot s b) (block_bytes k.contents b) else None) own
+        ∙ ap (λ (x : Bool). if x then Some (record { kind = (block_slot s b).part.kind; object = (block_slot s b).part.object; bytes = block_bytes k.contents b }) else None) gone in
         absurd (none_not_some (held_block k s b g) none h))
   ]
-  | inr other ↦ (let none : held_block k s b g ≡ None = ap (λ (x : Bool). if x then stored (slot_of s b) (block_bytes k.contents b) else None) other in
+  | inr other ↦ (let none : held_block k s b g ≡ None = ap (λ (x : Bool). if x then stored (block_slot s b) (block_bytes k.contents b) else None) other in
       absurd (none_not_some (held_block k s b g) none h))
 ]
 
-all_let_go : (s : List Slot) (b : ℕ) → AllByRecursion IsLetGo s → (slot_of s b).held ≡ true → ⊥
+all_let_go : (s : List Slot) (b : ℕ) → AllByRecursion IsLetGo s → (block_slot s b).held ≡ true → ⊥
 all_let_go s zero all h = cc
 all_let_go [] (suc b) all h = cc
 all_let_go (x ∷ s) (suc zero) all h = let clash : true ≡ false = sym h ∙ all.0 in cc
@@ -67,7 +67,7 @@ phase_cases Sealed = inr (inr (inl refl))
 phase_cases Emptied = inr (inr (inr refl))
 
 -- a held block's frame is there, and open or sealed
-pub held_frame : (t : Table) (free : List ℕ) (current : Option ℕ) (p : Place) → IsSound t free current → IsSome (held_at t p) → (p.frame < length t.drive.frames) × (((frame_at t.drive.frames p.frame).phase ≡ Open) ⊎ ((frame_at t.drive.frames p.frame).phase ≡ Sealed))
+pub held_frame : (t : Table) (free : List ℕ) (current : Option ℕ) (p : Place) → IsSoundTable t free current → IsSome (held_at t p) → (p.frame < length t.drive.frames) × (((frame_at t.drive.frames p.frame).phase ≡ Open) ⊎ ((frame_at t.drive.frames p.frame).phase ≡ Sealed))
 held_frame t free current p sound h =
     let k : Frame = frame_at t.drive.frames p.frame in
     let s : List Slot = slots_at t.slots p.frame in
@@ -92,18 +92,18 @@ only_open t None f e inside phase = absurd (numbers_none is_filling 0 f t.drive.
 only_open t (Some g) f e inside phase = ap (λ (x : ℕ). Some x) (numbers_one is_filling 0 g f t.drive.frames (sym e) inside (ap is_open phase) ∙ omega arith)
 
 -- a held block of no open frame is sealed
-pub held_sealed_frame : (t : Table) (free : List ℕ) (current : Option ℕ) (p : Place) → IsSound t free current → IsSome (held_at t p) → current ≢ Some p.frame → (frame_at t.drive.frames p.frame).phase ≡ Sealed
+pub held_sealed_frame : (t : Table) (free : List ℕ) (current : Option ℕ) (p : Place) → IsSoundTable t free current → IsSome (held_at t p) → current ≢ Some p.frame → (frame_at t.drive.frames p.frame).phase ≡ Sealed
 held_sealed_frame t free current p sound h ne =
     let found = held_frame t free current p sound h in
     elim found.1 [ inl e ↦ absurd (ne (only_open t current p.frame sound.filling found.0 e)) | inr e ↦ e ]
 
-pub current_filling : (t : Table) (free : List ℕ) (current : Option ℕ) (f : ℕ) → IsSound t free current → current ≡ Some f → IsFilling f t
+pub current_filling : (t : Table) (free : List ℕ) (current : Option ℕ) (f : ℕ) → IsSoundTable t free current → current ≡ Some f → IsFilling f t
 current_filling t free current f sound e = sym sound.filling ∙ ap option_to_list e
 
-pub current_none : (t : Table) (free : List ℕ) (current : Option ℕ) → IsSound t free current → current ≡ None → NoneIsFilling t
+pub current_none : (t : Table) (free : List ℕ) (current : Option ℕ) → IsSoundTable t free current → current ≡ None → NoneIsFilling t
 current_none t free current sound e = sym sound.filling ∙ ap option_to_list e
 
-pub free_few : (t : Table) (free : List ℕ) (current : Option ℕ) → IsSound t free current → length free ≤ 1024
+pub free_few : (t : Table) (free : List ℕ) (current : Option ℕ) → IsSoundTable t free current → length free ≤ 1024
 free_few t free current sound =
     let opens : List ℕ = numbers can_open 0 t.drive.frames in
     let count : length free ≡ length opens = ap length sound.vacant ∙ length-reverse opens in
@@ -111,10 +111,10 @@ free_few t free current sound =
     omega (arith, sound.most)
 
 -- a block that was let go leaves a table that holds together
-pub gone_made : (old new t : Table) (free : List ℕ) (current : Option ℕ) (p : Place) (f b : ℕ) (lent after : List Slot) → old ≡ t → f ≡ p.frame → b ≡ p.block → 1 ≤ p.block → IsSound old free current
+pub gone_made : (old new t : Table) (free : List ℕ) (current : Option ℕ) (p : Place) (f b : ℕ) (lent after : List Slot) → old ≡ t → f ≡ p.frame → b ≡ p.block → 1 ≤ p.block → IsSoundTable old free current
     → p.frame < length t.drive.frames → (frame_at t.drive.frames p.frame).generation ≡ p.generation
     → lent ≡ get_or old.slots f lent → after ≡ let_go lent (b - 1) → new.drive ≡ old.drive → new.slots ≡ set old.slots f after
-    → IsSound new free current × ((log_of new ≡ dropped (log_of t) p) × ((g : ℕ) → map (λ (x : Slot). x.part) (slots_at new.slots g) ≡ map (λ (x : Slot). x.part) (slots_at t.slots g)))
+    → IsSoundTable new free current × ((log_of new ≡ dropped (log_of t) p) × ((g : ℕ) → map (λ (x : Slot). x.part) (slots_at new.slots g) ≡ map (λ (x : Slot). x.part) (slots_at t.slots g)))
 gone_made old new t free current p f b lent after same at_frame at_block low sound inside own is_lent is_after drive slots =
     let I : Table → Type 0 = λ x. p.frame < length x.drive.frames in
     let G : Table → Type 0 = λ x. (frame_at x.drive.frames p.frame).generation ≡ p.generation in
@@ -140,7 +140,7 @@ part_stored (x ∷ s) zero bytes = elim (cases_Bool x.held) [
 ]
 part_stored (x ∷ s) (suc i) bytes = part_stored s i bytes
 
-slot_before : (s : List Slot) (b : ℕ) → 1 ≤ b → slot_of s b ≡ get_or s (b - 1) no_slot
+slot_before : (s : List Slot) (b : ℕ) → 1 ≤ b → block_slot s b ≡ get_or s (b - 1) no_slot
 slot_before s zero low = absurd (omega arith)
 slot_before s (suc b) low = let e : b ≡ suc b - 1 = omega arith in ap (λ (n : ℕ). get_or s n no_slot) e
 
@@ -150,7 +150,7 @@ part_is t p own low =
     let k : Frame = frame_at t.drive.frames p.frame in
     let s : List Slot = slots_at t.slots p.frame in
     part_stored s (p.block - 1) (block_bytes k.contents p.block)
-    ∙ sym (ap (λ (x : Bool). option_map part_of (if x then stored (slot_of s p.block) (block_bytes k.contents p.block) else None)) (eq-eqb k.generation p.generation own)
+    ∙ sym (ap (λ (x : Bool). option_map part_of (if x then stored (block_slot s p.block) (block_bytes k.contents p.block) else None)) (eq-eqb k.generation p.generation own)
     ∙ ap (λ (x : Slot). option_map part_of (stored x (block_bytes k.contents p.block))) (slot_before s p.block low))
 
 none_held : (k : Frame) (b g : ℕ) → held_block k [] b g ≡ None
@@ -188,7 +188,7 @@ new_log t count frames slots =
     λ i. record { held = λ p. held p i; ahead = ahead i }
 
 -- a held block's frame is open where it is the one that the table knows, and else sealed
-pub open_or_sealed : (t : Table) (free : List ℕ) (current : Option ℕ) (p : Place) (f g : ℕ) → IsSound t free current → IsSome (held_at t p) → current ≡ Some f → g ≡ p.frame
+pub open_or_sealed : (t : Table) (free : List ℕ) (current : Option ℕ) (p : Place) (f g : ℕ) → IsSoundTable t free current → IsSome (held_at t p) → current ≡ Some f → g ≡ p.frame
     → MatchBool (f == g) ((frame_at t.drive.frames p.frame).phase ≡ Open) ((frame_at t.drive.frames p.frame).phase ≡ Sealed)
 open_or_sealed t free current p f g sound h is at = elim (cases_eq f g) [
   | inl e ↦ (let M : Bool → Type 0 = λ b. MatchBool b ((frame_at t.drive.frames p.frame).phase ≡ Open) ((frame_at t.drive.frames p.frame).phase ≡ Sealed) in

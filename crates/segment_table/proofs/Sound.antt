@@ -13,14 +13,14 @@ use Rattle.segment_table.specs.declared.slots.Slot.{Slot}
 use Rattle.segment_table.specs.Slots.{no_slot, let_go}
 use Rattle.segment_table.specs.Table.{Table, slots_at}
 use Rattle.segment_table.specs.Room.{is_filling, can_open, numbers}
-use Rattle.segment_table.specs.Sealing.{payload_of, IsOwned, IsLetGo, IsFit, IsSound}
+use Rattle.segment_table.specs.Sealing.{payload_of, IsOwned, IsLetGo, IsFit, IsSoundTable}
 use Rattle.segment_table.specs.Changes.{IsAlone, IsFilling, NoneIsFilling, IsPut, IsSealed}
 use Rattle.segment_table.proofs.Numbers.{numbers_lost, numbers_gained, numbers_all, numbers_nil}
 use Rattle.segment_table.proofs.Alone.{put_here, alone, unchanged, length-alone, elsewhere, numbers_alone}
 use Rattle.segment_table.proofs.Ahead.{vacant_first, filling_at, vacant_same, popped}
 
 -- the frame that changed fits, and so do the others
-fits_changed : (old new : Table) (f : ℕ) (s : List Slot) → f < length old.slots → IsAlone f old.drive new.drive → new.slots ≡ set old.slots f s
+pub fits_changed : (old new : Table) (f : ℕ) (s : List Slot) → f < length old.slots → IsAlone f old.drive new.drive → new.slots ≡ set old.slots f s
     → ((g : ℕ) → g < length old.drive.frames → IsFit g (frame_at old.drive.frames g) (slots_at old.slots g)) → IsFit f (frame_at new.drive.frames f) s
     → (g : ℕ) → g < length new.drive.frames → IsFit g (frame_at new.drive.frames g) (slots_at new.slots g)
 fits_changed old new f s inside a slots fits fit g h = elim (cases_eq g f) [
@@ -34,7 +34,7 @@ fits_changed old new f s inside a slots fits fit g h = elim (cases_eq g f) [
       (subst P (sym (elsewhere old.drive new.drive f g a ne)) (fits g within)))
 ]
 
-stays : (l : List (List Slot)) (f : ℕ) → l ≡ set l f (slots_at l f)
+pub stays : (l : List (List Slot)) (f : ℕ) → l ≡ set l f (slots_at l f)
 stays l f = sym (set-get_or l f [])
 
 -- a frame that can be opened is opened
@@ -61,8 +61,8 @@ fit_opened f k k' s fit phase = record {
   emptied = λ e. absurd (let is : Open ≡ Emptied = sym phase ∙ e in cc);
 }
 
-pub sound_opened : (old new : Table) (free free' : List ℕ) (current : Option ℕ) (f : ℕ) → IsSound old free current → NoneIsFilling old → free ≡ free' ++ f ∷ [] → new.drive ≡ with_changed old.drive f (record (frame_at old.drive.frames f) { phase = Open }) → new.slots ≡ old.slots
-    → IsSound new free' (Some f)
+pub sound_opened : (old new : Table) (free free' : List ℕ) (current : Option ℕ) (f : ℕ) → IsSoundTable old free current → NoneIsFilling old → free ≡ free' ++ f ∷ [] → new.drive ≡ with_changed old.drive f (record (frame_at old.drive.frames f) { phase = Open }) → new.slots ≡ old.slots
+    → IsSoundTable new free' (Some f)
 sound_opened old new free free' current f sound none split changed slots =
     let first : numbers can_open 0 old.drive.frames ≡ f ∷ reverse free' = popped (numbers can_open 0 old.drive.frames) free free' f sound.vacant split in
     let inside : f < length old.drive.frames = (vacant_first old.drive.frames f (reverse free') first).inside in
@@ -84,7 +84,7 @@ pub put_filling : (old new : Table) (f : ℕ) (slot : Slot) (block : List ℕ) �
 put_filling old new f slot block e put =
     numbers_alone is_filling old.drive new.drive f put.alone (ap is_open put.phase) ∙ e
 
-pub sound_put : (old new : Table) (free : List ℕ) (current : Option ℕ) (f : ℕ) (slot : Slot) (block : List ℕ) → IsSound old free current → IsFilling f old → length (slots_at old.slots f) < 15 → IsOwned slot → IsPut f slot block old new → IsSound new free current
+pub sound_put : (old new : Table) (free : List ℕ) (current : Option ℕ) (f : ℕ) (slot : Slot) (block : List ℕ) → IsSoundTable old free current → IsFilling f old → length (slots_at old.slots f) < 15 → IsOwned slot → IsPut f slot block old new → IsSoundTable new free current
 sound_put old new free current f slot block sound filling room own put =
     let at = filling_at old f filling in
     let inside : f < length old.drive.frames = at.0 in
@@ -109,7 +109,7 @@ pub sealed_filling : (old new : Drive) (f : ℕ) → numbers is_filling 0 old.fr
 sealed_filling old new f e a phase =
     ap (λ (d : Drive). numbers is_filling 0 d.frames) a ∙ numbers_lost is_filling 0 f old.frames (frame_at new.frames f) [] (e ∙ ap (λ (n : ℕ). n ∷ []) (omega arith)) (ap is_open phase)
 
-pub sound_sealed : (old new : Table) (free : List ℕ) (current : Option ℕ) (f : ℕ) → IsSound old free current → IsFilling f old → IsSealed f (slots_at old.slots f) old.drive new.drive → new.slots ≡ old.slots → IsSound new free None
+pub sound_sealed : (old new : Table) (free : List ℕ) (current : Option ℕ) (f : ℕ) → IsSoundTable old free current → IsFilling f old → IsSealed f (slots_at old.slots f) old.drive new.drive → new.slots ≡ old.slots → IsSoundTable new free None
 sound_sealed old new free current f sound filling sealed slots =
     let at = filling_at old f filling in
     let inside : f < length old.drive.frames = at.0 in
@@ -178,7 +178,7 @@ parts_gone old f i g inside = elim (cases_eq g f) [
 unchanged_drive : (d e : Drive) (f : ℕ) → e ≡ d → IsAlone f d e
 unchanged_drive d e f same = same ∙ unchanged d f ∙ ap (λ (x : Drive). with_changed d f (frame_at x.frames f)) (sym same)
 
-pub sound_gone : (old new : Table) (free : List ℕ) (current : Option ℕ) (f i : ℕ) → IsSound old free current → f < length old.slots → new.drive ≡ old.drive → new.slots ≡ set old.slots f (let_go (slots_at old.slots f) i) → IsSound new free current
+pub sound_gone : (old new : Table) (free : List ℕ) (current : Option ℕ) (f i : ℕ) → IsSoundTable old free current → f < length old.slots → new.drive ≡ old.drive → new.slots ≡ set old.slots f (let_go (slots_at old.slots f) i) → IsSoundTable new free current
 sound_gone old new free current f i sound inside drive slots =
     let s : List Slot = slots_at old.slots f in
     let within : f < length old.drive.frames = omega (arith, sound.counted) in
@@ -202,7 +202,7 @@ fit_fresh f = record {
 }
 
 -- a new table
-pub sound_new : (t : Table) (count : ℕ) → count ≤ 1024 → t.drive.frames ≡ replicate count fresh_frame → t.slots ≡ replicate count [] → (free : List ℕ) → free ≡ reverse (range_with_len 0 count) → IsSound t free None
+pub sound_new : (t : Table) (count : ℕ) → count ≤ 1024 → t.drive.frames ≡ replicate count fresh_frame → t.slots ≡ replicate count [] → (free : List ℕ) → free ≡ reverse (range_with_len 0 count) → IsSoundTable t free None
 sound_new t count small frames slots free e =
     let long : length t.drive.frames ≡ count = ap length frames ∙ length-replicate count fresh_frame in
     record {

@@ -11,25 +11,25 @@ use Rattle.segment_table.specs.declared.slots.Slot.{Slot}
 use Rattle.segment_table.specs.Slots.{let_go}
 use Rattle.segment_table.specs.Table.{Table, slots_at, held_at}
 use Rattle.segment_table.specs.Room.{can_open, numbers, places, rest_of, places_ahead, log_of}
-use Rattle.segment_table.specs.Sealing.{IsSound, IsPartFilled}
-use Rattle.segment_table.specs.Changes.{KeepsBlock, IsFilling, NoneIsFilling, IsReady, IsPut, IsSealed, with_slot}
+use Rattle.segment_table.specs.Sealing.{IsSoundTable, IsPartFilled}
+use Rattle.segment_table.specs.Changes.{KeepsBlock, IsFilling, NoneIsFilling, IsReadyFrame, IsPut, IsSealed, with_slot}
 use Rattle.segment_table.proofs.Alone.{unchanged, alone, put_here}
 use Rattle.segment_table.proofs.Holding.{held_kept, held_put, held_gone}
 use Rattle.segment_table.proofs.Ahead.{CanOpen, vacant_first, filling_at, popped, ahead_put, ahead_sealed, ahead_opened, ahead_same, places_none}
 use Rattle.segment_table.proofs.Sound.{opened_alone, opened_filling, opened_vacant, put_filling, sealed_filling, used_gone}
 
-same_logs : (old new : Table) → held_at new ≡ held_at old → places_ahead new ≡ places_ahead old → log_of new ≡ log_of old
+pub same_logs : (old new : Table) → held_at new ≡ held_at old → places_ahead new ≡ places_ahead old → log_of new ≡ log_of old
 same_logs old new held ahead = λ i. record { held = held i; ahead = ahead i }
 
-pub first_vacant : (old : Table) (free free' : List ℕ) (current : Option ℕ) (f : ℕ) → IsSound old free current → free ≡ free' ++ f ∷ [] → CanOpen old.drive.frames f
+pub first_vacant : (old : Table) (free free' : List ℕ) (current : Option ℕ) (f : ℕ) → IsSoundTable old free current → free ≡ free' ++ f ∷ [] → CanOpen old.drive.frames f
 first_vacant old free free' current f sound split =
     vacant_first old.drive.frames f (reverse free') (popped (numbers can_open 0 old.drive.frames) free free' f sound.vacant split)
 
-no_slots_yet : (old : Table) (free : List ℕ) (current : Option ℕ) (f : ℕ) → IsSound old free current → CanOpen old.drive.frames f → slots_at old.slots f ≡ []
+no_slots_yet : (old : Table) (free : List ℕ) (current : Option ℕ) (f : ℕ) → IsSoundTable old free current → CanOpen old.drive.frames f → slots_at old.slots f ≡ []
 no_slots_yet old free current f sound can = (sound.fit f can.inside).free can.free
 
-pub ready_opened : (old new : Table) (free free' : List ℕ) (current : Option ℕ) (f : ℕ) → IsSound old free current → NoneIsFilling old → free ≡ free' ++ f ∷ []
-    → new.drive ≡ with_changed old.drive f (record (frame_at old.drive.frames f) { phase = Open }) → new.slots ≡ old.slots → IsReady f old new
+pub ready_opened : (old new : Table) (free free' : List ℕ) (current : Option ℕ) (f : ℕ) → IsSoundTable old free current → NoneIsFilling old → free ≡ free' ++ f ∷ []
+    → new.drive ≡ with_changed old.drive f (record (frame_at old.drive.frames f) { phase = Open }) → new.slots ≡ old.slots → IsReadyFrame f old new
 ready_opened old new free free' current f sound none split changed slots =
     let can : CanOpen old.drive.frames f = first_vacant old free free' current f sound split in
     let a = opened_alone old.drive new.drive f can.inside changed in
@@ -44,17 +44,17 @@ ready_opened old new free free' current f sound none split changed slots =
       room = omega arith;
     }
 
-pub log_opened : (old new : Table) (free free' : List ℕ) (current : Option ℕ) (f : ℕ) → IsSound old free current → NoneIsFilling old → free ≡ free' ++ f ∷ []
+pub log_opened : (old new : Table) (free free' : List ℕ) (current : Option ℕ) (f : ℕ) → IsSoundTable old free current → NoneIsFilling old → free ≡ free' ++ f ∷ []
     → new.drive ≡ with_changed old.drive f (record (frame_at old.drive.frames f) { phase = Open }) → new.slots ≡ old.slots → log_of new ≡ log_of old
 log_opened old new free free' current f sound none split changed slots =
     let can : CanOpen old.drive.frames f = first_vacant old free free' current f sound split in
-    let ready : IsReady f old new = ready_opened old new free free' current f sound none split changed slots in
+    let ready : IsReadyFrame f old new = ready_opened old new free free' current f sound none split changed slots in
     let first : numbers can_open 0 old.drive.frames ≡ f ∷ reverse free' = popped (numbers can_open 0 old.drive.frames) free free' f sound.vacant split in
     same_logs old new (held_kept old new f ready.alone ready.generation (λ b low high. ap (λ (l : List ℕ). block_bytes l b) ready.contents) slots)
     (ahead_opened old new f (reverse free') none first ready.filling (opened_vacant old.drive new.drive f (reverse free') first changed) ready.alone ready.generation slots (no_slots_yet old free current f sound can))
 
 -- the open frame is ready as it is
-pub ready_same : (t : Table) (f : ℕ) → f < length t.slots → IsFilling f t → IsPartFilled t → IsReady f t t
+pub ready_same : (t : Table) (f : ℕ) → f < length t.slots → IsFilling f t → IsPartFilled t → IsReadyFrame f t t
 ready_same t f within filling part =
     let at = filling_at t f filling in
     record {
@@ -91,7 +91,7 @@ pub record AtFilling (t : Table) (f : ℕ) : Type 0 where
   pub phase : (frame_at t.drive.frames f).phase ≡ Open
   pub filling : IsFilling f t
 
-pub at_filling : (old t : Table) (free : List ℕ) (current : Option ℕ) (f : ℕ) → old ≡ t → IsSound old free current → IsFilling f t → AtFilling old f
+pub at_filling : (old t : Table) (free : List ℕ) (current : Option ℕ) (f : ℕ) → old ≡ t → IsSoundTable old free current → IsFilling f t → AtFilling old f
 at_filling old t free current f same sound e =
     let F : Table → Type 0 = λ x. IsFilling f x in
     let filling : IsFilling f old = subst F (sym same) e in

@@ -1,14 +1,15 @@
 -- What the calls change in a table.
-use Rattle.std.specs.Prelude.{◌≡◌, ◌≢◌, ℕ, ◌+◌, ◌<◌, ◌≤◌, true, List, [], ◌∷◌, ◌++◌, length, slice_set}
+use Rattle.std.specs.Prelude.{◌≡◌, ◌≢◌, ℕ, ◌+◌, ◌^◌, ◌<◌, ◌≤◌, true, List, [], ◌∷◌, ◌++◌, length, slice_set, None}
+use Rattle.std.specs.List.{AllByRecursion, flat_map}
 use Rattle.s4_types.specs.Pointer.{Place}
 use Rattle.codec.specs.Summary.{IsBlank}
 use Rattle.codec.specs.declared.summaries.Part.{Part}
-use Rattle.segment_word.specs.Frames.{Open, Sealed}
+use Rattle.segment_word.specs.Frames.{Open, Sealed, Emptied}
 use Rattle.segment_word.specs.Layout.{frame_at, block_bytes}
-use Rattle.segment_word.specs.Handles.{Drive, with_changed}
+use Rattle.segment_word.specs.Handles.{Drive, with_changed, with_released}
 use Rattle.segment_table.specs.declared.slots.Slot.{Slot}
-use Rattle.segment_table.specs.Table.{Table, slots_at}
-use Rattle.segment_table.specs.Room.{is_filling, numbers}
+use Rattle.segment_table.specs.Table.{Table, slots_at, held_at}
+use Rattle.segment_table.specs.Room.{is_filling, can_open, numbers, rest_of, whole_of, places_ahead}
 use Rattle.segment_table.specs.Sealing.{IsSummed}
 
 -- frame f is the only open one
@@ -55,7 +56,7 @@ IsSealedIn f old new = IsSealed f (slots_at old.slots f) old.drive new.drive × 
 
 -- Frame f is the open one and takes the next append: it was so before, or it was free and has been opened. No block has
 -- changed.
-pub record IsReady (f : ℕ) (old new : Table) : Type 0 where
+pub record IsReadyFrame (f : ℕ) (old new : Table) : Type 0 where
   pub alone : IsAlone f old.drive new.drive
   pub generation : KeepsGeneration f old.drive new.drive
   pub contents : (frame_at new.drive.frames f).contents ≡ (frame_at old.drive.frames f).contents
@@ -89,3 +90,32 @@ pub record IsAppended (p : Place) (part : Part) (block : List ℕ) (old new : Ta
   pub filling : p.block < 15 → (frame_at new.drive.frames p.frame).phase ≡ Open
   pub sealed : p.block ≡ 15 → (frame_at new.drive.frames p.frame).phase ≡ Sealed
   pub summed : p.block ≡ 15 → IsSummed p.frame (frame_at new.drive.frames p.frame) (slots_at new.slots p.frame)
+
+-- none of the blocks of frame f is held
+abbrev pub NoneHeld : ℕ → Table → Type 0
+NoneHeld f t = (p : Place) → p.frame ≡ f → held_at t p ≡ None
+
+-- frame f was sealed and none of its blocks was held: it is being emptied, and nothing else has changed
+pub record IsMarked (f : ℕ) (old new : Table) : Type 0 where
+  pub sealed : (frame_at old.drive.frames f).phase ≡ Sealed
+  pub unheld : NoneHeld f old
+  pub drive : new.drive ≡ with_changed old.drive f (record (frame_at old.drive.frames f) { phase = Emptied })
+  pub slots : new.slots ≡ old.slots
+
+-- frame f was being emptied and had no reader: it is free at its next generation, and none of its blocks is used
+pub record IsReleased (f : ℕ) (old new : Table) : Type 0 where
+  pub inside : f < length old.drive.frames
+  pub emptied : (frame_at old.drive.frames f).phase ≡ Emptied
+  pub goes_on : (frame_at old.drive.frames f).generation + 1 < 2 ^ 32
+  pub drive : new.drive ≡ with_released old.drive f
+  pub slots : new.slots ≡ slice_set old.slots f []
+
+-- The 15 blocks of frame f, at its new generation, are among the places ahead: behind the unused blocks of the open frame
+-- and the free frames of lower numbers, before the free frames of higher numbers. The others are as they were.
+pub record IsAheadAgain (f : ℕ) (old new : Table) : Type 0 where
+  pub lower : List ℕ
+  pub higher : List ℕ
+  pub vacant : numbers can_open 0 old.drive.frames ≡ lower ++ higher
+  pub below : AllByRecursion (λ n. n < f) lower
+  pub above : AllByRecursion (λ n. f < n) higher
+  pub ahead : places_ahead new ≡ flat_map (rest_of old) (numbers is_filling 0 old.drive.frames) ++ (flat_map (whole_of old) lower ++ (whole_of new f ++ flat_map (whole_of old) higher))

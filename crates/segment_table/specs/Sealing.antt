@@ -43,7 +43,7 @@ pub record IsFit (f : ℕ) (k : Frame) (slots : List Slot) : Type 0 where
 
 -- What holds of a table between calls, but for how many blocks of the open frame are used: which frames can be opened,
 -- the lowest number last, and which one is open.
-pub record IsSound (t : Table) (free : List ℕ) (current : Option ℕ) : Type 0 where
+pub record IsSoundTable (t : Table) (free : List ℕ) (current : Option ℕ) : Type 0 where
   pub most : length t.drive.frames ≤ 1024
   pub counted : length t.slots ≡ length t.drive.frames
   pub vacant : free ≡ reverse (numbers can_open 0 t.drive.frames)

@@ -19,8 +19,8 @@ abbrev pub slots_at : List (List Slot) → ℕ → List Slot
 slots_at slots f = slice_index_or slots f []
 
 -- the used block of that number; block 0 is the summary
-abbrev pub slot_of : List Slot → ℕ → Slot
-slot_of slots b = slice_index_or (no_slot ∷ slots) b no_slot
+abbrev pub block_slot : List Slot → ℕ → Slot
+block_slot slots b = slice_index_or (no_slot ∷ slots) b no_slot
 
 -- a held block with its bytes
 abbrev pub stored : Slot → List ℕ → Option Stored
@@ -28,7 +28,7 @@ stored slot bytes = if slot.held then Some (record { kind = slot.part.kind; obje
 
 -- what block b of a frame holds for a pointer of generation g
 abbrev pub held_block : Frame → List Slot → ℕ → ℕ → Option Stored
-held_block k slots b g = if k.generation == g then stored (slot_of slots b) (block_bytes k.contents b) else None
+held_block k slots b g = if k.generation == g then stored (block_slot slots b) (block_bytes k.contents b) else None
 
 -- what a place of the table holds: a pointer to an earlier life of its frame leads to nothing
 abbrev pub held_at : Table → Place → Option Stored

@@ -7,8 +7,10 @@
 //! frame, so that it never leads to a block of a later life. All memory but that of `count_on` and `held_in`
 //! is had in `new`.
 //!
-//! Frames that hold nothing are not emptied here, and nothing is kept back: an append answers NoSpace only where no
-//! frame is open and none can be opened: of the free ones, those at the last generation, 2^32 - 1, are retired.
+//! A sealed frame of which no block is held can be marked, and then released once it has no reader: it is free again, at
+//! its next generation, and both leave every pair. Which frames are marked and when is the layer's above. Nothing is kept
+//! back: an append answers NoSpace only where no frame is open and none can be opened: of the free ones, those at the last
+//! generation, 2^32 - 1, are retired.
 #![tactic(auto)]
 
 mod seals;

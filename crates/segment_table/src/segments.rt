@@ -1,19 +1,19 @@
 //! The frames of a drive and what their blocks are for, one step at a time.
-ghost use Rattle.std.specs.Prelude.{◌≡◌, ℕ, ◌+◌, ◌-◌, ◌^◌, ◌<◌, ◌≤◌, ◌⊎◌, ◌==◌, true, false, [], ◌∷◌, ◌++◌, length, map, replicate, reverse, Option, Some, None, IsSome, IfSome, IfNone, IfOk, IfErr, OnOk, OnErr, IsOk, MatchOption, MatchBool, option_map};
-ghost use Rattle.std.specs.List.{range_with_len};
+ghost use Rattle.std.specs.Prelude.{◌≡◌, ◌≢◌, ℕ, ◌+◌, ◌-◌, ◌^◌, ◌<◌, ◌≤◌, ◌⊎◌, ◌==◌, true, false, List, [], ◌∷◌, ◌++◌, length, map, replicate, reverse, Option, Some, None, IsSome, IfSome, IfNone, IfOk, IfErr, OnOk, OnErr, IsOk, MatchOption, MatchBool, option_map, vec_len, vec_capacity};
+ghost use Rattle.std.specs.List.{AllByRecursion, range_with_len};
 ghost use Rattle.std.specs.Option.{option_to_list};
-ghost use Rattle.s4_types.specs.declared.refusals.Refusal.TheVariants.{NoMemory, Busy};
+ghost use Rattle.s4_types.specs.declared.refusals.Refusal.TheVariants.{NoMemory, Busy, InUse};
 ghost use Rattle.block_log.specs.Log.{appended, dropped};
 ghost use Rattle.segment_word.specs.Frames.{Pinned, is_sealed};
-ghost use Rattle.segment_word.specs.Frames.Phase.{Open, Sealed};
+ghost use Rattle.segment_word.specs.Frames.Phase.{Open, Sealed, Emptied};
 ghost use Rattle.segment_word.specs.Layout.{frame_at, block_bytes};
 ghost use Rattle.segment_word.specs.Counting.{pins_in};
 ghost use Rattle.segment_word.specs.FrameRule.{AllAgree};
-ghost use Rattle.segment_word.specs.Handles.{fresh_frame, IsAmong, pin_of};
+ghost use Rattle.segment_word.specs.Handles.{fresh_frame, IsAmong, pin_of, HasMissed};
 ghost use Rattle.segment_table.specs.Table.{Table, slots_at, held_at, is_of, part_of};
 ghost use Rattle.segment_table.specs.Room.{is_filling, can_open, numbers, rest_of, places_ahead, log_of, pointers_in};
 ghost use Rattle.segment_table.specs.Sealing.{IsFit, IsPartFilled};
-ghost use Rattle.segment_table.specs.Changes.{IsFilling, NoneIsFilling, IsReady, IsPut, IsSealed, IsSealedIn};
+ghost use Rattle.segment_table.specs.Changes.{IsFilling, NoneIsFilling, IsReadyFrame, IsPut, IsSealed, IsSealedIn, NoneHeld, IsMarked, IsReleased, IsAheadAgain};
 
 use crate::seals;
 use crate::slots::Slots;
@@ -38,13 +38,14 @@ pub struct Segments {
 
 impl Model for Segments {
     ghost use Rattle.segment_table.specs.Table.{Table};
-    ghost use Rattle.segment_table.specs.Sealing.{IsSound};
+    ghost use Rattle.std.specs.Prelude.{◌≤◌, length, vec_capacity};
+    ghost use Rattle.segment_table.specs.Sealing.{IsSoundTable};
 
     ghost Value = { Table };
 
     ghost view = { λ s. record { drive = s.seat; slots = s.slots.items } };
 
-    ghost invariant = { λ s. IsSound (record { drive = s.seat; slots = s.slots.items }) s.free.items s.current };
+    ghost invariant = { λ s. IsSoundTable (record { drive = s.seat; slots = s.slots.items }) s.free.items s.current × (length s.seat.frames ≤ vec_capacity s.free) };
 }
 
 // No used block for so many frames.
@@ -62,6 +63,7 @@ fn no_slots(alloc: Global, count: u16) -> Result<Vec<Slots>, Refusal>
 // The numbers below `count`, the lowest last.
 fn descending(alloc: Global, count: u16) -> Result<Vec<u16>, Refusal>
     ensures numbers { IfOk result (λ v. v.items ≡ reverse (range_with_len 0 count)) }
+    ensures room { IfOk result (λ v. count ≤ vec_capacity v) }
     ensures refusal { IfErr result (λ e. e ≡ NoMemory) }
 {
     let mut numbers = Vec::with_capacity(alloc, count as usize)?;
@@ -69,6 +71,17 @@ fn descending(alloc: Global, count: u16) -> Result<Vec<u16>, Refusal>
         numbers.push(count - 1 - i)?;
     }
     Ok(numbers)
+}
+
+// Puts a number into a list between those that are greater and those that are less.
+fn put_back(free: &mut Vec<u16>, frame: u16)
+    requires { vec_len free.old < vec_capacity free.old }
+    ensures items { (higher lower : List ℕ) → free.old.items ≡ higher ++ lower → AllByRecursion (λ n. frame < n) higher → AllByRecursion (λ n. n < frame) lower → free.new.items ≡ higher ++ frame ∷ lower }
+    ensures room { vec_capacity free.old ≤ vec_capacity free.new }
+{
+    let place = free.as_slice().partition_point(|other| *other > frame);
+    // there is room, so that it isn't refused
+    let _ = free.insert(place, frame);
 }
 
 impl Segments {
@@ -131,7 +144,7 @@ impl Segments {
     // Opens the free frame of the lowest number. None where there is none.
     fn open_lowest(&mut self) -> Option<u16>
         requires { NoneIsFilling self.old }
-        ensures ready { IfSome result (λ f. IsReady f self.old self.new) }
+        ensures ready { IfSome result (λ f. IsReadyFrame f self.old self.new) }
         ensures log { log_of self.new ≡ log_of self.old }
         ensures full { IfNone result ((self.new ≡ self.old) × (length (places_ahead self.old) ≡ 0)) }
     {
@@ -144,7 +157,7 @@ impl Segments {
     /// The frame that takes the next append. It is opened, where none was open. None where there is no free frame either.
     pub fn ready_frame(&mut self) -> Option<u16>
         requires { IsPartFilled self.old }
-        ensures ready { IfSome result (λ f. IsReady f self.old self.new) }
+        ensures ready { IfSome result (λ f. IsReadyFrame f self.old self.new) }
         ensures log { log_of self.new ≡ log_of self.old }
         ensures full { IfNone result ((self.new ≡ self.old) × (length (places_ahead self.old) ≡ 0)) }
     {
@@ -289,6 +302,50 @@ impl Segments {
             return Some(self.seat.generation(number));
         }
         None
+    }
+
+    /// A sealed frame of which no block is held is being emptied from now on.
+    pub fn mark(&mut self, frame: u16) -> Result<(), Refusal>
+        ensures marked { OnOk result (IsMarked frame self.old self.new) }
+        ensures exact { (frame_at self.old.drive.frames frame).phase ≡ Sealed → NoneHeld frame self.old → IsOk result }
+        ensures log { log_of self.new ≡ log_of self.old }
+        ensures refused { OnErr result (self.new ≡ self.old) }
+        ensures refusal { IfErr result (λ e. e ≡ InUse) }
+    {
+        let number = frame as usize;
+        if self.sealed_generation(frame).is_none() {
+            return Err(Refusal::InUse);
+        }
+        if self.slots[number].any_held() {
+            return Err(Refusal::InUse);
+        }
+        self.seat.mark(number);
+        Ok(())
+    }
+
+    /// A frame that is being emptied and has no reader is free at its next generation, and can be opened again.
+    pub fn release(&mut self, frame: u16) -> Result<(), Refusal>
+        ensures released { OnOk result (IsReleased frame self.old self.new) }
+        ensures held { (log_of self.new).held ≡ (log_of self.old).held }
+        ensures again { OnOk result ((frame_at self.old.drive.frames frame).generation + 2 < 2 ^ 32 → IsAheadAgain frame self.old self.new) }
+        ensures retired { OnOk result ((frame_at self.old.drive.frames frame).generation + 2 ≡ 2 ^ 32 → places_ahead self.new ≡ places_ahead self.old) }
+        ensures missed { OnErr result ((frame_at self.old.drive.frames frame).phase ≡ Emptied → HasMissed frame self.old.drive self.new.drive) }
+        ensures idle { OnErr result ((frame_at self.old.drive.frames frame).phase ≢ Emptied → self.new ≡ self.old) }
+        ensures refused { OnErr result ((self.new.drive.frames ≡ self.old.drive.frames) × (self.new.slots ≡ self.old.slots)) }
+        ensures log { OnErr result (log_of self.new ≡ log_of self.old) }
+        ensures table { self.new.drive.table ≡ self.old.drive.table }
+        ensures refusal { IfErr result (λ e. e ≡ InUse) }
+    {
+        let number = frame as usize;
+        if number >= self.slots.len() {
+            return Err(Refusal::InUse);
+        }
+        self.seat.release(number)?;
+        self.slots[number].clear();
+        if self.seat.generation(number) < u32::MAX {
+            put_back(&mut self.free, frame);
+        }
+        Ok(())
     }
 
     // Whether a pointer at its frame's generation leads to a held block of this object.

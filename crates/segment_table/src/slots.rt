@@ -1,5 +1,6 @@
 //! What the payload blocks of one frame are.
 ghost use Rattle.std.specs.Prelude.{◌≡◌, ℕ, ◌+◌, ◌-◌, ◌<◌, ◌≤◌, true, [], ◌∷◌, ◌++◌, length, map, slice_set, slice_get};
+ghost use Rattle.std.specs.List.{list_any};
 ghost use Rattle.segment_table.specs.Slots.{let_go, held_part};
 
 use arrayvec::ArrayVec;
@@ -83,6 +84,20 @@ impl Slots {
         if let Some(slot) = self.slots.get_mut(block - 1) {
             slot.held = false;
         }
+    }
+
+    /// Whether some block is held.
+    pub fn any_held(&self) -> bool
+        ensures { result ≡ list_any (λ slot. slot.held) self.now }
+    {
+        self.slots.as_slice().iter().any(|slot| slot.held)
+    }
+
+    /// No block is used from now on.
+    pub fn clear(&mut self)
+        ensures { self.new ≡ [] }
+    {
+        self.slots.clear();
     }
 
     /// What the used blocks are for.

@@ -1,19 +1,19 @@
 //! The segment table: blocks behind pointers, the sealing of frames, and pins that count on them.
-ghost use Rattle.std.specs.Prelude.{◌≡◌, ℕ, ◌+◌, ◌<◌, ◌≤◌, ◌⊎◌, [], ◌∷◌, ◌++◌, length, map, replicate, Some, None, IsSome, IfSome, IfOk, IfErr, OnOk, OnErr, IsOk, MatchBool, option_map};
+ghost use Rattle.std.specs.Prelude.{◌≡◌, ◌≢◌, ℕ, ◌+◌, ◌^◌, ◌<◌, ◌≤◌, ◌⊎◌, [], ◌∷◌, ◌++◌, length, map, replicate, Some, None, IsSome, IfSome, IfOk, IfErr, OnOk, OnErr, IsOk, MatchBool, option_map};
 ghost use Rattle.s4_types.specs.Sizes.{IsFrameCount};
 ghost use Rattle.s4_types.specs.Pointer.{Place};
-ghost use Rattle.s4_types.specs.declared.refusals.Refusal.TheVariants.{NoMemory, Busy, NoSpace};
+ghost use Rattle.s4_types.specs.declared.refusals.Refusal.TheVariants.{NoMemory, Busy, NoSpace, InUse};
 ghost use Rattle.block_log.specs.Log.{Log, appended, dropped};
 ghost use Rattle.segment_word.specs.Frames.{Pinned};
-ghost use Rattle.segment_word.specs.Frames.Phase.{Open, Sealed};
+ghost use Rattle.segment_word.specs.Frames.Phase.{Open, Sealed, Emptied};
 ghost use Rattle.segment_word.specs.Layout.{frame_at, block_bytes};
 ghost use Rattle.segment_word.specs.Counting.{pins_in};
 ghost use Rattle.segment_word.specs.FrameRule.{AllAgree};
-ghost use Rattle.segment_word.specs.Handles.{fresh_frame, IsAmong, pin_of};
+ghost use Rattle.segment_word.specs.Handles.{fresh_frame, IsAmong, pin_of, HasMissed};
 ghost use Rattle.segment_table.specs.Table.{Table, slots_at, held_at, part_of};
 ghost use Rattle.segment_table.specs.Room.{is_filling, numbers, rest_of, places_ahead, log_of, new_places, pointers_in};
 ghost use Rattle.segment_table.specs.Sealing.{IsFit, IsPartFilled};
-ghost use Rattle.segment_table.specs.Changes.{IsFilling, NoneIsFilling, IsAppended, IsSealedIn};
+ghost use Rattle.segment_table.specs.Changes.{IsFilling, NoneIsFilling, IsAppended, IsSealedIn, NoneHeld, IsMarked, IsReleased, IsAheadAgain};
 
 use crate::segments::Segments;
 use block_log::{Block, BlockKind, Blocks};
@@ -83,6 +83,39 @@ impl SegmentTable {
         if let Some(frame) = self.segments.open_frame() {
             self.segments.seal(frame);
         }
+    }
+
+    /// A sealed frame of which no block is held is being emptied from now on. Its readers and its pins stay.
+    ///
+    /// InUse where the frame isn't sealed or isn't there, or where one of its blocks is held. Nothing has changed then.
+    pub fn mark(&mut self, frame: u16) -> Result<(), Refusal>
+        ensures marked { OnOk result (IsMarked frame self.old self.new) }
+        ensures exact { (frame_at self.old.drive.frames frame).phase ≡ Sealed → NoneHeld frame self.old → IsOk result }
+        ensures log { log_of self.new ≡ log_of self.old }
+        ensures refused { OnErr result (self.new ≡ self.old) }
+        ensures refusal { IfErr result (λ e. e ≡ InUse) }
+    {
+        self.segments.mark(frame)
+    }
+
+    /// A frame that is being emptied and has no reader is free at its next generation: its 15 payload blocks are ahead again,
+    /// in their order. One that reaches the last generation, 2^32 - 1, is retired instead.
+    ///
+    /// InUse where the frame isn't being emptied or isn't there, and nothing has changed then; or where its word counted a
+    /// reader at the one exchange that was tried, which is noted, and no frame or block has changed.
+    pub fn release(&mut self, frame: u16) -> Result<(), Refusal>
+        ensures released { OnOk result (IsReleased frame self.old self.new) }
+        ensures held { (log_of self.new).held ≡ (log_of self.old).held }
+        ensures again { OnOk result ((frame_at self.old.drive.frames frame).generation + 2 < 2 ^ 32 → IsAheadAgain frame self.old self.new) }
+        ensures retired { OnOk result ((frame_at self.old.drive.frames frame).generation + 2 ≡ 2 ^ 32 → places_ahead self.new ≡ places_ahead self.old) }
+        ensures missed { OnErr result ((frame_at self.old.drive.frames frame).phase ≡ Emptied → HasMissed frame self.old.drive self.new.drive) }
+        ensures idle { OnErr result ((frame_at self.old.drive.frames frame).phase ≢ Emptied → self.new ≡ self.old) }
+        ensures refused { OnErr result ((self.new.drive.frames ≡ self.old.drive.frames) × (self.new.slots ≡ self.old.slots)) }
+        ensures log { OnErr result (log_of self.new ≡ log_of self.old) }
+        ensures table { self.new.drive.table ≡ self.old.drive.table }
+        ensures refusal { IfErr result (λ e. e ≡ InUse) }
+    {
+        self.segments.release(frame)
     }
 
     /// What the block is for that a pointer leads to. None where the pointer isn't held.

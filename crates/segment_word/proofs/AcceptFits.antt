@@ -6,27 +6,27 @@ use lib.ListN.{get_elem?}
 use Rattle.atomic_table.proofs.Lists.{at_longer, at_last}
 use Rattle.s4_types.specs.declared.changes.Change.{Change}
 use Rattle.s4_types.specs.History.{accepted}
-use Rattle.segment_word.specs.AcceptViews.{Told, Ledger, View, Driving, Lent, Attending, Beside, Carried, Spent, new_session, told_of, with_change, count_of, caught_up, credited}
-use Rattle.segment_word.specs.AcceptRule.{Fits, Suits, first_ledger}
+use Rattle.segment_word.specs.AcceptViews.{Told, Ledger, AcceptView, Driving, Lent, Attending, Beside, Carried, Spent, new_session, told_of, with_change, count_of, caught_up, credited}
+use Rattle.segment_word.specs.AcceptRule.{FitsLedger, Suits, first_ledger}
 use Rattle.segment_word.specs.AcceptHandles.{SessionsShareNone, ToldShareNone}
 use Rattle.segment_word.proofs.AcceptLists.{prefix_all, prefix_trans, prefix_length, count-change, own_more, own_one_more, own_at}
 
-pub fits_new : (l : Ledger) (seat : ℕ) → Fits l (new_session seat)
+pub fits_new : (l : Ledger) (seat : ℕ) → FitsLedger l (new_session seat)
 fits_new l seat = record { seen = (accepted l.history, refl); mine = omega arith }
 
-pub fits_more : (l l' : Ledger) (t : Told) → IsPrefix (accepted l.history) (accepted l'.history) → IsPrefix l.owners l'.owners → Fits l t → Fits l' t
+pub fits_more : (l l' : Ledger) (t : Told) → IsPrefix (accepted l.history) (accepted l'.history) → IsPrefix l.owners l'.owners → FitsLedger l t → FitsLedger l' t
 fits_more l l' t changes owners f = record {
   seen = prefix_trans t.seen (accepted l.history) (accepted l'.history) f.seen changes;
   mine = own_more l.owners l'.owners t.seat 0 (length t.seen) (length t.seen) t.mine (λ i x e. subst (λ (o : List ℕ). get_elem? o i ≡ some x) owners.1 (at_longer l.owners owners.0 i x e)) (omega arith) f.mine;
 }
 
-pub fits_caught_up : (l : Ledger) (t : Told) → Fits l t → Fits l (caught_up l t)
+pub fits_caught_up : (l : Ledger) (t : Told) → FitsLedger l t → FitsLedger l (caught_up l t)
 fits_caught_up l t f = record {
   seen = prefix_all (accepted l.history);
   mine = own_more l.owners l.owners t.seat 0 (length t.seen) (count_of l) t.mine (λ i x e. e) (prefix_length t.seen (accepted l.history) f.seen) f.mine;
 }
 
-pub fits_credited : (l : Ledger) (t : Told) (m : ℕ) (c : Change) → length l.owners ≡ count_of l → Fits l t → Fits (with_change l t.seat m c) (credited (with_change l t.seat m c) t)
+pub fits_credited : (l : Ledger) (t : Told) (m : ℕ) (c : Change) → length l.owners ≡ count_of l → FitsLedger l t → FitsLedger (with_change l t.seat m c) (credited (with_change l t.seat m c) t)
 fits_credited l t m c owned f =
     let l' : Ledger = with_change l t.seat m c in
     let count = count-change l t.seat m c in
@@ -37,7 +37,7 @@ fits_credited l t m c owned f =
           (own_more l.owners l'.owners t.seat 0 (length t.seen) (length t.seen) t.mine (λ i x e. at_longer l.owners (t.seat ∷ []) i x e) (omega arith) f.mine);
     }
 
-pub suits_more : (l l' : Ledger) → IsPrefix (accepted l.history) (accepted l'.history) → IsPrefix l.owners l'.owners → (id : ℕ) (v : View) → Suits l id v → Suits l' id v
+pub suits_more : (l l' : Ledger) → IsPrefix (accepted l.history) (accepted l'.history) → IsPrefix l.owners l'.owners → (id : ℕ) (v : AcceptView) → Suits l id v → Suits l' id v
 suits_more l l' changes owners id (Driving m) s = tt
 suits_more l l' changes owners id (Lent m t) s = fits_more l l' t changes owners s
 suits_more l l' changes owners id (Attending t) s = (s.0, fits_more l l' t changes owners s.1)
@@ -46,7 +46,7 @@ suits_more l l' changes owners id (Carried t) s = fits_more l l' t changes owner
 suits_more l l' changes owners id Spent s = tt
 
 -- what any seat has of a session is true
-pub fits_told : (l : Ledger) (id : ℕ) (v : View) → Suits l id v → Fits l (told_of v)
+pub fits_told : (l : Ledger) (id : ℕ) (v : AcceptView) → Suits l id v → FitsLedger l (told_of v)
 fits_told l id (Driving m) s = fits_new l 0
 fits_told l id (Lent m t) s = s
 fits_told l id (Attending t) s = s.1

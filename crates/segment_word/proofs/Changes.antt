@@ -8,11 +8,11 @@ use Rattle.atomic_table.proofs.Lists.{at_set}
 use Rattle.segment_word.specs.Frames.{Frame, Pinned, View, code_of, no_frame}
 use Rattle.segment_word.specs.Layout.{word_of, frame_at}
 use Rattle.segment_word.specs.Counting.{readers}
-use Rattle.segment_word.specs.FrameRule.{IsKept, Agrees, AllAgree, Rules}
+use Rattle.segment_word.specs.FrameRule.{IsKeptFrame, Agrees, AllAgree, FrameRules}
 
 -- what is known of a frame stays where its words and its count do
-pub kept_same : (words words' : List ℕ) (n n' f : ℕ) (k : Frame) → IsKept words n f k
-    → ((m : ℕ) → m < 1025 → slice_index words' (1025 * f + m) ≡ slice_index words (1025 * f + m)) → n' ≡ n → IsKept words' n' f k
+pub kept_same : (words words' : List ℕ) (n n' f : ℕ) (k : Frame) → IsKeptFrame words n f k
+    → ((m : ℕ) → m < 1025 → slice_index words' (1025 * f + m) ≡ slice_index words (1025 * f + m)) → n' ≡ n → IsKeptFrame words' n' f k
 kept_same words words' n n' f k is same count = record {
   state = ap (λ (i : ℕ). slice_index words' i) (sym (add-zero (1025 * f))) ∙ same 0 (omega arith) ∙ ap (λ (i : ℕ). slice_index words i) (add-zero (1025 * f)) ∙ is.state ∙ ap (λ (c : ℕ). word_of k c) (sym count);
   blocks = λ j h. ap (λ (i : ℕ). slice_index words' i) (add_assoc (1025 * f) 1 j) ∙ same (1 + j) (omega arith) ∙ ap (λ (i : ℕ). slice_index words i) (sym (add_assoc (1025 * f) 1 j)) ∙ is.blocks j h;
@@ -52,20 +52,20 @@ agrees_set frames f k p a same =
     })
 
 -- the rule after a step that changed the words, the count and what is known of frame f alone
-pub changed : (words words' : List ℕ) (views views' : List View) (frames : List Frame) (f : ℕ) (k : Frame) → Rules words views frames → f < length frames
+pub changed : (words words' : List ℕ) (views views' : List View) (frames : List Frame) (f : ℕ) (k : Frame) → FrameRules words views frames → f < length frames
     → length words' ≡ length words
     → ((g m : ℕ) → g ≢ f → m < 1025 → slice_index words' (1025 * g + m) ≡ slice_index words (1025 * g + m))
     → ((g : ℕ) → g ≢ f → readers g views' ≡ readers g views)
-    → IsKept words' (readers f views') f k
+    → IsKeptFrame words' (readers f views') f k
     → ((id : ℕ) (v : View) → get_elem? views' id ≡ some v → AllAgree (set frames f k) v.pins)
-    → Rules words' views' (set frames f k)
+    → FrameRules words' views' (set frames f k)
 changed words words' views views' frames f k r inside long apart counts here agree = record {
   sized = long ∙ r.sized ∙ ap (λ (n : ℕ). 1025 * n) (sym (length-set frames f k));
   some_frame = omega (arith, length-set frames f k, r.some_frame);
   kept = λ g h. dite (ℕ_discrete g f)
-      (λ is. subst (λ (n : ℕ). IsKept words' (readers n views') n (frame_at (set frames f k) n)) (sym is)
-      (subst (λ (x : Frame). IsKept words' (readers f views') f x) (sym (get_or-set_same frames f k no_frame inside)) here))
-      (λ else. subst (λ (x : Frame). IsKept words' (readers g views') g x) (sym (get_or-set_other frames f g k no_frame else))
+      (λ is. subst (λ (n : ℕ). IsKeptFrame words' (readers n views') n (frame_at (set frames f k) n)) (sym is)
+      (subst (λ (x : Frame). IsKeptFrame words' (readers f views') f x) (sym (get_or-set_same frames f k no_frame inside)) here))
+      (λ else. subst (λ (x : Frame). IsKeptFrame words' (readers g views') g x) (sym (get_or-set_other frames f g k no_frame else))
       (kept_same words words' (readers g views) (readers g views') g (frame_at frames g) (r.kept g (subst (λ (n : ℕ). g < n) (length-set frames f k) h)) (λ m hm. apart g m else hm) (counts g else)));
   pinned = agree;
 }

@@ -6,6 +6,7 @@ pub mod Storing
 pub mod Looking
 pub mod Pinning
 pub mod Moving
+pub mod Releasing
 pub mod Opening
 pub mod BlockWords
 pub mod BlockBytes

@@ -7,20 +7,20 @@ use Rattle.atomic_table.specs.Table.{State, step, keeps, stepped, Allows}
 use Rattle.atomic_table.proofs.Lists.{set_again}
 use Rattle.segment_word.specs.Frames.{Frame, View}
 use Rattle.segment_word.specs.Counting.{readers, drive_frames}
-use Rattle.segment_word.specs.FrameRule.{Rules, FrameRule}
-use Rattle.segment_word.specs.Steps.{Sat, Looks, Reads}
+use Rattle.segment_word.specs.FrameRule.{FrameRules, FrameRule}
+use Rattle.segment_word.specs.Steps.{Sat, Looks, ReadsBlockWord}
 use Rattle.segment_word.proofs.Sums.{frames-first}
 
 -- a step that writes what it found, by a seat that keeps its view, leaves the rule
 pub unmoved : (s : State (Unit {0}) View) (id : ℕ) (me : Sat) (i : ℕ) → FrameRule s → get_elem? s.views id ≡ some me.0
     → FrameRule (stepped s i (slice_index s.words i) id me.1 me.0 keeps)
-unmoved s id me i rule at = subst (λ (z : List ℕ × List View). Rules z.0 z.1 (drive_frames z.1))
+unmoved s id me i rule at = subst (λ (z : List ℕ × List View). FrameRules z.0 z.1 (drive_frames z.1))
     (λ t. (sym (set-get_or s.words i 0) t, sym (set_again s.views id me.0 at) t)) rule
 
 pub looks : (slots id : ℕ) (me : Sat) (i : ℕ) → id ≡ 0 → Allows FrameRule slots id me i (λ n. n) (Looks (step slots i 0 0 none) me)
 looks slots id me i z s rule _ at small =
     let known : drive_frames s.views ≡ me.0.frames = frames-first s.views id me.0 z at in
-    let r : Rules s.words s.views me.0.frames = subst (λ (l : List Frame). Rules s.words s.views l) known rule in (
+    let r : FrameRules s.words s.views me.0.frames = subst (λ (l : List Frame). FrameRules s.words s.views l) known rule in (
       me.0,
       keeps,
       tt,
@@ -42,7 +42,7 @@ looks slots id me i z s rule _ at small =
       },
     )
 
-pub reads : (slots id : ℕ) (me : Sat) (i : ℕ) → Allows FrameRule slots id me i (λ n. n) (Reads (step slots i 0 0 none) me)
+pub reads : (slots id : ℕ) (me : Sat) (i : ℕ) → Allows FrameRule slots id me i (λ n. n) (ReadsBlockWord (step slots i 0 0 none) me)
 reads slots id me i s rule _ at small = (
   me.0,
   keeps,

@@ -7,19 +7,19 @@ use Rattle.atomic_table.proofs.Lists.{at_snoc, set_else}
 use Rattle.segment_word.specs.Frames.{Frame, Pinned, View, nothing_known}
 use Rattle.segment_word.specs.Layout.{frame_at}
 use Rattle.segment_word.specs.Counting.{readers, drive_frames}
-use Rattle.segment_word.specs.FrameRule.{IsKept, AllAgree, Rules, FrameRule}
-use Rattle.segment_word.specs.Steps.{pins_of, without_pins, joined}
+use Rattle.segment_word.specs.FrameRule.{IsKeptFrame, AllAgree, FrameRules, FrameRule}
+use Rattle.segment_word.specs.Steps.{pins_of, without_pins, joined_view}
 use Rattle.segment_word.proofs.Sums.{readers-set, readers-snoc, frames-set, frames-snoc, pins_in-append}
 use Rattle.segment_word.proofs.Changes.{agree_set}
 
 -- the rule speaks of the views only by the drive's frames, the counts and the pins
-regrouped : (words : List ℕ) (views views' : List View) → Rules words views (drive_frames views) → drive_frames views' ≡ drive_frames views
+pub regrouped : (words : List ℕ) (views views' : List View) → FrameRules words views (drive_frames views) → drive_frames views' ≡ drive_frames views
     → ((g : ℕ) → readers g views' ≡ readers g views) → ((id : ℕ) (v : View) → get_elem? views' id ≡ some v → AllAgree (drive_frames views) v.pins)
-    → Rules words views' (drive_frames views')
-regrouped words views views' r same counts agree = subst (λ (l : List Frame). Rules words views' l) (sym same) (record {
+    → FrameRules words views' (drive_frames views')
+regrouped words views views' r same counts agree = subst (λ (l : List Frame). FrameRules words views' l) (sym same) (record {
   sized = r.sized;
   some_frame = r.some_frame;
-  kept = λ f h. subst (λ (n : ℕ). IsKept words n f (frame_at (drive_frames views) f)) (sym (counts f)) (r.kept f h);
+  kept = λ f h. subst (λ (n : ℕ). IsKeptFrame words n f (frame_at (drive_frames views) f)) (sym (counts f)) (r.kept f h);
   pinned = agree;
 })
 
@@ -43,12 +43,12 @@ splits id v s r at =
       | inr new ↦ subst (λ (x : View). AllAgree (drive_frames s.views) x.pins) new (r.pinned id v at)
     ])
 
-pub joins : (id : ℕ) (v : View) (other : ℕ) (w : View) → w.frames ≡ [] → Joins {S = Unit {0}} FrameRule id v other w (joined v w) nothing_known
+pub joins : (id : ℕ) (v : View) (other : ℕ) (w : View) → w.frames ≡ [] → Joins {S = Unit {0}} FrameRule id v other w (joined_view v w) nothing_known
 joins id v other w none s r at apart there =
-    let both : List View = set s.views id (joined v w) in
-    let was : get_elem? s.views other ≡ some w = sym (set_else s.views id other (joined v w) apart) ∙ there in
-    let pins : AllAgree (drive_frames s.views) (joined v w).pins = agree_both (drive_frames s.views) w.pins v.pins (r.pinned other w was) (r.pinned id v at) in
+    let both : List View = set s.views id (joined_view v w) in
+    let was : get_elem? s.views other ≡ some w = sym (set_else s.views id other (joined_view v w) apart) ∙ there in
+    let pins : AllAgree (drive_frames s.views) (joined_view v w).pins = agree_both (drive_frames s.views) w.pins v.pins (r.pinned other w was) (r.pinned id v at) in
     regrouped s.words s.views (set both other nothing_known) r
-    (frames-set both other w nothing_known there (sym none) ∙ frames-set s.views id v (joined v w) at refl)
-    (λ g. let a = readers-set g both other w nothing_known there in let b = readers-set g s.views id v (joined v w) at in let c = pins_in-append g w.pins v.pins in omega arith)
-    (agree_set (drive_frames s.views) both other nothing_known (agree_set (drive_frames s.views) s.views id (joined v w) r.pinned pins) (no_pins (drive_frames s.views)))
+    (frames-set both other w nothing_known there (sym none) ∙ frames-set s.views id v (joined_view v w) at refl)
+    (λ g. let a = readers-set g both other w nothing_known there in let b = readers-set g s.views id v (joined_view v w) at in let c = pins_in-append g w.pins v.pins in omega arith)
+    (agree_set (drive_frames s.views) both other nothing_known (agree_set (drive_frames s.views) s.views id (joined_view v w) r.pinned pins) (no_pins (drive_frames s.views)))

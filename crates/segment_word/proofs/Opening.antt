@@ -7,7 +7,7 @@ use lib.ListN.{get_elem?}
 use Rattle.atomic_table.specs.Table.{opening}
 use Rattle.segment_word.specs.Frames.{Free, View, code_of, no_frame}
 use Rattle.segment_word.specs.Layout.{word_of, frame_at, frame_of, phase_of, first_frames, frames_of}
-use Rattle.segment_word.specs.FrameRule.{IsKept, AllAgree, FrameRule, opening_view}
+use Rattle.segment_word.specs.FrameRule.{IsKeptFrame, AllAgree, FrameRule, opening_view}
 
 pub length-first_frames : (n : ℕ) (words : List ℕ) → length (first_frames n words) ≡ n
 length-first_frames zero words = refl
@@ -18,7 +18,7 @@ first_frames-at zero f words h = absurd (omega arith)
 first_frames-at (suc n) zero words h = refl
 first_frames-at (suc n) (suc f) words h = first_frames-at n f (drop 1025 words) (omega arith) ∙ ap frame_of (drop-drop (1025 * f) 1025 words ∙ ap (λ (i : ℕ). drop i words) (omega arith))
 
-fresh_kept : (words : List ℕ) (f : ℕ) → 1025 * f + 1025 ≤ length words → slice_index words (1025 * f) ≡ 2 ^ 32 → IsKept words 0 f (frame_of (drop (1025 * f) words))
+fresh_kept : (words : List ℕ) (f : ℕ) → 1025 * f + 1025 ≤ length words → slice_index words (1025 * f) ≡ 2 ^ 32 → IsKeptFrame words 0 f (frame_of (drop (1025 * f) words))
 fresh_kept words f inside new =
     let own : List ℕ = drop (1025 * f) words in
     let state : slice_index own 0 ≡ 2 ^ 32 = get_or-drop (1025 * f) words 0 0 ∙ ap (λ (i : ℕ). slice_index words i) (add-zero (1025 * f)) ∙ new in
@@ -49,7 +49,7 @@ opens words n long some_frame fresh =
       sized = long ∙ ap (λ (m : ℕ). 1025 * m) (sym size);
       some_frame = omega arith;
       kept = λ f h. let inside : f < n = omega arith in
-          subst (IsKept words 0 f) (sym (first_frames-at (length words / 1025) f words (omega arith))) (fresh_kept words f (omega arith) (fresh f inside));
+          subst (IsKeptFrame words 0 f) (sym (first_frames-at (length words / 1025) f words (omega arith))) (fresh_kept words f (omega arith) (fresh f inside));
       pinned = λ id v e i p q. only words id v e i p q;
     }
 

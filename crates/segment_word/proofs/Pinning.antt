@@ -10,7 +10,7 @@ use Rattle.atomic_table.specs.Table.{State, step, keeps, stepped, Allows}
 use Rattle.segment_word.specs.Frames.{Frame, Pinned, View, code_of, no_frame}
 use Rattle.segment_word.specs.Layout.{word_of, frame_at}
 use Rattle.segment_word.specs.Counting.{pins_in, readers, drive_frames}
-use Rattle.segment_word.specs.FrameRule.{IsKept, Agrees, AllAgree, Rules, FrameRule}
+use Rattle.segment_word.specs.FrameRule.{IsKeptFrame, Agrees, AllAgree, FrameRules, FrameRule}
 use Rattle.segment_word.specs.Steps.{Sat, Pins, Unpins, with_pins, older}
 use Rattle.segment_word.proofs.Sums.{readers-set, frames-set, counts_one, counts_none}
 use Rattle.segment_word.proofs.Words.{below_four, apart}
@@ -18,7 +18,7 @@ use Rattle.segment_word.proofs.Changes.{changed, agree_set}
 use Rattle.segment_word.proofs.Looking.{unmoved}
 
 -- what is known of a frame that may be read, after its word counts n' pins
-recounted : (words : List ℕ) (n n' f x : ℕ) (k : Frame) → IsKept words n f k → 1025 * f < length words → 2 ≤ code_of k.phase → n' ≤ 1048576 → x ≡ word_of k n' → IsKept (set words (1025 * f) x) n' f k
+recounted : (words : List ℕ) (n n' f x : ℕ) (k : Frame) → IsKeptFrame words n f k → 1025 * f < length words → 2 ≤ code_of k.phase → n' ≤ 1048576 → x ≡ word_of k n' → IsKeptFrame (set words (1025 * f) x) n' f k
 recounted words n n' f x k is inside sealed few e = record {
   state = get_or-set_same words (1025 * f) x 0 inside ∙ e;
   blocks = λ j h. get_or-set_other words (1025 * f) (1025 * f + 1 + j) x 0 (λ q. omega arith) ∙ is.blocks j h;
@@ -36,7 +36,7 @@ turned : (s : State (Unit {0}) View) (id : ℕ) (v w : View) (f x : ℕ) → Fra
     → ((g : ℕ) → g ≢ f → pins_in g w.pins ≡ pins_in g v.pins)
     → readers f (set s.views id w) ≤ 1048576 → x ≡ word_of (frame_at (drive_frames s.views) f) (readers f (set s.views id w))
     → AllAgree (drive_frames s.views) w.pins
-    → Rules (set s.words (1025 * f) x) (set s.views id w) (drive_frames (set s.views id w))
+    → FrameRules (set s.words (1025 * f) x) (set s.views id w) (drive_frames (set s.views id w))
 turned s id v w f x r at same inside sealed others few e agree =
     let frames : List Frame = drive_frames s.views in
     let place : 1025 * f < length s.words = omega (arith, r.sized) in
@@ -48,7 +48,7 @@ turned s id v w f x r at same inside sealed others few e agree =
     (λ g far. let t = readers-set g s.views id v w at in let o = others g far in omega arith)
     (recounted s.words (readers f s.views) (readers f (set s.views id w)) f x (frame_at frames f) (r.kept f inside) place sealed few e)
     pins in
-    subst (λ (l : List Frame). Rules (set s.words (1025 * f) x) (set s.views id w) l) (again ∙ sym (frames-set s.views id v w at same)) after
+    subst (λ (l : List Frame). FrameRules (set s.words (1025 * f) x) (set s.views id w) l) (again ∙ sym (frames-set s.views id v w at same)) after
 
 agree_new : (frames : List Frame) (p : Pinned) (ps : List Pinned) → Agrees frames p → AllAgree frames ps → AllAgree frames (p ∷ ps)
 agree_new frames p ps a all zero q e = subst (Agrees frames) (some-injective p q e) a
@@ -80,7 +80,7 @@ pins slots id me f old new two few e s r _ at small = dite (ℕ_discrete (slice_
     let place : 1025 * f < length s.words = has_place s.words (1025 * f) (λ none_there. omega arith) in
     let inside : f < length frames = let z = r.sized in omega arith in
     let k : Frame = frame_at frames f in
-    let is : IsKept s.words (readers f s.views) f k = r.kept f inside in
+    let is : IsKeptFrame s.words (readers f s.views) f k = r.kept f inside in
     let said : old ≡ word_of k (readers f s.views) = sym hit ∙ is.state in
     let sealed : code_of k.phase ≡ 2 = says_sealed k (readers f s.views) old is.counted is.numbered said two in
     let count : old % 2 ^ 32 / 4 ≡ readers f s.views = says_readers k (readers f s.views) old is.counted is.numbered said in
@@ -112,7 +112,7 @@ unpins slots id me f p ps has here s r _ at small =
     let inside : f < length frames = subst (λ (n : ℕ). n < length frames) here a.inside in
     let k : Frame = frame_at frames f in
     let sealed : 2 ≤ code_of k.phase = subst (λ (n : ℕ). 2 ≤ code_of (frame_at frames n).phase) here a.sealed in
-    let is : IsKept s.words (readers f s.views) f k = r.kept f inside in
+    let is : IsKeptFrame s.words (readers f s.views) f k = r.kept f inside in
     let w : View = with_pins me.0 (older me.0.pins) in
     let rest : older me.0.pins ≡ ps = ap older has in
     let one : pins_in f me.0.pins ≡ 1 + pins_in f (older me.0.pins) = ap (pins_in f) has ∙ counts_new f p ps here ∙ ap (λ (l : List Pinned). 1 + pins_in f l) (sym rest) in

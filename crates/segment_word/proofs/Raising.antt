@@ -6,7 +6,7 @@ use Rattle.atomic_table.specs.Table.{step, keeps, Allows}
 use Rattle.segment_word.specs.Frames.{Phase, Free, Open, Sealed, Emptied, Frame, Pinned, View, code_of}
 use Rattle.segment_word.specs.Layout.{word_of, frame_at}
 use Rattle.segment_word.specs.Counting.{readers, drive_frames}
-use Rattle.segment_word.specs.FrameRule.{IsKept, Agrees, AllAgree, Rules, FrameRule}
+use Rattle.segment_word.specs.FrameRule.{IsKeptFrame, Agrees, AllAgree, FrameRules, FrameRule}
 use Rattle.segment_word.specs.Steps.{Sat, Raises, raised, next_phase, with_frame}
 use Rattle.segment_word.proofs.Sums.{readers-set, frames-first, frames-drive}
 use Rattle.segment_word.proofs.Words.{below_four, apart}
@@ -31,9 +31,9 @@ zero_or Sealed = inr (omega arith)
 zero_or Emptied = inr (omega arith)
 
 -- what is known of the frame after its word rose by one
-pub raised_kept : (words : List ℕ) (n f x : ℕ) (k : Frame) → IsKept words n f k → 1025 * f < length words → code_of k.phase < 3 → (code_of k.phase ≡ 0 → k.generation + 1 < 2 ^ 32)
+pub raised_kept : (words : List ℕ) (n f x : ℕ) (k : Frame) → IsKeptFrame words n f k → 1025 * f < length words → code_of k.phase < 3 → (code_of k.phase ≡ 0 → k.generation + 1 < 2 ^ 32)
     → x ≡ (slice_index words (1025 * f) + 1) % 2 ^ 64
-    → IsKept (set words (1025 * f) x) n f (raised k)
+    → IsKeptFrame (set words (1025 * f) x) n f (raised k)
 raised_kept words n f x k is inside low may e =
     let code = next_code k.phase low in
     let w = is.state in
@@ -58,14 +58,14 @@ pub raises : (slots id : ℕ) (me : Sat) (f : ℕ) → id ≡ 0 → f < length m
     → Allows FrameRule slots id me (1025 * f) (λ n. (n + 1) % 2 ^ 64) (Raises (step slots (1025 * f) 1 0 none) me)
 raises slots id me f z inside low may s rule _ at small =
     let known : drive_frames s.views ≡ me.0.frames = frames-first s.views id me.0 z at in
-    let r : Rules s.words s.views me.0.frames = subst (λ (l : List Frame). Rules s.words s.views l) known rule in
+    let r : FrameRules s.words s.views me.0.frames = subst (λ (l : List Frame). FrameRules s.words s.views l) known rule in
     let k : Frame = frame_at me.0.frames f in
     let w : View = with_frame me.0 f (raised k) in
     let x : ℕ = (slice_index s.words (1025 * f) + 1) % 2 ^ 64 in
     let place : 1025 * f < length s.words = omega (arith, r.sized) in
     let count : (g : ℕ) → readers g (set s.views id w) ≡ readers g s.views = λ g. let t = readers-set g s.views id me.0 w at in omega arith in
-    let kept : IsKept (set s.words (1025 * f) x) (readers f (set s.views id w)) f (raised k) =
-    subst (λ (n : ℕ). IsKept (set s.words (1025 * f) x) n f (raised k)) (sym (count f)) (raised_kept s.words (readers f s.views) f x k (r.kept f inside) place low may refl) in
+    let kept : IsKeptFrame (set s.words (1025 * f) x) (readers f (set s.views id w)) f (raised k) =
+    subst (λ (n : ℕ). IsKeptFrame (set s.words (1025 * f) x) n f (raised k)) (sym (count f)) (raised_kept s.words (readers f s.views) f x k (r.kept f inside) place low may refl) in
     let agree : (p : Pinned) → Agrees me.0.frames p → Agrees (set me.0.frames f (raised k)) p =
     λ p a. agrees_set me.0.frames f (raised k) p a (λ here. (still_sealed k.phase (subst (λ (n : ℕ). 2 ≤ code_of (frame_at me.0.frames n).phase) here a.sealed), refl, refl)) in
     let pins : (j : ℕ) (v : View) → get_elem? (set s.views id w) j ≡ some v → AllAgree (set me.0.frames f (raised k)) v.pins =
@@ -75,6 +75,6 @@ raises slots id me f z inside low may s rule _ at small =
       w,
       keeps,
       tt,
-      subst (λ (l : List Frame). Rules (set s.words (1025 * f) x) (set s.views id w) l) (sym (frames-drive s.views id me.0 w z at)) after,
+      subst (λ (l : List Frame). FrameRules (set s.words (1025 * f) x) (set s.views id w) l) (sym (frames-drive s.views id me.0 w z at)) after,
       λ g h e. let is : f ≡ g = omega arith in subst (λ (n : ℕ). ◌≡◌ {A = Sat} (with_frame me.0 f (raised (frame_at me.0.frames f)), me.1) (with_frame me.0 n (raised (frame_at me.0.frames n)), me.1)) is refl,
     )

@@ -8,7 +8,7 @@ use Rattle.atomic_table.specs.Table.{step, keeps, Allows}
 use Rattle.segment_word.specs.Frames.{Open, Frame, Pinned, View, code_of}
 use Rattle.segment_word.specs.Layout.{frame_at}
 use Rattle.segment_word.specs.Counting.{readers, drive_frames}
-use Rattle.segment_word.specs.FrameRule.{IsKept, Agrees, AllAgree, Rules, FrameRule}
+use Rattle.segment_word.specs.FrameRule.{IsKeptFrame, Agrees, AllAgree, FrameRules, FrameRule}
 use Rattle.segment_word.specs.Steps.{Sat, Stores, with_word, with_frame}
 use Rattle.segment_word.proofs.Sums.{readers-set, frames-first, frames-drive}
 use Rattle.segment_word.proofs.Changes.{changed, agrees_set, agree_set}
@@ -25,8 +25,8 @@ same_blocks words f j x contents inside short blocks i h = dite (ℕ_discrete i 
     (get_or-set_same words (1025 * f + 1 + j) x 0 inside ∙ sym (get_or-set_same contents j x 0 short)))
     (λ else. get_or-set_other words (1025 * f + 1 + j) (1025 * f + 1 + i) x 0 (λ e. else (omega arith)) ∙ blocks i h ∙ sym (get_or-set_other contents j i x 0 else))
 
-stored_kept : (words : List ℕ) (n f j x : ℕ) (k : Frame) → IsKept words n f k → 1025 * f + 1 + j < length words → j < 1024
-    → IsKept (set words (1025 * f + 1 + j) x) n f (with_word k j x)
+stored_kept : (words : List ℕ) (n f j x : ℕ) (k : Frame) → IsKeptFrame words n f k → 1025 * f + 1 + j < length words → j < 1024
+    → IsKeptFrame (set words (1025 * f + 1 + j) x) n f (with_word k j x)
 stored_kept words n f j x k is inside hj = record {
   state = get_or-set_other words (1025 * f + 1 + j) (1025 * f) x 0 (λ e. omega arith) ∙ is.state;
   blocks = same_blocks words f j x k.contents inside (omega (arith, is.whole)) is.blocks;
@@ -42,13 +42,13 @@ pub stores : (slots id : ℕ) (me : Sat) (f j x : ℕ) → id ≡ 0 → f < leng
     → Allows FrameRule slots id me (1025 * f + 1 + j) (λ _. x) (λ _. Stores (step slots (1025 * f + 1 + j) x 0 none) me x)
 stores slots id me f j x z inside hj is_open s rule _ at small =
     let known : drive_frames s.views ≡ me.0.frames = frames-first s.views id me.0 z at in
-    let r : Rules s.words s.views me.0.frames = subst (λ (l : List Frame). Rules s.words s.views l) known rule in
+    let r : FrameRules s.words s.views me.0.frames = subst (λ (l : List Frame). FrameRules s.words s.views l) known rule in
     let k : Frame = frame_at me.0.frames f in
     let w : View = with_frame me.0 f (with_word k j x) in
     let place : 1025 * f + 1 + j < length s.words = omega (arith, r.sized) in
     let count : (g : ℕ) → readers g (set s.views id w) ≡ readers g s.views = λ g. let t = readers-set g s.views id me.0 w at in omega arith in
-    let kept : IsKept (set s.words (1025 * f + 1 + j) x) (readers f (set s.views id w)) f (with_word k j x) =
-    subst (λ (n : ℕ). IsKept (set s.words (1025 * f + 1 + j) x) n f (with_word k j x)) (sym (count f)) (stored_kept s.words (readers f s.views) f j x k (r.kept f inside) place hj) in
+    let kept : IsKeptFrame (set s.words (1025 * f + 1 + j) x) (readers f (set s.views id w)) f (with_word k j x) =
+    subst (λ (n : ℕ). IsKeptFrame (set s.words (1025 * f + 1 + j) x) n f (with_word k j x)) (sym (count f)) (stored_kept s.words (readers f s.views) f j x k (r.kept f inside) place hj) in
     let one : code_of k.phase ≡ 1 = ap code_of is_open in
     let agree : (p : Pinned) → Agrees me.0.frames p → Agrees (set me.0.frames f (with_word k j x)) p =
     λ p a. agrees_set me.0.frames f (with_word k j x) p a (λ here. let two : 2 ≤ code_of k.phase = subst (λ (n : ℕ). 2 ≤ code_of (frame_at me.0.frames n).phase) here a.sealed in absurd (omega arith)) in
@@ -59,7 +59,7 @@ stores slots id me f j x z inside hj is_open s rule _ at small =
       w,
       keeps,
       tt,
-      subst (λ (l : List Frame). Rules (set s.words (1025 * f + 1 + j) x) (set s.views id w) l) (sym (frames-drive s.views id me.0 w z at)) after,
+      subst (λ (l : List Frame). FrameRules (set s.words (1025 * f + 1 + j) x) (set s.views id w) l) (sym (frames-drive s.views id me.0 w z at)) after,
       λ g i h hi e. let is : f ≡ g = omega arith in let js : j ≡ i = omega arith in (
         subst (λ (n : ℕ). ◌≡◌ {A = Sat} (with_frame me.0 f (with_word k j x), me.1) (with_frame me.0 f (with_word k n x), me.1)) js refl
             ∙ subst (λ (n : ℕ). ◌≡◌ {A = Sat} (with_frame me.0 f (with_word (frame_at me.0.frames f) i x), me.1) (with_frame me.0 n (with_word (frame_at me.0.frames n) i x), me.1)) is refl,

@@ -19,13 +19,13 @@ pub record Ledger : Type 0 where
 -- What a seat knows, by what it is: the drive's seat, alone or with what a session was told lent to it; a session's
 -- seat, alone or with what a session was told that has ended; a copy of what a session was told, under way; a seat that
 -- is spent.
-pub data View : Type 0 where
-  Driving : Ledger → View
-  Lent : Ledger → Told → View
-  Attending : Told → View
-  Beside : Told → Told → View
-  Carried : Told → View
-  Spent : View
+pub data AcceptView : Type 0 where
+  Driving : Ledger → AcceptView
+  Lent : Ledger → Told → AcceptView
+  Attending : Told → AcceptView
+  Beside : Told → Told → AcceptView
+  Carried : Told → AcceptView
+  Spent : AcceptView
 
 -- a base with nothing in it
 abbrev pub blank_base : Base
@@ -40,7 +40,7 @@ abbrev pub new_session : ℕ → Told
 new_session seat = record { seat = seat; seen = []; mine = [] }
 
 -- the ledger in a view
-abbrev pub ledger_of : View → Ledger
+abbrev pub ledger_of : AcceptView → Ledger
 ledger_of (Driving l) = l
 ledger_of (Lent l t) = l
 ledger_of (Attending t) = begun blank_base
@@ -49,7 +49,7 @@ ledger_of (Carried t) = begun blank_base
 ledger_of Spent = begun blank_base
 
 -- what a session was told, in a view
-abbrev pub told_of : View → Told
+abbrev pub told_of : AcceptView → Told
 told_of (Driving l) = new_session 0
 told_of (Lent l t) = t
 told_of (Attending t) = t
@@ -58,7 +58,7 @@ told_of (Carried t) = t
 told_of Spent = new_session 0
 
 -- what a session was told whose seat this one took in, in a view
-abbrev pub guest_of : View → Told
+abbrev pub guest_of : AcceptView → Told
 guest_of (Driving l) = new_session 0
 guest_of (Lent l t) = new_session 0
 guest_of (Attending t) = new_session 0

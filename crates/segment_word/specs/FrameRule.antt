@@ -9,7 +9,7 @@ use Rattle.segment_word.specs.Counting.{readers, drive_frames}
 
 -- The words say of frame f what is known of it, and count its pins. An open or free frame has none, and a frame that
 -- isn't free may still rise by one generation.
-pub record IsKept (words : List ℕ) (pins : ℕ) (f : ℕ) (k : Frame) : Type 0 where
+pub record IsKeptFrame (words : List ℕ) (pins : ℕ) (f : ℕ) (k : Frame) : Type 0 where
   pub state : slice_index words (1025 * f) ≡ word_of k pins
   pub blocks : (j : ℕ) → j < 1024 → slice_index words (1025 * f + 1 + j) ≡ slice_index k.contents j
   pub whole : length k.contents ≡ 1024
@@ -31,14 +31,14 @@ abbrev pub AllAgree : List Frame → List Pinned → Type 0
 AllAgree frames pins = (i : ℕ) (p : Pinned) → get_elem? pins i ≡ some p → Agrees frames p
 
 -- the rule, where the drive's seat knows these frames
-pub record Rules (words : List ℕ) (views : List View) (frames : List Frame) : Type 0 where
+pub record FrameRules (words : List ℕ) (views : List View) (frames : List Frame) : Type 0 where
   pub sized : length words ≡ 1025 * length frames
   pub some_frame : 0 < length frames
-  pub kept : (f : ℕ) → f < length frames → IsKept words (readers f views) f (frame_at frames f)
+  pub kept : (f : ℕ) → f < length frames → IsKeptFrame words (readers f views) f (frame_at frames f)
   pub pinned : (id : ℕ) (v : View) → get_elem? views id ≡ some v → AllAgree frames v.pins
 
 abbrev pub FrameRule : State (Unit {0}) View → Type 0
-FrameRule s = Rules s.words s.views (drive_frames s.views)
+FrameRule s = FrameRules s.words s.views (drive_frames s.views)
 
 -- what the drive's seat knows at the start, from the words that the table is made of
 abbrev pub opening_view : List ℕ → View

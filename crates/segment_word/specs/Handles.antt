@@ -5,8 +5,8 @@ use lib.ListN.{get_elem?}
 use Rattle.atomic_table.specs.Seated.{TableId}
 use Rattle.atomic_table.specs.declared.shared.Seat.{Seat}
 use Rattle.segment_word.specs.Frames.{Free, Frame, Pinned, Releases, View, nothing_known}
-use Rattle.segment_word.specs.Layout.{frame_at}
-use Rattle.segment_word.specs.Steps.{with_pins}
+use Rattle.segment_word.specs.Layout.{word_of, frame_at}
+use Rattle.segment_word.specs.Steps.{with_pins, released, one_more}
 
 -- the drive's seat: its table, the frames that it knows, and the releases that it tried
 pub record Drive : Type 0 where
@@ -27,6 +27,18 @@ fresh_frame = record { phase = Free; generation = 1; contents = replicate 1024 0
 -- the drive after a change of frame f alone
 abbrev pub with_changed : Drive → ℕ → Frame → Drive
 with_changed d f k = record d { frames = slice_set d.frames f k }
+
+-- the drive after a release of frame f that won: the frame is free at the next generation, and the word that was found
+-- counted no reader
+abbrev pub with_released : Drive → ℕ → Drive
+with_released d f = let k = frame_at d.frames f in record d { frames = slice_set d.frames f (released k); releases = one_more d.releases f (word_of k 0) }
+
+-- The drive after a release of frame f that didn't win: the word that was found counted a reader. No frame has changed.
+pub record HasMissed (f : ℕ) (old new : Drive) : Type 0 where
+  pub readers : ℕ
+  pub some_reader : 0 < readers
+  pub found : new.releases.found ≡ word_of (frame_at old.frames f) readers
+  pub else_same : new ≡ record old { releases = one_more old.releases f new.releases.found }
 
 -- the pin of frame f, as the drive knows the frame
 abbrev pub pin_of : List Frame → ℕ → Pinned

@@ -4,7 +4,7 @@ use mathlib.Core.Option.{some}
 use lib.ListN.{get_elem?}
 use Rattle.atomic_table.specs.Table.{Me, Step}
 use Rattle.atomic_table.specs.declared.shared.Seat.{Seat}
-use Rattle.segment_word.specs.Frames.{Phase, Free, Open, Sealed, Emptied, Frame, Pinned, View, code_of, nothing_known}
+use Rattle.segment_word.specs.Frames.{Phase, Free, Open, Sealed, Emptied, Frame, Pinned, Releases, View, code_of, nothing_known}
 use Rattle.segment_word.specs.Layout.{word_of, frame_at}
 use Rattle.segment_word.specs.FrameRule.{AllAgree}
 
@@ -58,6 +58,26 @@ pub record IsStateOf (k : Frame) (n : ℕ) : Type 0 where
   pub numbered : k.generation < 2 ^ 32
   pub goes_on : 0 < code_of k.phase → k.generation + 1 < 2 ^ 32
 
+-- the frame in its next life: free at the next generation, and its words are left as they are
+abbrev pub released : Frame → Frame
+released k = record k { phase = Free; generation = k.generation + 1 }
+
+-- the releases, with one more: it was of frame f, and found the word n
+abbrev pub one_more : Releases → ℕ → ℕ → Releases
+one_more r f n = record { tried = r.tried + 1; last = f; found = n }
+
+-- the view after a release of frame f that found the word n
+abbrev pub with_try : View → ℕ → ℕ → View
+with_try v f n = record v { releases = one_more v.releases f n }
+
+-- release: the word that was found is one of the frame, and noted. Where it was the expected one, the frame is in its
+-- next life.
+abbrev pub Frees : Step (Unit {0}) → Sat → ℕ → Sat → Type 0
+Frees st me n me' = (f : ℕ) → f < length me.0.frames → st.word ≡ 1025 * f
+    → IsStateOf (frame_at me.0.frames f) n
+    × (n ≡ st.first → me' ≡ (with_try (with_frame me.0 f (released (frame_at me.0.frames f))) f n, me.1))
+    × (n ≢ st.first → me' ≡ (with_try me.0 f n, me.1))
+
 -- load by the drive's seat: the word says what is known of its frame, and the pins that are lent tell the truth
 pub record Looks (st : Step (Unit {0})) (me : Sat) (n : ℕ) (me' : Sat) : Type 0 where
   pub same : me' ≡ me
@@ -67,8 +87,8 @@ pub record Looks (st : Step (Unit {0})) (me : Sat) (n : ℕ) (me' : Sat) : Type 
   pub agrees : AllAgree me.0.frames me.0.pins
 
 -- load by a pin's seat: the block word of a frame that it counts on is the pin's, which has 1,024 of them
-abbrev pub Reads : Step (Unit {0}) → Sat → ℕ → Sat → Type 0
-Reads st me n me' = (me' ≡ me) × ((i : ℕ) (p : Pinned) (j : ℕ) → get_elem? me.0.pins i ≡ some p → j < 1024 → st.word ≡ 1025 * p.number + 1 + j → (n ≡ slice_index p.contents j) × (length p.contents ≡ 1024))
+abbrev pub ReadsBlockWord : Step (Unit {0}) → Sat → ℕ → Sat → Type 0
+ReadsBlockWord st me n me' = (me' ≡ me) × ((i : ℕ) (p : Pinned) (j : ℕ) → get_elem? me.0.pins i ≡ some p → j < 1024 → st.word ≡ 1025 * p.number + 1 + j → (n ≡ slice_index p.contents j) × (length p.contents ≡ 1024))
 
 -- pin: where the word was the expected one, some pin of its frame came to the seat
 abbrev pub Pins : Step (Unit {0}) → Sat → ℕ → Sat → Type 0
@@ -89,8 +109,8 @@ abbrev pub without_pins : View → View
 without_pins v = with_pins v []
 
 -- the view with another's pins before its own
-abbrev pub joined : View → View → View
-joined v w = with_pins v (w.pins ++ v.pins)
+abbrev pub joined_view : View → View → View
+joined_view v w = with_pins v (w.pins ++ v.pins)
 
 -- the step left the seat its table, its number and its slots
 abbrev pub IsSameSeat : Seat (Unit {0}) View → Seat (Unit {0}) View → Type 0

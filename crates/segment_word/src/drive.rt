@@ -1,15 +1,17 @@
 //! The drive's seat.
-ghost use Rattle.std.specs.Prelude.{◌≡◌, ◌≢◌, ℕ, ◌+◌, ◌*◌, ◌^◌, ◌<◌, ◌≤◌, length};
+ghost use Rattle.std.specs.Prelude.{◌≡◌, ◌≢◌, ℕ, ◌+◌, ◌*◌, ◌^◌, ◌<◌, ◌≤◌, length, OnOk, OnErr, IfErr};
+ghost use Rattle.s4_types.specs.declared.refusals.Refusal.TheVariants.{InUse};
 ghost use Rattle.segment_word.specs.Frames.{Frame, code_of, is_sealed};
-ghost use Rattle.segment_word.specs.Frames.Phase.{Free, Open, Sealed};
+ghost use Rattle.segment_word.specs.Frames.Phase.{Free, Open, Sealed, Emptied};
 ghost use Rattle.segment_word.specs.Layout.{frame_at, block_bytes, with_block};
 ghost use Rattle.segment_word.specs.Steps.{raised, IsStateOf};
-ghost use Rattle.segment_word.specs.Handles.{with_changed};
+ghost use Rattle.segment_word.specs.Handles.{with_changed, with_released, HasMissed};
 
 use crate::blocks::{load_block, store_block};
 use crate::board::Board;
-use crate::layout::{FRAME_WORDS, GENERATION_SHIFT, ONE_READER, SEALED};
-use crate::steps::{Place, look, raise};
+use crate::layout::{EMPTIED, FRAME_WORDS, GENERATION_SHIFT, ONE_READER, SEALED};
+use crate::steps::{Place, free, look, raise};
+use s4_types::Refusal;
 use std::alloc::Global;
 use std::marker::Model;
 use std::sync::Arc;
@@ -57,6 +59,42 @@ impl DriveSeat {
         ensures { self.new ≡ with_changed self.old frame (record (frame_at self.old.frames frame) { phase = Sealed }) }
     {
         raise(&self.board.table.shared, &mut self.seat, frame);
+    }
+
+    /// A sealed frame is being emptied from now on. Its readers, its generation and its contents stay.
+    pub fn mark(&mut self, frame: usize)
+        requires inside { frame < length self.old.frames }
+        requires sealed { (frame_at self.old.frames frame).phase ≡ Sealed }
+        ensures { self.new ≡ with_changed self.old frame (record (frame_at self.old.frames frame) { phase = Emptied }) }
+    {
+        let words = &self.board.table.shared;
+        raise(words, &mut self.seat, frame);
+    }
+
+    /// A frame that is being emptied and has no reader is free at its next generation. The last one, 2^32 - 1, retires it.
+    ///
+    /// InUse where the frame isn't being emptied, and nothing has changed then; or where its word counted a reader at the one
+    /// exchange that was tried: no frame has changed then, and the try is noted with the word that it found.
+    pub fn release(&mut self, frame: usize) -> Result<(), Refusal>
+        requires { frame < length self.old.frames }
+        ensures freed { OnOk result (((frame_at self.old.frames frame).phase ≡ Emptied) × (self.new ≡ with_released self.old frame)) }
+        ensures goes_on { OnOk result ((frame_at self.old.frames frame).generation + 1 < 2 ^ 32) }
+        ensures missed { OnErr result ((frame_at self.old.frames frame).phase ≡ Emptied → HasMissed frame self.old self.new) }
+        ensures idle { OnErr result ((frame_at self.old.frames frame).phase ≢ Emptied → self.new ≡ self.old) }
+        ensures refused { OnErr result ((self.new.table ≡ self.old.table) × (self.new.frames ≡ self.old.frames)) }
+        ensures refusal { IfErr result (λ e. e ≡ InUse) }
+    {
+        let seen = self.state(frame);
+        if seen % ONE_READER != EMPTIED {
+            return Err(Refusal::InUse);
+        }
+        let unread = seen - seen % (1 << GENERATION_SHIFT) + EMPTIED;
+        let words = &self.board.table.shared;
+        if free(words, &mut self.seat, frame, unread) == unread {
+            Ok(())
+        } else {
+            Err(Refusal::InUse)
+        }
     }
 
     /// 512 bytes become block `block`, from 0 to 15, of an open frame.

@@ -18,6 +18,9 @@ pub const GENERATION_SHIFT: u32 = 32;
 /// The phase of a sealed frame, as the two low bits of a state word tell it.
 pub const SEALED: u64 = 2;
 
+/// The phase of a frame that is being emptied, as the two low bits of a state word tell it.
+pub const EMPTIED: u64 = 3;
+
 /// The state word of a free frame at generation 1.
 pub const FIRST_STATE: u64 = 1 << GENERATION_SHIFT;
 

@@ -1,6 +1,6 @@
 //! What each step on a word tells its seat, and how pins go from one seat to another.
 ghost use Rattle.segment_word.specs.Frames.{nothing_known};
-ghost use Rattle.segment_word.specs.Steps.{Raises, Stores, Looks, Reads, Pins, Unpins, pins_of, without_pins, joined};
+ghost use Rattle.segment_word.specs.Steps.{Raises, Stores, Looks, ReadsBlockWord, Frees, Pins, Unpins, pins_of, without_pins, joined_view};
 
 use crate::rule::Known;
 use atomic_table::{Join, Play, Split};
@@ -10,6 +10,13 @@ pub struct Raise;
 
 impl Play<(), Known> for Raise {
     ghost then = { Raises };
+}
+
+/// Release.
+pub struct Free;
+
+impl Play<(), Known> for Free {
+    ghost then = { Frees };
 }
 
 /// Store of a block word.
@@ -30,7 +37,7 @@ impl Play<(), Known> for Look {
 pub struct Read;
 
 impl Play<(), Known> for Read {
-    ghost then = { Reads };
+    ghost then = { ReadsBlockWord };
 }
 
 /// One reader more.
@@ -60,7 +67,7 @@ impl Split<Known> for Hand {
 pub struct Receive;
 
 impl Join<Known> for Receive {
-    ghost both = { joined };
+    ghost both = { joined_view };
 
     ghost spent = { nothing_known };
 }

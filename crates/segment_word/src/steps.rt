@@ -1,14 +1,14 @@
 //! The single steps on the words of the table, each by one seat.
-ghost use Rattle.std.specs.Prelude.{◌≡◌, ◌+◌, ◌*◌, ◌/◌, ◌%◌, ◌^◌, ◌<◌, ◌≤◌, [], ◌∷◌, length, MatchBool};
+ghost use Rattle.std.specs.Prelude.{◌≡◌, ◌+◌, ◌*◌, ◌/◌, ◌%◌, ◌^◌, ◌<◌, ◌≤◌, ◌≢◌, [], ◌∷◌, length, MatchBool};
 ghost use mathlib.Core.Option.{none};
 ghost use Rattle.atomic_table.specs.Table.{step};
 ghost use Rattle.segment_word.specs.Frames.{Pinned};
-ghost use Rattle.segment_word.specs.Frames.Phase.{Open};
-ghost use Rattle.segment_word.specs.Layout.{frame_at};
-ghost use Rattle.segment_word.specs.Steps.{Looks, Reads, raised, with_word, with_frame, with_pins, older, IsSameSeat, CanRise, GainsPin, joined, without_pins, pins_of};
+ghost use Rattle.segment_word.specs.Frames.Phase.{Open, Emptied};
+ghost use Rattle.segment_word.specs.Layout.{frame_at, word_of};
+ghost use Rattle.segment_word.specs.Steps.{Looks, ReadsBlockWord, IsStateOf, raised, released, with_word, with_frame, with_try, with_pins, older, IsSameSeat, CanRise, GainsPin, joined_view, without_pins, pins_of};
 
-use crate::layout::{FRAME_WORDS, ONE_READER};
-use crate::plays::{Gain, Hand, Look, Lose, Raise, Read, Receive, Store};
+use crate::layout::{EMPTIED, FRAME_WORDS, GENERATION_SHIFT, ONE_READER};
+use crate::plays::{Free, Gain, Hand, Look, Lose, Raise, Read, Receive, Store};
 use crate::rule::{Known, OneRule};
 use atomic_table::{Seat, Shared};
 use std::snapshot::Snapshot;
@@ -28,6 +28,25 @@ pub fn raise(words: &Words, seat: &mut Place, frame: usize)
     ensures view { seat.new.me.0 ≡ with_frame seat.old.me.0 frame (raised (frame_at seat.old.me.0.frames frame)) }
 {
     words.fetch_add::<Raise>(seat, FRAME_WORDS * frame, 1);
+}
+
+/// A frame that is being emptied is free at its next generation, where its state word is still `unread`, which counts no
+/// reader. Answers the word that it found.
+pub fn free(words: &Words, seat: &mut Place, frame: usize, unread: u64) -> u64
+    requires table { seat.old.table_id ≡ words.now.table_id }
+    requires drive { seat.old.id ≡ 0 }
+    requires inside { frame < length seat.old.me.0.frames }
+    requires sized { (words.now.table_id.words ≡ 1025 * length seat.old.me.0.frames) × (length seat.old.me.0.frames ≤ 1024) }
+    requires emptied { (frame_at seat.old.me.0.frames frame).phase ≡ Emptied }
+    requires goes_on { (frame_at seat.old.me.0.frames frame).generation + 1 < 2 ^ 32 }
+    requires unread { unread ≡ word_of (frame_at seat.old.me.0.frames frame) 0 }
+    ensures seat { IsSameSeat seat.old seat.new }
+    ensures found { IsStateOf (frame_at seat.old.me.0.frames frame) result }
+    ensures hit { result ≡ unread → seat.new.me.0 ≡ with_try (with_frame seat.old.me.0 frame (released (frame_at seat.old.me.0.frames frame))) frame result }
+    ensures miss { result ≢ unread → seat.new.me.0 ≡ with_try seat.old.me.0 frame result }
+{
+    let next = unread - EMPTIED + (1 << GENERATION_SHIFT);
+    words.compare_exchange::<Free>(seat, FRAME_WORDS * frame, unread, next)
 }
 
 /// Word `index` of the blocks of an open frame becomes `value`.
@@ -60,7 +79,7 @@ pub fn read(words: &Words, seat: &mut Place, word: usize) -> u64
     requires table { seat.old.table_id ≡ words.now.table_id }
     requires inside { word < words.now.table_id.words }
     ensures seat { IsSameSeat seat.old seat.new }
-    ensures view { Reads (step words.now.table_id.slots word 0 0 none) seat.old.me result seat.new.me }
+    ensures view { ReadsBlockWord (step words.now.table_id.slots word 0 0 none) seat.old.me result seat.new.me }
 {
     words.load::<Read>(seat, word)
 }
@@ -105,7 +124,7 @@ pub fn receive(words: &Words, seat: &mut Place, other: Place)
     requires words { 0 < words.now.table_id.words }
     requires other { (other.me.0.frames ≡ []) × (other.me.1 ≡ []) }
     ensures seat { IsSameSeat seat.old seat.new }
-    ensures view { seat.new.me.0 ≡ joined seat.old.me.0 other.me.0 }
+    ensures view { seat.new.me.0 ≡ joined_view seat.old.me.0 other.me.0 }
 {
     words.join_seat::<Receive>(seat, other);
 }

@@ -37,6 +37,11 @@ unfetched h after role o off len now at bytes (Serves r free (Alters change aske
 unfetched h after role o off len now at bytes (Serves r free (Reads tells is) grows) =
     Refuses NoMemory refl (ForMemory refl (free_wants (first_refusal (judged h (Read o off len at) now) role (Read o off len at)) free o off len at)) (grows ∙ ap (grown h) is)
 
+-- and no check refuses it then
+fetch_free : (h after : History) (role : Role) (o off len now : ℕ) (at : Option ℕ) (bytes : List ℕ) → Step h role (Read o off len at) now (Data bytes) after → first_refusal (judged h (Read o off len at) now) role (Read o off len at) ≡ None
+fetch_free h after role o off len now at bytes (Refuses refusal is may grows) = absurd (subst IsRefused (sym is) tt)
+fetch_free h after role o off len now at bytes (Serves r free accepts grows) = free
+
 -- so of a session that shares its drive
 pub shared_unfetched : (base : Base) (old new : SessionFields) (o off len now : ℕ) (at : Option ℕ) (bytes : List ℕ) → SharedStep base old (Read o off len at) now (Data bytes) new → SharedStep base old (Read o off len at) now (Refused NoMemory) new
 shared_unfetched base old new o off len now at bytes s = record {
@@ -44,6 +49,7 @@ shared_unfetched base old new o off len now at bytes s = record {
   after = s.after;
   begins = s.begins;
   had_seen = s.had_seen;
+  memory = λ _. fetch_free s.before.history s.after.history old.role o off len now at bytes s.step;
   step = unfetched s.before.history s.after.history old.role o off len now at bytes s.step;
   told = s.told;
   has_seen = s.has_seen;

@@ -7,7 +7,7 @@ use Rattle.serving.specs.Session.{Serves}
 use Rattle.serving.specs.declared.ends.ServeEnd.{ServeEnd}
 use Rattle.serving.specs.declared.ends.ServeEnd.TheVariants.{WriteFailed}
 use Rattle.drive.specs.Fields.{SessionFields}
-use Rattle.server.specs.Drawing.{ClockFields, Counts}
+use Rattle.server.specs.Drawing.{ClockFields, CountsTicks}
 use Rattle.server.specs.Sharing.{SharedStep, IsFresh}
 use Rattle.server.specs.declared.running.Outcome.{Outcome}
 use Rattle.server.specs.declared.running.Outcome.TheVariants.{Waiting, Served, Refused}
@@ -19,7 +19,7 @@ pub record IsServed (base : Base) (clock : ClockFields) (role : Role) (end : Ser
   pub fresh : IsFresh base role first
   pub last : SessionFields
   pub drawn : ClockFields
-  pub serves : Serves (SharedStep base) Counts [] end first clock input output last drawn input' output'
+  pub serves : Serves (SharedStep base) CountsTicks [] end first clock input output last drawn input' output'
 
 -- what became of a session, by its outcome: it was served, or the drive had no seat for it and nothing was read or written
 abbrev pub IsAttended : Base → ClockFields → Role → Outcome → Option (List ℕ) → Option (List ℕ) → Option (List ℕ) → Option (List ℕ) → Type 0

@@ -38,9 +38,9 @@ impl<'a> SharedClock<'a> {
 }
 
 impl Clock for SharedClock<'_> {
-    ghost use Rattle.server.specs.Drawing.{Counts};
+    ghost use Rattle.server.specs.Drawing.{CountsTicks};
 
-    ghost draws = { Counts };
+    ghost draws = { CountsTicks };
 
     fn draw(&mut self) -> Moment {
         let count = self.drawn.fetch_add(1, Ordering::SeqCst).saturating_add(1);

@@ -1,8 +1,8 @@
 //! Sessions that share one drive under a lock.
 //!
-//! The layer above may rely on this: each reply is that of a step of the model, on a history that begins with all that the session
-//! had seen before, and afterwards the session has seen all that the drive had accepted then. A read holds the lock while it is
-//! planned, and not while its bytes are fetched. In which order sessions that told each other nothing come is not said here.
+//! The layer above may rely on this: each reply is that of a step of the model, on a history of the drive that begins with all that
+//! the session had seen before, and that is what the session has seen afterwards. A read holds the lock while it is planned, and not
+//! while its bytes are fetched. In which order sessions that told each other nothing come is not said here.
 #![tactic(auto)]
 
 mod clocks;

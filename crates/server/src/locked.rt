@@ -125,8 +125,8 @@ impl<'a, J: Naming, R: Wait, G: Gate> Model for Locked<'a, J, R, G> {
 }
 
 impl<'a, J: Naming, R: Wait, G: Gate> Locked<'a, J, R, G> {
-    /// The session of that number, from 1 on, of a role. It has seen all that the drive had accepted then, and nothing is its
-    /// own yet. Busy where no seat is to be had.
+    /// The session of that number, from 1 on, of a role. It has seen what was accepted in a history of the drive, and nothing is
+    /// its own yet. Busy where no seat is to be had.
     pub fn new(
         rt: &'a R,
         alloc: Global,
@@ -150,7 +150,7 @@ impl<'a, J: Naming, R: Wait, G: Gate> Locked<'a, J, R, G> {
         })
     }
 
-    /// The session has seen all that the drive had accepted when it was met, without a request.
+    /// Without a request the session sees what was accepted in a history of the drive that begins with what it had seen before.
     pub fn meet(&mut self)
         ensures { HasMet J.base self.old self.new }
     {

@@ -1,7 +1,7 @@
 //! Sessions that are served at once, each from its own reader to its own writer, over one drive.
 ghost use Rattle.std.specs.Prelude.{◌≡◌, ℕ, ◌+◌, ◌^◌, ◌<◌, ◌≤◌, All, length, slice_index_or};
 ghost use Rattle.server.specs.Attending.{IsAttended, PassesOn, failures_in};
-ghost use Rattle.server.specs.Drawing.{Counts};
+ghost use Rattle.server.specs.Drawing.{CountsTicks};
 ghost use Rattle.serving.specs.Session.{reading_failures, writing_failures};
 ghost use Rattle.serving.specs.Streams.{taken_by};
 

@@ -6,7 +6,7 @@ use Rattle.s4_types.specs.declared.requests.Request.{Request}
 use Rattle.s4_types.specs.declared.replies.Reply.{Reply}
 use Rattle.rpc.specs.declared.items.Item.{Item}
 use Rattle.rpc.specs.Spelling.{SpellsRequest}
-use Rattle.rpc.specs.Stream.{IsPartial, Reads, frame}
+use Rattle.rpc.specs.Stream.{IsPartial, ReadsItems, frame}
 use Rattle.serving.specs.Answering.{AnswersAll, IsBreak, SaidBy, StopsAmong, said}
 use Rattle.serving.specs.Session.{Continues, Finishes, Goes, IsBegun, IsLate, IsOver, Serves, TakenUp, begun_of, writing_failures}
 use Rattle.serving.specs.declared.ends.ServeEnd.{ServeEnd}
@@ -14,56 +14,56 @@ use Rattle.serving.specs.declared.ends.ServeEnd.TheVariants.{Ended, CutFrame, Ov
 use Rattle.serving.proofs.AnsweringLemmas.{Answered-append, Answered-nil, AnswersAll-append, AnswersAll-kept, AnswersAll-nil, SaidBy-behind, SaidBy-part}
 
 -- what is left of a stream is less than a whole frame
-pub Reads-partial : (stream rest : List ℕ) (items : List (Item Request)) → Reads SpellsRequest stream items (Some rest) → IsPartial rest
-Reads-partial stream rest [] h = h.1
-Reads-partial stream rest (item ∷ items) (inl h) = Reads-partial h.1 rest items h.4
-Reads-partial stream rest (item ∷ items) (inr h) = let none : Some rest ≡ None = h.3 in absurd cc
+pub ReadsItems-partial : (stream rest : List ℕ) (items : List (Item Request)) → ReadsItems SpellsRequest stream items (Some rest) → IsPartial rest
+ReadsItems-partial stream rest [] h = h.1
+ReadsItems-partial stream rest (item ∷ items) (inl h) = ReadsItems-partial h.1 rest items h.4
+ReadsItems-partial stream rest (item ∷ items) (inr h) = let none : Some rest ≡ None = h.3 in absurd cc
 
 -- a stream that goes on behind what was left is read as the items so far and those behind
-pub Reads-more : (stream piece rest : List ℕ) (items more : List (Item Request)) (end : Option (List ℕ))
-    → Reads SpellsRequest stream items (Some rest) → Reads SpellsRequest (rest ++ piece) more end → Reads SpellsRequest (stream ++ piece) (items ++ more) end
-Reads-more stream piece rest [] more end h k = subst (λ (s : List ℕ). Reads SpellsRequest (s ++ piece) more end) (sym h.0) k
-Reads-more stream piece rest (item ∷ items) more end (inl h) k = inl (
+pub ReadsItems-more : (stream piece rest : List ℕ) (items more : List (Item Request)) (end : Option (List ℕ))
+    → ReadsItems SpellsRequest stream items (Some rest) → ReadsItems SpellsRequest (rest ++ piece) more end → ReadsItems SpellsRequest (stream ++ piece) (items ++ more) end
+ReadsItems-more stream piece rest [] more end h k = subst (λ (s : List ℕ). ReadsItems SpellsRequest (s ++ piece) more end) (sym h.0) k
+ReadsItems-more stream piece rest (item ∷ items) more end (inl h) k = inl (
   h.0,
   h.1 ++ piece,
   record { whole = ap (λ s. s ++ piece) h.2.whole ∙ append_assoc (frame h.0) h.1 piece; size = h.2.size },
   h.3,
-  Reads-more h.1 piece rest items more end h.4 k,
+  ReadsItems-more h.1 piece rest items more end h.4 k,
 )
-Reads-more stream piece rest (item ∷ items) more end (inr h) k = let none : Some rest ≡ None = h.3 in absurd cc
+ReadsItems-more stream piece rest (item ∷ items) more end (inr h) k = let none : Some rest ≡ None = h.3 in absurd cc
 
 -- the same for two pieces of a stream, where the beginning of a frame came before
-Reads-pieces : (begun first second rest : List ℕ) (items more : List (Item Request)) (end : Option (List ℕ))
-    → Reads SpellsRequest (begun ++ first) items (Some rest) → Reads SpellsRequest (rest ++ second) more end → Reads SpellsRequest (begun ++ (first ++ second)) (items ++ more) end
-Reads-pieces begun first second rest items more end h k =
-    subst (λ (s : List ℕ). Reads SpellsRequest s (items ++ more) end) (append_assoc begun first second) (Reads-more (begun ++ first) second rest items more end h k)
+ReadsItems-pieces : (begun first second rest : List ℕ) (items more : List (Item Request)) (end : Option (List ℕ))
+    → ReadsItems SpellsRequest (begun ++ first) items (Some rest) → ReadsItems SpellsRequest (rest ++ second) more end → ReadsItems SpellsRequest (begun ++ (first ++ second)) (items ++ more) end
+ReadsItems-pieces begun first second rest items more end h k =
+    subst (λ (s : List ℕ). ReadsItems SpellsRequest s (items ++ more) end) (append_assoc begun first second) (ReadsItems-more (begun ++ first) second rest items more end h k)
 
 TakenUp-left : (end : ServeEnd) (begun first second rest : List ℕ) (items more others : List (Item Request)) (front unread : List ℕ) (e : Option (List ℕ)) → second ≡ front ++ unread
-    → Reads SpellsRequest (begun ++ first) items (Some rest) → Reads SpellsRequest (rest ++ front) (more ++ others) e
-    → (left : List (Item Request)) × (front' : List ℕ) × (unread' : List ℕ) × (e' : Option (List ℕ)) × (first ++ second ≡ front' ++ unread') × Reads SpellsRequest (begun ++ front') ((items ++ more) ++ left) e'
+    → ReadsItems SpellsRequest (begun ++ first) items (Some rest) → ReadsItems SpellsRequest (rest ++ front) (more ++ others) e
+    → (left : List (Item Request)) × (front' : List ℕ) × (unread' : List ℕ) × (e' : Option (List ℕ)) × (first ++ second ≡ front' ++ unread') × ReadsItems SpellsRequest (begun ++ front') ((items ++ more) ++ left) e'
 TakenUp-left end begun first second rest items more others front unread e cut h k = (
   others,
   first ++ front,
   unread,
   e,
   ap (λ s. first ++ s) cut ∙ sym (append_assoc first front unread),
-  subst (λ (is : List (Item Request)). Reads SpellsRequest (begun ++ (first ++ front)) is e) (sym (append_assoc items more others)) (Reads-pieces begun first front rest items (more ++ others) e h k),
+  subst (λ (is : List (Item Request)). ReadsItems SpellsRequest (begun ++ (first ++ front)) is e) (sym (append_assoc items more others)) (ReadsItems-pieces begun first front rest items (more ++ others) e h k),
 )
 
 -- what is taken up behind items that were read
 pub TakenUp-behind : (end : ServeEnd) (begun first second rest : List ℕ) (items more : List (Item Request))
-    → Reads SpellsRequest (begun ++ first) items (Some rest) → TakenUp end rest second more → TakenUp end begun (first ++ second) (items ++ more)
-TakenUp-behind Ended begun first second rest items more h k = Reads-pieces begun first second rest items more (Some []) h k
-TakenUp-behind CutFrame begun first second rest items more h k = (k.0, Reads-pieces begun first second rest items more (Some k.0) h k.1, k.2)
-TakenUp-behind Oversized begun first second rest items more h k = Reads-pieces begun first second rest items more None h k
-TakenUp-behind ReadFailed begun first second rest items more h k = (k.0, Reads-pieces begun first second rest items more (Some k.0) h k.1)
+    → ReadsItems SpellsRequest (begun ++ first) items (Some rest) → TakenUp end rest second more → TakenUp end begun (first ++ second) (items ++ more)
+TakenUp-behind Ended begun first second rest items more h k = ReadsItems-pieces begun first second rest items more (Some []) h k
+TakenUp-behind CutFrame begun first second rest items more h k = (k.0, ReadsItems-pieces begun first second rest items more (Some k.0) h k.1, k.2)
+TakenUp-behind Oversized begun first second rest items more h k = ReadsItems-pieces begun first second rest items more None h k
+TakenUp-behind ReadFailed begun first second rest items more h k = (k.0, ReadsItems-pieces begun first second rest items more (Some k.0) h k.1)
 TakenUp-behind WriteFailed begun first second rest items more h k = TakenUp-left WriteFailed begun first second rest items more k.0 k.1 k.2 k.3 k.4 h k.5
 TakenUp-behind NoMemory begun first second rest items more h k = TakenUp-left NoMemory begun first second rest items more k.0 k.1 k.2 k.3 k.4 h k.5
 
-all_left : (begun stream : List ℕ) (items : List (Item Request)) (end : Option (List ℕ)) → Reads SpellsRequest (begun ++ stream) items end
-    → (others : List (Item Request)) × (front : List ℕ) × (unread : List ℕ) × (e : Option (List ℕ)) × (stream ≡ front ++ unread) × Reads SpellsRequest (begun ++ front) (items ++ others) e
+all_left : (begun stream : List ℕ) (items : List (Item Request)) (end : Option (List ℕ)) → ReadsItems SpellsRequest (begun ++ stream) items end
+    → (others : List (Item Request)) × (front : List ℕ) × (unread : List ℕ) × (e : Option (List ℕ)) × (stream ≡ front ++ unread) × ReadsItems SpellsRequest (begun ++ front) (items ++ others) e
 all_left begun stream items end h =
-    ([], stream, [], end, sym (append-nil stream), subst (λ (is : List (Item Request)). Reads SpellsRequest (begun ++ stream) is end) (sym (append-nil items)) h)
+    ([], stream, [], end, sym (append-nil stream), subst (λ (is : List (Item Request)). ReadsItems SpellsRequest (begun ++ stream) is end) (sym (append-nil items)) h)
 
 -- whatever is taken up is a beginning of the stream's items
 pub TakenUp-part : (end : ServeEnd) (begun stream : List ℕ) (items : List (Item Request)) → TakenUp end begun stream items → TakenUp WriteFailed begun stream items
@@ -76,9 +76,9 @@ TakenUp-part NoMemory begun stream items h = h
 
 -- the items of a stream that are met where the session breaks
 pub TakenUp-break : (end : ServeEnd) (begun stream : List ℕ) (items met others : List (Item Request)) (e : Option (List ℕ))
-    → IsBreak end → Reads SpellsRequest (begun ++ stream) items e → items ≡ met ++ others → TakenUp end begun stream met
-TakenUp-break WriteFailed begun stream items met others e b h cut = (others, stream, [], e, sym (append-nil stream), subst (λ (is : List (Item Request)). Reads SpellsRequest (begun ++ stream) is e) cut h)
-TakenUp-break NoMemory begun stream items met others e b h cut = (others, stream, [], e, sym (append-nil stream), subst (λ (is : List (Item Request)). Reads SpellsRequest (begun ++ stream) is e) cut h)
+    → IsBreak end → ReadsItems SpellsRequest (begun ++ stream) items e → items ≡ met ++ others → TakenUp end begun stream met
+TakenUp-break WriteFailed begun stream items met others e b h cut = (others, stream, [], e, sym (append-nil stream), subst (λ (is : List (Item Request)). ReadsItems SpellsRequest (begun ++ stream) is e) cut h)
+TakenUp-break NoMemory begun stream items met others e b h cut = (others, stream, [], e, sym (append-nil stream), subst (λ (is : List (Item Request)). ReadsItems SpellsRequest (begun ++ stream) is e) cut h)
 TakenUp-break Ended begun stream items met others e b h cut = absurd b
 TakenUp-break CutFrame begun stream items met others e b h cut = absurd b
 TakenUp-break Oversized begun stream items met others e b h cut = absurd b
@@ -101,18 +101,18 @@ SaidBy-whole WriteFailed replies = SaidBy-part Ended replies (said replies) refl
 SaidBy-whole NoMemory replies = record { before = replies; last = []; single = lit≤ tt; all = sym (append-nil replies); bytes = refl }
 
 -- nothing is read behind what is held of a frame
-Reads-held : (held : Option (List ℕ)) → IsBegun held → Reads SpellsRequest (begun_of held ++ []) [] (Some (begun_of held))
-Reads-held None h = absurd h
-Reads-held (Some begun) h = (append-nil begun, h)
+ReadsItems-held : (held : Option (List ℕ)) → IsBegun held → ReadsItems SpellsRequest (begun_of held ++ []) [] (Some (begun_of held))
+ReadsItems-held None h = absurd h
+ReadsItems-held (Some begun) h = (append-nil begun, h)
 
 -- no item is taken up, of a stream that breaks off
 none_taken : (held : Option (List ℕ)) (stream : List ℕ) → IsBegun held
-    → (others : List (Item Request)) × (front : List ℕ) × (unread : List ℕ) × (e : Option (List ℕ)) × (stream ≡ front ++ unread) × Reads SpellsRequest (begun_of held ++ front) ([] ++ others) e
-none_taken held stream h = ([], [], stream, Some (begun_of held), refl, Reads-held held h)
+    → (others : List (Item Request)) × (front : List ℕ) × (unread : List ℕ) × (e : Option (List ℕ)) × (stream ≡ front ++ unread) × ReadsItems SpellsRequest (begun_of held ++ front) ([] ++ others) e
+none_taken held stream h = ([], [], stream, Some (begun_of held), refl, ReadsItems-held held h)
 
 -- the reader of frames was fed a piece
 pub fed : (held new : Option (List ℕ)) (piece : List ℕ) (items : List (Item Request)) → IsBegun held
-    → IfSome held (λ begun. Reads SpellsRequest (begun ++ piece) items new) → Reads SpellsRequest (begun_of held ++ piece) items new
+    → IfSome held (λ begun. ReadsItems SpellsRequest (begun ++ piece) items new) → ReadsItems SpellsRequest (begun_of held ++ piece) items new
 fed None new piece items h k = absurd h
 fed (Some begun) new piece items h k = k
 
@@ -228,14 +228,14 @@ module _ {B C : Type 0} (steps : B → Request → ℕ → Reply → B → Type 
 
   -- all items of a piece were answered, and an oversized length came
   pub oversized : (held new : Option (List ℕ)) (piece : List ℕ) (items : List (Item Request)) (b b' : B) (c c' : C) (o o' : Option (List ℕ)) → IsBegun held
-      → IfSome held (λ begun. Reads SpellsRequest (begun ++ piece) items new) → new ≡ None → AnswersAll steps draws items b c o b' c' o'
+      → IfSome held (λ begun. ReadsItems SpellsRequest (begun ++ piece) items new) → new ≡ None → AnswersAll steps draws items b c o b' c' o'
       → Finishes steps draws Oversized (begun_of held) piece b c o b' c' o'
   oversized held new piece items b b' c c' o o' begun items_are failed h =
-      Finishes-whole Oversized (begun_of held) piece items b b' c c' o o' (subst (λ (e : Option (List ℕ)). Reads SpellsRequest (begun_of held ++ piece) items e) failed (fed held new piece items begun items_are)) h
+      Finishes-whole Oversized (begun_of held) piece items b b' c c' o o' (subst (λ (e : Option (List ℕ)). ReadsItems SpellsRequest (begun_of held ++ piece) items e) failed (fed held new piece items begun items_are)) h
 
   -- some items of a piece were answered
   pub stopped : (held new : Option (List ℕ)) (piece : List ℕ) (items : List (Item Request)) (end : ServeEnd) (b b' : B) (c c' : C) (o o' : Option (List ℕ)) → IsBegun held
-      → IfSome held (λ begun. Reads SpellsRequest (begun ++ piece) items new) → StopsAmong steps draws items end b c o b' c' o'
+      → IfSome held (λ begun. ReadsItems SpellsRequest (begun ++ piece) items new) → StopsAmong steps draws items end b c o b' c' o'
       → IsLate end × Finishes steps draws end (begun_of held) piece b c o b' c' o'
   stopped held new piece items end b b' c c' o o' begun items_are h = (
     IsBreak-late end h.broken,
@@ -252,7 +252,7 @@ module _ {B C : Type 0} (steps : B → Request → ℕ → Reply → B → Type 
 
   -- all items of a piece were answered, and the stream goes on
   pub went_on : (held new : Option (List ℕ)) (piece : List ℕ) (items : List (Item Request)) (b b' : B) (c c' : C) (o o' : Option (List ℕ)) → IsBegun held
-      → IfSome held (λ begun. Reads SpellsRequest (begun ++ piece) items new) → (new ≡ None → ⊥) → AnswersAll steps draws items b c o b' c' o'
+      → IfSome held (λ begun. ReadsItems SpellsRequest (begun ++ piece) items new) → (new ≡ None → ⊥) → AnswersAll steps draws items b c o b' c' o'
       → Continues steps draws (begun_of held) piece new b c o b' c' o'
   went_on held None piece items b b' c c' o o' begun items_are more h = absurd (more refl)
   went_on held (Some rest) piece items b b' c c' o o' begun items_are more h = record { rest = rest; is = refl; items = items; reading = fed held (Some rest) piece items begun items_are; answers = h }
@@ -267,7 +267,7 @@ module _ {B C : Type 0} (steps : B → Request → ℕ → Reply → B → Type 
     stream = [];
     read = Consumes-kept i i i' [] (Consumes-nil i) kept;
     over = tt;
-    finishes = Finishes-idle ReadFailed (begun_of held) [] b c o o' (begun_of held, Reads-held held h) keeps;
+    finishes = Finishes-idle ReadFailed (begun_of held) [] b c o o' (begun_of held, ReadsItems-held held h) keeps;
   }
 
   -- the input ended between two frames
@@ -277,7 +277,7 @@ module _ {B C : Type 0} (steps : B → Request → ℕ → Reply → B → Type 
     stream = [];
     read = read;
     over = end;
-    finishes = Finishes-idle Ended (begun_of held) [] b c o o' (subst (λ (x : List ℕ). Reads SpellsRequest (begun_of held ++ []) [] (Some x)) (ap begun_of between) (Reads-held held h)) keeps;
+    finishes = Finishes-idle Ended (begun_of held) [] b c o o' (subst (λ (x : List ℕ). ReadsItems SpellsRequest (begun_of held ++ []) [] (Some x)) (ap begun_of between) (ReadsItems-held held h)) keeps;
   }
 
   -- the input ended inside a frame
@@ -289,7 +289,7 @@ module _ {B C : Type 0} (steps : B → Request → ℕ → Reply → B → Type 
     stream = [];
     read = read;
     over = end;
-    finishes = Finishes-idle CutFrame (x ∷ xs) [] b c o o' (x ∷ xs, Reads-held (Some (x ∷ xs)) h, omega arith) keeps;
+    finishes = Finishes-idle CutFrame (x ∷ xs) [] b c o o' (x ∷ xs, ReadsItems-held (Some (x ∷ xs)) h, omega arith) keeps;
   }
 
   -- the input ended: a read gave nothing though there was room
@@ -338,7 +338,7 @@ module _ {B C : Type 0} (steps : B → Request → ℕ → Reply → B → Type 
       record { stream = []; read = Consumes-nil i; over = IsLate-over end i h.0; finishes = h.1 }
 
   pub begun_by : (begun : List ℕ) (held : Option (List ℕ)) (b b' : B) (c c' : C) (i i' o o' : Option (List ℕ)) → Goes steps draws begun held b c i o b' c' i' o' → IsBegun held
-  begun_by begun held b b' c c' i i' o o' h = subst IsBegun (sym h.continues.is) (Reads-partial (begun ++ h.stream) h.continues.rest h.continues.items h.continues.reading)
+  begun_by begun held b b' c c' i i' o o' h = subst IsBegun (sym h.continues.is) (ReadsItems-partial (begun ++ h.stream) h.continues.rest h.continues.items h.continues.reading)
 
   -- a session that went on goes on
   pub Goes-trans : (begun : List ℕ) (held held' : Option (List ℕ)) (b b' b'' : B) (c c' c'' : C) (i i' i'' o o' o'' : Option (List ℕ))
@@ -354,8 +354,8 @@ module _ {B C : Type 0} (steps : B → Request → ℕ → Reply → B → Type 
           rest = second.rest;
           is = second.is;
           items = first.items ++ second.items;
-          reading = Reads-pieces begun h.stream k.stream first.rest first.items second.items (Some second.rest) first.reading
-              (subst (λ (x : List ℕ). Reads SpellsRequest (x ++ k.stream) second.items (Some second.rest)) rest second.reading);
+          reading = ReadsItems-pieces begun h.stream k.stream first.rest first.items second.items (Some second.rest) first.reading
+              (subst (λ (x : List ℕ). ReadsItems SpellsRequest (x ++ k.stream) second.items (Some second.rest)) rest second.reading);
           answers = AnswersAll-append steps draws first.items second.items b b' b'' c c' c'' o o' o'' first.answers second.answers;
         };
       }

@@ -8,11 +8,11 @@ Drawn draws old [] new = new ≡ old
 Drawn {C} draws old (now ∷ moments) new = (mid : C) × draws old now mid × Drawn draws mid moments new
 
 -- the k-th moment of a clock, counted from 1: so many ticks after the start, stopping at the last moment
-abbrev pub moment_at : ℕ → ℕ → ℕ → ℕ
-moment_at start tick k = min (start + k * tick) (2 ^ 64 - 1)
+abbrev pub moment_of_tick : ℕ → ℕ → ℕ → ℕ
+moment_of_tick start tick k = min (start + k * tick) (2 ^ 64 - 1)
 
 -- a draw moves the clock by one tick, or to the last moment, and tells the moment that it has come to
 pub record Ticks (old : Ticking) (now : ℕ) (new : Ticking) : Type 0 where
-  pub moved : now ≡ moment_at old.present old.tick 1
+  pub moved : now ≡ moment_of_tick old.present old.tick 1
   pub present : new.present ≡ now
   pub tick : new.tick ≡ old.tick

@@ -5,7 +5,7 @@ use Rattle.s4_types.specs.declared.requests.Request.{Request}
 use Rattle.s4_types.specs.declared.replies.Reply.{Reply}
 use Rattle.rpc.specs.declared.items.Item.{Item}
 use Rattle.rpc.specs.Spelling.{SpellsRequest}
-use Rattle.rpc.specs.Stream.{Reads, IsPartial}
+use Rattle.rpc.specs.Stream.{ReadsItems, IsPartial}
 use Rattle.serving.specs.Answering.{Answered, AnswersAll, SaidBy}
 use Rattle.serving.specs.declared.ends.ServeEnd.{ServeEnd}
 use Rattle.serving.specs.declared.ends.ServeEnd.TheVariants.{Ended, CutFrame, Oversized, ReadFailed, WriteFailed, NoMemory}
@@ -14,12 +14,12 @@ use Rattle.serving.specs.declared.ends.ServeEnd.TheVariants.{Ended, CutFrame, Ov
 -- between frames, inside of one, or at a length above the limit; where writing failed or memory was short, some
 -- items may be left.
 abbrev pub TakenUp : ServeEnd → List ℕ → List ℕ → List (Item Request) → Type 0
-TakenUp Ended begun stream items = Reads SpellsRequest (begun ++ stream) items (Some [])
-TakenUp CutFrame begun stream items = (rest : List ℕ) × Reads SpellsRequest (begun ++ stream) items (Some rest) × (0 < length rest)
-TakenUp Oversized begun stream items = Reads SpellsRequest (begun ++ stream) items None
-TakenUp ReadFailed begun stream items = (rest : List ℕ) × Reads SpellsRequest (begun ++ stream) items (Some rest)
+TakenUp Ended begun stream items = ReadsItems SpellsRequest (begun ++ stream) items (Some [])
+TakenUp CutFrame begun stream items = (rest : List ℕ) × ReadsItems SpellsRequest (begun ++ stream) items (Some rest) × (0 < length rest)
+TakenUp Oversized begun stream items = ReadsItems SpellsRequest (begun ++ stream) items None
+TakenUp ReadFailed begun stream items = (rest : List ℕ) × ReadsItems SpellsRequest (begun ++ stream) items (Some rest)
 TakenUp _ begun stream items = (others : List (Item Request)) × (front : List ℕ) × (unread : List ℕ) × (end : Option (List ℕ))
-    × (stream ≡ front ++ unread) × Reads SpellsRequest (begun ++ front) (items ++ others) end
+    × (stream ≡ front ++ unread) × ReadsItems SpellsRequest (begun ++ front) (items ++ others) end
 
 -- the input is at its end where the session says so
 abbrev pub IsOver : ServeEnd → Option (List ℕ) → Type 0
@@ -65,7 +65,7 @@ module _ {B C : Type 0} (steps : B → Request → ℕ → Reply → B → Type 
     pub rest : List ℕ
     pub is : held ≡ Some rest
     pub items : List (Item Request)
-    pub reading : Reads SpellsRequest (begun ++ stream) items (Some rest)
+    pub reading : ReadsItems SpellsRequest (begun ++ stream) items (Some rest)
     pub answers : AnswersAll steps draws items old before output new after output'
 
   -- The items that the end says are answered, and the replies are written as far as it says.

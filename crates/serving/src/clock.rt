@@ -1,5 +1,5 @@
 ghost use Rattle.std.specs.Prelude.{◌≡◌, ℕ, ◌+◌, ◌<◌, List, length, slice_index};
-ghost use Rattle.serving.specs.Drawing.{Drawn, Ticks, moment_at};
+ghost use Rattle.serving.specs.Drawing.{Drawn, Ticks, moment_of_tick};
 
 use s4_types::Moment;
 
@@ -26,7 +26,7 @@ impl Ticking {
         ensures present { result.present ≡ start }
         ensures tick { result.tick ≡ tick }
         ensures later { (moments : List ℕ) (later : Ticking) → Drawn Ticks result moments later
-            → (k : ℕ) → k < length moments → slice_index moments k ≡ moment_at start tick (k + 1) }
+            → (k : ℕ) → k < length moments → slice_index moments k ≡ moment_of_tick start tick (k + 1) }
     {
         Ticking {
             present: start.number(),

@@ -3,12 +3,13 @@ ghost use Rattle.version_store.specs.Store.{fields_of, IsStore};
 
 mod acts;
 mod checkpoints;
-mod plain;
+mod fresh;
 mod steps;
 
 use acts::{Act, Deed, play, play_anew};
 use block_log::Blocks;
-use plain::{Fresh, Plain};
+use fresh::Fresh;
+use plain_log::PlainLog;
 use s4_types::{Moment, ObjectId, Refusal};
 use std::alloc::Global;
 use std::process::Abort;
@@ -34,7 +35,7 @@ fn holds_nothing<B: Fresh + Drop, R: Abort>(rt: &R, alloc: Global) -> Result<(),
 
 #[test]
 fn a_new_store(rt: HostRuntime) -> Result<(), Fail> {
-    holds_nothing::<Plain, _>(&rt, rt.alloc())
+    holds_nothing::<PlainLog, _>(&rt, rt.alloc())
 }
 
 /// A journal block for each change, a block for each write, and one for the block that is cut.
@@ -67,7 +68,7 @@ static EACH_KIND: [Act; 24] = [
 
 #[test]
 fn each_kind_of_change(rt: HostRuntime) -> Result<(), Fail> {
-    play_anew::<Plain, _>(&rt, rt.alloc(), EACH_KIND.as_slice())
+    play_anew::<PlainLog, _>(&rt, rt.alloc(), EACH_KIND.as_slice())
 }
 
 static PARTS: [Act; 13] = [
@@ -88,7 +89,7 @@ static PARTS: [Act; 13] = [
 
 #[test]
 fn parts_of_the_past(rt: HostRuntime) -> Result<(), Fail> {
-    play_anew::<Plain, _>(&rt, rt.alloc(), PARTS.as_slice())
+    play_anew::<PlainLog, _>(&rt, rt.alloc(), PARTS.as_slice())
 }
 
 /// Of the rows' bytes: the fixed fields of each entry, and 17 bytes for the block of the write.
@@ -115,7 +116,7 @@ static TWO: [Act; 18] = [
 
 #[test]
 fn two_objects(rt: HostRuntime) -> Result<(), Fail> {
-    play_anew::<Plain, _>(&rt, rt.alloc(), TWO.as_slice())
+    play_anew::<PlainLog, _>(&rt, rt.alloc(), TWO.as_slice())
 }
 
 /// Objects 1, 2 and 3 are made, written and changed in turn.
@@ -151,7 +152,7 @@ static IN_TURN: [Act; 26] = [
 
 #[test]
 fn objects_in_turn(rt: HostRuntime) -> Result<(), Fail> {
-    play_anew::<Plain, _>(&rt, rt.alloc(), IN_TURN.as_slice())
+    play_anew::<PlainLog, _>(&rt, rt.alloc(), IN_TURN.as_slice())
 }
 
 const LONGEST: [u8; 24_576] = [7; 24_576];
@@ -178,7 +179,7 @@ static RESERVE: [Act; 12] = [
 
 #[test]
 fn the_reserve(rt: HostRuntime) -> Result<(), Fail> {
-    play_anew::<Plain, _>(&rt, rt.alloc(), RESERVE.as_slice())
+    play_anew::<PlainLog, _>(&rt, rt.alloc(), RESERVE.as_slice())
 }
 
 /// Sets attributes of 64 bytes in turn, at the moments from 2 to 71: each entry has 164 bytes.
@@ -221,5 +222,5 @@ fn fills_a_journal<B: Fresh + Drop, R: Abort>(rt: &R, alloc: Global) -> Result<(
 
 #[test]
 fn a_full_journal(rt: HostRuntime) -> Result<(), Fail> {
-    fills_a_journal::<Plain, _>(&rt, rt.alloc())
+    fills_a_journal::<PlainLog, _>(&rt, rt.alloc())
 }

@@ -11,7 +11,7 @@ use Rattle.segment_word.specs.Handles.{Held, IsAmong, pin_of}
 use Rattle.segment_word.specs.Layout.{block_bytes}
 use Rattle.segment_word.specs.Counting.{pins_in}
 use Rattle.segment_table.specs.Table.{Table, held_at}
-use Rattle.time_read.specs.Plans.{PlanFields, pins_of, contents_pinned}
+use Rattle.time_read.specs.Plans.{PlanFields, pins_held, contents_pinned}
 use Rattle.time_read.specs.private.Planning.{CountsOn}
 use Rattle.time_read.proofs.Pins.{pinned_bytes}
 
@@ -79,7 +79,7 @@ frames_counted t p old new c f = elim (cases_lt 0 (pins_in p.frame old.pins)) [
       subst (λ (h : Held). (0 < pins_in f h.pins) ↔ ((0 < pins_in f old.pins) ⊎ (p.frame ≡ f))) (sym (c.pinned no_pin)) (one_more f p.frame old.pins (pin_of t.drive.frames p.frame) refl)
 ]
 
-from_counted : (t : Table) (p : Place) (before : PlanFields) (old new : Held) → old.pins ≡ pins_of before.pin → new.table ≡ old.table → Counted t p old new → CountsOn t p before (record before { pin = Some new })
+from_counted : (t : Table) (p : Place) (before : PlanFields) (old new : Held) → old.pins ≡ pins_held before.pin → new.table ≡ old.table → Counted t p old new → CountsOn t p before (record before { pin = Some new })
 from_counted t p before old new old_is table c = record {
   keeps = record {
     at = λ held is. ap (λ (h : Held). h.table) (sym (same_Some new held is)) ∙ table ∙ c.at;
@@ -91,7 +91,7 @@ from_counted t p before old new old_is table c = record {
 }
 
 -- a plan whose pin was told to count on the frame of a held block
-pub counts_on : (t : Table) (p : Place) (before after : PlanFields) (old new : Held) (r : Result (Unit {0}) Refusal) → old.table ≡ t.drive.table → old.pins ≡ pins_of before.pin
+pub counts_on : (t : Table) (p : Place) (before after : PlanFields) (old new : Held) (r : Result (Unit {0}) Refusal) → old.table ≡ t.drive.table → old.pins ≡ pins_held before.pin
     → (0 < pins_in p.frame old.pins → IsOk r × (new ≡ old)) → (pins_in p.frame old.pins ≡ 0 → OnOk r (new ≡ record old { pins = pin_of t.drive.frames p.frame ∷ old.pins })) → OnOk r (0 < pins_in p.frame new.pins)
     → OnOk r ((q : Pinned) → IsAmong q new.pins → q.number ≡ p.frame → IfSome (held_at t p) (λ block. block_bytes q.contents p.block ≡ block.bytes))
     → new.table ≡ old.table → IsSome (held_at t p) → after ≡ record before { pin = Some new } → OnOk r (CountsOn t p before after)

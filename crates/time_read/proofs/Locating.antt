@@ -10,7 +10,7 @@ use Rattle.segment_word.specs.Counting.{pins_in}
 use Rattle.segment_table.specs.Table.{Table, held_at}
 use Rattle.time_read.specs.declared.plans.Piece.{Piece}
 use Rattle.time_read.specs.declared.plans.Piece.TheVariants.{Hole, Copied, Pinned}
-use Rattle.time_read.specs.Plans.{PlanFields, pins_of, piece_of, piece_bytes, is_pinned, is_pinned_in, IsAt}
+use Rattle.time_read.specs.Plans.{PlanFields, pins_held, piece_of, piece_bytes, is_pinned, is_pinned_in, IsAt}
 use Rattle.time_read.specs.private.Planning.{Keeps, CountsOn, Locates}
 
 phase_of_place : Table → Place → Phase
@@ -41,7 +41,7 @@ pub located_hole : (t : Table) (slot : Option Place) (plan : PlanFields) → IsA
 unfolding slot_bytes
 located_hole t slot plan at is = subst (λ (x : Option Place). Locates t x plan plan) (sym is) (record {
   keeps = stays t plan at;
-  frames = λ f. unpinned (pins_in f (pins_of plan.pin)) f Hole refl;
+  frames = λ f. unpinned (pins_in f (pins_held plan.pin)) f Hole refl;
   bytes = refl;
   idle = λ _. refl;
   rest = refl;
@@ -51,8 +51,8 @@ pub located_copied : (t : Table) (slot : Option Place) (p : Place) (plan : PlanF
 unfolding slot_bytes
 located_copied t slot p plan at is phase = subst (λ (x : Option Place). Locates t x plan plan) (sym is) (record {
   keeps = stays t plan at;
-  frames = λ f. unpinned (pins_in f (pins_of plan.pin)) f (piece_of t (Some p)) (ap (is_pinned_in f) (open_piece t p phase));
-  bytes = ap (piece_bytes (pins_of plan.pin)) (open_piece t p phase);
+  frames = λ f. unpinned (pins_in f (pins_held plan.pin)) f (piece_of t (Some p)) (ap (is_pinned_in f) (open_piece t p phase));
+  bytes = ap (piece_bytes (pins_held plan.pin)) (open_piece t p phase);
   idle = λ _. refl;
   rest = refl;
 })
@@ -76,7 +76,7 @@ located_pinned t slot p before after is phase counts = subst (λ (x : Option Pla
           | inr here ↦ (counts.frames f).1 (inr (same.1 here))
         ]),
       );
-  bytes = ap (piece_bytes (pins_of after.pin)) (sealed_piece t p phase) ∙ counts.bytes;
+  bytes = ap (piece_bytes (pins_held after.pin)) (sealed_piece t p phase) ∙ counts.bytes;
   idle = λ unpinned_here. absurd (true≢false (sym (ap is_pinned (sealed_piece t p phase)) ∙ unpinned_here));
   rest = counts.rest;
 })

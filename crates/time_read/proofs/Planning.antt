@@ -9,7 +9,8 @@ use Rattle.std.proofs.lemmas.List.Folds.{list_any-append, list_any_at}
 use Rattle.s4_types.specs.Pointer.{Place}
 use Rattle.codec.specs.Checkpoint.{pointer_at}
 use Rattle.codec.specs.declared.inodes.Inode.{Inode}
-use Rattle.inode.specs.Contents.{contents_of, byte_in, byte_of, bytes_of, listed, zeros}
+use Rattle.codec.specs.Fields.{zeros}
+use Rattle.inode.specs.Contents.{contents_of, byte_in, byte_of, bytes_of, listed}
 use Rattle.inode.specs.Laws.{slot_bytes, EqualRanges, BytesFromAnOffset}
 use Rattle.inode.specs.Touched.{touched_count}
 use Rattle.segment_word.specs.Handles.{Held}
@@ -18,14 +19,14 @@ use Rattle.segment_word.specs.Counting.{pins_in}
 use Rattle.segment_table.specs.Table.{Table, held_at}
 use Rattle.time_read.specs.declared.plans.Piece.{Piece}
 use Rattle.time_read.specs.declared.plans.Piece.TheVariants.{Hole, Copied, Pinned}
-use Rattle.time_read.specs.Plans.{PlanFields, pins_of, piece_of, pieces_of, piece_bytes, byte_planned, bytes_planned, is_pinned, is_pinned_in, IsAt}
-use Rattle.time_read.specs.private.Planning.{Keeps, Adds}
+use Rattle.time_read.specs.Plans.{PlanFields, pins_held, piece_of, pieces_of, piece_bytes, byte_planned, bytes_planned, is_pinned, is_pinned_in, IsAt}
+use Rattle.time_read.specs.private.Planning.{Keeps, AddsPiece}
 
 -- a plan has the pieces of n blocks of an inode, from block `first` on
 pub record Planned (t : Table) (i : Inode) (first n : ℕ) (plan : PlanFields) : Type 0 where
   pub pieces : plan.pieces ≡ map (λ k. piece_of t (pointer_at i k)) (range_with_len first n)
-  pub bytes : (k : ℕ) → k < n → piece_bytes (pins_of plan.pin) (slice_index_or plan.pieces k Hole) ≡ slot_bytes (contents_of (held_at t)) (pointer_at i (first + k))
-  pub frames : (f : ℕ) → (0 < pins_in f (pins_of plan.pin)) ↔ (list_any (is_pinned_in f) plan.pieces ≡ true)
+  pub bytes : (k : ℕ) → k < n → piece_bytes (pins_held plan.pin) (slice_index_or plan.pieces k Hole) ≡ slot_bytes (contents_of (held_at t)) (pointer_at i (first + k))
+  pub frames : (f : ℕ) → (0 < pins_in f (pins_held plan.pin)) ↔ (list_any (is_pinned_in f) plan.pieces ≡ true)
   pub seat : list_any is_pinned plan.pieces ≡ false → plan.pin ≡ None
   pub at : IsAt t plan.pin
 
@@ -48,8 +49,8 @@ neither false true e = absurd (true≢false e)
 neither false false e = (refl, refl)
 
 -- a piece whose frame stays counted on keeps its bytes
-kept_bytes : (t : Table) (before after : PlanFields) (piece : Piece) → Keeps t before.pin after.pin → ((frame block : ℕ) → piece ≡ Pinned frame block → 0 < pins_in frame (pins_of before.pin))
-    → piece_bytes (pins_of after.pin) piece ≡ piece_bytes (pins_of before.pin) piece
+kept_bytes : (t : Table) (before after : PlanFields) (piece : Piece) → Keeps t before.pin after.pin → ((frame block : ℕ) → piece ≡ Pinned frame block → 0 < pins_in frame (pins_held before.pin))
+    → piece_bytes (pins_held after.pin) piece ≡ piece_bytes (pins_held before.pin) piece
 kept_bytes t before after Hole keeps counted = refl
 kept_bytes t before after (Copied block) keeps counted = refl
 kept_bytes t before after (Pinned frame block) keeps counted = ap (λ (c : List ℕ). block_bytes c block) (keeps.contents frame (counted frame block refl))
@@ -58,12 +59,12 @@ length_planned : (t : Table) (i : Inode) (first n : ℕ) (plan : PlanFields) →
 length_planned t i first n plan is = ap (length {A = Piece}) is.pieces ∙ length-map-range_with_len (λ k. piece_of t (pointer_at i k)) first n
 
 -- the frame of a pinned piece is counted on
-counted_at : (t : Table) (i : Inode) (first n k : ℕ) (plan : PlanFields) → Planned t i first n plan → k < n → (frame block : ℕ) → slice_index_or plan.pieces k Hole ≡ Pinned frame block → 0 < pins_in frame (pins_of plan.pin)
+counted_at : (t : Table) (i : Inode) (first n k : ℕ) (plan : PlanFields) → Planned t i first n plan → k < n → (frame block : ℕ) → slice_index_or plan.pieces k Hole ≡ Pinned frame block → 0 < pins_in frame (pins_held plan.pin)
 counted_at t i first n k plan is lt frame block e =
     let all : length plan.pieces ≡ n = length_planned t i first n plan is in
     (is.frames frame).1 (list_any_at (is_pinned_in frame) plan.pieces k Hole (omega arith) (ap (is_pinned_in frame) e ∙ eq-eqb frame frame refl))
 
-pub planned_more : (t : Table) (i : Inode) (first n m j : ℕ) (slot : Option Place) (before after : PlanFields) → Planned t i first n before → slot ≡ pointer_at i j → first + n ≡ j → m ≡ n + 1 → Adds t slot before after → Planned t i first m after
+pub planned_more : (t : Table) (i : Inode) (first n m j : ℕ) (slot : Option Place) (before after : PlanFields) → Planned t i first n before → slot ≡ pointer_at i j → first + n ≡ j → m ≡ n + 1 → AddsPiece t slot before after → Planned t i first m after
 planned_more t i first n m j slot before after is is_slot is_next is_more adds =
     let piece : Piece = piece_of t slot in
     let pieces : after.pieces ≡ before.pieces ++ piece ∷ [] = ap (λ (p : PlanFields). p.pieces) adds.rest in
@@ -79,7 +80,7 @@ planned_more t i first n m j slot before after is is_slot is_next is_more adds =
       bytes = λ k lt. elim (cases_lt k n) [
         | inl earlier ↦
             let same : slice_index_or after.pieces k Hole ≡ slice_index_or before.pieces k Hole = ap (λ (l : List Piece). slice_index_or l k Hole) pieces ∙ get_or_append_left before.pieces (piece ∷ []) Hole k (omega arith) in
-            ap (piece_bytes (pins_of after.pin)) same
+            ap (piece_bytes (pins_held after.pin)) same
             ∙ kept_bytes t before after (slice_index_or before.pieces k Hole) keeps (counted_at t i first n k before is earlier)
             ∙ is.bytes k earlier
         | inr last ↦
@@ -88,7 +89,7 @@ planned_more t i first n m j slot before after is is_slot is_next is_more adds =
             let here : slice_index_or after.pieces k Hole ≡ piece =
             ap (λ (l : List Piece). slice_index_or l k Hole) pieces ∙ get_or-append_right before.pieces (piece ∷ []) n k Hole all (omega arith)
             ∙ ap (λ (d : ℕ). slice_index_or (piece ∷ []) d Hole) first_behind in
-            ap (piece_bytes (pins_of after.pin)) here
+            ap (piece_bytes (pins_held after.pin)) here
             ∙ adds.located.bytes
             ∙ ap (slot_bytes (contents_of (held_at t))) (is_slot ∙ ap (pointer_at i) next_is)
       ];
@@ -115,7 +116,7 @@ planned_none t i first n plan none unpinned is = record {
   pieces = none ∙ ap (λ (m : ℕ). map (λ k. piece_of t (pointer_at i k)) (range_with_len first m)) (sym is);
   bytes = λ k lt. absurd (omega (arith, is, lt));
   frames = λ f. (
-    (λ some. absurd (omega (arith, subst (λ (p : Option Held). 0 < pins_in f (pins_of p)) unpinned some))),
+    (λ some. absurd (omega (arith, subst (λ (p : Option Held). 0 < pins_in f (pins_held p)) unpinned some))),
     (λ some. absurd (true≢false (sym some ∙ ap (list_any (is_pinned_in f)) none))),
   );
   seat = λ _. unpinned;

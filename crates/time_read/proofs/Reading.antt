@@ -8,9 +8,9 @@ use Rattle.codec.specs.declared.inodes.Inode.{Inode}
 use Rattle.codec.specs.Entry.{EntryFields}
 use Rattle.codec.specs.Checkpoint.{CheckpointFields}
 use Rattle.journal_chain.specs.Packing.{packed, filled_bytes, AllFit, KeepsTheRule}
-use Rattle.undo_redo.specs.Runs.{Run, blank, inode_after, ascend_from}
+use Rattle.undo_redo.specs.Runs.{Run, blank, inode_after, moments_ascend_from}
 use Rattle.undo_redo.specs.Groups.{grouped}
-use Rattle.checkpoint.specs.Held.{checkpoint_held, spelled}
+use Rattle.checkpoint.specs.Held.{checkpoint_held, spelled_checkpoint}
 use Rattle.object_map.specs.declared.map.Row.{Row}
 use Rattle.journal_chain.specs.Chain.{chain_entries}
 use Rattle.time_read.specs.Rows.{entries_of, first_of, inode_before, inode_of, IsRow}
@@ -32,7 +32,7 @@ pub chain_is_there : (held : Place → Option Stored) (o : ℕ) (row : Row) → 
 unfolding chain_entries
 chain_is_there held o row r = subst (λ (x : Option (List EntryFields)). IsSome x) (sym r.chain.walk) refl
 
-pub ascend : (held : Place → Option Stored) (o : ℕ) (row : Row) → ((entries : List EntryFields) → grouped entries ≡ true → ascend_from 0 entries ≡ true) → IsRow held o row → ascend_from 0 (entries_of held o row) ≡ true
+pub ascend : (held : Place → Option Stored) (o : ℕ) (row : Row) → ((entries : List EntryFields) → grouped entries ≡ true → moments_ascend_from 0 entries ≡ true) → IsRow held o row → moments_ascend_from 0 (entries_of held o row) ≡ true
 ascend held o row law r = law (entries_of held o row) r.groups
 
 -- what a checkpoint of a row tells
@@ -51,7 +51,7 @@ unfolding inode_of
 is_inode_of held o row t = refl
 
 -- a checkpoint that is told is held
-there : (block : Option (List ℕ)) → IsSome (spelled block) → IsSome block
+there : (block : Option (List ℕ)) → IsSome (spelled_checkpoint block) → IsSome block
 there None h = h
 there (Some block) h = refl
 

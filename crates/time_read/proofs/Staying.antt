@@ -9,20 +9,20 @@ use Rattle.codec.specs.Entry.{EntryFields}
 use Rattle.codec.specs.Checkpoint.{CheckpointFields}
 use Rattle.undo_redo.specs.Runs.{Run, inode_after}
 use Rattle.undo_redo.specs.Groups.{grouped}
-use Rattle.checkpoint.specs.Held.{checkpoint_held, spelled}
+use Rattle.checkpoint.specs.Held.{checkpoint_held, spelled_checkpoint}
 use Rattle.object_map.specs.declared.map.Row.{Row}
-use Rattle.journal_chain.specs.Chain.{View, IsChain, Holds, chain_entries, entries_in}
+use Rattle.journal_chain.specs.Chain.{BlockView, IsChain, Holds, chain_entries, entries_in}
 use Rattle.time_read.specs.Rows.{chain_of, entries_of, checkpoint_of, first_of, inode_before, inode_of, IsRow}
 
 same_entries : (held later : Place → Option Stored) (o : ℕ) (row : Row) → of_kind Journal o later ≡ of_kind Journal o held → entries_of later o row ≡ entries_of held o row
 unfolding chain_entries
-same_entries held later o row same = ap (λ (v : View). unwrap_or (entries_in v o row.head) []) same
+same_entries held later o row same = ap (λ (v : BlockView). unwrap_or (entries_in v o row.head) []) same
 
 same_read : (held later : Place → Option Stored) (o : ℕ) (p : Place) → of_kind Checkpoint o later ≡ of_kind Checkpoint o held → checkpoint_held later o p ≡ checkpoint_held held o p
-same_read held later o p same = ap (λ (v : View). spelled (v p)) same
+same_read held later o p same = ap (λ (v : BlockView). spelled_checkpoint (v p)) same
 
 same_checkpoint : (held later : Place → Option Stored) (o : ℕ) (row : Row) → of_kind Checkpoint o later ≡ of_kind Checkpoint o held → checkpoint_of later o row ≡ checkpoint_of held o row
-same_checkpoint held later o row same = ap (λ (v : View). row.checkpoint >>= λ p. spelled (v p)) same
+same_checkpoint held later o row same = ap (λ (v : BlockView). row.checkpoint >>= λ p. spelled_checkpoint (v p)) same
 
 same_first : (held later : Place → Option Stored) (o : ℕ) (row : Row) → of_kind Journal o later ≡ of_kind Journal o held → of_kind Checkpoint o later ≡ of_kind Checkpoint o held → first_of later o row ≡ first_of held o row
 same_first held later o row journal checkpoint =
@@ -44,7 +44,7 @@ same_row held later o row journal checkpoint r =
     let entries : entries_of later o row ≡ entries_of held o row = same_entries held later o row journal in
     let first : first_of later o row ≡ first_of held o row = same_first held later o row journal checkpoint in
     let run : Run (first_of later o row) (entries_of held o row) r.last = subst (λ (i : Inode). Run i (entries_of held o row) r.last) (sym first) r.run in
-    let chain : Holds later (chain_of o row) (entries_of held o row) = subst (λ (v : View). IsChain v (chain_of o row) (entries_of held o row)) (sym journal) r.chain in
+    let chain : Holds later (chain_of o row) (entries_of held o row) = subst (λ (v : BlockView). IsChain v (chain_of o row) (entries_of held o row)) (sym journal) r.chain in
     record {
       object = r.object;
       chain = subst (λ (es : List EntryFields). Holds later (chain_of o row) es) (sym entries) chain;
@@ -52,6 +52,6 @@ same_row held later o row journal checkpoint r =
       run = subst (λ (es : List EntryFields). Run (first_of later o row) es r.last) (sym entries) run;
       groups = subst (λ (es : List EntryFields). grouped es ≡ true) (sym entries) r.groups;
       checkpoint = carried (row.checkpoint_moment ≡ 0) row.checkpoint (checkpoint_held held o) (checkpoint_held later o) (record { object = o; moment = row.checkpoint_moment; inode = inode_of held o row row.checkpoint_moment }) (record { object = o; moment = row.checkpoint_moment; inode = inode_of later o row row.checkpoint_moment }) (λ p. same_read held later o p checkpoint) (ap (λ (i : Inode). record { object = o; moment = row.checkpoint_moment; inode = i }) (same_inode held later o row.checkpoint_moment row journal checkpoint)) r.checkpoint;
-      only = λ p there. r.only p (subst (λ (v : View). IsSome (v p)) checkpoint there);
+      only = λ p there. r.only p (subst (λ (v : BlockView). IsSome (v p)) checkpoint there);
       created = subst (λ (i : Inode). i.created ≡ row.created) (sym first) r.created;
     }

@@ -4,7 +4,8 @@ use Rattle.std.specs.List.{range_with_len}
 use Rattle.s4_types.specs.Pointer.{Place}
 use Rattle.codec.specs.Checkpoint.{pointer_at}
 use Rattle.codec.specs.declared.inodes.Inode.{Inode}
-use Rattle.inode.specs.Contents.{contents_of, zeros, listed}
+use Rattle.codec.specs.Fields.{zeros}
+use Rattle.inode.specs.Contents.{contents_of, listed}
 use Rattle.inode.specs.Touched.{touched_count}
 use Rattle.segment_word.specs.Frames.{is_open}
 use Rattle.segment_word.specs.Frames.{Pinned as FramePin}
@@ -24,9 +25,9 @@ pub record PlanFields : Type 0 where
   pub pin : Option Held
 
 -- the frames that a plan counts on
-abbrev pub pins_of : Option Held → List FramePin
-pins_of None = []
-pins_of (Some pin) = pin.pins
+abbrev pub pins_held : Option Held → List FramePin
+pins_held None = []
+pins_held (Some pin) = pin.pins
 
 -- the words that the pins have of a frame; none where no pin is of that frame
 abbrev pub contents_pinned : ℕ → List FramePin → List ℕ
@@ -41,7 +42,7 @@ piece_bytes pins (Pinned frame block) = block_bytes (contents_pinned frame pins)
 
 -- the byte at a place, counted from the first one of the first piece; a place behind the pieces is in a hole
 unfoldable pub byte_planned : PlanFields → ℕ → ℕ
-byte_planned plan n = slice_index (piece_bytes (pins_of plan.pin) (slice_index_or plan.pieces (n / 512) Hole)) (n % 512)
+byte_planned plan n = slice_index (piece_bytes (pins_held plan.pin) (slice_index_or plan.pieces (n / 512) Hole)) (n % 512)
 
 -- the bytes that a plan names
 abbrev pub bytes_planned : PlanFields → List ℕ

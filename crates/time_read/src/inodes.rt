@@ -74,7 +74,7 @@ fn undo_past<B: Blocks>(back: &mut EntriesBack, table: &mut B, at: Moment, inode
 /// The inode of an object that is current at a moment: all changes up to the moment are in it, and none behind.
 ///
 /// It is led to from the present one, which all entries have made: those later than the moment are undone, the newest
-/// first. No block behind the first entry that isn't later is read, and no memory is taken.
+/// first. No block before the one with the newest entry that isn't later is read, and no memory is taken.
 pub fn inode_at<B: Blocks>(
     table: &mut B,
     object: ObjectId,

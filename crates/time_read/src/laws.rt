@@ -1,5 +1,6 @@
 //! Laws of rows, for the layers above: each function does nothing, and its contract is the law.
 ghost use Rattle.std.specs.Prelude.{◌≡◌, ℕ, ◌≤◌, Option, IsSome};
+ghost use Rattle.s4_types.specs.declared.limits.TheConstants.{CHAIN_ENTRY_BYTES, JOURNAL_ENTRY_BYTES};
 ghost use Rattle.s4_types.specs.Pointer.{Place};
 ghost use Rattle.block_log.specs.declared.kinds.BlockKind.TheVariants.{Journal, Checkpoint};
 ghost use Rattle.block_log.specs.Log.{Stored, of_kind};
@@ -35,8 +36,8 @@ pub fn the_last_inode_is_current()
 /// its blocks is held.
 #[tactic(auto, using(crate::proofs::Reading::few_bytes, crate::proofs::Reading::chain_is_there))]
 pub fn a_row_tells_a_chain()
-    ensures bytes { (held : Place → Option Stored) (o : ℕ) (row : Row) → IsRow held o row → row.journal_bytes ≤ 11712 }
-    ensures newest { (held : Place → Option Stored) (o : ℕ) (row : Row) → IsRow held o row → row.head_bytes ≤ 488 }
+    ensures bytes { (held : Place → Option Stored) (o : ℕ) (row : Row) → IsRow held o row → row.journal_bytes ≤ CHAIN_ENTRY_BYTES }
+    ensures newest { (held : Place → Option Stored) (o : ℕ) (row : Row) → IsRow held o row → row.head_bytes ≤ JOURNAL_ENTRY_BYTES }
     ensures walk { (held : Place → Option Stored) (o : ℕ) (row : Row) → IsRow held o row → IsSome (chain_entries held o row.head) }
 {
     packing_keeps_the_rule();

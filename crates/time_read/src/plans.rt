@@ -1,6 +1,7 @@
 //! Plans of reads: where the bytes come from, and their fetching without the drive.
 ghost use Rattle.std.specs.Prelude.{◌≡◌, ℕ, ◌+◌, ◌-◌, ◌/◌, ◌<◌, ◌≤◌, ◌⊎◌, ◌↔◌, ◌++◌, [], ◌∷◌, length, take, drop, min, true, false, Option, Some, None, IsSome, IfOk, IfErr, OnOk, OnErr, slice_index_or};
 ghost use Rattle.std.specs.List.{list_any};
+ghost use Rattle.s4_types.specs.declared.limits.TheConstants.{OBJECT_BLOCKS, OBJECT_BYTES, READ_BYTES};
 ghost use Rattle.s4_types.specs.Pointer.{Place};
 ghost use Rattle.s4_types.specs.declared.refusals.Refusal.TheVariants.{NoMemory, Busy};
 ghost use Rattle.inode.specs.Contents.{contents_of, bytes_of, listed};
@@ -10,8 +11,8 @@ ghost use Rattle.segment_word.specs.Frames.Phase.{Open, Sealed};
 ghost use Rattle.segment_word.specs.Layout.{frame_at, block_bytes};
 ghost use Rattle.segment_word.specs.Counting.{pins_in};
 ghost use Rattle.segment_table.specs.Table.{held_at};
-ghost use Rattle.time_read.specs.Plans.{piece_bytes, pins_of, bytes_planned, byte_planned, piece_of, pieces_of, contents_pinned, is_pinned_in, is_pinned, IsAt};
-ghost use Rattle.time_read.specs.private.Planning.{CountsOn, Locates, Adds};
+ghost use Rattle.time_read.specs.Plans.{piece_bytes, pins_held, bytes_planned, byte_planned, piece_of, pieces_of, contents_pinned, is_pinned_in, is_pinned, IsAt};
+ghost use Rattle.time_read.specs.private.Planning.{CountsOn, Locates, AddsPiece};
 ghost use Rattle.time_read.specs.declared.plans.Piece.TheVariants.{Hole, Copied, Pinned};
 
 use block_log::{Block, Blocks};
@@ -63,9 +64,9 @@ fn append_pinned(
     to: usize,
     into: &mut Vec<u8>,
 ) -> Result<(), Refusal>
-    requires counted { (0 < pins_in frame (pins_of pin.old)) × (block < 16) }
+    requires counted { (0 < pins_in frame (pins_held pin.old)) × (block < 16) }
     requires range { (from ≤ to) × (to ≤ 512) }
-    ensures bytes { OnOk result (into.new.items ≡ into.old.items ++ take (to - from) (drop from (block_bytes (contents_pinned frame (pins_of pin.old)) block))) }
+    ensures bytes { OnOk result (into.new.items ≡ into.old.items ++ take (to - from) (drop from (block_bytes (contents_pinned frame (pins_held pin.old)) block))) }
     ensures added { OnOk result (length into.new.items ≡ length into.old.items + (to - from)) }
     ensures refusal { IfErr result (λ e. e ≡ NoMemory) }
     ensures same { pin.new ≡ pin.old }
@@ -143,9 +144,9 @@ impl PlanPiece {
         to: usize,
         into: &mut Vec<u8>,
     ) -> Result<(), Refusal>
-        requires counted { (frame block : ℕ) → self.now ≡ Pinned frame block → (0 < pins_in frame (pins_of pin.old)) × (block < 16) }
+        requires counted { (frame block : ℕ) → self.now ≡ Pinned frame block → (0 < pins_in frame (pins_held pin.old)) × (block < 16) }
         requires range { (from ≤ to) × (to ≤ 512) }
-        ensures bytes { OnOk result (into.new.items ≡ into.old.items ++ take (to - from) (drop from (piece_bytes (pins_of pin.old) self.now))) }
+        ensures bytes { OnOk result (into.new.items ≡ into.old.items ++ take (to - from) (drop from (piece_bytes (pins_held pin.old) self.now))) }
         ensures added { OnOk result (length into.new.items ≡ length into.old.items + (to - from)) }
         ensures refusal { IfErr result (λ e. e ≡ NoMemory) }
         ensures same { pin.new ≡ pin.old }
@@ -172,19 +173,20 @@ pub struct ReadPlan {
 
 impl Model for ReadPlan {
     ghost use Rattle.std.specs.Prelude.{◌<◌, ◌≤◌};
-    ghost use Rattle.time_read.specs.Plans.{PlanFields, AllCounted, pins_of};
+    ghost use Rattle.s4_types.specs.declared.limits.TheConstants.{READ_BYTES};
+    ghost use Rattle.time_read.specs.Plans.{PlanFields, AllCounted, pins_held};
 
     ghost Value = { PlanFields };
 
     ghost view = { λ p. record { pieces = p.pieces.items; skip = p.skip; length = p.length; pin = p.pin } };
 
-    ghost invariant = { λ p. AllCounted (pins_of p.pin) p.pieces.items × (p.skip < 512) × (p.length ≤ 24576) };
+    ghost invariant = { λ p. AllCounted (pins_held p.pin) p.pieces.items × (p.skip < 512) × (p.length ≤ READ_BYTES) };
 }
 
 // The pin that a plan has, or a new one without frames.
 fn pin_at(table: &SegmentTable, pin: Option<Pin>) -> Result<Pin, Refusal>
     requires { IsAt table.now pin }
-    ensures pin { IfOk result (λ p. (p.table ≡ table.now.drive.table) × (p.pins ≡ pins_of pin)) }
+    ensures pin { IfOk result (λ p. (p.table ≡ table.now.drive.table) × (p.pins ≡ pins_held pin)) }
     ensures none { IfErr result (λ e. (e ≡ Busy) × (pin ≡ None)) }
 {
     match pin {
@@ -210,7 +212,7 @@ impl ReadPlan {
         bytes: &mut Vec<u8>,
     ) -> Result<(), Refusal>
         requires range { (from ≤ to) × (to ≤ 512) }
-        ensures bytes { OnOk result (bytes.new.items ≡ bytes.old.items ++ take (to - from) (drop from (piece_bytes (pins_of self.old.pin) (slice_index_or self.old.pieces index Hole)))) }
+        ensures bytes { OnOk result (bytes.new.items ≡ bytes.old.items ++ take (to - from) (drop from (piece_bytes (pins_held self.old.pin) (slice_index_or self.old.pieces index Hole)))) }
         ensures added { OnOk result (length bytes.new.items ≡ length bytes.old.items + (to - from)) }
         ensures refusal { IfErr result (λ e. e ≡ NoMemory) }
         ensures same { self.new ≡ self.old }
@@ -307,7 +309,7 @@ impl ReadPlan {
     ) -> Result<(), Refusal>
         requires at { IsAt table.old self.old.pin }
         requires held { (p : Place) → slot ≡ Some p → IsSome (held_at table.old p) }
-        ensures adds { OnOk result (Adds table.old slot self.old self.new) }
+        ensures adds { OnOk result (AddsPiece table.old slot self.old self.new) }
         ensures refusal { IfErr result (λ e. (e ≡ NoMemory) ⊎ ((e ≡ Busy) × (is_pinned (piece_of table.old slot) ≡ true))) }
         ensures same { table.new ≡ table.old }
     {
@@ -319,7 +321,7 @@ impl ReadPlan {
 
 // The index behind the last block that has one of so many bytes from a place on; the place's own index where there are none.
 fn block_behind(start: usize, count: usize) -> usize
-    requires { 0 < count → start + count ≤ 24576 }
+    requires { 0 < count → start + count ≤ READ_BYTES }
     ensures { result ≡ start / 512 + touched_count start count }
 {
     if count == 0 {
@@ -334,7 +336,8 @@ fn block_behind(start: usize, count: usize) -> usize
 ///
 /// NoMemory where memory is refused: it is asked for once, and once for each block that is copied and each frame that is pinned.
 /// Busy only where a block of a sealed frame is needed, and all 64 seats of pins are in use, the count of those that share the
-/// frames is full, its frame has 1,048,576 readers, or other threads changed the frame's word between load and exchange 64 times. Then nothing stays pinned.
+/// frames is full, its frame has 1,048,576 readers, or other threads changed the frame's word between load and exchange 64
+/// times. Then nothing stays pinned.
 pub fn plan(
     alloc: Global,
     table: &mut SegmentTable,
@@ -342,12 +345,12 @@ pub fn plan(
     offset: u64,
     wanted: u64,
 ) -> Result<ReadPlan, Refusal>
-    requires size { inode.now.size ≤ 24576 }
-    requires count { length inode.now.pointers ≡ 48 }
+    requires size { inode.now.size ≤ OBJECT_BYTES }
+    requires count { length inode.now.pointers ≡ OBJECT_BLOCKS }
     requires lead { PointersLead (held_at table.old) inode.now }
     ensures pieces { IfOk result (λ plan. plan.pieces ≡ pieces_of table.old inode.now offset (min wanted (inode.now.size - offset))) }
     ensures bytes { IfOk result (λ plan. bytes_planned plan ≡ take wanted (drop offset (bytes_of (contents_of (held_at table.old)) inode.now))) }
-    ensures pins { IfOk result (λ plan. (f : ℕ) → (0 < pins_in f (pins_of plan.pin)) ↔ (list_any (is_pinned_in f) plan.pieces ≡ true)) }
+    ensures pins { IfOk result (λ plan. (f : ℕ) → (0 < pins_in f (pins_held plan.pin)) ↔ (list_any (is_pinned_in f) plan.pieces ≡ true)) }
     ensures seat { IfOk result (λ plan. list_any is_pinned plan.pieces ≡ false → plan.pin ≡ None) }
     ensures at { IfOk result (λ plan. IsAt table.old plan.pin) }
     ensures refusal { IfErr result (λ e. (e ≡ NoMemory) ⊎ ((e ≡ Busy) × (list_any is_pinned (pieces_of table.old inode.now offset (min wanted (inode.now.size - offset))) ≡ true))) }

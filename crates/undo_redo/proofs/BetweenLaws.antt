@@ -1,8 +1,8 @@
 -- Laws of the entries between two inodes.
-use Rattle.std.proofs.Common.{◌≡◌, ℕ, suc, ◌+◌, ◌-◌, ◌*◌, ◌<◌, ◌≤◌, ◌==◌, ◌&&◌, Bool, true, false, ltb, cond, min, inl, inr, ◌⊎◌, List, [], ◌∷◌, ◌++◌, length, map, take, drop, Option, Some, None, refl, sym, ap, subst, ◌∙◌, append_assoc, arith}
+use Rattle.std.proofs.Common.{◌≡◌, ℕ, zero, suc, ◌+◌, ◌-◌, ◌*◌, ◌<◌, ◌≤◌, ◌==◌, ◌&&◌, Bool, true, false, ltb, cond, min, inl, inr, ◌⊎◌, List, [], ◌∷◌, ◌++◌, length, map, take, drop, Option, Some, None, refl, sym, ap, subst, ◌∙◌, append_assoc, arith}
 use Rattle.std.specs.Prelude.{◌||◌, is_none, is_some}
 use Rattle.std.specs.List.{AllByRecursion, list_all}
-use Rattle.std.proofs.lemmas.List.{length-append, length-take, length-drop, take-append-drop, map-append}
+use Rattle.std.proofs.lemmas.List.{append-nil, length-take, length-drop, take-append-drop}
 use Rattle.std.proofs.lemmas.Bool.{cases_Bool, and_parts, and_from, or_cases, or_left, or_right, eqb-true, eq-eqb, cond-true, cond-false, both_ways, lt-ltb}
 use Rattle.std.proofs.lemmas.Option.{cond_some, none-some}
 use Rattle.s4_types.specs.Pointer.{Place}
@@ -17,37 +17,48 @@ use Rattle.undo_redo.specs.Linked.{status_of, pointer_after, pointer_before, Sta
 use Rattle.undo_redo.specs.Redone.{with_after, redone}
 use Rattle.undo_redo.specs.Runs.{Run, AllAt}
 use Rattle.undo_redo.specs.Groups.{above, continues, grouped_behind, grouped}
-use Rattle.undo_redo.specs.Between.{pair_between, triples_between, leading_entry, further_entry, later_entry, entries_between, AreOf, CanLead}
-use Rattle.undo_redo.specs.Sizes.{later_size, entry_sizes}
+use Rattle.undo_redo.specs.Between.{pair_between, triples_between, leading_entry, further_entry, pieces, later_entries, entries_between, AreOf, CanLead}
+use Rattle.undo_redo.specs.Sizes.{later_sizes, entry_sizes}
 use Rattle.undo_redo.proofs.Pointers.{length-with_after, at-with_after, same_pointers}
 use Rattle.undo_redo.proofs.Indices.{rules_of, rules_made, ascend_take, ascend_drop, ascend_front, above_pieces}
 use Rattle.undo_redo.proofs.Slots.{pair_first, pair_after, pair_differs, pair_none, none_pair}
-use Rattle.undo_redo.proofs.Differing.{of_take, of_drop, between_ascends, between_of, between_reaches, between_none, none_between, still_before}
+use Rattle.undo_redo.proofs.Differing.{of_take, of_drop, between_ascends, between_of, between_reaches, between_none, none_between, between_length, still_before}
 use Rattle.undo_redo.proofs.LinkLaws.{same_inode, linked_redone}
-use Rattle.undo_redo.proofs.RunLaws.{run_join}
 
-pub later_none : (j : Inode) (m : ℕ) (triples : List Triple) → length triples ≡ 0 → later_entry j m triples ≡ []
-unfolding later_entry
+-- ---- pieces
+
+shorter : (t : Triple) (triples : List Triple) → length (drop 16 (t ∷ triples)) ≤ length triples
+shorter t triples = let count : length (drop 16 (t ∷ triples)) ≡ length (t ∷ triples) - 16 = length-drop 16 (t ∷ triples) in omega (arith, count)
+
+-- more pieces than there are triples add none
+pieces_same : (a b : ℕ) (triples : List Triple) → length triples ≤ a → length triples ≤ b → pieces a triples ≡ pieces b triples
+unfolding pieces
+pieces_same zero zero triples h k = refl
+pieces_same zero (suc b) [] h k = refl
+pieces_same zero (suc b) (t ∷ triples) h k = absurd (omega arith)
+pieces_same (suc a) zero [] h k = refl
+pieces_same (suc a) zero (t ∷ triples) h k = absurd (omega arith)
+pieces_same (suc a) (suc b) [] h k = refl
+pieces_same (suc a) (suc b) (t ∷ triples) h k =
+    let less = shorter t triples in
+    ap (λ (ps : List (List Triple)). take 16 (t ∷ triples) ∷ ps) (pieces_same a b (drop 16 (t ∷ triples)) (omega (arith, less, h)) (omega (arith, less, k)))
+
+pub later_none : (j : Inode) (m : ℕ) (triples : List Triple) → length triples ≡ 0 → later_entries j m triples ≡ []
+unfolding later_entries pieces
 later_none j m [] h = refl
 later_none j m (t ∷ triples) h = absurd (omega arith)
 
-pub later_some : (j : Inode) (m : ℕ) (triples : List Triple) → 0 < length triples → later_entry j m triples ≡ further_entry j m triples ∷ []
-unfolding later_entry
-later_some j m [] h = absurd (omega arith)
-later_some j m (t ∷ triples) h = refl
+pub later_more : (j : Inode) (m : ℕ) (triples : List Triple) → 0 < length triples → later_entries j m triples ≡ further_entry j m (take 16 triples) ∷ later_entries j m (drop 16 triples)
+unfolding later_entries pieces
+later_more j m [] h = absurd (omega arith)
+later_more j m (t ∷ triples) h =
+    ap (λ (ps : List (List Triple)). further_entry j m (take 16 (t ∷ triples)) ∷ map (further_entry j m) ps) (pieces_same (length triples) (length (drop 16 (t ∷ triples))) (drop 16 (t ∷ triples)) (shorter t triples) (omega arith))
 
 -- ---- the run
 
 -- an inode with another's status, and later pointers put in their places
 abbrev moved : Inode → Inode → List Triple → Inode
 moved j k triples = record { alive = j.alive; size = j.size; created = k.created; changed = j.changed; attribute = k.attribute; pointers = with_after triples k.pointers }
-
-later_run : (j k : Inode) (m : ℕ) (triples : List Triple) → status_of k ≡ status_of j → length k.pointers ≡ 48 → ((n : ℕ) → n < 48 → pointer_at k n ≡ pointer_before triples n (pointer_at k n)) → Run k (later_entry j m triples) (moved j k triples)
-unfolding later_entry redone
-later_run j k m [] status count stands = same_inode k (moved j k []) status refl refl refl
-later_run j k m (t ∷ triples) status count stands =
-    let link : StandsBefore k (further_entry j m (t ∷ triples)) = record { status = status; attribute = tt; count = count; pointers = stands } in
-    (redone (further_entry j m (t ∷ triples)) k, linked_redone k (further_entry j m (t ∷ triples)) link, refl)
 
 after-append : (front back : List Triple) (n : ℕ) (p : Option Place) → pointer_after (front ++ back) n p ≡ pointer_after back n (pointer_after front n p)
 after-append [] back n p = refl
@@ -70,23 +81,30 @@ between_moved i j k front back b = record {
   pointers = λ n lt. let in_it : n < length k.pointers = subst (λ (c : ℕ). n < c) (sym b.count) lt in at-with_after back k.pointers n in_it ∙ ap (pointer_after back n) (b.pointers n lt) ∙ sym (after-append front back n (pointer_at i n));
 }
 
-moved_run : (i j k : Inode) (m : ℕ) (front back : List Triple) → Between i j k front → ascend_from 0 (front ++ back) ≡ true → AreOf i j back → Run k (later_entry j m back) (moved j k back)
-moved_run i j k m front back b h are =
-    later_run j k m back b.status b.count (λ n lt. b.pointers n lt ∙ still_before i j 0 n front back h are ∙ ap (pointer_before back n) (sym (b.pointers n lt)))
-
 between_end : (i j k : Inode) (front : List Triple) → Between i j k front → length j.pointers ≡ 48 → front ≡ triples_between i j → k ≡ j
 between_end i j k front b count is =
     same_inode k j b.status b.created b.attribute (same_pointers k.pointers j.pointers b.count count (λ n lt. b.pointers n lt ∙ ap (λ (triples : List Triple). pointer_after triples n (pointer_at i n)) is ∙ between_reaches i j n lt))
 
-rest_run : (i j k : Inode) (m : ℕ) (xs ys zs : List Triple) → Between i j k xs → length j.pointers ≡ 48 → (xs ++ ys) ++ zs ≡ triples_between i j → AreOf i j ys → AreOf i j zs → Run k (later_entry j m ys ++ later_entry j m zs) j
-rest_run i j k m xs ys zs b count is ys_are zs_are =
-    let up : ascend_from 0 ((xs ++ ys) ++ zs) ≡ true = subst (λ (triples : List Triple). ascend_from 0 triples ≡ true) (sym is) (between_ascends i j) in
-    let second = between_moved i j k xs ys b in
-    let third = between_moved i j (moved j k ys) (xs ++ ys) zs second in
-    let one = moved_run i j k m xs ys b (ascend_front 0 (xs ++ ys) zs up) ys_are in
-    let two = moved_run i j (moved j k ys) m (xs ++ ys) zs second up zs_are in
-    let end : moved j (moved j k ys) zs ≡ j = between_end i j (moved j (moved j k ys) zs) ((xs ++ ys) ++ zs) third count is in
-    run_join k (moved j k ys) j (later_entry j m ys) (later_entry j m zs) one (subst (λ (x : Inode). Run (moved j k ys) (later_entry j m zs) x) end two)
+rest_run : (n : ℕ) (i j k : Inode) (m : ℕ) (xs rest : List Triple) → length rest ≤ n → Between i j k xs → length j.pointers ≡ 48 → xs ++ rest ≡ triples_between i j → AreOf i j rest → Run k (later_entries j m rest) j
+unfolding redone
+rest_run n i j k m xs [] short b count is are =
+    subst (λ (es : List EntryFields). Run k es j) (sym (later_none j m [] refl)) (between_end i j k xs b count (sym (append-nil xs) ∙ is))
+rest_run zero i j k m xs (t ∷ rest) short b count is are = absurd (omega arith)
+rest_run (suc n) i j k m xs (t ∷ rest) short b count is are =
+    let joined : (xs ++ take 16 (t ∷ rest)) ++ drop 16 (t ∷ rest) ≡ triples_between i j =
+    append_assoc xs (take 16 (t ∷ rest)) (drop 16 (t ∷ rest)) ∙ ap (λ (ts : List Triple). xs ++ ts) (take-append-drop 16 (t ∷ rest)) ∙ is in
+    let up : ascend_from 0 ((xs ++ take 16 (t ∷ rest)) ++ drop 16 (t ∷ rest)) ≡ true = subst (λ (ts : List Triple). ascend_from 0 ts ≡ true) (sym joined) (between_ascends i j) in
+    let piece_are : AreOf i j (take 16 (t ∷ rest)) = of_take i j 16 (t ∷ rest) are in
+    let stands : StandsBefore k (further_entry j m (take 16 (t ∷ rest))) = record {
+      status = b.status;
+      attribute = tt;
+      count = b.count;
+      pointers = λ p lt. b.pointers p lt ∙ still_before i j 0 p xs (take 16 (t ∷ rest)) (ascend_front 0 (xs ++ take 16 (t ∷ rest)) (drop 16 (t ∷ rest)) up) piece_are ∙ ap (pointer_before (take 16 (t ∷ rest)) p) (sym (b.pointers p lt));
+    } in
+    let less = shorter t rest in
+    let behind : Run (moved j k (take 16 (t ∷ rest))) (later_entries j m (drop 16 (t ∷ rest))) j =
+    rest_run n i j (moved j k (take 16 (t ∷ rest))) m (xs ++ take 16 (t ∷ rest)) (drop 16 (t ∷ rest)) (omega (arith, less, short)) (between_moved i j k xs (take 16 (t ∷ rest)) b) count joined (of_drop i j 16 (t ∷ rest) are) in
+    subst (λ (es : List EntryFields). Run k es j) (sym (later_more j m (t ∷ rest) (omega arith))) (redone (further_entry j m (take 16 (t ∷ rest))) k, linked_redone k (further_entry j m (take 16 (t ∷ rest))) stands, behind)
 
 leading_stands : (i j : Inode) (m : ℕ) → length i.pointers ≡ 48 → StandsBefore i (leading_entry i j m)
 unfolding leading_entry
@@ -108,14 +126,10 @@ leading_between i j m created count = record {
   pointers = λ n lt. let in_it : n < length i.pointers = subst (λ (c : ℕ). n < c) (sym count) lt in at-with_after (take 16 (triples_between i j)) i.pointers n in_it;
 }
 
-pieces_join : (n : ℕ) (triples : List Triple) → (take n triples ++ take n (drop n triples)) ++ drop n (drop n triples) ≡ triples
-pieces_join n triples = append_assoc (take n triples) (take n (drop n triples)) (drop n (drop n triples)) ∙ ap (λ (back : List Triple). take n triples ++ back) (take-append-drop n (drop n triples)) ∙ take-append-drop n triples
-
 pub between_run : (i j : Inode) (m : ℕ) → i.created ≡ j.created → length i.pointers ≡ 48 → length j.pointers ≡ 48 → Run i (entries_between i j m) j
 unfolding entries_between
 between_run i j m created first last =
-    let are : AreOf i j (drop 16 (triples_between i j)) = of_drop i j 16 (triples_between i j) (between_of i j) in
-    (redone (leading_entry i j m) i, linked_redone i (leading_entry i j m) (leading_stands i j m first), rest_run i j (redone (leading_entry i j m) i) m (take 16 (triples_between i j)) (take 16 (drop 16 (triples_between i j))) (drop 16 (drop 16 (triples_between i j))) (leading_between i j m created first) last (pieces_join 16 (triples_between i j)) (of_take i j 16 (drop 16 (triples_between i j)) are) (of_drop i j 16 (drop 16 (triples_between i j)) are))
+    (redone (leading_entry i j m) i, linked_redone i (leading_entry i j m) (leading_stands i j m first), rest_run (length (drop 16 (triples_between i j))) i j (redone (leading_entry i j m) i) m (take 16 (triples_between i j)) (drop 16 (triples_between i j)) (omega arith) (leading_between i j m created first) last (take-append-drop 16 (triples_between i j)) (of_drop i j 16 (triples_between i j) (between_of i j)))
 
 -- ---- the rules of entries
 
@@ -233,18 +247,20 @@ live_or_none i j m h =
           inr (none_taken 15 (triples_between i j) (eqb-true (length (take 16 (triples_between i j))) 0 c.1)))
     ]
 
--- the rules of an entry of further pointers, which are a part of those that differ
-part_rules : (i j : Inode) (m : ℕ) (part : List Triple → List Triple) → part [] ≡ [] → ascend_from 0 (part (triples_between i j)) ≡ true → entry_rules (leading_entry i j m) ≡ true → 0 < length (part (triples_between i j)) → entry_rules (further_entry j m (part (triples_between i j))) ≡ true
-part_rules i j m part empty up h some = elim (live_or_none i j m h) [
-  | inl live ↦ further_rules j m (part (triples_between i j)) live up
-  | inr none ↦ absurd (let zero_of : length (part (triples_between i j)) ≡ 0 = ap (λ (triples : List Triple). length (part triples)) none ∙ ap (λ (triples : List Triple). length triples) empty in omega arith)
+-- what holds of a further entry for each list of triples that has a property, which its pieces have too, holds of each
+later_each : (P : EntryFields → Type 0) (Q : List Triple → Type 0) (j : Inode) (m : ℕ) → ((ts : List Triple) → Q ts → Q (take 16 ts)) → ((ts : List Triple) → Q ts → Q (drop 16 ts)) → ((ts : List Triple) → Q ts → P (further_entry j m ts)) → (n : ℕ) (triples : List Triple) → length triples ≤ n → Q triples → AllByRecursion P (later_entries j m triples)
+later_each P Q j m front back each n [] short h = subst (λ (es : List EntryFields). AllByRecursion P es) (sym (later_none j m [] refl)) tt
+later_each P Q j m front back each zero (t ∷ triples) short h = absurd (omega arith)
+later_each P Q j m front back each (suc n) (t ∷ triples) short h =
+    let less = shorter t triples in
+    subst (λ (es : List EntryFields). AllByRecursion P es) (sym (later_more j m (t ∷ triples) (omega arith))) (each (take 16 (t ∷ triples)) (front (t ∷ triples) h), later_each P Q j m front back each n (drop 16 (t ∷ triples)) (omega (arith, less, short)) (back (t ∷ triples) h))
+
+-- the rules of the entries of further pointers, where the first entry keeps its own
+pub later_rules : (i j : Inode) (m : ℕ) → entry_rules (leading_entry i j m) ≡ true → AllByRecursion (λ e. entry_rules e ≡ true) (later_entries j m (drop 16 (triples_between i j)))
+later_rules i j m h = elim (live_or_none i j m h) [
+  | inl live ↦ later_each (λ e. entry_rules e ≡ true) (λ ts. ascend_from 0 ts ≡ true) j m (ascend_take 16 0) (ascend_drop 16 0) (λ ts up. further_rules j m ts live up) (length (drop 16 (triples_between i j))) (drop 16 (triples_between i j)) (omega arith) (ascend_drop 16 0 (triples_between i j) (between_ascends i j))
+  | inr none ↦ subst (λ (es : List EntryFields). AllByRecursion (λ e. entry_rules e ≡ true) es) (sym (later_none j m (drop 16 (triples_between i j)) (ap (λ (ts : List Triple). length (drop 16 ts)) none))) tt
 ]
-
-pub second_rules : (i j : Inode) (m : ℕ) → entry_rules (leading_entry i j m) ≡ true → 0 < length (take 16 (drop 16 (triples_between i j))) → entry_rules (further_entry j m (take 16 (drop 16 (triples_between i j)))) ≡ true
-second_rules i j m = part_rules i j m (λ triples. take 16 (drop 16 triples)) refl (ascend_take 16 0 (drop 16 (triples_between i j)) (ascend_drop 16 0 (triples_between i j) (between_ascends i j)))
-
-pub third_rules : (i j : Inode) (m : ℕ) → entry_rules (leading_entry i j m) ≡ true → 0 < length (drop 16 (drop 16 (triples_between i j))) → entry_rules (further_entry j m (drop 16 (drop 16 (triples_between i j)))) ≡ true
-third_rules i j m = part_rules i j m (λ triples. drop 16 (drop 16 triples)) refl (ascend_drop 16 0 (drop 16 (triples_between i j)) (ascend_drop 16 0 (triples_between i j) (between_ascends i j)))
 
 -- ---- the rules of groups
 
@@ -258,34 +274,34 @@ goes_on count e j m triples entries is few a up behind =
     (and_from true (above e.triples triples) refl up))) in
     cond-true (e.moment == m) ((ltb count 3 && continues e (further_entry j m triples)) && grouped_behind (count + 1) (further_entry j m triples) entries) (ltb e.moment m && grouped_behind 1 (further_entry j m triples) entries) (eq-eqb e.moment m is) ∙ and_from (ltb count 3 && continues e (further_entry j m triples)) (grouped_behind (count + 1) (further_entry j m triples) entries) (and_from (ltb count 3) (continues e (further_entry j m triples)) few on) behind
 
-group_end : (e : EntryFields) (j : Inode) (m : ℕ) (triples : List Triple) → e.moment ≡ m → Alive j m → above e.triples triples ≡ true → grouped_behind 2 e (later_entry j m triples) ≡ true
-unfolding later_entry
-group_end e j m [] is a up = refl
-group_end e j m (t ∷ triples) is a up = goes_on 2 e j m (t ∷ triples) [] is refl a up refl
-
-group_rest : (e : EntryFields) (j : Inode) (m n : ℕ) (rest : List Triple) → e.moment ≡ m → Alive j m → above e.triples (take (suc n) rest) ≡ true → above (take (suc n) rest) (drop (suc n) rest) ≡ true → grouped_behind 1 e (later_entry j m (take (suc n) rest) ++ later_entry j m (drop (suc n) rest)) ≡ true
-unfolding later_entry
-group_rest e j m n [] is a up more = refl
-group_rest e j m n (t ∷ rest) is a up more = goes_on 1 e j m (t ∷ take n rest) (later_entry j m (drop n rest)) is refl a up (group_end (further_entry j m (t ∷ take n rest)) j m (drop n rest) refl a more)
-
 above_front : (lower front back : List Triple) → above lower (front ++ back) ≡ true → above lower front ≡ true
 above_front lower [] back h = refl
 above_front lower (t ∷ front) back h = let parts = and_parts (list_all (λ u. ltb u.index t.index) lower) (above lower (front ++ back)) h in and_from (list_all (λ u. ltb u.index t.index) lower) (above lower front) parts.0 (above_front lower front back parts.1)
 
-group_none : (e : EntryFields) (j : Inode) (m : ℕ) (rest : List Triple) → rest ≡ [] → grouped_behind 1 e (later_entry j m (take 16 rest) ++ later_entry j m (drop 16 rest)) ≡ true
-unfolding later_entry
-group_none e j m rest none = subst (λ (triples : List Triple). grouped_behind 1 e (later_entry j m (take 16 triples) ++ later_entry j m (drop 16 triples)) ≡ true) (sym none) refl
+-- the first piece behind one of ascending triples stands above it
+next_above : (triples : List Triple) → ascend_from 0 triples ≡ true → above (take 16 triples) (take 16 (drop 16 triples)) ≡ true
+next_above triples up =
+    above_front (take 16 triples) (take 16 (drop 16 triples)) (drop 16 (drop 16 triples)) (subst (λ (ts : List Triple). above (take 16 triples) ts ≡ true) (sym (take-append-drop 16 (drop 16 triples))) (above_pieces 16 0 triples up))
+
+group_rest : (n count : ℕ) (e : EntryFields) (j : Inode) (m : ℕ) (rest : List Triple) → length rest ≤ n → 16 * count + length rest ≤ 48 → e.moment ≡ m → Alive j m → above e.triples (take 16 rest) ≡ true → ascend_from 0 rest ≡ true → grouped_behind count e (later_entries j m rest) ≡ true
+group_rest n count e j m [] short room is a up ascends = subst (λ (es : List EntryFields). grouped_behind count e es ≡ true) (sym (later_none j m [] refl)) refl
+group_rest zero count e j m (t ∷ rest) short room is a up ascends = absurd (omega arith)
+group_rest (suc n) count e j m (t ∷ rest) short room is a up ascends =
+    let less = shorter t rest in
+    let cut : length (drop 16 (t ∷ rest)) ≡ length (t ∷ rest) - 16 = length-drop 16 (t ∷ rest) in
+    let behind : grouped_behind (count + 1) (further_entry j m (take 16 (t ∷ rest))) (later_entries j m (drop 16 (t ∷ rest))) ≡ true =
+    group_rest n (count + 1) (further_entry j m (take 16 (t ∷ rest))) j m (drop 16 (t ∷ rest)) (omega (arith, less, short)) (omega (arith, cut, room)) refl a (next_above (t ∷ rest) ascends) (ascend_drop 16 0 (t ∷ rest) ascends) in
+    subst (λ (es : List EntryFields). grouped_behind count e es ≡ true) (sym (later_more j m (t ∷ rest) (omega arith))) (goes_on count e j m (take 16 (t ∷ rest)) (later_entries j m (drop 16 (t ∷ rest))) is (lt-ltb count 3 (omega (arith, room))) a up behind)
 
 pub keep_grouped : (i j : Inode) (m : ℕ) → entry_rules (leading_entry i j m) ≡ true → grouped (entries_between i j m) ≡ true
 unfolding entries_between leading_entry
 keep_grouped i j m h =
     let up : ascend_from 0 (drop 16 (triples_between i j)) ≡ true = ascend_drop 16 0 (triples_between i j) (between_ascends i j) in
-    let all : above (take 16 (triples_between i j)) (drop 16 (triples_between i j)) ≡ true = above_pieces 16 0 (triples_between i j) (between_ascends i j) in
-    let first : above (take 16 (triples_between i j)) (take 16 (drop 16 (triples_between i j))) ≡ true =
-    above_front (take 16 (triples_between i j)) (take 16 (drop 16 (triples_between i j))) (drop 16 (drop 16 (triples_between i j))) (subst (λ (triples : List Triple). above (take 16 (triples_between i j)) triples ≡ true) (sym (take-append-drop 16 (drop 16 (triples_between i j)))) all) in
+    let few = between_length i j in
+    let cut : length (drop 16 (triples_between i j)) ≡ length (triples_between i j) - 16 = length-drop 16 (triples_between i j) in
     elim (live_or_none i j m h) [
-      | inl live ↦ group_rest (leading_entry i j m) j m 15 (drop 16 (triples_between i j)) refl live first (above_pieces 16 0 (drop 16 (triples_between i j)) up)
-      | inr none ↦ group_none (leading_entry i j m) j m (drop 16 (triples_between i j)) (ap (drop 16) none)
+      | inl live ↦ group_rest (length (drop 16 (triples_between i j))) 1 (leading_entry i j m) j m (drop 16 (triples_between i j)) (omega arith) (omega (arith, few, cut)) refl live (next_above (triples_between i j) (between_ascends i j)) up
+      | inr none ↦ subst (λ (es : List EntryFields). grouped_behind 1 (leading_entry i j m) es ≡ true) (sym (later_none j m (drop 16 (triples_between i j)) (ap (λ (ts : List Triple). length (drop 16 ts)) none))) refl
     ]
 
 pub can_grouped : (i j : Inode) (m : ℕ) → CanLead i j m → grouped (entries_between i j m) ≡ true
@@ -293,12 +309,55 @@ can_grouped i j m c = keep_grouped i j m (can_keep i j m c)
 
 -- ---- sizes
 
-later_length : (j : Inode) (m : ℕ) (triples : List Triple) → map entry_length (later_entry j m triples) ≡ later_size (length triples)
-unfolding later_entry entry_length pair_length
-later_length j m [] = refl
-later_length j m (t ∷ triples) =
-    let same : 34 + 0 + 17 * length (t ∷ triples) ≡ 34 + 17 * length (t ∷ triples) = omega arith in
-    ap (λ (n : ℕ). n ∷ []) same ∙ sym (cond-true (ltb 0 (length (t ∷ triples))) ((34 + 17 * length (t ∷ triples)) ∷ []) [] (lt-ltb 0 (length (t ∷ triples)) (omega arith)))
+later_sizes_same : (a b count : ℕ) → count ≤ a → count ≤ b → later_sizes a count ≡ later_sizes b count
+unfolding later_sizes
+later_sizes_same zero zero count h k = refl
+later_sizes_same zero (suc b) zero h k = refl
+later_sizes_same zero (suc b) (suc count) h k = absurd (omega arith)
+later_sizes_same (suc a) zero zero h k = refl
+later_sizes_same (suc a) zero (suc count) h k = absurd (omega arith)
+later_sizes_same (suc a) (suc b) zero h k = refl
+later_sizes_same (suc a) (suc b) (suc count) h k =
+    ap (λ (ns : List ℕ). (34 + 17 * min 16 (suc count)) ∷ ns) (later_sizes_same a b (suc count - 16) (omega arith) (omega arith))
+
+pub sizes_none : (count : ℕ) → count ≡ 0 → later_sizes count count ≡ []
+unfolding later_sizes
+sizes_none zero h = refl
+sizes_none (suc count) h = absurd (omega arith)
+
+pub sizes_more : (count : ℕ) → 0 < count → later_sizes count count ≡ (34 + 17 * min 16 count) ∷ later_sizes (count - 16) (count - 16)
+unfolding later_sizes
+sizes_more zero h = absurd (omega arith)
+sizes_more (suc count) h = ap (λ (ns : List ℕ). (34 + 17 * min 16 (suc count)) ∷ ns) (later_sizes_same count (suc count - 16) (suc count - 16) (omega arith) (omega arith))
+
+-- the size of the next entry goes behind those that stand
+pub next_size : (old new all : List ℕ) (rest left size : ℕ) → 0 < rest → left ≡ rest - 16 → size ≡ 34 + 17 * min 16 rest → new ≡ old ++ size ∷ [] → old ++ later_sizes rest rest ≡ all → new ++ later_sizes left left ≡ all
+next_size old new all rest left size some cut is put h =
+    ap (λ (ns : List ℕ). ns ++ later_sizes left left) put ∙ ap (λ (c : ℕ). (old ++ size ∷ []) ++ later_sizes c c) cut ∙ append_assoc old (size ∷ []) (later_sizes (rest - 16) (rest - 16))
+    ∙ ap (λ (c : ℕ). old ++ c ∷ later_sizes (rest - 16) (rest - 16)) is ∙ ap (λ (ns : List ℕ). old ++ ns) (sym (sizes_more rest some)) ∙ h
+
+pub all_sizes : (old all : List ℕ) (rest : ℕ) → rest ≡ 0 → old ++ later_sizes rest rest ≡ all → old ≡ all
+all_sizes old all rest none h = sym (append-nil old) ∙ ap (λ (ns : List ℕ). old ++ ns) (sym (sizes_none rest none)) ∙ h
+
+pub sizes_told : (count pair size left : ℕ) (a b c : List ℕ) → a ≡ [] → b ≡ a ++ size ∷ [] → c ≡ b ++ later_sizes left left → size ≡ 34 + pair + 17 * min 16 count → left ≡ count - 16 → c ≡ entry_sizes count pair
+unfolding entry_sizes
+sizes_told count pair size left a b c first second third is cut =
+    third ∙ ap (λ (ns : List ℕ). ns ++ later_sizes left left) (second ∙ ap (λ (ns : List ℕ). ns ++ size ∷ []) first) ∙ ap (λ (n : ℕ). n ∷ later_sizes left left) is ∙ ap (λ (n : ℕ). (34 + pair + 17 * min 16 count) ∷ later_sizes n n) cut
+
+further_length : (j : Inode) (m : ℕ) (triples : List Triple) → entry_length (further_entry j m triples) ≡ 34 + 17 * length triples
+unfolding entry_length pair_length
+further_length j m triples = omega arith
+
+later_length : (n : ℕ) (j : Inode) (m : ℕ) (triples : List Triple) → length triples ≤ n → map entry_length (later_entries j m triples) ≡ later_sizes (length triples) (length triples)
+later_length n j m [] short = ap (map entry_length) (later_none j m [] refl) ∙ sym (sizes_none 0 refl)
+later_length zero j m (t ∷ triples) short = absurd (omega arith)
+later_length (suc n) j m (t ∷ triples) short =
+    let less = shorter t triples in
+    let cut : length (drop 16 (t ∷ triples)) ≡ length (t ∷ triples) - 16 = length-drop 16 (t ∷ triples) in
+    let first : entry_length (further_entry j m (take 16 (t ∷ triples))) ≡ 34 + 17 * min 16 (length (t ∷ triples)) = further_length j m (take 16 (t ∷ triples)) ∙ ap (λ (c : ℕ). 34 + 17 * c) (length-take 16 (t ∷ triples)) in
+    let behind : map entry_length (later_entries j m (drop 16 (t ∷ triples))) ≡ later_sizes (length (t ∷ triples) - 16) (length (t ∷ triples) - 16) =
+    later_length n j m (drop 16 (t ∷ triples)) (omega (arith, less, short)) ∙ ap (λ (c : ℕ). later_sizes c c) cut in
+    ap (map entry_length) (later_more j m (t ∷ triples) (omega arith)) ∙ ap (λ (c : ℕ). c ∷ map entry_length (later_entries j m (drop 16 (t ∷ triples)))) first ∙ ap (λ (ns : List ℕ). (34 + 17 * min 16 (length (t ∷ triples))) ∷ ns) behind ∙ sym (sizes_more (length (t ∷ triples)) (omega arith))
 
 leading_length : (i j : Inode) (m : ℕ) → entry_length (leading_entry i j m) ≡ 34 + pair_length (pair_between i.attribute j.attribute) + 17 * min 16 (length (triples_between i j))
 unfolding leading_entry entry_length
@@ -307,78 +366,86 @@ leading_length i j m = ap (λ n. 34 + pair_length (pair_between i.attribute j.at
 pub between_sizes : (i j : Inode) (m : ℕ) → map entry_length (entries_between i j m) ≡ entry_sizes (length (triples_between i j)) (pair_length (pair_between i.attribute j.attribute))
 unfolding entries_between entry_sizes
 between_sizes i j m =
-    let count : length (drop 16 (triples_between i j)) ≡ length (triples_between i j) - 16 = length-drop 16 (triples_between i j) in
-    let second : map entry_length (later_entry j m (take 16 (drop 16 (triples_between i j)))) ≡ later_size (min 16 (length (triples_between i j) - 16)) =
-    later_length j m (take 16 (drop 16 (triples_between i j))) ∙ ap later_size (length-take 16 (drop 16 (triples_between i j)) ∙ ap (min 16) count) in
-    let third : map entry_length (later_entry j m (drop 16 (drop 16 (triples_between i j)))) ≡ later_size (length (triples_between i j) - 16 - 16) =
-    later_length j m (drop 16 (drop 16 (triples_between i j))) ∙ ap later_size (length-drop 16 (drop 16 (triples_between i j)) ∙ ap (λ n. n - 16) count) in
-    let both : map entry_length (later_entry j m (take 16 (drop 16 (triples_between i j))) ++ later_entry j m (drop 16 (drop 16 (triples_between i j)))) ≡ later_size (min 16 (length (triples_between i j) - 16)) ++ later_size (length (triples_between i j) - 16 - 16) =
-    map-append entry_length (later_entry j m (take 16 (drop 16 (triples_between i j)))) (later_entry j m (drop 16 (drop 16 (triples_between i j)))) ∙ ap (λ (front : List ℕ). front ++ map entry_length (later_entry j m (drop 16 (drop 16 (triples_between i j))))) second ∙ ap (λ (back : List ℕ). later_size (min 16 (length (triples_between i j) - 16)) ++ back) third in
-    ap (λ (n : ℕ). n ∷ map entry_length (later_entry j m (take 16 (drop 16 (triples_between i j))) ++ later_entry j m (drop 16 (drop 16 (triples_between i j))))) (leading_length i j m) ∙ ap (λ (ns : List ℕ). (34 + pair_length (pair_between i.attribute j.attribute) + 17 * min 16 (length (triples_between i j))) ∷ ns) both
+    let cut : length (drop 16 (triples_between i j)) ≡ length (triples_between i j) - 16 = length-drop 16 (triples_between i j) in
+    let behind : map entry_length (later_entries j m (drop 16 (triples_between i j))) ≡ later_sizes (length (triples_between i j) - 16) (length (triples_between i j) - 16) =
+    later_length (length (drop 16 (triples_between i j))) j m (drop 16 (triples_between i j)) (omega arith) ∙ ap (λ (c : ℕ). later_sizes c c) cut in
+    ap (λ (n : ℕ). n ∷ map entry_length (later_entries j m (drop 16 (triples_between i j)))) (leading_length i j m) ∙ ap (λ (ns : List ℕ). (34 + pair_length (pair_between i.attribute j.attribute) + 17 * min 16 (length (triples_between i j))) ∷ ns) behind
 
 -- ---- each entry
 
-later_each : (P : EntryFields → Type 0) (j : Inode) (m : ℕ) (triples : List Triple) → (0 < length triples → P (further_entry j m triples)) → AllByRecursion P (later_entry j m triples)
-unfolding later_entry
-later_each P j m [] h = tt
-later_each P j m (t ∷ triples) h = (h (omega arith), tt)
-
-each_join : (P : EntryFields → Type 0) (front back : List EntryFields) → AllByRecursion P front → AllByRecursion P back → AllByRecursion P (front ++ back)
-each_join P [] back h k = k
-each_join P (e ∷ front) back h k = (h.0, each_join P front back h.1 k)
-
-between_each : (P : EntryFields → Type 0) (i j : Inode) (m : ℕ) → P (leading_entry i j m) → (0 < length (take 16 (drop 16 (triples_between i j))) → P (further_entry j m (take 16 (drop 16 (triples_between i j))))) → (0 < length (drop 16 (drop 16 (triples_between i j))) → P (further_entry j m (drop 16 (drop 16 (triples_between i j))))) → AllByRecursion P (entries_between i j m)
-unfolding entries_between
-between_each P i j m first second third = (first, each_join P (later_entry j m (take 16 (drop 16 (triples_between i j)))) (later_entry j m (drop 16 (drop 16 (triples_between i j)))) (later_each P j m (take 16 (drop 16 (triples_between i j))) second) (later_each P j m (drop 16 (drop 16 (triples_between i j))) third))
-
 pub between_rules : (i j : Inode) (m : ℕ) → CanLead i j m → AllByRecursion (λ e. entry_rules e ≡ true) (entries_between i j m)
-between_rules i j m c = between_each (λ e. entry_rules e ≡ true) i j m (can_keep i j m c) (second_rules i j m (can_keep i j m c)) (third_rules i j m (can_keep i j m c))
+unfolding entries_between
+between_rules i j m c = (can_keep i j m c, later_rules i j m (can_keep i j m c))
 
 pub between_at : (i j : Inode) (m : ℕ) → AllAt m (entries_between i j m)
-unfolding leading_entry
-between_at i j m = between_each (λ e. e.moment ≡ m) i j m refl (λ some. refl) (λ some. refl)
+unfolding entries_between leading_entry
+between_at i j m = (refl, later_each (λ e. e.moment ≡ m) (λ ts. ts ≡ ts) j m (λ ts h. refl) (λ ts h. refl) (λ ts h. refl) (length (drop 16 (triples_between i j))) (drop 16 (triples_between i j)) (omega arith) refl)
 
 pub between_tell : (i j : Inode) (m : ℕ) → AllByRecursion (λ e. AreOf i j e.triples) (entries_between i j m)
-unfolding leading_entry
+unfolding entries_between leading_entry
 between_tell i j m =
-    between_each (λ e. AreOf i j e.triples) i j m (of_take i j 16 (triples_between i j) (between_of i j)) (λ some. of_take i j 16 (drop 16 (triples_between i j)) (of_drop i j 16 (triples_between i j) (between_of i j))) (λ some. of_drop i j 16 (drop 16 (triples_between i j)) (of_drop i j 16 (triples_between i j) (between_of i j)))
+    (of_take i j 16 (triples_between i j) (between_of i j), later_each (λ e. AreOf i j e.triples) (AreOf i j) j m (of_take i j 16) (of_drop i j 16) (λ ts h. h) (length (drop 16 (triples_between i j))) (drop 16 (triples_between i j)) (omega arith) (of_drop i j 16 (triples_between i j) (between_of i j)))
 
-later_count : (j : Inode) (m : ℕ) (triples : List Triple) → length (later_entry j m triples) ≤ 1
-unfolding later_entry
-later_count j m [] = omega arith
-later_count j m (t ∷ triples) = omega arith
+later_count : (n : ℕ) (j : Inode) (m : ℕ) (triples : List Triple) → length triples ≤ n → 16 * length (later_entries j m triples) ≤ length triples + 15
+later_count n j m [] short = let none : length (later_entries j m []) ≡ 0 = ap length (later_none j m [] refl) in omega (arith, none)
+later_count zero j m (t ∷ triples) short = absurd (omega arith)
+later_count (suc n) j m (t ∷ triples) short =
+    let less = shorter t triples in
+    let cut : length (drop 16 (t ∷ triples)) ≡ length (t ∷ triples) - 16 = length-drop 16 (t ∷ triples) in
+    let more : length (later_entries j m (t ∷ triples)) ≡ suc (length (later_entries j m (drop 16 (t ∷ triples)))) = ap length (later_more j m (t ∷ triples) (omega arith)) in
+    let behind = later_count n j m (drop 16 (t ∷ triples)) (omega (arith, less, short)) in
+    omega (arith, cut, more, behind)
 
 pub between_count : (i j : Inode) (m : ℕ) → (1 ≤ length (entries_between i j m)) × (length (entries_between i j m) ≤ 3)
 unfolding entries_between
 between_count i j m =
-    let second : length (later_entry j m (take 16 (drop 16 (triples_between i j)))) ≤ 1 = later_count j m (take 16 (drop 16 (triples_between i j))) in
-    let third : length (later_entry j m (drop 16 (drop 16 (triples_between i j)))) ≤ 1 = later_count j m (drop 16 (drop 16 (triples_between i j))) in
-    let both : length (later_entry j m (take 16 (drop 16 (triples_between i j))) ++ later_entry j m (drop 16 (drop 16 (triples_between i j)))) ≡ length (later_entry j m (take 16 (drop 16 (triples_between i j)))) + length (later_entry j m (drop 16 (drop 16 (triples_between i j)))) = length-append (later_entry j m (take 16 (drop 16 (triples_between i j)))) (later_entry j m (drop 16 (drop 16 (triples_between i j)))) in
-    (omega arith, omega arith)
+    let few = between_length i j in
+    let cut : length (drop 16 (triples_between i j)) ≡ length (triples_between i j) - 16 = length-drop 16 (triples_between i j) in
+    let later = later_count (length (drop 16 (triples_between i j))) j m (drop 16 (triples_between i j)) (omega arith) in
+    (omega arith, omega (arith, few, cut, later))
 
 -- ---- what the code makes
 
 pub checked_some : (e x : EntryFields) → checked_entry e ≡ Some x → (entry_rules e ≡ true) × (x ≡ e)
 checked_some e x h = let parts = cond_some (entry_rules e) e x h in (parts.0, sym parts.1)
 
-pub second_told : (i j : Inode) (m : ℕ) (e : EntryFields) (others piece : List Triple) → e ≡ leading_entry i j m → entry_rules e ≡ true → others ≡ drop 16 (triples_between i j) → piece ≡ take 16 others → 0 < length piece → entry_rules (further_entry j m piece) ≡ true
-second_told i j m e others piece is rules rest taken some =
-    let same : piece ≡ take 16 (drop 16 (triples_between i j)) = taken ∙ ap (take 16) rest in
-    subst (λ (triples : List Triple). entry_rules (further_entry j m triples) ≡ true) (sym same) (second_rules i j m (subst (λ (x : EntryFields). entry_rules x ≡ true) is rules) (subst (λ (triples : List Triple). 0 < length triples) same some))
+-- the entry of the next piece keeps the rules, and so do those behind it
+pub next_rules : (j : Inode) (m : ℕ) (rest piece back : List Triple) → 0 < length rest → piece ≡ take 16 rest → back ≡ drop 16 rest → AllByRecursion (λ e. entry_rules e ≡ true) (later_entries j m rest) → (entry_rules (further_entry j m piece) ≡ true) × AllByRecursion (λ e. entry_rules e ≡ true) (later_entries j m back)
+next_rules j m rest piece back some is others h =
+    let parts : AllByRecursion (λ e. entry_rules e ≡ true) (further_entry j m (take 16 rest) ∷ later_entries j m (drop 16 rest)) = subst (λ (es : List EntryFields). AllByRecursion (λ e. entry_rules e ≡ true) es) (later_more j m rest some) h in
+    (subst (λ (ts : List Triple). entry_rules (further_entry j m ts) ≡ true) (sym is) parts.0, subst (λ (ts : List Triple). AllByRecursion (λ e. entry_rules e ≡ true) (later_entries j m ts)) (sym others) parts.1)
 
-pub third_told : (i j : Inode) (m : ℕ) (e : EntryFields) (others piece : List Triple) → e ≡ leading_entry i j m → entry_rules e ≡ true → others ≡ drop 16 (triples_between i j) → piece ≡ drop 16 others → 0 < length piece → entry_rules (further_entry j m piece) ≡ true
-third_told i j m e others piece is rules rest taken some =
-    let same : piece ≡ drop 16 (drop 16 (triples_between i j)) = taken ∙ ap (drop 16) rest in
-    subst (λ (triples : List Triple). entry_rules (further_entry j m triples) ≡ true) (sym same) (third_rules i j m (subst (λ (x : EntryFields). entry_rules x ≡ true) is rules) (subst (λ (triples : List Triple). 0 < length triples) same some))
+-- the entry of the next piece goes behind those that stand
+pub next_entry : (j : Inode) (m : ℕ) (old new all : List EntryFields) (e : EntryFields) (rest piece back : List Triple) → 0 < length rest → piece ≡ take 16 rest → back ≡ drop 16 rest → e ≡ further_entry j m piece → new ≡ old ++ e ∷ [] → old ++ later_entries j m rest ≡ all → new ++ later_entries j m back ≡ all
+next_entry j m old new all e rest piece back some is others made put h =
+    let first : e ≡ further_entry j m (take 16 rest) = made ∙ ap (further_entry j m) is in
+    ap (λ (es : List EntryFields). es ++ later_entries j m back) put ∙ ap (λ (ts : List Triple). (old ++ e ∷ []) ++ later_entries j m ts) others ∙ append_assoc old (e ∷ []) (later_entries j m (drop 16 rest))
+    ∙ ap (λ (x : EntryFields). old ++ x ∷ later_entries j m (drop 16 rest)) first ∙ ap (λ (es : List EntryFields). old ++ es) (sym (later_more j m rest some)) ∙ h
 
-pub all_told : (i j : Inode) (m : ℕ) (e : EntryFields) (others ys zs : List Triple) (a b c d : List EntryFields) → e ≡ leading_entry i j m → others ≡ drop 16 (triples_between i j) → ys ≡ take 16 others → zs ≡ drop 16 others → a ≡ [] → b ≡ a ++ e ∷ [] → c ≡ b ++ later_entry j m ys → d ≡ c ++ later_entry j m zs → d ≡ entries_between i j m
+pub next_room : (old new : List EntryFields) (rest back : List Triple) → 0 < length rest → length new ≡ length old + 1 → back ≡ drop 16 rest → 16 * length old + length rest ≤ 48 → 16 * length new + length back ≤ 48
+next_room old new rest back some put others h =
+    let cut : length back ≡ length rest - 16 = ap (λ (ts : List Triple). length ts) others ∙ length-drop 16 rest in
+    omega (arith, cut, put, h, some)
+
+pub all_put : (j : Inode) (m : ℕ) (old all : List EntryFields) (rest : List Triple) → length rest ≡ 0 → old ++ later_entries j m rest ≡ all → old ≡ all
+all_put j m old all rest none h = sym (append-nil old) ∙ ap (λ (es : List EntryFields). old ++ es) (sym (later_none j m rest none)) ∙ h
+
+-- the further entries keep the rules where the first one does
+pub later_told : (i j : Inode) (m : ℕ) (e : EntryFields) (others : List Triple) → checked_entry (leading_entry i j m) ≡ Some e → others ≡ drop 16 (triples_between i j) → AllByRecursion (λ x. entry_rules x ≡ true) (later_entries j m others)
+later_told i j m e others h is = subst (λ (ts : List Triple). AllByRecursion (λ x. entry_rules x ≡ true) (later_entries j m ts)) (sym is) (later_rules i j m (checked_some (leading_entry i j m) e h).0)
+
+pub later_room : (i j : Inode) (first : List EntryFields) (others : List Triple) → length first ≡ 1 → others ≡ drop 16 (triples_between i j) → 16 * length first + length others ≤ 48
+later_room i j first others one is =
+    let few = between_length i j in
+    let cut : length others ≡ length (triples_between i j) - 16 = ap (λ (ts : List Triple). length ts) is ∙ length-drop 16 (triples_between i j) in
+    omega (arith, few, cut, one)
+
+-- the first entry, and the further ones
+pub all_told : (i j : Inode) (m : ℕ) (e : EntryFields) (others : List Triple) (a b c : List EntryFields) → e ≡ leading_entry i j m → others ≡ drop 16 (triples_between i j) → a ≡ [] → b ≡ a ++ e ∷ [] → c ≡ b ++ later_entries j m others → c ≡ entries_between i j m
 unfolding entries_between
-all_told i j m e others ys zs a b c d is rest second third none first more all =
+all_told i j m e others a b c is rest none first more =
     let one : b ≡ leading_entry i j m ∷ [] = first ∙ ap (λ (es : List EntryFields). es ++ e ∷ []) none ∙ ap (λ (x : EntryFields). x ∷ []) is in
-    let ys_are : ys ≡ take 16 (drop 16 (triples_between i j)) = second ∙ ap (take 16) rest in
-    let zs_are : zs ≡ drop 16 (drop 16 (triples_between i j)) = third ∙ ap (drop 16) rest in
-    let two : c ≡ leading_entry i j m ∷ later_entry j m (take 16 (drop 16 (triples_between i j))) = more ∙ ap (λ (es : List EntryFields). es ++ later_entry j m ys) one ∙ ap (λ (ts : List Triple). leading_entry i j m ∷ later_entry j m ts) ys_are in
-    all ∙ ap (λ (es : List EntryFields). es ++ later_entry j m zs) two ∙ ap (λ (ts : List Triple). (leading_entry i j m ∷ later_entry j m (take 16 (drop 16 (triples_between i j)))) ++ later_entry j m ts) zs_are
+    more ∙ ap (λ (es : List EntryFields). es ++ later_entries j m others) one ∙ ap (λ (ts : List Triple). leading_entry i j m ∷ later_entries j m ts) rest
 
 pub kept_made : (i j : Inode) (m : ℕ) (e : EntryFields) (made : List EntryFields) → checked_entry (leading_entry i j m) ≡ Some e → made ≡ entries_between i j m → kept (entry_rules (leading_entry i j m)) (entries_between i j m) ≡ Some made
 kept_made i j m e made h is = cond-true (entry_rules (leading_entry i j m)) (Some (entries_between i j m)) None (checked_some (leading_entry i j m) e h).0 ∙ ap (λ (es : List EntryFields). Some es) (sym is)

@@ -1,5 +1,5 @@
 -- The entries between the two ends of a run are told by its entries alone.
-use Rattle.std.proofs.Common.{◌≡◌, ℕ, zero, suc, ◌-◌, ◌<◌, Bool, true, false, inl, inr, List, [], ◌∷◌, ◌++◌, length, take, drop, get_or, replicate, Option, Some, None, refl, sym, ap, subst, ◌∙◌, arith}
+use Rattle.std.proofs.Common.{◌≡◌, ℕ, zero, suc, ◌-◌, ◌<◌, Bool, true, false, inl, inr, List, [], ◌∷◌, length, map, take, drop, get_or, replicate, Option, Some, None, refl, sym, ap, subst, ◌∙◌, arith}
 use Rattle.std.specs.Prelude.{◌↔◌, IsSome, IfSome, slice_get}
 use Rattle.std.proofs.lemmas.List.{length-replicate}
 use Rattle.std.proofs.lemmas.Option.{same_Some, none-some}
@@ -10,13 +10,13 @@ use Rattle.codec.specs.declared.entries.Status.{Status}
 use Rattle.codec.specs.declared.entries.Pair.{Pair}
 use Rattle.codec.specs.declared.entries.Triple.{Triple}
 use Rattle.codec.specs.Fields.{Reads, kept}
-use Rattle.codec.specs.Checkpoint.{pointer_at}
+use Rattle.codec.specs.Checkpoint.{pointer_at, holes}
 use Rattle.codec.specs.Entry.{EntryFields, entry_rules}
 use Rattle.undo_redo.specs.Linked.{status_of, pointer_after, pointer_before}
 use Rattle.undo_redo.specs.Redone.{attribute_after, attribute_before, redone, undone}
-use Rattle.undo_redo.specs.Runs.{Run, redone_all, undone_all, last_moment, AllAt, holes, blank, told_first, told_last}
+use Rattle.undo_redo.specs.Runs.{Run, redone_all, undone_all, last_moment, AllAt, blank, told_first, told_last}
 use Rattle.undo_redo.specs.Groups.{grouped}
-use Rattle.undo_redo.specs.Between.{pair_between, triples_between, leading_entry, later_entry, entries_between, CanLead}
+use Rattle.undo_redo.specs.Between.{pair_between, triples_between, leading_entry, further_entry, pieces, later_entries, entries_between, CanLead}
 use Rattle.undo_redo.proofs.Pointers.{length-with_after, length-with_before, at-with_after, at-with_before, Either, either_both, told_or_not}
 use Rattle.undo_redo.proofs.Slots.{pair_none}
 use Rattle.undo_redo.proofs.Differing.{AgreeAt, between_agrees}
@@ -176,19 +176,16 @@ unfolding leading_entry leading_of
 leading_same i j k l m before after pair triples =
     leading_parts (status_of i) (status_of k) (status_of j) (status_of l) (pair_between i.attribute j.attribute) (pair_between k.attribute l.attribute) (take 16 (triples_between i j)) (take 16 (triples_between k l)) m before after pair (ap (take 16) triples)
 
-later_same : (j l : Inode) (m : ℕ) (triples : List Triple) → status_of j ≡ status_of l → later_entry j m triples ≡ later_entry l m triples
-unfolding later_entry
-later_same j l m [] e = refl
-later_same j l m (t ∷ triples) e = ap (λ (s : Status). record { moment = m; before = s; after = s; pair = None; triples = t ∷ triples } ∷ []) e
+further_same : (j l : Inode) (m : ℕ) → status_of j ≡ status_of l → (ps : List (List Triple)) → map (further_entry j m) ps ≡ map (further_entry l m) ps
+further_same j l m e [] = refl
+further_same j l m e (p ∷ ps) =
+    ap (λ (s : Status). record { moment = m; before = s; after = s; pair = None; triples = p } ∷ map (further_entry j m) ps) e ∙ ap (λ (es : List EntryFields). further_entry l m p ∷ es) (further_same j l m e ps)
 
 entries_same : (i j k l : Inode) (m : ℕ) → status_of i ≡ status_of k → status_of j ≡ status_of l → pair_between i.attribute j.attribute ≡ pair_between k.attribute l.attribute → triples_between i j ≡ triples_between k l → entries_between i j m ≡ entries_between k l m
-unfolding entries_between
+unfolding entries_between later_entries
 entries_same i j k l m before after pair triples =
-    let second : later_entry j m (take 16 (drop 16 (triples_between i j))) ≡ later_entry l m (take 16 (drop 16 (triples_between k l))) = later_same j l m (take 16 (drop 16 (triples_between i j))) after ∙ ap (λ (ts : List Triple). later_entry l m (take 16 (drop 16 ts))) triples in
-    let third : later_entry j m (drop 16 (drop 16 (triples_between i j))) ≡ later_entry l m (drop 16 (drop 16 (triples_between k l))) = later_same j l m (drop 16 (drop 16 (triples_between i j))) after ∙ ap (λ (ts : List Triple). later_entry l m (drop 16 (drop 16 ts))) triples in
-    ap (λ (e : EntryFields). e ∷ (later_entry j m (take 16 (drop 16 (triples_between i j))) ++ later_entry j m (drop 16 (drop 16 (triples_between i j))))) (leading_same i j k l m before after pair triples)
-    ∙ ap (λ (es : List EntryFields). leading_entry k l m ∷ (es ++ later_entry j m (drop 16 (drop 16 (triples_between i j))))) second
-    ∙ ap (λ (es : List EntryFields). leading_entry k l m ∷ (later_entry l m (take 16 (drop 16 (triples_between k l))) ++ es)) third
+    ap (λ (e : EntryFields). e ∷ later_entries j m (drop 16 (triples_between i j))) (leading_same i j k l m before after pair triples)
+    ∙ ap (λ (es : List EntryFields). leading_entry k l m ∷ es) (further_same j l m after (pieces (length (drop 16 (triples_between i j))) (drop 16 (triples_between i j))) ∙ ap (λ (ts : List Triple). later_entries l m (drop 16 ts)) triples)
 
 pub blank_count : (created : ℕ) → length (blank created).pointers ≡ 48
 unfolding blank holes

@@ -10,14 +10,14 @@ use Rattle.codec.specs.declared.entries.Triple.{Triple}
 use Rattle.codec.specs.Checkpoint.{pointer_at}
 use Rattle.codec.specs.Entry.{same_slot, ascend_from}
 use Rattle.undo_redo.specs.Linked.{pointer_after, pointer_before}
-use Rattle.undo_redo.specs.Between.{triple_at, tells_apart, triples_below, triples_between, AreOf}
+use Rattle.undo_redo.specs.Between.{triple_between, tells_apart, triples_below, triples_between, AreOf}
 use Rattle.undo_redo.proofs.Pointers.{Leaves}
 use Rattle.undo_redo.proofs.Indices.{ascends, ascend_none, ascend_made, ascend_weaker, ascend_reaches}
 use Rattle.undo_redo.proofs.Slots.{same_slot_true, same_slot_same}
 
-pub below_more : (i j : Inode) (n : ℕ) → triples_below (n + 1) i j ≡ triples_below n i j ++ cond (tells_apart (triple_at i j n)) (triple_at i j n ∷ []) []
+pub below_more : (i j : Inode) (n : ℕ) → triples_below (n + 1) i j ≡ triples_below n i j ++ cond (tells_apart (triple_between i j n)) (triple_between i j n ∷ []) []
 unfolding triples_below
-below_more i j n = filter_of_map_range_with_len_more tells_apart (triple_at i j) 0 n n (omega arith)
+below_more i j n = filter_of_map_range_with_len_more tells_apart (triple_between i j) 0 n n (omega arith)
 
 pub below_none : (i j : Inode) → triples_below 0 i j ≡ []
 unfolding triples_below
@@ -29,17 +29,17 @@ below_all i j n e = ap (λ k. triples_below k i j) e
 
 -- the pointers that differ from an index on, among so many
 abbrev pub stretch : Inode → Inode → ℕ → ℕ → List Triple
-stretch i j a n = filter tells_apart (map (triple_at i j) (range_with_len a n))
+stretch i j a n = filter tells_apart (map (triple_between i j) (range_with_len a n))
 
-stretch_tests : (i j : Inode) (a n : ℕ) → (P : List Triple → Type 0) → (tells_apart (triple_at i j a) ≡ true → P (triple_at i j a ∷ stretch i j (a + 1) n)) → (tells_apart (triple_at i j a) ≡ false → P (stretch i j (a + 1) n)) → P (stretch i j a (suc n))
-stretch_tests i j a n P h k = cond_both (tells_apart (triple_at i j a)) (triple_at i j a ∷ stretch i j (a + 1) n) (stretch i j (a + 1) n) P h k
+stretch_tests : (i j : Inode) (a n : ℕ) → (P : List Triple → Type 0) → (tells_apart (triple_between i j a) ≡ true → P (triple_between i j a ∷ stretch i j (a + 1) n)) → (tells_apart (triple_between i j a) ≡ false → P (stretch i j (a + 1) n)) → P (stretch i j a (suc n))
+stretch_tests i j a n P h k = cond_both (tells_apart (triple_between i j a)) (triple_between i j a ∷ stretch i j (a + 1) n) (stretch i j (a + 1) n) P h k
 
 stretch_ascends : (i j : Inode) (a n : ℕ) → a + n ≤ 48 → ascend_from a (stretch i j a n) ≡ true
 stretch_ascends i j a zero le = ascend_none a
 stretch_ascends i j a (suc n) le =
     let behind : ascend_from (a + 1) (stretch i j (a + 1) n) ≡ true = stretch_ascends i j (a + 1) n (omega arith) in
     stretch_tests i j a n (λ triples. ascend_from a triples ≡ true)
-    (λ is. ascend_made a (triple_at i j a) (stretch i j (a + 1) n) (omega arith) (and_from (ltb a 48) (tells_apart (triple_at i j a)) (lt-ltb a 48 (omega arith)) is) behind)
+    (λ is. ascend_made a (triple_between i j a) (stretch i j (a + 1) n) (omega arith) (and_from (ltb a 48) (tells_apart (triple_between i j a)) (lt-ltb a 48 (omega arith)) is) behind)
     (λ no_triple. ascend_weaker a (a + 1) (stretch i j (a + 1) n) (omega arith) behind)
 
 stretch_of : (i j : Inode) (a n : ℕ) → AreOf i j (stretch i j a n)
@@ -56,10 +56,10 @@ of_drop i j zero triples h = h
 of_drop i j (suc n) [] h = h
 of_drop i j (suc n) (t ∷ triples) h = of_drop i j n triples h.1
 
-own_after : (i j : Inode) (t : Triple) (n : ℕ) → t ≡ triple_at i j t.index → cond (t.index == n) t.after (pointer_at j n) ≡ pointer_at j n
+own_after : (i j : Inode) (t : Triple) (n : ℕ) → t ≡ triple_between i j t.index → cond (t.index == n) t.after (pointer_at j n) ≡ pointer_at j n
 own_after i j t n is = cond_both (t.index == n) t.after (pointer_at j n) (λ (p : Option Place). p ≡ pointer_at j n) (λ here. ap (λ (u : Triple). u.after) is ∙ ap (pointer_at j) (eqb-true t.index n here)) (λ other. refl)
 
-own_before : (i j : Inode) (t : Triple) (n : ℕ) → t ≡ triple_at i j t.index → cond (t.index == n) t.before (pointer_at i n) ≡ pointer_at i n
+own_before : (i j : Inode) (t : Triple) (n : ℕ) → t ≡ triple_between i j t.index → cond (t.index == n) t.before (pointer_at i n) ≡ pointer_at i n
 own_before i j t n is = cond_both (t.index == n) t.before (pointer_at i n) (λ (p : Option Place). p ≡ pointer_at i n) (λ here. ap (λ (u : Triple). u.before) is ∙ ap (pointer_at i) (eqb-true t.index n here)) (λ other. refl)
 
 pub after_own : (i j : Inode) (triples : List Triple) (n : ℕ) → AreOf i j triples → pointer_after triples n (pointer_at j n) ≡ pointer_at j n
@@ -74,8 +74,8 @@ before_own i j (t ∷ triples) n h = ap (pointer_before triples n) (own_before i
 stretch_tells : (i j : Inode) (a m n : ℕ) → a ≤ n → n < a + m → same_slot (pointer_at i n) (pointer_at j n) ≡ false → (p : Option Place) → pointer_after (stretch i j a m) n p ≡ pointer_at j n
 stretch_tells i j a zero n le lt differ p = absurd (omega arith)
 stretch_tells i j a (suc m) n le lt differ p = elim (cases_eq a n) [
-  | inl e ↦ (let told : tells_apart (triple_at i j a) ≡ true = ap (λ k. not (same_slot (pointer_at i k) (pointer_at j k))) e ∙ not_from_false (same_slot (pointer_at i n) (pointer_at j n)) differ in
-      let whole : pointer_after (stretch i j a (suc m)) n p ≡ pointer_after (stretch i j (a + 1) m) n (cond (a == n) (pointer_at j a) p) = ap (λ b. pointer_after (cond b (triple_at i j a ∷ stretch i j (a + 1) m) (stretch i j (a + 1) m)) n p) told in
+  | inl e ↦ (let told : tells_apart (triple_between i j a) ≡ true = ap (λ k. not (same_slot (pointer_at i k) (pointer_at j k))) e ∙ not_from_false (same_slot (pointer_at i n) (pointer_at j n)) differ in
+      let whole : pointer_after (stretch i j a (suc m)) n p ≡ pointer_after (stretch i j (a + 1) m) n (cond (a == n) (pointer_at j a) p) = ap (λ b. pointer_after (cond b (triple_between i j a ∷ stretch i j (a + 1) m) (stretch i j (a + 1) m)) n p) told in
       let here : cond (a == n) (pointer_at j a) p ≡ pointer_at j n = ap (λ b. cond b (pointer_at j a) p) (eq-eqb a n e) ∙ ap (pointer_at j) e in
       whole ∙ ap (pointer_after (stretch i j (a + 1) m) n) here ∙ after_own i j (stretch i j (a + 1) m) n (stretch_of i j (a + 1) m))
   | inr ne ↦ (let ahead : a + 1 ≤ n = elim (cases_lt a n) [ inl less ↦ omega arith | inr most ↦ absurd (ne (omega arith)) ] in
@@ -86,22 +86,22 @@ stretch_tells i j a (suc m) n le lt differ p = elim (cases_eq a n) [
 stretch_none : (i j : Inode) (a n : ℕ) → ((k : ℕ) → pointer_at i k ≡ pointer_at j k) → stretch i j a n ≡ []
 stretch_none i j a zero same = refl
 stretch_none i j a (suc n) same =
-    let told : tells_apart (triple_at i j a) ≡ false = not_from_true (same_slot (pointer_at i a) (pointer_at j a)) (same_slot_same (pointer_at i a) (pointer_at j a) (same a)) in
-    ap (λ b. cond b (triple_at i j a ∷ stretch i j (a + 1) n) (stretch i j (a + 1) n)) told ∙ stretch_none i j (a + 1) n same
+    let told : tells_apart (triple_between i j a) ≡ false = not_from_true (same_slot (pointer_at i a) (pointer_at j a)) (same_slot_same (pointer_at i a) (pointer_at j a) (same a)) in
+    ap (λ b. cond b (triple_between i j a ∷ stretch i j (a + 1) n) (stretch i j (a + 1) n)) told ∙ stretch_none i j (a + 1) n same
 
 -- at each index the two pairs of inodes agree, or neither pair differs there
 abbrev pub AgreeAt : Inode → Inode → Inode → Inode → ℕ → Type 0
-AgreeAt i j k l n = (triple_at i j n ≡ triple_at k l n) ⊎ ((pointer_at i n ≡ pointer_at j n) × (pointer_at k n ≡ pointer_at l n))
+AgreeAt i j k l n = (triple_between i j n ≡ triple_between k l n) ⊎ ((pointer_at i n ≡ pointer_at j n) × (pointer_at k n ≡ pointer_at l n))
 
 stretch_agrees : (i j k l : Inode) (a n : ℕ) → ((b : ℕ) → a ≤ b → b < a + n → AgreeAt i j k l b) → stretch i j a n ≡ stretch k l a n
 stretch_agrees i j k l a zero h = refl
 stretch_agrees i j k l a (suc n) h =
     let behind : stretch i j (a + 1) n ≡ stretch k l (a + 1) n = stretch_agrees i j k l (a + 1) n (λ b le lt. h b (omega arith) (omega arith)) in
     elim (h a (omega arith) (omega arith)) [
-      | inl same ↦ ap (λ (t : Triple). cond (tells_apart t) (t ∷ stretch i j (a + 1) n) (stretch i j (a + 1) n)) same ∙ ap (λ (ts : List Triple). cond (tells_apart (triple_at k l a)) (triple_at k l a ∷ ts) ts) behind
-      | inr both ↦ (let first : tells_apart (triple_at i j a) ≡ false = not_from_true (same_slot (pointer_at i a) (pointer_at j a)) (same_slot_same (pointer_at i a) (pointer_at j a) both.0) in
-          let second : tells_apart (triple_at k l a) ≡ false = not_from_true (same_slot (pointer_at k a) (pointer_at l a)) (same_slot_same (pointer_at k a) (pointer_at l a) both.1) in
-          ap (λ b. cond b (triple_at i j a ∷ stretch i j (a + 1) n) (stretch i j (a + 1) n)) first ∙ behind ∙ sym (ap (λ b. cond b (triple_at k l a ∷ stretch k l (a + 1) n) (stretch k l (a + 1) n)) second))
+      | inl same ↦ ap (λ (t : Triple). cond (tells_apart t) (t ∷ stretch i j (a + 1) n) (stretch i j (a + 1) n)) same ∙ ap (λ (ts : List Triple). cond (tells_apart (triple_between k l a)) (triple_between k l a ∷ ts) ts) behind
+      | inr both ↦ (let first : tells_apart (triple_between i j a) ≡ false = not_from_true (same_slot (pointer_at i a) (pointer_at j a)) (same_slot_same (pointer_at i a) (pointer_at j a) both.0) in
+          let second : tells_apart (triple_between k l a) ≡ false = not_from_true (same_slot (pointer_at k a) (pointer_at l a)) (same_slot_same (pointer_at k a) (pointer_at l a) both.1) in
+          ap (λ b. cond b (triple_between i j a ∷ stretch i j (a + 1) n) (stretch i j (a + 1) n)) first ∙ behind ∙ sym (ap (λ b. cond b (triple_between k l a ∷ stretch k l (a + 1) n) (stretch k l (a + 1) n)) second))
     ]
 
 -- ---- all of them

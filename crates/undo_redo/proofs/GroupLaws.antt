@@ -2,7 +2,7 @@
 use Rattle.std.proofs.Common.{◌≡◌, ℕ, ◌≤◌, ◌<◌, ◌+◌, ◌==◌, ◌&&◌, Bool, true, false, leb, ltb, inl, inr, List, [], ◌∷◌, ◌++◌, refl, sym, ◌∙◌, arith}
 use Rattle.std.proofs.lemmas.Bool.{cases_Bool, and_parts, and_from, leb-true, leb-false, le-leb, lt-ltb, ltb-true, ne_eqb, eqb-true, cond-true, cond-false}
 use Rattle.codec.specs.Entry.{EntryFields}
-use Rattle.undo_redo.specs.Runs.{AllBy, AllPast, ascend_from}
+use Rattle.undo_redo.specs.Runs.{AllBy, AllPast, moments_ascend_from}
 use Rattle.undo_redo.specs.Groups.{continues, grouped_behind, grouped}
 
 -- the two ways on
@@ -81,18 +81,18 @@ pub grouped_join : (m : ℕ) (front back : List EntryFields) → grouped front �
 grouped_join m [] back h k all past = k
 grouped_join m (e ∷ front) back h k all past = join_grouped m 1 e front back (leb-true e.moment m all.0) h k all.1 past
 
-behind_ascends : (count : ℕ) (e : EntryFields) (entries : List EntryFields) → grouped_behind count e entries ≡ true → ascend_from e.moment entries ≡ true
+behind_ascends : (count : ℕ) (e : EntryFields) (entries : List EntryFields) → grouped_behind count e entries ≡ true → moments_ascend_from e.moment entries ≡ true
 behind_ascends count e [] h = refl
 behind_ascends count e (f ∷ entries) h = elim (cases_Bool (e.moment == f.moment)) [
   | inl is ↦ (let whole : Same count e f entries ≡ true = sym (cond-true (e.moment == f.moment) (Same count e f entries) (Later e f entries) is) ∙ h in
       let same : e.moment ≡ f.moment = eqb-true e.moment f.moment is in
-      and_from (leb e.moment f.moment) (ascend_from f.moment entries) (le-leb e.moment f.moment (omega arith)) (behind_ascends (count + 1) f entries (and_parts (ltb count 3 && continues e f) (grouped_behind (count + 1) f entries) whole).1))
+      and_from (leb e.moment f.moment) (moments_ascend_from f.moment entries) (le-leb e.moment f.moment (omega arith)) (behind_ascends (count + 1) f entries (and_parts (ltb count 3 && continues e f) (grouped_behind (count + 1) f entries) whole).1))
   | inr ne ↦ (let whole : Later e f entries ≡ true = sym (cond-false (e.moment == f.moment) (Same count e f entries) (Later e f entries) ne) ∙ h in
       let parts = and_parts (ltb e.moment f.moment) (grouped_behind 1 f entries) whole in
       let lt : e.moment < f.moment = ltb-true e.moment f.moment parts.0 in
-      and_from (leb e.moment f.moment) (ascend_from f.moment entries) (le-leb e.moment f.moment (omega arith)) (behind_ascends 1 f entries parts.1))
+      and_from (leb e.moment f.moment) (moments_ascend_from f.moment entries) (le-leb e.moment f.moment (omega arith)) (behind_ascends 1 f entries parts.1))
 ]
 
-pub grouped_ascends : (entries : List EntryFields) → grouped entries ≡ true → ascend_from 0 entries ≡ true
+pub grouped_ascends : (entries : List EntryFields) → grouped entries ≡ true → moments_ascend_from 0 entries ≡ true
 grouped_ascends [] h = refl
-grouped_ascends (e ∷ entries) h = and_from (leb 0 e.moment) (ascend_from e.moment entries) (le-leb 0 e.moment (omega arith)) (behind_ascends 1 e entries h)
+grouped_ascends (e ∷ entries) h = and_from (leb 0 e.moment) (moments_ascend_from e.moment entries) (le-leb 0 e.moment (omega arith)) (behind_ascends 1 e entries h)

@@ -7,7 +7,7 @@ use Rattle.codec.specs.declared.inodes.Inode.{Inode}
 use Rattle.codec.specs.Entry.{EntryFields}
 use Rattle.undo_redo.specs.Linked.{Linked}
 use Rattle.undo_redo.specs.Redone.{redone, undone}
-use Rattle.undo_redo.specs.Runs.{Run, redone_all, undone_all, is_by, entries_by, entries_past, inode_after, AllBy, AllPast, ascend_from}
+use Rattle.undo_redo.specs.Runs.{Run, redone_all, undone_all, entry_is_by, entries_by, entries_past, inode_after, AllBy, AllPast, moments_ascend_from}
 use Rattle.undo_redo.proofs.LinkLaws.{is_redone, is_undone}
 
 pub run_end : (i j : Inode) (entries : List EntryFields) → Run i entries j → j ≡ redone_all entries i
@@ -65,13 +65,13 @@ append-nil (e ∷ entries) = ap (λ es. e ∷ es) (append-nil entries)
 
 pub later_nothing : (i : Inode) (entries later : List EntryFields) (t : ℕ) → AllPast t later → inode_after i (entries ++ later) t ≡ inode_after i entries t
 later_nothing i entries later t h =
-    ap (λ es. redone_all es i) (filter-append (is_by t) entries later ∙ ap (λ es. entries_by t entries ++ es) (by_none t later h) ∙ append-nil (entries_by t entries))
+    ap (λ es. redone_all es i) (filter-append (entry_is_by t) entries later ∙ ap (λ es. entries_by t entries ++ es) (by_none t later h) ∙ append-nil (entries_by t entries))
 
 pub since_last : (i : Inode) (entries : List EntryFields) (m t : ℕ) → AllBy m entries → m ≤ t → inode_after i entries t ≡ inode_after i entries m
 since_last i entries m t h le = all_done i entries t (all_by_later m t entries le h) ∙ sym (all_done i entries m h)
 
 pub after-append : (i : Inode) (front back : List EntryFields) (t : ℕ) → inode_after i (front ++ back) t ≡ inode_after (inode_after i front t) back t
-after-append i front back t = ap (λ es. redone_all es i) (filter-append (is_by t) front back) ∙ redone_all-append i (entries_by t front) (entries_by t back)
+after-append i front back t = ap (λ es. redone_all es i) (filter-append (entry_is_by t) front back) ∙ redone_all-append i (entries_by t front) (entries_by t back)
 
 -- ---- where moments don't descend
 
@@ -79,17 +79,17 @@ past_all : (t : ℕ) (entries : List EntryFields) → AllPast t entries → entr
 past_all t [] h = refl
 past_all t (e ∷ entries) h = ap (λ b. cond (not b) (e ∷ entries_past t entries) (entries_past t entries)) h.0 ∙ ap (λ es. e ∷ es) (past_all t entries h.1)
 
-ascend_past : (low t : ℕ) (entries : List EntryFields) → t < low → ascend_from low entries ≡ true → AllPast t entries
+ascend_past : (low t : ℕ) (entries : List EntryFields) → t < low → moments_ascend_from low entries ≡ true → AllPast t entries
 ascend_past low t [] lt h = tt
 ascend_past low t (e ∷ entries) lt h =
-    let parts = and_parts (leb low e.moment) (ascend_from e.moment entries) h in
+    let parts = and_parts (leb low e.moment) (moments_ascend_from e.moment entries) h in
     let le : low ≤ e.moment = leb-true low e.moment parts.0 in
     (lt-leb e.moment t (omega arith), ascend_past e.moment t entries (omega arith) parts.1)
 
-pub by_and_past : (entries : List EntryFields) (low t : ℕ) → ascend_from low entries ≡ true → entries ≡ entries_by t entries ++ entries_past t entries
+pub by_and_past : (entries : List EntryFields) (low t : ℕ) → moments_ascend_from low entries ≡ true → entries ≡ entries_by t entries ++ entries_past t entries
 by_and_past [] low t h = refl
 by_and_past (e ∷ entries) low t h =
-    let parts = and_parts (leb low e.moment) (ascend_from e.moment entries) h in
+    let parts = and_parts (leb low e.moment) (moments_ascend_from e.moment entries) h in
     elim (cases_Bool (leb e.moment t)) [
       | inl by ↦ (let front : entries_by t (e ∷ entries) ≡ e ∷ entries_by t entries = ap (λ b. cond b (e ∷ entries_by t entries) (entries_by t entries)) by in
           let behind : entries_past t (e ∷ entries) ≡ entries_past t entries = ap (λ b. cond (not b) (e ∷ entries_past t entries) (entries_past t entries)) by in
@@ -99,7 +99,7 @@ by_and_past (e ∷ entries) low t h =
           sym (ap (λ es. es ++ entries_past t (e ∷ entries)) (by_none t (e ∷ entries) all) ∙ past_all t (e ∷ entries) all))
     ]
 
-pub run_at : (i k : Inode) (entries : List EntryFields) (low t : ℕ) → ascend_from low entries ≡ true → Run i entries k → Run i (entries_by t entries) (inode_after i entries t) × Run (inode_after i entries t) (entries_past t entries) k
+pub run_at : (i k : Inode) (entries : List EntryFields) (low t : ℕ) → moments_ascend_from low entries ≡ true → Run i entries k → Run i (entries_by t entries) (inode_after i entries t) × Run (inode_after i entries t) (entries_past t entries) k
 run_at i k entries low t h r = run_part i k (entries_by t entries) (entries_past t entries) (subst (λ (es : List EntryFields). Run i es k) (by_and_past entries low t h) r)
 
 -- ---- the last entry
@@ -115,20 +115,20 @@ undone_last i k front e r =
 pub last_undone : (i k : Inode) (front : List EntryFields) (e : EntryFields) (t : ℕ) → AllPast t (e ∷ []) → Run i (front ++ e ∷ []) k → Run i front (undone e k) × (inode_after i (front ++ e ∷ []) t ≡ inode_after i front t)
 last_undone i k front e t past r = (undone_last i k front e r, later_nothing i front (e ∷ []) t past)
 
-below_last : (front : List EntryFields) (e : EntryFields) (low : ℕ) → ascend_from low (front ++ e ∷ []) ≡ true → low ≤ e.moment
+below_last : (front : List EntryFields) (e : EntryFields) (low : ℕ) → moments_ascend_from low (front ++ e ∷ []) ≡ true → low ≤ e.moment
 below_last [] e low h = leb-true low e.moment (and_parts (leb low e.moment) true h).0
 below_last (f ∷ front) e low h =
-    let parts = and_parts (leb low f.moment) (ascend_from f.moment (front ++ e ∷ [])) h in
+    let parts = and_parts (leb low f.moment) (moments_ascend_from f.moment (front ++ e ∷ [])) h in
     let first : low ≤ f.moment = leb-true low f.moment parts.0 in
     let rest : f.moment ≤ e.moment = below_last front e f.moment parts.1 in
     omega (arith, first, rest)
 
-all_by_last : (front : List EntryFields) (e : EntryFields) (low t : ℕ) → ascend_from low (front ++ e ∷ []) ≡ true → e.moment ≤ t → AllBy t (front ++ e ∷ [])
+all_by_last : (front : List EntryFields) (e : EntryFields) (low t : ℕ) → moments_ascend_from low (front ++ e ∷ []) ≡ true → e.moment ≤ t → AllBy t (front ++ e ∷ [])
 all_by_last [] e low t h le = (le-leb e.moment t le, tt)
 all_by_last (f ∷ front) e low t h le =
-    let parts = and_parts (leb low f.moment) (ascend_from f.moment (front ++ e ∷ [])) h in
+    let parts = and_parts (leb low f.moment) (moments_ascend_from f.moment (front ++ e ∷ [])) h in
     let rest : f.moment ≤ e.moment = below_last front e f.moment parts.1 in
     (le-leb f.moment t (omega (arith, rest, le)), all_by_last front e f.moment t parts.1 le)
 
-pub last_stays : (i k : Inode) (front : List EntryFields) (e : EntryFields) (low t : ℕ) → ascend_from low (front ++ e ∷ []) ≡ true → e.moment ≤ t → Run i (front ++ e ∷ []) k → inode_after i (front ++ e ∷ []) t ≡ k
+pub last_stays : (i k : Inode) (front : List EntryFields) (e : EntryFields) (low t : ℕ) → moments_ascend_from low (front ++ e ∷ []) ≡ true → e.moment ≤ t → Run i (front ++ e ∷ []) k → inode_after i (front ++ e ∷ []) t ≡ k
 last_stays i k front e low t h le r = all_done i (front ++ e ∷ []) t (all_by_last front e low t h le) ∙ sym (run_end i k (front ++ e ∷ []) r)

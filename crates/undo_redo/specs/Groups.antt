@@ -1,7 +1,8 @@
--- Entries of one moment: one change makes one to three of them, which stand together.
+-- Entries of one moment: one change makes at most three of them, which stand together.
 use Rattle.std.specs.Prelude.{ℕ, Bool, true, nat_lt, ◌==◌, ◌&&◌, ◌+◌, if◌then◌else◌, List, [], ◌∷◌, is_none}
 use Rattle.std.specs.List.{list_all}
 use Rattle.codec.specs.declared.entries.Triple.{Triple}
+use Rattle.undo_redo.specs.declared.between.TheConstants.{CHANGE_ENTRIES}
 use Rattle.codec.specs.Entry.{EntryFields}
 
 -- each index of the second list is above each of the first
@@ -19,7 +20,7 @@ continues e f =
 abbrev pub grouped_behind : ℕ → EntryFields → List EntryFields → Bool
 grouped_behind count e [] = true
 grouped_behind count e (f ∷ entries) =
-    if e.moment == f.moment then (nat_lt count 3 && continues e f) && grouped_behind (count + 1) f entries else nat_lt e.moment f.moment && grouped_behind 1 f entries
+    if e.moment == f.moment then (nat_lt count CHANGE_ENTRIES && continues e f) && grouped_behind (count + 1) f entries else nat_lt e.moment f.moment && grouped_behind 1 f entries
 
 -- Moments don't descend. Entries of one moment are three at most, and all but the first continue the one before.
 abbrev pub grouped : List EntryFields → Bool

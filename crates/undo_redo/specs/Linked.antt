@@ -1,5 +1,6 @@
 -- An entry ties an inode to the next one: what it tells of both sides is so, and all else is equal.
 use Rattle.std.specs.Prelude.{◌≡◌, ℕ, ◌<◌, ◌==◌, if◌then◌else◌, List, [], ◌∷◌, length, Option, Some, None, IfSome}
+use Rattle.s4_types.specs.declared.limits.TheConstants.{OBJECT_BLOCKS}
 use Rattle.s4_types.specs.Pointer.{Place}
 use Rattle.codec.specs.declared.inodes.Inode.{Inode}
 use Rattle.codec.specs.declared.entries.Status.{Status}
@@ -34,21 +35,21 @@ pub record Linked (i : Inode) (e : EntryFields) (j : Inode) : Type 0 where
   pub status_after : status_of j ≡ e.after
   pub created : i.created ≡ j.created
   pub attribute : AreSides e.pair i.attribute j.attribute
-  pub count_before : length i.pointers ≡ 48
-  pub count_after : length j.pointers ≡ 48
-  pub forth : (n : ℕ) → n < 48 → pointer_at j n ≡ pointer_after e.triples n (pointer_at i n)
-  pub back : (n : ℕ) → n < 48 → pointer_at i n ≡ pointer_before e.triples n (pointer_at j n)
+  pub count_before : length i.pointers ≡ OBJECT_BLOCKS
+  pub count_after : length j.pointers ≡ OBJECT_BLOCKS
+  pub forth : (n : ℕ) → n < OBJECT_BLOCKS → pointer_at j n ≡ pointer_after e.triples n (pointer_at i n)
+  pub back : (n : ℕ) → n < OBJECT_BLOCKS → pointer_at i n ≡ pointer_before e.triples n (pointer_at j n)
 
 -- The entry's values before are those of the inode.
 pub record StandsBefore (i : Inode) (e : EntryFields) : Type 0 where
   pub status : status_of i ≡ e.before
   pub attribute : IfSome e.pair (λ p. i.attribute ≡ p.before)
-  pub count : length i.pointers ≡ 48
-  pub pointers : (n : ℕ) → n < 48 → pointer_at i n ≡ pointer_before e.triples n (pointer_at i n)
+  pub count : length i.pointers ≡ OBJECT_BLOCKS
+  pub pointers : (n : ℕ) → n < OBJECT_BLOCKS → pointer_at i n ≡ pointer_before e.triples n (pointer_at i n)
 
 -- The entry's values after are those of the inode.
 pub record StandsAfter (e : EntryFields) (j : Inode) : Type 0 where
   pub status : status_of j ≡ e.after
   pub attribute : IfSome e.pair (λ p. j.attribute ≡ p.after)
-  pub count : length j.pointers ≡ 48
-  pub pointers : (n : ℕ) → n < 48 → pointer_at j n ≡ pointer_after e.triples n (pointer_at j n)
+  pub count : length j.pointers ≡ OBJECT_BLOCKS
+  pub pointers : (n : ℕ) → n < OBJECT_BLOCKS → pointer_at j n ≡ pointer_after e.triples n (pointer_at j n)

@@ -1,11 +1,14 @@
 -- How many bytes the entries between two inodes have, from the numbers of their parts alone.
-use Rattle.std.specs.Prelude.{ℕ, ◌+◌, ◌*◌, ◌-◌, min, nat_lt, if◌then◌else◌, List, [], ◌∷◌, ◌++◌}
+use Rattle.std.specs.Prelude.{ℕ, zero, suc, ◌+◌, ◌*◌, ◌-◌, min, List, [], ◌∷◌}
+use Rattle.s4_types.specs.declared.limits.TheConstants.{ENTRY_TRIPLES, SHORTEST_ENTRY_BYTES}
 
--- the bytes of an entry of so many triples without a pair; none where there are no triples
-abbrev pub later_size : ℕ → List ℕ
-later_size count = if nat_lt 0 count then (34 + 17 * count) ∷ [] else []
+-- the bytes of the entries of so many further pointers: so many entries at most
+unfoldable pub later_sizes : ℕ → ℕ → List ℕ
+later_sizes zero count = []
+later_sizes (suc n) zero = []
+later_sizes (suc n) (suc count) = (SHORTEST_ENTRY_BYTES + 17 * min ENTRY_TRIPLES (suc count)) ∷ later_sizes n (suc count - ENTRY_TRIPLES)
 
 -- The bytes of each entry between two inodes of which so many pointers differ, with a pair of so many bytes.
 unfoldable pub entry_sizes : ℕ → ℕ → List ℕ
 entry_sizes count pair_bytes =
-    (34 + pair_bytes + 17 * min 16 count) ∷ (later_size (min 16 (count - 16)) ++ later_size (count - 16 - 16))
+    (SHORTEST_ENTRY_BYTES + pair_bytes + 17 * min ENTRY_TRIPLES count) ∷ later_sizes (count - ENTRY_TRIPLES) (count - ENTRY_TRIPLES)

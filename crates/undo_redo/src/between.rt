@@ -1,21 +1,27 @@
-ghost use Rattle.std.specs.Prelude.{◌≡◌, ◌≤◌, ◌<◌, ◌+◌, ◌++◌, true, length, take, drop};
+ghost use Rattle.std.specs.Prelude.{◌≡◌, ◌≤◌, ◌+◌, ◌*◌, ◌++◌, true, length, take};
+ghost use Rattle.std.specs.List.{AllByRecursion};
+ghost use Rattle.s4_types.specs.declared.limits.TheConstants.{ENTRY_TRIPLES, OBJECT_BLOCKS};
 ghost use Rattle.codec.specs.Fields.{Reads, kept};
 ghost use Rattle.codec.specs.Entry.{entry_rules, checked_entry};
 ghost use Rattle.undo_redo.specs.Runs.{Run, AllAt};
 ghost use Rattle.undo_redo.specs.Groups.{grouped};
-ghost use Rattle.undo_redo.specs.Between.{CanLead, triples_between, leading_entry, further_entry, later_entry, entries_between};
+ghost use Rattle.undo_redo.specs.Between.{CanLead, triples_between, leading_entry, further_entry, later_entries, entries_between};
 
 use crate::pieces::{differing, first_piece, held, other_pieces, pair_between, status_of};
 use arrayvec::ArrayVec;
 use codec::{Entry, Inode, Triple};
 use s4_types::Moment;
+use s4_types::limits::{ENTRY_TRIPLES, OBJECT_BLOCKS};
 
-/// One to three entries of one moment.
-pub type Entries = ArrayVec<Entry, 3>;
+/// Entries of one change at most: as many as hold the pointers of the largest object.
+pub const CHANGE_ENTRIES: usize = OBJECT_BLOCKS / ENTRY_TRIPLES;
+
+/// The entries of one change: one, and one more for each piece of pointers for which the first has no room.
+pub type Entries = ArrayVec<Entry, CHANGE_ENTRIES>;
 
 /// The entries of a moment that lead from an inode to another.
 ///
-/// The first tells all but pointers beyond the sixteenth that differs; those stand in a second and a third.
+/// The first tells all but pointers beyond the sixteenth that differs; those stand in further ones, sixteen in each.
 pub fn entries_between(before: &Inode, after: &Inode, moment: Moment) -> Entries
     requires { CanLead before.now after.now moment }
     ensures exact { result.items ≡ entries_between before.now after.now moment }
@@ -32,38 +38,24 @@ pub(crate) fn told_between(before: &Inode, after: &Inode, moment: Moment) -> Opt
 {
     let triples = differing(before, after);
     let first = first_piece(triples.as_slice());
-    let others = other_pieces(triples.as_slice());
     let Some(leading) = leading_entry(before, after, moment, first) else {
         return None;
     };
-    Some(all_entries(leading, before, after, moment, others))
-}
-
-/// The first entry, and those of the other pointers.
-fn all_entries(
-    leading: Entry,
-    before: &Inode,
-    after: &Inode,
-    moment: Moment,
-    others: &[Triple],
-) -> Entries
-    requires few { length others.now ≤ 32 }
-    requires others { others.now ≡ drop 16 (triples_between before.now after.now) }
-    requires leading { leading ≡ leading_entry before.now after.now moment }
-    requires rules { entry_rules leading ≡ true }
-    ensures { result.items ≡ entries_between before.now after.now moment }
-{
     let mut entries = Entries::new();
     entries.push(leading);
-    push_later(&mut entries, after, moment, first_piece(others));
-    push_later(&mut entries, after, moment, other_pieces(others));
-    entries
+    push_later(
+        &mut entries,
+        after,
+        moment,
+        other_pieces(triples.as_slice()),
+    );
+    Some(entries)
 }
 
 #[tactic(auto, unfolding(crate::specs::Between::leading_entry))]
 fn leading_entry(before: &Inode, after: &Inode, moment: Moment, triples: &[Triple]) -> Option<Entry>
-    requires few { length triples.now ≤ 16 }
-    requires first { triples.now ≡ take 16 (triples_between before.now after.now) }
+    requires few { length triples.now ≤ ENTRY_TRIPLES }
+    requires first { triples.now ≡ take ENTRY_TRIPLES (triples_between before.now after.now) }
     ensures { Reads (λ entry. entry) result (checked_entry (leading_entry before.now after.now moment)) }
 {
     let pair = pair_between(before.attribute, after.attribute);
@@ -76,22 +68,21 @@ fn leading_entry(before: &Inode, after: &Inode, moment: Moment, triples: &[Tripl
     )
 }
 
-/// Appends an entry of further pointers, where there are any.
-#[tactic(auto, using(crate::proofs::BetweenLaws::later_none, crate::proofs::BetweenLaws::later_some))]
+/// Appends the entries of further pointers, one for each piece of them.
 fn push_later(entries: &mut Entries, inode: &Inode, moment: Moment, triples: &[Triple])
-    requires room { length entries.old.items < 3 }
-    requires few { length triples.now ≤ 16 }
-    requires rules { 0 < length triples.now → entry_rules (further_entry inode.now moment triples.now) ≡ true }
-    ensures items { entries.new.items ≡ entries.old.items ++ later_entry inode.now moment triples.now }
-    ensures len { length entries.new.items ≤ length entries.old.items + 1 }
+    requires room { ENTRY_TRIPLES * length entries.old.items + length triples.now ≤ OBJECT_BLOCKS }
+    requires rules { AllByRecursion (λ e. entry_rules e ≡ true) (later_entries inode.now moment triples.now) }
+    ensures { entries.new.items ≡ entries.old.items ++ later_entries inode.now moment triples.now }
 {
-    if triples.len() > 0 {
-        entries.push(further_entry(inode, moment, triples));
+    let mut rest = triples;
+    while rest.len() > 0 {
+        entries.push(further_entry(inode, moment, first_piece(rest)));
+        rest = other_pieces(rest);
     }
 }
 
 fn further_entry(inode: &Inode, moment: Moment, triples: &[Triple]) -> Entry
-    requires few { length triples.now ≤ 16 }
+    requires few { length triples.now ≤ ENTRY_TRIPLES }
     requires rules { entry_rules (further_entry inode.now moment triples.now) ≡ true }
     ensures { result ≡ further_entry inode.now moment triples.now }
 {

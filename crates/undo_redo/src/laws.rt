@@ -2,12 +2,14 @@
 
 ghost use Rattle.std.specs.Prelude.{◌≡◌, ◌↔◌, ℕ, ◌≤◌, ◌++◌, true, List, [], ◌∷◌, length, map, None};
 ghost use Rattle.std.specs.List.{AllByRecursion};
+ghost use Rattle.s4_types.specs.declared.limits.TheConstants.{OBJECT_BLOCKS};
 ghost use Rattle.codec.specs.declared.inodes.Inode.{Inode};
 ghost use Rattle.codec.specs.Checkpoint.{pointer_at};
 ghost use Rattle.codec.specs.Entry.{EntryFields, entry_length, entry_rules, pair_length};
+ghost use Rattle.undo_redo.specs.declared.between.TheConstants.{CHANGE_ENTRIES};
 ghost use Rattle.undo_redo.specs.Linked.{Linked, StandsBefore, StandsAfter};
 ghost use Rattle.undo_redo.specs.Redone.{redone, undone};
-ghost use Rattle.undo_redo.specs.Runs.{Run, redone_all, undone_all, inode_after, entries_by, entries_past, AllBy, AllPast, blank, ascend_from, AllAt};
+ghost use Rattle.undo_redo.specs.Runs.{Run, redone_all, undone_all, inode_after, entries_by, entries_past, AllBy, AllPast, blank, moments_ascend_from, AllAt};
 ghost use Rattle.undo_redo.specs.Groups.{grouped};
 ghost use Rattle.undo_redo.specs.Between.{CanLead, pair_between, triples_between, entries_between, AreOf};
 ghost use Rattle.undo_redo.specs.Sizes.{entry_sizes};
@@ -51,21 +53,21 @@ pub fn the_inode_at_a_moment()
 /// Where moments don't descend, the inode current at a moment is the one of the run that stands behind the last
 /// entry up to the moment.
 pub fn the_inode_at_a_moment_stands_in_the_run()
-    ensures parts { (entries : List EntryFields) (low t : ℕ) → ascend_from low entries ≡ true → entries ≡ entries_by t entries ++ entries_past t entries }
-    ensures before { (i k : Inode) (entries : List EntryFields) (low t : ℕ) → ascend_from low entries ≡ true → Run i entries k → Run i (entries_by t entries) (inode_after i entries t) }
-    ensures behind { (i k : Inode) (entries : List EntryFields) (low t : ℕ) → ascend_from low entries ≡ true → Run i entries k → Run (inode_after i entries t) (entries_past t entries) k }
+    ensures parts { (entries : List EntryFields) (low t : ℕ) → moments_ascend_from low entries ≡ true → entries ≡ entries_by t entries ++ entries_past t entries }
+    ensures before { (i k : Inode) (entries : List EntryFields) (low t : ℕ) → moments_ascend_from low entries ≡ true → Run i entries k → Run i (entries_by t entries) (inode_after i entries t) }
+    ensures behind { (i k : Inode) (entries : List EntryFields) (low t : ℕ) → moments_ascend_from low entries ≡ true → Run i entries k → Run (inode_after i entries t) (entries_past t entries) k }
 {}
 
 /// Where the last entry of a run is later than a moment, the run without it ends with the entry undone, and the inode
 /// current at the moment is the same one. Where it isn't later and moments don't descend, the run's last inode is that one.
 pub fn the_last_entry_is_undone_or_stays()
     ensures undone { (i k : Inode) (front : List EntryFields) (e : EntryFields) (t : ℕ) → AllPast t (e ∷ []) → Run i (front ++ e ∷ []) k → Run i front (undone e k) × (inode_after i (front ++ e ∷ []) t ≡ inode_after i front t) }
-    ensures stays { (i k : Inode) (front : List EntryFields) (e : EntryFields) (low t : ℕ) → ascend_from low (front ++ e ∷ []) ≡ true → e.moment ≤ t → Run i (front ++ e ∷ []) k → inode_after i (front ++ e ∷ []) t ≡ k }
+    ensures stays { (i k : Inode) (front : List EntryFields) (e : EntryFields) (low t : ℕ) → moments_ascend_from low (front ++ e ∷ []) ≡ true → e.moment ≤ t → Run i (front ++ e ∷ []) k → inode_after i (front ++ e ∷ []) t ≡ k }
 {}
 
 /// A blank inode has 48 pointers, each a hole.
 pub fn a_blank_inode_has_holes_alone()
-    ensures count { (created : ℕ) → length (blank created).pointers ≡ 48 }
+    ensures count { (created : ℕ) → length (blank created).pointers ≡ OBJECT_BLOCKS }
     ensures holes { (created n : ℕ) → pointer_at (blank created) n ≡ None }
 {}
 
@@ -74,19 +76,19 @@ pub fn groups_join_and_part()
     ensures join { (m : ℕ) (front back : List EntryFields) → grouped front ≡ true → grouped back ≡ true → AllBy m front → AllPast m back → grouped (front ++ back) ≡ true }
     ensures front { (front back : List EntryFields) → grouped (front ++ back) ≡ true → grouped front ≡ true }
     ensures back { (front back : List EntryFields) → grouped (front ++ back) ≡ true → grouped back ≡ true }
-    ensures ascend { (entries : List EntryFields) → grouped entries ≡ true → ascend_from 0 entries ≡ true }
+    ensures ascend { (entries : List EntryFields) → grouped entries ≡ true → moments_ascend_from 0 entries ≡ true }
 {}
 
 /// The entries between two inodes lead from the one to the other and keep the rules of entries and of groups. They are
-/// one to three, of the moment, tell no pointers but those of the two inodes, and have as many bytes as the numbers of
+/// at least one and at most three, of the moment, tell no pointers but those of the two inodes, and have as many bytes as the numbers of
 /// their parts tell.
 pub fn the_entries_between_two_inodes()
     ensures run { (i j : Inode) (m : ℕ) → CanLead i j m → Run i (entries_between i j m) j }
     ensures group { (i j : Inode) (m : ℕ) → CanLead i j m → grouped (entries_between i j m) ≡ true }
     ensures rules { (i j : Inode) (m : ℕ) → CanLead i j m → AllByRecursion (λ e. entry_rules e ≡ true) (entries_between i j m) }
     ensures moments { (i j : Inode) (m : ℕ) → AllAt m (entries_between i j m) }
-    ensures count { (i j : Inode) (m : ℕ) → (1 ≤ length (entries_between i j m)) × (length (entries_between i j m) ≤ 3) }
+    ensures count { (i j : Inode) (m : ℕ) → (1 ≤ length (entries_between i j m)) × (length (entries_between i j m) ≤ CHANGE_ENTRIES) }
     ensures pointers { (i j : Inode) (m : ℕ) → AllByRecursion (λ e. AreOf i j e.triples) (entries_between i j m) }
     ensures sizes { (i j : Inode) (m : ℕ) → map entry_length (entries_between i j m) ≡ entry_sizes (length (triples_between i j)) (pair_length (pair_between i.attribute j.attribute)) }
-    ensures few { (i j : Inode) → length (triples_between i j) ≤ 48 }
+    ensures few { (i j : Inode) → length (triples_between i j) ≤ OBJECT_BLOCKS }
 {}

@@ -1,9 +1,11 @@
 ghost use Rattle.std.specs.Prelude.{◌≡◌, ◌<◌, []};
 ghost use Rattle.std.specs.List.{All};
+ghost use Rattle.s4_types.specs.declared.limits.TheConstants.{OBJECT_BLOCKS};
 ghost use Rattle.codec.specs.declared.inodes.Inode.{Inode as InodeFields};
+ghost use Rattle.codec.specs.Checkpoint.{holes};
 ghost use Rattle.undo_redo.specs.Linked.{Linked, StandsBefore, StandsAfter};
 ghost use Rattle.undo_redo.specs.Redone.{redone, undone, with_after, with_before};
-ghost use Rattle.undo_redo.specs.Runs.{Run, blank, holes, redone_all, undone_all};
+ghost use Rattle.undo_redo.specs.Runs.{Run, blank, redone_all, undone_all};
 
 use codec::{Attribute, Entry, Inode, Triple};
 use s4_types::limits::OBJECT_BLOCKS;
@@ -35,7 +37,7 @@ fn put_after(entry: &Entry, inode: &mut Inode)
 }
 
 fn put_later_pointers(triples: &[Triple], pointers: &mut [Option<Ptr>; OBJECT_BLOCKS])
-    requires { All (λ t. t.index < 48) triples.now }
+    requires { All (λ t. t.index < OBJECT_BLOCKS) triples.now }
     ensures { pointers.new ≡ with_after triples.now pointers.old }
 {
     for triple in triples {
@@ -69,7 +71,7 @@ fn put_before(entry: &Entry, inode: &mut Inode)
 }
 
 fn put_earlier_pointers(triples: &[Triple], pointers: &mut [Option<Ptr>; OBJECT_BLOCKS])
-    requires { All (λ t. t.index < 48) triples.now }
+    requires { All (λ t. t.index < OBJECT_BLOCKS) triples.now }
     ensures { pointers.new ≡ with_before triples.now pointers.old }
 {
     for triple in triples {
@@ -133,9 +135,9 @@ fn no_attribute() -> Attribute
     Attribute::new(&[]).unwrap()
 }
 
-#[tactic(auto, unfolding(crate::specs::Runs::holes))]
+#[tactic(auto, unfolding(codec::specs::Checkpoint::holes))]
 fn holes() -> [Option<Ptr>; OBJECT_BLOCKS]
-    ensures { result ≡ holes 48 }
+    ensures { result ≡ holes OBJECT_BLOCKS }
 {
     [None; OBJECT_BLOCKS]
 }

@@ -1,7 +1,8 @@
 ghost use Rattle.std.specs.Prelude.{◌≡◌, ◌<◌, ◌≤◌, ◌+◌, ◌++◌, [], ◌∷◌, if◌then◌else◌, length, take, drop};
+ghost use Rattle.s4_types.specs.declared.limits.TheConstants.{ENTRY_TRIPLES, OBJECT_BLOCKS};
 ghost use Rattle.codec.specs.Entry.{same_slot};
 ghost use Rattle.undo_redo.specs.Linked.{status_of};
-ghost use Rattle.undo_redo.specs.Between.{pair_between, triple_at, tells_apart, triples_between};
+ghost use Rattle.undo_redo.specs.Between.{pair_between, triple_between, tells_apart, triples_between};
 
 use arrayvec::ArrayVec;
 use codec::{Attribute, Inode, Pair, Status, Triple, Triples};
@@ -41,8 +42,8 @@ fn is_same_slot(one: Option<Ptr>, other: Option<Ptr>) -> bool
 }
 
 fn triple_at(before: &Inode, after: &Inode, index: usize) -> Triple
-    requires { index < 48 }
-    ensures { result ≡ triple_at before.now after.now index }
+    requires { index < OBJECT_BLOCKS }
+    ensures { result ≡ triple_between before.now after.now index }
 {
     Triple {
         index: index as u8,
@@ -53,7 +54,7 @@ fn triple_at(before: &Inode, after: &Inode, index: usize) -> Triple
 
 /// Appends the triple where its two pointers differ.
 fn push_apart(triples: &mut Differing, triple: Triple)
-    requires { length triples.old.items < 48 }
+    requires { length triples.old.items < OBJECT_BLOCKS }
     ensures items { triples.new.items ≡ triples.old.items ++ (if tells_apart triple then triple ∷ [] else []) }
     ensures len { length triples.new.items ≤ length triples.old.items + 1 }
 {
@@ -76,22 +77,22 @@ pub(crate) fn differing(before: &Inode, after: &Inode) -> Differing
 
 /// The first sixteen, or all where there are fewer.
 pub(crate) fn first_piece(triples: &[Triple]) -> &[Triple]
-    ensures piece { result.now ≡ take 16 triples.now }
-    ensures short { length result.now ≤ 16 }
+    ensures piece { result.now ≡ take ENTRY_TRIPLES triples.now }
+    ensures short { length result.now ≤ ENTRY_TRIPLES }
 {
     &triples[..triples.len().min(ENTRY_TRIPLES)]
 }
 
 /// What stands behind the first sixteen.
 pub(crate) fn other_pieces(triples: &[Triple]) -> &[Triple]
-    ensures { result.now ≡ drop 16 triples.now }
+    ensures { result.now ≡ drop ENTRY_TRIPLES triples.now }
 {
     &triples[triples.len().min(ENTRY_TRIPLES)..]
 }
 
 /// The triples of one entry.
 pub(crate) fn held(triples: &[Triple]) -> Triples
-    requires { length triples.now ≤ 16 }
+    requires { length triples.now ≤ ENTRY_TRIPLES }
     ensures { result.items ≡ triples.now }
 {
     let mut held = Triples::new();

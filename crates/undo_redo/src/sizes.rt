@@ -1,39 +1,38 @@
-ghost use Rattle.std.specs.Prelude.{◌≡◌, ◌≤◌, ◌<◌, ◌+◌, ◌++◌, length};
-ghost use Rattle.undo_redo.specs.Sizes.{later_size, entry_sizes};
+ghost use Rattle.std.specs.Prelude.{◌≡◌, ◌≤◌, ◌+◌, ◌*◌, ◌++◌, length};
+ghost use Rattle.s4_types.specs.declared.limits.TheConstants.{ENTRY_TRIPLES, OBJECT_BLOCKS};
+ghost use Rattle.undo_redo.specs.Sizes.{later_sizes, entry_sizes};
 
+use crate::between::CHANGE_ENTRIES;
 use arrayvec::ArrayVec;
 use s4_types::limits::{ENTRY_TRIPLES, SHORTEST_ENTRY_BYTES};
 
 /// Bytes of a triple: its index, and two pointers.
 const TRIPLE_BYTES: usize = 17;
 
-/// The numbers of bytes of one to three entries.
-pub type Sizes = ArrayVec<usize, 3>;
+/// The numbers of bytes of the entries of one change.
+pub type Sizes = ArrayVec<usize, CHANGE_ENTRIES>;
 
 /// How many bytes each entry between two inodes has of which `triples` pointers differ, where the pair of their
 /// attributes takes `pair_bytes`: 0 where these are equal, else both attributes behind a byte each.
-#[tactic(auto, unfolding(crate::specs::Sizes::entry_sizes))]
 pub fn entry_sizes(triples: usize, pair_bytes: usize) -> Sizes
-    requires pointers { triples ≤ 48 }
+    requires pointers { triples ≤ OBJECT_BLOCKS }
     requires pair { pair_bytes ≤ 130 }
     ensures { result.items ≡ entry_sizes triples pair_bytes }
 {
     let mut sizes = Sizes::new();
     sizes.push(SHORTEST_ENTRY_BYTES + pair_bytes + TRIPLE_BYTES * triples.min(ENTRY_TRIPLES));
-    let others = triples.saturating_sub(ENTRY_TRIPLES);
-    push_later(&mut sizes, others.min(ENTRY_TRIPLES));
-    push_later(&mut sizes, others.saturating_sub(ENTRY_TRIPLES));
+    push_later(&mut sizes, triples.saturating_sub(ENTRY_TRIPLES));
     sizes
 }
 
-/// The size of an entry of further pointers, where there are any.
+/// The sizes of the entries of further pointers.
 fn push_later(sizes: &mut Sizes, triples: usize)
-    requires room { length sizes.old.items < 3 }
-    requires pointers { triples ≤ 48 }
-    ensures items { sizes.new.items ≡ sizes.old.items ++ later_size triples }
-    ensures len { length sizes.new.items ≤ length sizes.old.items + 1 }
+    requires room { ENTRY_TRIPLES * length sizes.old.items + triples ≤ OBJECT_BLOCKS }
+    ensures { sizes.new.items ≡ sizes.old.items ++ later_sizes triples triples }
 {
-    if triples > 0 {
-        sizes.push(SHORTEST_ENTRY_BYTES + TRIPLE_BYTES * triples);
+    let mut rest = triples;
+    while rest > 0 {
+        sizes.push(SHORTEST_ENTRY_BYTES + TRIPLE_BYTES * rest.min(ENTRY_TRIPLES));
+        rest = rest.saturating_sub(ENTRY_TRIPLES);
     }
 }

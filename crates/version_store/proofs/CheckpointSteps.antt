@@ -1,6 +1,7 @@
 -- What a checkpoint that is written leaves of a store.
 use Rattle.std.proofs.Common.{◌≡◌, ℕ, suc, ◌+◌, ◌*◌, ◌-◌, ◌^◌, ◌<◌, ◌≤◌, ◌==◌, ◌&&◌, ◌||◌, leb, ltb, true, false, List, [], ◌∷◌, length, drop, slice_index_or, Option, Some, None, IsSome, IfSome, MatchOption, is_some, refl, sym, ap, subst, ◌∙◌, inl, inr, arith}
 use Rattle.std.specs.Prelude.{is_none}
+use Rattle.std.specs.List.{Contains}
 use Rattle.std.proofs.lemmas.Bool.{cases_Bool, and_from, and_parts, and_right, or_left, or_right, eqb-true, ltb-true, ltb-false, leb-true, le-leb, false≢true}
 use Rattle.s4_types.specs.Pointer.{Place}
 use Rattle.block_log.specs.Log.{Log, Stored, same_kind}
@@ -8,7 +9,7 @@ use Rattle.block_log.specs.declared.kinds.BlockKind.TheVariants.{Journal, Checkp
 use Rattle.codec.specs.Checkpoint.{holes_past, checkpoint_rules}
 use Rattle.codec.specs.Entry.{EntryFields}
 use Rattle.codec.specs.declared.inodes.Inode.{Inode}
-use Rattle.undo_redo.specs.Runs.{AllBy, ascend_from, last_moment}
+use Rattle.undo_redo.specs.Runs.{AllBy, moments_ascend_from, last_moment}
 use Rattle.undo_redo.specs.Groups.{grouped}
 use Rattle.checkpoint.specs.Held.{checkpoint_held}
 use Rattle.inode.specs.Contents.{contents_of, meaning}
@@ -19,36 +20,36 @@ use Rattle.object_map.specs.Rows.{row_of, with_row}
 use Rattle.time_read.specs.Rows.{IsRow, entries_of, inode_of}
 use Rattle.row_changes.specs.Recent.{IsBy}
 use Rattle.row_changes.specs.Moved.{OnlyCheckpointChanged, IsMoved}
-use Rattle.version_store.specs.Store.{StoreFields, IsStore, IsObject, DataIsNamed}
+use Rattle.version_store.specs.Store.{StoreFields, IsStore, IsObject, DataIsNamed, pointers_of}
 use Rattle.version_store.specs.Versions.{Stays, inode_by, inode_in, version_by, version_in}
 use Rattle.version_store.specs.Checkpointing.{last_entry, is_behind, IsCheckpointed}
 use Rattle.version_store.specs.private.CheckpointSteps.{CanCheckpoint, Checkpointed}
 use Rattle.version_store.proofs.Lower.{RowStays, RowInodeStays, IsByStays, IsByLater, LastInodeStays}
-use Rattle.version_store.proofs.Frames.{DataStays, data_agree, data_pointers, stays_object, inode_in_stays, version_in_stays}
-use Rattle.version_store.proofs.Naming.{points_on, stays_pointing}
+use Rattle.version_store.proofs.Frames.{DataStays, data_there, data_agree, data_pointers, stays_object, inode_in_stays, version_in_stays}
+use Rattle.version_store.proofs.Telling.{Moves, same_entries, leads_later, same_pointers, moved_leads_to, moved_leads}
 use Rattle.version_store.proofs.Steps.{row_here, row_beside, row_cases, none_cases, stamped_row, stamped_inode, taken_places}
 
 -- what the laws below say
 abbrev pub GroupsAscend : Type 0
-GroupsAscend = (entries : List EntryFields) → grouped entries ≡ true → ascend_from 0 entries ≡ true
+GroupsAscend = (entries : List EntryFields) → grouped entries ≡ true → moments_ascend_from 0 entries ≡ true
 
 abbrev pub RowsKeepTheMaking : Type 0
 RowsKeepTheMaking = (held : Place → Option Stored) (o : ℕ) (row : Row) (t : ℕ) → IsRow held o row → (inode_of held o row t).created ≡ row.created
 
 -- ---- the last moment of a journal
 
-last_least : (low : ℕ) (entries : List EntryFields) → ascend_from low entries ≡ true → low ≤ last_moment low entries
+last_least : (low : ℕ) (entries : List EntryFields) → moments_ascend_from low entries ≡ true → low ≤ last_moment low entries
 last_least low [] ascend = omega arith
 last_least low (e ∷ entries) ascend =
-    let parts = and_parts (leb low e.moment) (ascend_from e.moment entries) ascend in
+    let parts = and_parts (leb low e.moment) (moments_ascend_from e.moment entries) ascend in
     let first : low ≤ e.moment = leb-true low e.moment parts.0 in
     let rest : e.moment ≤ last_moment e.moment entries = last_least e.moment entries parts.1 in
     omega (arith, first, rest)
 
-all_by_last : (low t : ℕ) (entries : List EntryFields) → ascend_from low entries ≡ true → last_moment low entries ≤ t → AllBy t entries
+all_by_last : (low t : ℕ) (entries : List EntryFields) → moments_ascend_from low entries ≡ true → last_moment low entries ≤ t → AllBy t entries
 all_by_last low t [] ascend le = tt
 all_by_last low t (e ∷ entries) ascend le =
-    let parts = and_parts (leb low e.moment) (ascend_from e.moment entries) ascend in
+    let parts = and_parts (leb low e.moment) (moments_ascend_from e.moment entries) ascend in
     let least : e.moment ≤ last_moment e.moment entries = last_least e.moment entries parts.1 in
     (le-leb e.moment t (omega (arith, least, le)), all_by_last e.moment t entries parts.1 le)
 
@@ -151,6 +152,15 @@ checkpoint_stays o q held later only other = record {
 checkpoint_data : (o : ℕ) (held later : Place → Option Stored) → OnlyCheckpointChanged o held later → DataStays o held later
 checkpoint_data o held later only p there = ap (λ (view : Place → Option (List ℕ)). view p) (only Data o refl)
 
+-- the entries stay, and so do all inodes
+rewritten_moves : (s : StoreFields) (log : Log) (o : ℕ) (row next : Row) (m : ℕ) → Rewrites s log o row next m → IsRow s.log.held o row → Moves s.log.held log.held o row next
+rewritten_moves s log o row next m writes before = record {
+  entries = ap (λ (r : Row). entries_of log.held o r) writes.fields ∙ same_entries s.log.held log.held o row (writes.others Journal o refl);
+  inode = writes.inode;
+  before = before;
+  after = writes.stands;
+}
+
 rewritten_object : IsByLater → OnlyItsBlocksMatter → (s : StoreFields) (log : Log) (o : ℕ) (row next : Row) (m n : ℕ) → Rewrites s log o row next m → m ≤ s.latest → IsObject s.log.held o row s.latest → IsObject log.held o (record next { stamp = n }) s.latest
 rewritten_object later_by matter s log o row next m n writes upto object =
     let stays = checkpoint_data o s.log.held log.held writes.others in
@@ -159,20 +169,24 @@ rewritten_object later_by matter s log o row next m n writes upto object =
     record {
       stands = stamped_row log.held o next n writes.stands;
       by = record { entries = by.entries; checkpoint = by.checkpoint };
+      led = moved_leads s.log.held log.held o row next (rewritten_moves s log o row next m writes object.stands)
+          (λ t. subst (PointersHeld log.held o) (sym (writes.inode t)) (data_pointers o s.log.held log.held (inode_of s.log.held o row t) stays (object.pointers t)))
+          (leads_later s.log.held log.held o (pointers_of s.log.held o row) (data_there o s.log.held log.held stays) object.led);
       tidy = λ t. subst (Tidy (contents_of log.held)) (sym (is t))
           ((matter (contents_of s.log.held) (contents_of log.held) (inode_of s.log.held o row t) (data_agree o s.log.held log.held (inode_of s.log.held o row t) stays (object.pointers t))).1 (object.tidy t));
       pointers = λ t. subst (PointersHeld log.held o) (sym (is t)) (data_pointers o s.log.held log.held (inode_of s.log.held o row t) stays (object.pointers t));
     }
 
 -- the data of the object is named as before, and that of each other
-rewritten_here : (s : StoreFields) (log : Log) (o : ℕ) (row next : Row) (m n : ℕ) → Rewrites s log o row next m → DataIsNamed s.log.held o row → DataIsNamed log.held o (record next { stamp = n })
-rewritten_here s log o row next m n writes named p held =
-    points_on s.log.held log.held o row (record next { stamp = n }) p (λ t. stamped_inode log.held o next n t ∙ writes.inode t)
+rewritten_here : (s : StoreFields) (log : Log) (o : ℕ) (row next : Row) (m n : ℕ) → Rewrites s log o row next m → IsRow s.log.held o row → DataIsNamed s.log.held o row → DataIsNamed log.held o (record next { stamp = n })
+rewritten_here s log o row next m n writes before named p held =
+    moved_leads_to s.log.held log.held o row next p (rewritten_moves s log o row next m writes before)
     (named p (subst (λ (view : Place → Option (List ℕ)). IsSome (view p)) (writes.others Data o refl) held))
 
-rewritten_beside : RowInodeStays → (s : StoreFields) (later : Place → Option Stored) (o q : ℕ) (r : Row) → OnlyCheckpointChanged o s.log.held later → (o == q) ≡ false → DataIsNamed s.log.held q r → DataIsNamed later q r
-rewritten_beside same s later o q r only other named p held =
-    stays_pointing same q s.log.held later r p (checkpoint_stays o q s.log.held later only other)
+rewritten_beside : (s : StoreFields) (later : Place → Option Stored) (o q : ℕ) (r : Row) → OnlyCheckpointChanged o s.log.held later → (o == q) ≡ false → DataIsNamed s.log.held q r → DataIsNamed later q r
+rewritten_beside s later o q r only other named p held =
+    let stays = checkpoint_stays o q s.log.held later only other in
+    subst (λ (slots : List (Option Place)). Contains slots (Some p)) (sym (same_pointers s.log.held later q r stays.journal stays.checkpoints))
     (named p (subst (λ (view : Place → Option (List ℕ)). IsSome (view p)) (only Data q refl) held))
 
 rewritten_store : RowStays → RowInodeStays → IsByStays → IsByLater → OnlyItsBlocksMatter → (s : StoreFields) (rows : List (ℕ × Row)) (log : Log) (o : ℕ) (row next : Row) (i : Inode) (m : ℕ)
@@ -188,8 +202,8 @@ rewritten_store stands same by later_by matter s rows log o row next i m can kno
           (let least = can.store.made o row can.there in omega (arith, least, created))
           (λ q r other e. can.store.made q r e);
       named = row_cases (row_of s.rows) (row_of rows) o (record next { stamp = row.stamp + 1 }) put (λ q r. DataIsNamed log.held q r)
-          (rewritten_here s log o row next m (row.stamp + 1) writes (can.store.named o row can.there))
-          (λ q r other e. rewritten_beside same s log.held o q r writes.others other (can.store.named q r e));
+          (rewritten_here s log o row next m (row.stamp + 1) writes know.stands (can.store.named o row can.there))
+          (λ q r other e. rewritten_beside s log.held o q r writes.others other (can.store.named q r e));
       nothing = λ q none kind p.
           let gone = none_cases (row_of s.rows) (row_of rows) o (record next { stamp = row.stamp + 1 }) put q none in
           ap (λ (view : Place → Option (List ℕ)). view p) (writes.others kind q (and_right (same_kind Checkpoint kind) (o == q) gone.0)) ∙ can.store.nothing q gone.1 kind p;

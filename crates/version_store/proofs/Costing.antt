@@ -1,5 +1,5 @@
 -- Sizes and counts as the code takes them.
-use Rattle.std.proofs.Common.{◌≡◌, ℕ, ◌+◌, ◌-◌, ◌*◌, ◌/◌, ◌%◌, ◌<◌, ◌≤◌, ◌==◌, ◌&&◌, ltb, leb, min, true, false, cond, List, [], ◌∷◌, ◌++◌, length, sum, get_or, Option, Some, None, sym, ap, ◌∙◌, arith}
+use Rattle.std.proofs.Common.{◌≡◌, ℕ, zero, suc, ◌+◌, ◌-◌, ◌*◌, ◌/◌, ◌%◌, ◌<◌, ◌≤◌, ◌==◌, ◌&&◌, ltb, leb, min, true, false, cond, List, [], ◌∷◌, ◌++◌, length, sum, get_or, Option, Some, None, sym, ap, ◌∙◌, arith}
 use Rattle.std.specs.Prelude.{is_some}
 use Rattle.std.specs.Cmp.Lexicographic.{pointwise}
 use Rattle.std.proofs.lemmas.Bool.{cond_both, and_left, lt-leb, le-leb}
@@ -11,7 +11,7 @@ use Rattle.codec.specs.Checkpoint.{pointer_at}
 use Rattle.codec.specs.Entry.{pair_length}
 use Rattle.codec.specs.declared.inodes.Inode.{Inode}
 use Rattle.undo_redo.specs.Between.{pair_between}
-use Rattle.undo_redo.specs.Sizes.{later_size, entry_sizes}
+use Rattle.undo_redo.specs.Sizes.{later_sizes, entry_sizes}
 use Rattle.version_store.specs.Costs.{is_past, past_count}
 use Rattle.version_store.proofs.Counting.{tally, tally-none, tally-more}
 
@@ -20,19 +20,22 @@ use Rattle.version_store.proofs.Counting.{tally, tally-none, tally-more}
 sum-cons : (n : ℕ) (ns : List ℕ) → sum (n ∷ ns) ≡ n + sum ns
 sum-cons n ns = sum_by-cons (λ k. k) n ns
 
-later_most : (count : ℕ) → sum (later_size count) ≤ 34 + 17 * count
-later_most count =
-    let one : sum ((34 + 17 * count) ∷ []) ≡ 34 + 17 * count + 0 = sum-cons (34 + 17 * count) [] in
-    cond_both (ltb 0 count) ((34 + 17 * count) ∷ []) [] (λ (sizes : List ℕ). sum sizes ≤ 34 + 17 * count) (λ is. omega (arith, one)) (λ none. omega arith)
+later_most : (n k count : ℕ) → count ≤ 16 * k → sum (later_sizes n count) ≤ 34 * k + 17 * count
+unfolding later_sizes
+later_most zero k count few = omega arith
+later_most (suc n) k zero few = omega arith
+later_most (suc n) zero (suc count) few = absurd (omega arith)
+later_most (suc n) (suc k) (suc count) few =
+    let one : sum ((34 + 17 * min 16 (suc count)) ∷ later_sizes n (suc count - 16)) ≡ (34 + 17 * min 16 (suc count)) + sum (later_sizes n (suc count - 16)) = sum-cons (34 + 17 * min 16 (suc count)) (later_sizes n (suc count - 16)) in
+    let rest = later_most n k (suc count - 16) (omega (arith, few)) in
+    omega (arith, one, rest)
 
 pub sizes_most : (count pair : ℕ) → count ≤ 48 → pair ≤ 130 → sum (entry_sizes count pair) ≤ 1048
 unfolding entry_sizes
 sizes_most count pair few short =
-    let first : sum (entry_sizes count pair) ≡ (34 + pair + 17 * min 16 count) + sum (later_size (min 16 (count - 16)) ++ later_size (count - 16 - 16)) = sum-cons (34 + pair + 17 * min 16 count) (later_size (min 16 (count - 16)) ++ later_size (count - 16 - 16)) in
-    let joined : sum (later_size (min 16 (count - 16)) ++ later_size (count - 16 - 16)) ≡ sum (later_size (min 16 (count - 16))) + sum (later_size (count - 16 - 16)) = sum_by-append (λ n. n) (later_size (min 16 (count - 16))) (later_size (count - 16 - 16)) in
-    let second = later_most (min 16 (count - 16)) in
-    let third = later_most (count - 16 - 16) in
-    omega (arith, few, short, first, joined, second, third)
+    let first : sum (entry_sizes count pair) ≡ (34 + pair + 17 * min 16 count) + sum (later_sizes (count - 16) (count - 16)) = sum-cons (34 + pair + 17 * min 16 count) (later_sizes (count - 16) (count - 16)) in
+    let rest = later_most (count - 16) 2 (count - 16) (omega (arith, few)) in
+    omega (arith, few, short, first, rest)
 
 -- ---- the bytes of attributes
 

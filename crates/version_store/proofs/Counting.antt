@@ -12,7 +12,7 @@ use Rattle.codec.specs.Checkpoint.{pointer_at}
 use Rattle.codec.specs.Entry.{same_slot}
 use Rattle.codec.specs.declared.inodes.Inode.{Inode}
 use Rattle.codec.specs.declared.entries.Triple.{Triple}
-use Rattle.undo_redo.specs.Between.{triple_at, tells_apart, triples_below, triples_between}
+use Rattle.undo_redo.specs.Between.{triple_between, tells_apart, triples_below, triples_between}
 use Rattle.inode.specs.Touched.{touched_count, is_touched, is_cut, cut_count}
 use Rattle.inode.specs.Changed.{Written, Truncated}
 use Rattle.inode.specs.Tidiness.{PointersLead}
@@ -112,11 +112,11 @@ differs i j k = not (same_slot (pointer_at i k) (pointer_at j k))
 
 -- the triples that tell pointers apart, from an index on
 abbrev stretch : Inode → Inode → ℕ → ℕ → List Triple
-stretch i j a n = filter tells_apart (map (triple_at i j) (range_with_len a n))
+stretch i j a n = filter tells_apart (map (triple_between i j) (range_with_len a n))
 
 tells-first : (i j : Inode) (a n : ℕ) → length (stretch i j a (suc n)) ≡ bit (differs i j a) + length (stretch i j (a + 1) n)
 tells-first i j a n =
-    cond_both (differs i j a) (triple_at i j a ∷ stretch i j (a + 1) n) (stretch i j (a + 1) n)
+    cond_both (differs i j a) (triple_between i j a ∷ stretch i j (a + 1) n) (stretch i j (a + 1) n)
     (λ (triples : List Triple). length triples ≡ bit (differs i j a) + length (stretch i j (a + 1) n))
     (λ is. let one : bit (differs i j a) ≡ 1 = ap bit is in omega (arith, one))
     (λ same. let none : bit (differs i j a) ≡ 0 = ap bit same in omega (arith, none))

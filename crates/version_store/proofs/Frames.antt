@@ -16,9 +16,10 @@ use Rattle.inode.specs.Laws.{OnlyItsBlocksMatter}
 use Rattle.object_map.specs.declared.map.Row.{Row}
 use Rattle.object_map.specs.Rows.{row_of}
 use Rattle.time_read.specs.Rows.{inode_of}
-use Rattle.version_store.specs.Store.{StoreFields, IsStore, IsObject}
+use Rattle.version_store.specs.Store.{StoreFields, IsStore, IsObject, pointers_of}
 use Rattle.version_store.specs.Versions.{Stays, inode_by, inode_in, version_by, version_in}
 use Rattle.version_store.proofs.Lower.{RowStays, RowInodeStays, IsByStays}
+use Rattle.version_store.proofs.Telling.{Leads, leads_later, same_pointers}
 
 -- ---- blocks
 
@@ -53,6 +54,9 @@ data_pointers o held later i stays leads k p at =
     let there = leads k p at in
     subst (λ (seen : Option (List ℕ)). IsSome seen) (sym (stays p there)) there
 
+pub data_there : (o : ℕ) (held later : Place → Option Stored) → DataStays o held later → (p : Place) → IsSome (of_kind Data o held p) → IsSome (of_kind Data o later p)
+data_there o held later stays p there = subst (λ (seen : Option (List ℕ)). IsSome seen) (sym (stays p there)) there
+
 -- ---- an object whose blocks stay
 
 pub stays_inode : RowInodeStays → (o : ℕ) (held later : Place → Option Stored) (row : Row) (t : ℕ) → Stays o held later → inode_of later o row t ≡ inode_of held o row t
@@ -68,6 +72,7 @@ pub stays_object : RowStays → RowInodeStays → IsByStays → OnlyItsBlocksMat
 stays_object stands same by matter o held later row latest stays object = record {
   stands = stands held later o row stays.journal stays.checkpoints object.stands;
   by = by held later o row latest stays.journal object.by;
+  led = subst (Leads later o) (sym (same_pointers held later o row stays.journal stays.checkpoints)) (leads_later held later o (pointers_of held o row) (data_there o held later stays.kept) object.led);
   tidy = λ t. subst (Tidy (contents_of later)) (sym (stays_inode same o held later row t stays))
       ((matter (contents_of held) (contents_of later) (inode_of held o row t) (data_agree o held later (inode_of held o row t) stays.kept (object.pointers t))).1 (object.tidy t));
   pointers = λ t. subst (PointersHeld later o) (sym (stays_inode same o held later row t stays)) (data_pointers o held later (inode_of held o row t) stays.kept (object.pointers t));

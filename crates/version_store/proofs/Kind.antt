@@ -26,7 +26,7 @@ use Rattle.time_read.specs.Rows.{inode_of}
 use Rattle.version_store.specs.Store.{StoreFields}
 use Rattle.version_store.specs.Versions.{version_in, version_taken}
 use Rattle.version_store.specs.Costs.{subject_row, subject_inode, row_or_fresh, pointers_moved, data_blocks, attribute_by, sizes_by, refusal_by, blocks_taken, room}
-use Rattle.version_store.specs.Taking.{IsReady, RowChanges, data_by}
+use Rattle.version_store.specs.Taking.{IsReadyFor, RowChanges, data_by}
 use Rattle.version_store.specs.private.Turning.{CanTake, CanTurn, Turns, IsTaken, blocks_turned}
 use Rattle.version_store.proofs.Lower.{RowStays, RowInodeStays, IsByStays, IsByLater, FreshRowStands, FreshRowIsBy, FreshInode, BlankCount, BlankHoles, EntriesHaveSizes, SizesAddUp}
 use Rattle.version_store.proofs.Frames.{growth_stays, stays_inode}
@@ -107,7 +107,7 @@ pub record Makes (s : StoreFields) (change : Change) (m : ℕ) (i : Inode) (log 
   pub means : meaning (contents_of log.held) j ≡ effect change m (meaning (contents_of s.log.held) i)
 
 -- a change that a store takes is one of its object's versions
-of_object : (s : StoreFields) (change : Change) → IsReady s change → (q : ℕ) → is_change_of q change ≡ (object_of change == q)
+of_object : (s : StoreFields) (change : Change) → IsReadyFor s change → (q : ℕ) → is_change_of q change ≡ (object_of change == q)
 of_object s (Create object attribute) ready q = refl
 of_object s (Delete object) ready q = refl
 of_object s (Write object offset bytes) ready q = refl

@@ -1,11 +1,13 @@
 pub mod Lower
 pub mod Frames
 pub mod Counting
+pub mod Telling
 pub mod Naming
 pub mod Steps
 pub mod Subjects
 pub mod Kind
 pub mod Present
+pub mod Planned
 pub mod Costing
 pub mod Turning
 pub mod Making

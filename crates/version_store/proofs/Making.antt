@@ -14,7 +14,7 @@ use Rattle.undo_redo.specs.Between.{CanLead}
 use Rattle.inode.specs.Contents.{contents_of, meaning}
 use Rattle.inode.specs.Tidiness.{Tidy, PointersHeld}
 use Rattle.inode.specs.Touched.{touched_count, cut_count}
-use Rattle.inode.specs.Changed.{Written, Truncated, blocks_from, blocks_written, blocks_cut}
+use Rattle.inode.specs.Changed.{Written, Truncated, listed_blocks, blocks_written, blocks_cut}
 use Rattle.inode.specs.Growth.{GrowsBy, with_data}
 use Rattle.inode.specs.Laws.{HeldPointersLead}
 use Rattle.version_store.specs.Store.{StoreFields}
@@ -96,11 +96,11 @@ created_makes fresh count holes s o m attribute i j can alive size made changed 
 -- ---- the changes with data
 
 written_amount : (contents : Place → List ℕ) (i : Inode) (offset : ℕ) (bytes : List ℕ) → length (blocks_written contents i offset bytes) ≡ touched_count offset (length bytes)
-unfolding blocks_from
+unfolding listed_blocks
 written_amount contents i offset bytes = length-map-range_with_len _ _ (touched_count offset (length bytes))
 
 cut_amount : (contents : Place → List ℕ) (i : Inode) (size : ℕ) → length (blocks_cut contents i size) ≡ cut_count i size
-unfolding blocks_from
+unfolding listed_blocks
 cut_amount contents i size = length-map-range_with_len _ _ (cut_count i size)
 
 -- the places that data took were free, as many as were counted

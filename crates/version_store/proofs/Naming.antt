@@ -1,7 +1,7 @@
 -- Which blocks rows name: that it stays, that a change names the data which it appends, and that no other block is held.
 use Rattle.std.proofs.Common.{◌≡◌, ◌⊎◌, ◌↔◌, inl, inr, ℕ, suc, ◌+◌, ◌-◌, ◌*◌, ◌/◌, ◌<◌, ◌≤◌, ◌==◌, ◌&&◌, leb, ltb, true, false, cond, List, [], ◌∷◌, length, slice_get, Option, Some, None, MatchOption, IsSome, is_some, refl, sym, ap, subst, ◌∙◌, arith}
 use Rattle.std.proofs.lemmas.Bool.{cases_Bool, cases_lt, cond-true, cond-false, and_from, le-leb, lt-leb, lt-ltb, eq-eqb, false≢true}
-use Rattle.std.proofs.lemmas.Option.{none-some}
+use Rattle.std.proofs.lemmas.Option.{none-some, same_Some}
 use Rattle.s4_types.specs.Pointer.{Place}
 use Rattle.block_log.specs.declared.kinds.BlockKind.{BlockKind}
 use Rattle.block_log.specs.declared.kinds.BlockKind.TheVariants.{Journal, Checkpoint, Data}
@@ -9,31 +9,19 @@ use Rattle.block_log.specs.Log.{Log, Stored, of_kind, seen_as, same_kind, same_p
 use Rattle.codec.specs.Fields.{bit}
 use Rattle.codec.specs.Checkpoint.{CheckpointFields, pointer_at}
 use Rattle.codec.specs.declared.inodes.Inode.{Inode}
-use Rattle.checkpoint.specs.Held.{checkpoint_held, spelled}
+use Rattle.checkpoint.specs.Held.{checkpoint_held, spelled_checkpoint}
 use Rattle.inode.specs.Touched.{touched_count, is_touched, is_cut, cut_count}
 use Rattle.inode.specs.Changed.{Written, Truncated}
-use Rattle.inode.specs.Growth.{data_block, grown, grown_at, with_data}
+use Rattle.inode.specs.Growth.{data_block, log_grown, grown_at, with_data}
 use Rattle.object_map.specs.declared.map.Row.{Row}
 use Rattle.object_map.specs.Rows.{row_of}
 use Rattle.time_read.specs.Rows.{IsRow, inode_of}
-use Rattle.version_store.specs.Store.{StoreFields, IsStore, IsObject, PointsTo, DataIsNamed, Names, IsNamed}
-use Rattle.version_store.specs.Versions.{Stays}
+use Rattle.version_store.specs.Store.{StoreFields, IsStore, IsObject, pointers_of, DataIsNamed, Names, IsNamed}
+use Rattle.version_store.specs.Versions.{inode_by, inode_in}
 use Rattle.version_store.specs.private.Turning.{LeadsTo}
-use Rattle.version_store.proofs.Lower.{OnePlace, RowInodeStays}
-use Rattle.version_store.proofs.Frames.{stays_inode}
+use Rattle.version_store.proofs.Lower.{OnePlace}
+use Rattle.version_store.proofs.Telling.{inode_told, led_there}
 use Rattle.version_store.proofs.Counting.{past_uncut}
-
--- ---- where an object's inodes stay
-
-pub points_on : (held later : Place → Option Stored) (o : ℕ) (row next : Row) (p : Place) → ((t : ℕ) → inode_of later o next t ≡ inode_of held o row t) → PointsTo held o row p → PointsTo later o next p
-points_on held later o row next p same points = record {
-  moment = points.moment;
-  index = points.index;
-  leads = ap (λ (i : Inode). pointer_at i points.index) (same points.moment) ∙ points.leads;
-}
-
-pub stays_pointing : RowInodeStays → (o : ℕ) (held later : Place → Option Stored) (row : Row) (p : Place) → Stays o held later → PointsTo held o row p → PointsTo later o row p
-stays_pointing same o held later row p stays = points_on held later o row row p (λ t. stays_inode same o held later row t stays)
 
 -- ---- the data that a change appends
 
@@ -53,7 +41,7 @@ ahead_before block log (q ∷ ahead) n p is at = (suc n, omega arith, at)
 -- a data block that is held after data was appended was held before, or took one of the places for it
 pub data_cases : OnePlace → (o : ℕ) (blocks : List (List ℕ)) (log : Log) (p : Place) → IsSome (of_kind Data o (with_data o blocks log).held p) → IsSome (of_kind Data o log.held p) ⊎ ((n : ℕ) × (n < length blocks) × (slice_get log.ahead n ≡ Some p))
 data_cases one o [] log p there = inl there
-data_cases one o (b ∷ blocks) log p there = elim (data_cases one o blocks (grown log (data_block o b)) p there) [
+data_cases one o (b ∷ blocks) log p there = elim (data_cases one o blocks (log_grown log (data_block o b)) p there) [
   | inl was ↦ elim (grown_before one o (data_block o b) log log.ahead p was) [
     | inl before ↦ inl before
     | inr first ↦ inr (0, omega arith, first)
@@ -114,7 +102,7 @@ counted_there : (b : _) → bit b ≡ 1 → b ≡ true
 counted_there true one = refl
 counted_there false one = absurd (omega (arith, one))
 
-spelled_there : (block : Option (List ℕ)) (c : CheckpointFields) → spelled block ≡ Some c → IsSome block
+spelled_there : (block : Option (List ℕ)) (c : CheckpointFields) → spelled_checkpoint block ≡ Some c → IsSome block
 spelled_there None c told = absurd (none-some c told)
 spelled_there (Some block) c told = refl
 
@@ -132,7 +120,7 @@ held_named held o row Data p r named there = named p there
 named_held : (held : Place → Option Stored) (o : ℕ) (row : Row) (kind : BlockKind) (p : Place) (latest : ℕ) → IsObject held o row latest → Names held o row kind p → IsSome (of_kind kind o held p)
 named_held held o row Journal p latest object names = counted_there (is_some (of_kind Journal o held p)) (sym (object.stands.chain.once p) ∙ names)
 named_held held o row Checkpoint p latest object names = checkpoint_there held o row p object.stands names
-named_held held o row Data p latest object names = object.pointers names.moment names.index p names.leads
+named_held held o row Data p latest object names = led_there held o (pointers_of held o row) p object.led names
 
 row_there : (s : StoreFields) (o : ℕ) (kind : BlockKind) (p : Place) (row : Option Row) → row_of s.rows o ≡ row → IsStore s → IsSome (of_kind kind o s.log.held p) → IsNamed s o kind p
 row_there s o kind p None is store there = absurd (false≢true (sym (ap is_some (store.nothing o is kind p)) ∙ there))
@@ -158,3 +146,16 @@ seen_itself there block is =
 
 pub block_is_named : (s : StoreFields) (p : Place) (block : Stored) → IsStore s → s.log.held p ≡ Some block → IsNamed s block.object block.kind p
 block_is_named s p block store at = (held_is_named s block.object block.kind p store).0 (seen_itself (s.log.held p) block at)
+
+-- ---- what an inode points to is named
+
+pointed : (s : StoreFields) (o t n : ℕ) (i : Inode) (p : Place) (row : Option Row) → row_of s.rows o ≡ row → inode_by s.log.held o t row ≡ Some i → pointer_at i n ≡ Some p → IsNamed s o Data p
+pointed s o t n i p None there is at = absurd (none-some i is)
+pointed s o t n i p (Some row) there is at = record {
+  row = row;
+  there = there;
+  names = inode_told s.log.held o row t n p (ap (λ (j : Inode). pointer_at j n) (same_Some (inode_of s.log.held o row t) i is) ∙ at);
+}
+
+pub pointed_is_named : (s : StoreFields) (o t n : ℕ) (i : Inode) (p : Place) → inode_in s o t ≡ Some i → pointer_at i n ≡ Some p → IsNamed s o Data p
+pointed_is_named s o t n i p is at = pointed s o t n i p (row_of s.rows o) refl is at

@@ -1,8 +1,10 @@
 -- The steps that a change of an object is made of: its data is appended, its row is added, its journal is written.
 use Rattle.std.proofs.Common.{◌≡◌, ◌⊎◌, ℕ, ◌+◌, ◌-◌, ◌<◌, ◌≤◌, ◌==◌, ◌&&◌, ◌/◌, ◌%◌, leb, Bool, false, cond, List, length, drop, Option, Some, None, IsSome, refl, sym, ap, subst, ◌∙◌, inl, inr, arith}
 use Rattle.std.specs.Prelude.{is_some}
+use Rattle.std.specs.List.{Contains}
 use Rattle.std.proofs.lemmas.Bool.{cases_Bool, cases_lt, cond-true, cond-false, and_right, eqb-true, eqb-false, eq-eqb, ne_eqb, lt-leb, le-leb, false≢true}
 use Rattle.std.proofs.lemmas.List.{length-drop}
+use Rattle.std.proofs.lemmas.List.Elements.{All-nil}
 use Rattle.std.proofs.lemmas.Option.{none-some, same_Some}
 use Rattle.s4_types.specs.Pointer.{Place}
 use Rattle.s4_types.specs.declared.versions.Version.{Version}
@@ -11,6 +13,7 @@ use Rattle.block_log.specs.Log.{Log, Stored, of_kind, same_kind}
 use Rattle.block_log.specs.declared.kinds.BlockKind.TheVariants.{Journal, Checkpoint, Data}
 use Rattle.codec.specs.declared.inodes.Inode.{Inode}
 use Rattle.codec.specs.Checkpoint.{pointer_at}
+use Rattle.codec.specs.Entry.{EntryFields}
 use Rattle.undo_redo.specs.Runs.{blank}
 use Rattle.journal_chain.specs.Chain.{OnlyJournalChanged}
 use Rattle.inode.specs.Contents.{byte_in, byte_of, contents_of, meaning}
@@ -20,14 +23,15 @@ use Rattle.inode.specs.Laws.{OnlyItsBlocksMatter}
 use Rattle.object_map.specs.declared.map.Row.{Row}
 use Rattle.object_map.specs.Rows.{row_of, with_row, fresh_row}
 use Rattle.time_read.specs.Rows.{IsRow, inode_of}
-use Rattle.version_store.specs.Store.{StoreFields, IsStore, IsObject, HasNothing, PointsTo, DataIsNamed}
+use Rattle.version_store.specs.Store.{StoreFields, IsStore, IsObject, HasNothing, DataIsNamed, pointers_of, sides_told, IsLed}
 use Rattle.row_changes.specs.Recent.{IsBy}
-use Rattle.version_store.specs.Versions.{inode_by, version_by, version_in}
+use Rattle.version_store.specs.Versions.{Stays, inode_by, version_by, version_in}
 use Rattle.version_store.specs.Taking.{RowChanges}
 use Rattle.version_store.specs.private.Turning.{LeadsTo, IsOpenFor, Turns}
 use Rattle.version_store.proofs.Lower.{RowStays, RowInodeStays, IsByStays, IsByLater, LastInodeStays, FreshRowStands, FreshRowIsBy, FreshInode, BlankCount, BlankHoles}
-use Rattle.version_store.proofs.Frames.{DataStays, data_agree, data_pointers, stays_object, growth_stays, journal_stays, version_by_stays}
-use Rattle.version_store.proofs.Naming.{NamesNew, stays_pointing}
+use Rattle.version_store.proofs.Frames.{DataStays, data_there, data_agree, data_pointers, stays_object, growth_stays, journal_stays, version_by_stays}
+use Rattle.version_store.proofs.Telling.{Leads, Grows, inode_told, leads_later, same_pointers, grown_leads_to, grown_leads, fresh_pointers}
+use Rattle.version_store.proofs.Naming.{NamesNew}
 
 -- ---- rows
 
@@ -48,11 +52,16 @@ fewer before after n e =
     let count : length after ≡ length before - n = ap length e ∙ length-drop n before in
     omega (arith, count)
 
+-- a row leads where it led while its object's blocks stay
+stays_naming : (o : ℕ) (held later : Place → Option Stored) (row : Row) (p : Place) → Stays o held later → Contains (pointers_of held o row) (Some p) → Contains (pointers_of later o row) (Some p)
+stays_naming o held later row p stays there = subst (λ (slots : List (Option Place)). Contains slots (Some p)) (sym (same_pointers held later o row stays.journal stays.checkpoints)) there
+
 -- each data block that is held is named as before, or the next inode leads to it
-grown_named : RowInodeStays → (s : StoreFields) (log : Log) (object : ℕ) (blocks : List (List ℕ)) (j : Inode) → GrowsBy object blocks s.log log → NamesNew object s.log j log → IsStore s
-    → (o : ℕ) (row : Row) → row_of s.rows o ≡ Some row → (p : Place) → IsSome (of_kind Data o log.held p) → PointsTo log.held o row p ⊎ ((object ≡ o) × LeadsTo j p)
-grown_named same s log object blocks j grows new store o row e p there =
-    let before : IsSome (of_kind Data o s.log.held p) → PointsTo log.held o row p = λ was. stays_pointing same o s.log.held log.held row p (growth_stays object blocks s.log log o grows) (store.named o row e p was) in
+grown_named : (s : StoreFields) (log : Log) (object : ℕ) (blocks : List (List ℕ)) (j : Inode) → GrowsBy object blocks s.log log → NamesNew object s.log j log → IsStore s
+    → (o : ℕ) (row : Row) → row_of s.rows o ≡ Some row → (p : Place) → IsSome (of_kind Data o log.held p) → Contains (pointers_of log.held o row) (Some p) ⊎ ((object ≡ o) × LeadsTo j p)
+grown_named s log object blocks j grows new store o row e p there =
+    let stays = growth_stays object blocks s.log log o grows in
+    let before : IsSome (of_kind Data o s.log.held p) → Contains (pointers_of log.held o row) (Some p) = λ was. stays_naming o s.log.held log.held row p stays (store.named o row e p was) in
     elim (cases_Bool (object == o)) [
       | inl is ↦
           let here : object ≡ o = eqb-true object o is in
@@ -71,7 +80,7 @@ grown_store stands same by matter s log object blocks j grows new there store =
     record {
       objects = λ o row e. stays_object stands same by matter o s.log.held log.held row s.latest (growth_stays object blocks s.log log o grows) (store.objects o row e);
       made = store.made;
-      named = grown_named same s log object blocks j grows new store;
+      named = grown_named s log object blocks j grows new store;
       nothing = λ o none kind p. grows.others kind o p (and_right (same_kind kind Data) (object == o) (other_object (row_of s.rows) object o there none)) ∙ store.nothing o none kind p;
       stamps = λ o row e. let bound = store.stamps o row e in omega (arith, few, bound);
       few = let bound = store.few in omega (arith, few, bound);
@@ -111,6 +120,7 @@ fresh_object : FreshRowStands → FreshRowIsBy → FreshInode → IsByLater → 
 fresh_object stands by fresh later count holes held o m latest numbered nothing = record {
   stands = stands held o m numbered (λ p. nothing Journal p) (λ p. nothing Checkpoint p);
   by = later held o (fresh_row m) 0 latest (omega arith) (by held o m);
+  led = subst (Leads held o) (sym (fresh_pointers held o m)) (All-nil (IsLed held o));
   tidy = λ t. subst (Tidy (contents_of held)) (sym (fresh held o m t)) (blank_tidy count holes (contents_of held) m);
   pointers = λ t. subst (PointersHeld held o) (sym (fresh held o m t)) (blank_pointers holes held o m);
 }
@@ -138,7 +148,7 @@ added_store stands by fresh later count holes s rows object m j put numbered abo
       (fresh_object stands by fresh later count holes s.log.held object m s.latest numbered (store.nothing object none))
       (λ q r other e. store.objects q r e);
   made = row_cases (row_of s.rows) (row_of rows) object (fresh_row m) put (λ q r. 1 ≤ r.created) above (λ q r other e. store.made q r e);
-  named = row_cases (row_of s.rows) (row_of rows) object (fresh_row m) put (λ q r. (p : Place) → IsSome (of_kind Data q s.log.held p) → PointsTo s.log.held q r p ⊎ ((object ≡ q) × LeadsTo j p))
+  named = row_cases (row_of s.rows) (row_of rows) object (fresh_row m) put (λ q r. (p : Place) → IsSome (of_kind Data q s.log.held p) → Contains (pointers_of s.log.held q r) (Some p) ⊎ ((object ≡ q) × LeadsTo j p))
       (λ p there. absurd (false≢true (sym (ap is_some (store.nothing object none Data p)) ∙ there)))
       (λ q r other e p there. inl (store.named q r e p there));
   nothing = λ o gone. store.nothing o (none_cases (row_of s.rows) (row_of rows) object (fresh_row m) put o gone).1;
@@ -166,6 +176,9 @@ added_versions fresh s rows object m put none o t =
 
 -- what was recorded: the object's next row stands, its inode is another one from a moment on, and its journal alone was changed
 pub record Records (held later : Place → Option Stored) (o : ℕ) (row next : Row) (i : Inode) (m : ℕ) : Type 0 where
+  pub new : List EntryFields
+  pub grows : Grows held later o row next new
+  pub told : Leads held o (sides_told new)
   pub row_stands : IsRow later o next
   pub by : IsBy later o next m
   pub inode : (t : ℕ) → inode_of later o next t ≡ cond (leb m t) i (inode_of held o row t)
@@ -194,59 +207,40 @@ recorded_object : OnlyItsBlocksMatter → (held later : Place → Option Stored)
     → Tidy (contents_of held) i → PointersHeld held o i → IsObject later o (record next { stamp = n }) m
 recorded_object matter held later o row next i m latest n records object tidy pointers =
     let stays = journal_data o held later records.others in
+    let there = data_there o held later stays in
     let tidy_later : (j : Inode) → PointersHeld held o j → Tidy (contents_of held) j → Tidy (contents_of later) j = λ j leads t. (matter (contents_of held) (contents_of later) j (data_agree o held later j stays leads)).1 t in
     let is : (t : ℕ) → inode_of later o (record next { stamp = n }) t ≡ cond (leb m t) i (inode_of held o row t) = λ t. stamped_inode later o next n t ∙ records.inode t in
     record {
       stands = stamped_row later o next n records.row_stands;
       by = record { entries = records.by.entries; checkpoint = records.by.checkpoint };
+      led = grown_leads held later o row next records.new records.grows (leads_later held later o (pointers_of held o row) there object.led) (leads_later held later o (sides_told records.new) there records.told);
       tidy = λ t. subst (Tidy (contents_of later)) (sym (is t)) (either (Tidy (contents_of later)) m t i (inode_of held o row t) (tidy_later i pointers tidy) (tidy_later (inode_of held o row t) (object.pointers t) (object.tidy t)));
       pointers = λ t. subst (PointersHeld later o) (sym (is t)) (either (PointersHeld later o) m t i (inode_of held o row t) (data_pointers o held later i stays pointers) (data_pointers o held later (inode_of held o row t) stays (object.pointers t)));
     }
 
--- what the object pointed to at some moment it points to at an earlier one than the new inode's
-recorded_points : LastInodeStays → (held later : Place → Option Stored) (o : ℕ) (row next : Row) (i : Inode) (m latest n : ℕ) (p : Place) → Records held later o row next i m → IsBy held o row latest → latest < m → PointsTo held o row p
-    → PointsTo later o (record next { stamp = n }) p
-recorded_points last held later o row next i m latest n p records by before points =
-    let stays : (t : ℕ) → t < m → inode_of later o (record next { stamp = n }) t ≡ inode_of held o row t = λ t less. stamped_inode later o next n t ∙ records.inode t ∙ cond-false (leb m t) i (inode_of held o row t) (lt-leb m t less) in
-    elim (cases_lt points.moment m) [
-      | inl less ↦ record {
-        moment = points.moment;
-        index = points.index;
-        leads = ap (λ (k : Inode). pointer_at k points.index) (stays points.moment less) ∙ points.leads;
-      }
-      | inr past ↦ record {
-        moment = latest;
-        index = points.index;
-        leads = ap (λ (k : Inode). pointer_at k points.index) (stays latest before ∙ sym (last held o row latest points.moment by (omega (arith, past, before)))) ∙ points.leads;
-      }
-    ]
-
--- so each data block of the object is named
-recorded_here : LastInodeStays → (s : StoreFields) (later : Place → Option Stored) (o : ℕ) (row next : Row) (i : Inode) (m n : ℕ) → Records s.log.held later o row next i m → row_of s.rows o ≡ Some row → s.latest < m → IsOpenFor o i s
+-- each data block of the object is named: by the row as before, or since the next inode leads to it
+recorded_here : (s : StoreFields) (later : Place → Option Stored) (o : ℕ) (row next : Row) (i : Inode) (m n : ℕ) → Records s.log.held later o row next i m → row_of s.rows o ≡ Some row → IsOpenFor o i s
     → DataIsNamed later o (record next { stamp = n })
-recorded_here last s later o row next i m n records there before store p held =
+recorded_here s later o row next i m n records there store p held =
     let was : IsSome (of_kind Data o s.log.held p) = subst (λ (view : Place → Option (List ℕ)). IsSome (view p)) (records.others Data o refl) held in
     elim (store.named o row there p was) [
-      | inl points ↦ recorded_points last s.log.held later o row next i m s.latest n p records (store.objects o row there).by before points
-      | inr (is, leads) ↦ record {
-        moment = m;
-        index = leads.0;
-        leads = ap (λ (k : Inode). pointer_at k leads.0) (stamped_inode later o next n m ∙ records.inode m ∙ cond-true (leb m m) i (inode_of s.log.held o row m) (le-leb m m (omega arith))) ∙ leads.1;
-      }
+      | inl names ↦ grown_leads_to s.log.held later o row next records.new (Some p) records.grows names
+      | inr (is, leads) ↦ inode_told later o next m leads.0 p
+          (ap (λ (k : Inode). pointer_at k leads.0) (records.inode m ∙ cond-true (leb m m) i (inode_of s.log.held o row m) (le-leb m m (omega arith))) ∙ leads.1)
     ]
 
 -- and each of another object
-recorded_beside : RowInodeStays → (s : StoreFields) (later : Place → Option Stored) (o : ℕ) (i : Inode) → OnlyJournalChanged o s.log.held later → IsOpenFor o i s
+recorded_beside : (s : StoreFields) (later : Place → Option Stored) (o : ℕ) (i : Inode) → OnlyJournalChanged o s.log.held later → IsOpenFor o i s
     → (q : ℕ) (r : Row) → (o == q) ≡ false → row_of s.rows q ≡ Some r → DataIsNamed later q r
-recorded_beside same s later o i only store q r other e p held =
+recorded_beside s later o i only store q r other e p held =
     let was : IsSome (of_kind Data q s.log.held p) = subst (λ (view : Place → Option (List ℕ)). IsSome (view p)) (only Data q refl) held in
     elim (store.named q r e p was) [
-      | inl points ↦ stays_pointing same q s.log.held later r p (journal_stays o q s.log.held later only other) points
+      | inl names ↦ stays_naming q s.log.held later r p (journal_stays o q s.log.held later only other) names
       | inr (is, leads) ↦ absurd (eqb-false o q other is)
     ]
 
 by_later : IsByLater → (held : Place → Option Stored) (o : ℕ) (row : Row) (latest m : ℕ) → latest ≤ m → IsObject held o row latest → IsObject held o row m
-by_later later held o row latest m le object = record { stands = object.stands; by = later held o row latest m le object.by; tidy = object.tidy; pointers = object.pointers }
+by_later later held o row latest m le object = record { stands = object.stands; by = later held o row latest m le object.by; led = object.led; tidy = object.tidy; pointers = object.pointers }
 
 -- blocks that were taken are ahead no longer
 pub taken_places : (before after : List Place) (n : ℕ) → after ≡ drop n before → n ≤ length before → length after + n ≡ length before
@@ -270,8 +264,8 @@ recorded_store stands same by later_by last matter s later o m n count row next 
           (let least = store.made o row there in omega (arith, least, created))
           (λ q r other e. store.made q r e);
       named = row_cases (row_of s.rows) (row_of later.rows) o (record next { stamp = n }) put (λ q r. DataIsNamed later.log.held q r)
-          (recorded_here last s later.log.held o row next i m n records there before store)
-          (recorded_beside same s later.log.held o i records.others store);
+          (recorded_here s later.log.held o row next i m n records there store)
+          (recorded_beside s later.log.held o i records.others store);
       nothing = λ q none kind p.
           let gone = none_cases (row_of s.rows) (row_of later.rows) o (record next { stamp = n }) put q none in
           ap (λ (view : Place → Option (List ℕ)). view p) (records.others kind q (and_right (same_kind Journal kind) (o == q) gone.0)) ∙ store.nothing q gone.1 kind p;

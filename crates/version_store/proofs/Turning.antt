@@ -1,19 +1,23 @@
 -- The turn of an object to its next inode.
-use Rattle.std.proofs.Common.{◌≡◌, ℕ, ◌+◌, ◌-◌, ◌^◌, ◌<◌, ◌≤◌, ◌==◌, nat_le, if◌then◌else◌, ltb, List, length, map, drop, Option, Some, None, sym, ap, refl, subst, ◌∙◌, arith}
+use Rattle.std.proofs.Common.{◌≡◌, ℕ, ◌+◌, ◌-◌, ◌^◌, ◌<◌, ◌≤◌, ◌==◌, ◌++◌, nat_le, if◌then◌else◌, ltb, List, length, map, drop, Option, Some, None, sym, ap, refl, subst, ◌∙◌, arith}
+use Rattle.std.specs.List.{AllByRecursion}
 use Rattle.std.proofs.lemmas.Bool.{ltb-false, cond-true, eq-eqb, le-leb}
 use Rattle.std.proofs.lemmas.List.{length-map}
 use Rattle.std.proofs.lemmas.Option.{same_Some}
 use Rattle.s4_types.specs.Pointer.{Place}
 use Rattle.block_log.specs.Log.{Stored}
+use Rattle.block_log.specs.declared.kinds.BlockKind.TheVariants.{Checkpoint}
 use Rattle.codec.specs.Entry.{entry_length, entries_length}
 use Rattle.codec.specs.declared.inodes.Inode.{Inode}
 use Rattle.journal_chain.specs.Sizes.{blocks_needed}
-use Rattle.undo_redo.specs.Between.{entries_between}
+use Rattle.undo_redo.specs.Between.{AreOf, entries_between}
+use Rattle.journal_chain.specs.Chain.{OnlyJournalChanged}
 use Rattle.journal_chain.specs.Push.{push_refusal, pushed_blocks}
 use Rattle.inode.specs.Laws.{OnlyItsBlocksMatter}
+use Rattle.inode.specs.Tidiness.{PointersHeld}
 use Rattle.object_map.specs.declared.map.Row.{Row}
 use Rattle.object_map.specs.Rows.{row_of, with_row}
-use Rattle.time_read.specs.Rows.{IsRow, chain_of, inode_of}
+use Rattle.time_read.specs.Rows.{IsRow, chain_of, entries_of, checkpoint_of, inode_of}
 use Rattle.row_changes.specs.Recent.{IsBy}
 use Rattle.version_store.specs.Store.{StoreFields}
 use Rattle.version_store.specs.Versions.{inode_by}
@@ -21,6 +25,7 @@ use Rattle.version_store.specs.Costs.{row_or_fresh, subject_row}
 use Rattle.version_store.specs.Taking.{RowChanges}
 use Rattle.version_store.specs.private.Turning.{CanTurn, Turns, blocks_turned}
 use Rattle.version_store.proofs.Lower.{RowStays, RowInodeStays, IsByStays, IsByLater, LastInodeStays, EntriesAreSome, SomeBlocksAreNeeded}
+use Rattle.version_store.proofs.Telling.{same_checkpoint, between_led}
 use Rattle.version_store.proofs.Steps.{Records, recorded}
 use Rattle.version_store.proofs.Subjects.{neither}
 
@@ -49,6 +54,29 @@ known by last s o i j m row can there =
       subject = ap (row_or_fresh m) there;
       stamp = omega (arith, bound);
       last = last;
+    }
+
+-- what was recorded of it: its journal has the entries between the two inodes besides, whose pointers are theirs
+pub records_of : (s : StoreFields) (later : Place → Option Stored) (o : ℕ) (i j : Inode) (m : ℕ) (row next : Row)
+    → ((i j : Inode) (m : ℕ) → AllByRecursion (λ e. AreOf i j e.triples) (entries_between i j m)) → CanTurn s o i j m → row_of s.rows o ≡ Some row
+    → IsRow later o next → IsBy later o next m → ((t : ℕ) → inode_of later o next t ≡ (if nat_le m t then j else inode_of s.log.held o row t))
+    → entries_of later o next ≡ entries_of s.log.held o row ++ entries_between i j m → next ≡ record row { head = next.head; journal_bytes = next.journal_bytes; head_bytes = next.head_bytes }
+    → OnlyJournalChanged o s.log.held later → Records s.log.held later o row next j m
+records_of s later o i j m row next tell can there stands by inode entries rest others =
+    let same : can.row ≡ row = same_Some can.row row (sym can.there ∙ there) in
+    let is : i ≡ inode_of s.log.held o row s.latest = can.before ∙ ap (λ (r : Row). inode_of s.log.held o r s.latest) same in
+    let before : PointersHeld s.log.held o i = subst (PointersHeld s.log.held o) (sym is) ((can.store.objects o row there).pointers s.latest) in
+    record {
+      new = entries_between i j m;
+      grows = record {
+        entries = entries;
+        checkpoint = ap (λ (r : Row). checkpoint_of later o r) rest ∙ same_checkpoint s.log.held later o row.checkpoint (others Checkpoint o refl);
+      };
+      told = between_led s.log.held o i j (entries_between i j m) before can.pointers (tell i j m);
+      row_stands = stands;
+      by = by;
+      inode = inode;
+      others = others;
     }
 
 -- the stored row is the older one but for its journal, changed once more

@@ -3,7 +3,7 @@ use Rattle.std.specs.Prelude.{ℕ, ◌+◌, ◌-◌, ◌*◌, ◌&&◌, Bool, na
 use Rattle.std.specs.List.{count_by, range_with_len}
 use Rattle.s4_types.specs.declared.changes.Change.{Change}
 use Rattle.s4_types.specs.declared.changes.Change.TheVariants.{Create, Delete, Write, Truncate, SetAttr, SetWindow, Flush, FlushO}
-use Rattle.s4_types.specs.declared.limits.TheConstants.{CHAIN_ENTRY_BYTES, RESERVE_BLOCKS}
+use Rattle.s4_types.specs.declared.limits.TheConstants.{CHAIN_ENTRY_BYTES, RESERVE_BLOCKS, OBJECT_BLOCKS}
 use Rattle.s4_types.specs.declared.refusals.Refusal.{Refusal}
 use Rattle.s4_types.specs.declared.refusals.Refusal.TheVariants.{ChainFull, NoSpace}
 use Rattle.s4_model.specs.Effect.{object_of}
@@ -38,7 +38,7 @@ is_past i size k = nat_le size (512 * k) && is_some (pointer_at i k)
 
 -- how many blocks of an inode stand past a size
 unfoldable pub past_count : Inode → ℕ → ℕ
-past_count i size = count_by (is_past i size) (range_with_len 0 48)
+past_count i size = count_by (is_past i size) (range_with_len 0 OBJECT_BLOCKS)
 
 -- how many pointers of an inode a change replaces
 abbrev pub pointers_moved : Change → Inode → ℕ

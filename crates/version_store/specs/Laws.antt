@@ -2,6 +2,8 @@
 use Rattle.std.specs.Prelude.{◌≡◌, ℕ, ◌≤◌, ◌↔◌, true, Option, Some, None, IsSome}
 use Rattle.s4_types.specs.Pointer.{Place}
 use Rattle.block_log.specs.declared.kinds.BlockKind.{BlockKind}
+use Rattle.block_log.specs.declared.kinds.BlockKind.TheVariants.{Data}
+use Rattle.codec.specs.Checkpoint.{pointer_at}
 use Rattle.block_log.specs.Log.{Stored, of_kind}
 use Rattle.codec.specs.declared.inodes.Inode.{Inode}
 use Rattle.undo_redo.specs.Runs.{blank}
@@ -52,3 +54,7 @@ HeldIsWhatRowsName = (s : StoreFields) (o : ℕ) (kind : BlockKind) (p : Place) 
 -- So each block that is held, whatever it is, is one that a row names.
 abbrev pub EachHeldBlockIsNamed : Type 0
 EachHeldBlockIsNamed = (s : StoreFields) (p : Place) (block : Stored) → IsStore s → s.log.held p ≡ Some block → IsNamed s block.object block.kind p
+
+-- Each place that an inode of an object points to, at whatever moment, is one that the object's row names.
+abbrev pub InodesPointToWhatRowsName : Type 0
+InodesPointToWhatRowsName = (s : StoreFields) (o t n : ℕ) (i : Inode) (p : Place) → inode_in s o t ≡ Some i → pointer_at i n ≡ Some p → IsNamed s o Data p

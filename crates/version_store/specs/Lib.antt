@@ -1,3 +1,4 @@
+pub mod Planning
 pub mod Store
 pub mod Versions
 pub mod Costs

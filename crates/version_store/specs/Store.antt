@@ -1,14 +1,17 @@
 -- What contracts see of a store of objects, and what holds of each store.
-use Rattle.std.specs.Prelude.{◌≡◌, ℕ, ◌+◌, ◌≤◌, List, length, Option, Some, None, IsSome}
+use Rattle.std.specs.Prelude.{◌≡◌, ℕ, ◌+◌, ◌≤◌, List, [], ◌∷◌, ◌++◌, length, Option, Some, None, IsSome, IfSome}
+use Rattle.std.specs.List.{All, Contains, flat_map}
 use Rattle.s4_types.specs.Pointer.{Place}
 use Rattle.block_log.specs.declared.kinds.BlockKind.{BlockKind}
 use Rattle.block_log.specs.declared.kinds.BlockKind.TheVariants.{Journal, Checkpoint, Data}
 use Rattle.block_log.specs.Log.{Log, Stored, of_kind}
-use Rattle.codec.specs.Checkpoint.{pointer_at}
+use Rattle.codec.specs.Checkpoint.{CheckpointFields}
+use Rattle.codec.specs.Entry.{EntryFields}
+use Rattle.codec.specs.declared.entries.Triple.{Triple}
 use Rattle.journal_chain.specs.Chain.{times, chain_places}
 use Rattle.object_map.specs.declared.map.Row.{Row}
 use Rattle.object_map.specs.Rows.{row_of}
-use Rattle.time_read.specs.Rows.{IsRow, inode_of}
+use Rattle.time_read.specs.Rows.{IsRow, inode_of, entries_of, checkpoint_of}
 use Rattle.row_changes.specs.Recent.{IsBy}
 use Rattle.inode.specs.Contents.{contents_of}
 use Rattle.inode.specs.Tidiness.{Tidy, PointersHeld}
@@ -30,30 +33,48 @@ pub record StoreFields : Type 0 where
 abbrev pub fields_of : {T : Type 0} → (T → Log) → StoreOf T → StoreFields
 fields_of log s = record { rows = s.rows; log = log s.table; latest = s.latest }
 
--- An object of this row is held: nothing that the row tells of is later than the last change, and at each moment the
--- object's inode is tidy, with each pointer leading to a data block of the object.
+-- both pointers of each triple, in order
+abbrev pub sides_of : List Triple → List (Option Place)
+sides_of triples = flat_map (λ t. t.before ∷ t.after ∷ []) triples
+
+-- both pointers of each triple of entries, those of the first entry first
+abbrev pub sides_told : List EntryFields → List (Option Place)
+sides_told entries = flat_map (λ e. sides_of e.triples) entries
+
+-- the pointers of a checkpoint; none where there is none
+abbrev pub pointers_kept : Option CheckpointFields → List (Option Place)
+pointers_kept None = []
+pointers_kept (Some c) = c.inode.pointers
+
+-- All pointers to data that an object's row leads to, holes among them: those of its checkpoint, and behind them both
+-- sides of each triple of its chain, the oldest entry first.
+abbrev pub pointers_of : (Place → Option Stored) → ℕ → Row → List (Option Place)
+pointers_of held o row = pointers_kept (checkpoint_of held o row) ++ sides_told (entries_of held o row)
+
+-- a pointer is a hole, or leads to a data block of the object
+abbrev pub IsLed : (Place → Option Stored) → ℕ → Option Place → Type 0
+IsLed held o pointer = IfSome pointer (λ p. IsSome (of_kind Data o held p))
+
+-- An object of this row is held: nothing that the row tells of is later than the last change, each pointer that the row
+-- leads to is a hole or leads to a data block of the object, and at each moment the object's inode is tidy, and its
+-- pointers lead to such blocks too.
 pub record IsObject (held : Place → Option Stored) (o : ℕ) (row : Row) (latest : ℕ) : Type 0 where
   pub stands : IsRow held o row
   pub by : IsBy held o row latest
+  pub led : All (IsLed held o) (pointers_of held o row)
   pub tidy : (t : ℕ) → Tidy (contents_of held) (inode_of held o row t)
   pub pointers : (t : ℕ) → PointersHeld held o (inode_of held o row t)
 
--- The inode that an object of this row has at some moment has a pointer to this place.
-pub record PointsTo (held : Place → Option Stored) (o : ℕ) (row : Row) (p : Place) : Type 0 where
-  pub moment : ℕ
-  pub index : ℕ
-  pub leads : pointer_at (inode_of held o row moment) index ≡ Some p
-
--- each data block of an object of this row that is held is one that it points to at some moment
+-- each data block of an object of this row that is held is one that a pointer of the row leads to
 abbrev pub DataIsNamed : (Place → Option Stored) → ℕ → Row → Type 0
-DataIsNamed held o row = (p : Place) → IsSome (of_kind Data o held p) → PointsTo held o row p
+DataIsNamed held o row = (p : Place) → IsSome (of_kind Data o held p) → Contains (pointers_of held o row) (Some p)
 
 -- no block of an object is held
 abbrev pub HasNothing : (Place → Option Stored) → ℕ → Type 0
 HasNothing held o = (kind : BlockKind) (p : Place) → of_kind kind o held p ≡ None
 
--- Each object that has a row is held and was made at a moment above 0; of its data no block is held but those that it
--- points to at some moment, and of an object without a row no block at all. A row was changed no more often than places
+-- Each object that has a row is held and was made at a moment above 0; of its data no block is held but those that
+-- pointers of the row lead to, and of an object without a row no block at all. A row was changed no more often than places
 -- were taken: each change takes one.
 pub record IsStore (s : StoreFields) : Type 0 where
   pub objects : (o : ℕ) (row : Row) → row_of s.rows o ≡ Some row → IsObject s.log.held o row s.latest
@@ -64,11 +85,11 @@ pub record IsStore (s : StoreFields) : Type 0 where
   pub few : length s.log.ahead ≤ MOST_PLACES
 
 -- A row names an object's block of this kind at a place: it stands in the object's chain, once; or it is the checkpoint of
--- the row; or the object points to it at some moment.
+-- the row; or the checkpoint has a pointer to it, or a triple of the chain has, on either side.
 abbrev pub Names : (Place → Option Stored) → ℕ → Row → BlockKind → Place → Type 0
 Names held o row Journal p = times p (chain_places (of_kind Journal o held) o row.head) ≡ 1
 Names held o row Checkpoint p = row.checkpoint ≡ Some p
-Names held o row Data p = PointsTo held o row p
+Names held o row Data p = Contains (pointers_of held o row) (Some p)
 
 -- an object has a row, which names its block of this kind at a place
 pub record IsNamed (s : StoreFields) (o : ℕ) (kind : BlockKind) (p : Place) : Type 0 where

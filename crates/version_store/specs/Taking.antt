@@ -23,21 +23,21 @@ IsThere s o = is_absent (version_in s o s.latest) ≡ false
 
 -- A change can be made of a store's objects: a Create of an object without a row, or another change of one that is there.
 -- A change that makes no version is none of a store.
-abbrev pub IsReady : StoreFields → Change → Type 0
-IsReady s (Create object attribute) = row_of s.rows object ≡ None
-IsReady s (Delete object) = IsThere s object
-IsReady s (Write object offset bytes) = IsThere s object
-IsReady s (Truncate object size) = IsThere s object
-IsReady s (SetAttr object attribute) = IsThere s object
-IsReady s (SetWindow window) = ⊥
-IsReady s (Flush first last) = ⊥
-IsReady s (FlushO object first last) = ⊥
+abbrev pub IsReadyFor : StoreFields → Change → Type 0
+IsReadyFor s (Create object attribute) = row_of s.rows object ≡ None
+IsReadyFor s (Delete object) = IsThere s object
+IsReadyFor s (Write object offset bytes) = IsThere s object
+IsReadyFor s (Truncate object size) = IsThere s object
+IsReadyFor s (SetAttr object attribute) = IsThere s object
+IsReadyFor s (SetWindow window) = ⊥
+IsReadyFor s (Flush first last) = ⊥
+IsReadyFor s (FlushO object first last) = ⊥
 
 -- A change that a store takes: within the limits, of an object with a number, and one that can be made.
 pub record Takes (s : StoreFields) (change : Change) : Type 0 where
   pub fits : Fits change
   pub numbered : 1 ≤ object_of change
-  pub ready : IsReady s change
+  pub ready : IsReadyFor s change
 
 -- The rows after a change of an object at a moment: that of the object has another journal and was changed once more, and
 -- all others are as they were.

@@ -21,8 +21,8 @@ entries_of_row held o None = []
 entries_of_row held o (Some row) = entries_of held o row
 
 -- the journal entries of an object, the oldest first; none where it has no row
-abbrev pub entries_in : StoreFields → ℕ → List EntryFields
-entries_in s o = entries_of_row s.log.held o (row_of s.rows o)
+abbrev pub entries_of_object : StoreFields → ℕ → List EntryFields
+entries_of_object s o = entries_of_row s.log.held o (row_of s.rows o)
 
 -- the inode of an object at a moment, by its row: none where it has no row
 abbrev pub inode_by : (Place → Option Stored) → ℕ → ℕ → Option Row → Option Inode

@@ -1,6 +1,7 @@
 //! What a change takes of a store, counted from its object's inode before anything is written.
 
 ghost use Rattle.std.specs.Prelude.{◌≡◌, ◌+◌, ◌≤◌, length, sum, None, Some, MatchResult};
+ghost use Rattle.s4_types.specs.declared.limits.TheConstants.{OBJECT_BLOCKS, OBJECT_BYTES};
 ghost use Rattle.s4_model.specs.Limits.{Fits};
 ghost use Rattle.codec.specs.Entry.{pair_length};
 ghost use Rattle.undo_redo.specs.Between.{pair_between};
@@ -35,10 +36,10 @@ pub(crate) fn object_of(change: &Change) -> ObjectId
 /// How many blocks of an inode stand past a size.
 #[tactic(auto, using(crate::proofs::Costing::past_all, crate::proofs::Counting::tally_most))]
 fn blocks_past(inode: &Inode, size: u64) -> usize
-    requires size { size ≤ 24576 }
-    requires count { length inode.now.pointers ≡ 48 }
+    requires size { size ≤ OBJECT_BYTES }
+    requires count { length inode.now.pointers ≡ OBJECT_BLOCKS }
     ensures exact { result ≡ past_count inode.now size }
-    ensures most { result ≤ 48 }
+    ensures most { result ≤ OBJECT_BLOCKS }
 {
     let first = (size as usize).div_ceil(BLOCK_BYTES);
     let mut count = 0;
@@ -54,10 +55,10 @@ fn blocks_past(inode: &Inode, size: u64) -> usize
 #[tactic(auto, using(crate::proofs::Counting::moved_most))]
 fn pointers_moved(change: &Change, inode: &Inode) -> usize
     requires fits { Fits change.now }
-    requires size { inode.now.size ≤ 24576 }
-    requires count { length inode.now.pointers ≡ 48 }
+    requires size { inode.now.size ≤ OBJECT_BYTES }
+    requires count { length inode.now.pointers ≡ OBJECT_BLOCKS }
     ensures exact { result ≡ pointers_moved change.now inode.now }
-    ensures most { result ≤ 48 }
+    ensures most { result ≤ OBJECT_BLOCKS }
 {
     match change {
         Change::Write { offset, bytes, .. } => blocks_of_write(*offset, bytes.len()),
@@ -70,9 +71,9 @@ fn pointers_moved(change: &Change, inode: &Inode) -> usize
 /// How many data blocks a change of an inode appends: at most 48.
 fn data_blocks(change: &Change, inode: &Inode) -> usize
     requires fits { Fits change.now }
-    requires size { inode.now.size ≤ 24576 }
+    requires size { inode.now.size ≤ OBJECT_BYTES }
     ensures exact { result ≡ data_blocks change.now inode.now }
-    ensures most { result ≤ 48 }
+    ensures most { result ≤ OBJECT_BLOCKS }
 {
     match change {
         Change::Write { offset, bytes, .. } => blocks_of_write(*offset, bytes.len()),
@@ -114,8 +115,8 @@ fn attribute_bytes(change: &Change, inode: &Inode) -> usize
 #[tactic(auto, using(crate::proofs::Costing::sizes_most))]
 fn sizes_of(change: &Change, inode: &Inode) -> Sizes
     requires fits { Fits change.now }
-    requires size { inode.now.size ≤ 24576 }
-    requires count { length inode.now.pointers ≡ 48 }
+    requires size { inode.now.size ≤ OBJECT_BYTES }
+    requires count { length inode.now.pointers ≡ OBJECT_BLOCKS }
     ensures exact { result.items ≡ sizes_by change.now inode.now }
     ensures most { sum result.items ≤ 1048 }
 {
@@ -146,8 +147,8 @@ pub(crate) fn refusal(
     inode: &Inode,
 ) -> Result<(), Refusal>
     requires fits { Fits change.now }
-    requires size { inode.now.size ≤ 24576 }
-    requires count { length inode.now.pointers ≡ 48 }
+    requires size { inode.now.size ≤ OBJECT_BYTES }
+    requires count { length inode.now.pointers ≡ OBJECT_BLOCKS }
     ensures { MatchResult result (λ _. refusal_by space change.now row.now inode.now ≡ None) (λ e. refusal_by space change.now row.now inode.now ≡ Some e) }
 {
     few_blocks_are_needed();

@@ -1,6 +1,6 @@
 //! Laws of stores, for the layers above: each function does nothing, and its contract is the law.
 
-ghost use Rattle.version_store.specs.Laws.{ObjectsStay, InodesStay, VersionsStay, ThePresentStays, ChangesBeginWithThePresent, ChangesBeginWithThePresentVersion, TheAliveAreThere, HeldIsWhatRowsName, EachHeldBlockIsNamed};
+ghost use Rattle.version_store.specs.Laws.{ObjectsStay, InodesStay, VersionsStay, ThePresentStays, ChangesBeginWithThePresent, ChangesBeginWithThePresentVersion, TheAliveAreThere, HeldIsWhatRowsName, EachHeldBlockIsNamed, InodesPointToWhatRowsName};
 
 use inode::laws::only_its_blocks_matter;
 use row_changes::laws::{a_fresh_row_stands, a_row_is_by_later_moments, the_last_inode_stays};
@@ -42,9 +42,15 @@ pub fn changes_begin_with_the_present_version()
 }
 
 /// What is held is exactly what rows name: an object's journal blocks are those of its chain, its one checkpoint is that of
-/// its row, and its data blocks are those that it points to at some moment. Nothing else is held, and no object without a
-/// row has a block.
+/// its row, and its data blocks are those that a pointer of that checkpoint, or either side of a triple of that chain, leads
+/// to. Nothing else is held, and no object without a row has a block.
 pub fn what_is_held_is_what_rows_name()
     ensures exact { HeldIsWhatRowsName }
     ensures block { EachHeldBlockIsNamed }
+{}
+
+/// Each data block that an inode of an object points to, at whatever moment, is one that the object's row names. A row may
+/// name more: a block that stands in no inode but between two entries of one moment.
+pub fn inodes_point_to_what_rows_name()
+    ensures { InodesPointToWhatRowsName }
 {}

@@ -1,6 +1,7 @@
 //! The segment table of the drive that a type names.
 ghost use Rattle.std.specs.Prelude.{◌≡◌, ℕ, ◌<◌, ◌≤◌, ◌-◌, ◌↔◌, ◌⊎◌, ◌++◌, true, false, Some, None, length, min, take, drop, IsSome, IfSome, IfOk, IfErr};
 ghost use Rattle.std.specs.List.{list_any};
+ghost use Rattle.s4_types.specs.declared.limits.TheConstants.{OBJECT_BLOCKS, OBJECT_BYTES};
 ghost use Rattle.s4_types.specs.declared.refusals.Refusal.TheVariants.{NoMemory, Busy, NoSpace};
 ghost use Rattle.block_log.specs.Log.{appended, dropped};
 ghost use Rattle.inode.specs.Contents.{contents_of, bytes_of};
@@ -9,7 +10,7 @@ ghost use Rattle.segment_word.specs.Counting.{pins_in};
 ghost use Rattle.segment_table.specs.Table.{held_at};
 ghost use Rattle.segment_table.specs.Room.{is_filling, numbers, rest_of, places_ahead, log_of, pointers_in};
 ghost use Rattle.segment_table.specs.Changes.{IsFilling, NoneIsFilling, IsSealedIn};
-ghost use Rattle.time_read.specs.Plans.{IsAt, pieces_of, bytes_planned, pins_of, is_pinned, is_pinned_in};
+ghost use Rattle.time_read.specs.Plans.{IsAt, pieces_of, bytes_planned, pins_held, is_pinned, is_pinned_in};
 
 use block_log::{Block, BlockKind, Blocks};
 use codec::Inode;
@@ -93,12 +94,12 @@ impl<J: Naming> NamedTable<J> {
         offset: u64,
         wanted: u64,
     ) -> Result<ReadPlan, Refusal>
-        requires size { inode.now.size ≤ 24576 }
-        requires count { length inode.now.pointers ≡ 48 }
+        requires size { inode.now.size ≤ OBJECT_BYTES }
+        requires count { length inode.now.pointers ≡ OBJECT_BLOCKS }
         requires lead { PointersLead (held_at self.old) inode.now }
         ensures pieces { IfOk result (λ plan. plan.pieces ≡ pieces_of self.old inode.now offset (min wanted (inode.now.size - offset))) }
         ensures bytes { IfOk result (λ plan. bytes_planned plan ≡ take wanted (drop offset (bytes_of (contents_of (held_at self.old)) inode.now))) }
-        ensures pins { IfOk result (λ plan. (f : ℕ) → (0 < pins_in f (pins_of plan.pin)) ↔ (list_any (is_pinned_in f) plan.pieces ≡ true)) }
+        ensures pins { IfOk result (λ plan. (f : ℕ) → (0 < pins_in f (pins_held plan.pin)) ↔ (list_any (is_pinned_in f) plan.pieces ≡ true)) }
         ensures seat { IfOk result (λ plan. list_any is_pinned plan.pieces ≡ false → plan.pin ≡ None) }
         ensures at { IfOk result (λ plan. IsAt self.old plan.pin) }
         ensures refusal { IfErr result (λ e. (e ≡ NoMemory) ⊎ ((e ≡ Busy) × (list_any is_pinned (pieces_of self.old inode.now offset (min wanted (inode.now.size - offset))) ≡ true))) }

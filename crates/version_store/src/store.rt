@@ -1,12 +1,12 @@
 //! A store of objects: made, looked at and read.
-ghost use Rattle.std.specs.Prelude.{◌≡◌, ℕ, ◌≤◌, ◌<◌, Some, None, length, take, drop, IfSome, IfNone, IfOk, IfErr};
+ghost use Rattle.std.specs.Prelude.{◌≡◌, ℕ, ◌≤◌, ◌<◌, Some, None, length, take, drop, IfSome, IfNone, IfOk, IfErr, option_copied};
 ghost use Rattle.s4_types.specs.Pointer.{Place};
 ghost use Rattle.s4_types.specs.declared.refusals.Refusal.TheVariants.{NoMemory};
 ghost use Rattle.object_map.specs.Objects.{IsNextAbove};
 ghost use Rattle.object_map.specs.Rows.{row_of};
 ghost use Rattle.inode.specs.Contents.{contents_of, bytes_of};
 ghost use Rattle.version_store.specs.Store.{fields_of, IsStore};
-ghost use Rattle.version_store.specs.Versions.{entries_in, inode_in};
+ghost use Rattle.version_store.specs.Versions.{entries_of_object, inode_in};
 ghost use Rattle.version_store.specs.Costs.{room};
 
 mod changes;
@@ -104,8 +104,8 @@ impl<B: Blocks> Store<B> {
     }
 
     /// The present inode of an object, and none where it has no row. It is kept beside the row: no journal is walked.
-    pub fn present(&self, object: ObjectId) -> Option<Inode>
-        ensures { result ≡ inode_in (fields_of B.log self.now) object self.now.latest }
+    pub fn present(&self, object: ObjectId) -> Option<&Inode>
+        ensures { option_copied result ≡ inode_in (fields_of B.log self.now) object self.now.latest }
     {
         self.presents.get(object)
     }
@@ -122,10 +122,10 @@ impl<B: Blocks> Store<B> {
         the_present_stays();
         let present = self.presents.get(object)?;
         if self.latest <= at {
-            return Some(present);
+            return Some(*present);
         }
         let row = self.rows.get(object)?;
-        Some(time_read::inode_at(&mut self.table, object, &row, &present, at))
+        Some(time_read::inode_at(&mut self.table, object, &row, present, at))
     }
 
     /// The journal entries of an object, the oldest first, and none where it has no row.
@@ -133,7 +133,7 @@ impl<B: Blocks> Store<B> {
     /// NoMemory alone, where the memory for them is refused.
     pub fn entries(&mut self, object: ObjectId) -> Result<Vec<Entry>, Refusal>
         requires { IsStore (fields_of B.log self.old) }
-        ensures entries { IfOk result (λ entries. entries.items ≡ entries_in (fields_of B.log self.old) object) }
+        ensures entries { IfOk result (λ entries. entries.items ≡ entries_of_object (fields_of B.log self.old) object) }
         ensures refusal { IfErr result (λ e. e ≡ NoMemory) }
         ensures same { fields_of B.log self.new ≡ fields_of B.log self.old }
     {

@@ -5,7 +5,7 @@ use Rattle.std.specs.List.Sorted.{IsPartitionPoint, IsNonDecreasingBy}
 use Rattle.std.proofs.lemmas.Bool.{cond_both, cond-true, cond-false, cases_Bool, ltb-true, ltb-false, le-ltb, or_from, and_left, ne_eqb}
 use Rattle.s4_types.specs.declared.spans.Span.{Span}
 use Rattle.window.specs.declared.chunks.Chunk.{Chunk}
-use Rattle.window.specs.Runs.{is_before, Ascend, joined, with_span, AllEndFrom, is_live, is_live_in, is_of}
+use Rattle.window.specs.Runs.{is_before, Ascend, joined_span, with_span, AllEndFrom, is_live, is_live_in, span_is_of}
 use Rattle.window.specs.Chunks.{flat, AreWithin, Parted, AllDated, holder, put}
 use Rattle.window.proofs.Ordering.{before_from, with_span_past, with_span_before, with_span_joined, all_with_span, all_filter}
 use Rattle.window.proofs.Counting.{count_cons, tally}
@@ -37,7 +37,7 @@ before_back span (run ∷ runs) back all = elim (cases_Bool (is_before run span)
   | inl past ↦ with_span_past span run (runs ++ back) past ∙ ap (λ xs. run ∷ xs) (before_back span runs back all) ∙ sym (ap (λ xs. xs ++ back) (with_span_past span run runs past))
   | inr later ↦ elim (cases_Bool (is_before span run)) as (λ _. with_span span (run ∷ (runs ++ back)) ≡ with_span span (run ∷ runs) ++ back) [
     | inl earlier ↦ with_span_before span run (runs ++ back) later earlier ∙ sym (ap (λ xs. xs ++ back) (with_span_before span run runs later earlier))
-    | inr touch ↦ with_span_joined span run (runs ++ back) later touch ∙ before_back (joined span run) runs back all ∙ sym (ap (λ xs. xs ++ back) (with_span_joined span run runs later touch))
+    | inr touch ↦ with_span_joined span run (runs ++ back) later touch ∙ before_back (joined_span span run) runs back all ∙ sym (ap (λ xs. xs ++ back) (with_span_joined span run runs later touch))
   ]
 ]
 
@@ -96,40 +96,40 @@ put_parted span low (d ∷ cs) c fresh le parted h up is = elim (cases_Bool (nat
       (subst (λ xs. P fresh.up_to xs) runs (subst (λ n. P n (with_span span d.runs.items)) top (parted.0, within, parted.2))))
 ]
 
-none_earlier : (list : ℕ) (runs : List Span) → AllByRecursion (λ run. run.object < list) runs → filter (is_of list) runs ≡ []
+none_earlier : (list : ℕ) (runs : List Span) → AllByRecursion (λ run. run.object < list) runs → filter (span_is_of list) runs ≡ []
 none_earlier list [] all = refl
 none_earlier list (run ∷ runs) all =
     let lt : run.object < list = all.0 in
     cond-false (run.object == list) _ _ (ne_eqb run.object list (λ (e : run.object ≡ list). omega arith)) ∙ none_earlier list runs all.1
 
-none_later : (list : ℕ) (runs : List Span) → AllByRecursion (λ run. list < run.object) runs → filter (is_of list) runs ≡ []
+none_later : (list : ℕ) (runs : List Span) → AllByRecursion (λ run. list < run.object) runs → filter (span_is_of list) runs ≡ []
 none_later list [] all = refl
 none_later list (run ∷ runs) all =
     let lt : list < run.object = all.0 in
     cond-false (run.object == list) _ _ (ne_eqb run.object list (λ (e : run.object ≡ list). omega arith)) ∙ none_later list runs all.1
 
 -- a list's runs stand in the chunk that holds it
-pub of_holder : (list low : ℕ) (cs : List Chunk) (c : Chunk) → Parted low cs → holder list cs ≡ Some c → filter (is_of list) (flat cs) ≡ filter (is_of list) c.runs.items
+pub of_holder : (list low : ℕ) (cs : List Chunk) (c : Chunk) → Parted low cs → holder list cs ≡ Some c → filter (span_is_of list) (flat cs) ≡ filter (span_is_of list) c.runs.items
 of_holder list low [] c parted h = cc
 of_holder list low (d ∷ cs) c parted h = elim (cases_Bool (nat_lt d.up_to list)) [
   | inl before ↦
-      filter-append (is_of list) d.runs.items (flat cs)
-      ∙ ap (λ xs. xs ++ filter (is_of list) (flat cs)) (none_earlier list d.runs.items (all_earlier low d.up_to list d.runs.items (ltb-true _ _ before) parted.1))
+      filter-append (span_is_of list) d.runs.items (flat cs)
+      ∙ ap (λ xs. xs ++ filter (span_is_of list) (flat cs)) (none_earlier list d.runs.items (all_earlier low d.up_to list d.runs.items (ltb-true _ _ before) parted.1))
       ∙ of_holder list (d.up_to + 1) cs c parted.2 (held_behind list d cs (Some c) before h)
   | inr here ↦ (let same : d ≡ c = held_here list d c cs here h in
       let le : list ≤ d.up_to = ltb-false _ _ here in
-      filter-append (is_of list) d.runs.items (flat cs)
-      ∙ ap (λ xs. filter (is_of list) d.runs.items ++ xs) (none_later list (flat cs) (behind_later (d.up_to + 1) list cs (omega arith) parted.2))
-      ∙ append-nil (filter (is_of list) d.runs.items)
-      ∙ ap (λ (x : Chunk). filter (is_of list) x.runs.items) same)
+      filter-append (span_is_of list) d.runs.items (flat cs)
+      ∙ ap (λ xs. filter (span_is_of list) d.runs.items ++ xs) (none_later list (flat cs) (behind_later (d.up_to + 1) list cs (omega arith) parted.2))
+      ∙ append-nil (filter (span_is_of list) d.runs.items)
+      ∙ ap (λ (x : Chunk). filter (span_is_of list) x.runs.items) same)
 ]
 
-pub of_none : (list low : ℕ) (cs : List Chunk) → Parted low cs → holder list cs ≡ None → filter (is_of list) (flat cs) ≡ []
+pub of_none : (list low : ℕ) (cs : List Chunk) → Parted low cs → holder list cs ≡ None → filter (span_is_of list) (flat cs) ≡ []
 of_none list low [] parted h = refl
 of_none list low (d ∷ cs) parted h = elim (cases_Bool (nat_lt d.up_to list)) [
   | inl before ↦
-      filter-append (is_of list) d.runs.items (flat cs)
-      ∙ ap (λ xs. xs ++ filter (is_of list) (flat cs)) (none_earlier list d.runs.items (all_earlier low d.up_to list d.runs.items (ltb-true _ _ before) parted.1))
+      filter-append (span_is_of list) d.runs.items (flat cs)
+      ∙ ap (λ xs. xs ++ filter (span_is_of list) (flat cs)) (none_earlier list d.runs.items (all_earlier low d.up_to list d.runs.items (ltb-true _ _ before) parted.1))
       ∙ of_none list (d.up_to + 1) cs parted.2 (held_behind list d cs None before h)
   | inr here ↦ (let e : Some d ≡ None = sym (cond-false (nat_lt d.up_to list) (holder list cs) (Some d) here) ∙ h in cc)
 ]
@@ -143,17 +143,17 @@ holder_put list (d ∷ cs) c fresh h up = elim (cases_Bool (nat_lt d.up_to list)
       ∙ cond-false (nat_lt fresh.up_to list) _ _ (ap (λ n. nat_lt n list) (up ∙ ap (λ (x : Chunk). x.up_to) (sym same)) ∙ here))
 ]
 
-count_own : (floor list : ℕ) (runs : List Span) → count_by (is_live_in floor list) runs ≡ count_by (is_live_in floor list) (filter (is_of list) runs)
+count_own : (floor list : ℕ) (runs : List Span) → count_by (is_live_in floor list) runs ≡ count_by (is_live_in floor list) (filter (span_is_of list) runs)
 count_own floor list [] = refl
 count_own floor list (run ∷ runs) =
-    let rest : count_by (is_live_in floor list) runs ≡ count_by (is_live_in floor list) (filter (is_of list) runs) = count_own floor list runs in
+    let rest : count_by (is_live_in floor list) runs ≡ count_by (is_live_in floor list) (filter (span_is_of list) runs) = count_own floor list runs in
     let a : count_by (is_live_in floor list) (run ∷ runs) ≡ tally (is_live_in floor list run) + count_by (is_live_in floor list) runs = count_cons (is_live_in floor list) run runs in
     elim (cases_Bool (run.object == list)) [
-      | inl own ↦ (let b : count_by (is_live_in floor list) (run ∷ filter (is_of list) runs) ≡ tally (is_live_in floor list run) + count_by (is_live_in floor list) (filter (is_of list) runs) = count_cons (is_live_in floor list) run (filter (is_of list) runs) in
-          let whole : count_by (is_live_in floor list) (filter (is_of list) (run ∷ runs)) ≡ count_by (is_live_in floor list) (run ∷ filter (is_of list) runs) = ap (count_by (is_live_in floor list)) (cond-true (run.object == list) _ _ own) in
+      | inl own ↦ (let b : count_by (is_live_in floor list) (run ∷ filter (span_is_of list) runs) ≡ tally (is_live_in floor list run) + count_by (is_live_in floor list) (filter (span_is_of list) runs) = count_cons (is_live_in floor list) run (filter (span_is_of list) runs) in
+          let whole : count_by (is_live_in floor list) (filter (span_is_of list) (run ∷ runs)) ≡ count_by (is_live_in floor list) (run ∷ filter (span_is_of list) runs) = ap (count_by (is_live_in floor list)) (cond-true (run.object == list) _ _ own) in
           omega arith)
       | inr other ↦ (let none : tally (is_live_in floor list run) ≡ 0 = ap tally (and_left (run.object == list) (nat_le floor run.last) other) in
-          let whole : count_by (is_live_in floor list) (filter (is_of list) (run ∷ runs)) ≡ count_by (is_live_in floor list) (filter (is_of list) runs) = ap (count_by (is_live_in floor list)) (cond-false (run.object == list) _ _ other) in
+          let whole : count_by (is_live_in floor list) (filter (span_is_of list) (run ∷ runs)) ≡ count_by (is_live_in floor list) (filter (span_is_of list) runs) = ap (count_by (is_live_in floor list)) (cond-false (run.object == list) _ _ other) in
           omega arith)
     ]
 

@@ -8,7 +8,8 @@ use Rattle.s4_types.specs.declared.spans.Span.{Span}
 use Rattle.s4_model.specs.Visible.{is_within}
 use Rattle.s4_model.specs.Runs.{is_covered, is_first, run_count, run_count_of_all}
 use Rattle.s4_model.specs.Sound.{IsOfGiven}
-use Rattle.window.specs.Runs.{covers, IsBeforeAll, Ascend, AllEndBy, is_live, is_live_in}
+use Rattle.s4_model.specs.RunCounting.{AllEndBy}
+use Rattle.window.specs.Runs.{covers, IsBeforeAll, Ascend, is_live, is_live_in}
 use Rattle.window.proofs.Ordering.{before_parts}
 use Rattle.window.proofs.Ranges.{below, count_by-range, sum_by-range-more}
 

@@ -5,7 +5,7 @@ use Rattle.std.proofs.lemmas.Bool.{and_right, lt-leb, leb-false, cond_both}
 use Rattle.std.proofs.lemmas.Bool.Decides.{nat_tests}
 use Rattle.s4_types.specs.declared.spans.Span.{Span}
 use Rattle.s4_model.specs.Visible.{is_within, hides}
-use Rattle.window.specs.Runs.{is_before, Ascend, joined, with_span, covers, is_live}
+use Rattle.window.specs.Runs.{is_before, Ascend, joined_span, with_span, covers, is_live}
 use Rattle.window.proofs.Ordering.{Touch, touch_from}
 
 swap : (a b c : Bool) → (a || (b || c)) ≡ (b || (a || c))
@@ -25,7 +25,7 @@ and_or false b c = refl
 within_joined : (f l g m t : ℕ) → f ≤ l → g ≤ m → f ≤ m + 1 → g ≤ l + 1 → (nat_le (min f g) t && nat_le t (max l m)) ≡ ((nat_le f t && nat_le t l) || (nat_le g t && nat_le t m))
 within_joined f l g m t a b c d = grind (arith, nat_tests)
 
-covers_joined : (list t : ℕ) (x y : Span) → x.first ≤ x.last → y.first ≤ y.last → Touch x y → covers list t (joined x y) ≡ (covers list t x || covers list t y)
+covers_joined : (list t : ℕ) (x y : Span) → x.first ≤ x.last → y.first ≤ y.last → Touch x y → covers list t (joined_span x y) ≡ (covers list t x || covers list t y)
 covers_joined list t x y a b touch =
     ap (λ w. x.object == list && w) (within_joined x.first x.last y.first y.last t a b touch.first touch.last)
     ∙ and_or (x.object == list) (is_within x t) (is_within y t)
@@ -40,7 +40,7 @@ covers_with_span list t span (run ∷ runs) o h =
     (λ _. ap (λ b. covers list t run || b) (covers_with_span list t span runs o h.2) ∙ swap (covers list t run) (covers list t span) (list_any (covers list t) runs))
     (λ later. cond_both (is_before span run) _ _ P
     (λ _. refl)
-    (λ earlier. covers_with_span list t (joined span run) runs (omega (arith, h.0)) h.2
+    (λ earlier. covers_with_span list t (joined_span span run) runs (omega (arith, h.0)) h.2
     ∙ ap (λ b. b || list_any (covers list t) runs) (covers_joined list t span run o h.0 (touch_from span run earlier later))
     ∙ assoc (covers list t span) (covers list t run) (list_any (covers list t) runs)))
 

@@ -8,7 +8,7 @@ use Rattle.window.specs.declared.chunks.Chunk.{Chunk}
 use Rattle.window.specs.Runs.{Ascend, AllEndFrom, is_live}
 use Rattle.s4_types.specs.declared.limits.TheConstants.{RUNS_IN_ALL}
 use Rattle.std.proofs.lemmas.List.Sums.{length-filter, count_by-le-length}
-use Rattle.window.specs.Chunks.{flat, AreWithin, Parted, AllNumbered, AllDated, told, IsSifted, AllSifted, IsSound}
+use Rattle.window.specs.Chunks.{flat, AreWithin, Parted, AllNumbered, AllDated, told, IsSifted, AllSifted, AreSoundChunks}
 use Rattle.window.proofs.Ordering.{Ascend-filter, all_filter}
 use Rattle.window.proofs.Chunked.{all_append}
 use Rattle.window.proofs.Live.{from_later, all_live, live_from}
@@ -100,7 +100,7 @@ sifted_dated floor (c ∷ cs) [] all = absurd all
 sifted_dated floor (c ∷ cs) (d ∷ ds) all = (all.0.2, sifted_dated floor cs ds all.1)
 
 -- no more are left than there were
-pub few_left : (floor clock old end count : ℕ) (cs ds xs : List Chunk) → AllSifted floor cs ds → xs ≡ ds → IsSound clock old end count cs → length (flat xs) ≤ RUNS_IN_ALL
+pub few_left : (floor clock old end count : ℕ) (cs ds xs : List Chunk) → AllSifted floor cs ds → xs ≡ ds → AreSoundChunks clock old end count cs → length (flat xs) ≤ RUNS_IN_ALL
 few_left floor clock old end count cs ds xs all same sound =
     let size : length (flat xs) ≡ count_by (is_live floor) (flat cs) =
     ap (λ ys. length (flat ys)) same ∙ ap (λ (ys : List Span). length ys) (sifted_flat floor cs ds all) ∙ length-filter (is_live floor) (flat cs) in
@@ -110,7 +110,7 @@ few_left floor clock old end count cs ds xs all same sound =
     omega arith
 
 -- what a window keeps when runs are forgotten
-pub sound_forgotten : (floor clock old end count later left : ℕ) (cs ds xs ys : List Chunk) → AllSifted floor cs ds → IsSound clock old end count cs → xs ≡ ds → left ≡ length (flat xs) → ys ≡ ds → later ≡ told ys → IsSound clock floor later left ds
+pub sound_forgotten : (floor clock old end count later left : ℕ) (cs ds xs ys : List Chunk) → AllSifted floor cs ds → AreSoundChunks clock old end count cs → xs ≡ ds → left ≡ length (flat xs) → ys ≡ ds → later ≡ told ys → AreSoundChunks clock floor later left ds
 sound_forgotten floor clock old end count later left cs ds xs ys all sound same counted again is =
     let P : List Span → Type 0 = λ runs. Ascend runs × AllByRecursion (λ run. run.last ≤ clock) runs × AllNumbered runs × AllEndFrom floor runs in
     let facts : P (flat ds) = subst P (sym (sifted_flat floor cs ds all)) (
@@ -133,6 +133,6 @@ sound_forgotten floor clock old end count later left cs ds xs ys all sound same 
     )
 
 -- and when none ends below the floor
-pub sound_left : (floor clock old end count : ℕ) (cs : List Chunk) → floor ≤ end → IsSound clock old end count cs → IsSound clock floor end count cs
+pub sound_left : (floor clock old end count : ℕ) (cs : List Chunk) → floor ≤ end → AreSoundChunks clock old end count cs → AreSoundChunks clock floor end count cs
 sound_left floor clock old end count cs le sound =
     (sound.0, sound.1, sound.2, sound.3, sound.4, from_later floor end (flat cs) le sound.6, sound.6, sound.7, sound.8)

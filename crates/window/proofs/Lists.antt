@@ -7,7 +7,7 @@ use Rattle.std.proofs.lemmas.Bool.Decides.{nat_tests}
 use Rattle.std.proofs.lemmas.List.{take_all}
 use Rattle.s4_types.specs.declared.spans.Span.{Span}
 use Rattle.s4_model.specs.Visible.{is_within}
-use Rattle.window.specs.Runs.{IsBeforeAll, Ascend, is_of, covers, cover, BeginInOrder}
+use Rattle.window.specs.Runs.{IsBeforeAll, Ascend, span_is_of, covers, cover, BeginInOrder}
 use Rattle.window.proofs.Ordering.{before_parts}
 
 -- no run that follows is of an earlier list
@@ -80,22 +80,22 @@ same_list : (a list : ℕ) → (a == list) ≡ (nat_le list a && nat_le a list)
 same_list a list = grind (arith, nat_tests)
 
 -- the runs from a list on, up to that list, are those of the list
-pub from_and_up_to : (list : ℕ) (runs : List Span) → filter (λ run. nat_le run.object list) (filter (λ run. nat_le list run.object) runs) ≡ filter (is_of list) runs
-from_and_up_to list runs = passes_both (λ run. nat_le run.object list) (λ run. nat_le list run.object) (is_of list) runs (λ run. same_list run.object list)
+pub from_and_up_to : (list : ℕ) (runs : List Span) → filter (λ run. nat_le run.object list) (filter (λ run. nat_le list run.object) runs) ≡ filter (span_is_of list) runs
+from_and_up_to list runs = passes_both (λ run. nat_le run.object list) (λ run. nat_le list run.object) (span_is_of list) runs (λ run. same_list run.object list)
 
 -- the runs of a list have in them what the list covers
-pub cover_of : (list t : ℕ) (runs : List Span) → cover (filter (is_of list) runs) t ≡ list_any (covers list t) runs
+pub cover_of : (list t : ℕ) (runs : List Span) → cover (filter (span_is_of list) runs) t ≡ list_any (covers list t) runs
 cover_of list t [] = refl
 cover_of list t (run ∷ runs) =
     let P : List Span → Type 0 = λ all. cover all t ≡ (covers list t run || list_any (covers list t) runs) in
-    cond_both (is_of list run) _ _ P
+    cond_both (span_is_of list run) _ _ P
     (λ own. ap (λ b. is_within run t || b) (cover_of list t runs) ∙ sym (ap (λ b. (b && is_within run t) || list_any (covers list t) runs) own))
     (λ other. cover_of list t runs ∙ sym (ap (λ b. (b && is_within run t) || list_any (covers list t) runs) other))
 
-later_begin : (list : ℕ) (run : Span) (runs : List Span) → run.object ≡ list → run.first ≤ run.last → IsBeforeAll run runs → AllByRecursion (λ next. run.first ≤ next.first) (filter (is_of list) runs)
+later_begin : (list : ℕ) (run : Span) (runs : List Span) → run.object ≡ list → run.first ≤ run.last → IsBeforeAll run runs → AllByRecursion (λ next. run.first ≤ next.first) (filter (span_is_of list) runs)
 later_begin list run [] own ordered all = tt
 later_begin list run (next ∷ runs) own ordered all =
-    cond_both (is_of list next) _ _ (AllByRecursion (λ next. run.first ≤ next.first))
+    cond_both (span_is_of list next) _ _ (AllByRecursion (λ next. run.first ≤ next.first))
     (λ e. (
       elim (before_parts run next all.0) as (λ _. run.first ≤ next.first) [
         | inl less ↦ let same : next.object ≡ list = eqb-true _ _ e in absurd (omega arith)
@@ -106,14 +106,14 @@ later_begin list run (next ∷ runs) own ordered all =
     (λ _. later_begin list run runs own ordered all.1)
 
 -- the runs of a list begin one after the other
-pub begin_in_order : (list : ℕ) (runs : List Span) → Ascend runs → BeginInOrder (filter (is_of list) runs)
+pub begin_in_order : (list : ℕ) (runs : List Span) → Ascend runs → BeginInOrder (filter (span_is_of list) runs)
 begin_in_order list [] h = tt
 begin_in_order list (run ∷ runs) h =
-    cond_both (is_of list run) _ _ BeginInOrder
+    cond_both (span_is_of list run) _ _ BeginInOrder
     (λ own. (later_begin list run runs (eqb-true _ _ own) h.0 h.1, begin_in_order list runs h.2))
     (λ _. begin_in_order list runs h.2)
 
-pub begins_in_order : (list : ℕ) (runs same own : List Span) → own ≡ filter (is_of list) same → same ≡ runs → Ascend runs → BeginInOrder own
+pub begins_in_order : (list : ℕ) (runs same own : List Span) → own ≡ filter (span_is_of list) same → same ≡ runs → Ascend runs → BeginInOrder own
 begins_in_order list runs same own is e h =
     let P : List Span → Type 0 = λ xs. BeginInOrder xs in
-    subst P (sym (is ∙ ap (λ xs. filter (is_of list) xs) e)) (begin_in_order list runs h)
+    subst P (sym (is ∙ ap (λ xs. filter (span_is_of list) xs) e)) (begin_in_order list runs h)

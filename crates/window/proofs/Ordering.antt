@@ -3,7 +3,7 @@ use Rattle.std.proofs.Common.{◌≡◌, ◌⊎◌, inl, inr, ℕ, Bool, true, f
 use Rattle.std.specs.List.{AllByRecursion}
 use Rattle.std.proofs.lemmas.Bool.{and_parts, and_from, and_cases, or_cases, or_parts, or_left, or_right, ltb-true, ltb-false, lt-ltb, eqb-true, eq-eqb, cond_both, cond-true, cond-false, both_ways}
 use Rattle.s4_types.specs.declared.spans.Span.{Span}
-use Rattle.window.specs.Runs.{is_before, IsBeforeAll, Ascend, joined, with_span}
+use Rattle.window.specs.Runs.{is_before, IsBeforeAll, Ascend, joined_span, with_span}
 
 -- a run stands before another, by numbers
 abbrev pub Before : Span → Span → Type 0
@@ -66,16 +66,16 @@ pub before_all : (x y : Span) (runs : List Span) → y.first ≤ y.last → is_b
 before_all x y [] o b all = tt
 before_all x y (run ∷ runs) o b all = (before_trans x y run o b all.0, before_all x y runs o b all.1)
 
-Before-joined : (k x y : Span) → Touch x y → Before k x → Before k y → Before k (joined x y)
-Before-joined k x y touch (inl a) b = inl a
-Before-joined k x y touch (inr a) (inl b) = let e : k.object ≡ x.object = a.0 in inl (omega (arith, touch.object))
-Before-joined k x y touch (inr a) (inr b) =
+Before-joined_span : (k x y : Span) → Touch x y → Before k x → Before k y → Before k (joined_span x y)
+Before-joined_span k x y touch (inl a) b = inl a
+Before-joined_span k x y touch (inr a) (inl b) = let e : k.object ≡ x.object = a.0 in inl (omega (arith, touch.object))
+Before-joined_span k x y touch (inr a) (inr b) =
     let g : k.last + 1 < x.first = a.1 in
     let h : k.last + 1 < y.first = b.1 in
     inr (a.0, omega arith)
 
-pub before_joined : (k x y : Span) → Touch x y → is_before k x ≡ true → is_before k y ≡ true → is_before k (joined x y) ≡ true
-before_joined k x y touch a b = before_from k (joined x y) (Before-joined k x y touch (before_parts k x a) (before_parts k y b))
+pub before_joined : (k x y : Span) → Touch x y → is_before k x ≡ true → is_before k y ≡ true → is_before k (joined_span x y) ≡ true
+before_joined k x y touch a b = before_from k (joined_span x y) (Before-joined_span k x y touch (before_parts k x a) (before_parts k y b))
 
 pub before_with_span : (k span : Span) (runs : List Span) → is_before k span ≡ true → IsBeforeAll k runs → IsBeforeAll k (with_span span runs)
 before_with_span k span [] b all = (b, tt)
@@ -84,7 +84,7 @@ before_with_span k span (run ∷ runs) b all =
     (λ _. (all.0, before_with_span k span runs b all.1))
     (λ later. cond_both (is_before span run) _ _ (IsBeforeAll k)
     (λ _. (b, all))
-    (λ earlier. before_with_span k (joined span run) runs (before_joined k span run (touch_from span run earlier later) b all.0) all.1))
+    (λ earlier. before_with_span k (joined_span span run) runs (before_joined k span run (touch_from span run earlier later) b all.0) all.1))
 
 -- runs in order with one more span are in order
 pub Ascend-with_span : (span : Span) (runs : List Span) → span.first ≤ span.last → Ascend runs → Ascend (with_span span runs)
@@ -94,17 +94,17 @@ Ascend-with_span span (run ∷ runs) o h =
     (λ b. (h.0, before_with_span run span runs b h.1, Ascend-with_span span runs o h.2))
     (λ _. cond_both (is_before span run) _ _ Ascend
     (λ b. (o, (b, before_all span run runs h.0 b h.1), h))
-    (λ _. Ascend-with_span (joined span run) runs (omega arith) h.2))
+    (λ _. Ascend-with_span (joined_span span run) runs (omega arith) h.2))
 
 -- what holds of the runs and the span, and of what two make, holds of the runs with the span
-pub all_with_span : (P : Span → Type 0) (span : Span) (runs : List Span) → ((x y : Span) → P x → P y → P (joined x y)) → P span → AllByRecursion P runs → AllByRecursion P (with_span span runs)
+pub all_with_span : (P : Span → Type 0) (span : Span) (runs : List Span) → ((x y : Span) → P x → P y → P (joined_span x y)) → P span → AllByRecursion P runs → AllByRecursion P (with_span span runs)
 all_with_span P span [] both h all = (h, tt)
 all_with_span P span (run ∷ runs) both h all =
     cond_both (is_before run span) _ _ (AllByRecursion P)
     (λ _. (all.0, all_with_span P span runs both h all.1))
     (λ _. cond_both (is_before span run) _ _ (AllByRecursion P)
     (λ _. (h, all))
-    (λ _. all_with_span P (joined span run) runs both (both span run h all.0) all.1))
+    (λ _. all_with_span P (joined_span span run) runs both (both span run h all.0) all.1))
 
 -- what holds of all runs holds of some of them
 pub all_filter : (P : Span → Type 0) (p : Span → Bool) (runs : List Span) → AllByRecursion P runs → AllByRecursion P (filter p runs)
@@ -124,5 +124,5 @@ with_span_past span run runs b = cond-true (is_before run span) _ _ b
 pub with_span_before : (span run : Span) (runs : List Span) → is_before run span ≡ false → is_before span run ≡ true → with_span span (run ∷ runs) ≡ span ∷ run ∷ runs
 with_span_before span run runs b c = cond-false (is_before run span) _ _ b ∙ cond-true (is_before span run) _ _ c
 
-pub with_span_joined : (span run : Span) (runs : List Span) → is_before run span ≡ false → is_before span run ≡ false → with_span span (run ∷ runs) ≡ with_span (joined span run) runs
+pub with_span_joined : (span run : Span) (runs : List Span) → is_before run span ≡ false → is_before span run ≡ false → with_span span (run ∷ runs) ≡ with_span (joined_span span run) runs
 with_span_joined span run runs b c = cond-false (is_before run span) _ _ b ∙ cond-false (is_before span run) _ _ c

@@ -6,7 +6,7 @@ use Rattle.s4_types.specs.declared.spans.Span.{Span}
 use Rattle.window.specs.declared.chunks.Chunk.{Chunk}
 use Rattle.window.specs.declared.chunks.Fresh.TheVariants.{One, All}
 use Rattle.window.specs.Runs.{Ascend, AllEndFrom, with_span, is_live, is_live_in}
-use Rattle.window.specs.Chunks.{flat, Parted, AllDated, AllNumbered, holder, put, IsSound}
+use Rattle.window.specs.Chunks.{flat, Parted, AllDated, AllNumbered, holder, put, AreSoundChunks}
 use Rattle.window.specs.Timeline.{Timeline, Plan, chunks_by, IsMade, IsPlanned}
 use Rattle.window.proofs.Ordering.{Ascend-with_span, Ascend-filter, all_with_span, all_filter}
 use Rattle.window.proofs.Live.{from_later, live_from}
@@ -14,7 +14,7 @@ use Rattle.window.proofs.Chunked.{put_is, put_parted, put_sifted, put_within, pu
 use Rattle.window.proofs.Standing.{AreKept, runs_by, planned_kept}
 
 -- a plan of one chunk: whole is the chunk with the span, and fresh is it without the runs below the floor
-pub one_made : (w : Timeline) (span : Span) (c whole fresh : Chunk) (count own end before : ℕ) → span.first ≤ span.last → span.last ≤ w.clock → span.object < 2 ^ 64 → w.runs ≡ flat w.chunks → IsSound w.clock w.floor end before w.chunks
+pub one_made : (w : Timeline) (span : Span) (c whole fresh : Chunk) (count own end before : ℕ) → span.first ≤ span.last → span.last ≤ w.clock → span.object < 2 ^ 64 → w.runs ≡ flat w.chunks → AreSoundChunks w.clock w.floor end before w.chunks
     → holder span.object w.chunks ≡ Some c → whole.up_to ≡ c.up_to → whole.runs.items ≡ with_span span c.runs.items → fresh.up_to ≡ c.up_to → fresh.runs.items ≡ filter (is_live w.floor) whole.runs.items → AllEndFrom fresh.earliest fresh.runs.items
     → count ≡ (before - length c.runs.items) + length fresh.runs.items → own ≡ count_by (is_live_in w.floor span.object) fresh.runs.items → IsMade w (record { span = span; fresh = One fresh; count = count; own = own })
 one_made w span c whole fresh count own end before ordered past numbered runs sound h top is up sifted dated counted of_list =
@@ -70,11 +70,11 @@ from_either floor end last (run ∷ runs) a b =
     (omega arith, from_either floor end last runs a.1 b.1)
 
 -- what a window keeps when a plan is carried out
-pub sound_by : (w : Timeline) (plan : Plan) (chunks : List Chunk) (end before later : ℕ) → chunks ≡ chunks_by w plan → later ≡ min end (max w.floor plan.span.last) → IsPlanned w plan → w.runs ≡ flat w.chunks → IsSound w.clock w.floor end before w.chunks
-    → IsSound w.clock w.floor later plan.count chunks
+pub sound_by : (w : Timeline) (plan : Plan) (chunks : List Chunk) (end before later : ℕ) → chunks ≡ chunks_by w plan → later ≡ min end (max w.floor plan.span.last) → IsPlanned w plan → w.runs ≡ flat w.chunks → AreSoundChunks w.clock w.floor end before w.chunks
+    → AreSoundChunks w.clock w.floor later plan.count chunks
 sound_by w plan chunks end before later is sooner planned runs sound =
     let made : IsMade w plan = planned.made in
-    let P : List Chunk → Type 0 = λ xs. IsSound w.clock w.floor later plan.count xs in
+    let P : List Chunk → Type 0 = λ xs. AreSoundChunks w.clock w.floor later plan.count xs in
     let Q : List Span → Type 0 = λ xs. Ascend xs × AllByRecursion (λ run. run.last ≤ w.clock) xs × AllNumbered xs × AllEndFrom end xs in
     let facts : Q w.runs = subst Q (sym runs) (sound.0, sound.1, sound.2, sound.6) in
     let kept = planned_kept w plan made (facts.0, facts.1) facts.2 in

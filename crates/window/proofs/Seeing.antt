@@ -5,14 +5,14 @@ use Rattle.std.proofs.lemmas.Bool.{or_parts, or_from}
 use Rattle.s4_types.specs.declared.spans.Span.{Span}
 use Rattle.s4_model.specs.State.{State}
 use Rattle.s4_model.specs.Visible.{IsSeenBetween}
-use Rattle.window.specs.Runs.{covers, is_of, IsLeft}
+use Rattle.window.specs.Runs.{covers, span_is_of, IsLeft}
 use Rattle.window.specs.Timeline.{Timeline, StandsFor}
 use Rattle.window.proofs.Lists.{cover_of}
 use Rattle.window.proofs.Standing.{hidden_is}
 
 -- a moment that is left of the lists of all objects and of one
 abbrev pub IsLeftOf : Timeline → ℕ → ℕ → ℕ → Type 0
-IsLeftOf w o first last = IsLeft (filter (is_of 0) w.runs) (filter (is_of o) w.runs) (max first w.floor) (min last w.clock)
+IsLeftOf w o first last = IsLeft (filter (span_is_of 0) w.runs) (filter (span_is_of o) w.runs) (max first w.floor) (min last w.clock)
 
 pub seen_where_left : (w : Timeline) (s : State) (o first last : ℕ) → StandsFor w s → IsLeftOf w o first last → IsSeenBetween s o first last
 seen_where_left w s o first last stands left =
@@ -64,10 +64,10 @@ answered w s o first last false stands none = λ seen. none (left_where_seen w s
 
 -- what the walk through the two lists answers
 pub seen_is : (w : Timeline) (s : State) (o first last from to nought : ℕ) (runs all own : List Span) (b : Bool) → StandsFor w s
-    → from ≡ max first w.floor → to ≡ min last w.clock → nought ≡ 0 → runs ≡ w.runs → all ≡ filter (is_of nought) runs → own ≡ filter (is_of o) runs
+    → from ≡ max first w.floor → to ≡ min last w.clock → nought ≡ 0 → runs ≡ w.runs → all ≡ filter (span_is_of nought) runs → own ≡ filter (span_is_of o) runs
     → MatchBool b (IsLeft all own from to) (IsLeft all own from to → ⊥) → MatchBool b (IsSeenBetween s o first last) (IsSeenBetween s o first last → ⊥)
 seen_is w s o first last from to nought runs all own b stands f t z r a e walked =
-    let in_all : all ≡ filter (is_of 0) w.runs = a ∙ ap (λ n. filter (is_of n) runs) z ∙ ap (λ xs. filter (is_of 0) xs) r in
-    let in_own : own ≡ filter (is_of o) w.runs = e ∙ ap (λ xs. filter (is_of o) xs) r in
+    let in_all : all ≡ filter (span_is_of 0) w.runs = a ∙ ap (λ n. filter (span_is_of n) runs) z ∙ ap (λ xs. filter (span_is_of 0) xs) r in
+    let in_own : own ≡ filter (span_is_of o) w.runs = e ∙ ap (λ xs. filter (span_is_of o) xs) r in
     let P : List Span → List Span → ℕ → ℕ → Type 0 = λ x y m n. MatchBool b (IsLeft x y m n) (IsLeft x y m n → ⊥) in
-    answered w s o first last b stands (subst (λ x. P x (filter (is_of o) w.runs) (max first w.floor) (min last w.clock)) in_all (subst (λ y. P all y (max first w.floor) (min last w.clock)) in_own (subst (λ m. P all own m (min last w.clock)) f (subst (λ n. P all own from n) t walked))))
+    answered w s o first last b stands (subst (λ x. P x (filter (span_is_of o) w.runs) (max first w.floor) (min last w.clock)) in_all (subst (λ y. P all y (max first w.floor) (min last w.clock)) in_own (subst (λ m. P all own m (min last w.clock)) f (subst (λ n. P all own from n) t walked))))

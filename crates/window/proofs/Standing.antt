@@ -17,11 +17,12 @@ use Rattle.s4_model.specs.Visible.{is_hidden, span_by, span_of, spans_of}
 use Rattle.s4_model.specs.Runs.{is_covered, run_count, run_count_of_all}
 use Rattle.s4_model.specs.Refusals.{is_one_span_too_many}
 use Rattle.s4_model.specs.Sound.{IsOfGiven}
-use Rattle.window.specs.Runs.{covers, Ascend, AllEndBy, with_span, is_live, is_live_in}
+use Rattle.window.specs.Runs.{covers, Ascend, with_span, is_live, is_live_in}
 use Rattle.window.specs.declared.chunks.Chunk.{Chunk}
 use Rattle.window.specs.Chunks.{flat, AllNumbered}
 use Rattle.window.specs.Timeline.{Timeline, CoverAlike, StandsFor, Plan, chunks_by, IsMade, HasMoved}
 use Rattle.s4_model.specs.Effect.{is_of_versions}
+use Rattle.s4_model.specs.RunCounting.{AllEndBy}
 use Rattle.window.proofs.Ordering.{Ascend-with_span, Ascend-filter, all_with_span, all_filter}
 use Rattle.window.proofs.Covering.{covers_with_span, covers_live, covers_push, hides_either}
 use Rattle.window.proofs.Live.{live_twice, count_live_in}

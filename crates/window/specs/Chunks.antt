@@ -2,8 +2,9 @@
 use Rattle.std.specs.Prelude.{◌≡◌, ℕ, ◌+◌, ◌-◌, ◌<◌, ◌≤◌, ◌^◌, nat_lt, false, Bool, min, filter, if◌then◌else◌, List, [], ◌∷◌, ◌++◌, length, Option, None, Some}
 use Rattle.std.specs.List.{AllByRecursion}
 use Rattle.s4_types.specs.declared.spans.Span.{Span}
-use Rattle.window.specs.Runs.{Ascend, AllEndBy, AllEndFrom, is_live}
+use Rattle.window.specs.Runs.{Ascend, AllEndFrom, is_live}
 use Rattle.s4_types.specs.declared.limits.TheConstants.{RUNS_IN_ALL}
+use Rattle.s4_model.specs.RunCounting.{AllEndBy}
 use Rattle.window.specs.declared.chunks.Chunk.{Chunk}
 use Rattle.window.specs.declared.chunks.Fresh.{Fresh}
 use Rattle.window.specs.declared.chunks.Fresh.TheVariants.{One, All}
@@ -68,8 +69,8 @@ is_longer most (All all) = false
 
 -- The runs of chunks are in order, past, numbered and live, each in the chunk of its list, and those of none ends
 -- before what its chunk tells or before an earliest end of all; a count says how many there are, which is not too many.
-abbrev pub IsSound : ℕ → ℕ → ℕ → ℕ → List Chunk → Type 0
-IsSound clock floor end count chunks =
+abbrev pub AreSoundChunks : ℕ → ℕ → ℕ → ℕ → List Chunk → Type 0
+AreSoundChunks clock floor end count chunks =
     Ascend (flat chunks) × AllEndBy clock (flat chunks) × AllNumbered (flat chunks) × Parted 0 chunks × AllDated chunks × AllEndFrom floor (flat chunks) × AllEndFrom end (flat chunks)
     × (count ≡ length (flat chunks)) × (count ≤ RUNS_IN_ALL)
 

@@ -21,10 +21,6 @@ abbrev pub Ascend : List Span → Type 0
 Ascend [] = Unit {0}
 Ascend (x ∷ runs) = (x.first ≤ x.last) × IsBeforeAll x runs × Ascend runs
 
--- no run ends after the clock
-abbrev pub AllEndBy : ℕ → List Span → Type 0
-AllEndBy clock runs = AllByRecursion (λ run. run.last ≤ clock) runs
-
 -- no run ends before a moment
 abbrev pub AllEndFrom : ℕ → List Span → Type 0
 AllEndFrom from runs = AllByRecursion (λ run. from ≤ run.last) runs
@@ -35,14 +31,14 @@ earliest [] = 2 ^ 64 - 1
 earliest (run ∷ runs) = min run.last (earliest runs)
 
 -- the one run that two make which overlap or touch
-abbrev pub joined : Span → Span → Span
-joined x y = record { object = x.object; first = min x.first y.first; last = max x.last y.last }
+abbrev pub joined_span : Span → Span → Span
+joined_span x y = record { object = x.object; first = min x.first y.first; last = max x.last y.last }
 
 -- runs in order with one more span, which is joined with those that it overlaps or touches
 abbrev pub with_span : Span → List Span → List Span
 with_span span [] = span ∷ []
 with_span span (run ∷ runs) =
-    if is_before run span then run ∷ with_span span runs else (if is_before span run then span ∷ run ∷ runs else with_span (joined span run) runs)
+    if is_before run span then run ∷ with_span span runs else (if is_before span run then span ∷ run ∷ runs else with_span (joined_span span run) runs)
 
 -- a run reaches up to the floor at least
 abbrev pub is_live : ℕ → Span → Bool
@@ -53,8 +49,8 @@ abbrev pub is_live_in : ℕ → ℕ → Span → Bool
 is_live_in floor list run = run.object == list && nat_le floor run.last
 
 -- whether a run is of this list
-abbrev pub is_of : ℕ → Span → Bool
-is_of list run = run.object == list
+abbrev pub span_is_of : ℕ → Span → Bool
+span_is_of list run = run.object == list
 
 -- whether some of these runs, of whatever list, has the moment in it
 abbrev pub cover : List Span → ℕ → Bool

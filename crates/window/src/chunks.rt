@@ -2,7 +2,7 @@
 ghost use Rattle.std.specs.Prelude.{◌≡◌, ℕ, ◌==◌, ◌≤◌, None, Some, nat_lt, nat_le, true, false, filter, IfOk, IfErr, IfSome, MatchOption, length};
 ghost use Rattle.std.specs.List.{list_any};
 ghost use Rattle.std.specs.List.Sorted.{IsPartitionPoint};
-ghost use Rattle.window.specs.Runs.{Ascend, AllEndFrom, is_of, covers};
+ghost use Rattle.window.specs.Runs.{Ascend, AllEndFrom, span_is_of, covers};
 ghost use Rattle.s4_types.specs.declared.limits.TheConstants.{RUNS_IN_ALL};
 ghost use Rattle.window.specs.Chunks.{flat, Parted, AllNumbered, AllDated, told, IsSifted, AllSifted, is_longer, IsCutOff, holder, put, renewed};
 ghost use Rattle.s4_types.specs.declared.refusals.Refusal.TheVariants.{NoMemory};
@@ -66,7 +66,7 @@ pub fn holder(chunks: &[Chunk], list: ObjectId) -> Option<&Chunk>
 pub fn of_list(chunks: &[Chunk], list: ObjectId) -> &[Span]
     requires parted { Parted 0 chunks.now }
     requires ordered { Ascend (flat chunks.now) }
-    ensures { result.now ≡ filter (is_of list) (flat chunks.now) }
+    ensures { result.now ≡ filter (span_is_of list) (flat chunks.now) }
 {
     match holder(chunks, list) {
         Some(chunk) => runs::of_list(chunk.runs.as_slice(), list),

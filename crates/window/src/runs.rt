@@ -1,7 +1,7 @@
 //! Runs of hidden moments in order, of all lists in one slice.
 ghost use Rattle.std.specs.Prelude.{◌≡◌, ℕ, ◌==◌, ◌≤◌, ◌||◌, nat_le, nat_lt, count_by, false, ◌∷◌, filter, IfOk, IfErr, MatchBool, MatchOption};
 ghost use Rattle.s4_model.specs.Visible.{is_within};
-ghost use Rattle.window.specs.Runs.{is_before, Ascend, joined, with_span, is_live, is_live_in, earliest, is_of, cover, BeginInOrder, IsLeft};
+ghost use Rattle.window.specs.Runs.{is_before, Ascend, joined_span, with_span, is_live, is_live_in, earliest, span_is_of, cover, BeginInOrder, IsLeft};
 ghost use Rattle.s4_types.specs.declared.refusals.Refusal.TheVariants.{NoMemory};
 
 use s4_types::{Moment, ObjectId, Refusal, Span};
@@ -18,7 +18,7 @@ fn is_before(x: &Span, y: &Span) -> bool
 
 /// The one run that two make.
 fn joined(x: &Span, y: &Span) -> Span
-    ensures { result ≡ joined x.now y.now }
+    ensures { result ≡ joined_span x.now y.now }
 {
     let first = x.first.number().min(y.first.number());
     let last = x.last.number().max(y.last.number());
@@ -108,7 +108,7 @@ fn up_to_list(runs: &[Span], list: ObjectId) -> &[Span]
 /// The runs of one list, which stand together. Logarithmic in the runs.
 pub fn of_list(runs: &[Span], list: ObjectId) -> &[Span]
     requires { Ascend runs.now }
-    ensures { result.now ≡ filter (is_of list) runs.now }
+    ensures { result.now ≡ filter (span_is_of list) runs.now }
 {
     up_to_list(from_list(runs, list), list)
 }

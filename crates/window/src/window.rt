@@ -38,13 +38,13 @@ pub struct Window {
 
 impl Model for Window {
     ghost use Rattle.window.specs.Timeline.{Timeline};
-    ghost use Rattle.window.specs.Chunks.{flat, IsSound};
+    ghost use Rattle.window.specs.Chunks.{flat, AreSoundChunks};
 
     ghost Value = { Timeline };
 
     ghost view = { λ w. record { clock = w.clock; window = w.window; floor = w.floor; runs = flat w.chunks.items; chunks = w.chunks.items } };
 
-    ghost invariant = { λ w. IsSound w.clock w.floor w.earliest w.count w.chunks.items };
+    ghost invariant = { λ w. AreSoundChunks w.clock w.floor w.earliest w.count w.chunks.items };
 }
 
 /// A span that may be hidden, with the runs that it makes: [`Window::plan_flush`] gives it, and
@@ -337,6 +337,3 @@ impl Window {
         }
     }
 }
-
-#[cfg(test)]
-mod tests;

@@ -105,6 +105,25 @@ fn a_block_is_filled_to_its_last_byte(rt: HostRuntime) -> Result<(), Fail> {
     Ok(())
 }
 
+/// A block of as many of the shortest entries as fit, at most twenty.
+fn packed() -> Option<JournalBytes> {
+    let least = Entry::default();
+    let mut journal = JournalBytes::new(ObjectId::new(7), Ptr::new(0, 2, 1), &least)?;
+    for _ in 0..19u8 {
+        if journal.fits(&least) {
+            journal.add(&least);
+        }
+    }
+    Some(journal)
+}
+
+#[test]
+fn fourteen_of_the_shortest_fit(rt: HostRuntime) -> Result<(), Fail> {
+    let journal = packed().ok_or("a block")?;
+    assert!(rt; journal.entry_bytes() == 476 && journal.as_bytes()[1] == 14);
+    Ok(())
+}
+
 #[test]
 fn no_block_is_of_object_0(rt: HostRuntime) {
     assert!(rt; JournalBytes::new(ObjectId::new(0), None, &Entry::default()).is_none());

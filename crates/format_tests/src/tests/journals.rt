@@ -1,4 +1,5 @@
 //! Journal blocks, and records with one byte changed.
+use crate::tests::readings::{FOURTEEN, LONGEST, Shape, THREE, entries_of};
 use crate::tests::records::{MADE, POINTER, WRITTEN, checkpoint_bytes};
 use codec::{
     Entries, Entry, JournalBlock, Writing, decode_checkpoint, decode_entry, decode_journal,
@@ -22,72 +23,65 @@ fn journal_bytes() -> [u8; 512] {
     block
 }
 
-fn made() -> Option<Entry> {
-    decode_entry(&MADE).map(|x| x.0)
+/// Both entries.
+fn both() -> Option<Entries> {
+    let (made, _) = decode_entry(&MADE)?;
+    let (written, _) = decode_entry(&WRITTEN)?;
+    let mut entries = Entries::new();
+    entries.push(made);
+    entries.push(written);
+    Some(entries)
 }
 
-fn written() -> Option<Entry> {
-    decode_entry(&WRITTEN).map(|x| x.0)
-}
-
-/// A journal block with one entry more, where it fits.
-fn with(mut journal: JournalBlock, entry: Entry) -> Option<JournalBlock> {
-    if !journal.fits(&entry) {
-        return None;
-    }
-    journal.add(entry);
-    Some(journal)
-}
-
-/// The journal block of both entries.
-fn journal() -> Option<JournalBlock> {
-    with(
-        JournalBlock::new(ObjectId::new(1), None, made()?)?,
-        written()?,
-    )
+/// Whether a journal block of object 1, which has no earlier one, has these entries, of 34 and 51 bytes.
+fn is_told(read: &JournalBlock, both: &[Entry]) -> bool {
+    let are_sized = match read.entries() {
+        [made, written] => made.byte_count() == 34 && written.byte_count() == 51,
+        _ => false,
+    };
+    are_sized
+        && read.entries() == both
+        && read.object() == ObjectId::new(1)
+        && read.previous().is_none()
 }
 
 #[test]
-fn a_journal_block_is_encoded(rt: HostRuntime) -> Result<(), Fail> {
-    let journal = journal().ok_or("a block")?;
-    assert!(rt; journal.entry_bytes() == 85);
-    assert!(rt; encode_journal(&journal).as_slice() == journal_bytes().as_slice());
-    Ok(())
-}
-
-fn is_told(read: &JournalBlock) -> bool {
-    read.object() == ObjectId::new(1) && read.previous().is_none() && read.entry_bytes() == 85
-}
-
-fn are_both(entries: &Entries) -> bool {
-    entries.len() == 2 && entries.get(0) == made().as_ref() && entries.get(1) == written().as_ref()
-}
-
-#[test]
-fn a_journal_block_is_decoded(rt: HostRuntime) -> Result<(), Fail> {
+fn a_journal_block_is_spelled_and_read(rt: HostRuntime) -> Result<(), Fail> {
+    let entries = both().ok_or("entries")?;
     let read = decode_journal(&journal_bytes()).ok_or("read")?;
-    assert!(rt; is_told(&read));
-    assert!(rt; are_both(&read.into_entries()));
+    assert!(rt; is_told(&read, entries.as_slice()));
+    let made = JournalBlock::new(ObjectId::new(1), None, entries).ok_or("a block")?;
+    assert!(rt; encode_journal(&made).as_slice() == journal_bytes().as_slice());
     Ok(())
 }
+
+/// An object's number, entries, and whether they can be a journal block: 493 bytes are too many.
+static RULES: [(u64, &[Shape], bool); 6] = [
+    (0, &LONGEST, false),
+    (1, &[], false),
+    (1, &LONGEST, true),
+    (1, &FOURTEEN, true),
+    (1, &THREE, true),
+    (1, &[(1, false, 13), (2, false, 12)], false),
+];
 
 #[test]
-fn number_0_is_no_object(rt: HostRuntime) -> Result<(), Fail> {
-    let journal = JournalBlock::new(ObjectId::new(0), None, Entry::default());
-    assert!(rt; journal.is_none());
+fn rules_of_a_journal_block(rt: HostRuntime) -> Result<(), Fail> {
+    for (object, shapes, is_kept) in RULES {
+        let entries = entries_of(shapes).ok_or("entries")?;
+        let made = JournalBlock::new(ObjectId::new(object), None, entries);
+        assert!(rt; made.is_some() == is_kept);
+    }
     Ok(())
 }
 
-/// A block of as many of the shortest entries as fit, at most twenty.
-fn filled() -> Option<JournalBlock> {
-    let mut journal = JournalBlock::new(ObjectId::new(7), Ptr::new(0, 2, 1), Entry::default())?;
-    for _ in 0..19u8 {
-        let next = Entry::default();
-        if journal.fits(&next) {
-            journal.add(next);
-        }
+/// Fourteen of the shortest entries.
+fn filled() -> Entries {
+    let mut entries = Entries::new();
+    for _ in 0..14 {
+        entries.try_push(Entry::default()).ok();
     }
-    Some(journal)
+    entries
 }
 
 /// Whether the block begins as one of fourteen entries of object 7 does, behind another block.
@@ -98,9 +92,10 @@ fn begins_filled(block: &[u8; 512]) -> bool {
 /// Fourteen of the shortest entries have 476 bytes.
 #[test]
 fn fourteen_entries_fill_a_block(rt: HostRuntime) -> Result<(), Fail> {
-    let journal = filled().ok_or("a block")?;
-    assert!(rt; journal.entries().len() == 14 && journal.entry_bytes() == 476);
-    assert!(rt; begins_filled(&encode_journal(&journal)));
+    let journal = JournalBlock::new(ObjectId::new(7), Ptr::new(0, 2, 1), filled()).ok_or(
+        "a block",
+    )?;
+    assert!(rt; journal.entries().len() == 14 && begins_filled(&encode_journal(&journal)));
     Ok(())
 }
 
@@ -197,48 +192,33 @@ fn count_taken(rt: &impl Abort, kind: Kind, record: &[u8], first: usize, end: us
     taken
 }
 
-/// A record, which of its bytes are changed, and how many changes of one byte are taken. That was counted from the tables of
-/// the format alone: of a pointer the frame may be any other, the block one of fourteen, and so on.
-type Counted = (Kind, usize, usize, u64);
+/// Which bytes of a record are changed, and how many changes of one byte are taken. That was counted from the tables of the
+/// format alone: of a pointer the frame may be any other, the block one of fourteen, and so on.
+type Counted = (usize, usize, u64);
 
-fn is_counted(rt: &impl Abort, record: &[u8], counted: Counted) -> bool {
-    let (kind, first, end, taken) = counted;
-    count_taken(rt, kind, record, first, end) == taken
+fn check_counted(rt: &impl Abort, kind: Kind, record: &[u8], rows: &[Counted]) {
+    for (first, end, taken) in rows {
+        assert!(rt; count_taken(rt, kind, record, *first, *end) == *taken);
+    }
 }
 
 #[test]
 fn every_byte_of_a_pointer_and_of_entries(rt: HostRuntime) {
-    assert!(rt; is_counted(&rt, &POINTER, (Kind::Pointer, 0, 8, 1543)));
-    assert!(rt; is_counted(&rt, &MADE, (Kind::Entry, 0, 34, 352)));
-    assert!(rt; is_counted(&rt, &WRITTEN, (Kind::Entry, 0, 51, 4332)));
+    check_counted(&rt, Kind::Pointer, &POINTER, &[(0, 8, 1543)]);
+    check_counted(&rt, Kind::Entry, &MADE, &[(0, 34, 352)]);
+    check_counted(&rt, Kind::Entry, &WRITTEN, &[(0, 51, 4332)]);
 }
 
+/// The fields, and the pointers but for the first.
 #[test]
-fn every_byte_of_a_checkpoints_fields(rt: HostRuntime) {
-    assert!(rt; is_counted(&rt, &checkpoint_bytes(), (Kind::Checkpoint, 0, 112, 10_622)));
+fn every_byte_of_a_checkpoint(rt: HostRuntime) {
+    let rows = [(0, 112, 10_622), (112, 512, 0)];
+    check_counted(&rt, Kind::Checkpoint, &checkpoint_bytes(), &rows);
 }
 
+/// The head and the entries, and what stands behind them.
 #[test]
-fn every_byte_of_a_checkpoints_other_pointers(rt: HostRuntime) {
-    assert!(rt; is_counted(&rt, &checkpoint_bytes(), (Kind::Checkpoint, 112, 320, 0)));
-}
-
-#[test]
-fn every_byte_of_a_checkpoints_last_pointers(rt: HostRuntime) {
-    assert!(rt; is_counted(&rt, &checkpoint_bytes(), (Kind::Checkpoint, 320, 512, 0)));
-}
-
-#[test]
-fn every_byte_of_a_journal_blocks_header_and_entries(rt: HostRuntime) {
-    assert!(rt; is_counted(&rt, &journal_bytes(), (Kind::Journal, 0, 109, 6722)));
-}
-
-#[test]
-fn every_byte_behind_the_entries_of_a_journal_block(rt: HostRuntime) {
-    assert!(rt; is_counted(&rt, &journal_bytes(), (Kind::Journal, 109, 300, 0)));
-}
-
-#[test]
-fn every_later_byte_behind_the_entries_of_a_journal_block(rt: HostRuntime) {
-    assert!(rt; is_counted(&rt, &journal_bytes(), (Kind::Journal, 300, 512, 0)));
+fn every_byte_of_a_journal_block(rt: HostRuntime) {
+    let rows = [(0, 109, 6722), (109, 512, 0)];
+    check_counted(&rt, Kind::Journal, &journal_bytes(), &rows);
 }

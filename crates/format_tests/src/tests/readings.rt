@@ -1,85 +1,97 @@
 //! Journal blocks that are read from their last entry to their first.
-use codec::{
-    Attribute, Entry, EntryReader, JournalBlock, Pair, Status, Triple, Triples, encode_journal,
-};
+use codec::{Attribute, Entries, Entry, EntryReader, JournalBytes, Pair, Status, Triple, Triples};
 use s4_types::{Moment, ObjectId, Ptr};
 use std::process::Abort;
 use std::test::Fail;
 
-/// An entry of an object that was alive, and is.
-fn entry_of(moment: u64, pair: Option<Pair>, triples: Triples) -> Option<Entry> {
-    let before = Status {
+/// An entry's moment, whether its attribute changed, from 64 bytes to 64 others, and how many pointers changed. So it has 34
+/// bytes, 130 more with attributes, and 17 more for each pointer.
+pub(super) type Shape = (u64, bool, u8);
+
+/// Fourteen of the shortest entries.
+pub(super) const FOURTEEN: [Shape; 14] = [
+    (1, false, 0),
+    (2, false, 0),
+    (3, false, 0),
+    (4, false, 0),
+    (5, false, 0),
+    (6, false, 0),
+    (7, false, 0),
+    (8, false, 0),
+    (9, false, 0),
+    (10, false, 0),
+    (11, false, 0),
+    (12, false, 0),
+    (13, false, 0),
+    (14, false, 0),
+];
+
+/// Entries of 34, 164 and 289 bytes.
+pub(super) const THREE: [Shape; 3] = [(1, false, 0), (2, true, 0), (3, false, 15)];
+
+/// The longest entry.
+pub(super) const LONGEST: [Shape; 1] = [(5, true, 16)];
+
+fn status(size: u32, changed: u64) -> Status {
+    Status {
         alive: true,
-        size: 1,
-        changed: Moment::new(1),
-    };
-    let after = Status {
-        alive: true,
-        size: 2,
-        changed: Moment::new(moment),
-    };
-    Entry::new(Moment::new(moment), before, after, pair, triples)
+        size,
+        changed: Moment::new(changed),
+    }
 }
 
-/// An entry of 34 bytes.
-fn shortest(moment: u64) -> Option<Entry> {
-    entry_of(moment, None, Triples::new())
-}
-
-/// Two attributes, of 130 bytes in an entry.
-fn pair() -> Option<Pair> {
+/// Both attributes, where they changed.
+fn pair_of(is_changed: bool) -> Option<Pair> {
+    if !is_changed {
+        return None;
+    }
     Some(Pair {
         before: Attribute::new(&[1; 64])?,
         after: Attribute::new(&[2; 64])?,
     })
 }
 
-/// So many triples, of 17 bytes each, but 16 at most.
-fn triples(count: u8) -> Triples {
+/// So many triples, but 16 at most.
+fn triples_of(count: u8) -> Triples {
     let mut triples = Triples::new();
     for index in 0..count {
+        let after = Ptr::new(9, 1, 5);
         let _ = triples.try_push(Triple {
             index,
             before: None,
-            after: Ptr::new(9, 1, 5),
+            after,
         });
     }
     triples
 }
 
-/// An entry of 164 bytes.
-fn renamed(moment: u64) -> Option<Entry> {
-    entry_of(moment, Some(pair()?), Triples::new())
+/// An entry of an object that was alive, and is.
+fn entry_of(shape: Shape) -> Option<Entry> {
+    let (moment, is_renamed, count) = shape;
+    Entry::new(
+        Moment::new(moment),
+        status(1, 1),
+        status(2, moment),
+        pair_of(is_renamed),
+        triples_of(count),
+    )
 }
 
-/// An entry of 34 bytes and 17 for each triple.
-fn moved(moment: u64, count: u8) -> Option<Entry> {
-    entry_of(moment, None, triples(count))
-}
-
-/// The longest entry, of 436 bytes.
-fn longest() -> Option<Entry> {
-    entry_of(5, Some(pair()?), triples(16))
-}
-
-fn begun(entry: Entry) -> Option<JournalBlock> {
-    JournalBlock::new(ObjectId::new(7), Ptr::new(3, 2, 1), entry)
-}
-
-/// A journal block with one entry more, where it fits.
-fn with(mut journal: JournalBlock, entry: Entry) -> Option<JournalBlock> {
-    if !journal.fits(&entry) {
-        return None;
+/// Entries of these shapes, where there are no more than fourteen.
+pub(super) fn entries_of(shapes: &[Shape]) -> Option<Entries> {
+    let mut entries = Entries::new();
+    for shape in shapes {
+        entries.try_push(entry_of(*shape)?).ok()?;
     }
-    journal.add(entry);
-    Some(journal)
+    Some(entries)
 }
 
-fn fourteen() -> Option<JournalBlock> {
-    let mut journal = begun(shortest(1)?)?;
-    for moment in 2..15 {
-        let entry = shortest(moment)?;
-        if !journal.fits(&entry) {
+/// The journal block of these entries, where all fit.
+fn journal_of(entries: &[Entry]) -> Option<JournalBytes> {
+    let (first, others) = entries.split_first()?;
+    let mut journal = JournalBytes::new(ObjectId::new(7), Ptr::new(3, 2, 1), first)?;
+    for entry in others {
+        if !journal.fits(entry) {
             return None;
         }
         journal.add(entry);
@@ -87,54 +99,38 @@ fn fourteen() -> Option<JournalBlock> {
     Some(journal)
 }
 
-/// Three entries of 487 bytes together.
-fn three() -> Option<JournalBlock> {
-    with(with(begun(shortest(1)?)?, renamed(2)?)?, moved(3, 15)?)
-}
-
-#[test]
-fn fourteen_entries_are_given_from_the_last(rt: HostRuntime) -> Result<(), Fail> {
-    let journal = fourteen().ok_or("a block")?;
-    let mut reader = EntryReader::new(encode_journal(&journal));
-    assert!(rt; reader.object() == ObjectId::new(7));
-    assert!(rt; reader.previous() == Ptr::new(3, 2, 1));
-    for given in 0..14 {
-        assert!(rt; !reader.is_empty());
-        assert!(rt; reader.pop() == shortest(14 - given));
+/// Whether a reader gives these entries from the last to the first, and nothing more.
+fn gives(reader: &mut EntryReader, entries: &[Entry]) -> bool {
+    for entry in entries.iter().rev() {
+        let is_empty = reader.is_empty();
+        match reader.pop() {
+            Some(given) if !is_empty && given == *entry => {}
+            _ => return false,
+        }
     }
-    assert!(rt; reader.is_empty());
-    assert!(rt; reader.pop().is_none());
+    reader.is_empty() && reader.pop().is_none()
+}
+
+/// Looks at a block of these entries, which have so many bytes together.
+fn check_given(rt: &impl Abort, shapes: &[Shape], bytes: usize) -> Result<(), Fail> {
+    let entries = entries_of(shapes).ok_or("entries")?;
+    let journal = journal_of(entries.as_slice()).ok_or("a block")?;
+    let mut reader = EntryReader::new(*journal.as_bytes());
+    assert!(rt; journal.entry_bytes() == bytes && reader.previous() == Ptr::new(3, 2, 1));
+    assert!(rt; gives(&mut reader, entries.as_slice()));
     Ok(())
 }
 
 #[test]
-fn entries_of_each_length_are_given(rt: HostRuntime) -> Result<(), Fail> {
-    let journal = three().ok_or("a block")?;
-    assert!(rt; journal.entry_bytes() == 487);
-    let mut reader = EntryReader::new(encode_journal(&journal));
-    assert!(rt; reader.pop() == moved(3, 15));
-    assert!(rt; reader.pop() == renamed(2));
-    assert!(rt; reader.pop() == shortest(1));
-    assert!(rt; reader.pop().is_none());
+fn entries_are_given_from_the_last(rt: HostRuntime) -> Result<(), Fail> {
+    for (shapes, bytes) in [(FOURTEEN.as_slice(), 476), (&THREE, 487), (&LONGEST, 436)] {
+        check_given(&rt, shapes, bytes)?;
+    }
     Ok(())
 }
 
 #[test]
-fn the_longest_entry_is_given(rt: HostRuntime) -> Result<(), Fail> {
-    let entry = longest().ok_or("an entry")?;
-    assert!(rt; entry.byte_count() == 436);
-    let journal = begun(entry).ok_or("a block")?;
-    let mut reader = EntryReader::new(encode_journal(&journal));
-    assert!(rt; reader.pop() == longest());
-    assert!(rt; reader.is_empty());
-    Ok(())
-}
-
-#[test]
-fn an_empty_reader_gives_nothing(rt: HostRuntime) -> Result<(), Fail> {
+fn an_empty_reader_gives_nothing(rt: HostRuntime) {
     let mut reader = EntryReader::empty();
-    assert!(rt; reader.is_empty());
-    assert!(rt; reader.previous().is_none());
-    assert!(rt; reader.pop().is_none());
-    Ok(())
+    assert!(rt; reader.previous().is_none() && gives(&mut reader, &[]));
 }

@@ -46,12 +46,17 @@ fn three_parts() -> Parts {
     parts
 }
 
+/// The head of a summary of them, and the three parts.
+const THREE: [u8; 43] = [
+    0x53, 0x34, 0x73, 0x67, 0, 0, 3, 0, 0, 0, 0, 1, 0, 0, 0, 0, // the head
+    1, 0, 0, 0, 0, 0, 0, 0, 1, // journal
+    3, 0, 0, 0, 0, 0, 0, 0, 1, // data
+    1, 0, 0, 0, 0, 0, 0, 0, 1, // journal
+];
+
 fn three_block() -> Block {
     let mut block = [0; 512];
-    block[..16].copy_from_slice(&[0x53, 0x34, 0x73, 0x67, 0, 0, 3, 0, 0, 0, 0, 1, 0, 0, 0, 0]);
-    block[16..25].copy_from_slice(&[1, 0, 0, 0, 0, 0, 0, 0, 1]);
-    block[25..34].copy_from_slice(&[3, 0, 0, 0, 0, 0, 0, 0, 1]);
-    block[34..43].copy_from_slice(&[1, 0, 0, 0, 0, 0, 0, 0, 1]);
+    block[..43].copy_from_slice(&THREE);
     block[480..].copy_from_slice(&DIGEST);
     block
 }

@@ -1,5 +1,5 @@
 //! Spellings of requests and replies, and what a reader makes of a stream cut anywhere.
-ghost use Rattle.std.specs.Prelude.{◌≡◌, ◌<◌, IfOk};
+ghost use Rattle.std.specs.Prelude.{◌<◌, ◌≤◌, length, IfOk};
 ghost use Rattle.rpc.specs.Spelling.{RequestFits};
 ghost use Rattle.s4_types.specs.Sizes.{ReplyFits};
 
@@ -34,9 +34,13 @@ static STREAM: [u8; 223] = [
 /// Where the frames of the stream end.
 static ENDS: [usize; 13] = [8, 21, 55, 78, 94, 115, 129, 144, 157, 161, 182, 194, 223];
 
+/// A short text: 64 bytes at most.
 fn text(alloc: Global, bytes: &[u8]) -> Result<Bytes, Fail>
-    ensures { IfOk result (λ made. made ≡ bytes.now) }
+    ensures { IfOk result (λ made. length made ≤ 64) }
 {
+    if bytes.len() > 64 {
+        return Err(Fail::from("a long text"));
+    }
     Ok(Bytes::from_slice(alloc, bytes)?)
 }
 
@@ -71,120 +75,203 @@ const OBJECT: u64 = 0x0102_0304_0506_0708;
 
 const MOMENT: u64 = 0x0a0b;
 
-#[test]
-fn requests_with_bytes(rt: HostRuntime) -> Result<(), Fail> {
-    let object = ObjectId::new(OBJECT);
-    let create = Request::Create {
-        attribute: text(rt.alloc(), b"ab")?,
-    };
-    spells_request(&rt, rt.alloc(), create, &[1, 2, 0x61, 0x62])?;
-    let write = Request::Write {
-        object,
-        offset: 5,
-        bytes: text(rt.alloc(), b"abc")?,
-    };
-    let body = [
-        4, 1, 2, 3, 4, 5, 6, 7, 8, 0, 0, 0, 0, 0, 0, 0, 5, 0x61, 0x62, 0x63,
-    ];
-    spells_request(&rt, rt.alloc(), write, &body)?;
-    let append = Request::Append {
-        object,
-        bytes: text(rt.alloc(), b"a")?,
-    };
-    let body = [5, 1, 2, 3, 4, 5, 6, 7, 8, 0x61];
-    spells_request(&rt, rt.alloc(), append, &body)?;
-    let name = Request::SetAttr {
-        object,
-        attribute: text(rt.alloc(), b"x")?,
-    };
-    let body = [8, 1, 2, 3, 4, 5, 6, 7, 8, 1, 0x78];
-    spells_request(&rt, rt.alloc(), name, &body)
+/// The requests that have a text.
+#[derive(Clone, Copy)]
+enum Texted {
+    Create,
+    Write,
+    Append,
+    SetAttr,
 }
 
-#[test]
-fn requests_of_an_object(rt: HostRuntime) -> Result<(), Fail> {
+/// The request of this kind with a text, of the object, and of offset 5.
+fn request_with(kind: Texted, text: Bytes) -> Request
+    requires { length text ≤ 64 }
+    ensures { RequestFits result }
+{
     let object = ObjectId::new(OBJECT);
-    let delete = Request::Delete { object };
-    spells_request(&rt, rt.alloc(), delete, &[2, 1, 2, 3, 4, 5, 6, 7, 8])?;
-    let read = Request::Read {
-        object,
-        offset: 258,
-        length: 0x0102_0304,
-        at: None,
-    };
-    let body = [
-        3, 1, 2, 3, 4, 5, 6, 7, 8, 0, 0, 0, 0, 0, 0, 1, 2, 1, 2, 3, 4, 0,
-    ];
-    spells_request(&rt, rt.alloc(), read, &body)?;
-    let truncate = Request::Truncate { object, size: 3 };
-    let body = [6, 1, 2, 3, 4, 5, 6, 7, 8, 0, 0, 0, 0, 0, 0, 0, 3];
-    spells_request(&rt, rt.alloc(), truncate, &body)?;
-    let attribute = Request::GetAttr {
-        object,
-        at: Some(Moment::new(MOMENT)),
-    };
-    let body = [7, 1, 2, 3, 4, 5, 6, 7, 8, 1, 0, 0, 0, 0, 0, 0, 0x0a, 0x0b];
-    spells_request(&rt, rt.alloc(), attribute, &body)
+    match kind {
+        Texted::Create => Request::Create { attribute: text },
+        Texted::Write => Request::Write {
+            object,
+            offset: 5,
+            bytes: text,
+        },
+        Texted::Append => Request::Append {
+            object,
+            bytes: text,
+        },
+        Texted::SetAttr => Request::SetAttr {
+            object,
+            attribute: text,
+        },
+    }
 }
 
+/// Requests with a text, the text, and their bodies.
+static TEXTED: [(Texted, &[u8], &[u8]); 4] = [
+    (Texted::Create, b"ab", &[1, 2, 0x61, 0x62]),
+    (
+        Texted::Write,
+        b"abc",
+        &[
+            4, 1, 2, 3, 4, 5, 6, 7, 8, 0, 0, 0, 0, 0, 0, 0, 5, 0x61, 0x62, 0x63,
+        ],
+    ),
+    (Texted::Append, b"a", &[5, 1, 2, 3, 4, 5, 6, 7, 8, 0x61]),
+    (Texted::SetAttr, b"x", &[8, 1, 2, 3, 4, 5, 6, 7, 8, 1, 0x78]),
+];
+
 #[test]
-fn requests_of_administrators(rt: HostRuntime) -> Result<(), Fail> {
+fn requests_with_a_text(rt: HostRuntime) -> Result<(), Fail> {
+    for (kind, bytes, body) in TEXTED {
+        let text = text(rt.alloc(), bytes)?;
+        spells_request(&rt, rt.alloc(), request_with(kind, text), body)?;
+    }
+    Ok(())
+}
+
+/// The requests of numbers alone.
+#[derive(Clone, Copy)]
+enum Numbered {
+    Delete,
+    Read,
+    Truncate,
+    GetAttr,
+    SetWindow,
+    Flush,
+    FlushO,
+}
+
+/// The request of this kind, of the object.
+fn request_of(kind: Numbered) -> Request
+    ensures { RequestFits result }
+{
     let object = ObjectId::new(OBJECT);
     let first = Moment::new(2);
     let last = Moment::new(MOMENT);
-    let set = Request::SetWindow { window: 1000 };
-    spells_request(&rt, rt.alloc(), set, &[9, 0, 0, 0, 0, 0, 0, 3, 0xe8])?;
-    let flush = Request::Flush { first, last };
-    let body = [10, 0, 0, 0, 0, 0, 0, 0, 2, 0, 0, 0, 0, 0, 0, 0x0a, 0x0b];
-    spells_request(&rt, rt.alloc(), flush, &body)?;
-    let flush = Request::FlushO {
-        object,
-        first,
-        last,
-    };
-    let body = [
-        11, 1, 2, 3, 4, 5, 6, 7, 8, 0, 0, 0, 0, 0, 0, 0, 2, 0, 0, 0, 0, 0, 0, 0x0a, 0x0b,
-    ];
-    spells_request(&rt, rt.alloc(), flush, &body)
+    match kind {
+        Numbered::Delete => Request::Delete { object },
+        Numbered::Read => Request::Read {
+            object,
+            offset: 258,
+            length: 0x0102_0304,
+            at: None,
+        },
+        Numbered::Truncate => Request::Truncate { object, size: 3 },
+        Numbered::GetAttr => Request::GetAttr {
+            object,
+            at: Some(last),
+        },
+        Numbered::SetWindow => Request::SetWindow { window: 1000 },
+        Numbered::Flush => Request::Flush { first, last },
+        Numbered::FlushO => Request::FlushO {
+            object,
+            first,
+            last,
+        },
+    }
 }
 
+/// Requests of numbers alone, and their bodies.
+static NUMBERED: [(Numbered, &[u8]); 7] = [
+    (Numbered::Delete, &[2, 1, 2, 3, 4, 5, 6, 7, 8]),
+    (
+        Numbered::Read,
+        &[
+            3, 1, 2, 3, 4, 5, 6, 7, 8, 0, 0, 0, 0, 0, 0, 1, 2, 1, 2, 3, 4, 0,
+        ],
+    ),
+    (
+        Numbered::Truncate,
+        &[6, 1, 2, 3, 4, 5, 6, 7, 8, 0, 0, 0, 0, 0, 0, 0, 3],
+    ),
+    (
+        Numbered::GetAttr,
+        &[7, 1, 2, 3, 4, 5, 6, 7, 8, 1, 0, 0, 0, 0, 0, 0, 0x0a, 0x0b],
+    ),
+    (Numbered::SetWindow, &[9, 0, 0, 0, 0, 0, 0, 3, 0xe8]),
+    (
+        Numbered::Flush,
+        &[10, 0, 0, 0, 0, 0, 0, 0, 2, 0, 0, 0, 0, 0, 0, 0x0a, 0x0b],
+    ),
+    (
+        Numbered::FlushO,
+        &[
+            11, 1, 2, 3, 4, 5, 6, 7, 8, 0, 0, 0, 0, 0, 0, 0, 2, 0, 0, 0, 0, 0, 0, 0x0a, 0x0b,
+        ],
+    ),
+];
+
 #[test]
-fn replies(rt: HostRuntime) -> Result<(), Fail> {
+fn requests_of_numbers(rt: HostRuntime) -> Result<(), Fail> {
+    for (kind, body) in NUMBERED {
+        spells_request(&rt, rt.alloc(), request_of(kind), body)?;
+    }
+    Ok(())
+}
+
+/// Replies of each kind, and three refusals.
+#[derive(Clone, Copy)]
+enum Told {
+    NoObject,
+    BadFrame,
+    InUse,
+    Changed,
+    Created,
+    Data,
+    Attr,
+}
+
+/// The reply of this kind, with a text where it has one.
+fn reply_of(kind: Told, text: Bytes) -> Reply
+    requires { length text ≤ 64 }
+    ensures { ReplyFits result }
+{
     let moment = Moment::new(MOMENT);
-    spells_reply(&rt, rt.alloc(), Reply::Refused(Refusal::NoObject), &[0, 1])?;
-    spells_reply(&rt, rt.alloc(), Reply::Refused(Refusal::BadFrame), &[0, 15])?;
-    spells_reply(&rt, rt.alloc(), Reply::Refused(Refusal::InUse), &[0, 19])?;
-    spells_reply(
-        &rt,
-        rt.alloc(),
-        Reply::Changed(moment),
-        &[1, 0, 0, 0, 0, 0, 0, 0x0a, 0x0b],
-    )?;
-    spells_reply(
-        &rt,
-        rt.alloc(),
-        Reply::Created(ObjectId::new(1), moment),
-        &[2, 0, 0, 0, 0, 0, 0, 0, 1, 0, 0, 0, 0, 0, 0, 0x0a, 0x0b],
-    )?;
-    spells_reply(
-        &rt,
-        rt.alloc(),
-        Reply::Data(text(rt.alloc(), b"ab")?),
-        &[3, 0x61, 0x62],
-    )?;
-    spells_reply(
-        &rt,
-        rt.alloc(),
-        Reply::Attr {
+    match kind {
+        Told::NoObject => Reply::Refused(Refusal::NoObject),
+        Told::BadFrame => Reply::Refused(Refusal::BadFrame),
+        Told::InUse => Reply::Refused(Refusal::InUse),
+        Told::Changed => Reply::Changed(moment),
+        Told::Created => Reply::Created(ObjectId::new(1), moment),
+        Told::Data => Reply::Data(text),
+        Told::Attr => Reply::Attr {
             size: 513,
             created: Moment::new(1),
             changed: moment,
-            attribute: text(rt.alloc(), b"x")?,
+            attribute: text,
         },
+    }
+}
+
+/// Replies, their text, and their bodies.
+static REPLIES: [(Told, &[u8], &[u8]); 7] = [
+    (Told::NoObject, b"", &[0, 1]),
+    (Told::BadFrame, b"", &[0, 15]),
+    (Told::InUse, b"", &[0, 19]),
+    (Told::Changed, b"", &[1, 0, 0, 0, 0, 0, 0, 0x0a, 0x0b]),
+    (
+        Told::Created,
+        b"",
+        &[2, 0, 0, 0, 0, 0, 0, 0, 1, 0, 0, 0, 0, 0, 0, 0x0a, 0x0b],
+    ),
+    (Told::Data, b"ab", &[3, 0x61, 0x62]),
+    (
+        Told::Attr,
+        b"x",
         &[
             4, 0, 0, 2, 1, 0, 0, 0, 0, 0, 0, 0, 1, 0, 0, 0, 0, 0, 0, 0x0a, 0x0b, 1, 0x78,
         ],
-    )?;
+    ),
+];
+
+#[test]
+fn replies(rt: HostRuntime) -> Result<(), Fail> {
+    for (kind, bytes, body) in REPLIES {
+        let text = text(rt.alloc(), bytes)?;
+        spells_reply(&rt, rt.alloc(), reply_of(kind, text), body)?;
+    }
     Ok(())
 }
 
@@ -197,20 +284,20 @@ fn body_of(alloc: Global, front: &[u8], count: usize) -> Result<Vec<u8>, Fail> {
     Ok(body)
 }
 
-fn is_bad_request(alloc: Global, front: &[u8], count: usize) -> Result<bool, Fail> {
+/// Whether a body is refused, as a reply's or as a request's.
+fn is_bad(alloc: Global, is_reply: bool, front: &[u8], count: usize) -> Result<bool, Fail> {
     let body = body_of(alloc, front, count)?;
-    Ok(matches!(decode_request(alloc, &body), Err(Refusal::BadFrame)))
-}
-
-fn is_bad_reply(alloc: Global, front: &[u8], count: usize) -> Result<bool, Fail> {
-    let body = body_of(alloc, front, count)?;
-    Ok(matches!(decode_reply(alloc, &body), Err(Refusal::BadFrame)))
+    Ok(if is_reply {
+        matches!(decode_reply(alloc, &body), Err(Refusal::BadFrame))
+    } else {
+        matches!(decode_request(alloc, &body), Err(Refusal::BadFrame))
+    })
 }
 
 /// The front of a body, how many bytes stand behind it, and whether it is bad.
 type Body = (&'static [u8], usize, bool);
 
-static REQUESTS: [Body; 13] = [
+static REQUEST_BODIES: [Body; 13] = [
     (&[], 0, true),
     (&[0], 0, true),
     (&[12, 0, 0, 0, 0, 0, 0, 0, 1], 0, true),
@@ -237,7 +324,7 @@ static REQUESTS: [Body; 13] = [
     ),
 ];
 
-static REPLIES: [Body; 8] = [
+static REPLY_BODIES: [Body; 8] = [
     (&[], 0, true),
     (&[5], 0, true),
     (&[0, 0], 0, true),
@@ -250,17 +337,16 @@ static REPLIES: [Body; 8] = [
 
 #[test]
 fn bad_bodies(rt: HostRuntime) -> Result<(), Fail> {
-    for (front, count, is_bad) in REQUESTS {
-        assert!(rt;
-            is_bad_request(rt.alloc(), front, count)? == is_bad,
-            "{front:?} {count}"
-        );
-    }
-    for (front, count, is_bad) in REPLIES {
-        assert!(rt;
-            is_bad_reply(rt.alloc(), front, count)? == is_bad,
-            "{front:?} {count}"
-        );
+    for (is_reply, bodies) in [
+        (false, REQUEST_BODIES.as_slice()),
+        (true, REPLY_BODIES.as_slice()),
+    ] {
+        for (front, count, bad) in bodies {
+            assert!(rt;
+                is_bad(rt.alloc(), is_reply, front, *count)? == *bad,
+                "{front:?} {count}"
+            );
+        }
     }
     Ok(())
 }

@@ -4,7 +4,7 @@ ghost use Rattle.std.specs.List.{AllByRecursion};
 ghost use Rattle.s4_types.specs.declared.limits.TheConstants.{JOURNAL_ENTRY_BYTES, CHAIN_ENTRY_BYTES, CHAIN_BLOCKS};
 ghost use Rattle.codec.specs.Entry.{EntryFields, IsEntry, entry_length, entries_length};
 ghost use Rattle.journal_chain.specs.Sizes.{fits, filled_after, blocks_needed};
-ghost use Rattle.journal_chain.specs.Packing.{with_entry, added, packed, joined, filled_bytes, KeepsTheRule, AllFit, blocks_past, kept};
+ghost use Rattle.journal_chain.specs.Packing.{packed_with, added, packed, joined, filled_bytes, KeepsTheRule, AllFit, blocks_past, blocks_kept};
 
 use codec::laws::entry_is_so_long;
 
@@ -16,20 +16,20 @@ pub fn packing_goes_on()
 
 /// One more entry goes behind those of the newest block if it fits there, else it begins a block.
 pub fn one_entry_is_added()
-    ensures first { (entry : EntryFields) → with_entry [] entry ≡ (entry ∷ []) ∷ [] }
+    ensures first { (entry : EntryFields) → packed_with [] entry ≡ (entry ∷ []) ∷ [] }
     ensures fits { (newest : List EntryFields) (older : List (List EntryFields)) (entry : EntryFields)
-        → fits (entries_length newest) (entry_length entry) ≡ true → with_entry (newest ∷ older) entry ≡ (newest ++ entry ∷ []) ∷ older }
+        → fits (entries_length newest) (entry_length entry) ≡ true → packed_with (newest ∷ older) entry ≡ (newest ++ entry ∷ []) ∷ older }
     ensures begins { (newest : List EntryFields) (older : List (List EntryFields)) (entry : EntryFields)
-        → fits (entries_length newest) (entry_length entry) ≡ false → with_entry (newest ∷ older) entry ≡ (entry ∷ []) ∷ newest ∷ older }
+        → fits (entries_length newest) (entry_length entry) ≡ false → packed_with (newest ∷ older) entry ≡ (entry ∷ []) ∷ newest ∷ older }
 {}
 
 /// A push keeps all blocks but the head, which it appends anew where its first entry fits behind the head's.
 pub fn a_push_keeps_older_blocks()
-    ensures none { (blocks : List (List EntryFields)) → kept blocks [] ≡ blocks }
+    ensures none { (blocks : List (List EntryFields)) → blocks_kept blocks [] ≡ blocks }
     ensures fits { (newest : List EntryFields) (older : List (List EntryFields)) (entry : EntryFields) (entries : List EntryFields)
-        → fits (entries_length newest) (entry_length entry) ≡ true → kept (newest ∷ older) (entry ∷ entries) ≡ older }
+        → fits (entries_length newest) (entry_length entry) ≡ true → blocks_kept (newest ∷ older) (entry ∷ entries) ≡ older }
     ensures begins { (newest : List EntryFields) (older : List (List EntryFields)) (entry : EntryFields) (entries : List EntryFields)
-        → fits (entries_length newest) (entry_length entry) ≡ false → kept (newest ∷ older) (entry ∷ entries) ≡ newest ∷ older }
+        → fits (entries_length newest) (entry_length entry) ≡ false → blocks_kept (newest ∷ older) (entry ∷ entries) ≡ newest ∷ older }
 {}
 
 /// The packed blocks have the entries, each once and in order.
@@ -84,9 +84,9 @@ pub fn blocks_needed_hold_the_push()
 /// A push leaves the blocks that it keeps as they are, under as many new ones as it needs.
 pub fn blocks_needed_are_appended()
     ensures kept { (blocks : List (List EntryFields)) (entries : List EntryFields)
-        → drop (blocks_needed (filled_bytes blocks) (map entry_length entries)) (added blocks entries) ≡ kept blocks entries }
+        → drop (blocks_needed (filled_bytes blocks) (map entry_length entries)) (added blocks entries) ≡ blocks_kept blocks entries }
     ensures count { (blocks : List (List EntryFields)) (entries : List EntryFields)
-        → length (added blocks entries) ≡ blocks_needed (filled_bytes blocks) (map entry_length entries) + length (kept blocks entries) }
+        → length (added blocks entries) ≡ blocks_needed (filled_bytes blocks) (map entry_length entries) + length (blocks_kept blocks entries) }
 {}
 
 /// The bytes in the head after a push are those in the newest of its blocks.

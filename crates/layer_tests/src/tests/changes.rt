@@ -5,10 +5,10 @@ ghost use Rattle.undo_redo.specs.Between.{CanLead};
 ghost use Rattle.time_read.specs.Rows.{IsRow, last_inode};
 ghost use Rattle.row_changes.specs.Recent.{IsBy};
 
-use crate::tests::plain::Plain;
 use block_log::Blocks;
 use codec::{Checkpoint, Inode};
 use object_map::Row;
+use plain_log::PlainLog;
 use row_changes::laws::{a_fresh_row_stands, a_row_is_by_later_moments};
 use row_changes::{record_change, record_checkpoint};
 use s4_types::{Moment, ObjectId, Ptr};
@@ -129,7 +129,7 @@ fn size_at<B: Blocks>(table: &mut B, subject: &Subject, at: u64) -> Option<u32>
 
 #[test]
 fn a_change_is_told_from_its_moment_on(rt: HostRuntime) -> Result<(), Fail> {
-    let mut table = Plain::new();
+    let mut table = PlainLog::new(15);
     let none = begun(&table);
     assert!(rt; size_at(&mut table, &none, 10) == None);
     let first = resized(&mut table, &none, 10, 0)?;
@@ -141,7 +141,7 @@ fn a_change_is_told_from_its_moment_on(rt: HostRuntime) -> Result<(), Fail> {
     assert!(rt; size_at(&mut table, &third, 11) == Some(3));
     assert!(rt; size_at(&mut table, &third, 12) == Some(5));
     assert!(rt; size_at(&mut table, &third, u64::MAX) == Some(5));
-    assert!(rt; third.row.head == Ptr::new(0, 3, 1) && third.row.checkpoint == None);
+    assert!(rt; third.row.head == Ptr::new(2, 1, 1) && third.row.checkpoint == None);
     assert!(rt;
         third.row.journal_bytes == 102 && third.row.head_bytes == 102 && third.row.stamp == 0
     );
@@ -151,23 +151,23 @@ fn a_change_is_told_from_its_moment_on(rt: HostRuntime) -> Result<(), Fail> {
 
 #[test]
 fn a_checkpoint_changes_no_inode(rt: HostRuntime) -> Result<(), Fail> {
-    let mut table = Plain::new();
+    let mut table = PlainLog::new(15);
     let none = begun(&table);
     let first = resized(&mut table, &none, 10, 7)?;
     let second = checkpointed(&mut table, &first, 10)?;
     let third = resized(&mut table, &second, 11, 3)?;
     assert!(rt;
-        third.row.checkpoint == Ptr::new(0, 2, 1) && third.row.checkpoint_moment == Moment::new(10)
+        third.row.checkpoint == Ptr::new(1, 1, 1) && third.row.checkpoint_moment == Moment::new(10)
     );
     let fourth = checkpointed(&mut table, &third, 11)?;
     assert!(rt; size_at(&mut table, &fourth, 9) == None);
     assert!(rt; size_at(&mut table, &fourth, 10) == Some(7));
     assert!(rt; size_at(&mut table, &fourth, 11) == Some(3));
     assert!(rt;
-        fourth.row.checkpoint == Ptr::new(0, 4, 1)
+        fourth.row.checkpoint == Ptr::new(3, 1, 1)
             && fourth.row.checkpoint_moment == Moment::new(11)
     );
-    assert!(rt; fourth.row.head == Ptr::new(0, 3, 1) && fourth.row.stamp == 0);
+    assert!(rt; fourth.row.head == Ptr::new(2, 1, 1) && fourth.row.stamp == 0);
     assert!(rt; table.blocks_left() == 11);
     Ok(())
 }

@@ -3,13 +3,13 @@ ghost use Rattle.std.specs.Prelude.{◌≡◌, IfOk};
 ghost use Rattle.inode.specs.Contents.{contents_of};
 ghost use Rattle.inode.specs.Tidiness.{Tidy, PointersHeld};
 
-use crate::tests::plain::Plain;
 use block_log::Blocks;
 use codec::{Attribute, Inode};
 use inode::laws::held_pointers_lead;
 use inode::{
     blocks_of_truncate, blocks_of_write, created, deleted, read, truncate, with_attribute, write,
 };
+use plain_log::PlainLog;
 use s4_types::{Moment, ObjectId, Ptr};
 use std::alloc::Global;
 use std::process::Abort;
@@ -27,8 +27,8 @@ enum Act {
     Cuts(u64, u32),
     /// Its size, and the moment of its last change.
     Stands(u32, u64),
-    /// The table's block in which one of its blocks stands.
-    Points(usize, Option<u8>),
+    /// The frame of the table's place in which one of its blocks stands.
+    Points(usize, Option<u16>),
     /// What is read from an offset on, up to a length: these bytes one after the other.
     Reads(u64, u64, &'static [&'static [u8]]),
     /// How many places the table has left.
@@ -130,10 +130,10 @@ fn stands(inode: &Inode, size: u32, changed: u64) -> bool {
     inode.size == size && moments == (Moment::new(10), Moment::new(changed))
 }
 
-fn points(inode: &Inode, index: usize, block: Option<u8>) -> bool {
+fn points(inode: &Inode, index: usize, frame: Option<u16>) -> bool {
     let pointers: &[Option<Ptr>] = &inode.pointers;
-    let place = match block {
-        Some(block) => Ptr::new(0, block, 1),
+    let place = match frame {
+        Some(frame) => Ptr::new(frame, 1, 1),
         None => None,
     };
     index < pointers.len() && pointers[index] == place
@@ -148,7 +148,7 @@ fn is_so<B: Blocks>(alloc: Global, table: &mut B, inode: &Inode, act: Act) -> Re
     match act {
         Act::Writes(..) | Act::Cuts(..) => Ok(true),
         Act::Stands(size, changed) => Ok(stands(inode, size, changed)),
-        Act::Points(index, block) => Ok(points(inode, index, block)),
+        Act::Points(index, frame) => Ok(points(inode, index, frame)),
         Act::Reads(offset, length, parts) => is_read(alloc, table, inode, (offset, length), parts),
         Act::Left(count) => Ok(table.blocks_left() == count),
     }
@@ -170,20 +170,20 @@ fn play_in<B: Blocks>(
 }
 
 fn play(rt: &impl Abort, alloc: Global, acts: &[Act]) -> Result<(), Fail> {
-    let mut table = Plain::new();
+    let mut table = PlainLog::new(15);
     play_in(rt, alloc, &mut table, acts)
 }
 
 static OVER_ANOTHER: [Act; 10] = [
     Act::Writes(11, 0, b"abc"),
-    Act::Points(0, Some(1)),
+    Act::Points(0, Some(0)),
     Act::Reads(0, 9, &[b"abc"]),
     Act::Writes(12, 1, b"Z"),
     Act::Reads(0, 9, &[b"aZc"]),
     Act::Reads(1, 1, &[b"Z"]),
     Act::Reads(3, 9, &[]),
     Act::Stands(3, 12),
-    Act::Points(0, Some(2)),
+    Act::Points(0, Some(1)),
     Act::Left(13),
 ];
 
@@ -192,7 +192,7 @@ static PAST_THE_END: [Act; 7] = [
     Act::Stands(1025, 11),
     Act::Points(0, None),
     Act::Points(1, None),
-    Act::Points(2, Some(1)),
+    Act::Points(2, Some(0)),
     Act::Reads(0, 2000, &[&[0; 1024], b"x"]),
     Act::Left(14),
 ];
@@ -201,10 +201,10 @@ static OVER_THREE_BLOCKS: [Act; 9] = [
     Act::Writes(11, 0, &[1; 2000]),
     Act::Writes(12, 500, &[2; 600]),
     Act::Stands(2000, 12),
-    Act::Points(0, Some(5)),
-    Act::Points(1, Some(6)),
-    Act::Points(2, Some(7)),
-    Act::Points(3, Some(4)),
+    Act::Points(0, Some(4)),
+    Act::Points(1, Some(5)),
+    Act::Points(2, Some(6)),
+    Act::Points(3, Some(3)),
     Act::Reads(499, 602, &[&[1], &[2; 600], &[1]]),
     Act::Left(8),
 ];
@@ -219,7 +219,7 @@ static AN_EMPTY_ONE: [Act; 4] = [
 static THE_LAST_BYTE: [Act; 4] = [
     Act::Writes(11, 24_575, b"x"),
     Act::Stands(24_576, 11),
-    Act::Points(47, Some(1)),
+    Act::Points(47, Some(0)),
     Act::Reads(24_574, 9, &[b"\0x"]),
 ];
 
@@ -244,28 +244,28 @@ static SHORTER_AND_LONGER: [Act; 8] = [
     Act::Cuts(13, 5),
     Act::Reads(0, 9, &[b"ab\0\0\0"]),
     Act::Stands(5, 13),
-    Act::Points(0, Some(2)),
+    Act::Points(0, Some(1)),
     Act::Left(13),
 ];
 
 /// In a hole, at a block's edge, at the end, behind all bytes; the last one cuts the block.
-static CUTS: [(u32, Option<u8>, usize); 5] = [
+static CUTS: [(u32, Option<u16>, usize); 5] = [
     (700, None, 14),
     (1024, None, 14),
-    (1026, Some(1), 14),
-    (1030, Some(1), 14),
-    (1025, Some(2), 13),
+    (1026, Some(0), 14),
+    (1030, Some(0), 14),
+    (1025, Some(1), 13),
 ];
 
 #[test]
 fn truncations(rt: HostRuntime) -> Result<(), Fail> {
     play(&rt, rt.alloc(), SHORTER_AND_LONGER.as_slice())?;
-    for (size, block, left) in CUTS {
+    for (size, frame, left) in CUTS {
         let acts = [
             Act::Writes(11, 1024, b"xy"),
             Act::Cuts(12, size),
             Act::Stands(size, 12),
-            Act::Points(2, block),
+            Act::Points(2, frame),
             Act::Left(left),
         ];
         play(&rt, rt.alloc(), acts.as_slice())?;

@@ -4,6 +4,7 @@ ghost use Rattle.s4_types.specs.Pointer.{Place};
 ghost use Rattle.journal_chain.specs.Chain.{Holds, entries_held};
 ghost use Rattle.log_tests.specs.Subject.{IsPresent};
 
+use crate::tests::acts::{Act, Version, played};
 use crate::tests::pushing::{
     empty_chain, entries, long_entries, long_entry, push, read_back, rewrite, rewrite_whole,
     short_entry,
@@ -11,14 +12,13 @@ use crate::tests::pushing::{
 use crate::tests::subject::Subject;
 use crate::tests::tables::{held_blocks, new_table, place};
 use block_log::{Block, Blocks};
-use codec::{Attribute, Entry, Inode};
+use codec::Entry;
 use journal_chain::Chain;
-use object_map::Row;
-use s4_types::{Moment, Refusal};
+use s4_types::Refusal;
+use segment_table::SegmentTable;
 use std::alloc::Global;
 use std::process::Abort;
 use std::test::Fail;
-use undo_redo::blank;
 
 /// Looks at the number of a chain's bytes, and of those in its head.
 fn check_bytes(rt: &impl Abort, chain: &Chain, bytes: usize, filled: usize) {
@@ -222,89 +222,81 @@ fn a_whole_chain_written_afresh(rt: HostRuntime) -> Result<(), Fail> {
     Ok(())
 }
 
-/// The object with an attribute of these bytes since a moment.
-fn named(changed: u64, name: &[u8]) -> Result<Inode, Fail> {
-    let mut inode = blank(Moment::new(10));
-    inode.alive = true;
-    inode.changed = Moment::new(changed);
-    inode.attribute = Attribute::new(name).ok_or("an attribute")?;
-    Ok(inode)
-}
+/// The object with an attribute since a moment.
+const FIRST: Version = Version {
+    alive: true,
+    size: 0,
+    changed: 10,
+    name: b"",
+    runs: &[],
+};
 
-/// Gives the object 64 letters as its attribute at each moment from 12 to 82, `a` at the even ones and `b` at the odd.
-fn rename<B: Blocks>(subject: &mut Subject<B>) -> Result<(), Fail>
-    requires { IsPresent (B.log subject.old.table).held subject.old.row subject.old.inode subject.old.latest }
-    ensures { OnOk result (IsPresent (B.log subject.new.table).held subject.new.row subject.new.inode subject.new.latest) }
+const SECOND: Version = Version {
+    alive: true,
+    size: 0,
+    changed: 11,
+    name: &[b'c'; 31],
+    runs: &[],
+};
+
+const THIRD: Version = Version {
+    alive: true,
+    size: 0,
+    changed: 12,
+    name: &[b'a'; 64],
+    runs: &[],
+};
+
+const LAST_BUT_ONE: Version = Version {
+    alive: true,
+    size: 0,
+    changed: 81,
+    name: &[b'b'; 64],
+    runs: &[],
+};
+
+const LAST: Version = Version {
+    alive: true,
+    size: 0,
+    changed: 82,
+    name: &[b'a'; 64],
+    runs: &[],
+};
+
+const VERSIONS: [(u64, Version); 5] = [
+    (10, FIRST),
+    (11, SECOND),
+    (12, THIRD),
+    (81, LAST_BUT_ONE),
+    (82, LAST),
+];
+
+/// The entries have 34, 67 and 131 bytes, and 70 of them 164, two in a block.
+static FULL_JOURNAL: [Act; 6] = [
+    Act::Makes(b""),
+    Act::Names(11, &[b'c'; 31]),
+    Act::Renames(12, 83),
+    Act::Stands(&VERSIONS),
+    Act::Row(11_712, 164, 72),
+    Act::Left(47),
+];
+
+/// Whether a deletion is refused since the chain is full, and leaves the row and the number of places.
+fn is_refused(subject: &mut Subject<SegmentTable>, moment: u64) -> bool
+    requires { IsPresent (⟦<SegmentTable as Blocks>⟧.log subject.old.table).held subject.old.row subject.old.inode subject.old.latest }
 {
-    for moment in 12..83u64 {
-        let letter = if moment % 2 == 0 { b'a' } else { b'b' };
-        subject.set_attribute(moment, &[letter; 64])?;
-    }
-    Ok(())
-}
-
-/// Changes the object until its chain is full, and looks at its inodes then.
-fn fill_journal<B: Blocks>(rt: &impl Abort, subject: &mut Subject<B>) -> Result<(), Fail>
-    requires { IsPresent (B.log subject.old.table).held subject.old.row subject.old.inode subject.old.latest }
-    ensures { OnOk result (IsPresent (B.log subject.new.table).held subject.new.row subject.new.inode subject.new.latest) }
-{
-    subject.create(b"")?;
-    subject.set_attribute(11, &[b'c'; 31])?;
-    rename(subject)?;
-    let told = [
-        (10, named(10, b"")?),
-        (11, named(11, &[b'c'; 31])?),
-        (12, named(12, &[b'a'; 64])?),
-        (81, named(81, &[b'b'; 64])?),
-        (82, named(82, &[b'a'; 64])?),
-    ];
-    assert!(rt; subject.wrong_moment(&told) == None);
-    Ok(())
-}
-
-/// The same, and the object is deleted behind that: the answer, and the row before.
-fn fill_and_delete<B: Blocks>(
-    rt: &impl Abort,
-    subject: &mut Subject<B>,
-) -> Result<(Result<(), Refusal>, Row), Fail>
-    requires { IsPresent (B.log subject.old.table).held subject.old.row subject.old.inode subject.old.latest }
-{
-    fill_journal(rt, subject)?;
-    let row = subject.row();
-    Ok((subject.delete(83), row))
-}
-
-/// Fills the journal, deletes the object, and looks at the refusal and at the row, which is as before.
-fn check_refused<B: Blocks>(rt: &impl Abort, subject: &mut Subject<B>) -> Result<(), Fail>
-    requires { IsPresent (B.log subject.old.table).held subject.old.row subject.old.inode subject.old.latest }
-{
-    let (answer, row) = fill_and_delete(rt, subject)?;
-    assert!(rt; answer == Err(Refusal::ChainFull));
-    // The entries have 34, 67 and 131 bytes, and 70 of them 164, two in a block.
-    assert!(rt; (row.journal_bytes, row.head_bytes) == (11_712, 164));
-    assert!(rt; (row.head, subject.blocks_left()) == (place(72), 47));
-    assert!(rt; subject.row() == row);
-    Ok(())
-}
-
-/// The blocks of a table with an object whose chain is full.
-fn blocks_of_full_journal(rt: &impl Abort, alloc: Global) -> Result<[Option<Block>; 120], Fail> {
-    let mut subject = Subject::new(new_table(alloc, 8)?, 10);
-    fill_journal(rt, &mut subject)?;
-    Ok(subject.held_blocks())
-}
-
-/// Looks at the blocks of a full journal, which are as those of another.
-fn check_journal(rt: &impl Abort, blocks: &[Option<Block>; 120], others: &[Option<Block>; 120]) {
-    assert!(rt; *blocks == *others);
-    assert!(rt; blocks.iter().filter(|block| block.is_some()).count() == 36);
+    let (row, left) = (subject.row(), subject.blocks_left());
+    let answer = subject.delete(moment);
+    answer == Err(Refusal::ChainFull) && subject.row() == row && subject.blocks_left() == left
 }
 
 #[test]
 fn a_change_of_an_object_with_a_full_chain(rt: HostRuntime) -> Result<(), Fail> {
-    let others = blocks_of_full_journal(&rt, rt.alloc())?;
-    let mut subject = Subject::new(new_table(rt.alloc(), 8)?, 10);
-    check_refused(&rt, &mut subject)?;
-    check_journal(&rt, &subject.held_blocks(), &others);
+    let mut other = played(&rt, rt.alloc(), 8, FULL_JOURNAL.as_slice())?;
+    let mut subject = played(&rt, rt.alloc(), 8, FULL_JOURNAL.as_slice())?;
+    assert!(rt; is_refused(&mut subject, 83));
+    let blocks = subject.held_blocks();
+    assert!(rt; blocks == other.held_blocks());
+    assert!(rt; blocks.iter().filter(|block| block.is_some()).count() == 36);
     Ok(())
 }

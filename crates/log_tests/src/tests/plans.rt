@@ -1,10 +1,6 @@
 //! Plans of reads: made over the table, and fetched after it has gone on.
-ghost use Rattle.std.specs.Prelude.{OnOk};
-ghost use Rattle.log_tests.specs.Subject.{IsPresent};
-
+use crate::tests::acts::{Act, play, played};
 use crate::tests::subject::Subject;
-use crate::tests::tables::new_table;
-use block_log::Blocks;
 use codec::Inode;
 use s4_types::Refusal;
 use segment_table::SegmentTable;
@@ -14,10 +10,10 @@ use std::test::Fail;
 use time_read::{Piece, ReadPlan};
 
 /// The bytes of 13 blocks: with the creation's block and one of the journal they fill a frame.
-static LONG: [u8; 6656] = [b'a'; 6656];
+const LONG: [u8; 6656] = [b'a'; 6656];
 
 /// As many others.
-static OTHERS: [u8; 6656] = [b'b'; 6656];
+const OTHERS: [u8; 6656] = [b'b'; 6656];
 
 /// How many pieces of a plan are holes, copied blocks and pinned blocks.
 fn kinds(plan: &ReadPlan) -> [usize; 3] {
@@ -34,22 +30,13 @@ fn kinds(plan: &ReadPlan) -> [usize; 3] {
     [holes.count(), copied.count(), pinned.count()]
 }
 
-/// The object is made at moment 10, and given 13 blocks at moment 20. The frame that they are in is sealed then.
-fn create_and_fill<B: Blocks>(subject: &mut Subject<B>) -> Result<(), Fail>
-    requires { IsPresent (B.log subject.old.table).held subject.old.row subject.old.inode subject.old.latest }
-    ensures { OnOk result (IsPresent (B.log subject.new.table).held subject.new.row subject.new.inode subject.new.latest) }
-{
-    subject.create(b"")?;
-    subject.write(20, 0, &LONG)
-}
+/// The object is given 13 blocks at moment 20. The frame that they are in is sealed then.
+static FILLED: [Act; 2] = [Act::Makes(b""), Act::Writes(20, 0, &LONG)];
 
-/// Three bytes are written across the edge of the first block.
-fn create_and_write<B: Blocks>(subject: &mut Subject<B>) -> Result<(), Fail>
-    requires { IsPresent (B.log subject.old.table).held subject.old.row subject.old.inode subject.old.latest }
-{
-    subject.create(b"")?;
-    subject.write(20, 1022, b"abc")
-}
+static OVERWRITTEN: [Act; 1] = [Act::Writes(30, 0, &OTHERS)];
+
+/// Three bytes are written across the edge of the second block.
+static WRITTEN: [Act; 2] = [Act::Makes(b""), Act::Writes(20, 1022, b"abc")];
 
 /// A range of an inode's bytes.
 #[derive(Clone, Copy)]
@@ -108,19 +95,17 @@ fn check_ranges(
 
 #[test]
 fn ranges_across_holes_and_open_blocks(rt: HostRuntime) -> Result<(), Fail> {
-    let mut subject = Subject::new(new_table(rt.alloc(), 16)?, 10);
-    create_and_write(&mut subject)?;
+    let mut subject = played(&rt, rt.alloc(), 16, WRITTEN.as_slice())?;
     check_ranges(&rt, rt.alloc(), &mut subject)
 }
 
 #[test]
 fn a_plan_gives_what_was_there(rt: HostRuntime) -> Result<(), Fail> {
-    let mut subject = Subject::new(new_table(rt.alloc(), 16)?, 10);
-    create_and_fill(&mut subject)?;
+    let mut subject = played(&rt, rt.alloc(), 16, FILLED.as_slice())?;
     let before = subject.inode();
     let plan = subject.plan(rt.alloc(), &before, 0, 6656)?.ok_or("a plan")?;
     assert!(rt; kinds(&plan) == [0, 0, 13], "13 blocks of the sealed frame");
-    subject.write(30, 0, &OTHERS)?;
+    play(&rt, rt.alloc(), &mut subject, OVERWRITTEN.as_slice())?;
     let range = Range {
         offset: 0,
         wanted: 6656,

@@ -9,6 +9,7 @@ ghost use Rattle.time_read.specs.Rows.{chain_of};
 ghost use Rattle.segment_table.specs.Table.{held_at};
 ghost use Rattle.log_tests.specs.Subject.{IsRecorded, IsPresent};
 
+use crate::tests::acts::{Version, inode_of};
 use crate::tests::{pushing, tables};
 use block_log::{Block, BlockKind, Blocks};
 use checkpoint::read_checkpoint;
@@ -247,12 +248,12 @@ impl<B: Blocks> Subject<B> {
     }
 
     /// Asks for the inodes at these moments, and gives the first at which it is another than told here.
-    pub(super) fn wrong_moment(&mut self, told: &[(u64, Inode)]) -> Option<u64>
+    pub(super) fn wrong_moment(&mut self, told: &[(u64, Version)]) -> Option<u64>
         requires { IsPresent (B.log self.old.table).held self.old.row self.old.inode self.old.latest }
         ensures { IsPresent (B.log self.new.table).held self.new.row self.new.inode self.new.latest }
     {
-        for (at, inode) in told {
-            if self.inode_at(*at) != *inode {
+        for (at, version) in told {
+            if Some(self.inode_at(*at)) != inode_of(version) {
                 return Some(*at);
             }
         }

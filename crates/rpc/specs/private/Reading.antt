@@ -27,22 +27,22 @@ Gives view (Ok x) read = read ≡ Some (view x)
 Gives view (Err e) read = Fails e read
 
 -- a number, and the bytes after it
-abbrev pub number_at : Width → List ℕ → Option (ℕ × List ℕ)
-number_at w bytes = if nat_lt (length bytes) (byte_len w) then None else Some (from_be_bytes w (take (byte_len w) bytes), drop (byte_len w) bytes)
+abbrev pub wire_number_at : Width → List ℕ → Option (ℕ × List ℕ)
+wire_number_at w bytes = if nat_lt (length bytes) (byte_len w) then None else Some (from_be_bytes w (take (byte_len w) bytes), drop (byte_len w) bytes)
 
 -- a text of at most so many bytes behind its length, and the bytes after it
-unfoldable pub text_at : ℕ → List ℕ → Option (List ℕ × List ℕ)
-text_at limit [] = None
-text_at limit (len ∷ bytes) = if nat_lt limit len then None else (if nat_lt (length bytes) len then None else Some (take len bytes, drop len bytes))
+unfoldable pub wire_text_at : ℕ → List ℕ → Option (List ℕ × List ℕ)
+wire_text_at limit [] = None
+wire_text_at limit (len ∷ bytes) = if nat_lt limit len then None else (if nat_lt (length bytes) len then None else Some (take len bytes, drop len bytes))
 
 -- a moment or none, and the bytes after it
-unfoldable pub moment_at : List ℕ → Option (Option ℕ × List ℕ)
-moment_at [] = None
-moment_at (zero ∷ rest) = Some (None, rest)
-moment_at (suc zero ∷ rest) = do
-  n ← number_at w64 rest
+unfoldable pub wire_moment_at : List ℕ → Option (Option ℕ × List ℕ)
+wire_moment_at [] = None
+wire_moment_at (zero ∷ rest) = Some (None, rest)
+wire_moment_at (suc zero ∷ rest) = do
+  n ← wire_number_at w64 rest
   Some (Some n.0, n.1)
-moment_at (suc (suc b) ∷ rest) = None
+wire_moment_at (suc (suc b) ∷ rest) = None
 
 -- all of the bytes, at most so many
 unfoldable pub tail_at : ℕ → List ℕ → Option (List ℕ)
@@ -56,77 +56,77 @@ ended_at (_ ∷ _) = None
 -- a request of each kind, behind its first byte
 unfoldable pub create_at : List ℕ → Option Request
 create_at bytes = do
-  attribute ← text_at 255 bytes
+  attribute ← wire_text_at 255 bytes
   end ← ended_at attribute.1
   Some (Create attribute.0)
 
 unfoldable pub delete_at : List ℕ → Option Request
 delete_at bytes = do
-  object ← number_at w64 bytes
+  object ← wire_number_at w64 bytes
   end ← ended_at object.1
   Some (Delete object.0)
 
 unfoldable pub read_at : List ℕ → Option Request
 read_at bytes = do
-  object ← number_at w64 bytes
-  offset ← number_at w64 object.1
-  len ← number_at w32 offset.1
-  moment ← moment_at len.1
+  object ← wire_number_at w64 bytes
+  offset ← wire_number_at w64 object.1
+  len ← wire_number_at w32 offset.1
+  moment ← wire_moment_at len.1
   end ← ended_at moment.1
   Some (Read object.0 offset.0 len.0 moment.0)
 
 unfoldable pub write_at : List ℕ → Option Request
 write_at bytes = do
-  object ← number_at w64 bytes
-  offset ← number_at w64 object.1
+  object ← wire_number_at w64 bytes
+  offset ← wire_number_at w64 object.1
   written ← tail_at (FRAME_BODY_BYTES - 17) offset.1
   Some (Write object.0 offset.0 written)
 
 unfoldable pub append_at : List ℕ → Option Request
 append_at bytes = do
-  object ← number_at w64 bytes
+  object ← wire_number_at w64 bytes
   written ← tail_at (FRAME_BODY_BYTES - 9) object.1
   Some (Append object.0 written)
 
 unfoldable pub truncate_at : List ℕ → Option Request
 truncate_at bytes = do
-  object ← number_at w64 bytes
-  size ← number_at w64 object.1
+  object ← wire_number_at w64 bytes
+  size ← wire_number_at w64 object.1
   end ← ended_at size.1
   Some (Truncate object.0 size.0)
 
 unfoldable pub get_attr_at : List ℕ → Option Request
 get_attr_at bytes = do
-  object ← number_at w64 bytes
-  moment ← moment_at object.1
+  object ← wire_number_at w64 bytes
+  moment ← wire_moment_at object.1
   end ← ended_at moment.1
   Some (GetAttr object.0 moment.0)
 
 unfoldable pub set_attr_at : List ℕ → Option Request
 set_attr_at bytes = do
-  object ← number_at w64 bytes
-  attribute ← text_at 255 object.1
+  object ← wire_number_at w64 bytes
+  attribute ← wire_text_at 255 object.1
   end ← ended_at attribute.1
   Some (SetAttr object.0 attribute.0)
 
 unfoldable pub set_window_at : List ℕ → Option Request
 set_window_at bytes = do
-  window ← number_at w64 bytes
+  window ← wire_number_at w64 bytes
   end ← ended_at window.1
   Some (SetWindow window.0)
 
 unfoldable pub flush_at : List ℕ → Option Request
 flush_at bytes = do
-  first ← number_at w64 bytes
-  last ← number_at w64 first.1
+  first ← wire_number_at w64 bytes
+  last ← wire_number_at w64 first.1
   end ← ended_at last.1
   Some (Flush first.0 last.0)
 
 unfoldable pub flush_object_at : List ℕ → Option Request
 flush_object_at bytes = do
-  object ← number_at w64 bytes
-  first ← number_at w64 object.1
-  last ← number_at w64 first.1
+  object ← wire_number_at w64 bytes
+  first ← wire_number_at w64 object.1
+  last ← wire_number_at w64 first.1
   end ← ended_at last.1
   Some (FlushO object.0 first.0 last.0)
 
@@ -156,27 +156,27 @@ first_with number [] = None
 first_with number (refusal ∷ others) = if number_of refusal == number then Some refusal else first_with number others
 
 -- the refusal that the number alone names
-unfoldable pub refusal_of : ℕ → Option Refusal
-refusal_of number = if number == 16 then None else first_with number refusals
+unfoldable pub refusal_of_code : ℕ → Option Refusal
+refusal_of_code number = if number == 16 then None else first_with number refusals
 
 -- a reply of each kind, behind its first byte
 unfoldable pub refused_at : List ℕ → Option Reply
 refused_at [] = None
 refused_at (number ∷ rest) = do
   end ← ended_at rest
-  refusal ← refusal_of number
+  refusal ← refusal_of_code number
   Some (Refused refusal)
 
 unfoldable pub changed_at : List ℕ → Option Reply
 changed_at bytes = do
-  moment ← number_at w64 bytes
+  moment ← wire_number_at w64 bytes
   end ← ended_at moment.1
   Some (Changed moment.0)
 
 unfoldable pub created_at : List ℕ → Option Reply
 created_at bytes = do
-  object ← number_at w64 bytes
-  moment ← number_at w64 object.1
+  object ← wire_number_at w64 bytes
+  moment ← wire_number_at w64 object.1
   end ← ended_at moment.1
   Some (Created object.0 moment.0)
 
@@ -187,17 +187,17 @@ data_at bytes = do
 
 unfoldable pub attr_at : List ℕ → Option Reply
 attr_at bytes = do
-  size ← number_at w32 bytes
-  created ← number_at w64 size.1
-  changed ← number_at w64 created.1
-  attribute ← text_at ATTRIBUTE_BYTES changed.1
+  size ← wire_number_at w32 bytes
+  created ← wire_number_at w64 size.1
+  changed ← wire_number_at w64 created.1
+  attribute ← wire_text_at ATTRIBUTE_BYTES changed.1
   end ← ended_at attribute.1
   Some (Attr size.0 created.0 changed.0 attribute.0)
 
 -- a reply, by its first byte
-unfoldable pub reply_at : List ℕ → Option Reply
-reply_at [] = None
-reply_at (kind ∷ rest) =
+unfoldable pub wire_reply_at : List ℕ → Option Reply
+wire_reply_at [] = None
+wire_reply_at (kind ∷ rest) =
     if kind == 0 then refused_at rest else
     (if kind == 1 then changed_at rest else
     (if kind == 2 then created_at rest else

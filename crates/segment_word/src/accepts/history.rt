@@ -3,7 +3,7 @@ ghost use Rattle.std.specs.Prelude.{◌≡◌, ◌+◌, ◌^◌, ◌<◌, length
 ghost use mathlib.Core.List.{IsPrefix};
 ghost use Rattle.s4_types.specs.History.{accepted};
 ghost use Rattle.segment_word.specs.AcceptViews.{count_of, with_change, with_moment, credited, caught_up};
-ghost use Rattle.segment_word.specs.AcceptRule.{Fits, ShareNone, AreNumbered};
+ghost use Rattle.segment_word.specs.AcceptRule.{FitsLedger, ShareNone, AreNumbered};
 
 use crate::accepts::board::AcceptBoard;
 use crate::accepts::lending::{accept, end_beside, meet, see};
@@ -61,8 +61,8 @@ impl<J: Naming> HistorySeat<J> {
         ensures same { self.new ≡ self.old }
         ensures session { session.new ≡ caught_up self.old session.old }
         ensures grows { IsPrefix session.old.seen session.new.seen }
-        ensures before { Fits self.old session.old }
-        ensures after { Fits self.new session.new }
+        ensures before { FitsLedger self.old session.old }
+        ensures after { FitsLedger self.new session.new }
     {
         let word = &self.board.table.shared;
         meet(word, &mut self.seat, &mut session.seat);
@@ -75,8 +75,8 @@ impl<J: Naming> HistorySeat<J> {
         ensures history { self.new ≡ with_change self.old session.old.seat C.moment C.change }
         ensures session { session.new ≡ credited self.new session.old }
         ensures grows { IsPrefix session.old.seen session.new.seen }
-        ensures before { Fits self.old session.old }
-        ensures after { Fits self.new session.new }
+        ensures before { FitsLedger self.old session.old }
+        ensures after { FitsLedger self.new session.new }
         ensures number { result ≡ count_of self.new }
     {
         let word = &self.board.table.shared;

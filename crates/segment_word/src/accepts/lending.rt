@@ -3,8 +3,8 @@ ghost use Rattle.std.specs.Prelude.{◌≡◌, ◌+◌, ◌^◌, ◌<◌, []};
 ghost use mathlib.Core.List.{IsPrefix};
 ghost use Rattle.s4_types.specs.History.{accepted};
 ghost use Rattle.segment_word.specs.AcceptViews.{Driving, Lent, Attending, ledger_of, told_of, with_moment, with_change, count_of, caught_up, credited};
-ghost use Rattle.segment_word.specs.AcceptRule.{Fits, ShareNone};
-ghost use Rattle.segment_word.specs.AcceptSteps.{IsSameSeat};
+ghost use Rattle.segment_word.specs.AcceptRule.{FitsLedger, ShareNone};
+ghost use Rattle.segment_word.specs.AcceptSteps.{IsSameAcceptSeat};
 
 use crate::accepts::naming::{Passing, Taking};
 use crate::accepts::steps::{Place, Word, absorb, hand, learn, note, part, receive, take};
@@ -15,8 +15,8 @@ fn lend(word: &Word, drive: &mut Place, session: &mut Place)
     requires table { (drive.old.table_id ≡ word.now.table_id) × (session.old.table_id ≡ word.now.table_id) × (word.now.table_id.words ≡ 1) }
     requires drive { drive.old.me ≡ (Driving (ledger_of drive.old.me.0), []) }
     requires session { session.old.me ≡ (Attending (told_of session.old.me.0), []) }
-    ensures drive { IsSameSeat drive.old drive.new × (drive.new.me ≡ (Lent (ledger_of drive.old.me.0) (told_of session.old.me.0), [])) }
-    ensures session { IsSameSeat session.old session.new × (session.new.me ≡ session.old.me) }
+    ensures drive { IsSameAcceptSeat drive.old drive.new × (drive.new.me ≡ (Lent (ledger_of drive.old.me.0) (told_of session.old.me.0), [])) }
+    ensures session { IsSameAcceptSeat session.old session.new × (session.new.me ≡ session.old.me) }
 {
     let copy = hand(word, session);
     receive(word, drive, copy);
@@ -28,8 +28,8 @@ fn tell(word: &Word, drive: &mut Place, session: &mut Place)
     requires drive { drive.old.me ≡ (Lent (ledger_of drive.old.me.0) (told_of drive.old.me.0), []) }
     requires session { session.old.me ≡ (Attending (told_of session.old.me.0), []) }
     requires its_own { (told_of drive.old.me.0).seat ≡ (told_of session.old.me.0).seat }
-    ensures drive { IsSameSeat drive.old drive.new × (drive.new.me ≡ (Driving (ledger_of drive.old.me.0), [])) }
-    ensures session { IsSameSeat session.old session.new × (session.new.me ≡ (Attending (told_of drive.old.me.0), [])) }
+    ensures drive { IsSameAcceptSeat drive.old drive.new × (drive.new.me ≡ (Driving (ledger_of drive.old.me.0), [])) }
+    ensures session { IsSameAcceptSeat session.old session.new × (session.new.me ≡ (Attending (told_of drive.old.me.0), [])) }
 {
     let told = hand(word, drive);
     receive(word, session, told);
@@ -40,10 +40,10 @@ pub fn meet(word: &Word, drive: &mut Place, session: &mut Place)
     requires table { (drive.old.table_id ≡ word.now.table_id) × (session.old.table_id ≡ word.now.table_id) × (word.now.table_id.words ≡ 1) }
     requires drive { (drive.old.id ≡ 0) × (drive.old.me ≡ (Driving (ledger_of drive.old.me.0), [])) }
     requires session { session.old.me ≡ (Attending (told_of session.old.me.0), []) }
-    ensures drive { IsSameSeat drive.old drive.new × (drive.new.me ≡ drive.old.me) }
-    ensures session { IsSameSeat session.old session.new × (session.new.me ≡ (Attending (caught_up (ledger_of drive.old.me.0) (told_of session.old.me.0)), [])) }
+    ensures drive { IsSameAcceptSeat drive.old drive.new × (drive.new.me ≡ drive.old.me) }
+    ensures session { IsSameAcceptSeat session.old session.new × (session.new.me ≡ (Attending (caught_up (ledger_of drive.old.me.0) (told_of session.old.me.0)), [])) }
     ensures grows { IsPrefix (told_of session.old.me.0).seen (accepted (ledger_of drive.old.me.0).history) }
-    ensures fits { Fits (ledger_of drive.old.me.0) (told_of session.old.me.0) × Fits (ledger_of drive.old.me.0) (caught_up (ledger_of drive.old.me.0) (told_of session.old.me.0)) }
+    ensures fits { FitsLedger (ledger_of drive.old.me.0) (told_of session.old.me.0) × FitsLedger (ledger_of drive.old.me.0) (caught_up (ledger_of drive.old.me.0) (told_of session.old.me.0)) }
 {
     lend(word, drive, session);
     learn(word, drive);
@@ -56,11 +56,11 @@ pub fn accept<C: Taking>(word: &Word, drive: &mut Place, session: &mut Place) ->
     requires drive { (drive.old.id ≡ 0) × (drive.old.me ≡ (Driving (ledger_of drive.old.me.0), [])) }
     requires session { session.old.me ≡ (Attending (told_of session.old.me.0), []) }
     requires room { count_of (ledger_of drive.old.me.0) + 1 < 2 ^ 64 }
-    ensures drive { IsSameSeat drive.old drive.new × (drive.new.me ≡ (Driving (ledger_of drive.new.me.0), [])) }
+    ensures drive { IsSameAcceptSeat drive.old drive.new × (drive.new.me ≡ (Driving (ledger_of drive.new.me.0), [])) }
     ensures ledger { ledger_of drive.new.me.0 ≡ with_change (ledger_of drive.old.me.0) (told_of session.old.me.0).seat C.moment C.change }
-    ensures session { IsSameSeat session.old session.new × (session.new.me ≡ (Attending (credited (ledger_of drive.new.me.0) (told_of session.old.me.0)), [])) }
+    ensures session { IsSameAcceptSeat session.old session.new × (session.new.me ≡ (Attending (credited (ledger_of drive.new.me.0) (told_of session.old.me.0)), [])) }
     ensures grows { IsPrefix (told_of session.old.me.0).seen (accepted (ledger_of drive.new.me.0).history) }
-    ensures fits { Fits (ledger_of drive.old.me.0) (told_of session.old.me.0) × Fits (ledger_of drive.new.me.0) (credited (ledger_of drive.new.me.0) (told_of session.old.me.0)) }
+    ensures fits { FitsLedger (ledger_of drive.old.me.0) (told_of session.old.me.0) × FitsLedger (ledger_of drive.new.me.0) (credited (ledger_of drive.new.me.0) (told_of session.old.me.0)) }
     ensures number { result ≡ count_of (ledger_of drive.new.me.0) }
 {
     lend(word, drive, session);
@@ -74,7 +74,7 @@ pub fn see<T: Passing>(word: &Word, drive: &mut Place, moment: Moment)
     requires named { T.now ≡ moment }
     requires table { (drive.old.table_id ≡ word.now.table_id) × (word.now.table_id.words ≡ 1) }
     requires drive { (drive.old.id ≡ 0) × (drive.old.me ≡ (Driving (ledger_of drive.old.me.0), [])) }
-    ensures drive { IsSameSeat drive.old drive.new }
+    ensures drive { IsSameAcceptSeat drive.old drive.new }
     ensures view { drive.new.me ≡ (Driving (with_moment (ledger_of drive.old.me.0) moment), []) }
 {
     note::<T>(word, drive);
@@ -86,7 +86,7 @@ pub fn end_beside(word: &Word, stays: &mut Place, ends: Place)
     requires table { (stays.old.table_id ≡ word.now.table_id) × (ends.table_id ≡ word.now.table_id) × (word.now.table_id.words ≡ 1) }
     requires stays { stays.old.me ≡ (Attending (told_of stays.old.me.0), []) }
     requires ends { ends.me ≡ (Attending (told_of ends.me.0), []) }
-    ensures stays { IsSameSeat stays.old stays.new × (stays.new.me ≡ stays.old.me) }
+    ensures stays { IsSameAcceptSeat stays.old stays.new × (stays.new.me ≡ stays.old.me) }
     ensures none { ShareNone (told_of stays.old.me.0) (told_of ends.me.0) }
 {
     absorb(word, stays, ends);

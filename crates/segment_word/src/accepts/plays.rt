@@ -1,6 +1,6 @@
 //! What each step on the accept word tells its seat, and how what a session was told goes from one seat to another.
 ghost use Rattle.segment_word.specs.AcceptViews.{Spent};
-ghost use Rattle.segment_word.specs.AcceptSteps.{Takes, Learns, Notes, Counts, Begins, Comes, Parts, unlent, copied, joined, absorbed};
+ghost use Rattle.segment_word.specs.AcceptSteps.{TakesChange, Learns, Notes, CountsChanges, Begins, Comes, Parts, unlent, copied, joined_accepts, absorbed};
 
 use crate::accepts::naming::{Naming, Passing, Taking};
 use crate::accepts::rule::Known;
@@ -13,7 +13,7 @@ pub struct Take<C: Taking> {
 }
 
 impl<C: Taking> Play<(), Known> for Take<C> {
-    ghost then = { Takes C.moment C.change };
+    ghost then = { TakesChange C.moment C.change };
 }
 
 /// Learn, for the session that is lent.
@@ -36,7 +36,7 @@ impl<T: Passing> Play<(), Known> for Note<T> {
 pub struct Count;
 
 impl Play<(), Known> for Count {
-    ghost then = { Counts };
+    ghost then = { CountsChanges };
 }
 
 /// The history begins with its base.
@@ -84,7 +84,7 @@ impl Split<Known> for Hand {
 pub struct Receive;
 
 impl Join<Known> for Receive {
-    ghost both = { joined };
+    ghost both = { joined_accepts };
 
     ghost spent = { Spent };
 }

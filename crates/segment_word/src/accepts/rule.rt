@@ -1,5 +1,5 @@
 //! The rule of the accept table, and what a seat knows.
-ghost use Rattle.segment_word.specs.AcceptViews.{View, Driving, Spent, begun, blank_base};
+ghost use Rattle.segment_word.specs.AcceptViews.{AcceptView, Driving, Spent, begun, blank_base};
 ghost use Rattle.segment_word.specs.AcceptRule.{AcceptRule};
 
 use atomic_table::TableRule;
@@ -9,7 +9,7 @@ use std::marker::Model;
 pub struct Known;
 
 impl Model for Known {
-    ghost Value = { View };
+    ghost Value = { AcceptView };
 
     ghost view = { λ _. Spent };
 }

@@ -3,7 +3,7 @@ ghost use Rattle.std.specs.Prelude.{◌≡◌, ◌+◌, ◌^◌, ◌<◌, []};
 ghost use mathlib.Core.Option.{none};
 ghost use Rattle.atomic_table.specs.Table.{step};
 ghost use Rattle.segment_word.specs.AcceptViews.{Driving, Lent, Attending, Beside, Carried, Told, begun, blank_base, ledger_of, told_of, guest_of, with_moment, count_of, new_session};
-ghost use Rattle.segment_word.specs.AcceptSteps.{Takes, Learns, Counts, IsSameSeat, IsFor, unlent, joined};
+ghost use Rattle.segment_word.specs.AcceptSteps.{TakesChange, Learns, CountsChanges, IsSameAcceptSeat, IsFor, unlent, joined_accepts};
 ghost use Rattle.segment_word.specs.AcceptRule.{ShareNone};
 
 use crate::accepts::naming::{Naming, Passing, Taking};
@@ -19,7 +19,7 @@ pub type Place = Seat<(), Known>;
 pub fn begin<J: Naming>(word: &Word, seat: &mut Place)
     requires table { (seat.old.table_id ≡ word.now.table_id) × (word.now.table_id.words ≡ 1) }
     requires drive { (seat.old.id ≡ 0) × (seat.old.me ≡ (Driving (begun blank_base), [])) }
-    ensures seat { IsSameSeat seat.old seat.new }
+    ensures seat { IsSameAcceptSeat seat.old seat.new }
     ensures view { seat.new.me ≡ (Driving (begun J.base), []) }
 {
     word.load::<Begin<J>>(seat, 0);
@@ -40,8 +40,8 @@ pub fn take<C: Taking>(word: &Word, seat: &mut Place) -> u64
     requires table { (seat.old.table_id ≡ word.now.table_id) × (word.now.table_id.words ≡ 1) }
     requires drive { (seat.old.id ≡ 0) × (seat.old.me ≡ (Lent (ledger_of seat.old.me.0) (told_of seat.old.me.0), [])) }
     requires room { count_of (ledger_of seat.old.me.0) + 1 < 2 ^ 64 }
-    ensures seat { IsSameSeat seat.old seat.new }
-    ensures view { Takes C.moment C.change (step word.now.table_id.slots 0 1 0 none) seat.old.me result seat.new.me }
+    ensures seat { IsSameAcceptSeat seat.old seat.new }
+    ensures view { TakesChange C.moment C.change (step word.now.table_id.slots 0 1 0 none) seat.old.me result seat.new.me }
 {
     word.fetch_add::<Take<C>>(seat, 0, 1)
 }
@@ -50,7 +50,7 @@ pub fn take<C: Taking>(word: &Word, seat: &mut Place) -> u64
 pub fn learn(word: &Word, seat: &mut Place) -> u64
     requires table { (seat.old.table_id ≡ word.now.table_id) × (word.now.table_id.words ≡ 1) }
     requires drive { (seat.old.id ≡ 0) × (seat.old.me ≡ (Lent (ledger_of seat.old.me.0) (told_of seat.old.me.0), [])) }
-    ensures seat { IsSameSeat seat.old seat.new }
+    ensures seat { IsSameAcceptSeat seat.old seat.new }
     ensures view { Learns (step word.now.table_id.slots 0 0 0 none) seat.old.me result seat.new.me }
 {
     word.load::<Learn>(seat, 0)
@@ -60,7 +60,7 @@ pub fn learn(word: &Word, seat: &mut Place) -> u64
 pub fn note<T: Passing>(word: &Word, seat: &mut Place)
     requires table { (seat.old.table_id ≡ word.now.table_id) × (word.now.table_id.words ≡ 1) }
     requires drive { (seat.old.id ≡ 0) × (seat.old.me ≡ (Driving (ledger_of seat.old.me.0), [])) }
-    ensures seat { IsSameSeat seat.old seat.new }
+    ensures seat { IsSameAcceptSeat seat.old seat.new }
     ensures view { seat.new.me ≡ (Driving (with_moment (ledger_of seat.old.me.0) T.now), []) }
 {
     word.load::<Note<T>>(seat, 0);
@@ -70,8 +70,8 @@ pub fn note<T: Passing>(word: &Word, seat: &mut Place)
 pub fn count(word: &Word, seat: &mut Place) -> u64
     requires table { (seat.old.table_id ≡ word.now.table_id) × (word.now.table_id.words ≡ 1) }
     requires drive { seat.old.id ≡ 0 }
-    ensures seat { IsSameSeat seat.old seat.new }
-    ensures view { Counts (step word.now.table_id.slots 0 0 0 none) seat.old.me result seat.new.me }
+    ensures seat { IsSameAcceptSeat seat.old seat.new }
+    ensures view { CountsChanges (step word.now.table_id.slots 0 0 0 none) seat.old.me result seat.new.me }
 {
     word.load::<Count>(seat, 0)
 }
@@ -79,7 +79,7 @@ pub fn count(word: &Word, seat: &mut Place) -> u64
 /// What a session was told goes to a new seat.
 pub fn hand(word: &Word, seat: &mut Place) -> Place
     requires table { (seat.old.table_id ≡ word.now.table_id) × (word.now.table_id.words ≡ 1) }
-    ensures seat { IsSameSeat seat.old seat.new }
+    ensures seat { IsSameAcceptSeat seat.old seat.new }
     ensures view { seat.new.me ≡ (unlent seat.old.me.0, seat.old.me.1) }
     ensures other { (result.table_id ≡ seat.old.table_id) × (result.me ≡ (Carried (told_of seat.old.me.0), [])) }
 {
@@ -91,8 +91,8 @@ pub fn receive(word: &Word, seat: &mut Place, other: Place)
     requires table { (seat.old.table_id ≡ word.now.table_id) × (other.table_id ≡ word.now.table_id) × (word.now.table_id.words ≡ 1) }
     requires other { other.me ≡ (Carried (told_of other.me.0), []) }
     requires for_it { IsFor (told_of other.me.0) seat.old.me.0 }
-    ensures seat { IsSameSeat seat.old seat.new }
-    ensures view { seat.new.me ≡ (joined seat.old.me.0 other.me.0, seat.old.me.1) }
+    ensures seat { IsSameAcceptSeat seat.old seat.new }
+    ensures view { seat.new.me ≡ (joined_accepts seat.old.me.0 other.me.0, seat.old.me.1) }
 {
     word.join_seat::<Receive>(seat, other);
 }
@@ -102,7 +102,7 @@ pub fn absorb(word: &Word, seat: &mut Place, other: Place)
     requires table { (seat.old.table_id ≡ word.now.table_id) × (other.table_id ≡ word.now.table_id) × (word.now.table_id.words ≡ 1) }
     requires session { seat.old.me ≡ (Attending (told_of seat.old.me.0), []) }
     requires other { other.me ≡ (Attending (told_of other.me.0), []) }
-    ensures seat { IsSameSeat seat.old seat.new }
+    ensures seat { IsSameAcceptSeat seat.old seat.new }
     ensures view { seat.new.me ≡ (Beside (told_of seat.old.me.0) (told_of other.me.0), []) }
 {
     word.join_seat::<Absorb>(seat, other);
@@ -112,7 +112,7 @@ pub fn absorb(word: &Word, seat: &mut Place, other: Place)
 pub fn part(word: &Word, seat: &mut Place)
     requires table { (seat.old.table_id ≡ word.now.table_id) × (word.now.table_id.words ≡ 1) }
     requires both { seat.old.me ≡ (Beside (told_of seat.old.me.0) (guest_of seat.old.me.0), []) }
-    ensures seat { IsSameSeat seat.old seat.new }
+    ensures seat { IsSameAcceptSeat seat.old seat.new }
     ensures view { seat.new.me ≡ (Attending (told_of seat.old.me.0), []) }
     ensures none { ShareNone (told_of seat.old.me.0) (guest_of seat.old.me.0) }
 {

@@ -204,7 +204,7 @@ pub fn gather<J: Naming + Send + Sync, R: Abort + Threads + Wait + Sync>(
     assert!(rt; !crowd.given_up.load(Ordering::SeqCst), "all came");
     assert!(rt;
         crowd.there.load(Ordering::SeqCst) == 16,
-        "each was planned once"
+        "each passed the gate once"
     );
     assert!(rt;
         crowd.answered.load(Ordering::SeqCst) == 16,

@@ -1,7 +1,7 @@
 //! Tests as lists: what is done with a store, and what it tells then.
 ghost use Rattle.version_store.specs.Store.{fields_of, IsStore};
 
-use super::plain::Fresh;
+use super::fresh::Fresh;
 use super::steps::{
     Shown, bytes_at, create, delete, entries_of, present_of, set_attribute, truncate, write,
 };
@@ -177,7 +177,7 @@ fn is_same<B: Blocks>(store: &mut Store<B>, object: u64, at: u64) -> Result<bool
 {
     let object = ObjectId::new(object);
     let found = store.inode_at(object, Moment::new(at));
-    Ok(store.present(object) == found)
+    Ok(store.present(object).copied() == found)
 }
 
 fn is_told(entry: &Entry, told: EntryTold) -> bool {

@@ -4,7 +4,7 @@ ghost use Rattle.segment_table.specs.Room.{log_of, new_places};
 ghost use Rattle.version_store.specs.Store.{fields_of, IsStore};
 
 use super::acts::{Act, Deed, play, play_anew};
-use super::plain::Plain;
+use plain_log::PlainLog;
 use s4_types::Refusal;
 use segment_table::SegmentTable;
 use segment_word::Naming;
@@ -47,7 +47,7 @@ static WHAT_IS_NEEDED: [Act; 27] = [
 
 #[test]
 fn a_checkpoint(rt: HostRuntime) -> Result<(), Fail> {
-    play_anew::<Plain, _>(&rt, rt.alloc(), WHAT_IS_NEEDED.as_slice())
+    play_anew::<PlainLog, _>(&rt, rt.alloc(), WHAT_IS_NEEDED.as_slice())
 }
 
 static OF_THE_DEAD: [Act; 10] = [
@@ -65,7 +65,7 @@ static OF_THE_DEAD: [Act; 10] = [
 
 #[test]
 fn a_checkpoint_of_a_deleted_object(rt: HostRuntime) -> Result<(), Fail> {
-    play_anew::<Plain, _>(&rt, rt.alloc(), OF_THE_DEAD.as_slice())
+    play_anew::<PlainLog, _>(&rt, rt.alloc(), OF_THE_DEAD.as_slice())
 }
 
 const LONGEST: [u8; 24_576] = [0x61; 24_576];
@@ -94,7 +94,7 @@ static NO_ROOM: [Act; 16] = [
 
 #[test]
 fn a_checkpoint_without_room(rt: HostRuntime) -> Result<(), Fail> {
-    play_anew::<Plain, _>(&rt, rt.alloc(), NO_ROOM.as_slice())
+    play_anew::<PlainLog, _>(&rt, rt.alloc(), NO_ROOM.as_slice())
 }
 
 /// The table of a drive of 8 frames.

@@ -4,7 +4,7 @@ ghost use Rattle.std.specs.Prelude.{◌≡◌, Some, IfOk, IfSome};
 ghost use Rattle.s4_model.specs.Limits.{Fits};
 ghost use Rattle.version_store.specs.Store.{fields_of, IsStore};
 ghost use Rattle.version_store.specs.Versions.{inode_in};
-ghost use Rattle.version_store.specs.Taking.{IsThere, IsReady};
+ghost use Rattle.version_store.specs.Taking.{IsThere, IsReadyFor};
 ghost use Rattle.version_store.specs.Costs.{subject_inode};
 ghost use Rattle.s4_model.specs.Effect.{object_of};
 
@@ -58,9 +58,8 @@ pub(super) fn create<B: Blocks>(
         object: id,
         attribute: copied(alloc, attribute)?,
     };
-    let present = present_of(store, id, moment)?;
-    match store.take(&change, &present, moment) {
-        Err(Refusal::NoMemory) => Ok(store.take(&change, &present, moment)),
+    match store.take(&change, moment) {
+        Err(Refusal::NoMemory) => Ok(store.take(&change, moment)),
         answer => Ok(answer),
     }
 }
@@ -75,7 +74,7 @@ fn alter<B: Blocks>(
     requires store { IsStore (fields_of B.log store.old) }
     requires object { id ≡ object_of change.now }
     requires fits { Fits change.now }
-    requires ready { IsThere (fields_of B.log store.old) (object_of change.now) → IsReady (fields_of B.log store.old) change.now }
+    requires ready { IsThere (fields_of B.log store.old) (object_of change.now) → IsReadyFor (fields_of B.log store.old) change.now }
     ensures { IsStore (fields_of B.log store.new) }
 {
     changes_begin_with_the_present_version();
@@ -87,7 +86,7 @@ fn alter<B: Blocks>(
     if !present.alive {
         return Err(Fail::from("no such object"));
     }
-    Ok(store.take(change, &present, moment))
+    Ok(store.take(change, moment))
 }
 
 pub(super) fn delete<B: Blocks>(

@@ -21,7 +21,7 @@ pub record CanCheckpoint (s : StoreFields) (o : ℕ) (row : Row) (i : Inode) (m 
   pub room : 0 < room s
 
 -- All inodes and versions of a store are as they were, and the same objects have rows.
-pub record Stands (s later : StoreFields) : Type 0 where
+pub record StandsAsBefore (s later : StoreFields) : Type 0 where
   pub store : IsStore later
   pub versions : (o t : ℕ) → version_in later o t ≡ version_in s o t
   pub inodes : (o t : ℕ) → inode_in later o t ≡ inode_in s o t
@@ -30,6 +30,6 @@ pub record Stands (s later : StoreFields) : Type 0 where
 
 -- the checkpoint was written
 pub record Checkpointed (s : StoreFields) (o : ℕ) (row : Row) (later : StoreFields) : Type 0 where
-  pub stands : Stands s later
+  pub stands : StandsAsBefore s later
   pub made : IsCheckpointed s o row later
   pub current : IfSome (row_of later.rows o) (λ r. AllBy r.checkpoint_moment (entries_of later.log.held o r))

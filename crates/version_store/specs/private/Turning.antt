@@ -1,5 +1,6 @@
 -- What one change leaves of a whole store. No public clause cites this file.
 use Rattle.std.specs.Prelude.{◌≡◌, ◌⊎◌, ℕ, ◌+◌, ◌<◌, ◌≤◌, ◌==◌, ◌&&◌, ◌||◌, nat_le, if◌then◌else◌, drop, length, Some, None, IsSome, is_some}
+use Rattle.std.specs.List.{Contains}
 use Rattle.s4_types.specs.Pointer.{Place}
 use Rattle.s4_types.specs.declared.changes.Change.{Change}
 use Rattle.block_log.specs.declared.kinds.BlockKind.TheVariants.{Data}
@@ -14,7 +15,7 @@ use Rattle.journal_chain.specs.Push.{push_refusal, pushed_blocks}
 use Rattle.time_read.specs.Rows.{chain_of, inode_of}
 use Rattle.inode.specs.Contents.{contents_of, meaning}
 use Rattle.inode.specs.Tidiness.{Tidy, PointersHeld}
-use Rattle.version_store.specs.Store.{StoreFields, IsStore, IsObject, HasNothing, PointsTo}
+use Rattle.version_store.specs.Store.{StoreFields, IsStore, IsObject, HasNothing, pointers_of}
 use Rattle.version_store.specs.declared.store.TheConstants.{MOST_PLACES}
 use Rattle.version_store.specs.Versions.{version_in, version_taken}
 use Rattle.version_store.specs.Costs.{subject_row, subject_inode, blocks_taken, change_refusal}
@@ -37,7 +38,7 @@ LeadsTo i p = (k : ℕ) × (pointer_at i k ≡ Some p)
 pub record IsOpenFor (o : ℕ) (i : Inode) (s : StoreFields) : Type 0 where
   pub objects : (q : ℕ) (row : Row) → row_of s.rows q ≡ Some row → IsObject s.log.held q row s.latest
   pub made : (q : ℕ) (row : Row) → row_of s.rows q ≡ Some row → 1 ≤ row.created
-  pub named : (q : ℕ) (row : Row) → row_of s.rows q ≡ Some row → (p : Place) → IsSome (of_kind Data q s.log.held p) → PointsTo s.log.held q row p ⊎ ((o ≡ q) × LeadsTo i p)
+  pub named : (q : ℕ) (row : Row) → row_of s.rows q ≡ Some row → (p : Place) → IsSome (of_kind Data q s.log.held p) → Contains (pointers_of s.log.held q row) (Some p) ⊎ ((o ≡ q) × LeadsTo i p)
   pub nothing : (q : ℕ) → row_of s.rows q ≡ None → HasNothing s.log.held q
   pub stamps : (q : ℕ) (row : Row) → row_of s.rows q ≡ Some row → row.stamp + length s.log.ahead ≤ MOST_PLACES
   pub few : length s.log.ahead ≤ MOST_PLACES

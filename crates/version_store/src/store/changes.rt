@@ -52,7 +52,7 @@ impl<B: Blocks> Store<B> {
     {
         changes_begin_with_the_present();
         match self.present(object) {
-            Some(inode) => inode,
+            Some(inode) => *inode,
             None => blank(moment),
         }
     }
@@ -90,7 +90,7 @@ impl<B: Blocks> Store<B> {
         };
         self.rows.change(object, next);
         self.latest = moment;
-        self.presents.replace(object, *after);
+        self.presents.replace(object, after);
     }
 
     /// Takes a deletion.
@@ -233,31 +233,30 @@ impl<B: Blocks> Store<B> {
         Ok(())
     }
 
-    /// Takes a change of an object at a moment later than that of each change before; `present` is the inode that it begins
-    /// with, the object's present one, or the blank one of the moment for a creation. From the moment on the object's
-    /// version is what the model makes of it; the versions of all other moments and objects stay. Data blocks are appended
-    /// by ascending index, and after them the journal's.
+    /// Takes a change of an object at a moment later than that of each change before. From the moment on the object's version
+    /// is what the model makes of it; the versions of all other moments and objects stay. Data blocks are appended by
+    /// ascending index, and after them the journal's.
     ///
     /// ChainFull exactly where the journal's entries would have more than 11,712 bytes; else NoSpace exactly where the
     /// change appends more blocks than there is room for beside the reserve; else NoMemory where a creation's row or its
     /// inode couldn't be stored. Then nothing has changed.
-    pub fn take(&mut self, change: &Change, present: &Inode, moment: Moment) -> Result<(), Refusal>
+    pub fn take(&mut self, change: &Change, moment: Moment) -> Result<(), Refusal>
         requires store { IsStore (fields_of B.log self.old) }
         requires later { self.old.latest < moment }
         requires takes { Takes (fields_of B.log self.old) change.now }
-        requires present { present.now ≡ subject_inode (fields_of B.log self.old) (object_of change.now) moment }
         ensures store { IsStore (fields_of B.log self.new) }
         ensures taken { OnOk result ((o t : ℕ) → version_in (fields_of B.log self.new) o t ≡ version_taken (fields_of B.log self.old) change.now moment o t) }
         ensures latest { OnOk result (self.new.latest ≡ moment) }
         ensures rows { OnOk result ((o : ℕ) → is_some (row_of self.new.rows o) ≡ (is_some (row_of self.old.rows o) || o == object_of change.now)) }
         ensures row { OnOk result (RowChanges (fields_of B.log self.old) (object_of change.now) moment self.new.rows) }
-        ensures blocks { OnOk result (Appends (object_of change.now) (data_by (contents_of (B.log self.old.table).held) change.now present.now) (blocks_taken (fields_of B.log self.old) change.now moment) (B.log self.old.table) (B.log self.new.table)) }
+        ensures blocks { OnOk result (Appends (object_of change.now) (data_by (contents_of (B.log self.old.table).held) change.now (subject_inode (fields_of B.log self.old) (object_of change.now) moment)) (blocks_taken (fields_of B.log self.old) change.now moment) (B.log self.old.table) (B.log self.new.table)) }
         ensures answer { MatchResult result (λ _. change_refusal (fields_of B.log self.old) change.now moment ≡ None)
             (λ e. (e ≡ NoMemory) ⊎ (change_refusal (fields_of B.log self.old) change.now moment ≡ Some e)) }
         ensures memory { IfErr result (λ e. e ≡ NoMemory → (change_refusal (fields_of B.log self.old) change.now moment ≡ None) × (row_of self.old.rows (object_of change.now) ≡ None)) }
         ensures unchanged { OnErr result (fields_of B.log self.new ≡ fields_of B.log self.old) }
     {
-        self.check(change, present, moment)?;
-        self.perform(change, present, moment)
+        let present = self.subject(object_of(change), moment);
+        self.check(change, &present, moment)?;
+        self.perform(change, &present, moment)
     }
 }

@@ -102,9 +102,10 @@ impl<B: Blocks> Store<B> {
         if self.room() == 0 {
             return Err(Refusal::NoSpace);
         }
-        let Some(inode) = self.present(object) else {
+        let Some(present) = self.present(object) else {
             unreachable!()
         };
+        let inode = *present;
         self.put_checkpoint(object, &row, &inode, moment);
         Ok(())
     }

@@ -1,5 +1,9 @@
+use Rattle.std.proofs.Common.{arith}
+use Rattle.codec.proofs.Exact.{IsBytes}
 use Rattle.codec.proofs.Patched.{spells_decoded}
 use Rattle.codec.proofs.journal_bytes.can_be_read.Goals as goal
 
 pub returns : goal.returns
-returns c = spells_decoded c.args.block.now c.fits-block c.requires
+returns c =
+    let bytes : IsBytes c.args.block.now = λ i. omega (arith, c.type_inv.block i) in
+    spells_decoded c.args.block.now bytes c.requires

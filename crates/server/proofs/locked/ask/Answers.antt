@@ -9,6 +9,7 @@ returns-clause-step g c = record {
   begins = ap (λ (d : DriveFields). (history_of d).base) (c.deref_mut.ensures.value ∙ sym c.deref.ensures) ∙ c.rules.ensures.base;
   had_seen = c.request.ensures.before;
   step = c.request.ensures.step;
+  memory = c.request.ensures.memory;
   told = c.request.ensures.session;
   has_seen = c.request.ensures.after;
 }

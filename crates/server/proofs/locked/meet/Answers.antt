@@ -1,6 +1,6 @@
 use Rattle.std.proofs.Common.{sym, ap, subst, ◌∙◌}
 use Rattle.drive.specs.Fields.{DriveFields, history_of}
-use Rattle.segment_word.specs.AcceptRule.{Fits}
+use Rattle.segment_word.specs.AcceptRule.{FitsLedger}
 use Rattle.server.proofs.locked.meet.Goals as goal
 
 pub returns : goal.returns
@@ -10,6 +10,6 @@ returns g c = record {
     begins = ap (λ (d : DriveFields). (history_of d).base) (c.deref_mut.ensures.value ∙ sym c.deref.ensures) ∙ c.rules.ensures.base;
     had_seen = c.meet.ensures.before;
     told = c.meet.ensures.session;
-    has_seen = subst (λ (d : DriveFields). Fits d.ledger c.meet.new.session.told) c.meet.ensures.same c.meet.ensures.after;
+    has_seen = subst (λ (d : DriveFields). FitsLedger d.ledger c.meet.new.session.told) c.meet.ensures.same c.meet.ensures.after;
   };
 }

@@ -11,6 +11,7 @@ returns-clause-step g c = record {
   begins = ap (λ (d : DriveFields). (history_of d).base) (c.deref_mut.ensures.value ∙ sym c.deref.ensures) ∙ c.rules.ensures.base;
   had_seen = c.resolve.ensures.before;
   step = c.resolve.ensures.step;
+  memory = c.resolve.ensures.memory;
   told = c.resolve.ensures.session ∙ ap (λ (t : Told). record c.args.session.now { told = t }) (sym (planned_told c.resolve.result c.resolve.new.self.ledger c.args.session.now.told));
   has_seen = c.resolve.ensures.after;
 }

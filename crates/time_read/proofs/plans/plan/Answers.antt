@@ -5,7 +5,7 @@ use Rattle.inode.specs.Touched.{touched_count}
 use Rattle.s4_types.specs.Pointer.{Place}
 use Rattle.segment_table.specs.Table.{Table}
 use Rattle.time_read.specs.Plans.{PlanFields, piece_of, is_pinned}
-use Rattle.time_read.specs.private.Planning.{Adds}
+use Rattle.time_read.specs.private.Planning.{AddsPiece}
 use Rattle.time_read.proofs.Planning.{planned_more, planned_bytes, pinned_among, slot_at, passed, inside}
 use Rattle.time_read.proofs.plans.plan.Goals as goal
 
@@ -44,7 +44,7 @@ loop-index-preserved c =
     let slot_is : slot ≡ pointer_at c.args.inode.now c.loop-index.index = slot_at c.args.inode.now c.loop-index.index slot c.index-inode-index.result (omega (arith, within, c.requires.count)) refl in
     record {
       planned = planned_more c.args.table.now c.args.inode.now (c.args.offset / 512) (c.loop-index.index - c.args.offset / 512) (c.loop-index.index + 1 - c.args.offset / 512) c.loop-index.index slot c.loop-index.plan c.add.new.self
-          c.loop-index.invariant.planned slot_is (omega (arith, low)) (omega (arith, low)) (subst (λ (t : Table). Adds t slot c.loop-index.plan c.add.new.self) c.loop-index.invariant.table adds);
+          c.loop-index.invariant.planned slot_is (omega (arith, low)) (omega (arith, low)) (subst (λ (t : Table). AddsPiece t slot c.loop-index.plan c.add.new.self) c.loop-index.invariant.table adds);
       skip = ap (λ (p : PlanFields). p.skip) adds.rest ∙ c.loop-index.invariant.skip;
       length = ap (λ (p : PlanFields). p.length) adds.rest ∙ c.loop-index.invariant.length;
       table = c.in_ok-add.ensures.same ∙ c.loop-index.invariant.table;

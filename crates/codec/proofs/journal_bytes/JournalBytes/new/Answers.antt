@@ -5,7 +5,7 @@ use Rattle.codec.proofs.Patched.{decoded_is, alone_fits}
 use Rattle.codec.proofs.journal_bytes.JournalBytes.new.Goals as goal
 
 pub encode_entries-requires-clause-fit : goal.encode_entries-requires-clause-fit
-encode_entries-requires-clause-fit c = alone_fits c.from_ref.result.now c.args.entry.now c.from_ref.ensures.value c.fits_alone.ensures
+encode_entries-requires-clause-fit c = alone_fits c.from_ref.result.now c.args.entry.now c.from_ref.ensures.value c.show_room.ensures
 
 pub invariant_of-result : goal.invariant_of-result
 invariant_of-result c =

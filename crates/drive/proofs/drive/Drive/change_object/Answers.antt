@@ -1,4 +1,5 @@
 use Rattle.std.proofs.Common.{◌≡◌, ◌+◌, ◌<◌, max, ℕ, sym, ap, subst, ◌∙◌}
+use Rattle.std.proofs.lemmas.Result.{err_from_is_err_and}
 use Rattle.s4_types.specs.declared.changes.Change.{Change}
 use Rattle.s4_model.specs.State.{State, state_of, took}
 use Rattle.s4_model.specs.Refusals.{last_number}
@@ -9,10 +10,11 @@ use Rattle.segment_word.specs.AcceptViews.{Ledger}
 use Rattle.segment_table.specs.Room.{log_of}
 use Rattle.version_store.specs.Store.{StoreFields, fields_of}
 use Rattle.version_store.specs.Taking.{Takes}
-use Rattle.drive.specs.Fields.{DriveFields, store_of}
-use Rattle.drive.specs.Keeping.{IsKept}
+use Rattle.admission.specs.Later.{later_refusal}
+use Rattle.drive.specs.Fields.{DriveFields, state_in, store_of}
+use Rattle.drive.specs.Keeping.{IsKeptDrive}
 use Rattle.drive.proofs.Parts.{can_count}
-use Rattle.drive.proofs.Storing.{after_stored, ready_of_versions}
+use Rattle.drive.proofs.Storing.{after_stored, ready_of_versions, refuses_untaken, refuses_checked}
 use Rattle.drive.proofs.drive.Drive.change_object.Goals as goal
 
 pub accept-requires : goal.accept-requires
@@ -28,11 +30,11 @@ invariant_of-self-2 g c =
     let ledger : c.self.inside.history ≡ c.args.self.now.ledger = ap (λ (d : DriveFields). d.ledger) c.self.view_is in
     let held : store ≡ store_of c.args.self.now = ap (λ (d : DriveFields). store_of d) c.self.view_is in
     let takes : Takes store change = subst (λ (x : StoreFields). Takes x change) (sym held) c.in_ok-change.ensures.takes in
-    let at : c.moment_after-moment.result ≡ stamp s c.args.now = c.moment_after-moment.ensures ∙ ap (λ (t : ℕ). max c.args.now (t + 1)) (c.clock.ensures ∙ c.self.invariant.1.window.clock) in
+    let at : c.in_ok-change.field-0.moment ≡ stamp s c.args.now = subst (λ (l : Ledger). c.in_ok-change.field-0.moment ≡ stamp (state_of l.history) c.args.now) (sym ledger) c.in_ok-change.ensures.moment in
     let stamped : c.stamp.result ≡ stamp s c.args.now = c.stamp.ensures.moment ∙ ap (λ (t : ℕ). max c.args.now (t + 1)) c.self.invariant.1.window.clock in (
       ap (λ (l : Ledger). l.history.base) c.accept.ensures.history ∙ c.self.invariant.0,
-      subst (λ (n : ℕ). IsKept (state_of c.accept.new.history.history) (fields_of log_of c.take.new.self) c.stamp.new.self n) (sym c.next_after-self-inside.ensures)
-          (after_stored c.the_present_stays.ensures c.the_state_goes_on_record_by_record.ensures.by_changes c.self.inside.history c.accept.new.history c.session.inside.seat.seat store (fields_of log_of c.take.new.self) c.self.inside.window c.stamp.new.self c.self.inside.next c.args.now c.moment_after-moment.result change
+      subst (λ (n : ℕ). IsKeptDrive (state_of c.accept.new.history.history) (fields_of log_of c.take.new.self) c.stamp.new.self n) (sym c.next_after-self-inside.ensures)
+          (after_stored c.the_present_stays.ensures c.the_state_goes_on_record_by_record.ensures.by_changes c.self.inside.history c.accept.new.history c.session.inside.seat.seat store (fields_of log_of c.take.new.self) c.self.inside.window c.stamp.new.self c.self.inside.next c.args.now c.in_ok-change.field-0.moment change
           c.self.invariant.1 takes.ready
           (subst (λ (l : Ledger). HasNext (state_of l.history).next change) (sym ledger) c.in_ok-change.ensures.next)
           at c.accept.ensures.history
@@ -40,3 +42,18 @@ invariant_of-self-2 g c =
           (c.stamp.ensures.taken s (accepted_record s change c.args.now) c.self.invariant.1.window (sym stamped) (ready_of_versions store change takes.ready))
           (subst (λ (l : Ledger). IsSound (took (state_of l.history) (accepted_record (state_of l.history) change c.args.now))) (sym ledger) c.in_ok-change.ensures.sound)),
     )
+
+pub returns-in_err-change : goal.returns-in_err-change
+returns-in_err-change g c =
+    let p = err_from_is_err_and c.from_residual.result c.from_residual.ensures.1 in
+    rw (p.1, p.2) (refuses_checked (later_refusal (state_in c.args.self.now) c.args.request) c.args.self.now c.args.session.now c.args.request c.args.now _ c.in_err-change.ensures.refused)
+
+pub returns-in_err-take : goal.returns-in_err-take
+returns-in_err-take g c =
+    let p = err_from_is_err_and c.from_residual-in_err-take.result c.from_residual-in_err-take.ensures.1 in
+    let change : Change = c.in_ok-change.field-0.change in
+    let ledger : c.self.inside.history ≡ c.args.self.now.ledger = ap (λ (d : DriveFields). d.ledger) c.self.view_is in
+    let held : fields_of log_of c.self.inside.store ≡ store_of c.args.self.now = ap (λ (d : DriveFields). store_of d) c.self.view_is in
+    rw (p.1, p.2) (refuses_untaken (later_refusal (state_in c.args.self.now) c.args.request) c.args.self.now _ c.args.session.now c.args.request c.args.now c.in_ok-change.field-0.moment change _ (fields_of log_of c.self.inside.store)
+    ledger (c.in_err-take.ensures.unchanged ∙ held) held c.in_ok-change.ensures.asked c.in_ok-change.ensures.takes.ready c.in_ok-change.ensures.free
+    c.in_ok-change.ensures.moment c.in_err-take.ensures.answer c.in_err-take.ensures.memory)

@@ -10,7 +10,7 @@ use Rattle.version_store.specs.Store.{fields_of}
 use Rattle.std.proofs.lemmas.Result.{err_from_is_err_and}
 use Rattle.admission.specs.Later.{later_refusal}
 use Rattle.drive.specs.Fields.{state_in, store_of}
-use Rattle.drive.specs.Keeping.{IsKept}
+use Rattle.drive.specs.Keeping.{IsKeptDrive}
 use Rattle.drive.proofs.Parts.{can_count, kept_of}
 use Rattle.drive.proofs.Unversioned.{span_bad, refuses_bad, flush_free, flush_span, flush_given, after_hidden}
 use Rattle.drive.proofs.drive.Drive.flush.Goals as goal
@@ -18,7 +18,7 @@ use Rattle.drive.proofs.drive.Drive.flush.Goals as goal
 pub returns-in_err-check_span : goal.returns-in_err-check_span
 returns-in_err-check_span g c =
     let p = err_from_is_err_and c.from_residual.result c.from_residual.ensures.1 in
-    let kept : IsKept (state_in c.args.self.now) (store_of c.args.self.now) c.self.inside.window c.self.inside.next = kept_of c.args.self.now g.J.Naming.base c.self.inside.history c.self.inside.store c.self.inside.window c.self.inside.next c.self.view_is c.self.invariant in
+    let kept : IsKeptDrive (state_in c.args.self.now) (store_of c.args.self.now) c.self.inside.window c.self.inside.next = kept_of c.args.self.now g.J.Naming.base c.self.inside.history c.self.inside.store c.self.inside.window c.self.inside.next c.self.view_is c.self.invariant in
     let bad = c.in_err-check_span.ensures.of_all (state_in c.args.self.now) kept.window in
     rw (p.1, p.2) (refuses_bad (later_refusal (state_in c.args.self.now) (Flush c.args.first c.args.last)) c.args.self.now c.args.session.now (Flush c.args.first c.args.last) c.args.now _ (span_bad (state_in c.args.self.now) c.args.first c.args.last bad.1) bad.0)
 

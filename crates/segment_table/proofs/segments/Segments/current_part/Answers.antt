@@ -12,7 +12,7 @@ returns c =
     let same : old ≡ c.args.self.now = c.self.view_is in
     let I : Table → Type 0 = λ t. c.args.place.frame < length t.drive.frames in
     let inside : I old = subst I (sym same) c.requires.inside in
-    let within : c.args.place.frame < length old.slots = omega (arith, c.self.invariant.counted) in
+    let within : c.args.place.frame < length old.slots = omega (arith, c.self.invariant.0.counted) in
     let F : ℕ → Type 0 = λ n. c.index.result.now ≡ get_or old.slots n c.index.result.now in
     let read : c.index.result.now ≡ slots_at old.slots c.args.place.frame = get_or_read old.slots c.args.place.frame c.index.result.now within (subst F c.frame.ensures c.index.ensures) [] in
     c.held.ensures

@@ -10,11 +10,11 @@ returns-in-Some c =
     let old : Table = record { drive = c.self.inside.seat; slots = c.self.inside.slots.items } in
     let H : Table → Type 0 = λ t. IsSome (held_at t c.args.place) in
     let M : Table → Type 0 = λ t. MatchBool (c.in-Some.frame == c.frame.result) ((frame_at t.drive.frames c.args.place.frame).phase ≡ Open) ((frame_at t.drive.frames c.args.place.frame).phase ≡ Sealed) in
-    subst M c.self.view_is (open_or_sealed old c.self.inside.free.items c.self.inside.current c.args.place c.in-Some.frame c.frame.result c.self.invariant (subst H (sym c.self.view_is) c.requires) c.in-Some.is c.frame.ensures)
+    subst M c.self.view_is (open_or_sealed old c.self.inside.free.items c.self.inside.current c.args.place c.in-Some.frame c.frame.result c.self.invariant.0 (subst H (sym c.self.view_is) c.requires) c.in-Some.is c.frame.ensures)
 
 pub returns-in-None : goal.returns-in-None
 returns-in-None c =
     let old : Table = record { drive = c.self.inside.seat; slots = c.self.inside.slots.items } in
     let H : Table → Type 0 = λ t. IsSome (held_at t c.args.place) in
     let P : Table → Type 0 = λ t. (frame_at t.drive.frames c.args.place.frame).phase ≡ Sealed in
-    subst P c.self.view_is (held_sealed_frame old c.self.inside.free.items c.self.inside.current c.args.place c.self.invariant (subst H (sym c.self.view_is) c.requires) (λ e. let clash : None ≡ Some c.args.place.frame = sym c.in-None.is ∙ e in cc))
+    subst P c.self.view_is (held_sealed_frame old c.self.inside.free.items c.self.inside.current c.args.place c.self.invariant.0 (subst H (sym c.self.view_is) c.requires) (λ e. let clash : None ≡ Some c.args.place.frame = sym c.in-None.is ∙ e in cc))

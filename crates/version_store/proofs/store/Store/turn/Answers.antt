@@ -6,7 +6,7 @@ use Rattle.version_store.specs.Store.{StoreOf, StoreFields, fields_of}
 use Rattle.version_store.specs.private.Turning.{CanTurn, Turns, blocks_turned}
 use Rattle.version_store.proofs.Steps.{Records}
 use Rattle.version_store.proofs.Present.{turned_keeps}
-use Rattle.version_store.proofs.Turning.{known, turned}
+use Rattle.version_store.proofs.Turning.{known, records_of, turned}
 use Rattle.version_store.proofs.store.Store.turn.Goals as goal
 
 pub record_change-requires-clause-earlier : goal.record_change-requires-clause-earlier
@@ -23,7 +23,7 @@ returns g c =
     let there : row_of c.self.inside.rows c.args.object ≡ Some c.in-Some.row = sym c.in-Some.ensures in
     let know = known c.a_row_is_by_later_moments.ensures.later c.the_last_inode_stays.ensures s c.args.object c.args.before.now c.args.after.now c.args.moment c.in-Some.row can there in
     let records : Records s.log.held later.log.held c.args.object c.in-Some.row c.in-Ok.next c.args.after.now c.args.moment =
-    record { row_stands = c.in-Ok.ensures.row; by = c.in-Ok.ensures.latest; inode = c.in-Ok.ensures.inode; others = c.in-Ok.ensures.others } in
+    records_of s later.log.held c.args.object c.args.before.now c.args.after.now c.args.moment c.in-Some.row c.in-Ok.next c.the_entries_between_two_inodes.ensures.pointers can there c.in-Ok.ensures.row c.in-Ok.ensures.latest c.in-Ok.ensures.inode c.in-Ok.ensures.entries c.in-Ok.ensures.fields c.in-Ok.ensures.others in
     let put = subst (λ (r : Option Row). IfSome r (λ old. (q : ℕ) → row_of c.change.new.self q ≡ with_row (row_of c.self.inside.rows) c.args.object (record c.in-Ok.next { stamp = old.stamp + 1 }) q)) there c.change.ensures.changed in
     subst (λ (v : StoreOf _). Turns (fields_of g.B.Blocks.log v) c.args.object c.args.moment c.args.after.now (blocks_turned (fields_of g.B.Blocks.log v) c.args.object c.args.before.now c.args.after.now c.args.moment) later) c.self.view_is
     (turned c.a_row_is_its_own_blocks.ensures.row c.a_row_is_its_own_blocks.ensures.inode c.a_row_is_by_later_moments.ensures.journal c.a_row_is_by_later_moments.ensures.later c.only_its_blocks_matter.ensures c.the_entries_between_two_inodes.ensures.count c.few_blocks_are_needed.ensures.least

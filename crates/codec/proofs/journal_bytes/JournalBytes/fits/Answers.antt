@@ -1,0 +1,5 @@
+use Rattle.std.proofs.Common.{◌+◌, nat_le, ap, arith}
+use Rattle.codec.proofs.journal_bytes.JournalBytes.fits.Goals as goal
+
+pub returns : goal.returns
+returns c = ap (λ n. nat_le n 488) (omega (arith, c.entry_bytes.ensures.exact, c.byte_count.ensures.exact))
