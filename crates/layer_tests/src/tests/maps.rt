@@ -93,7 +93,9 @@ fn values_are_replaced_one_by_one(rt: HostRuntime) -> Result<(), Fail> {
     if ages.get(ObjectId::new(7)).is_some() {
         ages.replace(ObjectId::new(7), &71);
     }
-    assert!(&rt; ages.get(ObjectId::new(2)) == Some(&20) && ages.get(ObjectId::new(7)) == Some(&71));
+    assert!(&rt;
+        ages.get(ObjectId::new(2)) == Some(&20) && ages.get(ObjectId::new(7)) == Some(&71)
+    );
     assert!(&rt; ages.get(ObjectId::new(3)).is_none() && ages.len() == 2);
     Ok(())
 }
