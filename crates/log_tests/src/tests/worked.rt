@@ -136,29 +136,35 @@ fn the_frame_of_a_create_and_a_write(rt: HostRuntime) -> Result<(), Fail> {
     Ok(())
 }
 
+/// The object's row in a map.
+fn row_in(rows: &ObjectMap<u8>) -> Option<Row> {
+    let kept = rows.get(ObjectId::new(OBJECT))?;
+    Some(kept.row)
+}
+
 /// Gives the object's row this journal and checkpoint.
-fn put(rows: &mut ObjectMap, row: Row) {
+fn put(rows: &mut ObjectMap<u8>, row: Row) {
     let object = ObjectId::new(OBJECT);
     if let Some(old) = rows.get(object) {
-        if old.stamp < 9 {
-            rows.change(object, row);
+        if old.row.stamp < 9 {
+            rows.change_row(object, &row);
         }
     }
 }
 
 /// A map with a row of the object, made at moment 10. The row is added once more where memory was refused.
-fn one_row(alloc: Global) -> Result<ObjectMap, Refusal> {
+fn one_row(alloc: Global) -> Result<ObjectMap<u8>, Refusal> {
     let mut rows = ObjectMap::new(alloc);
     let object = ObjectId::new(OBJECT);
-    if rows.add(object, Moment::new(10)).is_err() {
-        rows.add(object, Moment::new(10))?;
+    if rows.add(object, Moment::new(10), &0).is_err() {
+        rows.add(object, Moment::new(10), &0)?;
     }
     Ok(rows)
 }
 
 /// The same, and the row is put among these after either.
 fn create_and_write_with_rows<B: Blocks>(
-    rows: &mut ObjectMap,
+    rows: &mut ObjectMap<u8>,
     subject: &mut Subject<B>,
 ) -> Result<(), Fail>
     requires { IsPresent (B.log subject.old.table).held subject.old.row subject.old.inode subject.old.latest }
@@ -192,10 +198,9 @@ fn check_rows<B: Blocks>(
     requires { IsPresent (B.log subject.old.table).held subject.old.row subject.old.inode subject.old.latest }
 {
     let mut rows = one_row(alloc)?;
-    let object = ObjectId::new(OBJECT);
-    assert!(rt; rows.get(object) == Some(subject.row()));
+    assert!(rt; row_in(&rows) == Some(subject.row()));
     create_and_write_with_rows(&mut rows, subject)?;
-    assert!(rt; rows.get(object) == Some(row_of_both()));
+    assert!(rt; row_in(&rows) == Some(row_of_both()));
     assert!(rt; rows.len() == 1);
     Ok(())
 }
