@@ -7,6 +7,7 @@ use Rattle.s4_model.specs.Effect.{resized, written}
 use Rattle.codec.specs.declared.inodes.Inode.{Inode}
 use Rattle.inode.specs.Contents.{byte_of}
 use Rattle.inode.specs.Changed.{byte_written, block_of}
+use Rattle.inode.specs.private.Placing.{Placed}
 use Rattle.inode.proofs.Listing.{listed-at, listed-is}
 
 -- the byte at a place after a write, where the place is written and where it isn't
@@ -27,7 +28,7 @@ byte_written-behind contents i offset bytes n le =
 
 -- a block with the bytes of a write placed in it is the one that the write makes
 pub placed_block : (contents : Place → List ℕ) (i : Inode) (k offset : ℕ) (bytes was now : List ℕ) → was ≡ block_of (byte_of contents i) k → length now ≡ 512
-    → ((n : ℕ) → n < 512 → get_or now n 0 ≡ cond (nat_le offset (512 * k + n) && nat_lt (512 * k + n) (offset + length bytes)) (get_or bytes (512 * k + n - offset) 0) (get_or was n 0))
+    → Placed k offset bytes was now
     → now ≡ block_of (byte_written contents i offset bytes) k
 unfolding byte_written
 placed_block contents i k offset bytes was now e len each =
@@ -36,7 +37,7 @@ placed_block contents i k offset bytes was now e len each =
 
 -- a block that the write covers whole has its bytes alone
 pub covered_block : (contents : Place → List ℕ) (i : Inode) (k offset : ℕ) (bytes was now : List ℕ) → offset ≤ 512 * k → 512 * k + 512 ≤ offset + length bytes → length now ≡ 512
-    → ((n : ℕ) → n < 512 → get_or now n 0 ≡ cond (nat_le offset (512 * k + n) && nat_lt (512 * k + n) (offset + length bytes)) (get_or bytes (512 * k + n - offset) 0) (get_or was n 0))
+    → Placed k offset bytes was now
     → now ≡ block_of (byte_written contents i offset bytes) k
 unfolding byte_written
 covered_block contents i k offset bytes was now low high len each =

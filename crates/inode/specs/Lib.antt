@@ -4,3 +4,4 @@ pub mod Growth
 pub mod Touched
 pub mod Changed
 pub mod Laws
+pub mod private

@@ -1,4 +1,4 @@
-ghost use Rattle.std.specs.Prelude.{◌≡◌, ℕ, ◌+◌, ◌-◌, ◌*◌, ◌/◌, ◌<◌, ◌≤◌, ◌&&◌, nat_le, nat_lt, if◌then◌else◌, Some, None, length, slice_get, slice_index};
+ghost use Rattle.std.specs.Prelude.{◌≡◌, ℕ, ◌+◌, ◌-◌, ◌*◌, ◌/◌, ◌<◌, ◌≤◌, if◌then◌else◌, Some, None, length, slice_get};
 ghost use Rattle.s4_types.specs.declared.limits.TheConstants.{OBJECT_BLOCKS, OBJECT_BYTES};
 ghost use Rattle.s4_types.specs.declared.changes.Change.TheVariants.{Write};
 ghost use Rattle.s4_model.specs.Effect.{effect};
@@ -8,6 +8,7 @@ ghost use Rattle.inode.specs.Tidiness.{Tidy, PointersHeld, PointersLead};
 ghost use Rattle.inode.specs.Growth.{log_grown, data_block, with_data, GrowsBy};
 ghost use Rattle.inode.specs.Touched.{touched_count, is_touched};
 ghost use Rattle.inode.specs.Changed.{byte_written, block_of, blocks_written, size_written, Written};
+ghost use Rattle.inode.specs.private.Placing.{Placed};
 
 use crate::appends::append_data;
 use crate::counts::blocks_of_write;
@@ -24,7 +25,7 @@ fn place(block: &mut Block, index: usize, offset: usize, bytes: &[u8])
     requires low { offset < 512 * index + 512 }
     requires high { 512 * index < offset + length bytes.now }
     ensures count { length block.new ≡ 512 }
-    ensures bytes { (n : ℕ) → n < 512 → slice_index block.new n ≡ (if nat_le offset (512 * index + n) && nat_lt (512 * index + n) (offset + length bytes.now) then slice_index bytes.now (512 * index + n - offset) else slice_index block.old n) }
+    ensures bytes { Placed index offset bytes.now block.old block.new }
 {
     let start = index * BLOCK_BYTES;
     let first = start.saturating_sub(offset);

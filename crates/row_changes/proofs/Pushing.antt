@@ -10,13 +10,14 @@ use Rattle.codec.specs.Fields.{◌>>=◌}
 use Rattle.codec.specs.declared.inodes.Inode.{Inode}
 use Rattle.codec.specs.Entry.{EntryFields}
 use Rattle.codec.specs.Checkpoint.{CheckpointFields}
-use Rattle.undo_redo.specs.Runs.{Run, AllAt, AllBy, AllPast, entry_is_by, entries_by, inode_after, redone_all, undone_all}
+use Rattle.undo_redo.specs.Runs.{Run, AllAt, AllBy, AllPast, entry_is_by, entries_by, inode_after, undone_all}
 use Rattle.undo_redo.specs.Groups.{grouped}
 use Rattle.checkpoint.specs.Held.{checkpoint_held, spelled_checkpoint}
 use Rattle.object_map.specs.declared.map.Row.{Row}
 use Rattle.journal_chain.specs.Chain.{BlockView, ChainFields, Holds, entries_held}
 use Rattle.time_read.specs.Rows.{chain_of, entries_of, checkpoint_of, inode_before, first_of, inode_of, IsRow}
 use Rattle.row_changes.specs.Recent.{IsBy}
+use Rattle.row_changes.specs.private.Joining.{LaterEntriesJoin}
 use Rattle.row_changes.proofs.Recently.{all_by_later}
 
 -- ---- entries and moments
@@ -40,17 +41,6 @@ at_by m t (e ∷ entries) le h = (let is : e.moment ≡ m = h.0 in le-leb e.mome
 both_by : (t : ℕ) (front back : List EntryFields) → AllBy t front → AllBy t back → AllBy t (front ++ back)
 both_by t [] back h k = k
 both_by t (e ∷ front) back h k = (h.0, both_by t front back h.1 k)
-
--- ---- laws of the layers below
-
-pub record Laws : Type 0 where
-  pub end : (i j : Inode) (entries : List EntryFields) → Run i entries j → j ≡ redone_all entries i
-  pub join : (i j k : Inode) (front back : List EntryFields) → Run i front j → Run j back k → Run i (front ++ back) k
-  pub done : (i : Inode) (entries : List EntryFields) (t : ℕ) → AllBy t entries → inode_after i entries t ≡ redone_all entries i
-  pub later : (i : Inode) (entries later : List EntryFields) (t : ℕ) → AllPast t later → inode_after i (entries ++ later) t ≡ inode_after i entries t
-  pub since : (i : Inode) (entries : List EntryFields) (m t : ℕ) → AllBy m entries → m ≤ t → inode_after i entries t ≡ inode_after i entries m
-  pub joined : (i : Inode) (front back : List EntryFields) (t : ℕ) → inode_after i (front ++ back) t ≡ inode_after (inode_after i front t) back t
-  pub groups : (m : ℕ) (front back : List EntryFields) → grouped front ≡ true → grouped back ≡ true → AllBy m front → AllPast m back → grouped (front ++ back) ≡ true
 
 -- ---- the push
 
@@ -121,13 +111,13 @@ present_is : (held later : Place → Option Stored) (o : ℕ) (row next : Row) (
 unfolding inode_of
 present_is held later o row next i j m new p = p.before
 
-earlier_stay : (held later : Place → Option Stored) (o : ℕ) (row : Row) (h : Option Place) (b f : ℕ) (i j : Inode) (m : ℕ) (new : List EntryFields) (t : ℕ) → Laws → Pushed held later o row (with_chain row h b f) i j m new → t < m → inode_of later o (with_chain row h b f) t ≡ inode_of held o row t
+earlier_stay : (held later : Place → Option Stored) (o : ℕ) (row : Row) (h : Option Place) (b f : ℕ) (i j : Inode) (m : ℕ) (new : List EntryFields) (t : ℕ) → LaterEntriesJoin → Pushed held later o row (with_chain row h b f) i j m new → t < m → inode_of later o (with_chain row h b f) t ≡ inode_of held o row t
 unfolding inode_of
 earlier_stay held later o row h b f i j m new t laws p lt =
     inode_is held later o row h b f i j m new t p
     ∙ laws.later (first_of held o row) (entries_of held o row) new t (at_past m t new lt p.moments)
 
-later_are : (held later : Place → Option Stored) (o : ℕ) (row : Row) (h : Option Place) (b f : ℕ) (i j : Inode) (m : ℕ) (new : List EntryFields) (t : ℕ) → Laws → Pushed held later o row (with_chain row h b f) i j m new → m ≤ t → inode_of later o (with_chain row h b f) t ≡ j
+later_are : (held later : Place → Option Stored) (o : ℕ) (row : Row) (h : Option Place) (b f : ℕ) (i j : Inode) (m : ℕ) (new : List EntryFields) (t : ℕ) → LaterEntriesJoin → Pushed held later o row (with_chain row h b f) i j m new → m ≤ t → inode_of later o (with_chain row h b f) t ≡ j
 later_are held later o row h b f i j m new t laws p le =
     let first : Inode = first_of held o row in
     let old : List EntryFields = entries_of held o row in
@@ -139,7 +129,7 @@ later_are held later o row h b f i j m new t laws p le =
     ∙ laws.done i new t (at_by m t new le p.moments)
     ∙ sym (laws.end i j new p.run)
 
-pub pushed_inode : (held later : Place → Option Stored) (o : ℕ) (row : Row) (h : Option Place) (b f : ℕ) (i j : Inode) (m : ℕ) (new : List EntryFields) (t : ℕ) → Laws → Pushed held later o row (with_chain row h b f) i j m new → inode_of later o (with_chain row h b f) t ≡ (if nat_le m t then j else inode_of held o row t)
+pub pushed_inode : (held later : Place → Option Stored) (o : ℕ) (row : Row) (h : Option Place) (b f : ℕ) (i j : Inode) (m : ℕ) (new : List EntryFields) (t : ℕ) → LaterEntriesJoin → Pushed held later o row (with_chain row h b f) i j m new → inode_of later o (with_chain row h b f) t ≡ (if nat_le m t then j else inode_of held o row t)
 pushed_inode held later o row h b f i j m new t laws p = elim (cases_Bool (nat_le m t)) [
   | inl le ↦ later_are held later o row h b f i j m new t laws p (leb-true m t le) ∙ sym (cond-true (nat_le m t) j (inode_of held o row t) le)
   | inr lt ↦ earlier_stay held later o row h b f i j m new t laws p (leb-false m t lt) ∙ sym (cond-false (nat_le m t) j (inode_of held o row t) lt)
@@ -155,7 +145,7 @@ pushed_by held later o row h b f i j m new p =
     }
 
 -- the run goes on where it stood
-run_on : (held later : Place → Option Stored) (o : ℕ) (row next : Row) (i j : Inode) (m : ℕ) (new : List EntryFields) → Laws → Pushed held later o row next i j m new → Run (first_of held o row) (entries_of held o row ++ new) j
+run_on : (held later : Place → Option Stored) (o : ℕ) (row next : Row) (i j : Inode) (m : ℕ) (new : List EntryFields) → LaterEntriesJoin → Pushed held later o row next i j m new → Run (first_of held o row) (entries_of held o row ++ new) j
 run_on held later o row next i j m new laws p =
     let first : Inode = first_of held o row in
     let old : List EntryFields = entries_of held o row in
@@ -166,7 +156,7 @@ carried : (N : Type 0) (c : Option Place) (f g : Place → Option CheckpointFiel
 carried N None f g x y same is h = h
 carried N (Some p) f g x y same is h = same p ∙ h ∙ sym (ap (λ (z : CheckpointFields). Some z) is)
 
-pub pushed_row : (held later : Place → Option Stored) (o : ℕ) (row : Row) (h : Option Place) (b f : ℕ) (i j : Inode) (m : ℕ) (new : List EntryFields) → Laws → Pushed held later o row (with_chain row h b f) i j m new → IsRow later o (with_chain row h b f)
+pub pushed_row : (held later : Place → Option Stored) (o : ℕ) (row : Row) (h : Option Place) (b f : ℕ) (i j : Inode) (m : ℕ) (new : List EntryFields) → LaterEntriesJoin → Pushed held later o row (with_chain row h b f) i j m new → IsRow later o (with_chain row h b f)
 pushed_row held later o row h b f i j m new laws p =
     let next : Row = with_chain row h b f in
     let old : List EntryFields = entries_of held o row in

@@ -1,2 +1,4 @@
 pub mod Recent
 pub mod Moved
+pub mod Laws
+pub mod private

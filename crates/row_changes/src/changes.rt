@@ -5,18 +5,13 @@ ghost use Rattle.journal_chain.specs.Push.{push_refusal, pushed_blocks};
 ghost use Rattle.time_read.specs.Rows.{IsRow, chain_of, entries_of, inode_of};
 ghost use Rattle.row_changes.specs.Recent.{IsBy};
 
+use crate::laws::later_entries_join_a_row;
 use block_log::Blocks;
 use codec::Inode;
 use journal_chain::Chain;
-use journal_chain::laws::a_chain_has_its_entries;
 use object_map::Row;
 use s4_types::{Moment, ObjectId, Refusal};
-use time_read::laws::a_row_tells_a_chain;
 use undo_redo::entries_between;
-use undo_redo::laws::{
-    a_run_has_one_end_and_one_beginning, groups_join_and_part, runs_join_and_part,
-    the_inode_at_a_moment,
-};
 
 /// Appends to an object's journal what leads from its present inode to the next one, at a moment, and answers its row
 /// after that.
@@ -47,12 +42,7 @@ pub fn record_change<B: Blocks>(
         (λ e. push_refusal (chain_of object row.now) (B.log table.old).ahead (entries_between before.now after.now moment) ≡ Some e) }
     ensures unchanged { OnErr result (B.log table.new ≡ B.log table.old) }
 {
-    a_run_has_one_end_and_one_beginning();
-    groups_join_and_part();
-    runs_join_and_part();
-    the_inode_at_a_moment();
-    a_chain_has_its_entries();
-    a_row_tells_a_chain();
+    later_entries_join_a_row();
     let entries = entries_between(before, after, moment);
     let mut chain = Chain::of(object, row.head, row.journal_bytes, row.head_bytes);
     chain.push(table, entries.as_slice())?;

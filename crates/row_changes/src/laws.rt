@@ -1,24 +1,27 @@
 //! Laws of rows that change, for the layers above: each function does nothing, and its contract is the law.
-ghost use Rattle.std.specs.Prelude.{◌≡◌, ℕ, ◌≤◌, Option, None};
+ghost use Rattle.std.specs.Prelude.{◌≡◌, ℕ, ◌≤◌, Option};
 ghost use Rattle.s4_types.specs.Pointer.{Place};
-ghost use Rattle.block_log.specs.declared.kinds.BlockKind.TheVariants.{Journal, Checkpoint};
+ghost use Rattle.block_log.specs.declared.kinds.BlockKind.TheVariants.{Journal};
 ghost use Rattle.block_log.specs.Log.{Stored, of_kind};
 ghost use Rattle.undo_redo.specs.Runs.{blank};
 ghost use Rattle.object_map.specs.declared.map.Row.{Row};
 ghost use Rattle.object_map.specs.Rows.{fresh_row};
 ghost use Rattle.time_read.specs.Rows.{IsRow, inode_of};
 ghost use Rattle.row_changes.specs.Recent.{IsBy};
+ghost use Rattle.row_changes.specs.Laws.{AFreshRowStands};
+ghost use Rattle.row_changes.specs.private.Joining.{LaterEntriesJoin};
 
-use journal_chain::laws::an_empty_chain_is_held;
+use journal_chain::laws::{a_chain_has_its_entries, an_empty_chain_is_held};
+use time_read::laws::a_row_tells_a_chain;
 use undo_redo::laws::{
-    a_run_keeps_the_making, groups_join_and_part, the_inode_at_a_moment,
-    the_inode_at_a_moment_stands_in_the_run,
+    a_run_has_one_end_and_one_beginning, a_run_keeps_the_making, groups_join_and_part,
+    runs_join_and_part, the_inode_at_a_moment, the_inode_at_a_moment_stands_in_the_run,
 };
 
 /// The row of an object that was just made stands where no journal block and no checkpoint of the object is held, tells of
 /// no moment yet, and the inode is blank at each.
 pub fn a_fresh_row_stands()
-    ensures row { (held : Place → Option Stored) (o created : ℕ) → 1 ≤ o → ((p : Place) → of_kind Journal o held p ≡ None) → ((p : Place) → of_kind Checkpoint o held p ≡ None) → IsRow held o (fresh_row created) }
+    ensures row { AFreshRowStands }
     ensures latest { (held : Place → Option Stored) (o created : ℕ) → IsBy held o (fresh_row created) 0 }
     ensures inode { (held : Place → Option Stored) (o created t : ℕ) → inode_of held o (fresh_row created) t ≡ blank created }
 {
@@ -46,4 +49,16 @@ pub fn a_row_keeps_the_making()
     a_run_keeps_the_making();
     groups_join_and_part();
     the_inode_at_a_moment_stands_in_the_run();
+}
+
+/// Entries of a later moment that come behind those of a row make one run and one chain with them. `record_change` rests on this.
+pub(crate) fn later_entries_join_a_row()
+    ensures { LaterEntriesJoin }
+{
+    a_run_has_one_end_and_one_beginning();
+    groups_join_and_part();
+    runs_join_and_part();
+    the_inode_at_a_moment();
+    a_chain_has_its_entries();
+    a_row_tells_a_chain();
 }

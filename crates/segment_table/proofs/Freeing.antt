@@ -13,6 +13,7 @@ use Rattle.segment_table.specs.Table.{Table, slots_at, held_block, held_at}
 use Rattle.segment_table.specs.Room.{is_filling, can_open, numbers, places, rest_of, whole_of, places_ahead}
 use Rattle.segment_table.specs.Sealing.{IsLetGo, IsFit, IsSoundTable, IsPartFilled}
 use Rattle.segment_table.specs.Changes.{IsAlone, IsMarked, IsReleased, IsAheadAgain}
+use Rattle.segment_table.specs.private.Putting.{IsPutBetween}
 use Rattle.segment_table.proofs.Alone.{put_here, alone, length-alone, elsewhere, numbers_alone}
 use Rattle.segment_table.proofs.Numbers.{numbers_same}
 use Rattle.segment_table.proofs.Sound.{fits_changed}
@@ -48,7 +49,7 @@ vacant_kept old new f r h =
 
 -- the list of the frames that can be opened is as it is to be
 pub list_again : (old new : Table) (free free' : List ℕ) (current : Option ℕ) (f : ℕ) → IsSoundTable old free current → IsReleased f old new → (frame_at old.drive.frames f).generation + 2 < 2 ^ 32
-    → ((hs ls : List ℕ) → free ≡ hs ++ ls → AllByRecursion (λ n. f < n) hs → AllByRecursion (λ n. n < f) ls → free' ≡ hs ++ f ∷ ls)
+    → IsPutBetween f free free'
     → free' ≡ reverse (numbers can_open 0 (set old.drive.frames f (released (frame_at old.drive.frames f))))
 list_again old new free free' current f sound r h put =
     let j : Joins can_open f old.drive.frames (released (frame_at old.drive.frames f)) = vacant_again old new f r h in

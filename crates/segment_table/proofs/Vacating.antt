@@ -7,6 +7,7 @@ use Rattle.std.proofs.lemmas.List.{reverse-append}
 use Rattle.segment_word.specs.Frames.{Frame}
 use Rattle.segment_word.specs.Layout.{frame_at}
 use Rattle.segment_table.specs.Room.{numbers}
+use Rattle.segment_table.specs.private.Putting.{IsPutBetween}
 use Rattle.segment_table.proofs.Numbers.{numbers_in, numbers_out}
 use Rattle.segment_table.proofs.Ahead.{numbers_few}
 
@@ -154,7 +155,7 @@ all_back P (x ∷ l) a = subst (AllByRecursion P) (sym (reverse-append (x ∷ []
 
 -- a list by descending number, with a number put back at its place
 pub put_back_is : (free free' lower higher : List ℕ) (f : ℕ) → free ≡ reverse (lower ++ higher) → AllByRecursion (λ n. n < f) lower → AllByRecursion (λ n. f < n) higher
-    → ((hs ls : List ℕ) → free ≡ hs ++ ls → AllByRecursion (λ n. f < n) hs → AllByRecursion (λ n. n < f) ls → free' ≡ hs ++ f ∷ ls)
+    → IsPutBetween f free free'
     → free' ≡ reverse (lower ++ f ∷ higher)
 put_back_is free free' lower higher f e below above put =
     put (reverse higher) (reverse lower) (e ∙ reverse-append lower higher) (all_back (λ n. f < n) higher above) (all_back (λ n. n < f) lower below)

@@ -3,3 +3,4 @@ pub mod Table
 pub mod Room
 pub mod Sealing
 pub mod Changes
+pub mod private

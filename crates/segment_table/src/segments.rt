@@ -1,6 +1,6 @@
 //! The frames of a drive and what their blocks are for, one step at a time.
-ghost use Rattle.std.specs.Prelude.{◌≡◌, ◌≢◌, ℕ, ◌+◌, ◌-◌, ◌^◌, ◌<◌, ◌≤◌, ◌⊎◌, ◌==◌, true, false, List, [], ◌∷◌, ◌++◌, length, map, replicate, reverse, Option, Some, None, IsSome, IfSome, IfNone, IfOk, IfErr, OnOk, OnErr, IsOk, MatchOption, MatchBool, option_map, vec_len, vec_capacity};
-ghost use Rattle.std.specs.List.{AllByRecursion, range_with_len};
+ghost use Rattle.std.specs.Prelude.{◌≡◌, ◌≢◌, ℕ, ◌+◌, ◌-◌, ◌^◌, ◌<◌, ◌≤◌, ◌⊎◌, ◌==◌, true, false, [], ◌∷◌, ◌++◌, length, map, replicate, reverse, Option, Some, None, IsSome, IfSome, IfNone, IfOk, IfErr, OnOk, OnErr, IsOk, MatchOption, MatchBool, option_map, vec_len, vec_capacity};
+ghost use Rattle.std.specs.List.{range_with_len};
 ghost use Rattle.std.specs.Option.{option_to_list};
 ghost use Rattle.s4_types.specs.declared.refusals.Refusal.TheVariants.{NoMemory, Busy, InUse};
 ghost use Rattle.block_log.specs.Log.{appended, dropped};
@@ -14,6 +14,7 @@ ghost use Rattle.segment_table.specs.Table.{Table, slots_at, held_at, is_of, par
 ghost use Rattle.segment_table.specs.Room.{is_filling, can_open, numbers, rest_of, places_ahead, log_of, pointers_in};
 ghost use Rattle.segment_table.specs.Sealing.{IsFit, IsPartFilled};
 ghost use Rattle.segment_table.specs.Changes.{IsFilling, NoneIsFilling, IsReadyFrame, IsPut, IsSealed, IsSealedIn, NoneHeld, IsMarked, IsReleased, IsAheadAgain};
+ghost use Rattle.segment_table.specs.private.Putting.{IsPutBetween};
 
 use crate::seals;
 use crate::slots::Slots;
@@ -76,7 +77,7 @@ fn descending(alloc: Global, count: u16) -> Result<Vec<u16>, Refusal>
 // Puts a number into a list between those that are greater and those that are less.
 fn put_back(free: &mut Vec<u16>, frame: u16)
     requires { vec_len free.old < vec_capacity free.old }
-    ensures items { (higher lower : List ℕ) → free.old.items ≡ higher ++ lower → AllByRecursion (λ n. frame < n) higher → AllByRecursion (λ n. n < frame) lower → free.new.items ≡ higher ++ frame ∷ lower }
+    ensures items { IsPutBetween frame free.old.items free.new.items }
     ensures room { vec_capacity free.old ≤ vec_capacity free.new }
 {
     let place = free.as_slice().partition_point(|other| *other > frame);

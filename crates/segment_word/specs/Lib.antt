@@ -8,3 +8,4 @@ pub mod AcceptViews
 pub mod AcceptRule
 pub mod AcceptSteps
 pub mod AcceptHandles
+pub mod private

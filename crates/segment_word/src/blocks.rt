@@ -9,6 +9,7 @@ ghost use Rattle.segment_word.specs.Frames.Phase.{Open};
 ghost use Rattle.segment_word.specs.Layout.{frame_at, block_bytes, block_words, with_block};
 ghost use Rattle.segment_word.specs.Counting.{pins_in};
 ghost use Rattle.segment_word.specs.Steps.{with_frame, IsSameSeat};
+ghost use Rattle.segment_word.specs.private.Pins.{GrowsByPinned};
 
 use crate::layout::{BLOCK_WORDS, FRAME_WORDS, WORD_BYTES};
 use crate::steps::{Place, Words, look, read, store};
@@ -98,7 +99,7 @@ pub fn append_bytes(
     requires range { (from ≤ to) × (to ≤ 512) }
     ensures seat { IsSameSeat seat.old seat.new }
     ensures view { seat.new.me.0 ≡ seat.old.me.0 }
-    ensures bytes { OnOk result ((i : ℕ) (p : Pinned) → get_elem? seat.old.me.0.pins i ≡ some p → p.number ≡ frame → into.new.items ≡ into.old.items ++ take (to - from) (drop from (block_bytes p.contents block))) }
+    ensures bytes { OnOk result (GrowsByPinned seat.old.me.0.pins frame block from to into.old.items into.new.items) }
     ensures added { OnOk result (length into.new.items ≡ length into.old.items + (to - from)) }
     ensures refusal { IfErr result (λ e. e ≡ NoMemory) }
 {

@@ -33,16 +33,16 @@ pub struct Pin {
 }
 
 impl Model for Pin {
-    ghost use Rattle.std.specs.Prelude.{◌≡◌, ◌<◌, vec_len};
+    ghost use Rattle.std.specs.Prelude.{vec_len};
     ghost use Rattle.std.specs.Arc.{arc_value};
-    ghost use Rattle.segment_word.specs.Counting.{numbers_of};
-    ghost use Rattle.segment_word.specs.Handles.{Held, IsPinSeat, AllInside};
+    ghost use Rattle.segment_word.specs.Handles.{Held};
+    ghost use Rattle.segment_word.specs.private.Pins.{IsSoundPin};
 
     ghost Value = { Held };
 
     ghost view = { λ p. record { table = p.seat.table_id; pins = p.seat.me.0.pins; perch = p.perch } };
 
-    ghost invariant = { λ p. (p.seat.table_id ≡ (arc_value p.board).table.shared.table_id) × IsPinSeat p.seat × (p.numbers.items ≡ numbers_of p.seat.me.0.pins) × AllInside p.seat.table_id p.seat.me.0.pins × (p.perch < vec_len (arc_value p.board).perches) };
+    ghost invariant = { λ p. IsSoundPin (arc_value p.board).table.shared.table_id p.seat p.numbers.items p.perch (vec_len (arc_value p.board).perches) };
 }
 
 impl Pin {

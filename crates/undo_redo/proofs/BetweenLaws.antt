@@ -10,7 +10,7 @@ use Rattle.s4_types.specs.declared.limits.TheConstants.{OBJECT_BYTES}
 use Rattle.codec.specs.declared.inodes.Inode.{Inode}
 use Rattle.codec.specs.declared.entries.Status.{Status}
 use Rattle.codec.specs.declared.entries.Triple.{Triple}
-use Rattle.codec.specs.Fields.{Reads, kept}
+use Rattle.codec.specs.Fields.{Reads}
 use Rattle.codec.specs.Checkpoint.{pointer_at}
 use Rattle.codec.specs.Entry.{EntryFields, ascend_from, entry_rules, checked_entry, pair_length, entry_length}
 use Rattle.undo_redo.specs.Linked.{status_of, pointer_after, pointer_before, StandsBefore}
@@ -18,6 +18,7 @@ use Rattle.undo_redo.specs.Redone.{with_after, redone}
 use Rattle.undo_redo.specs.Runs.{Run, AllAt}
 use Rattle.undo_redo.specs.Groups.{above, continues, grouped_behind, grouped}
 use Rattle.undo_redo.specs.Between.{pair_between, triples_between, leading_entry, further_entry, pieces, later_entries, entries_between, AreOf, CanLead}
+use Rattle.undo_redo.specs.private.Checking.{checked_between}
 use Rattle.undo_redo.specs.Sizes.{later_sizes, entry_sizes}
 use Rattle.undo_redo.proofs.Pointers.{length-with_after, at-with_after, same_pointers}
 use Rattle.undo_redo.proofs.Indices.{rules_of, rules_made, ascend_take, ascend_drop, ascend_front, above_pieces}
@@ -447,14 +448,14 @@ all_told i j m e others a b c is rest none first more =
     let one : b ≡ leading_entry i j m ∷ [] = first ∙ ap (λ (es : List EntryFields). es ++ e ∷ []) none ∙ ap (λ (x : EntryFields). x ∷ []) is in
     more ∙ ap (λ (es : List EntryFields). es ++ later_entries j m others) one ∙ ap (λ (ts : List Triple). leading_entry i j m ∷ later_entries j m ts) rest
 
-pub kept_made : (i j : Inode) (m : ℕ) (e : EntryFields) (made : List EntryFields) → checked_entry (leading_entry i j m) ≡ Some e → made ≡ entries_between i j m → kept (entry_rules (leading_entry i j m)) (entries_between i j m) ≡ Some made
+pub kept_made : (i j : Inode) (m : ℕ) (e : EntryFields) (made : List EntryFields) → checked_entry (leading_entry i j m) ≡ Some e → made ≡ entries_between i j m → checked_between i j m ≡ Some made
 kept_made i j m e made h is = cond-true (entry_rules (leading_entry i j m)) (Some (entries_between i j m)) None (checked_some (leading_entry i j m) e h).0 ∙ ap (λ (es : List EntryFields). Some es) (sym is)
 
-pub found : {X : Type 0} (view : X → List EntryFields) (r : Option X) (i j : Inode) (m : ℕ) → CanLead i j m → Reads view r (kept (entry_rules (leading_entry i j m)) (entries_between i j m)) → is_some r ≡ true
+pub found : {X : Type 0} (view : X → List EntryFields) (r : Option X) (i j : Inode) (m : ℕ) → CanLead i j m → Reads view r (checked_between i j m) → is_some r ≡ true
 found view None i j m c h = absurd (none-some (entries_between i j m) (sym h ∙ cond-true (entry_rules (leading_entry i j m)) (Some (entries_between i j m)) None (can_keep i j m c)))
 found view (Some x) i j m c h = refl
 
-pub found_is : {X : Type 0} (view : X → List EntryFields) (r : Option X) (x : X) (i j : Inode) (m : ℕ) → CanLead i j m → Reads view r (kept (entry_rules (leading_entry i j m)) (entries_between i j m)) → r ≡ Some x → view x ≡ entries_between i j m
+pub found_is : {X : Type 0} (view : X → List EntryFields) (r : Option X) (x : X) (i j : Inode) (m : ℕ) → CanLead i j m → Reads view r (checked_between i j m) → r ≡ Some x → view x ≡ entries_between i j m
 found_is view r x i j m c h is =
-    let read : kept (entry_rules (leading_entry i j m)) (entries_between i j m) ≡ Some (view x) = subst (λ y. Reads view y (kept (entry_rules (leading_entry i j m)) (entries_between i j m))) is h in
+    let read : checked_between i j m ≡ Some (view x) = subst (λ y. Reads view y (checked_between i j m)) is h in
     sym (cond_some (entry_rules (leading_entry i j m)) (entries_between i j m) (view x) read).1

@@ -17,6 +17,7 @@ use Rattle.undo_redo.specs.Redone.{attribute_after, attribute_before, redone, un
 use Rattle.undo_redo.specs.Runs.{Run, redone_all, undone_all, last_moment, AllAt, blank, told_first, told_last}
 use Rattle.undo_redo.specs.Groups.{grouped}
 use Rattle.undo_redo.specs.Between.{pair_between, triples_between, leading_entry, further_entry, pieces, later_entries, entries_between, CanLead}
+use Rattle.undo_redo.specs.private.Checking.{checked_between}
 use Rattle.undo_redo.proofs.Pointers.{length-with_after, length-with_before, at-with_after, at-with_before, Either, either_both, told_or_not}
 use Rattle.undo_redo.proofs.Slots.{pair_none}
 use Rattle.undo_redo.proofs.Differing.{AgreeAt, between_agrees}
@@ -230,7 +231,7 @@ kept_none : {A : Type 0} (test : Bool) (x : A) → kept test x ≡ None → test
 kept_none true x h is = none-some x (sym h)
 kept_none false x h is = both_ways false refl is
 
-pub composes_made : {X : Type 0} (view : X → List EntryFields) (r : Option X) (entries : List EntryFields) (m : ℕ) → 0 < length entries → m ≡ last_moment 0 entries → Reads view r (kept (entry_rules (leading_entry (told_first entries) (told_last entries) m)) (entries_between (told_first entries) (told_last entries) m)) → Composes view r entries
+pub composes_made : {X : Type 0} (view : X → List EntryFields) (r : Option X) (entries : List EntryFields) (m : ℕ) → 0 < length entries → m ≡ last_moment 0 entries → Reads view r (checked_between (told_first entries) (told_last entries) m) → Composes view r entries
 composes_made {X} view None entries m some is reads = record {
   exact = λ i j r. tt;
   run = λ i j r. tt;

@@ -4,3 +4,5 @@ pub mod Runs
 pub mod Groups
 pub mod Between
 pub mod Sizes
+pub mod Laws
+pub mod private

@@ -1,11 +1,12 @@
 ghost use Rattle.std.specs.Prelude.{◌≡◌, ◌≤◌, ◌+◌, ◌*◌, ◌++◌, true, length, take};
 ghost use Rattle.std.specs.List.{AllByRecursion};
 ghost use Rattle.s4_types.specs.declared.limits.TheConstants.{ENTRY_TRIPLES, OBJECT_BLOCKS};
-ghost use Rattle.codec.specs.Fields.{Reads, kept};
+ghost use Rattle.codec.specs.Fields.{Reads};
 ghost use Rattle.codec.specs.Entry.{entry_rules, checked_entry};
 ghost use Rattle.undo_redo.specs.Runs.{Run, AllAt};
 ghost use Rattle.undo_redo.specs.Groups.{grouped};
 ghost use Rattle.undo_redo.specs.Between.{CanLead, triples_between, leading_entry, further_entry, later_entries, entries_between};
+ghost use Rattle.undo_redo.specs.private.Checking.{checked_between};
 
 use crate::pieces::{differing, first_piece, held, other_pieces, pair_between, status_of};
 use arrayvec::ArrayVec;
@@ -34,7 +35,7 @@ pub fn entries_between(before: &Inode, after: &Inode, moment: Moment) -> Entries
 
 /// The entries that lead from an inode to another. None where the first of them would break a rule of entries.
 pub(crate) fn told_between(before: &Inode, after: &Inode, moment: Moment) -> Option<Entries>
-    ensures { Reads (λ entries. entries.items) result (kept (entry_rules (leading_entry before.now after.now moment)) (entries_between before.now after.now moment)) }
+    ensures { Reads (λ entries. entries.items) result (checked_between before.now after.now moment) }
 {
     let triples = differing(before, after);
     let first = first_piece(triples.as_slice());

@@ -1,10 +1,10 @@
 ghost use Rattle.std.specs.Prelude.{◌≡◌, ◌↔◌, true, IsSome, IfSome};
 ghost use Rattle.codec.specs.declared.inodes.Inode.{Inode as InodeFields};
-ghost use Rattle.codec.specs.Fields.{Reads, kept};
-ghost use Rattle.codec.specs.Entry.{entry_rules};
+ghost use Rattle.codec.specs.Fields.{Reads};
 ghost use Rattle.undo_redo.specs.Runs.{Run, AllAt, last_moment, told_first, told_last};
 ghost use Rattle.undo_redo.specs.Groups.{grouped};
-ghost use Rattle.undo_redo.specs.Between.{CanLead, leading_entry, entries_between};
+ghost use Rattle.undo_redo.specs.Between.{CanLead, entries_between};
+ghost use Rattle.undo_redo.specs.private.Checking.{checked_between};
 
 use crate::between::{Entries, told_between};
 use crate::links::{blank, redo_all, undo_all};
@@ -32,7 +32,7 @@ pub fn compose(entries: &[Entry]) -> Option<Entries>
 /// What no entry of the run tells is equal in its first and its last inode. So the entries between these are those
 /// between two inodes that are blank there.
 fn composed(entries: &[Entry], moment: Moment) -> Option<Entries>
-    ensures { Reads (λ made. made.items) result (kept (entry_rules (leading_entry (told_first entries.now) (told_last entries.now) moment)) (entries_between (told_first entries.now) (told_last entries.now) moment)) }
+    ensures { Reads (λ made. made.items) result (checked_between (told_first entries.now) (told_last entries.now) moment) }
 {
     let mut before = blank(Moment::new(0));
     undo_all(entries, &mut before);

@@ -1,6 +1,6 @@
 //! Laws of links and runs, for the layers above: each function does nothing, and its contract is the law.
 
-ghost use Rattle.std.specs.Prelude.{◌≡◌, ◌↔◌, ℕ, ◌≤◌, ◌++◌, true, List, [], ◌∷◌, length, map, None};
+ghost use Rattle.std.specs.Prelude.{◌≡◌, ◌↔◌, ℕ, ◌≤◌, ◌++◌, true, List, length, map, None};
 ghost use Rattle.std.specs.List.{AllByRecursion};
 ghost use Rattle.s4_types.specs.declared.limits.TheConstants.{OBJECT_BLOCKS};
 ghost use Rattle.codec.specs.declared.inodes.Inode.{Inode};
@@ -13,6 +13,7 @@ ghost use Rattle.undo_redo.specs.Runs.{Run, redone_all, undone_all, inode_after,
 ghost use Rattle.undo_redo.specs.Groups.{grouped};
 ghost use Rattle.undo_redo.specs.Between.{CanLead, pair_between, triples_between, entries_between, AreOf};
 ghost use Rattle.undo_redo.specs.Sizes.{entry_sizes};
+ghost use Rattle.undo_redo.specs.Laws.{ALaterEntryIsUndone, ThePresentInodeIsLast};
 
 /// An entry links two inodes exactly where its values before are the first one's and the second is the first with
 /// the entry redone; and likewise backward. So either inode determines the other.
@@ -61,8 +62,8 @@ pub fn the_inode_at_a_moment_stands_in_the_run()
 /// Where the last entry of a run is later than a moment, the run without it ends with the entry undone, and the inode
 /// current at the moment is the same one. Where it isn't later and moments don't descend, the run's last inode is that one.
 pub fn the_last_entry_is_undone_or_stays()
-    ensures undone { (i k : Inode) (front : List EntryFields) (e : EntryFields) (t : ℕ) → AllPast t (e ∷ []) → Run i (front ++ e ∷ []) k → Run i front (undone e k) × (inode_after i (front ++ e ∷ []) t ≡ inode_after i front t) }
-    ensures stays { (i k : Inode) (front : List EntryFields) (e : EntryFields) (low t : ℕ) → moments_ascend_from low (front ++ e ∷ []) ≡ true → e.moment ≤ t → Run i (front ++ e ∷ []) k → inode_after i (front ++ e ∷ []) t ≡ k }
+    ensures undone { ALaterEntryIsUndone }
+    ensures stays { ThePresentInodeIsLast }
 {}
 
 /// A blank inode has 48 pointers, each a hole.

@@ -1,11 +1,11 @@
 use Rattle.std.proofs.Common.{◌++◌, rules, refl, ap, ◌∙◌}
 use Rattle.block_log.specs.declared.kinds.BlockKind.TheVariants.{Checkpoint}
 use Rattle.time_read.specs.Rows.{entries_of}
-use Rattle.row_changes.proofs.Pushing.{Laws, Pushed, with_chain, holding, pushed_row, pushed_by, pushed_inode}
+use Rattle.row_changes.proofs.Pushing.{Pushed, with_chain, holding, pushed_row, pushed_by, pushed_inode}
 use Rattle.row_changes.proofs.changes.record_change.Goals as goal
 
 pub of-chain-requires-clause-one_block : goal.of-chain-requires-clause-one_block
-of-chain-requires-clause-one_block g c = c.a_row_tells_a_chain.ensures.newest (g.B.Blocks.log c.args.table.now).held c.args.object c.args.row.now c.requires.row
+of-chain-requires-clause-one_block g c = c.later_entries_join_a_row.ensures.newest (g.B.Blocks.log c.args.table.now).held c.args.object c.args.row.now c.requires.row
 
 pub returns : goal.returns
 returns g c =
@@ -20,15 +20,7 @@ returns g c =
     let after = c.args.after.now in
     let m = c.args.moment in
     let new = c.entries_between-entries.result.items in
-    let laws : Laws = record {
-      end = c.a_run_has_one_end_and_one_beginning.ensures.end;
-      join = c.runs_join_and_part.ensures.join;
-      done = c.the_inode_at_a_moment.ensures.done;
-      later = c.the_inode_at_a_moment.ensures.later;
-      since = c.the_inode_at_a_moment.ensures.since;
-      joined = c.the_inode_at_a_moment.ensures.joined;
-      groups = c.groups_join_and_part.ensures.join;
-    } in
+    let laws = c.later_entries_join_a_row.ensures in
     let p : Pushed held later o row (with_chain row head bytes filled) before after m new = record {
       stands = c.requires.row;
       earlier = c.requires.earlier;
@@ -37,7 +29,7 @@ returns g c =
       run = c.entries_between-entries.ensures.run;
       group = c.entries_between-entries.ensures.group;
       moments = c.entries_between-entries.ensures.moments;
-      chain = holding held later o row head bytes filled new c.as_slice.result.now c.of-chain.result c.push.new.self c.a_chain_has_its_entries.ensures c.of-chain.ensures c.push.ensures.object c.head.ensures c.bytes.ensures.bytes c.filled.ensures.filled c.as_slice.ensures.value c.in_ok-push.ensures.holds;
+      chain = holding held later o row head bytes filled new c.as_slice.result.now c.of-chain.result c.push.new.self laws.chain c.of-chain.ensures c.push.ensures.object c.head.ensures c.bytes.ensures.bytes c.filled.ensures.filled c.as_slice.ensures.value c.in_ok-push.ensures.holds;
       checkpoints = c.push.ensures.others Checkpoint o refl;
     } in
     record {
