@@ -87,7 +87,7 @@ told_before : (created t : ℕ) (entries : List EntryFields) (c : CheckpointFiel
 unfolding inode_before
 told_before created t entries c = refl
 
-first_stays : (held later : Place → Option Stored) (o : ℕ) (row : Row) (p : Place) (i : Inode) (m : ℕ) → Laws → Written held later o row p i m → first_of later o (with_checkpoint row p m) ≡ first_of held o row
+pub first_stays : (held later : Place → Option Stored) (o : ℕ) (row : Row) (p : Place) (i : Inode) (m : ℕ) → Laws → Written held later o row p i m → first_of later o (with_checkpoint row p m) ≡ first_of held o row
 unfolding inode_of
 first_stays held later o row p i m laws w =
     let c : CheckpointFields = record { object = o; moment = m; inode = i } in
