@@ -152,7 +152,7 @@ made_fresh end held later o h b f i j m new p lead =
     let leading : Leading (blank m) j m new = record { run = subst (λ (k : Inode). Run k new j) is p.run; moments = p.moments; group = p.group; changed = lead.changed } in
     let chain : IsOrderlyChain m m (blank m) (entries_of later o next) = subst (λ (es : List EntryFields). IsOrderlyChain m m (blank m) es) (sym entries) (made_chain end m j new leading alive) in
     record {
-      made = p.least;
+      made = (p.least, omega arith);
       chain = subst (λ (k : Inode). IsOrderlyChain m m k (entries_of later o next)) (sym first) chain;
       checkpoint = subst BeginsDead (sym entries) (begins i j new p.run dead alive);
     }
@@ -167,6 +167,7 @@ made_orderly end held later o row h b f i j m new p lead is =
 
 -- what is known of a chain in order to which the entries of a later moment are pushed
 record Following (created m : ℕ) (first i j : Inode) (old new : List EntryFields) : Type 0 where
+  pub made : created ≤ m - 1
   pub chain : IsOrderlyChain created (m - 1) first old
   pub present : i ≡ redone_all old first
   pub alive : i.alive ≡ true
@@ -187,15 +188,6 @@ behind_back joined first i old new n is le =
 behind_old : (first i : Inode) (old : List EntryFields) → i ≡ redone_all old first → inode_behind first old (length old) ≡ i
 behind_old first i old is = ap (λ (es : List EntryFields). redone_all es first) (take-length old) ∙ sym is
 
--- the object was made before the change
-made_before : (created m : ℕ) (first i j : Inode) (old new : List EntryFields) → Following created m first i j old new → created ≤ m - 1
-made_before created m first i j old new p =
-    let is : inode_behind first old (length old) ≡ i = behind_old first i old p.present in
-    let was = p.chain.changed (length old) (ap (λ (k : Inode). k.alive) is ∙ p.alive) in
-    let least = was.0 in
-    let most = was.1 in
-    omega (arith, least, most)
-
 grown_moments : (created m : ℕ) (old new : List EntryFields) → AllByRecursion (λ e. IsFromTo created (m - 1) e.moment) old → AllByRecursion (λ e. IsFromTo created m e.moment) new → AllByRecursion (λ e. IsFromTo created m e.moment) (old ++ new)
 grown_moments created m [] new h k = k
 grown_moments created m (e ∷ old) new h k = (let most : e.moment ≤ m - 1 = h.0.1 in (h.0.0, omega (arith, most)), grown_moments created m old new h.1 k)
@@ -205,7 +197,7 @@ grown_changed end joined created m first i j old new n p alive = elim (cases_lt 
   | inl lt ↦ (let is : inode_behind first (old ++ new) n ≡ inode_behind i new (n - length old) = behind_back joined first i old new n p.present (omega (arith, lt)) in
       let changed : (inode_behind i new (n - length old)).changed ≡ m = turned_behind end i j m new (n - length old) p.leading (omega (arith, lt)) (sym (ap (λ (k : Inode). k.alive) is) ∙ alive) in
       let at : (inode_behind first (old ++ new) n).changed ≡ m = ap (λ (k : Inode). k.changed) is ∙ changed in
-      let made = made_before created m first i j old new p in
+      let made = p.made in
       (omega (arith, at, made), omega (arith, at)))
   | inr le ↦ (let is : inode_behind first (old ++ new) n ≡ inode_behind first old n = behind_front first old new n le in
       let was : IsFromTo created (m - 1) (inode_behind first old n).changed = p.chain.changed n (sym (ap (λ (k : Inode). k.alive) is) ∙ alive) in
@@ -228,7 +220,7 @@ grown_between end joined created m first i j old new n p some lt = elim (cases_l
 
 grown_chain : End → Joined → (created m : ℕ) (first i j : Inode) (old new : List EntryFields) → Following created m first i j old new → IsOrderlyChain created m first (old ++ new)
 grown_chain end joined created m first i j old new p =
-    let made = made_before created m first i j old new p in
+    let made = p.made in
     record {
       moments = grown_moments created m old new p.chain.moments (all_at created m new (omega (arith, made)) p.leading.moments);
       changed = λ n. grown_changed end joined created m first i j old new n p;
@@ -254,10 +246,11 @@ turned_orderly laws joined held later o row h b f i j m new p lead was alive =
     let first : first_of later o next ≡ start = first_stays held later o row h b f i j m new p in
     let present : i ≡ redone_all old start = present_is held later o row next i j m new p ∙ laws.done start old (m - 1) p.earlier.entries in
     let leading : Leading i j m new = record { run = p.run; moments = p.moments; group = p.group; changed = lead.changed } in
-    let grown : IsOrderlyChain row.created m start (old ++ new) = grown_chain laws.end joined row.created m start i j old new (record { chain = was.chain; present = present; alive = alive; leading = leading }) in
+    let grown : IsOrderlyChain row.created m start (old ++ new) = grown_chain laws.end joined row.created m start i j old new (record { made = was.made.1; chain = was.chain; present = present; alive = alive; leading = leading }) in
     let chain : IsOrderlyChain row.created m start (entries_of later o next) = subst (λ (es : List EntryFields). IsOrderlyChain row.created m start es) (sym p.chain.entries) grown in
+    let most = was.made.1 in
     record {
-      made = was.made;
+      made = (was.made.0, omega (arith, most));
       chain = subst (λ (k : Inode). IsOrderlyChain row.created m k (entries_of later o next)) (sym first) chain;
       checkpoint = subst (λ (es : List EntryFields). MatchOption row.checkpoint (BeginsDead es) (λ q. IsFromTo row.created m row.checkpoint_moment)) (sym p.chain.entries) (checkpoint_on row.checkpoint row.created m row.checkpoint_moment old new was.checkpoint);
     }

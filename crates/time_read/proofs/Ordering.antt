@@ -1,13 +1,14 @@
 -- Rows that are in order: what that rests on, and what it tells of the inode at a moment.
-use Rattle.std.proofs.Common.{◌≡◌, ℕ, ◌≤◌, true, List, [], ◌∷◌, ◌++◌, length, take, Option, Some, None, MatchOption, refl, sym, ap, subst, ◌∙◌, arith}
+use Rattle.std.proofs.Common.{◌≡◌, ℕ, ◌≤◌, true, List, [], ◌∷◌, ◌++◌, length, take, drop, Option, Some, None, MatchOption, refl, sym, ap, subst, ◌∙◌, arith}
 use Rattle.std.specs.List.{AllByRecursion}
 use Rattle.std.proofs.Math.Seq.{take-append_seam}
+use Rattle.std.proofs.lemmas.List.{take-append-drop}
 use Rattle.s4_types.specs.Pointer.{Place}
 use Rattle.block_log.specs.Log.{Stored, of_kind}
 use Rattle.block_log.specs.declared.kinds.BlockKind.TheVariants.{Journal, Checkpoint}
 use Rattle.codec.specs.declared.inodes.Inode.{Inode}
 use Rattle.codec.specs.Entry.{EntryFields}
-use Rattle.undo_redo.specs.Runs.{redone_all, entries_by, entries_past, moments_ascend_from}
+use Rattle.undo_redo.specs.Runs.{redone_all, inode_after, AllBy, AllPast, entries_by, entries_past, moments_ascend_from}
 use Rattle.undo_redo.specs.Groups.{grouped}
 use Rattle.object_map.specs.declared.map.Row.{Row}
 use Rattle.time_read.specs.Rows.{entries_of, first_of, inode_of, IsRow}
@@ -54,7 +55,7 @@ checkpoint_later N (Some p) first a b t le h = from_to_later first a b t le h
 
 pub orderly_later : (held : Place → Option Stored) (o : ℕ) (row : Row) (a b : ℕ) → a ≤ b → IsOrderly held o row a → IsOrderly held o row b
 orderly_later held o row a b le h = record {
-  made = h.made;
+  made = from_to_later 1 a b row.created le h.made;
   chain = chain_later row.created a b (first_of held o row) (entries_of held o row) le h.chain;
   checkpoint = checkpoint_later (BeginsDead (entries_of held o row)) row.checkpoint row.created a b row.checkpoint_moment le h.checkpoint;
 }
@@ -72,6 +73,19 @@ is_behind ascend parts held o row t r =
     let split : entries ≡ by ++ entries_past t entries = parts entries 0 t (ascend entries r.groups) in
     let front : take (length by) entries ≡ by = ap (λ (es : List EntryFields). take (length by) es) split ∙ take-append_seam by (entries_past t entries) in
     ap (λ (es : List EntryFields). redone_all es (first_of held o row)) (sym front)
+
+pub is_current :
+    ((i : Inode) (entries : List EntryFields) (t : ℕ) → AllBy t entries → inode_after i entries t ≡ redone_all entries i) →
+    ((i : Inode) (entries later : List EntryFields) (t : ℕ) → AllPast t later → inode_after i (entries ++ later) t ≡ inode_after i entries t) →
+    (held : Place → Option Stored) (o : ℕ) (row : Row) (n t : ℕ) → AllBy t (take n (entries_of held o row)) → AllPast t (drop n (entries_of held o row)) → inode_behind (first_of held o row) (entries_of held o row) n ≡ inode_of held o row t
+unfolding inode_of
+is_current done later held o row n t by past =
+    let first : Inode = first_of held o row in
+    let entries : List EntryFields = entries_of held o row in
+    let split : take n entries ++ drop n entries ≡ entries = take-append-drop n entries in
+    sym (done first (take n entries) t by)
+    ∙ sym (later first (take n entries) (drop n entries) t past)
+    ∙ ap (λ (es : List EntryFields). inode_after first es t) split
 
 pub changed_in : (held : Place → Option Stored) (o : ℕ) (row : Row) (t latest n : ℕ) → inode_of held o row t ≡ inode_behind (first_of held o row) (entries_of held o row) n → IsOrderly held o row latest → (inode_of held o row t).alive ≡ true → IsFromTo row.created latest (inode_of held o row t).changed
 changed_in held o row t latest n is h alive =

@@ -34,9 +34,10 @@ pub record IsOrderlyChain (created latest : ℕ) (first : Inode) (entries : List
   pub beginning : first.alive ≡ false → first ≡ blank created
   pub live : (n : ℕ) × ((inode_behind first entries n).alive ≡ true)
 
--- An object's row is in order up to a latest moment: it was made at a moment above 0, and its chain is in order. Where it
--- names a checkpoint, that is of a moment from the making to the latest; where it names none, the chain tells the making.
+-- An object's row is in order up to a latest moment: the object was made from moment 1 to the latest, and its chain is in
+-- order. Where the row names a checkpoint, that is of a moment from the making to the latest; where it names none, the
+-- chain tells the making.
 pub record IsOrderly (held : Place → Option Stored) (o : ℕ) (row : Row) (latest : ℕ) : Type 0 where
-  pub made : 1 ≤ row.created
+  pub made : IsFromTo 1 latest row.created
   pub chain : IsOrderlyChain row.created latest (first_of held o row) (entries_of held o row)
   pub checkpoint : MatchOption row.checkpoint (BeginsDead (entries_of held o row)) (λ p. IsFromTo row.created latest row.checkpoint_moment)
