@@ -10,7 +10,7 @@ use Rattle.codec.specs.declared.inodes.Inode.{Inode}
 use Rattle.codec.specs.declared.entries.Status.{Status}
 use Rattle.codec.specs.Entry.{EntryFields}
 use Rattle.undo_redo.specs.Linked.{Linked}
-use Rattle.undo_redo.specs.Runs.{Run, AllAt, AllBy, blank, redone_all}
+use Rattle.undo_redo.specs.Runs.{Run, AllAt, AllBy, blank, inode_after, redone_all}
 use Rattle.undo_redo.specs.Redone.{redone}
 use Rattle.undo_redo.specs.Groups.{continues, grouped_behind, grouped}
 use Rattle.undo_redo.specs.Between.{CanLead}
@@ -21,17 +21,16 @@ use Rattle.time_read.specs.Rows.{IsRow, entries_of, first_of, inode_of}
 use Rattle.time_read.specs.Orderly.{inode_behind, IsFromTo, BeginsDead, IsOrderlyChain, IsOrderly}
 use Rattle.row_changes.specs.Recent.{IsBy}
 use Rattle.row_changes.proofs.Recently.{same_entries}
-use Rattle.row_changes.proofs.Pushing.{Laws, Pushed, with_chain, first_stays, present_is}
+use Rattle.row_changes.proofs.Pushing.{Pushed, with_chain, first_stays, present_is}
 use Rattle.row_changes.proofs.Fresh.{no_entries, blank_first, fresh_inode}
-use Rattle.row_changes.proofs.CheckpointLemmas.{Written, with_checkpoint}
-use Rattle.row_changes.proofs.CheckpointLemmas as written
+use Rattle.row_changes.proofs.CheckpointLemmas.{Laws, Written, with_checkpoint, written_first}
 
--- where a run ends, and what redoing joined lists does: laws of runs
+-- where a run ends, and which inode is current once all is done: laws of runs
 abbrev End : Type 0
 End = (i j : Inode) (entries : List EntryFields) → Run i entries j → j ≡ redone_all entries i
 
-abbrev Joined : Type 0
-Joined = (i : Inode) (front back : List EntryFields) → redone_all (front ++ back) i ≡ redone_all back (redone_all front i)
+abbrev Done : Type 0
+Done = (i : Inode) (entries : List EntryFields) (t : ℕ) → AllBy t entries → inode_after i entries t ≡ redone_all entries i
 
 -- ---- the entries of one change
 
@@ -176,8 +175,12 @@ record Following (created m : ℕ) (first i j : Inode) (old new : List EntryFiel
 behind_front : (first : Inode) (old new : List EntryFields) (n : ℕ) → n ≤ length old → inode_behind first (old ++ new) n ≡ inode_behind first old n
 behind_front first old new n le = ap (λ (es : List EntryFields). redone_all es first) (take-append-le n old new le)
 
-behind_back : Joined → (first i : Inode) (old new : List EntryFields) (n : ℕ) → i ≡ redone_all old first → length old ≤ n → inode_behind first (old ++ new) n ≡ inode_behind i new (n - length old)
-behind_back joined first i old new n is le =
+joined : (i : Inode) (front back : List EntryFields) → redone_all (front ++ back) i ≡ redone_all back (redone_all front i)
+joined i [] back = refl
+joined i (e ∷ front) back = joined (redone e i) front back
+
+behind_back : (first i : Inode) (old new : List EntryFields) (n : ℕ) → i ≡ redone_all old first → length old ≤ n → inode_behind first (old ++ new) n ≡ inode_behind i new (n - length old)
+behind_back first i old new n is le =
     let k : ℕ = n - length old in
     let sum : n ≡ length old + k = omega (arith, le) in
     ap (λ x. inode_behind first (old ++ new) x) sum
@@ -192,9 +195,9 @@ grown_moments : (created m : ℕ) (old new : List EntryFields) → AllByRecursio
 grown_moments created m [] new h k = k
 grown_moments created m (e ∷ old) new h k = (let most : e.moment ≤ m - 1 = h.0.1 in (h.0.0, omega (arith, most)), grown_moments created m old new h.1 k)
 
-grown_changed : End → Joined → (created m : ℕ) (first i j : Inode) (old new : List EntryFields) (n : ℕ) → Following created m first i j old new → (inode_behind first (old ++ new) n).alive ≡ true → IsFromTo created m (inode_behind first (old ++ new) n).changed
-grown_changed end joined created m first i j old new n p alive = elim (cases_lt (length old) n) [
-  | inl lt ↦ (let is : inode_behind first (old ++ new) n ≡ inode_behind i new (n - length old) = behind_back joined first i old new n p.present (omega (arith, lt)) in
+grown_changed : End → (created m : ℕ) (first i j : Inode) (old new : List EntryFields) (n : ℕ) → Following created m first i j old new → (inode_behind first (old ++ new) n).alive ≡ true → IsFromTo created m (inode_behind first (old ++ new) n).changed
+grown_changed end created m first i j old new n p alive = elim (cases_lt (length old) n) [
+  | inl lt ↦ (let is : inode_behind first (old ++ new) n ≡ inode_behind i new (n - length old) = behind_back first i old new n p.present (omega (arith, lt)) in
       let changed : (inode_behind i new (n - length old)).changed ≡ m = turned_behind end i j m new (n - length old) p.leading (omega (arith, lt)) (sym (ap (λ (k : Inode). k.alive) is) ∙ alive) in
       let at : (inode_behind first (old ++ new) n).changed ≡ m = ap (λ (k : Inode). k.changed) is ∙ changed in
       let made = p.made in
@@ -205,10 +208,10 @@ grown_changed end joined created m first i j old new n p alive = elim (cases_lt 
       subst (λ (k : Inode). IsFromTo created m k.changed) (sym is) (was.0, omega (arith, most)))
 ]
 
-grown_between : End → Joined → (created m : ℕ) (first i j : Inode) (old new : List EntryFields) (n : ℕ) → Following created m first i j old new → 0 < n → n < length (old ++ new) → (inode_behind first (old ++ new) n).alive ≡ true
-grown_between end joined created m first i j old new n p some lt = elim (cases_lt n (length old)) [
+grown_between : End → (created m : ℕ) (first i j : Inode) (old new : List EntryFields) (n : ℕ) → Following created m first i j old new → 0 < n → n < length (old ++ new) → (inode_behind first (old ++ new) n).alive ≡ true
+grown_between end created m first i j old new n p some lt = elim (cases_lt n (length old)) [
   | inl front ↦ ap (λ (k : Inode). k.alive) (behind_front first old new n (omega (arith, front))) ∙ p.chain.between n some front
-  | inr le ↦ (let is : inode_behind first (old ++ new) n ≡ inode_behind i new (n - length old) = behind_back joined first i old new n p.present le in
+  | inr le ↦ (let is : inode_behind first (old ++ new) n ≡ inode_behind i new (n - length old) = behind_back first i old new n p.present le in
       let count : length (old ++ new) ≡ length old + length new = length-append old new in
       let fewer : n - length old < length new = omega (arith, lt, count, le) in
       ap (λ (k : Inode). k.alive) is ∙ elim (cases_lt 0 (n - length old)) [
@@ -218,13 +221,13 @@ grown_between end joined created m first i j old new n p some lt = elim (cases_l
       ])
 ]
 
-grown_chain : End → Joined → (created m : ℕ) (first i j : Inode) (old new : List EntryFields) → Following created m first i j old new → IsOrderlyChain created m first (old ++ new)
-grown_chain end joined created m first i j old new p =
+grown_chain : End → (created m : ℕ) (first i j : Inode) (old new : List EntryFields) → Following created m first i j old new → IsOrderlyChain created m first (old ++ new)
+grown_chain end created m first i j old new p =
     let made = p.made in
     record {
       moments = grown_moments created m old new p.chain.moments (all_at created m new (omega (arith, made)) p.leading.moments);
-      changed = λ n. grown_changed end joined created m first i j old new n p;
-      between = λ n. grown_between end joined created m first i j old new n p;
+      changed = λ n. grown_changed end created m first i j old new n p;
+      between = λ n. grown_between end created m first i j old new n p;
       beginning = p.chain.beginning;
       live = (length old, ap (λ (k : Inode). k.alive) (behind_front first old new (length old) (omega arith) ∙ behind_old first i old p.present) ∙ p.alive);
     }
@@ -237,16 +240,16 @@ checkpoint_on : (checkpoint : Option Place) (created m t : ℕ) (old new : List 
 checkpoint_on None created m t old new h = begins_on old new h
 checkpoint_on (Some p) created m t old new h = (let most : t ≤ m - 1 = h.1 in (h.0, omega (arith, most)))
 
-pub turned_orderly : Laws → Joined → (held later : Place → Option Stored) (o : ℕ) (row : Row) (h : Option Place) (b f : ℕ) (i j : Inode) (m : ℕ) (new : List EntryFields)
+pub turned_orderly : End → Done → (held later : Place → Option Stored) (o : ℕ) (row : Row) (h : Option Place) (b f : ℕ) (i j : Inode) (m : ℕ) (new : List EntryFields)
     → Pushed held later o row (with_chain row h b f) i j m new → CanLead i j m → IsOrderly held o row (m - 1) → i.alive ≡ true → IsOrderly later o (with_chain row h b f) m
-turned_orderly laws joined held later o row h b f i j m new p lead was alive =
+turned_orderly end done held later o row h b f i j m new p lead was alive =
     let next : Row = with_chain row h b f in
     let start : Inode = first_of held o row in
     let old : List EntryFields = entries_of held o row in
     let first : first_of later o next ≡ start = first_stays held later o row h b f i j m new p in
-    let present : i ≡ redone_all old start = present_is held later o row next i j m new p ∙ laws.done start old (m - 1) p.earlier.entries in
+    let present : i ≡ redone_all old start = present_is held later o row next i j m new p ∙ done start old (m - 1) p.earlier.entries in
     let leading : Leading i j m new = record { run = p.run; moments = p.moments; group = p.group; changed = lead.changed } in
-    let grown : IsOrderlyChain row.created m start (old ++ new) = grown_chain laws.end joined row.created m start i j old new (record { made = was.made.1; chain = was.chain; present = present; alive = alive; leading = leading }) in
+    let grown : IsOrderlyChain row.created m start (old ++ new) = grown_chain end row.created m start i j old new (record { made = was.made.1; chain = was.chain; present = present; alive = alive; leading = leading }) in
     let chain : IsOrderlyChain row.created m start (entries_of later o next) = subst (λ (es : List EntryFields). IsOrderlyChain row.created m start es) (sym p.chain.entries) grown in
     let most = was.made.1 in
     record {
@@ -266,11 +269,11 @@ made_by None created latest m t (e ∷ entries) h moments by le =
     omega (arith, least, most)
 made_by (Some p) created latest m t entries h moments by le = (let least : created ≤ t = h.0 in omega (arith, least, le))
 
-pub written_orderly : (held later : Place → Option Stored) (o : ℕ) (row : Row) (p : Place) (i : Inode) (m latest : ℕ) → written.Laws → Written held later o row p i m → m ≤ latest → IsOrderly held o row latest → IsOrderly later o (with_checkpoint row p m) latest
+pub written_orderly : (held later : Place → Option Stored) (o : ℕ) (row : Row) (p : Place) (i : Inode) (m latest : ℕ) → Laws → Written held later o row p i m → m ≤ latest → IsOrderly held o row latest → IsOrderly later o (with_checkpoint row p m) latest
 written_orderly held later o row p i m latest laws w le was =
     let next : Row = with_checkpoint row p m in
     let entries : entries_of later o next ≡ entries_of held o row = same_entries held later o row w.journal in
-    let first : first_of later o next ≡ first_of held o row = written.first_stays held later o row p i m laws w in
+    let first : first_of later o next ≡ first_of held o row = written_first held later o row p i m laws w in
     let chain : IsOrderlyChain row.created latest (first_of held o row) (entries_of later o next) = subst (λ (es : List EntryFields). IsOrderlyChain row.created latest (first_of held o row) es) (sym entries) was.chain in
     record {
       made = was.made;
