@@ -87,9 +87,9 @@ told_before : (created t : ℕ) (entries : List EntryFields) (c : CheckpointFiel
 unfolding inode_before
 told_before created t entries c = refl
 
-first_stays : (held later : Place → Option Stored) (o : ℕ) (row : Row) (p : Place) (i : Inode) (m : ℕ) → Laws → Written held later o row p i m → first_of later o (with_checkpoint row p m) ≡ first_of held o row
+pub written_first : (held later : Place → Option Stored) (o : ℕ) (row : Row) (p : Place) (i : Inode) (m : ℕ) → Laws → Written held later o row p i m → first_of later o (with_checkpoint row p m) ≡ first_of held o row
 unfolding inode_of
-first_stays held later o row p i m laws w =
+written_first held later o row p i m laws w =
     let c : CheckpointFields = record { object = o; moment = m; inode = i } in
     ap (λ (es : List EntryFields). inode_before row.created m es (checkpoint_held later o p)) (same_entries held later o row w.journal)
     ∙ ap (λ (found : Option CheckpointFields). inode_before row.created m (entries_of held o row) found) w.told
@@ -100,7 +100,7 @@ pub written_inode : (held later : Place → Option Stored) (o : ℕ) (row : Row)
 unfolding inode_of
 written_inode held later o row p i m t laws w =
     ap (λ (es : List EntryFields). inode_after (first_of later o (with_checkpoint row p m)) es t) (same_entries held later o row w.journal)
-    ∙ ap (λ (k : Inode). inode_after k (entries_of held o row) t) (first_stays held later o row p i m laws w)
+    ∙ ap (λ (k : Inode). inode_after k (entries_of held o row) t) (written_first held later o row p i m laws w)
 
 pub written_by : (held later : Place → Option Stored) (o : ℕ) (row : Row) (p : Place) (i : Inode) (m : ℕ) → Written held later o row p i m → IsBy later o (with_checkpoint row p m) m
 written_by held later o row p i m w = record {
@@ -112,7 +112,7 @@ pub written_row : (held later : Place → Option Stored) (o : ℕ) (row : Row) (
 written_row held later o row p i m laws w =
     let next : Row = with_checkpoint row p m in
     let entries : entries_of later o next ≡ entries_of held o row = same_entries held later o row w.journal in
-    let first : first_of later o next ≡ first_of held o row = first_stays held later o row p i m laws w in
+    let first : first_of later o next ≡ first_of held o row = written_first held later o row p i m laws w in
     let run : Run (first_of later o next) (entries_of held o row) w.stands.last = subst (λ (k : Inode). Run k (entries_of held o row) w.stands.last) (sym first) w.stands.run in
     let chain : Holds later (chain_of o next) (entries_of held o row) = subst (λ (v : BlockView). IsChain v (chain_of o row) (entries_of held o row)) (sym w.journal) w.stands.chain in
     record {

@@ -14,11 +14,11 @@ use Rattle.journal_chain.specs.Chain.{Holds, chain_entries, chain_links, links_f
 use Rattle.time_read.specs.Rows.{IsRow, chain_of, entries_of, first_of, inode_before, inode_of}
 use Rattle.row_changes.specs.Recent.{IsBy}
 
-no_entries : (held : Place → Option Stored) (o created : ℕ) → entries_of held o (fresh_row created) ≡ []
+pub no_entries : (held : Place → Option Stored) (o created : ℕ) → entries_of held o (fresh_row created) ≡ []
 unfolding chain_entries chain_links links_from joined
 no_entries held o created = refl
 
-blank_first : (held : Place → Option Stored) (o created : ℕ) → first_of held o (fresh_row created) ≡ blank created
+pub blank_first : (held : Place → Option Stored) (o created : ℕ) → first_of held o (fresh_row created) ≡ blank created
 unfolding inode_before
 blank_first held o created = refl
 

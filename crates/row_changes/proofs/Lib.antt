@@ -1,5 +1,6 @@
 pub mod CheckpointLemmas
 pub mod Fresh
+pub mod OrderKept
 pub mod Places
 pub mod Pushing
 pub mod Recently

@@ -93,7 +93,7 @@ unfolding inode_before
 before_stays created t front back None past = refl
 before_stays created t front back (Some c) past = ap (λ es. undone_all es c.inode) (front_by t front back past)
 
-first_stays : (held later : Place → Option Stored) (o : ℕ) (row : Row) (h : Option Place) (b f : ℕ) (i j : Inode) (m : ℕ) (new : List EntryFields) → Pushed held later o row (with_chain row h b f) i j m new → first_of later o (with_chain row h b f) ≡ first_of held o row
+pub first_stays : (held later : Place → Option Stored) (o : ℕ) (row : Row) (h : Option Place) (b f : ℕ) (i j : Inode) (m : ℕ) (new : List EntryFields) → Pushed held later o row (with_chain row h b f) i j m new → first_of later o (with_chain row h b f) ≡ first_of held o row
 first_stays held later o row h b f i j m new p =
     let earlier : row.checkpoint_moment < m = omega (arith, p.earlier.checkpoint, p.least) in
     ap (λ (es : List EntryFields). inode_before row.created row.checkpoint_moment es (row.checkpoint >>= checkpoint_held later o)) p.chain.entries
@@ -107,7 +107,7 @@ inode_is held later o row h b f i j m new t p =
     ∙ ap (λ (k : Inode). inode_after k (entries_of held o row ++ new) t) (first_stays held later o row h b f i j m new p)
 
 -- the inode that the push begins with is the last one so far
-present_is : (held later : Place → Option Stored) (o : ℕ) (row next : Row) (i j : Inode) (m : ℕ) (new : List EntryFields) → Pushed held later o row next i j m new → i ≡ inode_after (first_of held o row) (entries_of held o row) (m - 1)
+pub present_is : (held later : Place → Option Stored) (o : ℕ) (row next : Row) (i j : Inode) (m : ℕ) (new : List EntryFields) → Pushed held later o row next i j m new → i ≡ inode_after (first_of held o row) (entries_of held o row) (m - 1)
 unfolding inode_of
 present_is held later o row next i j m new p = p.before
 

@@ -1,8 +1,10 @@
-ghost use Rattle.std.specs.Prelude.{◌≡◌, ℕ, ◌-◌, ◌++◌, nat_le, if◌then◌else◌, drop, Some, None, IfOk, OnErr, MatchResult};
+ghost use Rattle.std.specs.Prelude.{◌≡◌, ℕ, ◌-◌, ◌++◌, true, nat_le, if◌then◌else◌, drop, Some, None, IfOk, OnErr, MatchResult};
 ghost use Rattle.undo_redo.specs.Between.{CanLead, entries_between};
 ghost use Rattle.journal_chain.specs.Chain.{OnlyJournalChanged};
 ghost use Rattle.journal_chain.specs.Push.{push_refusal, pushed_blocks};
+ghost use Rattle.object_map.specs.Rows.{fresh_row};
 ghost use Rattle.time_read.specs.Rows.{IsRow, chain_of, entries_of, inode_of};
+ghost use Rattle.time_read.specs.Orderly.{IsOrderly};
 ghost use Rattle.row_changes.specs.Recent.{IsBy};
 
 use crate::laws::later_entries_join_a_row;
@@ -14,7 +16,8 @@ use s4_types::{Moment, ObjectId, Refusal};
 use undo_redo::entries_between;
 
 /// Appends to an object's journal what leads from its present inode to the next one, at a moment, and answers its row
-/// after that.
+/// after that. The row of an object that is made at the moment is then in order, and one that was in order before the
+/// change of a live object stays so.
 ///
 /// ChainFull exactly where the journal's entries would have more than 11,712 bytes, else NoSpace exactly where fewer
 /// places are ahead than blocks are appended; then nothing has changed.
@@ -34,6 +37,8 @@ pub fn record_change<B: Blocks>(
     ensures latest { IfOk result (λ later. IsBy (B.log table.new).held object later moment) }
     ensures inode { IfOk result (λ later. (t : ℕ) → inode_of (B.log table.new).held object later t ≡ (if nat_le moment t then after.now else inode_of (B.log table.old).held object row.now t)) }
     ensures entries { IfOk result (λ later. entries_of (B.log table.new).held object later ≡ entries_of (B.log table.old).held object row.now ++ entries_between before.now after.now moment) }
+    ensures made { IfOk result (λ later. row.now ≡ fresh_row moment → IsOrderly (B.log table.new).held object later moment) }
+    ensures orderly { IfOk result (λ later. IsOrderly (B.log table.old).held object row.now (moment - 1) → before.now.alive ≡ true → IsOrderly (B.log table.new).held object later moment) }
     ensures fields { IfOk result (λ later. later ≡ record row.now { head = later.head; journal_bytes = later.journal_bytes; head_bytes = later.head_bytes }) }
     ensures others { OnlyJournalChanged object (B.log table.old).held (B.log table.new).held }
     ensures ahead { IfOk result (λ _. (B.log table.new).ahead ≡ drop (pushed_blocks (chain_of object row.now) (entries_between before.now after.now moment)) (B.log table.old).ahead) }

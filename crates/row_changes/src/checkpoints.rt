@@ -1,4 +1,4 @@
-ghost use Rattle.std.specs.Prelude.{◌≡◌, ℕ, ◌<◌, true, false, drop, length, Some, None, IsSome, IfSome, IfOk, IfErr, OnErr, MatchResult};
+ghost use Rattle.std.specs.Prelude.{◌≡◌, ℕ, ◌<◌, ◌≤◌, true, false, drop, length, Some, None, IsSome, IfSome, IfOk, IfErr, OnErr, MatchResult};
 ghost use Rattle.s4_types.specs.Pointer.{Place};
 ghost use Rattle.s4_types.specs.declared.refusals.Refusal.TheVariants.{NoSpace};
 ghost use Rattle.block_log.specs.declared.kinds.BlockKind.TheVariants as kind;
@@ -6,6 +6,7 @@ ghost use Rattle.block_log.specs.Log.{of_kind};
 ghost use Rattle.codec.specs.Checkpoint.{checkpoint_rules};
 ghost use Rattle.checkpoint.specs.Held.{checkpoint_held, PutsCheckpoint};
 ghost use Rattle.time_read.specs.Rows.{IsRow, inode_of};
+ghost use Rattle.time_read.specs.Orderly.{IsOrderly};
 ghost use Rattle.row_changes.specs.Recent.{IsBy};
 ghost use Rattle.row_changes.specs.Moved.{OnlyCheckpointChanged, IsMoved, is_at};
 
@@ -48,7 +49,7 @@ fn drop_older<B: Blocks>(table: &mut B, object: ObjectId, older: Option<Ptr>)
 }
 
 /// Appends an object's inode at a moment as its checkpoint, drops the one before, if there was one, and answers the
-/// object's row after that. The inode at each moment is as it was.
+/// object's row after that. The inode at each moment is as it was, and a row that was in order stays so.
 ///
 /// NoSpace exactly where no place is ahead; then nothing has changed.
 pub fn record_checkpoint<B: Blocks>(
@@ -65,6 +66,7 @@ pub fn record_checkpoint<B: Blocks>(
     ensures row { IfOk result (λ later. IsRow (B.log table.new).held object later) }
     ensures latest { IfOk result (λ later. IsBy (B.log table.new).held object later moment) }
     ensures inode { IfOk result (λ later. (t : ℕ) → inode_of (B.log table.new).held object later t ≡ inode_of (B.log table.old).held object row.now t) }
+    ensures orderly { IfOk result (λ later. (latest : ℕ) → moment ≤ latest → IsOrderly (B.log table.old).held object row.now latest → IsOrderly (B.log table.new).held object later latest) }
     ensures fields { IfOk result (λ later. later ≡ record row.now { checkpoint = later.checkpoint; checkpoint_moment = moment }) }
     ensures moved { IfOk result (λ later. IsMoved (B.log table.old).held row.now.checkpoint later.checkpoint (B.log table.new).held) }
     ensures some { IfOk result (λ later. IsSome later.checkpoint) }

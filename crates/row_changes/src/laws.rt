@@ -7,6 +7,7 @@ ghost use Rattle.undo_redo.specs.Runs.{blank};
 ghost use Rattle.object_map.specs.declared.map.Row.{Row};
 ghost use Rattle.object_map.specs.Rows.{fresh_row};
 ghost use Rattle.time_read.specs.Rows.{IsRow, inode_of};
+ghost use Rattle.time_read.specs.Orderly.{IsOrderly};
 ghost use Rattle.row_changes.specs.Recent.{IsBy};
 ghost use Rattle.row_changes.specs.Laws.{AFreshRowStands};
 ghost use Rattle.row_changes.specs.private.Joining.{LaterEntriesJoin};
@@ -33,6 +34,12 @@ pub fn a_fresh_row_stands()
 pub fn a_row_is_by_later_moments()
     ensures later { (held : Place → Option Stored) (o : ℕ) (row : Row) (a b : ℕ) → a ≤ b → IsBy held o row a → IsBy held o row b }
     ensures journal { (held later : Place → Option Stored) (o : ℕ) (row : Row) (t : ℕ) → of_kind Journal o later ≡ of_kind Journal o held → IsBy held o row t → IsBy later o row t }
+{}
+
+/// A row that is in order up to a moment tells of no later one.
+#[tactic(auto, using(crate::proofs::OrderKept::orderly_is_by))]
+pub fn an_orderly_row_is_by_its_moment()
+    ensures { (held : Place → Option Stored) (o : ℕ) (row : Row) (latest : ℕ) → IsRow held o row → IsOrderly held o row latest → IsBy held o row latest }
 {}
 
 /// From the moment on by which all is told, the inode stays.

@@ -2,8 +2,8 @@
 //! of an older one.
 //!
 //! The layers above may rely on this: from a change's moment on the object's inode is the changed one, and before it
-//! each is as it was; a checkpoint changes no inode. A row tells of moments up to one that is known, and blocks of other
-//! kinds and objects stay.
+//! each is as it was; a checkpoint changes no inode. A row tells of moments up to one that is known, and a row that is in
+//! order stays so; blocks of other kinds and objects stay.
 #![tactic(auto)]
 
 mod changes;

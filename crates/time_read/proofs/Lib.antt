@@ -1,6 +1,7 @@
 pub mod Counting
 pub mod Fetching
 pub mod Locating
+pub mod Ordering
 pub mod Pins
 pub mod Planning
 pub mod Reading

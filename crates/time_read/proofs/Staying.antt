@@ -14,7 +14,7 @@ use Rattle.object_map.specs.declared.map.Row.{Row}
 use Rattle.journal_chain.specs.Chain.{BlockView, IsChain, Holds, chain_entries, entries_in}
 use Rattle.time_read.specs.Rows.{chain_of, entries_of, checkpoint_of, first_of, inode_before, inode_of, IsRow}
 
-same_entries : (held later : Place → Option Stored) (o : ℕ) (row : Row) → of_kind Journal o later ≡ of_kind Journal o held → entries_of later o row ≡ entries_of held o row
+pub same_entries : (held later : Place → Option Stored) (o : ℕ) (row : Row) → of_kind Journal o later ≡ of_kind Journal o held → entries_of later o row ≡ entries_of held o row
 unfolding chain_entries
 same_entries held later o row same = ap (λ (v : BlockView). unwrap_or (entries_in v o row.head) []) same
 
@@ -24,7 +24,7 @@ same_read held later o p same = ap (λ (v : BlockView). spelled_checkpoint (v p)
 same_checkpoint : (held later : Place → Option Stored) (o : ℕ) (row : Row) → of_kind Checkpoint o later ≡ of_kind Checkpoint o held → checkpoint_of later o row ≡ checkpoint_of held o row
 same_checkpoint held later o row same = ap (λ (v : BlockView). row.checkpoint >>= λ p. spelled_checkpoint (v p)) same
 
-same_first : (held later : Place → Option Stored) (o : ℕ) (row : Row) → of_kind Journal o later ≡ of_kind Journal o held → of_kind Checkpoint o later ≡ of_kind Checkpoint o held → first_of later o row ≡ first_of held o row
+pub same_first : (held later : Place → Option Stored) (o : ℕ) (row : Row) → of_kind Journal o later ≡ of_kind Journal o held → of_kind Checkpoint o later ≡ of_kind Checkpoint o held → first_of later o row ≡ first_of held o row
 same_first held later o row journal checkpoint =
     ap (λ (es : List EntryFields). inode_before row.created row.checkpoint_moment es (checkpoint_of later o row)) (same_entries held later o row journal)
     ∙ ap (λ (c : Option CheckpointFields). inode_before row.created row.checkpoint_moment (entries_of held o row) c) (same_checkpoint held later o row checkpoint)

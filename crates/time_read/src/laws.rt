@@ -1,16 +1,19 @@
 //! Laws of rows, for the layers above: each function does nothing, and its contract is the law.
-ghost use Rattle.std.specs.Prelude.{◌≡◌, ℕ, ◌≤◌, Option, IsSome};
+ghost use Rattle.std.specs.Prelude.{◌≡◌, ℕ, ◌≤◌, true, length, take, drop, Option, IsSome};
 ghost use Rattle.s4_types.specs.declared.limits.TheConstants.{CHAIN_ENTRY_BYTES, JOURNAL_ENTRY_BYTES};
 ghost use Rattle.s4_types.specs.Pointer.{Place};
 ghost use Rattle.block_log.specs.declared.kinds.BlockKind.TheVariants.{Journal, Checkpoint};
 ghost use Rattle.block_log.specs.Log.{Stored, of_kind};
 ghost use Rattle.journal_chain.specs.Chain.{chain_entries};
 ghost use Rattle.object_map.specs.declared.map.Row.{Row};
-ghost use Rattle.undo_redo.specs.Runs.{AllBy};
-ghost use Rattle.time_read.specs.Rows.{IsRow, entries_of, inode_of, last_inode};
+ghost use Rattle.undo_redo.specs.Runs.{AllBy, AllPast, entries_by};
+ghost use Rattle.time_read.specs.Rows.{IsRow, entries_of, first_of, inode_of, last_inode};
+ghost use Rattle.time_read.specs.Orderly.{inode_behind, IsFromTo, IsOrderly};
 
 use journal_chain::packing::laws::packing_keeps_the_rule;
-use undo_redo::laws::the_inode_at_a_moment;
+use undo_redo::laws::{
+    groups_join_and_part, the_inode_at_a_moment, the_inode_at_a_moment_stands_in_the_run,
+};
 
 /// A row is a matter of its object's journal blocks and checkpoints alone: where those are the same, it stands as
 /// before, and the inode at each moment is the same.
@@ -41,4 +44,30 @@ pub fn a_row_tells_a_chain()
     ensures walk { (held : Place → Option Stored) (o : ℕ) (row : Row) → IsRow held o row → IsSome (chain_entries held o row.head) }
 {
     packing_keeps_the_rule();
+}
+
+/// Whether a row is in order up to a moment is a matter of its object's journal blocks and checkpoints alone, and not of its
+/// stamp. A row that is in order up to a moment is so up to each later one.
+pub fn an_orderly_row_stays()
+    ensures blocks { (held later : Place → Option Stored) (o latest : ℕ) (row : Row)
+        → of_kind Journal o later ≡ of_kind Journal o held → of_kind Checkpoint o later ≡ of_kind Checkpoint o held
+        → IsOrderly held o row latest → IsOrderly later o row latest }
+    ensures stamp { (held : Place → Option Stored) (o latest n : ℕ) (row : Row) → IsOrderly held o row latest → IsOrderly held o (record row { stamp = n }) latest }
+    ensures later { (held : Place → Option Stored) (o : ℕ) (row : Row) (a b : ℕ) → a ≤ b → IsOrderly held o row a → IsOrderly held o row b }
+{}
+
+/// At each moment an object's inode is one of its chain: the one behind the entries up to the moment; and an inode of the
+/// chain is current at each moment that parts its entries so. So where the row is in order up to a latest moment, the last
+/// change of each live inode was from the object's making to that moment.
+pub fn each_inode_is_of_the_chain()
+    ensures behind { (held : Place → Option Stored) (o : ℕ) (row : Row) (t : ℕ) → IsRow held o row
+        → inode_of held o row t ≡ inode_behind (first_of held o row) (entries_of held o row) (length (entries_by t (entries_of held o row))) }
+    ensures current { (held : Place → Option Stored) (o : ℕ) (row : Row) (n t : ℕ) → AllBy t (take n (entries_of held o row)) → AllPast t (drop n (entries_of held o row))
+        → inode_behind (first_of held o row) (entries_of held o row) n ≡ inode_of held o row t }
+    ensures changed { (held : Place → Option Stored) (o : ℕ) (row : Row) (t latest : ℕ) → IsRow held o row → IsOrderly held o row latest
+        → (inode_of held o row t).alive ≡ true → IsFromTo row.created latest (inode_of held o row t).changed }
+{
+    groups_join_and_part();
+    the_inode_at_a_moment();
+    the_inode_at_a_moment_stands_in_the_run();
 }

@@ -1,5 +1,6 @@
 use Rattle.std.proofs.Common.{◌++◌, rules, refl, ap, ◌∙◌}
 use Rattle.block_log.specs.declared.kinds.BlockKind.TheVariants.{Checkpoint}
+use Rattle.row_changes.proofs.OrderKept.{made_orderly, turned_orderly}
 use Rattle.time_read.specs.Rows.{entries_of}
 use Rattle.row_changes.proofs.Pushing.{Pushed, with_chain, holding, pushed_row, pushed_by, pushed_inode}
 use Rattle.row_changes.proofs.changes.record_change.Goals as goal
@@ -37,6 +38,8 @@ returns g c =
       latest = pushed_by held later o row head bytes filled before after m new p;
       inode = λ t. pushed_inode held later o row head bytes filled before after m new t laws p;
       entries = p.chain.entries ∙ ap (λ es. entries_of held o row ++ es) c.entries_between-entries.ensures.exact;
+      made = made_orderly laws.end held later o row head bytes filled before after m new p c.requires.lead;
+      orderly = turned_orderly laws.end laws.done held later o row head bytes filled before after m new p c.requires.lead;
       fields = search rules;
       others = search rules;
       ahead = search rules;

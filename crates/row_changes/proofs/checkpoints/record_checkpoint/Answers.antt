@@ -1,6 +1,7 @@
 use Rattle.std.proofs.Common.{rules}
 use Rattle.row_changes.proofs.Places.{put_only}
 use Rattle.row_changes.proofs.CheckpointLemmas.{Laws, written, written_row, written_by, written_inode}
+use Rattle.row_changes.proofs.OrderKept.{written_orderly}
 use Rattle.row_changes.proofs.checkpoints.record_checkpoint.Goals as goal
 
 pub returns : goal.returns
@@ -23,6 +24,7 @@ returns g c =
       row = written_row log.held later.held o row place inode m laws w;
       latest = written_by log.held later.held o row place inode m w;
       inode = λ t. written_inode log.held later.held o row place inode m t laws w;
+      orderly = λ latest. written_orderly log.held later.held o row place inode m latest laws w;
       fields = search rules;
       moved = search rules;
       some = search rules;
