@@ -20,8 +20,6 @@ use Rattle.block_log.specs.Log.{Stored}
 use Rattle.codec.specs.declared.inodes.Inode.{Inode}
 use Rattle.inode.specs.Contents.{contents_of, bytes_of, meaning}
 use Rattle.inode.specs.Laws.{TheSizeCountsTheBytes}
-use Rattle.object_map.specs.declared.map.Row.{Row}
-use Rattle.object_map.specs.Rows.{row_of}
 use Rattle.version_store.specs.Store.{StoreFields}
 use Rattle.version_store.specs.Versions.{inode_in, version_in, version_by}
 use Rattle.version_store.specs.Taking.{Takes, IsReadyFor, IsThere}

@@ -23,7 +23,6 @@ use Rattle.window.specs.Timeline.{Timeline, StandsFor}
 use Rattle.block_log.specs.Log.{Stored}
 use Rattle.object_map.specs.declared.map.Row.{Row}
 use Rattle.object_map.specs.Rows.{row_of}
-use Rattle.codec.specs.declared.inodes.Inode.{Inode}
 use Rattle.inode.specs.Contents.{contents_of}
 use Rattle.version_store.specs.Store.{StoreFields, IsStore}
 use Rattle.s4_model.specs.Effect.{is_of_versions, object_of}

@@ -1,5 +1,5 @@
 -- What an accepted request is answered, and what a request leaves.
-use Rattle.std.specs.Prelude.{◌≡◌, ◌⊎◌, ◌↔◌, ◌<◌, ◌-◌, ℕ, min, Bool, true, false, if◌then◌else◌, List, [], ◌∷◌, ◌++◌, Option, None, Some, Result, Ok, Err, MatchResult, MatchBool}
+use Rattle.std.specs.Prelude.{◌≡◌, ◌↔◌, ◌<◌, ◌-◌, ℕ, min, Bool, true, false, if◌then◌else◌, List, [], ◌∷◌, ◌++◌, Option, None, Some, Result, Ok, Err, MatchResult, MatchBool}
 use Rattle.std.specs.List.{list_any}
 use Rattle.s4_types.specs.declared.changes.Change.{Change}
 use Rattle.s4_types.specs.declared.refusals.Refusal.{Refusal}
@@ -7,14 +7,15 @@ use Rattle.s4_types.specs.declared.requests.Request.{Request}
 use Rattle.s4_types.specs.declared.requests.Request.TheVariants.{Read, GetAttr}
 use Rattle.s4_types.specs.declared.replies.Reply.{Reply}
 use Rattle.s4_types.specs.declared.replies.Reply.TheVariants.{Changed, Created, Data, Refused}
-use Rattle.s4_types.specs.declared.refusals.Refusal.TheVariants.{NoObject, NoMemory}
+use Rattle.s4_types.specs.declared.refusals.Refusal.TheVariants.{NoObject}
+use Rattle.s4_types.specs.declared.versions.Version.TheVariants.{Live}
 use Rattle.s4_model.specs.State.{State}
 use Rattle.s4_model.specs.VersionAt.{version_of}
 use Rattle.s4_model.specs.Refusals.{moment_refusal, is_absent, asked}
-use Rattle.s4_model.specs.Step.{change_of, stamp, reply_to_change}
+use Rattle.s4_model.specs.Step.{change_of, stamp, reply_to_change, reply_to_read}
 use Rattle.segment_word.specs.AcceptViews.{Ledger, Told, with_change, caught_up, credited}
 use Rattle.codec.specs.declared.inodes.Inode.{Inode}
-use Rattle.inode.specs.Contents.{contents_of}
+use Rattle.inode.specs.Contents.{contents_of, bytes_of}
 use Rattle.version_store.specs.Store.{StoreFields}
 use Rattle.version_store.specs.Costs.{subject_inode, blocks_taken}
 use Rattle.s4_model.specs.Effect.{is_of_versions, object_of}
@@ -99,6 +100,15 @@ size_by (Some i) = if i.alive then Some i.size else None
 -- why a moment of an object isn't read, if it isn't: it can't be, or else the object is absent then
 abbrev pub telling_refusal : State → ℕ → ℕ → Option Refusal
 telling_refusal s o t = or_then (moment_refusal s o t) (if is_absent (version_of s o t) then Some NoObject else None)
+
+-- An inode means the version that the history tells of an object at a moment: a live one, of the bytes that the inode's blocks
+-- hold, and of its attribute and moments.
+abbrev pub MeansVersion : DriveFields → ℕ → ℕ → Inode → Type 0
+MeansVersion d object t i = version_of (state_in d) object t ≡ Live (bytes_of (contents_of (store_of d).log.held) i) i.attribute i.created i.changed
+
+-- a read is answered so: nothing refuses it first, and this is the model's reply
+abbrev pub IsAnswered : Option Refusal → State → Request → Reply → Type 0
+IsAnswered first s request reply = (first ≡ None) × (reply_to_read s request ≡ Some reply)
 
 -- the reply that a plan of a read stands for: the bytes that it names, or its refusal
 abbrev pub reply_planned : Result PlanFields Refusal → Reply

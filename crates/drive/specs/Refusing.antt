@@ -13,13 +13,13 @@ use Rattle.s4_types.specs.declared.replies.Reply.{Reply}
 use Rattle.s4_types.specs.declared.replies.Reply.TheVariants.{Refused}
 use Rattle.s4_model.specs.State.{State}
 use Rattle.s4_model.specs.Refusals.{first_refusal, asked, is_one_span_too_many, last_number}
-use Rattle.s4_model.specs.Step.{change_of, stamp}
+use Rattle.s4_model.specs.Step.{change_of, stamp, judged}
 use Rattle.s4_model.specs.Effect.{is_of_versions}
 use Rattle.version_store.specs.Store.{StoreFields}
 use Rattle.version_store.specs.Costs.{change_refusal}
 use Rattle.version_store.specs.Versions.{inode_in}
 use Rattle.time_read.specs.Plans.{pieces_of, is_pinned}
-use Rattle.drive.specs.Fields.{DriveFields, store_of, state_in}
+use Rattle.drive.specs.Fields.{DriveFields, history_of, store_of, state_in}
 
 -- the first of two refusals
 abbrev pub or_then : Option Refusal → Option Refusal → Option Refusal
@@ -73,6 +73,15 @@ WantsPin d _ = ⊥
 abbrev pub RefusesBy : Option Refusal → DriveFields → Request → Reply → Type 0
 RefusesBy why d request (Refused refusal) = ((refusal ≡ NoMemory) × MayLackMemory why request) ⊎ ((why ≡ Some refusal) ⊎ ((refusal ≡ Busy) × (why ≡ None) × WantsPin d request))
 RefusesBy why d request _ = why ≡ None
+
+-- The reply to a request at a moment is a refusal exactly where the drive, as it was before, has one: that one, but for want
+-- of memory and of a pin, as told above. A pin is wanted over the drive as it is afterwards.
+abbrev pub RefusesExactly : DriveFields → Role → Request → ℕ → Reply → DriveFields → Type 0
+RefusesExactly d role request now reply later = RefusesBy (refusal_of (store_of d) (judged (history_of d) request now) role request now) later request reply
+
+-- Where the reply to a request at a moment is want of memory, the checks over the drive, as it was before, leave it room.
+abbrev pub LacksMemoryInPlace : DriveFields → Role → Request → ℕ → Reply → Type 0
+LacksMemoryInPlace d role request now reply = reply ≡ Refused NoMemory → MayLackMemory (first_refusal (judged (history_of d) request now) role request) request
 
 -- a refusal of a read by the checks, or for want of memory
 abbrev pub IsJudgedOut : Option Refusal → Request → Refusal → Type 0

@@ -77,6 +77,7 @@ impl NewDrive {
         requires base { new_base self.window ≡ J.base }
         ensures ledger { result.ledger ≡ begun J.base }
         ensures store { result.store ≡ self.store }
+        ensures frames { result.store.table.drive.table ≡ J.frames }
     {
         let NewDrive {
             alloc,

@@ -1,17 +1,16 @@
 //! Plans of reads: made with the drive, and fetched without it.
 ghost use Rattle.std.specs.Prelude.{◌≡◌, None, Some, IfOk, IfErr, OnOk};
 ghost use Rattle.s4_types.specs.Sizes.{ReplyFits};
-ghost use Rattle.s4_types.specs.declared.refusals.Refusal.TheVariants.{NoMemory};
-ghost use Rattle.s4_types.specs.declared.replies.Reply.TheVariants.{Data, Refused};
+ghost use Rattle.s4_types.specs.declared.replies.Reply.TheVariants.{Data};
 ghost use Rattle.s4_types.specs.declared.requests.Request.TheVariants.{Read};
 ghost use Rattle.s4_types.specs.declared.requests.Role.{Role};
 ghost use Rattle.s4_model.specs.Refusals.{first_refusal};
-ghost use Rattle.s4_model.specs.Step.{Step, judged, reply_to_read};
+ghost use Rattle.s4_model.specs.Step.{Step, reply_to_read};
 ghost use Rattle.segment_word.specs.AcceptViews.{with_moment, caught_up};
 ghost use Rattle.segment_word.specs.AcceptRule.{FitsLedger};
 ghost use Rattle.time_read.specs.Plans.{bytes_planned};
 ghost use Rattle.drive.specs.Fields.{history_of, state_in, store_of};
-ghost use Rattle.drive.specs.Refusing.{refusal_of, RefusesBy, IsUnplanned};
+ghost use Rattle.drive.specs.Refusing.{RefusesExactly, LacksMemoryInPlace, IsUnplanned};
 ghost use Rattle.drive.specs.Answering.{IsPlanOf, IsPinOf, reply_planned};
 
 use crate::drive::Drive;
@@ -58,9 +57,9 @@ impl<J: Naming> Drive<J> {
     ) -> Result<ReadPlan, Refusal>
         // The history goes on by the step of that Read, answered with the bytes that the plan names.
         ensures step { Step (history_of self.old) session.old.role (Read object offset length at) now (reply_planned result) (history_of self.new) }
-        ensures refused { RefusesBy (refusal_of (store_of self.old) (judged (history_of self.old) (Read object offset length at) now) session.old.role (Read object offset length at) now) self.new (Read object offset length at) (reply_planned result) }
+        ensures refused { RefusesExactly self.old session.old.role (Read object offset length at) now (reply_planned result) self.new }
         // Want of memory comes only where no check refuses the Read.
-        ensures memory { reply_planned result ≡ Refused NoMemory → first_refusal (judged (history_of self.old) (Read object offset length at) now) session.old.role (Read object offset length at) ≡ None }
+        ensures memory { LacksMemoryInPlace self.old session.old.role (Read object offset length at) now (reply_planned result) }
         ensures plan { IfOk result (IsPlanOf self.new object offset length at) }
         // Its pin is of the table of frames that `J` names.
         ensures named { IfOk result (λ plan. IsPinOf J.frames plan.pin) }

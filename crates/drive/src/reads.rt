@@ -4,17 +4,14 @@ ghost use Rattle.s4_types.specs.Sizes.{ReplyFits};
 ghost use Rattle.s4_types.specs.declared.limits.TheConstants.{READ_BYTES};
 ghost use Rattle.s4_types.specs.declared.requests.Request.TheVariants.{Read, GetAttr};
 ghost use Rattle.s4_types.specs.declared.refusals.Refusal.TheVariants.{NoMemory};
-ghost use Rattle.s4_types.specs.declared.versions.Version.TheVariants.{Live};
-ghost use Rattle.s4_model.specs.VersionAt.{version_of};
 ghost use Rattle.s4_model.specs.Refusals.{first_refusal, asked};
 ghost use Rattle.s4_model.specs.Step.{reply_to_read};
-ghost use Rattle.inode.specs.Contents.{contents_of, bytes_of};
 ghost use Rattle.admission.specs.Later.{later_refusal, IsWithin};
 ghost use Rattle.version_store.specs.Versions.{inode_in};
 ghost use Rattle.drive.specs.Fields.{state_in, store_of};
 ghost use Rattle.time_read.specs.Plans.{bytes_planned};
 ghost use Rattle.drive.specs.Refusing.{IsJudgedOut, IsUnplanned};
-ghost use Rattle.drive.specs.Answering.{IsRead, IsPlanOf, telling_refusal};
+ghost use Rattle.drive.specs.Answering.{IsRead, IsPlanOf, IsAnswered, MeansVersion, telling_refusal};
 
 use crate::drive::Drive;
 use admission::check;
@@ -56,7 +53,7 @@ impl<J: Naming> Drive<J> {
         ensures store { store_of self.new ≡ store_of self.old }
         ensures free { OnOk result (telling_refusal (state_in self.old) object at ≡ None) }
         ensures inode { IfOk result (λ inode. inode_in (store_of self.old) object at ≡ Some inode) }
-        ensures version { IfOk result (λ inode. version_of (state_in self.old) object at ≡ Live (bytes_of (contents_of (store_of self.old).log.held) inode) inode.attribute inode.created inode.changed) }
+        ensures version { IfOk result (MeansVersion self.old object at) }
         ensures refused { IfErr result (λ e. telling_refusal (state_in self.old) object at ≡ Some e) }
     {
         self.window.visible(object, at)?;
@@ -75,7 +72,7 @@ impl<J: Naming> Drive<J> {
         ensures free { OnOk result (telling_refusal (state_in self.now) object moment ≡ None) }
         ensures present { IfOk result (λ inode. inode_in (store_of self.now) object (store_of self.now).latest ≡ Some inode.now) }
         ensures inode { IfOk result (λ inode. inode_in (store_of self.now) object moment ≡ Some inode.now) }
-        ensures version { IfOk result (λ inode. version_of (state_in self.now) object moment ≡ Live (bytes_of (contents_of (store_of self.now).log.held) inode.now) inode.now.attribute inode.now.created inode.now.changed) }
+        ensures version { IfOk result (λ inode. MeansVersion self.now object moment inode.now) }
         ensures refused { IfErr result (λ e. telling_refusal (state_in self.now) object moment ≡ Some e) }
     {
         the_present_stays();
@@ -126,7 +123,7 @@ impl<J: Naming> Drive<J> {
         ensures ledger { self.new.ledger ≡ self.old.ledger }
         ensures store { store_of self.new ≡ store_of self.old }
         ensures fits { IfOk result ReplyFits }
-        ensures ok { IfOk result (λ reply. (later_refusal (state_in self.old) (Read object offset length at) ≡ None) × (reply_to_read (state_in self.old) (Read object offset length at) ≡ Some reply)) }
+        ensures ok { IfOk result (IsAnswered (later_refusal (state_in self.old) (Read object offset length at)) (state_in self.old) (Read object offset length at)) }
         ensures refused { IfErr result (IsUnplanned (later_refusal (state_in self.old) (Read object offset length at)) self.new (Read object offset length at)) }
     {
         let plan = self.planned(object, offset, length, at)?;
@@ -138,7 +135,7 @@ impl<J: Naming> Drive<J> {
         ensures ledger { self.new.ledger ≡ self.old.ledger }
         ensures store { store_of self.new ≡ store_of self.old }
         ensures fits { IfOk result ReplyFits }
-        ensures ok { IfOk result (λ reply. (later_refusal (state_in self.old) (GetAttr object at) ≡ None) × (reply_to_read (state_in self.old) (GetAttr object at) ≡ Some reply)) }
+        ensures ok { IfOk result (IsAnswered (later_refusal (state_in self.old) (GetAttr object at)) (state_in self.old) (GetAttr object at)) }
         ensures refused { IfErr result (IsJudgedOut (later_refusal (state_in self.old) (GetAttr object at)) (GetAttr object at)) }
     {
         bytes_are_the_blocks_joined();
@@ -156,7 +153,7 @@ impl<J: Naming> Drive<J> {
         ensures ledger { self.new.ledger ≡ self.old.ledger }
         ensures store { store_of self.new ≡ store_of self.old }
         ensures fits { IfOk result ReplyFits }
-        ensures ok { IfOk result (λ reply. (first_refusal (state_in self.old) role request.now ≡ None) × (reply_to_read (state_in self.old) request.now ≡ Some reply)) }
+        ensures ok { IfOk result (IsAnswered (first_refusal (state_in self.old) role request.now) (state_in self.old) request.now) }
         ensures refused { IfErr result (IsUnplanned (first_refusal (state_in self.old) role request.now) self.new request.now) }
     {
         check(role, request)?;

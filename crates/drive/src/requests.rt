@@ -1,14 +1,13 @@
 //! Requests: each is one step of the drive's history.
 ghost use Rattle.std.specs.Prelude.{◌≡◌, MatchBool, MatchResult};
 ghost use Rattle.s4_types.specs.Sizes.{ReplyFits};
-ghost use Rattle.s4_types.specs.declared.refusals.Refusal.TheVariants.{NoMemory};
 ghost use Rattle.s4_model.specs.Refusals.{first_refusal};
-ghost use Rattle.s4_model.specs.Step.{Step, judged};
+ghost use Rattle.s4_model.specs.Step.{Step};
 ghost use Rattle.s4_model.specs.Plain.{IsChange};
 ghost use Rattle.segment_word.specs.AcceptViews.{with_moment, caught_up};
 ghost use Rattle.segment_word.specs.AcceptRule.{FitsLedger};
 ghost use Rattle.drive.specs.Fields.{history_of, state_in, store_of};
-ghost use Rattle.drive.specs.Refusing.{refusal_of, RefusesBy, MayLackMemory};
+ghost use Rattle.drive.specs.Refusing.{RefusesExactly, LacksMemoryInPlace};
 ghost use Rattle.drive.specs.Answering.{IsRead, Leaves, ComesTo, told_after, owners_after};
 
 use crate::drive::Drive;
@@ -53,8 +52,8 @@ impl<J: Naming> Drive<J> {
         ensures step { Step (history_of self.old) session.old.role request now result (history_of self.new) }
         // The reply is a refusal exactly where there is one, but for want of memory, which stands in place of no check of an
         // object.
-        ensures refused { RefusesBy (refusal_of (store_of self.old) (judged (history_of self.old) request now) session.old.role request now) self.new request result }
-        ensures memory { result ≡ Reply.Refused NoMemory → MayLackMemory (first_refusal (judged (history_of self.old) request now) session.old.role request) request }
+        ensures refused { RefusesExactly self.old session.old.role request now result self.new }
+        ensures memory { LacksMemoryInPlace self.old session.old.role request now result }
         // An accepted change appends exactly its blocks, and changes its object's row alone, whose stamp it raises by one; it is
         // the last change then. Nothing else changes blocks, rows or the last change's moment.
         ensures stored { Leaves (store_of self.old) (state_in self.old) request now result (store_of self.new) }

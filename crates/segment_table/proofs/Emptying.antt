@@ -112,6 +112,7 @@ sound_marked old new free current f sound inside gone m =
     let changed : IsFit f (frame_at new.drive.frames f) (slots_at old.slots f) = record {
       few = fit.few;
       owned = fit.owned;
+      whole = λ b low high. ap (λ (x : Frame). length (block_bytes x.contents b)) at.1 ∙ fit.whole b low high;
       free = λ e. absurd (let is : Emptied ≡ Free = sym phase ∙ e in cc);
       summed = λ h. subst S (sym at.1) (fit.summed two);
       emptied = λ e. gone;

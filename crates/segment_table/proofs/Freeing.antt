@@ -94,6 +94,7 @@ sound_released old new free free' current f sound r vacant =
     let fit : IsFit f (frame_at d.frames f) [] = record {
       few = omega arith;
       owned = tt;
+      whole = λ b low high. absurd (omega arith);
       free = λ e. refl;
       summed = λ h. absurd (let z : code_of (frame_at d.frames f).phase ≡ 0 = ap code_of phase in omega arith);
       emptied = λ e. tt;

@@ -1,19 +1,19 @@
 -- What is known of a block that is held, of the open frame, and of a new table.
-use Rattle.std.proofs.Common.{◌≡◌, ◌≢◌, inl, inr, ◌⊎◌, ℕ, zero, suc, ◌+◌, ◌-◌, ◌<◌, ◌≤◌, Bool, true, false, ◌==◌, if◌then◌else◌, List, [], ◌∷◌, ◌++◌, length, map, set, get_or, slice_get, replicate, Option, Some, None, IsSome, MatchBool, option_map, refl, sym, ap, subst, ◌∙◌, arith}
+use Rattle.std.proofs.Common.{◌≡◌, ◌≢◌, inl, inr, ◌⊎◌, ℕ, zero, suc, ◌+◌, ◌-◌, ◌<◌, ◌≤◌, Bool, true, false, ◌==◌, if◌then◌else◌, List, [], ◌∷◌, ◌++◌, length, map, set, get_or, slice_get, replicate, Option, Some, None, IsSome, IfSome, MatchBool, option_map, refl, sym, ap, subst, ◌∙◌, arith}
 use Rattle.std.specs.List.{AllByRecursion, flat_map, range_with_len}
 use Rattle.std.specs.Option.{option_to_list}
 use Rattle.std.proofs.lemmas.List.{get_or_past, get_or_read, get_or-replicate, length-reverse, length-replicate}
 use Rattle.std.proofs.lemmas.Bool.{cases_Bool, cases_lt, cases_eq, eqb-true, eq-eqb, ne_eqb}
 use Rattle.s4_types.specs.Pointer.{Place}
-use Rattle.block_log.specs.Log.{dropped}
+use Rattle.block_log.specs.Log.{Stored, dropped}
 use Rattle.segment_word.specs.Frames.{Phase, Free, Open, Sealed, Emptied, Frame, no_frame, is_open}
 use Rattle.segment_word.specs.Layout.{frame_at, block_bytes}
 use Rattle.segment_word.specs.Handles.{fresh_frame}
 use Rattle.segment_table.specs.declared.slots.Slot.{Slot}
 use Rattle.segment_table.specs.Slots.{no_slot, let_go, held_part}
-use Rattle.segment_table.specs.Table.{Table, slots_at, block_slot, stored, held_block, held_at, part_of}
+use Rattle.segment_table.specs.Table.{Table, slots_at, block_slot, stored, held_block, held_at, HoldsWholeBlocks, part_of}
 use Rattle.segment_table.specs.Room.{is_filling, can_open, numbers, places, rest_of, whole_of, places_ahead, log_of, new_places}
-use Rattle.segment_table.specs.Sealing.{IsLetGo, IsSoundTable}
+use Rattle.segment_table.specs.Sealing.{IsLetGo, AreWhole, IsSoundTable}
 use Rattle.segment_table.specs.Changes.{IsFilling, NoneIsFilling}
 use Rattle.segment_table.proofs.Numbers.{numbers_none, numbers_one, numbers_all, numbers_nil}
 use Rattle.segment_table.proofs.Ahead.{filling_at, numbers_few}
@@ -54,6 +54,23 @@ held_used k s b g h = elim (cases_Bool (k.generation == g)) [
       absurd (none_not_some (held_block k s b g) none h))
 ]
 
+whole_stored : (slot : Slot) (bytes : List ℕ) → (slot.held ≡ true → length bytes ≡ 512) → IfSome (stored slot bytes) (λ block. length block.bytes ≡ 512)
+whole_stored slot bytes h =
+    let W : Bool → Type 0 = λ x. IfSome {T = Stored} (if x then Some (record { kind = slot.part.kind; object = slot.part.object; bytes = bytes }) else None) (λ block. length block.bytes ≡ 512) in
+    elim (cases_Bool slot.held) [
+      | inl held ↦ subst W (sym held) (h held)
+      | inr gone ↦ subst W (sym gone) tt
+    ]
+
+-- a held block has 512 bytes where the used ones do
+pub held_whole : (k : Frame) (s : List Slot) (b g : ℕ) → AreWhole k.contents (length s) → IfSome (held_block k s b g) (λ block. length block.bytes ≡ 512)
+held_whole k s b g whole =
+    let W : Bool → Type 0 = λ x. IfSome (if x then stored (block_slot s b) (block_bytes k.contents b) else None) (λ block. length block.bytes ≡ 512) in
+    elim (cases_Bool (k.generation == g)) [
+      | inl own ↦ subst W (sym own) (whole_stored (block_slot s b) (block_bytes k.contents b) (λ held. let used = used_when_held s b held in whole b used.0 used.1))
+      | inr other ↦ subst W (sym other) tt
+    ]
+
 all_let_go : (s : List Slot) (b : ℕ) → AllByRecursion IsLetGo s → (block_slot s b).held ≡ true → ⊥
 all_let_go s zero all h = cc
 all_let_go [] (suc b) all h = cc
@@ -85,6 +102,16 @@ held_frame t free current p sound h =
         | inr (inr (inr e)) ↦ absurd (all_let_go s p.block (fit.emptied e) used.held)
       ],
     )
+
+-- each held block has 512 bytes: those of the used blocks have, and a frame that isn't there has none
+pub sound_whole : (t : Table) (free : List ℕ) (current : Option ℕ) → IsSoundTable t free current → HoldsWholeBlocks t
+sound_whole t free current sound p =
+    let k : Frame = frame_at t.drive.frames p.frame in
+    let s : List Slot = slots_at t.slots p.frame in
+    held_whole k s p.block p.generation (elim (cases_lt p.frame (length t.slots)) [
+      | inl low ↦ (sound.fit p.frame (omega (arith, sound.counted))).whole
+      | inr past ↦ (let none : length s ≡ 0 = ap length (get_or_past t.slots p.frame [] past) in λ b low high. absurd (omega arith))
+    ])
 
 -- an open frame is the one that the table knows
 only_open : (t : Table) (current : Option ℕ) (f : ℕ) → option_to_list current ≡ numbers is_filling 0 t.drive.frames → f < length t.drive.frames → (frame_at t.drive.frames f).phase ≡ Open → current ≡ Some f

@@ -1,5 +1,5 @@
 -- What holds of a table goes on to hold, after each change of one frame.
-use Rattle.std.proofs.Common.{◌≡◌, inl, inr, ℕ, zero, suc, ◌<◌, ◌≤◌, false, List, [], ◌∷◌, ◌++◌, length, map, reverse, set, get_or, replicate, Option, Some, None, refl, sym, ap, subst, ◌∙◌, length-append, arith}
+use Rattle.std.proofs.Common.{◌≡◌, inl, inr, ℕ, zero, suc, ◌+◌, ◌<◌, ◌≤◌, false, List, [], ◌∷◌, ◌++◌, length, map, reverse, set, get_or, replicate, Option, Some, None, refl, sym, ap, subst, ◌∙◌, length-append, arith}
 use Rattle.std.specs.List.{AllByRecursion, range_with_len}
 use Rattle.std.proofs.lemmas.List.{get_or-set_same, get_or-set_other, set-get_or, length-set, reverse-reverse, get_or-replicate, length-replicate}
 use Rattle.std.proofs.lemmas.Bool.{cases_eq}
@@ -13,7 +13,7 @@ use Rattle.segment_table.specs.declared.slots.Slot.{Slot}
 use Rattle.segment_table.specs.Slots.{no_slot, let_go}
 use Rattle.segment_table.specs.Table.{Table, slots_at}
 use Rattle.segment_table.specs.Room.{is_filling, can_open, numbers}
-use Rattle.segment_table.specs.Sealing.{payload_of, IsOwned, IsLetGo, IsFit, IsSoundTable}
+use Rattle.segment_table.specs.Sealing.{payload_of, IsOwned, IsLetGo, AreWhole, IsFit, IsSoundTable}
 use Rattle.segment_table.specs.Changes.{IsAlone, IsFilling, NoneIsFilling, IsPut, IsSealed}
 use Rattle.segment_table.proofs.Numbers.{numbers_lost, numbers_gained, numbers_all, numbers_nil}
 use Rattle.segment_table.proofs.Alone.{put_here, alone, unchanged, length-alone, elsewhere, numbers_alone}
@@ -52,10 +52,11 @@ opened_vacant old new f rest first e =
     ap (λ (d : Drive). numbers can_open 0 d.frames) e
     ∙ numbers_lost can_open 0 f old.frames (record (frame_at old.frames f) { phase = Open }) rest (first ∙ ap (λ (n : ℕ). n ∷ rest) (omega arith)) refl
 
-fit_opened : (f : ℕ) (k k' : Frame) (s : List Slot) → IsFit f k s → k'.phase ≡ Open → IsFit f k' s
-fit_opened f k k' s fit phase = record {
+fit_opened : (f : ℕ) (k k' : Frame) (s : List Slot) → IsFit f k s → k'.phase ≡ Open → k'.contents ≡ k.contents → IsFit f k' s
+fit_opened f k k' s fit phase contents = record {
   few = fit.few;
   owned = fit.owned;
+  whole = λ b low high. ap (λ (l : List ℕ). length (block_bytes l b)) contents ∙ fit.whole b low high;
   free = λ e. absurd (let is : Open ≡ Free = sym phase ∙ e in cc);
   summed = λ h. absurd (let is : code_of k'.phase ≡ 1 = ap code_of phase in omega arith);
   emptied = λ e. absurd (let is : Open ≡ Emptied = sym phase ∙ e in cc);
@@ -73,19 +74,29 @@ sound_opened old new free free' current f sound none split changed slots =
       vacant = sym (ap reverse (opened_vacant old.drive new.drive f (reverse free') first changed) ∙ reverse-reverse free');
       filling = sym (opened_filling old.drive new.drive f inside none changed);
       fit = fits_changed old new f (slots_at old.slots f) (omega (arith, sound.counted)) a.0 (slots ∙ stays old.slots f) sound.fit
-          (fit_opened f (frame_at old.drive.frames f) (frame_at new.drive.frames f) (slots_at old.slots f) (sound.fit f inside) (ap (λ (k : Frame). k.phase) a.1));
+          (fit_opened f (frame_at old.drive.frames f) (frame_at new.drive.frames f) (slots_at old.slots f) (sound.fit f inside) (ap (λ (k : Frame). k.phase) a.1)
+          (ap (λ (k : Frame). k.contents) a.1));
     }
 
 owned_more : (s : List Slot) (slot : Slot) → AllByRecursion IsOwned s → IsOwned slot → AllByRecursion IsOwned (s ++ slot ∷ [])
 owned_more [] slot all h = (h, tt)
 owned_more (x ∷ s) slot all h = (all.0, owned_more s slot all.1 h)
 
+-- one block more is used, and has 512 bytes
+put_whole : (old new : Table) (f : ℕ) (slot : Slot) (block : List ℕ) → length (slots_at old.slots f) < 15 → length block ≡ 512 → IsPut f slot block old new
+    → AreWhole (frame_at old.drive.frames f).contents (length (slots_at old.slots f)) → AreWhole (frame_at new.drive.frames f).contents (length (slots_at old.slots f ++ slot ∷ []))
+put_whole old new f slot block room size put whole b low high = elim (cases_eq b (length (slots_at old.slots f) + 1)) [
+  | inl at ↦ ap (λ (n : ℕ). length (block_bytes (frame_at new.drive.frames f).contents n)) at ∙ ap length put.bytes ∙ size
+  | inr ne ↦ (let few : b ≤ length (slots_at old.slots f) + 1 = omega (arith, length-append (slots_at old.slots f) (slot ∷ [])) in
+      ap length (put.others b (omega arith) ne) ∙ whole b low (omega arith))
+]
+
 pub put_filling : (old new : Table) (f : ℕ) (slot : Slot) (block : List ℕ) → IsFilling f old → IsPut f slot block old new → IsFilling f new
 put_filling old new f slot block e put =
     numbers_alone is_filling old.drive new.drive f put.alone (ap is_open put.phase) ∙ e
 
-pub sound_put : (old new : Table) (free : List ℕ) (current : Option ℕ) (f : ℕ) (slot : Slot) (block : List ℕ) → IsSoundTable old free current → IsFilling f old → length (slots_at old.slots f) < 15 → IsOwned slot → IsPut f slot block old new → IsSoundTable new free current
-sound_put old new free current f slot block sound filling room own put =
+pub sound_put : (old new : Table) (free : List ℕ) (current : Option ℕ) (f : ℕ) (slot : Slot) (block : List ℕ) → IsSoundTable old free current → IsFilling f old → length (slots_at old.slots f) < 15 → IsOwned slot → length block ≡ 512 → IsPut f slot block old new → IsSoundTable new free current
+sound_put old new free current f slot block sound filling room own size put =
     let at = filling_at old f filling in
     let inside : f < length old.drive.frames = at.0 in
     let phase : (frame_at new.drive.frames f).phase ≡ Open = put.phase ∙ at.1 in
@@ -93,6 +104,7 @@ sound_put old new free current f slot block sound filling room own put =
     let changed : IsFit f (frame_at new.drive.frames f) (slots_at old.slots f ++ slot ∷ []) = record {
       few = omega (arith, length-append (slots_at old.slots f) (slot ∷ []));
       owned = owned_more (slots_at old.slots f) slot fit.owned own;
+      whole = put_whole old new f slot block room size put fit.whole;
       free = λ e. absurd (let is : Open ≡ Free = sym phase ∙ e in cc);
       summed = λ h. absurd (let is : code_of (frame_at new.drive.frames f).phase ≡ 1 = ap code_of phase in omega arith);
       emptied = λ e. absurd (let is : Open ≡ Emptied = sym phase ∙ e in cc);
@@ -117,6 +129,7 @@ sound_sealed old new free current f sound filling sealed slots =
     let changed : IsFit f (frame_at new.drive.frames f) (slots_at old.slots f) = record {
       few = fit.few;
       owned = fit.owned;
+      whole = λ b low high. ap length (sealed.used b low high) ∙ fit.whole b low high;
       free = λ e. absurd (let is : Sealed ≡ Free = sym sealed.phase ∙ e in cc);
       summed = λ h. sealed.summed;
       emptied = λ e. absurd (let is : Sealed ≡ Emptied = sym sealed.phase ∙ e in cc);
@@ -152,6 +165,7 @@ fit_gone f k s i fit =
     record {
       few = omega (arith, length-set s i slot, fit.few);
       owned = gone_owned s i slot fit.owned (λ low. owned_at s i fit.owned low);
+      whole = λ b low high. fit.whole b low (omega (arith, length-set s i slot));
       free = λ e. ap (λ (l : List Slot). set l i slot) (fit.free e);
       summed = λ h. subst P (sym parts) (fit.summed h);
       emptied = λ e. gone_let_go s i slot (fit.emptied e) refl;
@@ -196,6 +210,7 @@ fit_fresh : (f : ℕ) → IsFit f fresh_frame []
 fit_fresh f = record {
   few = omega arith;
   owned = tt;
+  whole = λ b low high. absurd (omega arith);
   free = λ e. refl;
   summed = λ h. absurd (omega arith);
   emptied = λ e. tt;

@@ -33,10 +33,15 @@ IsOwned slot = 1 ≤ slot.part.object
 abbrev pub IsLetGo : Slot → Type 0
 IsLetGo slot = slot.held ≡ false
 
+-- each of the blocks 1 to n has 512 bytes
+abbrev pub AreWhole : List ℕ → ℕ → Type 0
+AreWhole contents n = (b : ℕ) → 1 ≤ b → b ≤ n → length (block_bytes contents b) ≡ 512
+
 -- the used blocks of frame f fit what the frame is for
 pub record IsFit (f : ℕ) (k : Frame) (slots : List Slot) : Type 0 where
   pub few : length slots ≤ 15
   pub owned : AllByRecursion IsOwned slots
+  pub whole : AreWhole k.contents (length slots)
   pub free : k.phase ≡ Free → slots ≡ []
   pub summed : 2 ≤ code_of k.phase → IsSummed f k slots
   pub emptied : k.phase ≡ Emptied → AllByRecursion IsLetGo slots

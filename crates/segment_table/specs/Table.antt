@@ -1,5 +1,5 @@
 -- What contracts see of a segment table, and what a place of it holds.
-use Rattle.std.specs.Prelude.{ℕ, Bool, false, ◌==◌, if◌then◌else◌, List, [], ◌∷◌, slice_index_or, Option, Some, None}
+use Rattle.std.specs.Prelude.{◌≡◌, ℕ, Bool, false, ◌==◌, if◌then◌else◌, List, [], ◌∷◌, length, slice_index_or, Option, Some, None, IfSome}
 use Rattle.s4_types.specs.Pointer.{Place}
 use Rattle.block_log.specs.Log.{Stored}
 use Rattle.codec.specs.declared.summaries.Part.{Part}
@@ -33,6 +33,10 @@ held_block k slots b g = if k.generation == g then stored (block_slot slots b) (
 -- what a place of the table holds: a pointer to an earlier life of its frame leads to nothing
 abbrev pub held_at : Table → Place → Option Stored
 held_at t p = held_block (frame_at t.drive.frames p.frame) (slots_at t.slots p.frame) p.block p.generation
+
+-- each held block has 512 bytes
+abbrev pub HoldsWholeBlocks : Table → Type 0
+HoldsWholeBlocks t = (p : Place) → IfSome (held_at t p) (λ block. length block.bytes ≡ 512)
 
 -- what a held block is for
 abbrev pub part_of : Stored → Part

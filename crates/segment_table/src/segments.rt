@@ -10,7 +10,7 @@ ghost use Rattle.segment_word.specs.Layout.{frame_at, block_bytes};
 ghost use Rattle.segment_word.specs.Counting.{pins_in};
 ghost use Rattle.segment_word.specs.FrameRule.{AllAgree};
 ghost use Rattle.segment_word.specs.Handles.{fresh_frame, IsAmong, pin_of, HasMissed};
-ghost use Rattle.segment_table.specs.Table.{Table, slots_at, held_at, is_of, part_of};
+ghost use Rattle.segment_table.specs.Table.{Table, slots_at, held_at, HoldsWholeBlocks, is_of, part_of};
 ghost use Rattle.segment_table.specs.Room.{is_filling, can_open, numbers, rest_of, places_ahead, log_of, pointers_in};
 ghost use Rattle.segment_table.specs.Sealing.{IsFit, IsPartFilled};
 ghost use Rattle.segment_table.specs.Changes.{IsFilling, NoneIsFilling, IsReadyFrame, IsPut, IsSealed, IsSealedIn, NoneHeld, IsMarked, IsReleased, IsAheadAgain};
@@ -103,10 +103,11 @@ impl Segments {
         })
     }
 
-    /// Shows what holds of each frame between calls, and that at most one is open.
+    /// Shows what holds of each frame between calls, that at most one is open, and that each held block is whole.
     pub fn rules(&self)
         ensures fit { (f : ℕ) → f < length self.now.drive.frames → IsFit f (frame_at self.now.drive.frames f) (slots_at self.now.slots f) }
         ensures one_open { length (numbers is_filling 0 self.now.drive.frames) ≤ 1 }
+        ensures whole { HoldsWholeBlocks self.now }
         ensures sizes { (length self.now.drive.frames ≤ 1024) × (length self.now.slots ≡ length self.now.drive.frames) }
     {
         let _ = &self.current;

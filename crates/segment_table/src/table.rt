@@ -10,7 +10,7 @@ ghost use Rattle.segment_word.specs.Layout.{frame_at, block_bytes};
 ghost use Rattle.segment_word.specs.Counting.{pins_in};
 ghost use Rattle.segment_word.specs.FrameRule.{AllAgree};
 ghost use Rattle.segment_word.specs.Handles.{fresh_frame, IsAmong, pin_of, HasMissed};
-ghost use Rattle.segment_table.specs.Table.{Table, slots_at, held_at, part_of};
+ghost use Rattle.segment_table.specs.Table.{Table, slots_at, held_at, HoldsWholeBlocks, part_of};
 ghost use Rattle.segment_table.specs.Room.{is_filling, numbers, rest_of, places_ahead, log_of, new_places, pointers_in};
 ghost use Rattle.segment_table.specs.Sealing.{IsFit, IsPartFilled};
 ghost use Rattle.segment_table.specs.Changes.{IsFilling, NoneIsFilling, IsAppended, IsSealedIn, NoneHeld, IsMarked, IsReleased, IsAheadAgain};
@@ -61,10 +61,12 @@ impl SegmentTable {
     }
 
     /// Shows what holds between calls: the used blocks of each frame fit what it is for, so that a sealed frame spells its
-    /// summary in front of zeros in its unused blocks; at most one frame is open, with 1 to 14 used blocks.
+    /// summary in front of zeros in its unused blocks; at most one frame is open, with 1 to 14 used blocks; and each held
+    /// block has 512 bytes.
     pub fn rules(&self)
         ensures fit { (f : ℕ) → f < length self.now.drive.frames → IsFit f (frame_at self.now.drive.frames f) (slots_at self.now.slots f) }
         ensures one_open { length (numbers is_filling 0 self.now.drive.frames) ≤ 1 }
+        ensures whole { HoldsWholeBlocks self.now }
         ensures part_filled { IsPartFilled self.now }
         ensures sizes { (length self.now.drive.frames ≤ 1024) × (length self.now.slots ≡ length self.now.drive.frames) }
     {

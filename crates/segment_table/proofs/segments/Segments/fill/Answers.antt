@@ -69,6 +69,6 @@ invariant_of-self c =
     let R : Table → Type 0 = λ t. length (slots_at t.slots c.args.frame) < 15 in
     let put : IsPut c.args.frame slot c.args.block.now old new =
     put_made old new c.args.frame c.len-next.result c.args.part c.args.block.now c.index.result.now c.index_mut.result.now c.push.new.self at c.len-next.ensures.count c.index.ensures c.index_mut.ensures.value c.push.ensures c.store.ensures.changed c.store.ensures.stored c.store.ensures.others refl in (
-      sound_put old new c.self.inside.free.items c.self.inside.current c.args.frame slot c.args.block.now c.self.invariant.0 at.filling (subst R (sym c.self.view_is) c.requires.room) c.requires.owned put,
+      sound_put old new c.self.inside.free.items c.self.inside.current c.args.frame slot c.args.block.now c.self.invariant.0 at.filling (subst R (sym c.self.view_is) c.requires.room) c.requires.owned c.told-block put,
       omega (arith, length-alone old.drive new.drive c.args.frame put.alone, c.self.invariant.1),
     )
