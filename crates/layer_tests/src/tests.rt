@@ -6,6 +6,7 @@ mod emptying;
 mod inodes;
 mod links;
 mod maps;
+mod memories;
 mod numbers;
 mod requests;
 mod seats;

@@ -39,6 +39,7 @@ looks slots id me i z s rule _ at small =
         block = λ f j h hj e. let k = r.kept f h in ap (λ (n : ℕ). slice_index s.words n) e ∙ k.blocks j hj;
         whole = λ f h. (r.kept f h).whole;
         agrees = r.pinned id me.0 at;
+        remembered = r.remembered id me.0 at;
       },
     )
 

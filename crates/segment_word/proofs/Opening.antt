@@ -7,7 +7,7 @@ use lib.ListN.{get_elem?}
 use Rattle.atomic_table.specs.Table.{opening}
 use Rattle.segment_word.specs.Frames.{Free, View, code_of, no_frame}
 use Rattle.segment_word.specs.Layout.{word_of, frame_at, frame_of, phase_of, first_frames, frames_of}
-use Rattle.segment_word.specs.FrameRule.{IsKeptFrame, AllAgree, FrameRule, opening_view}
+use Rattle.segment_word.specs.FrameRule.{IsKeptFrame, AllAgree, AllRemembered, FrameRule, opening_view}
 
 pub length-first_frames : (n : ℕ) (words : List ℕ) → length (first_frames n words) ≡ n
 length-first_frames zero words = refl
@@ -40,6 +40,10 @@ only : (words : List ℕ) (id : ℕ) (v : View) → get_elem? (opening_view word
 only words zero v e i p q = absurd (some-ne-none p (sym (ap (λ (x : View). get_elem? x.pins i) (some-injective (opening_view words) v e) ∙ q)))
 only words (suc id) v e i p q = absurd (some-ne-none v (sym e))
 
+no_memory : (words : List ℕ) (id : ℕ) (v : View) → get_elem? (opening_view words ∷ []) id ≡ some v → AllRemembered (frames_of words) v.remembered
+no_memory words zero v e i p q = absurd (some-ne-none p (sym (ap (λ (x : View). get_elem? x.remembered i) (some-injective (opening_view words) v e) ∙ q)))
+no_memory words (suc id) v e i p q = absurd (some-ne-none v (sym e))
+
 pub opens : (words : List ℕ) (n : ℕ) → length words ≡ 1025 * n → 0 < n → ((f : ℕ) → f < n → slice_index words (1025 * f) ≡ 2 ^ 32)
     → FrameRule (opening {S = Unit {0}} words [] (opening_view words))
 opens words n long some_frame fresh =
@@ -51,6 +55,7 @@ opens words n long some_frame fresh =
       kept = λ f h. let inside : f < n = omega arith in
           subst (IsKeptFrame words 0 f) (sym (first_frames-at (length words / 1025) f words (omega arith))) (fresh_kept words f (omega arith) (fresh f inside));
       pinned = λ id v e i p q. only words id v e i p q;
+      remembered = λ id v e i p q. no_memory words id v e i p q;
     }
 
 blank_frame : (words : List ℕ) (f : ℕ) → 1025 * f + 1025 ≤ length words → slice_index words (1025 * f) ≡ 2 ^ 32 → ((j : ℕ) → j < 1024 → slice_index words (1025 * f + 1 + j) ≡ 0)

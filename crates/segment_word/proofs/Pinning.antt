@@ -10,11 +10,11 @@ use Rattle.atomic_table.specs.Table.{State, step, keeps, stepped, Allows}
 use Rattle.segment_word.specs.Frames.{Frame, Pinned, View, code_of, no_frame}
 use Rattle.segment_word.specs.Layout.{word_of, frame_at}
 use Rattle.segment_word.specs.Counting.{pins_in, readers, drive_frames}
-use Rattle.segment_word.specs.FrameRule.{IsKeptFrame, Agrees, AllAgree, FrameRules, FrameRule}
+use Rattle.segment_word.specs.FrameRule.{IsKeptFrame, Agrees, AllAgree, AllRemembered, FrameRules, FrameRule}
 use Rattle.segment_word.specs.Steps.{Sat, Pins, Unpins, with_pins, older}
 use Rattle.segment_word.proofs.Sums.{readers-set, frames-set, counts_one, counts_none}
 use Rattle.segment_word.proofs.Words.{below_four, apart}
-use Rattle.segment_word.proofs.Changes.{changed, agree_set}
+use Rattle.segment_word.proofs.Changes.{stays, changed, agree_set, memories_set}
 use Rattle.segment_word.proofs.Looking.{unmoved}
 
 -- what is known of a frame that may be read, after its word counts n' pins
@@ -31,13 +31,13 @@ recounted words n n' f x k is inside sealed few e = record {
 }
 
 -- the rule after the state word of a frame that may be read counts the pins as a changed view has them
-turned : (s : State (Unit {0}) View) (id : ℕ) (v w : View) (f x : ℕ) → FrameRule s → get_elem? s.views id ≡ some v → w.frames ≡ v.frames
+turned : (s : State (Unit {0}) View) (id : ℕ) (v w : View) (f x : ℕ) → FrameRule s → get_elem? s.views id ≡ some v → w.frames ≡ v.frames → w.remembered ≡ v.remembered
     → f < length (drive_frames s.views) → 2 ≤ code_of (frame_at (drive_frames s.views) f).phase
     → ((g : ℕ) → g ≢ f → pins_in g w.pins ≡ pins_in g v.pins)
     → readers f (set s.views id w) ≤ 1048576 → x ≡ word_of (frame_at (drive_frames s.views) f) (readers f (set s.views id w))
     → AllAgree (drive_frames s.views) w.pins
     → FrameRules (set s.words (1025 * f) x) (set s.views id w) (drive_frames (set s.views id w))
-turned s id v w f x r at same inside sealed others few e agree =
+turned s id v w f x r at same memory inside sealed others few e agree =
     let frames : List Frame = drive_frames s.views in
     let place : 1025 * f < length s.words = omega (arith, r.sized) in
     let again : set frames f (frame_at frames f) ≡ frames = set-get_or frames f no_frame in
@@ -47,7 +47,7 @@ turned s id v w f x r at same inside sealed others few e agree =
     (λ g m far h. apart s.words f g m x far h)
     (λ g far. let t = readers-set g s.views id v w at in let o = others g far in omega arith)
     (recounted s.words (readers f s.views) (readers f (set s.views id w)) f x (frame_at frames f) (r.kept f inside) place sealed few e)
-    pins in
+    (stays (frame_at frames f)) pins (memories_set frames s.views id w r.remembered (subst (λ (l : List Pinned). AllRemembered frames l) (sym memory) (r.remembered id v at))) in
     subst (λ (l : List Frame). FrameRules (set s.words (1025 * f) x) (set s.views id w) l) (again ∙ sym (frames-set s.views id v w at same)) after
 
 agree_new : (frames : List Frame) (p : Pinned) (ps : List Pinned) → Agrees frames p → AllAgree frames ps → AllAgree frames (p ∷ ps)
@@ -92,7 +92,7 @@ pins slots id me f old new two few e s r _ at small = dite (ℕ_discrete (slice_
       keeps,
       tt,
       subst (λ b. FrameRule (stepped s (1025 * f) (either b new (slice_index s.words (1025 * f))) id me.1 w keeps)) (sym (eq-eqb (slice_index s.words (1025 * f)) old hit))
-          (turned s id me.0 w f new r at refl inside (omega (arith, sealed)) (λ g far. counts_old g p me.0.pins (λ q. far (sym q))) (omega arith) (omega arith)
+          (turned s id me.0 w f new r at refl refl inside (omega (arith, sealed)) (λ g far. counts_old g p me.0.pins (λ q. far (sym q))) (omega arith) (omega arith)
           (agree_new frames p me.0.pins a (r.pinned id me.0 at))),
       ((λ _. (p, refl, refl)), λ miss. absurd (miss hit)),
     ))
@@ -122,7 +122,7 @@ unpins slots id me f p ps has here s r _ at small =
       w,
       keeps,
       tt,
-      turned s id me.0 w f x r at refl inside sealed
+      turned s id me.0 w f x r at refl refl inside sealed
           (λ g far. sym (ap (pins_in g) has ∙ counts_old g p ps (λ q. far (sym q ∙ here)) ∙ ap (pins_in g) (sym rest)))
           (let c = is.counted in omega arith) new
           (λ i q e. r.pinned id me.0 at (suc i) q (ap (λ (l : List Pinned). get_elem? l (suc i)) has ∙ ap (λ (l : List Pinned). get_elem? l i) (sym rest) ∙ e)),

@@ -10,7 +10,7 @@ use Rattle.segment_word.specs.FrameRule.{IsKeptFrame, Agrees, AllAgree, FrameRul
 use Rattle.segment_word.specs.Steps.{Sat, Raises, raised, next_phase, with_frame}
 use Rattle.segment_word.proofs.Sums.{readers-set, frames-first, frames-drive}
 use Rattle.segment_word.proofs.Words.{below_four, apart}
-use Rattle.segment_word.proofs.Changes.{changed, agrees_set, agree_set}
+use Rattle.segment_word.proofs.Changes.{GoesOn, changed, agrees_set, agree_set, memories_set}
 
 next_code : (p : Phase) → code_of p < 3 → code_of (next_phase p) ≡ code_of p + 1
 next_code Free h = omega arith
@@ -53,6 +53,9 @@ raised_kept words n f x k is inside low may e =
       goes_on = λ _. elim (zero_or k.phase) as (λ _. k.generation + 1 < 2 ^ 32) [ inl z ↦ may z | inr p ↦ is.goes_on p ];
     }
 
+raise_goes : (k : Frame) → GoesOn k (raised k)
+raise_goes k = record { later = omega arith; kept = λ _ sealed. (still_sealed k.phase sealed, refl) }
+
 pub raises : (slots id : ℕ) (me : Sat) (f : ℕ) → id ≡ 0 → f < length me.0.frames → code_of (frame_at me.0.frames f).phase < 3
     → (code_of (frame_at me.0.frames f).phase ≡ 0 → (frame_at me.0.frames f).generation + 1 < 2 ^ 32)
     → Allows FrameRule slots id me (1025 * f) (λ n. (n + 1) % 2 ^ 64) (Raises (step slots (1025 * f) 1 0 none) me)
@@ -66,12 +69,13 @@ raises slots id me f z inside low may s rule _ at small =
     let count : (g : ℕ) → readers g (set s.views id w) ≡ readers g s.views = λ g. let t = readers-set g s.views id me.0 w at in omega arith in
     let kept : IsKeptFrame (set s.words (1025 * f) x) (readers f (set s.views id w)) f (raised k) =
     subst (λ (n : ℕ). IsKeptFrame (set s.words (1025 * f) x) n f (raised k)) (sym (count f)) (raised_kept s.words (readers f s.views) f x k (r.kept f inside) place low may refl) in
+    let goes : GoesOn k (raised k) = raise_goes k in
     let agree : (p : Pinned) → Agrees me.0.frames p → Agrees (set me.0.frames f (raised k)) p =
-    λ p a. agrees_set me.0.frames f (raised k) p a (λ here. (still_sealed k.phase (subst (λ (n : ℕ). 2 ≤ code_of (frame_at me.0.frames n).phase) here a.sealed), refl, refl)) in
+    λ p a. agrees_set me.0.frames f (raised k) p a goes (λ _. refl) in
     let pins : (j : ℕ) (v : View) → get_elem? (set s.views id w) j ≡ some v → AllAgree (set me.0.frames f (raised k)) v.pins =
     agree_set (set me.0.frames f (raised k)) s.views id w (λ j v e i p q. agree p (r.pinned j v e i p q)) (λ i p q. agree p (r.pinned id me.0 at i p q)) in
     let after = changed s.words (set s.words (1025 * f) x) s.views (set s.views id w) me.0.frames f (raised k) r inside (length-set s.words (1025 * f) x)
-    (λ g m else h. apart s.words f g m x else h) (λ g _. count g) kept pins in (
+    (λ g m else h. apart s.words f g m x else h) (λ g _. count g) kept goes pins (memories_set me.0.frames s.views id w r.remembered (r.remembered id me.0 at)) in (
       w,
       keeps,
       tt,

@@ -10,11 +10,11 @@ use Rattle.atomic_table.specs.Table.{step, keeps, stepped, Allows}
 use Rattle.segment_word.specs.Frames.{Emptied, Frame, Pinned, View, code_of}
 use Rattle.segment_word.specs.Layout.{word_of, frame_at}
 use Rattle.segment_word.specs.Counting.{pins_in, readers, drive_frames}
-use Rattle.segment_word.specs.FrameRule.{IsKeptFrame, AllAgree, FrameRules, FrameRule}
+use Rattle.segment_word.specs.FrameRule.{IsKeptFrame, AllAgree, AllRemembered, FrameRules, FrameRule}
 use Rattle.segment_word.specs.Steps.{Sat, Frees, IsStateOf, released, with_frame, with_try}
 use Rattle.segment_word.proofs.Sums.{readers-set, frames-first, frames-set, frames-drive, counts_one}
 use Rattle.segment_word.proofs.Words.{apart}
-use Rattle.segment_word.proofs.Changes.{changed, agrees_set, agree_set}
+use Rattle.segment_word.proofs.Changes.{GoesOn, changed, agrees_set, agree_set, memories_set}
 use Rattle.segment_word.proofs.Moving.{regrouped}
 
 -- where a frame has no reader, no view has a pin of it
@@ -59,31 +59,34 @@ state_of words n f k is = record {
 }
 
 -- the rule after a release that won
-won : (words : List ℕ) (views : List View) (frames : List Frame) (id : ℕ) (v w : View) (f x : ℕ) → FrameRules words views frames → get_elem? views id ≡ some v → w.pins ≡ v.pins
+won : (words : List ℕ) (views : List View) (frames : List Frame) (id : ℕ) (v w : View) (f x : ℕ) → FrameRules words views frames → get_elem? views id ≡ some v → w.pins ≡ v.pins → w.remembered ≡ v.remembered
     → f < length frames → (frame_at frames f).phase ≡ Emptied → readers f views ≡ 0 → x ≡ word_of (released (frame_at frames f)) 0
     → FrameRules (set words (1025 * f) x) (set views id w) (set frames f (released (frame_at frames f)))
-won words views frames id v w f x r at same inside emptied unread e =
+won words views frames id v w f x r at same memory inside emptied unread e =
     let k : Frame = frame_at frames f in
     let after : List Frame = set frames f (released k) in
     let place : 1025 * f < length words = omega (arith, r.sized) in
     let count : (g : ℕ) → readers g (set views id w) ≡ readers g views = λ g. let t = readers-set g views id v w at in let o : pins_in g w.pins ≡ pins_in g v.pins = ap (pins_in g) same in omega arith in
     let kept : IsKeptFrame (set words (1025 * f) x) (readers f (set views id w)) f (released k) =
     subst (λ (n : ℕ). IsKeptFrame (set words (1025 * f) x) n f (released k)) (sym (count f)) (released_kept words (readers f views) f x k (r.kept f inside) unread place emptied e) in
+    let goes : GoesOn k (released k) = record { later = omega arith; kept = λ e _. absurd (omega arith) } in
     let agree : (j : ℕ) (y : View) → get_elem? views j ≡ some y → AllAgree after y.pins =
-    λ j y there i p q. agrees_set frames f (released k) p (r.pinned j y there i p q) (λ here. absurd (none_of f y.pins (none_in f views unread j y there) i p q here)) in
+    λ j y there i p q. agrees_set frames f (released k) p (r.pinned j y there i p q) goes (λ here. absurd (none_of f y.pins (none_in f views unread j y there) i p q here)) in
     let pins : (j : ℕ) (y : View) → get_elem? (set views id w) j ≡ some y → AllAgree after y.pins =
     agree_set after views id w agree (subst (λ (l : List Pinned). AllAgree after l) (sym same) (agree id v at)) in
     changed words (set words (1025 * f) x) views (set views id w) frames f (released k) r inside (length-set words (1025 * f) x)
-    (λ g m else h. apart words f g m x else h) (λ g _. count g) kept pins
+    (λ g m else h. apart words f g m x else h) (λ g _. count g) kept goes pins
+    (memories_set frames views id w r.remembered (subst (λ (l : List Pinned). AllRemembered frames l) (sym memory) (r.remembered id v at)))
 
 -- the rule after a release that didn't win
-lost : (words : List ℕ) (views : List View) (id : ℕ) (v w : View) (i : ℕ) → FrameRules words views (drive_frames views) → get_elem? views id ≡ some v → w.pins ≡ v.pins → w.frames ≡ v.frames
+lost : (words : List ℕ) (views : List View) (id : ℕ) (v w : View) (i : ℕ) → FrameRules words views (drive_frames views) → get_elem? views id ≡ some v → w.pins ≡ v.pins → w.remembered ≡ v.remembered → w.frames ≡ v.frames
     → FrameRules (set words i (slice_index words i)) (set views id w) (drive_frames (set views id w))
-lost words views id v w i r at same frames =
+lost words views id v w i r at same memory frames =
     subst (λ (l : List ℕ). FrameRules l (set views id w) (drive_frames (set views id w))) (sym (set-get_or words i 0))
     (regrouped words views (set views id w) r (frames-set views id v w at frames)
     (λ g. let t = readers-set g views id v w at in let o : pins_in g w.pins ≡ pins_in g v.pins = ap (pins_in g) same in omega arith)
-    (agree_set (drive_frames views) views id w r.pinned (subst (λ (l : List Pinned). AllAgree (drive_frames views) l) (sym same) (r.pinned id v at))))
+    (agree_set (drive_frames views) views id w r.pinned (subst (λ (l : List Pinned). AllAgree (drive_frames views) l) (sym same) (r.pinned id v at)))
+    (memories_set (drive_frames views) views id w r.remembered (subst (λ (l : List Pinned). AllRemembered (drive_frames views) l) (sym memory) (r.remembered id v at))))
 
 -- a word of the frame that is the word without a reader counts none
 unread_word : (k : Frame) (n m old : ℕ) → m ≡ word_of k n → m ≡ old → old ≡ word_of k 0 → n ≡ 0
@@ -110,7 +113,7 @@ frees slots id me f old new z inside emptied was next s rule _ at small =
     (λ hit.
     let w : View = with_try (with_frame me.0 f (released k)) f n in
     let unread : readers f s.views ≡ 0 = unread_word k (readers f s.views) n old (r.kept f inside).state hit was in
-    let after : FrameRules (set s.words (1025 * f) new) (set s.views id w) (set me.0.frames f (released k)) = won s.words s.views me.0.frames id me.0 w f new r at refl inside emptied unread next in (
+    let after : FrameRules (set s.words (1025 * f) new) (set s.views id w) (set me.0.frames f (released k)) = won s.words s.views me.0.frames id me.0 w f new r at refl refl inside emptied unread next in (
       w,
       keeps,
       tt,
@@ -124,7 +127,7 @@ frees slots id me f old new z inside emptied was next s rule _ at small =
       w,
       keeps,
       tt,
-      subst (λ b. FrameRule (stepped s (1025 * f) (either b new n) id me.1 w keeps)) (sym (ne_eqb n old miss)) (lost s.words s.views id me.0 w (1025 * f) rule at refl refl),
+      subst (λ b. FrameRule (stepped s (1025 * f) (either b new n) id me.1 w keeps)) (sym (ne_eqb n old miss)) (lost s.words s.views id me.0 w (1025 * f) rule at refl refl refl),
       λ g h e. subst (λ (x : ℕ). IsStateOf (frame_at me.0.frames x) n × (n ≡ old → ◌≡◌ {A = Sat} (w, me.1) (with_try (with_frame me.0 x (released (frame_at me.0.frames x))) x n, me.1)) × (n ≢ old → ◌≡◌ {A = Sat} (w, me.1) (with_try me.0 x n, me.1))) (there g e)
           (state, (λ hit. absurd (miss hit)), λ _. refl),
     ))

@@ -1,5 +1,5 @@
 -- Store keeps the rule: one block word of an open frame is written.
-use Rattle.std.proofs.Common.{◌≡◌, ◌≢◌, ℕ, ◌+◌, ◌*◌, ◌<◌, ◌≤◌, List, set, length, slice_index, refl, sym, ap, ◌∙◌, subst, arith, get_or-set_same, get_or-set_other, length-set}
+use Rattle.std.proofs.Common.{◌≡◌, ◌≢◌, ℕ, ◌+◌, ◌*◌, ◌<◌, List, set, length, slice_index, refl, sym, ap, ◌∙◌, subst, arith, get_or-set_same, get_or-set_other, length-set}
 use mathlib.Core.Logic.{dite}
 use mathlib.Core.Option.{none, some}
 use native.Mathlib.Decide.{ℕ_discrete}
@@ -11,7 +11,7 @@ use Rattle.segment_word.specs.Counting.{readers, drive_frames}
 use Rattle.segment_word.specs.FrameRule.{IsKeptFrame, Agrees, AllAgree, FrameRules, FrameRule}
 use Rattle.segment_word.specs.Steps.{Sat, Stores, with_word, with_frame}
 use Rattle.segment_word.proofs.Sums.{readers-set, frames-first, frames-drive}
-use Rattle.segment_word.proofs.Changes.{changed, agrees_set, agree_set}
+use Rattle.segment_word.proofs.Changes.{GoesOn, changed, agrees_set, agree_set, memories_set}
 
 apart : (words : List ℕ) (f g j m x : ℕ) → g ≢ f → j < 1024 → m < 1025 → slice_index (set words (1025 * f + 1 + j) x) (1025 * g + m) ≡ slice_index words (1025 * g + m)
 apart words f g j m x else hj h = get_or-set_other words (1025 * f + 1 + j) (1025 * g + m) x 0 (λ e. else (omega arith))
@@ -50,12 +50,13 @@ stores slots id me f j x z inside hj is_open s rule _ at small =
     let kept : IsKeptFrame (set s.words (1025 * f + 1 + j) x) (readers f (set s.views id w)) f (with_word k j x) =
     subst (λ (n : ℕ). IsKeptFrame (set s.words (1025 * f + 1 + j) x) n f (with_word k j x)) (sym (count f)) (stored_kept s.words (readers f s.views) f j x k (r.kept f inside) place hj) in
     let one : code_of k.phase ≡ 1 = ap code_of is_open in
+    let goes : GoesOn k (with_word k j x) = record { later = omega arith; kept = λ _ sealed. absurd (omega arith) } in
     let agree : (p : Pinned) → Agrees me.0.frames p → Agrees (set me.0.frames f (with_word k j x)) p =
-    λ p a. agrees_set me.0.frames f (with_word k j x) p a (λ here. let two : 2 ≤ code_of k.phase = subst (λ (n : ℕ). 2 ≤ code_of (frame_at me.0.frames n).phase) here a.sealed in absurd (omega arith)) in
+    λ p a. agrees_set me.0.frames f (with_word k j x) p a goes (λ _. refl) in
     let pins : (i : ℕ) (v : View) → get_elem? (set s.views id w) i ≡ some v → AllAgree (set me.0.frames f (with_word k j x)) v.pins =
     agree_set (set me.0.frames f (with_word k j x)) s.views id w (λ i v e q p t. agree p (r.pinned i v e q p t)) (λ q p t. agree p (r.pinned id me.0 at q p t)) in
     let after = changed s.words (set s.words (1025 * f + 1 + j) x) s.views (set s.views id w) me.0.frames f (with_word k j x) r inside (length-set s.words (1025 * f + 1 + j) x)
-    (λ g m else h. apart s.words f g j m x else hj h) (λ g _. count g) kept pins in (
+    (λ g m else h. apart s.words f g j m x else hj h) (λ g _. count g) kept goes pins (memories_set me.0.frames s.views id w r.remembered (r.remembered id me.0 at)) in (
       w,
       keeps,
       tt,

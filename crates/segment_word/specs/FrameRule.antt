@@ -30,16 +30,28 @@ pub record Agrees (frames : List Frame) (p : Pinned) : Type 0 where
 abbrev pub AllAgree : List Frame → List Pinned → Type 0
 AllAgree frames pins = (i : ℕ) (p : Pinned) → get_elem? pins i ≡ some p → Agrees frames p
 
+-- What is remembered of a frame is true of the generation that it had: the frame has come so far. While it is no further,
+-- it is sealed or being emptied, with the contents that are remembered.
+pub record IsRemembered (frames : List Frame) (p : Pinned) : Type 0 where
+  pub inside : p.number < length frames
+  pub reached : p.generation ≤ (frame_at frames p.number).generation
+  pub same : p.generation ≡ (frame_at frames p.number).generation → Agrees frames p
+
+-- each of the list is
+abbrev pub AllRemembered : List Frame → List Pinned → Type 0
+AllRemembered frames memories = (i : ℕ) (p : Pinned) → get_elem? memories i ≡ some p → IsRemembered frames p
+
 -- the rule, where the drive's seat knows these frames
 pub record FrameRules (words : List ℕ) (views : List View) (frames : List Frame) : Type 0 where
   pub sized : length words ≡ 1025 * length frames
   pub some_frame : 0 < length frames
   pub kept : (f : ℕ) → f < length frames → IsKeptFrame words (readers f views) f (frame_at frames f)
   pub pinned : (id : ℕ) (v : View) → get_elem? views id ≡ some v → AllAgree frames v.pins
+  pub remembered : (id : ℕ) (v : View) → get_elem? views id ≡ some v → AllRemembered frames v.remembered
 
 abbrev pub FrameRule : State (Unit {0}) View → Type 0
 FrameRule s = FrameRules s.words s.views (drive_frames s.views)
 
 -- what the drive's seat knows at the start, from the words that the table is made of
 abbrev pub opening_view : List ℕ → View
-opening_view words = record { frames = frames_of words; releases = no_releases; pins = [] }
+opening_view words = record { frames = frames_of words; releases = no_releases; pins = []; remembered = [] }

@@ -39,7 +39,7 @@ pub record Frame : Type 0 where
   pub generation : ℕ
   pub contents : List ℕ
 
--- a frame that is counted on: its number, and the generation and block words that it keeps
+-- a frame that is or was counted on: its number, and the generation and block words that it had then
 pub record Pinned : Type 0 where
   pub number : ℕ
   pub generation : ℕ
@@ -51,19 +51,21 @@ pub record Releases : Type 0 where
   pub last : ℕ
   pub found : ℕ
 
--- What a seat of the table knows. The drive's seat knows every frame and, while a pin is lent to it, that pin's
--- frames; the seat of a pin knows the frames that it counts on, the newest first.
+-- What a seat of the table knows. The drive's seat knows every frame, while a pin is lent to it that pin's frames, and
+-- all that it was ever told of memories; the seat of a pin knows the frames that it counts on, the newest first; the
+-- seat of a memory remembers frames that a pin counted on once, and keeps none of them from being released.
 pub record View : Type 0 where
   pub frames : List Frame
   pub releases : Releases
   pub pins : List Pinned
+  pub remembered : List Pinned
 
 abbrev pub no_releases : Releases
 no_releases = record { tried = 0; last = 0; found = 0 }
 
 -- the view of a seat that knows nothing
 abbrev pub nothing_known : View
-nothing_known = record { frames = []; releases = no_releases; pins = [] }
+nothing_known = record { frames = []; releases = no_releases; pins = []; remembered = [] }
 
 -- stands where a list has no frame of that number
 abbrev pub no_frame : Frame

@@ -1,4 +1,4 @@
--- What contracts see of the drive's seat and of a pin.
+-- What contracts see of the drive's seat, of a pin and of a memory.
 use Rattle.std.specs.Prelude.{◌≡◌, ℕ, ◌+◌, ◌*◌, ◌<◌, ◌≤◌, List, [], length, slice_set, replicate}
 use mathlib.Core.Option.{some}
 use lib.ListN.{get_elem?}
@@ -19,6 +19,11 @@ pub record Held : Type 0 where
   pub table : TableId
   pub pins : List Pinned
   pub perch : ℕ
+
+-- a memory: its table, and the frames that a pin counted on when it was made, as they were
+pub record Remembered : Type 0 where
+  pub table : TableId
+  pub remembered : List Pinned
 
 -- a free frame at generation 1, whose words are zeros
 abbrev pub fresh_frame : Frame

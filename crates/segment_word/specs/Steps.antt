@@ -6,7 +6,7 @@ use Rattle.atomic_table.specs.Table.{Me, Step}
 use Rattle.atomic_table.specs.declared.shared.Seat.{Seat}
 use Rattle.segment_word.specs.Frames.{Phase, Free, Open, Sealed, Emptied, Frame, Pinned, Releases, View, code_of, nothing_known}
 use Rattle.segment_word.specs.Layout.{word_of, frame_at}
-use Rattle.segment_word.specs.FrameRule.{AllAgree}
+use Rattle.segment_word.specs.FrameRule.{AllAgree, AllRemembered}
 
 abbrev pub Sat : Type 0
 Sat = Me (Unit {0}) View
@@ -78,13 +78,15 @@ Frees st me n me' = (f : ℕ) → f < length me.0.frames → st.word ≡ 1025 * 
     × (n ≡ st.first → me' ≡ (with_try (with_frame me.0 f (released (frame_at me.0.frames f))) f n, me.1))
     × (n ≢ st.first → me' ≡ (with_try me.0 f n, me.1))
 
--- load by the drive's seat: the word says what is known of its frame, and the pins that are lent tell the truth
+-- load by the drive's seat: the word says what is known of its frame, the pins that are lent tell the truth, and so does
+-- all that it was told of memories
 pub record Looks (st : Step (Unit {0})) (me : Sat) (n : ℕ) (me' : Sat) : Type 0 where
   pub same : me' ≡ me
   pub state : (f : ℕ) → f < length me.0.frames → st.word ≡ 1025 * f → IsStateOf (frame_at me.0.frames f) n
   pub block : (f j : ℕ) → f < length me.0.frames → j < 1024 → st.word ≡ 1025 * f + 1 + j → n ≡ slice_index (frame_at me.0.frames f).contents j
   pub whole : (f : ℕ) → f < length me.0.frames → length (frame_at me.0.frames f).contents ≡ 1024
   pub agrees : AllAgree me.0.frames me.0.pins
+  pub remembered : AllRemembered me.0.frames me.0.remembered
 
 -- load by a pin's seat: the block word of a frame that it counts on is the pin's, which has 1,024 of them
 abbrev pub ReadsBlockWord : Step (Unit {0}) → Sat → ℕ → Sat → Type 0
@@ -108,9 +110,13 @@ pins_of v = record nothing_known { pins = v.pins }
 abbrev pub without_pins : View → View
 without_pins v = with_pins v []
 
--- the view with another's pins before its own
+-- a seat that remembers all that another remembers and counts on, and counts on nothing itself
+abbrev pub memory_of : View → View
+memory_of v = record nothing_known { remembered = v.remembered ++ v.pins }
+
+-- the view with another's pins before its own, and with what the other remembers before its own
 abbrev pub joined_view : View → View → View
-joined_view v w = with_pins v (w.pins ++ v.pins)
+joined_view v w = record v { pins = w.pins ++ v.pins; remembered = w.remembered ++ v.remembered }
 
 -- the step left the seat its table, its number and its slots
 abbrev pub IsSameSeat : Seat (Unit {0}) View → Seat (Unit {0}) View → Type 0

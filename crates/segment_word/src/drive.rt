@@ -4,12 +4,15 @@ ghost use Rattle.s4_types.specs.declared.refusals.Refusal.TheVariants.{InUse};
 ghost use Rattle.segment_word.specs.Frames.{Frame, code_of, is_sealed};
 ghost use Rattle.segment_word.specs.Frames.Phase.{Free, Open, Sealed, Emptied};
 ghost use Rattle.segment_word.specs.Layout.{frame_at, block_bytes, with_block};
+ghost use Rattle.segment_word.specs.FrameRule.{AllRemembered};
 ghost use Rattle.segment_word.specs.Steps.{raised, IsStateOf};
 ghost use Rattle.segment_word.specs.Handles.{with_changed, with_released, HasMissed};
 
 use crate::blocks::{load_block, store_block};
 use crate::board::Board;
 use crate::layout::{EMPTIED, FRAME_WORDS, GENERATION_SHIFT, ONE_READER, SEALED};
+use crate::lending::recall;
+use crate::memories::Memory;
 use crate::steps::{Place, free, look, raise};
 use s4_types::Refusal;
 use std::alloc::Global;
@@ -146,6 +149,17 @@ impl DriveSeat {
         ensures same { self.new ≡ self.old }
     {
         self.state(frame) % ONE_READER == SEALED
+    }
+
+    /// Shows what is true of what is remembered: each of the frames has come to the generation that it had, and while it is at
+    /// that one, it is sealed or being emptied with the contents that it had.
+    pub fn recall(&mut self, memory: &mut Memory)
+        requires { memory.old.table ≡ self.old.table }
+        ensures remembered { AllRemembered self.old.frames memory.old.remembered }
+        ensures same { (self.new ≡ self.old) × (memory.new ≡ memory.old) }
+    {
+        let words = &self.board.table.shared;
+        recall(words, &mut self.seat, &mut memory.seat);
     }
 
     /// Names a frame, so that it can be pinned.

@@ -11,6 +11,9 @@
 //! seat knew when the frame was pinned; it takes no memory, waits for nobody and always returns. Each call says exactly
 //! what it changes of what the drive's seat knows.
 //!
+//! A `Memory` is what a pin counted on, kept after the pin. It keeps nothing from being released; `recall` tells of each of
+//! its frames that while the frame is at the generation remembered, the drive's seat still knows the contents remembered.
+//!
 //! Not said: that a seat is free or comes back, that a pin wins within its 64 tries, and which blocks of a frame are in
 //! use. At most one frame is open at a time only if the layer above keeps it so.
 //!
@@ -25,6 +28,7 @@ mod board;
 mod drive;
 mod layout;
 mod lending;
+mod memories;
 mod pins;
 mod plays;
 mod pool;
@@ -33,5 +37,6 @@ mod steps;
 
 pub use accepts::naming::Naming;
 pub use drive::{DriveSeat, FrameToken};
+pub use memories::Memory;
 pub use pins::Pin;
 pub use pool::Frames;

@@ -15,7 +15,8 @@ use crate::board::Board;
 use crate::drive::{DriveSeat, FrameToken};
 use crate::layout::{EMPTY, RESTING};
 use crate::lending::{confirm, pin};
-use crate::steps::{Place, lose};
+use crate::memories::Memory;
+use crate::steps::{Place, lose, remember};
 use s4_types::Refusal;
 use std::alloc::Global;
 use std::marker::Model;
@@ -102,6 +103,15 @@ impl Pin {
     {
         let words = &self.board.table.shared;
         confirm(words, &mut drive.seat, &mut self.seat);
+    }
+
+    /// What it counts on, as a memory that outlives it. Takes no memory of the machine, and no seat of the 64.
+    pub fn remember(&mut self) -> Memory
+        ensures memory { result ≡ record { table = self.old.table; remembered = self.old.pins } }
+        ensures same { self.new ≡ self.old }
+    {
+        let seat = remember(&self.board.table.shared, &mut self.seat);
+        Memory { seat }
     }
 
     /// The 512 bytes of block `block`, from 0 to 15, of a frame that it counts on, as they were when the frame was pinned.

@@ -1,6 +1,6 @@
-//! What each step on a word tells its seat, and how pins go from one seat to another.
+//! What each step on a word tells its seat, and how pins and memories go from one seat to another.
 ghost use Rattle.segment_word.specs.Frames.{nothing_known};
-ghost use Rattle.segment_word.specs.Steps.{Raises, Stores, Looks, ReadsBlockWord, Frees, Pins, Unpins, pins_of, without_pins, joined_view};
+ghost use Rattle.segment_word.specs.Steps.{Raises, Stores, Looks, ReadsBlockWord, Frees, Pins, Unpins, pins_of, without_pins, memory_of, joined_view};
 
 use crate::rule::Known;
 use atomic_table::{Join, Play, Split};
@@ -63,7 +63,16 @@ impl Split<Known> for Hand {
     ghost right = { pins_of };
 }
 
-/// Puts the pins of another seat before a seat's own.
+/// Leaves a view as it is. The new seat remembers what that one remembers and counts on.
+pub struct Remember;
+
+impl Split<Known> for Remember {
+    ghost left = { λ v. v };
+
+    ghost right = { memory_of };
+}
+
+/// Puts the pins of another seat, and what it remembers, before a seat's own.
 pub struct Receive;
 
 impl Join<Known> for Receive {

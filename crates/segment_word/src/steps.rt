@@ -5,10 +5,10 @@ ghost use Rattle.atomic_table.specs.Table.{step};
 ghost use Rattle.segment_word.specs.Frames.{Pinned};
 ghost use Rattle.segment_word.specs.Frames.Phase.{Open, Emptied};
 ghost use Rattle.segment_word.specs.Layout.{frame_at, word_of};
-ghost use Rattle.segment_word.specs.Steps.{Looks, ReadsBlockWord, IsStateOf, raised, released, with_word, with_frame, with_try, with_pins, older, IsSameSeat, CanRise, GainsPin, joined_view, without_pins, pins_of};
+ghost use Rattle.segment_word.specs.Steps.{Looks, ReadsBlockWord, IsStateOf, raised, released, with_word, with_frame, with_try, with_pins, older, IsSameSeat, CanRise, GainsPin, joined_view, without_pins, pins_of, memory_of};
 
 use crate::layout::{EMPTIED, FRAME_WORDS, GENERATION_SHIFT, ONE_READER};
-use crate::plays::{Free, Gain, Hand, Look, Lose, Raise, Read, Receive, Store};
+use crate::plays::{Free, Gain, Hand, Look, Lose, Raise, Read, Receive, Remember, Store};
 use crate::rule::{Known, OneRule};
 use atomic_table::{Seat, Shared};
 use std::snapshot::Snapshot;
@@ -118,7 +118,18 @@ pub fn hand(words: &Words, seat: &mut Place) -> Place
     words.split_seat::<Hand>(seat)
 }
 
-/// The pins of another seat, which is spent, come to this one.
+/// A new seat remembers what this one remembers and counts on.
+pub fn remember(words: &Words, seat: &mut Place) -> Place
+    requires table { seat.old.table_id ≡ words.now.table_id }
+    requires words { 0 < words.now.table_id.words }
+    ensures seat { IsSameSeat seat.old seat.new }
+    ensures view { seat.new.me.0 ≡ seat.old.me.0 }
+    ensures other { (result.table_id ≡ seat.old.table_id) × (result.me ≡ (memory_of seat.old.me.0, [])) }
+{
+    words.split_seat::<Remember>(seat)
+}
+
+/// The pins of another seat, which is spent, come to this one, and so does what it remembers.
 pub fn receive(words: &Words, seat: &mut Place, other: Place)
     requires table { (seat.old.table_id ≡ words.now.table_id) × (other.table_id ≡ words.now.table_id) }
     requires words { 0 < words.now.table_id.words }

@@ -10,7 +10,7 @@ use std::test::Fail;
 use std::thread::join;
 
 // 512 bytes that differ from block to block and from frame to frame.
-fn pattern(frame: usize, block: usize) -> [u8; 512]
+pub fn pattern(frame: usize, block: usize) -> [u8; 512]
     requires { (frame < 8) × (block < 16) }
 {
     let mut bytes = [0; 512];
@@ -21,7 +21,7 @@ fn pattern(frame: usize, block: usize) -> [u8; 512]
 }
 
 // A free frame is opened, filled with its pattern, and sealed.
-fn fill(drive: &mut DriveSeat, frame: usize)
+pub fn fill(drive: &mut DriveSeat, frame: usize)
     requires inside { (frame < length drive.old.frames) × (frame < 8) }
     requires free { (frame_at drive.old.frames frame).phase ≡ Free }
     requires goes_on { (frame_at drive.old.frames frame).generation + 1 < 2 ^ 32 }
