@@ -1,8 +1,10 @@
--- A map of values as a list, by ascending object.
-use Rattle.std.specs.Prelude.{◌≡◌, ℕ, ◌==◌, ◌<◌, if◌then◌else◌, List, Option, Some, None, IsSome}
+-- A map of objects, seen as the list of its rows and the list of the values beside them, each by ascending object.
+use Rattle.std.specs.Prelude.{◌≡◌, ℕ, ◌==◌, ◌<◌, if◌then◌else◌, List, map, Option, Some, None, IsSome, option_map}
 use Rattle.std.specs.Map.{lookup}
 use Rattle.std.specs.BTreeMap.{is_at}
 use Rattle.std.specs.Ordering.{nat_cmp}
+use Rattle.object_map.specs.declared.map.Row.{Row}
+use Rattle.object_map.specs.declared.map.Kept.{Kept}
 
 -- the value of an object
 abbrev pub value_of : {V : Type 0} → List (ℕ × V) → ℕ → Option V
@@ -21,3 +23,32 @@ pub record IsNextAbove {V : Type 0} (values : List (ℕ × V)) (o next : ℕ) : 
   pub above : o < next
   pub there : IsSome (value_of values next)
   pub least : (q : ℕ) → o < q → q < next → value_of values q ≡ None
+
+-- what a map keeps: rows, and a value beside each
+pub record MapOf (V : Type 0) : Type 0 where
+  pub rows : List (ℕ × Row)
+  pub values : List (ℕ × V)
+
+-- the two lists of what is kept of objects
+abbrev pub parts_of : {V : Type 0} → List (ℕ × Kept V) → MapOf V
+parts_of objects = record { rows = map (λ e. (e.0, e.1.row)) objects; values = map (λ e. (e.0, e.1.value)) objects }
+
+-- what is found of an object is its row and the value beside it, and nothing where it has neither
+pub record IsKeptOf {V : Type 0} (m : MapOf V) (o : ℕ) (found : Option (Kept V)) : Type 0 where
+  pub row : option_map (λ k. k.row) found ≡ value_of m.rows o
+  pub value : option_map (λ k. k.value) found ≡ value_of m.values o
+
+-- an object has this row and this value, and all others are as they were
+pub record Puts {V : Type 0} (m : MapOf V) (o : ℕ) (row : Row) (value : V) (n : MapOf V) : Type 0 where
+  pub rows : (q : ℕ) → value_of n.rows q ≡ with_value (value_of m.rows) o row q
+  pub values : (q : ℕ) → value_of n.values q ≡ with_value (value_of m.values) o value q
+
+-- an object has this row; all other rows, and all values, are as they were
+pub record PutsRow {V : Type 0} (m : MapOf V) (o : ℕ) (row : Row) (n : MapOf V) : Type 0 where
+  pub rows : (q : ℕ) → value_of n.rows q ≡ with_value (value_of m.rows) o row q
+  pub values : (q : ℕ) → value_of n.values q ≡ value_of m.values q
+
+-- an object has neither row nor value, and all others are as they were
+pub record Removes {V : Type 0} (m : MapOf V) (o : ℕ) (n : MapOf V) : Type 0 where
+  pub rows : (q : ℕ) → value_of n.rows q ≡ without_value (value_of m.rows) o q
+  pub values : (q : ℕ) → value_of n.values q ≡ without_value (value_of m.values) o q

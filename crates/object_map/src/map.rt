@@ -1,12 +1,13 @@
-ghost use Rattle.std.specs.Prelude.{◌≡◌, ℕ, ◌+◌, ◌<◌, ◌^◌, None, IsSome, IfSome, IfNone, IfOk, IfErr, [], length};
-ghost use Rattle.object_map.specs.Objects.{IsNextAbove};
-ghost use Rattle.object_map.specs.Rows.{row_of, with_row, without_row, fresh_row};
+ghost use Rattle.std.specs.Prelude.{◌≡◌, ℕ, ◌+◌, ◌<◌, ◌^◌, Some, None, IsSome, IfSome, IfNone, IfOk, IfErr, OnOk, OnErr, [], length, option_copied};
+ghost use Rattle.object_map.specs.Objects.{value_of, with_value, without_value, IsNextAbove, IsKeptOf, Puts, PutsRow, Removes};
+ghost use Rattle.object_map.specs.Rows.{row_of, fresh_row};
 ghost use Rattle.s4_types.specs.declared.refusals.Refusal.TheVariants.{NoMemory};
 
-use crate::objects::Objects;
 use s4_types::{Moment, ObjectId, Ptr, Refusal};
 use std::alloc::Global;
+use std::collections::BTreeMap;
 use std::marker::Model;
+use std::ops::Bound;
 
 /// Where an object's versions stand.
 #[derive(Clone, Copy, Debug, PartialEq, Eq)]
@@ -44,79 +45,165 @@ impl Row {
     }
 }
 
-/// A map from objects to rows.
+/// What is kept of an object.
+#[derive(Clone, Copy)]
+pub struct Kept<V: Copy + Drop> {
+    /// Where its versions stand.
+    pub row: Row,
+    /// What stands beside the row.
+    pub value: V,
+}
+
+/// A map from objects to their rows, with a value beside each.
 #[derive(Drop)]
-pub struct ObjectMap {
-    rows: Objects<Row>,
+pub struct ObjectMap<V: Copy + Drop> {
+    objects: BTreeMap<u64, Kept<V>>,
 }
 
-impl Model for ObjectMap {
-    ghost use Rattle.std.specs.Prelude.{ℕ, List};
-    ghost use Rattle.object_map.specs.declared.map.Row.{Row};
+impl<V: Copy + Drop> Model for ObjectMap<V> {
+    ghost use Rattle.object_map.specs.Objects.{MapOf, parts_of};
 
-    ghost Value = { List (ℕ × Row) };
+    ghost Value = { MapOf V };
 
-    ghost view = { λ m. m.rows };
+    ghost view = { λ m. parts_of m.objects.entries };
 }
 
-impl ObjectMap {
-    /// A map without rows.
+// A value at a key that has none.
+fn put<V: Drop>(map: &mut BTreeMap<u64, V>, key: u64, value: V) -> Result<(), Refusal>
+    requires fresh { value_of map.old.entries key ≡ None }
+    ensures put { OnOk result ((q : ℕ) → value_of map.new.entries q ≡ with_value (value_of map.old.entries) key value q) }
+    ensures refusal { IfErr result (λ e. e ≡ NoMemory) }
+    ensures unchanged { OnErr result (map.new.entries ≡ map.old.entries) }
+{
+    map.insert(key, value)?;
+    Ok(())
+}
+
+// A row in place of an old one: its stamp is one above the old row's.
+fn next_of(old: &Row, row: &Row) -> Row
+    requires { old.now.stamp + 1 < 2 ^ 64 }
+    ensures { result ≡ record row.now { stamp = old.now.stamp + 1 } }
+{
+    Row {
+        stamp: old.stamp + 1,
+        ..*row
+    }
+}
+
+// At a key another row, whose stamp is one above the old one's, and another value.
+fn replace<V: Copy + Drop>(map: &mut BTreeMap<u64, Kept<V>>, key: u64, row: &Row, value: &V)
+    requires there { IfSome (value_of map.old.entries key) (λ old. old.row.stamp + 1 < 2 ^ 64) }
+    requires some { IsSome (value_of map.old.entries key) }
+    ensures changed { IfSome (value_of map.old.entries key) (λ old. (q : ℕ) → value_of map.new.entries q ≡ with_value (value_of map.old.entries) key (record { row = record row.now { stamp = old.row.stamp + 1 }; value = value.now }) q) }
+{
+    if let Some(kept) = map.get_mut(&key) {
+        *kept = Kept {
+            row: next_of(&kept.row, row),
+            value: *value,
+        };
+    }
+}
+
+// At a key another row, whose stamp is one above the old one's; the value stays.
+fn replace_row<V: Copy + Drop>(map: &mut BTreeMap<u64, Kept<V>>, key: u64, row: &Row)
+    requires there { IfSome (value_of map.old.entries key) (λ old. old.row.stamp + 1 < 2 ^ 64) }
+    requires some { IsSome (value_of map.old.entries key) }
+    ensures changed { IfSome (value_of map.old.entries key) (λ old. (q : ℕ) → value_of map.new.entries q ≡ with_value (value_of map.old.entries) key (record old { row = record row.now { stamp = old.row.stamp + 1 } }) q) }
+{
+    if let Some(place) = map.get_mut(&key) {
+        place.row = next_of(&place.row, row);
+    }
+}
+
+// The value at a key goes, if there is one.
+fn take_out<V: Drop>(map: &mut BTreeMap<u64, V>, key: u64)
+    ensures { (q : ℕ) → value_of map.new.entries q ≡ without_value (value_of map.old.entries) key q }
+{
+    let _ = map.remove(&key);
+}
+
+// The least key above this one.
+fn next_key<V: Drop>(map: &BTreeMap<u64, V>, key: u64) -> Option<u64>
+    ensures some { IfSome result (λ next. IsNextAbove map.now.entries key next) }
+    ensures none { IfNone result ((q : ℕ) → key < q → value_of map.now.entries q ≡ None) }
+{
+    let above = (Bound::Excluded(key), Bound::Unbounded);
+    let (next, _) = map.range(above).next()?;
+    Some(*next)
+}
+
+impl<V: Copy + Drop> ObjectMap<V> {
+    /// A map without objects.
     pub fn new(alloc: Global) -> Self
-        ensures { result ≡ [] }
+        ensures rows { result.rows ≡ [] }
+        ensures values { result.values ≡ [] }
     {
         ObjectMap {
-            rows: Objects::new(alloc),
+            objects: BTreeMap::new(alloc),
         }
     }
 
-    /// The row of an object.
-    pub fn get(&self, object: ObjectId) -> Option<Row>
-        ensures { result ≡ row_of self.now object }
+    /// The row of an object and the value beside it.
+    pub fn get(&self, object: ObjectId) -> Option<&Kept<V>>
+        ensures { IsKeptOf self.now object (option_copied result) }
     {
-        self.rows.get(object).copied()
+        self.objects.get(&object.number())
     }
 
-    /// A row for an object that has none, without journal and checkpoint and with stamp 0. NoMemory, and nothing has
-    /// changed, where the map couldn't grow.
-    pub fn add(&mut self, object: ObjectId, created: Moment) -> Result<(), Refusal>
-        requires fresh { row_of self.old object ≡ None }
-        ensures added { IfOk result (λ _. (q : ℕ) → row_of self.new q ≡ with_row (row_of self.old) object (fresh_row created) q) }
-        ensures refusal { IfErr result (λ e. (e ≡ NoMemory) × (self.new ≡ self.old)) }
+    /// A row for an object that has none, without journal and checkpoint and with stamp 0, and a value beside it. NoMemory, and
+    /// nothing has changed, where the map couldn't grow.
+    pub fn add(&mut self, object: ObjectId, created: Moment, value: &V) -> Result<(), Refusal>
+        requires fresh { row_of self.old.rows object ≡ None }
+        ensures added { OnOk result (Puts self.old object (fresh_row created) value.now self.new) }
+        ensures refusal { IfErr result (λ e. e ≡ NoMemory) }
+        ensures unchanged { OnErr result (self.new ≡ self.old) }
     {
-        self.rows.add(object, Row::fresh(created))
+        let row = Row::fresh(created);
+        put(
+            &mut self.objects,
+            object.number(),
+            Kept { row, value: *value },
+        )
     }
 
-    /// An object's row becomes this one, but for the stamp, which is one above the old row's.
-    pub fn change(&mut self, object: ObjectId, row: Row)
-        requires there { IfSome (row_of self.old object) (λ old. old.stamp + 1 < 2 ^ 64) }
-        requires some { IsSome (row_of self.old object) }
-        ensures changed { IfSome (row_of self.old object) (λ old. (q : ℕ) → row_of self.new q ≡ with_row (row_of self.old) object (record row { stamp = old.stamp + 1 }) q) }
+    /// An object's row becomes this one, but for the stamp, which is one above the old row's; and the value beside it this.
+    pub fn change(&mut self, object: ObjectId, row: &Row, value: &V)
+        requires there { IfSome (row_of self.old.rows object) (λ old. old.stamp + 1 < 2 ^ 64) }
+        requires some { IsSome (row_of self.old.rows object) }
+        ensures changed { IfSome (row_of self.old.rows object) (λ old. Puts self.old object (record row.now { stamp = old.stamp + 1 }) value.now self.new) }
     {
-        if let Some(place) = self.rows.values.get_mut(&object.number()) {
-            let stamp = place.stamp + 1;
-            *place = Row { stamp, ..row };
-        }
+        replace(&mut self.objects, object.number(), row, value);
     }
 
-    /// An object's row goes, if it has one.
+    /// An object's row becomes this one, but for the stamp, which is one above the old row's; the value beside it stays.
+    pub fn change_row(&mut self, object: ObjectId, row: &Row)
+        requires there { IfSome (row_of self.old.rows object) (λ old. old.stamp + 1 < 2 ^ 64) }
+        requires some { IsSome (row_of self.old.rows object) }
+        ensures changed { IfSome (row_of self.old.rows object) (λ old. PutsRow self.old object (record row.now { stamp = old.stamp + 1 }) self.new) }
+    {
+        replace_row(&mut self.objects, object.number(), row);
+    }
+
+    /// An object's row and value go, if it has any.
     pub fn remove(&mut self, object: ObjectId)
-        ensures { (q : ℕ) → row_of self.new q ≡ without_row (row_of self.old) object q }
+        ensures { Removes self.old object self.new }
     {
-        self.rows.remove(object);
+        take_out(&mut self.objects, object.number());
     }
 
     /// The least object above this one that has a row.
     pub fn next_above(&self, object: ObjectId) -> Option<ObjectId>
-        ensures some { IfSome result (λ next. IsNextAbove self.now object next) }
-        ensures none { IfNone result ((q : ℕ) → object < q → row_of self.now q ≡ None) }
+        ensures some { IfSome result (λ next. IsNextAbove self.now.rows object next) }
+        ensures none { IfNone result ((q : ℕ) → object < q → row_of self.now.rows q ≡ None) }
     {
-        self.rows.next_above(object)
+        let next = next_key(&self.objects, object.number())?;
+        Some(ObjectId::new(next))
     }
 
     /// How many objects have a row.
     pub fn len(&self) -> usize
-        ensures { result ≡ length self.now }
+        ensures { result ≡ length self.now.rows }
     {
-        self.rows.len()
+        self.objects.len()
     }
 }

@@ -10,7 +10,6 @@ use Rattle.codec.specs.Checkpoint.{holes_past, checkpoint_rules}
 use Rattle.codec.specs.Entry.{EntryFields}
 use Rattle.codec.specs.declared.inodes.Inode.{Inode}
 use Rattle.undo_redo.specs.Runs.{AllBy, moments_ascend_from, last_moment}
-use Rattle.undo_redo.specs.Groups.{grouped}
 use Rattle.checkpoint.specs.Held.{checkpoint_held}
 use Rattle.inode.specs.Contents.{contents_of, meaning}
 use Rattle.inode.specs.Tidiness.{Tidy, PointersHeld}
@@ -24,17 +23,10 @@ use Rattle.version_store.specs.Store.{StoreFields, IsStore, IsObject, DataIsName
 use Rattle.version_store.specs.Versions.{Stays, inode_by, inode_in, version_by, version_in}
 use Rattle.version_store.specs.Checkpointing.{last_entry, is_behind, IsCheckpointed}
 use Rattle.version_store.specs.private.CheckpointSteps.{CanCheckpoint, Checkpointed}
-use Rattle.version_store.proofs.Lower.{RowStays, RowInodeStays, IsByStays, IsByLater, LastInodeStays}
+use Rattle.version_store.specs.private.Below.{RowStays, RowInodeStays, IsByStays, IsByLater, LastInodeStays, GroupsAscend, RowsKeepTheMaking}
 use Rattle.version_store.proofs.Frames.{DataStays, data_there, data_agree, data_pointers, stays_object, inode_in_stays, version_in_stays}
 use Rattle.version_store.proofs.Telling.{Moves, same_entries, leads_later, same_pointers, moved_leads_to, moved_leads}
 use Rattle.version_store.proofs.Steps.{row_here, row_beside, row_cases, none_cases, stamped_row, stamped_inode, taken_places}
-
--- what the laws below say
-abbrev pub GroupsAscend : Type 0
-GroupsAscend = (entries : List EntryFields) → grouped entries ≡ true → moments_ascend_from 0 entries ≡ true
-
-abbrev pub RowsKeepTheMaking : Type 0
-RowsKeepTheMaking = (held : Place → Option Stored) (o : ℕ) (row : Row) (t : ℕ) → IsRow held o row → (inode_of held o row t).created ≡ row.created
 
 -- ---- the last moment of a journal
 

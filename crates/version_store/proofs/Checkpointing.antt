@@ -1,14 +1,13 @@
 -- An object's checkpoint: the last entry of a journal, and what a checkpoint that is written leaves.
-use Rattle.std.proofs.Common.{◌≡◌, ℕ, suc, ◌+◌, ◌*◌, ◌-◌, ◌^◌, ◌<◌, ◌≤◌, ◌==◌, ◌&&◌, leb, ltb, Bool, true, false, List, [], ◌∷◌, ◌++◌, length, drop, slice_index_or, Option, Some, None, IsSome, IfSome, MatchOption, IfNone, unwrap_or, is_none, is_some, refl, sym, ap, subst, ◌∙◌, inl, inr, arith}
+use Rattle.std.proofs.Common.{◌≡◌, ℕ, List, [], ◌∷◌, ◌++◌, Option, Some, None, IsSome, IfNone, unwrap_or, refl, sym, ap, subst, ◌∙◌}
 use Rattle.s4_types.specs.Pointer.{Place}
-use Rattle.block_log.specs.Log.{Stored, of_kind}
+use Rattle.block_log.specs.Log.{Stored}
 use Rattle.codec.specs.Entry.{EntryFields}
-use Rattle.journal_chain.specs.Packing.{packed, filled_bytes, AllFit, KeepsTheRule}
 use Rattle.undo_redo.specs.Runs.{last_moment}
 use Rattle.object_map.specs.declared.map.Row.{Row}
 use Rattle.journal_chain.specs.Chain.{ChainFields, chain_entries}
 use Rattle.journal_chain.specs.Back.{BackFields, entries_left, left}
-use Rattle.time_read.specs.Rows.{chain_of, entries_of, IsRow}
+use Rattle.time_read.specs.Rows.{chain_of}
 use Rattle.std.specs.Option.{option_to_list}
 use Rattle.version_store.specs.Checkpointing.{last_entry}
 

@@ -17,7 +17,7 @@ use Rattle.inode.specs.Touched.{touched_count, is_touched, is_cut, cut_count}
 use Rattle.inode.specs.Changed.{Written, Truncated}
 use Rattle.inode.specs.Tidiness.{PointersLead}
 use Rattle.version_store.specs.Costs.{is_past, past_count}
-use Rattle.version_store.proofs.Lower.{OnePlace}
+use Rattle.version_store.specs.private.Below.{OnePlace}
 
 -- ---- counts over numbers from one on
 

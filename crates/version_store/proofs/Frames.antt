@@ -18,7 +18,7 @@ use Rattle.object_map.specs.Rows.{row_of}
 use Rattle.time_read.specs.Rows.{inode_of}
 use Rattle.version_store.specs.Store.{StoreFields, IsStore, IsObject, pointers_of}
 use Rattle.version_store.specs.Versions.{Stays, inode_by, inode_in, version_by, version_in}
-use Rattle.version_store.proofs.Lower.{RowStays, RowInodeStays, IsByStays}
+use Rattle.version_store.specs.private.Below.{RowStays, RowInodeStays, IsByStays}
 use Rattle.version_store.proofs.Telling.{Leads, leads_later, same_pointers}
 
 -- ---- blocks

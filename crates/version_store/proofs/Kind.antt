@@ -28,7 +28,7 @@ use Rattle.version_store.specs.Versions.{version_in, version_taken}
 use Rattle.version_store.specs.Costs.{subject_row, subject_inode, row_or_fresh, pointers_moved, data_blocks, attribute_by, sizes_by, refusal_by, blocks_taken, room}
 use Rattle.version_store.specs.Taking.{IsReadyFor, RowChanges, data_by}
 use Rattle.version_store.specs.private.Turning.{CanTake, CanTurn, Turns, IsTaken, blocks_turned}
-use Rattle.version_store.proofs.Lower.{RowStays, RowInodeStays, IsByStays, IsByLater, FreshRowStands, FreshRowIsBy, FreshInode, BlankCount, BlankHoles, EntriesHaveSizes, SizesAddUp}
+use Rattle.version_store.specs.private.Below.{RowStays, RowInodeStays, IsByStays, IsByLater, FreshRowStands, FreshRowIsBy, FreshInode, BlankCount, BlankHoles, EntriesHaveSizes, SizesAddUp}
 use Rattle.version_store.proofs.Frames.{growth_stays, stays_inode}
 use Rattle.version_store.proofs.Naming.{NamesNew}
 use Rattle.version_store.proofs.Steps.{grown_store, grown_versions, added_store, added_versions, row_here, row_beside}

@@ -1,4 +1,3 @@
-pub mod Lower
 pub mod Frames
 pub mod Counting
 pub mod Telling

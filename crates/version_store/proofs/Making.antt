@@ -21,7 +21,7 @@ use Rattle.version_store.specs.Store.{StoreFields}
 use Rattle.version_store.specs.Costs.{subject_row, subject_inode, data_blocks, room}
 use Rattle.version_store.specs.Taking.{IsThere}
 use Rattle.version_store.specs.private.Turning.{CanTake}
-use Rattle.version_store.proofs.Lower.{OnePlace, FreshInode, BlankCount, BlankHoles}
+use Rattle.version_store.specs.private.Below.{OnePlace, FreshInode, BlankCount, BlankHoles}
 use Rattle.version_store.proofs.Counting.{Fresh, none_moved, written_moves, truncated_moves}
 use Rattle.version_store.proofs.Naming.{written_names, truncated_names}
 use Rattle.version_store.proofs.Subjects.{IsSubject, subject_of, free_of}

@@ -19,7 +19,7 @@ use Rattle.time_read.specs.Rows.{IsRow, inode_of}
 use Rattle.version_store.specs.Store.{StoreFields, IsStore, IsObject, pointers_of, DataIsNamed, Names, IsNamed}
 use Rattle.version_store.specs.Versions.{inode_by, inode_in}
 use Rattle.version_store.specs.private.Turning.{LeadsTo}
-use Rattle.version_store.proofs.Lower.{OnePlace}
+use Rattle.version_store.specs.private.Below.{OnePlace}
 use Rattle.version_store.proofs.Telling.{inode_told, led_there}
 use Rattle.version_store.proofs.Counting.{past_uncut}
 

@@ -1,5 +1,5 @@
 -- Plans of the present.
-use Rattle.std.proofs.Common.{◌≡◌, ◌⊎◌, ◌↔◌, ◌<◌, ◌-◌, ℕ, min, true, false, Option, Some, None, Result, Ok, Err, IfOk, IfErr, IfSome, take, drop, subst}
+use Rattle.std.proofs.Common.{◌≡◌, ◌↔◌, ◌<◌, ◌-◌, ℕ, min, true, false, Option, Some, None, Result, Ok, Err, IfOk, IfErr, IfSome, take, drop, subst}
 use Rattle.std.specs.List.{list_any}
 use Rattle.s4_types.specs.declared.refusals.Refusal.{Refusal}
 use Rattle.codec.specs.declared.inodes.Inode.{Inode}

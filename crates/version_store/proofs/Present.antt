@@ -22,13 +22,13 @@ use Rattle.version_store.specs.Costs.{row_or_fresh, subject_inode, room}
 use Rattle.version_store.specs.Checkpointing.{last_entry, is_behind}
 use Rattle.version_store.specs.private.CheckpointSteps.{CanCheckpoint}
 use Rattle.object_map.specs.Objects.{value_of, with_value, without_value}
-use Rattle.version_store.proofs.Lower.{RowInodeStays, LastInodeStays, FreshInode, BlankCount, BlankHoles}
+use Rattle.version_store.specs.private.Below.{RowInodeStays, LastInodeStays, FreshInode, BlankCount, BlankHoles, GroupsAscend, RowsKeepTheMaking}
 use Rattle.version_store.proofs.Frames.{growth_stays, journal_stays, inode_in_stays}
 use Rattle.version_store.specs.Taking.{IsThere}
 use Rattle.version_store.proofs.Steps.{blank_tidy, blank_means, row_here, row_beside}
 use Rattle.version_store.proofs.Subjects.{alive_by}
 use Rattle.version_store.proofs.Kind.{blank_subject}
-use Rattle.version_store.proofs.CheckpointSteps.{GroupsAscend, RowsKeepTheMaking, known}
+use Rattle.version_store.proofs.CheckpointSteps.{known}
 
 inode_by_present : LastInodeStays → (held : Place → Option Stored) (o latest t : ℕ) (row : Option Row) → ((r : Row) → row ≡ Some r → IsObject held o r latest) → latest ≤ t → inode_by held o t row ≡ inode_by held o latest row
 inode_by_present last held o latest t None objects le = refl
@@ -92,10 +92,6 @@ no_row s o t none = no_row_by s.log.held o t (row_of s.rows o) none
 abbrev pub Keeps : List (ℕ × Inode) → StoreFields → Type 0
 Keeps kept s = (q : ℕ) → value_of kept q ≡ inode_in s q s.latest
 
--- of an object without a row nothing is
-pub none_kept : (s : StoreFields) (kept : List (ℕ × Inode)) (o : ℕ) → Keeps kept s → row_of s.rows o ≡ None → value_of kept o ≡ None
-none_kept s kept o keeps none = keeps o ∙ ap (inode_by s.log.held o s.latest) none
-
 -- data that is appended leaves the inodes
 pub grown_keeps : RowInodeStays → (s : StoreFields) (log : Log) (object : ℕ) (blocks : List (List ℕ)) (kept : List (ℕ × Inode)) → GrowsBy object blocks s.log log → Keeps kept s → Keeps kept (record s { log = log })
 grown_keeps same s log object blocks kept grows keeps q =
@@ -113,19 +109,6 @@ added_keeps fresh s rows o m first kept after is put kept_put keeps q = elim (ca
       kept_put q ∙ cond-false (o == q) (Some first) (value_of kept q) other
       ∙ keeps q
       ∙ sym (ap (inode_by s.log.held q s.latest) (put q ∙ row_beside (row_of s.rows) o q (fresh_row m) other))
-]
-
--- an inode that was added and is taken out again leaves the others as they were
-pub restored_keeps : (s : StoreFields) (o : ℕ) (first : Inode) (kept between after : List (ℕ × Inode)) → row_of s.rows o ≡ None
-    → ((q : ℕ) → value_of between q ≡ with_value (value_of kept) o first q) → ((q : ℕ) → value_of after q ≡ without_value (value_of between) o q) → Keeps kept s → Keeps after s
-restored_keeps s o first kept between after none added removed keeps q = elim (cases_Bool (o == q)) [
-  | inl here ↦
-      removed q ∙ cond-true (o == q) None (value_of between q) here
-      ∙ sym (ap (λ (k : ℕ). inode_in s k s.latest) (sym (eqb-true o q here)) ∙ ap (inode_by s.log.held o s.latest) none)
-  | inr other ↦
-      removed q ∙ cond-false (o == q) None (value_of between q) other
-      ∙ added q ∙ cond-false (o == q) (Some first) (value_of kept q) other
-      ∙ keeps q
 ]
 
 -- an object that turns to its next inode has that one from then on, and no other object has another

@@ -2,7 +2,7 @@
 use Rattle.std.proofs.Common.{◌≡◌, ◌⊎◌, ℕ, ◌+◌, ◌-◌, ◌<◌, ◌≤◌, ◌==◌, ◌&&◌, ◌/◌, ◌%◌, leb, Bool, false, cond, List, length, drop, Option, Some, None, IsSome, refl, sym, ap, subst, ◌∙◌, inl, inr, arith}
 use Rattle.std.specs.Prelude.{is_some}
 use Rattle.std.specs.List.{Contains}
-use Rattle.std.proofs.lemmas.Bool.{cases_Bool, cases_lt, cond-true, cond-false, and_right, eqb-true, eqb-false, eq-eqb, ne_eqb, lt-leb, le-leb, false≢true}
+use Rattle.std.proofs.lemmas.Bool.{cases_Bool, cond-true, cond-false, and_right, eqb-true, eqb-false, eq-eqb, ne_eqb, le-leb, false≢true}
 use Rattle.std.proofs.lemmas.List.{length-drop}
 use Rattle.std.proofs.lemmas.List.Elements.{All-nil}
 use Rattle.std.proofs.lemmas.Option.{none-some, same_Some}
@@ -28,7 +28,7 @@ use Rattle.row_changes.specs.Recent.{IsBy}
 use Rattle.version_store.specs.Versions.{Stays, inode_by, version_by, version_in}
 use Rattle.version_store.specs.Taking.{RowChanges}
 use Rattle.version_store.specs.private.Turning.{LeadsTo, IsOpenFor, Turns}
-use Rattle.version_store.proofs.Lower.{RowStays, RowInodeStays, IsByStays, IsByLater, LastInodeStays, FreshRowStands, FreshRowIsBy, FreshInode, BlankCount, BlankHoles}
+use Rattle.version_store.specs.private.Below.{RowStays, RowInodeStays, IsByStays, IsByLater, LastInodeStays, FreshRowStands, FreshRowIsBy, FreshInode, BlankCount, BlankHoles}
 use Rattle.version_store.proofs.Frames.{DataStays, data_there, data_agree, data_pointers, stays_object, growth_stays, journal_stays, version_by_stays}
 use Rattle.version_store.proofs.Telling.{Leads, Grows, inode_told, leads_later, same_pointers, grown_leads_to, grown_leads, fresh_pointers}
 use Rattle.version_store.proofs.Naming.{NamesNew}

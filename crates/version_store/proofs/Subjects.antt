@@ -24,7 +24,7 @@ use Rattle.version_store.specs.Store.{StoreFields, IsStore}
 use Rattle.version_store.specs.Versions.{inode_by, version_by, version_in}
 use Rattle.version_store.specs.Costs.{row_or_fresh, subject_row, subject_inode, pointers_moved, data_blocks, attribute_by, sizes_by, refusal_by}
 use Rattle.version_store.specs.Taking.{IsThere}
-use Rattle.version_store.proofs.Lower.{EntriesHaveSizes, SizesAddUp}
+use Rattle.version_store.specs.private.Below.{EntriesHaveSizes, SizesAddUp}
 
 -- an object that is there, and its present inode
 pub record IsSubject (s : StoreFields) (o m : ℕ) (i : Inode) : Type 0 where

@@ -1,6 +1,6 @@
 -- The pointers that a row leads to: where they come from, and that those of each inode are among them.
-use Rattle.std.proofs.Common.{◌≡◌, ◌⊎◌, ℕ, zero, suc, ◌<◌, cond, List, [], ◌∷◌, ◌++◌, get_or, replicate, Option, Some, None, MatchOption, IsSome, IfSome, unwrap_or, refl, sym, ap, subst, ◌∙◌, inl, inr, arith}
-use Rattle.std.specs.List.{All, Contains, AllByRecursion, flat_map}
+use Rattle.std.proofs.Common.{◌≡◌, ◌⊎◌, ℕ, zero, suc, List, [], ◌∷◌, ◌++◌, get_or, replicate, Option, Some, None, MatchOption, IsSome, unwrap_or, refl, sym, ap, subst, ◌∙◌, inl, inr, arith}
+use Rattle.std.specs.List.{All, Contains, AllByRecursion}
 use Rattle.std.proofs.Math.ListN.{set}
 use Rattle.std.proofs.lemmas.Bool.{cases_Bool, cond-true, cond-false}
 use Rattle.std.proofs.lemmas.List.{get_or_default}
@@ -16,7 +16,7 @@ use Rattle.codec.specs.Checkpoint.{CheckpointFields, pointer_at, holes}
 use Rattle.codec.specs.Entry.{EntryFields}
 use Rattle.codec.specs.declared.entries.Triple.{Triple}
 use Rattle.codec.specs.declared.inodes.Inode.{Inode}
-use Rattle.undo_redo.specs.Between.{AreOf, triple_between, entries_between}
+use Rattle.undo_redo.specs.Between.{AreOf}
 use Rattle.undo_redo.specs.Redone.{redone, undone, with_after, with_before}
 use Rattle.undo_redo.specs.Runs.{blank, redone_all, undone_all, entry_is_by, entries_by}
 use Rattle.checkpoint.specs.Held.{checkpoint_held, spelled_checkpoint}

@@ -24,7 +24,7 @@ use Rattle.version_store.specs.Versions.{inode_by}
 use Rattle.version_store.specs.Costs.{row_or_fresh, subject_row}
 use Rattle.version_store.specs.Taking.{RowChanges}
 use Rattle.version_store.specs.private.Turning.{CanTurn, Turns, blocks_turned}
-use Rattle.version_store.proofs.Lower.{RowStays, RowInodeStays, IsByStays, IsByLater, LastInodeStays, EntriesAreSome, SomeBlocksAreNeeded}
+use Rattle.version_store.specs.private.Below.{RowStays, RowInodeStays, IsByStays, IsByLater, LastInodeStays, EntriesAreSome, SomeBlocksAreNeeded}
 use Rattle.version_store.proofs.Telling.{same_checkpoint, between_led}
 use Rattle.version_store.proofs.Steps.{Records, recorded}
 use Rattle.version_store.proofs.Subjects.{neither}

@@ -1,10 +1,18 @@
 //! Laws of stores, for the layers above: each function does nothing, and its contract is the law.
 
 ghost use Rattle.version_store.specs.Laws.{ObjectsStay, InodesStay, VersionsStay, ThePresentStays, ChangesBeginWithThePresent, ChangesBeginWithThePresentVersion, TheAliveAreThere, HeldIsWhatRowsName, EachHeldBlockIsNamed, InodesPointToWhatRowsName};
+ghost use Rattle.version_store.specs.private.Below.{ChangesStand};
 
-use inode::laws::only_its_blocks_matter;
-use row_changes::laws::{a_fresh_row_stands, a_row_is_by_later_moments, the_last_inode_stays};
+use block_log::laws::one_place_has_one_name;
+use inode::laws::{held_pointers_lead, only_its_blocks_matter};
+use journal_chain::packing::laws::{bytes_add_up, few_blocks_are_needed};
+use row_changes::laws::{
+    a_fresh_row_stands, a_row_is_by_later_moments, a_row_keeps_the_making, the_last_inode_stays,
+};
 use time_read::laws::a_row_is_its_own_blocks;
+use undo_redo::laws::{
+    a_blank_inode_has_holes_alone, groups_join_and_part, the_entries_between_two_inodes,
+};
 
 /// What an object is at each moment rests on its own blocks alone: where its journal and its checkpoints are the same, and
 /// each of its data blocks is still held, it is an object with the same inodes and the same versions.
@@ -54,3 +62,22 @@ pub fn what_is_held_is_what_rows_name()
 pub fn inodes_point_to_what_rows_name()
     ensures { InodesPointToWhatRowsName }
 {}
+
+// What the crates below say of rows, inodes and entries, for the functions that change an object or write its checkpoint.
+pub(crate) fn what_changes_rest_on()
+    ensures { ChangesStand }
+{
+    a_row_is_its_own_blocks();
+    a_row_is_by_later_moments();
+    a_row_keeps_the_making();
+    the_last_inode_stays();
+    only_its_blocks_matter();
+    held_pointers_lead();
+    one_place_has_one_name();
+    a_fresh_row_stands();
+    a_blank_inode_has_holes_alone();
+    the_entries_between_two_inodes();
+    groups_join_and_part();
+    bytes_add_up();
+    few_blocks_are_needed();
+}

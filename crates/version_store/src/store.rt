@@ -18,7 +18,7 @@ use crate::laws::the_present_stays;
 use block_log::Blocks;
 use codec::{Entry, Inode};
 use inode::laws::held_pointers_lead;
-use object_map::{ObjectMap, Objects, Row};
+use object_map::{ObjectMap, Row};
 use s4_types::limits::RESERVE_BLOCKS;
 use s4_types::{Moment, ObjectId, Refusal};
 use std::alloc::Global;
@@ -32,14 +32,13 @@ pub const MOST_PLACES: usize = 15_360;
 #[derive(Drop)]
 pub struct Store<B: Blocks> {
     alloc: Global,
-    rows: ObjectMap,
+    // The present inode stands beside each row, so that neither a change nor a read of the present walks a journal. An inode
+    // takes 672 bytes, its row some 60; with the gaps of the tree both take up to 1,600. At most 15,300 objects can have a row,
+    // each with at least one block of 512 bytes in the table: so at worst this takes three times the memory of the table's blocks.
+    objects: ObjectMap<Inode>,
     table: B,
     // The moment of the last change, 0 where there was none.
     latest: Moment,
-    // The present inode of each object that has a row, so that neither a change nor a read of the present walks a journal. An
-    // inode takes 672 bytes, with the gaps of the tree up to 1,450. At most 15,300 objects can have a row, each with at least one
-    // block of 512 bytes in the table: so at worst this takes three times the memory of the table's blocks.
-    presents: Objects<Inode>,
 }
 
 impl<B: Blocks> Model for Store<B> {
@@ -50,9 +49,9 @@ impl<B: Blocks> Model for Store<B> {
 
     ghost Value = { StoreOf B };
 
-    ghost view = { λ s. record { rows = s.rows; table = s.table; latest = s.latest } };
+    ghost view = { λ s. record { rows = s.objects.rows; table = s.table; latest = s.latest } };
 
-    ghost invariant = { λ s. (o : ℕ) → value_of s.presents o ≡ inode_in (fields_of B.log (record { rows = s.rows; table = s.table; latest = s.latest })) o s.latest };
+    ghost invariant = { λ s. (o : ℕ) → value_of s.objects.values o ≡ inode_in (fields_of B.log (record { rows = s.objects.rows; table = s.table; latest = s.latest })) o s.latest };
 }
 
 impl<B: Blocks> Store<B> {
@@ -67,10 +66,9 @@ impl<B: Blocks> Store<B> {
     {
         Store {
             alloc,
-            rows: ObjectMap::new(alloc),
+            objects: ObjectMap::new(alloc),
             table,
             latest: Moment::new(0),
-            presents: Objects::new(alloc),
         }
     }
 
@@ -92,7 +90,8 @@ impl<B: Blocks> Store<B> {
     pub fn row(&self, object: ObjectId) -> Option<Row>
         ensures { result ≡ row_of self.now.rows object }
     {
-        self.rows.get(object)
+        let kept = self.objects.get(object)?;
+        Some(kept.row)
     }
 
     /// The least object above this one that has a row.
@@ -100,14 +99,15 @@ impl<B: Blocks> Store<B> {
         ensures some { IfSome result (λ next. IsNextAbove self.now.rows object next) }
         ensures none { IfNone result ((q : ℕ) → object < q → row_of self.now.rows q ≡ None) }
     {
-        self.rows.next_above(object)
+        self.objects.next_above(object)
     }
 
     /// The present inode of an object, and none where it has no row. It is kept beside the row: no journal is walked.
     pub fn present(&self, object: ObjectId) -> Option<&Inode>
         ensures { option_copied result ≡ inode_in (fields_of B.log self.now) object self.now.latest }
     {
-        self.presents.get(object)
+        let kept = self.objects.get(object)?;
+        Some(&kept.value)
     }
 
     /// The inode of an object at a moment, and none where it has no row. For a moment before the store's last change, of
@@ -120,12 +120,11 @@ impl<B: Blocks> Store<B> {
     {
         the_last_inode_is_current();
         the_present_stays();
-        let present = self.presents.get(object)?;
+        let kept = self.objects.get(object)?;
         if self.latest <= at {
-            return Some(*present);
+            return Some(kept.value);
         }
-        let row = self.rows.get(object)?;
-        Some(time_read::inode_at(&mut self.table, object, &row, present, at))
+        Some(time_read::inode_at(&mut self.table, object, &kept.row, &kept.value, at))
     }
 
     /// The journal entries of an object, the oldest first, and none where it has no row.

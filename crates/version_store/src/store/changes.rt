@@ -13,21 +13,17 @@ ghost use Rattle.version_store.specs.Taking.{Takes, RowChanges, data_by, Appends
 ghost use Rattle.version_store.specs.private.Turning.{CanTake, CanTurn, Turns, IsTaken, blocks_turned};
 
 use crate::costs::{object_of, refusal};
-use crate::laws::changes_begin_with_the_present;
+use crate::laws::{changes_begin_with_the_present, what_changes_rest_on};
 use crate::store::Store;
 use block_log::Blocks;
-use block_log::laws::one_place_has_one_name;
 use codec::{Attribute, Inode};
-use inode::laws::{held_pointers_lead, only_its_blocks_matter};
 use inode::{created, deleted, truncate, with_attribute, write};
-use journal_chain::packing::laws::{bytes_add_up, few_blocks_are_needed};
 use object_map::Row;
-use row_changes::laws::{a_fresh_row_stands, a_row_is_by_later_moments, the_last_inode_stays};
+use row_changes::laws::a_fresh_row_stands;
 use row_changes::record_change;
 use s4_types::{Change, Moment, ObjectId, Refusal};
-use time_read::laws::a_row_is_its_own_blocks;
 use undo_redo::blank;
-use undo_redo::laws::{a_blank_inode_has_holes_alone, the_entries_between_two_inodes};
+use undo_redo::laws::a_blank_inode_has_holes_alone;
 
 /// An attribute of at most 64 bytes.
 fn attribute_of(bytes: &[u8]) -> Attribute
@@ -76,21 +72,16 @@ impl<B: Blocks> Store<B> {
         requires { CanTurn (fields_of B.log self.old) object before.now after.now moment }
         ensures { Turns (fields_of B.log self.old) object moment after.now (blocks_turned (fields_of B.log self.old) object before.now after.now moment) (fields_of B.log self.new) }
     {
-        a_row_is_its_own_blocks();
-        a_row_is_by_later_moments();
-        the_last_inode_stays();
-        only_its_blocks_matter();
-        the_entries_between_two_inodes();
-        few_blocks_are_needed();
-        let Some(row) = self.rows.get(object) else {
+        what_changes_rest_on();
+        let Some(kept) = self.objects.get(object) else {
             unreachable!()
         };
-        let Ok(next) = record_change(&mut self.table, object, &row, before, after, moment) else {
+        let Ok(next) = record_change(&mut self.table, object, &kept.row, before, after, moment)
+        else {
             unreachable!()
         };
-        self.rows.change(object, next);
+        self.objects.change(object, &next, after);
         self.latest = moment;
-        self.presents.replace(object, after);
     }
 
     /// Takes a deletion.
@@ -98,11 +89,7 @@ impl<B: Blocks> Store<B> {
         requires { CanTake (fields_of B.log self.old) (Delete object) moment present.now }
         ensures { IsTaken (fields_of B.log self.old) (Delete object) moment present.now (fields_of B.log self.new) }
     {
-        a_row_is_its_own_blocks();
-        a_row_is_by_later_moments();
-        only_its_blocks_matter();
-        the_entries_between_two_inodes();
-        bytes_add_up();
+        what_changes_rest_on();
         let after = deleted(present);
         self.turn(object, present, &after, moment);
     }
@@ -112,11 +99,7 @@ impl<B: Blocks> Store<B> {
         requires { CanTake (fields_of B.log self.old) (SetAttr object attribute.now) moment present.now }
         ensures { IsTaken (fields_of B.log self.old) (SetAttr object attribute.now) moment present.now (fields_of B.log self.new) }
     {
-        a_row_is_its_own_blocks();
-        a_row_is_by_later_moments();
-        only_its_blocks_matter();
-        the_entries_between_two_inodes();
-        bytes_add_up();
+        what_changes_rest_on();
         let attribute = attribute_of(attribute);
         let after = with_attribute(present, attribute, moment);
         self.turn(object, present, &after, moment);
@@ -134,13 +117,7 @@ impl<B: Blocks> Store<B> {
         requires { CanTake (fields_of B.log self.old) (Write object offset bytes.now) moment present.now }
         ensures { IsTaken (fields_of B.log self.old) (Write object offset bytes.now) moment present.now (fields_of B.log self.new) }
     {
-        a_row_is_its_own_blocks();
-        a_row_is_by_later_moments();
-        only_its_blocks_matter();
-        held_pointers_lead();
-        one_place_has_one_name();
-        the_entries_between_two_inodes();
-        bytes_add_up();
+        what_changes_rest_on();
         let after = write(&mut self.table, object, present, moment, offset, bytes);
         self.turn(object, present, &after, moment);
     }
@@ -150,19 +127,12 @@ impl<B: Blocks> Store<B> {
         requires { CanTake (fields_of B.log self.old) (Truncate object size) moment present.now }
         ensures { IsTaken (fields_of B.log self.old) (Truncate object size) moment present.now (fields_of B.log self.new) }
     {
-        a_row_is_its_own_blocks();
-        a_row_is_by_later_moments();
-        only_its_blocks_matter();
-        held_pointers_lead();
-        one_place_has_one_name();
-        the_entries_between_two_inodes();
-        bytes_add_up();
+        what_changes_rest_on();
         let after = truncate(&mut self.table, object, present, moment, size as u32);
         self.turn(object, present, &after, moment);
     }
 
-    /// Gives an object its first row, and its inode beside it. NoMemory where one of them couldn't be stored; then nothing
-    /// has changed.
+    /// Gives an object its first row, and its inode beside it. NoMemory where they couldn't be stored; then nothing has changed.
     fn add_object(&mut self, object: ObjectId, first: &Inode, moment: Moment) -> Result<(), Refusal>
         requires none { row_of self.old.rows object ≡ None }
         requires first { first.now ≡ blank moment }
@@ -172,15 +142,10 @@ impl<B: Blocks> Store<B> {
         ensures unchanged { OnErr result (fields_of B.log self.new ≡ fields_of B.log self.old) }
     {
         a_fresh_row_stands();
-        self.presents.add(object, *first)?;
-        if let Err(refusal) = self.rows.add(object, moment) {
-            self.presents.remove(object);
-            return Err(refusal);
-        }
-        Ok(())
+        self.objects.add(object, moment, first)
     }
 
-    /// Takes a creation. NoMemory where its row or its inode couldn't be stored; then nothing has changed.
+    /// Takes a creation. NoMemory where its row and its inode couldn't be stored; then nothing has changed.
     fn create(
         &mut self,
         object: ObjectId,
@@ -193,11 +158,7 @@ impl<B: Blocks> Store<B> {
         ensures refusal { IfErr result (λ e. e ≡ NoMemory) }
         ensures unchanged { OnErr result (fields_of B.log self.new ≡ fields_of B.log self.old) }
     {
-        a_fresh_row_stands();
-        a_row_is_by_later_moments();
-        a_blank_inode_has_holes_alone();
-        the_entries_between_two_inodes();
-        bytes_add_up();
+        what_changes_rest_on();
         let attribute = attribute_of(attribute);
         self.add_object(object, present, moment)?;
         let after = created(attribute, moment);
@@ -238,7 +199,7 @@ impl<B: Blocks> Store<B> {
     /// ascending index, and after them the journal's.
     ///
     /// ChainFull exactly where the journal's entries would have more than 11,712 bytes; else NoSpace exactly where the
-    /// change appends more blocks than there is room for beside the reserve; else NoMemory where a creation's row or its
+    /// change appends more blocks than there is room for beside the reserve; else NoMemory where a creation's row and its
     /// inode couldn't be stored. Then nothing has changed.
     pub fn take(&mut self, change: &Change, moment: Moment) -> Result<(), Refusal>
         requires store { IsStore (fields_of B.log self.old) }

@@ -8,16 +8,16 @@ ghost use Rattle.version_store.specs.Versions.{inode_in, version_in};
 ghost use Rattle.version_store.specs.Checkpointing.{last_entry, is_behind, checkpoint_refusal, Checkpoints};
 ghost use Rattle.version_store.specs.private.CheckpointSteps.{CanCheckpoint, Checkpointed};
 
+use crate::laws::what_changes_rest_on;
 use crate::store::Store;
 use block_log::Blocks;
 use codec::Inode;
-use inode::laws::only_its_blocks_matter;
 use journal_chain::Chain;
 use object_map::Row;
-use row_changes::laws::{a_row_is_by_later_moments, a_row_keeps_the_making, the_last_inode_stays};
+use row_changes::laws::{a_row_keeps_the_making, the_last_inode_stays};
 use row_changes::record_checkpoint;
 use s4_types::{Moment, ObjectId, Refusal};
-use time_read::laws::{a_row_is_its_own_blocks, a_row_tells_a_chain};
+use time_read::laws::a_row_tells_a_chain;
 use undo_redo::laws::groups_join_and_part;
 
 /// The moment of an object's last journal entry, and 0 where it has none. It reads one block at most.
@@ -58,16 +58,11 @@ impl<B: Blocks> Store<B> {
         requires { CanCheckpoint (fields_of B.log self.old) object row.now inode.now moment }
         ensures { Checkpointed (fields_of B.log self.old) object row.now (fields_of B.log self.new) }
     {
-        a_row_is_its_own_blocks();
-        a_row_is_by_later_moments();
-        a_row_keeps_the_making();
-        the_last_inode_stays();
-        only_its_blocks_matter();
-        groups_join_and_part();
+        what_changes_rest_on();
         let Ok(next) = record_checkpoint(&mut self.table, object, row, inode, moment) else {
             unreachable!()
         };
-        self.rows.change(object, next);
+        self.objects.change_row(object, &next);
     }
 
     /// Sees to it that an object's checkpoint isn't older than its last journal entry: where it is, the object's present

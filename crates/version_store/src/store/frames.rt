@@ -27,17 +27,15 @@ impl Store<SegmentTable> {
     {
         let Store {
             alloc,
-            rows,
+            objects,
             table,
             latest,
-            presents,
         } = self;
         Store {
             alloc,
-            rows,
+            objects,
             table: NamedTable::new(table),
             latest,
-            presents,
         }
     }
 }
@@ -106,9 +104,9 @@ impl<J: Naming> Store<NamedTable<J>> {
         ensures same { self.new ≡ self.old }
     {
         held_pointers_lead();
-        let Some(inode) = self.presents.get(object) else {
+        let Some(kept) = self.objects.get(object) else {
             unreachable!()
         };
-        self.table.plan(self.alloc, inode, offset, wanted)
+        self.table.plan(self.alloc, &kept.value, offset, wanted)
     }
 }

@@ -1,7 +1,7 @@
 -- The row's facts are those of the opened store; what is to be shown is of the store as it was passed.
-use Rattle.std.proofs.Common.{◌≡◌, ℕ, ◌+◌, Option, IfSome, sym, subst, ◌∙◌}
+use Rattle.std.proofs.Common.{◌+◌, Option, IfSome, sym, subst, ◌∙◌}
 use Rattle.object_map.specs.declared.map.Row.{Row}
-use Rattle.object_map.specs.Rows.{row_of, with_row}
+use Rattle.object_map.specs.Objects.{PutsRow}
 use Rattle.version_store.specs.Store.{StoreOf, StoreFields, fields_of}
 use Rattle.version_store.specs.private.CheckpointSteps.{CanCheckpoint, Checkpointed}
 use Rattle.version_store.proofs.CheckpointSteps.{Rewrites, known, rewritten}
@@ -9,17 +9,17 @@ use Rattle.version_store.proofs.store.Store.put_checkpoint.Goals as goal
 
 pub record_checkpoint-requires : goal.record_checkpoint-requires
 record_checkpoint-requires g c =
-    let s : StoreFields = record { rows = c.self.inside.rows; log = g.B.Blocks.log c.self.inside.table; latest = c.self.inside.latest } in
+    let s : StoreFields = record { rows = c.self.inside.objects.rows; log = g.B.Blocks.log c.self.inside.table; latest = c.self.inside.latest } in
     let can = subst (λ (v : StoreOf _). CanCheckpoint (fields_of g.B.Blocks.log v) c.args.object c.args.row.now c.args.inode.now c.args.moment) (sym c.self.view_is) c.requires in
-    let know = known c.groups_join_and_part.ensures.ascend c.a_row_keeps_the_making.ensures s c.args.object c.args.row.now c.args.inode.now c.args.moment can in
+    let know = known c.what_changes_rest_on.ensures.groups_ascend c.what_changes_rest_on.ensures.making s c.args.object c.args.row.now c.args.inode.now c.args.moment can in
     record { row = know.stands; latest = know.by; inode = know.inode; rules = know.rules }
 
 pub returns : goal.returns
 returns g c =
-    let s : StoreFields = record { rows = c.self.inside.rows; log = g.B.Blocks.log c.self.inside.table; latest = c.self.inside.latest } in
+    let s : StoreFields = record { rows = c.self.inside.objects.rows; log = g.B.Blocks.log c.self.inside.table; latest = c.self.inside.latest } in
     let log = g.B.Blocks.log c.record_checkpoint.new.table in
     let can = subst (λ (v : StoreOf _). CanCheckpoint (fields_of g.B.Blocks.log v) c.args.object c.args.row.now c.args.inode.now c.args.moment) (sym c.self.view_is) c.requires in
-    let know = known c.groups_join_and_part.ensures.ascend c.a_row_keeps_the_making.ensures s c.args.object c.args.row.now c.args.inode.now c.args.moment can in
+    let know = known c.what_changes_rest_on.ensures.groups_ascend c.what_changes_rest_on.ensures.making s c.args.object c.args.row.now c.args.inode.now c.args.moment can in
     let writes : Rewrites s log c.args.object c.args.row.now c.in-Ok.next c.args.moment = record {
       stands = c.in-Ok.ensures.row;
       by = c.in-Ok.ensures.latest;
@@ -30,17 +30,17 @@ returns g c =
       others = c.in-Ok.ensures.others;
       ahead = c.in-Ok.ensures.ahead;
     } in
-    let put = subst (λ (r : Option Row). IfSome r (λ old. (q : ℕ) → row_of c.change.new.self q ≡ with_row (row_of c.self.inside.rows) c.args.object (record c.in-Ok.next { stamp = old.stamp + 1 }) q)) can.there c.change.ensures.changed in
-    subst (λ (v : StoreOf _). Checkpointed (fields_of g.B.Blocks.log v) c.args.object c.args.row.now (record { rows = c.change.new.self; log = log; latest = c.self.inside.latest })) c.self.view_is
-    (rewritten c.a_row_is_its_own_blocks.ensures.row c.a_row_is_its_own_blocks.ensures.inode c.a_row_is_by_later_moments.ensures.journal c.a_row_is_by_later_moments.ensures.later c.the_last_inode_stays.ensures c.only_its_blocks_matter.ensures
-    s c.change.new.self log c.args.object c.args.row.now c.in-Ok.next c.args.inode.now c.args.moment can know writes put)
+    let put = subst (λ (r : Option Row). IfSome r (λ old. PutsRow c.self.inside.objects c.args.object (record c.in-Ok.next { stamp = old.stamp + 1 }) c.change_row.new.self)) can.there c.change_row.ensures.changed in
+    subst (λ (v : StoreOf _). Checkpointed (fields_of g.B.Blocks.log v) c.args.object c.args.row.now (record { rows = c.change_row.new.self.rows; log = log; latest = c.self.inside.latest })) c.self.view_is
+    (rewritten c.what_changes_rest_on.ensures.row c.what_changes_rest_on.ensures.inode c.what_changes_rest_on.ensures.journal c.what_changes_rest_on.ensures.later c.what_changes_rest_on.ensures.last c.what_changes_rest_on.ensures.meaning
+    s c.change_row.new.self.rows log c.args.object c.args.row.now c.in-Ok.next c.args.inode.now c.args.moment can know writes put.rows)
 
 pub invariant_of-self : goal.invariant_of-self
 invariant_of-self g c =
-    let s : StoreFields = record { rows = c.self.inside.rows; log = g.B.Blocks.log c.self.inside.table; latest = c.self.inside.latest } in
+    let s : StoreFields = record { rows = c.self.inside.objects.rows; log = g.B.Blocks.log c.self.inside.table; latest = c.self.inside.latest } in
     let log = g.B.Blocks.log c.record_checkpoint.new.table in
     let can = subst (λ (v : StoreOf _). CanCheckpoint (fields_of g.B.Blocks.log v) c.args.object c.args.row.now c.args.inode.now c.args.moment) (sym c.self.view_is) c.requires in
-    let know = known c.groups_join_and_part.ensures.ascend c.a_row_keeps_the_making.ensures s c.args.object c.args.row.now c.args.inode.now c.args.moment can in
+    let know = known c.what_changes_rest_on.ensures.groups_ascend c.what_changes_rest_on.ensures.making s c.args.object c.args.row.now c.args.inode.now c.args.moment can in
     let writes : Rewrites s log c.args.object c.args.row.now c.in-Ok.next c.args.moment = record {
       stands = c.in-Ok.ensures.row;
       by = c.in-Ok.ensures.latest;
@@ -51,7 +51,7 @@ invariant_of-self g c =
       others = c.in-Ok.ensures.others;
       ahead = c.in-Ok.ensures.ahead;
     } in
-    let put = subst (λ (r : Option Row). IfSome r (λ old. (q : ℕ) → row_of c.change.new.self q ≡ with_row (row_of c.self.inside.rows) c.args.object (record c.in-Ok.next { stamp = old.stamp + 1 }) q)) can.there c.change.ensures.changed in
-    let made = rewritten c.a_row_is_its_own_blocks.ensures.row c.a_row_is_its_own_blocks.ensures.inode c.a_row_is_by_later_moments.ensures.journal c.a_row_is_by_later_moments.ensures.later c.the_last_inode_stays.ensures c.only_its_blocks_matter.ensures
-    s c.change.new.self log c.args.object c.args.row.now c.in-Ok.next c.args.inode.now c.args.moment can know writes put in
-    λ o. c.self.invariant o ∙ sym (made.stands.inodes o c.self.inside.latest)
+    let put = subst (λ (r : Option Row). IfSome r (λ old. PutsRow c.self.inside.objects c.args.object (record c.in-Ok.next { stamp = old.stamp + 1 }) c.change_row.new.self)) can.there c.change_row.ensures.changed in
+    let made = rewritten c.what_changes_rest_on.ensures.row c.what_changes_rest_on.ensures.inode c.what_changes_rest_on.ensures.journal c.what_changes_rest_on.ensures.later c.what_changes_rest_on.ensures.last c.what_changes_rest_on.ensures.meaning
+    s c.change_row.new.self.rows log c.args.object c.args.row.now c.in-Ok.next c.args.inode.now c.args.moment can know writes put.rows in
+    λ o. put.values o ∙ c.self.invariant o ∙ sym (made.stands.inodes o c.self.inside.latest)

@@ -2,38 +2,46 @@ use Rattle.std.proofs.Common.{sym, subst}
 use Rattle.s4_types.specs.declared.changes.Change.TheVariants.{Write}
 use Rattle.version_store.specs.Store.{StoreOf, StoreFields, fields_of}
 use Rattle.version_store.specs.private.Turning.{CanTake, IsTaken}
+use Rattle.inode.specs.Contents.{contents_of}
+use Rattle.inode.specs.Changed.{blocks_written}
+use Rattle.version_store.proofs.Present.{grown_keeps}
 use Rattle.version_store.proofs.Kind.{can_turn, taken_of}
 use Rattle.version_store.proofs.Making.{can_subject, written_makes}
 use Rattle.version_store.proofs.store.Store.write.Goals as goal
 
 pub write-after-requires-clause-tidy : goal.write-after-requires-clause-tidy
 write-after-requires-clause-tidy g c =
-    let s : StoreFields = record { rows = c.self.inside.rows; log = g.B.Blocks.log c.self.inside.table; latest = c.self.inside.latest } in
+    let s : StoreFields = record { rows = c.self.inside.objects.rows; log = g.B.Blocks.log c.self.inside.table; latest = c.self.inside.latest } in
     let can = subst (λ (v : StoreOf _). CanTake (fields_of g.B.Blocks.log v) (Write c.args.object c.args.offset c.args.bytes.now) c.args.moment c.args.present.now) (sym c.self.view_is) c.requires in
     (can_subject s (Write c.args.object c.args.offset c.args.bytes.now) c.args.moment c.args.present.now can can.takes.ready).tidy
 
 pub write-after-requires-clause-pointers : goal.write-after-requires-clause-pointers
 write-after-requires-clause-pointers g c =
-    let s : StoreFields = record { rows = c.self.inside.rows; log = g.B.Blocks.log c.self.inside.table; latest = c.self.inside.latest } in
+    let s : StoreFields = record { rows = c.self.inside.objects.rows; log = g.B.Blocks.log c.self.inside.table; latest = c.self.inside.latest } in
     let can = subst (λ (v : StoreOf _). CanTake (fields_of g.B.Blocks.log v) (Write c.args.object c.args.offset c.args.bytes.now) c.args.moment c.args.present.now) (sym c.self.view_is) c.requires in
     (can_subject s (Write c.args.object c.args.offset c.args.bytes.now) c.args.moment c.args.present.now can can.takes.ready).pointers
 
 pub turn-requires : goal.turn-requires
 turn-requires g c =
-    let s : StoreFields = record { rows = c.self.inside.rows; log = g.B.Blocks.log c.self.inside.table; latest = c.self.inside.latest } in
+    let s : StoreFields = record { rows = c.self.inside.objects.rows; log = g.B.Blocks.log c.self.inside.table; latest = c.self.inside.latest } in
     let can = subst (λ (v : StoreOf _). CanTake (fields_of g.B.Blocks.log v) (Write c.args.object c.args.offset c.args.bytes.now) c.args.moment c.args.present.now) (sym c.self.view_is) c.requires in
     let subject = can_subject s (Write c.args.object c.args.offset c.args.bytes.now) c.args.moment c.args.present.now can can.takes.ready in
-    let makes = written_makes c.one_place_has_one_name.ensures c.held_pointers_lead.ensures s c.args.object c.args.moment c.args.offset c.args.bytes.now (g.B.Blocks.log c.write-after.new.table) c.args.present.now c.write-after.result can subject c.write-after.ensures.growth c.write-after.ensures.log c.write-after.ensures.inode c.write-after.ensures.tidy c.write-after.ensures.pointers c.write-after.ensures.meaning in
-    can_turn c.a_row_is_its_own_blocks.ensures.row c.a_row_is_its_own_blocks.ensures.inode c.a_row_is_by_later_moments.ensures.journal c.only_its_blocks_matter.ensures c.the_entries_between_two_inodes.ensures.sizes c.bytes_add_up.ensures.sizes
+    let makes = written_makes c.what_changes_rest_on.ensures.one_place c.what_changes_rest_on.ensures.pointers_lead s c.args.object c.args.moment c.args.offset c.args.bytes.now (g.B.Blocks.log c.write-after.new.table) c.args.present.now c.write-after.result can subject c.write-after.ensures.growth c.write-after.ensures.log c.write-after.ensures.inode c.write-after.ensures.tidy c.write-after.ensures.pointers c.write-after.ensures.meaning in
+    can_turn c.what_changes_rest_on.ensures.row c.what_changes_rest_on.ensures.inode c.what_changes_rest_on.ensures.journal c.what_changes_rest_on.ensures.meaning c.what_changes_rest_on.ensures.entry_sizes c.what_changes_rest_on.ensures.sizes_add_up
     s (Write c.args.object c.args.offset c.args.bytes.now) c.args.moment (g.B.Blocks.log c.write-after.new.table) c.args.present.now c.write-after.result can subject makes
 
 pub returns : goal.returns
 returns g c =
-    let s : StoreFields = record { rows = c.self.inside.rows; log = g.B.Blocks.log c.self.inside.table; latest = c.self.inside.latest } in
+    let s : StoreFields = record { rows = c.self.inside.objects.rows; log = g.B.Blocks.log c.self.inside.table; latest = c.self.inside.latest } in
     let can = subst (λ (v : StoreOf _). CanTake (fields_of g.B.Blocks.log v) (Write c.args.object c.args.offset c.args.bytes.now) c.args.moment c.args.present.now) (sym c.self.view_is) c.requires in
     let subject = can_subject s (Write c.args.object c.args.offset c.args.bytes.now) c.args.moment c.args.present.now can can.takes.ready in
-    let makes = written_makes c.one_place_has_one_name.ensures c.held_pointers_lead.ensures s c.args.object c.args.moment c.args.offset c.args.bytes.now (g.B.Blocks.log c.write-after.new.table) c.args.present.now c.write-after.result can subject c.write-after.ensures.growth c.write-after.ensures.log c.write-after.ensures.inode c.write-after.ensures.tidy c.write-after.ensures.pointers c.write-after.ensures.meaning in
+    let makes = written_makes c.what_changes_rest_on.ensures.one_place c.what_changes_rest_on.ensures.pointers_lead s c.args.object c.args.moment c.args.offset c.args.bytes.now (g.B.Blocks.log c.write-after.new.table) c.args.present.now c.write-after.result can subject c.write-after.ensures.growth c.write-after.ensures.log c.write-after.ensures.inode c.write-after.ensures.tidy c.write-after.ensures.pointers c.write-after.ensures.meaning in
     let later : StoreFields = fields_of g.B.Blocks.log c.turn.new.self in
     subst (λ (v : StoreOf _). IsTaken (fields_of g.B.Blocks.log v) (Write c.args.object c.args.offset c.args.bytes.now) c.args.moment c.args.present.now later) c.self.view_is
-    (taken_of c.a_row_is_its_own_blocks.ensures.inode c.only_its_blocks_matter.ensures c.the_entries_between_two_inodes.ensures.sizes
+    (taken_of c.what_changes_rest_on.ensures.inode c.what_changes_rest_on.ensures.meaning c.what_changes_rest_on.ensures.entry_sizes
     s later (Write c.args.object c.args.offset c.args.bytes.now) c.args.moment (g.B.Blocks.log c.write-after.new.table) c.args.present.now c.write-after.result can subject makes c.turn.ensures)
+
+pub invariant_of-self : goal.invariant_of-self
+invariant_of-self g c =
+    let s : StoreFields = record { rows = c.self.inside.objects.rows; log = g.B.Blocks.log c.self.inside.table; latest = c.self.inside.latest } in
+    grown_keeps c.what_changes_rest_on.ensures.inode s (g.B.Blocks.log c.write-after.new.table) c.args.object (blocks_written (contents_of s.log.held) c.args.present.now c.args.offset c.args.bytes.now) c.self.inside.objects.values c.write-after.ensures.growth c.self.invariant

@@ -7,7 +7,7 @@ use Rattle.version_store.proofs.store.seals.Store+NamedTable+J.seal.Goals as goa
 
 pub returns-clause-store : goal.returns-clause-store
 returns-clause-store g c =
-    let s : StoreFields = record { rows = c.self.inside.rows; log = log_of c.self.inside.table; latest = c.self.inside.latest } in
+    let s : StoreFields = record { rows = c.self.inside.objects.rows; log = log_of c.self.inside.table; latest = c.self.inside.latest } in
     let store : IsStore s = subst (λ (v : StoreOf Table). IsStore (fields_of log_of v)) (sym c.self.view_is) c.requires in
     let later = c.seal_open.new.self in
     shrunk_store s (held_at later) (places_ahead later) c.seal_open.ensures.held (fewer_ahead c.self.inside.table later c.rules.ensures.one_open c.seal_open.ensures.idle c.seal_open.ensures.ahead) store

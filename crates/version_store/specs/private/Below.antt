@@ -1,15 +1,18 @@
--- What the laws of the crates below say, as premises of lemmas.
-use Rattle.std.proofs.Common.{◌≡◌, ℕ, ◌<◌, ◌≤◌, true, List, length, map, sum, Option, None}
+-- What the laws of the crates below say, as premises of lemmas. No public clause cites this file.
+use Rattle.std.specs.Prelude.{◌≡◌, ℕ, ◌<◌, ◌≤◌, true, List, length, map, sum, Option, None}
+use Rattle.std.specs.List.{AllByRecursion}
 use Rattle.codec.specs.Checkpoint.{pointer_at}
 use Rattle.codec.specs.Entry.{EntryFields, entry_length, entries_length, pair_length}
 use Rattle.codec.specs.declared.inodes.Inode.{Inode}
 use Rattle.journal_chain.specs.Sizes.{blocks_needed}
-use Rattle.undo_redo.specs.Between.{entries_between, triples_between, pair_between}
+use Rattle.undo_redo.specs.Between.{entries_between, triples_between, pair_between, AreOf}
 use Rattle.undo_redo.specs.Sizes.{entry_sizes}
 use Rattle.s4_types.specs.Pointer.{Place}
 use Rattle.block_log.specs.Log.{Stored, of_kind, same_place}
 use Rattle.block_log.specs.declared.kinds.BlockKind.TheVariants.{Journal, Checkpoint}
-use Rattle.undo_redo.specs.Runs.{blank}
+use Rattle.undo_redo.specs.Runs.{blank, moments_ascend_from}
+use Rattle.undo_redo.specs.Groups.{grouped}
+use Rattle.inode.specs.Laws.{OnlyItsBlocksMatter, HeldPointersLead}
 use Rattle.object_map.specs.declared.map.Row.{Row}
 use Rattle.object_map.specs.Rows.{fresh_row}
 use Rattle.time_read.specs.Rows.{IsRow, inode_of}
@@ -63,3 +66,36 @@ SizesAddUp = (entries : List EntryFields) → sum (map entry_length entries) ≡
 
 abbrev pub SomeBlocksAreNeeded : Type 0
 SomeBlocksAreNeeded = (filled : ℕ) (sizes : List ℕ) → 0 < length sizes → 0 < blocks_needed filled sizes
+
+abbrev pub EntriesPoint : Type 0
+EntriesPoint = (i j : Inode) (m : ℕ) → AllByRecursion (λ e. AreOf i j e.triples) (entries_between i j m)
+
+abbrev pub GroupsAscend : Type 0
+GroupsAscend = (entries : List EntryFields) → grouped entries ≡ true → moments_ascend_from 0 entries ≡ true
+
+abbrev pub RowsKeepTheMaking : Type 0
+RowsKeepTheMaking = (held : Place → Option Stored) (o : ℕ) (row : Row) (t : ℕ) → IsRow held o row → (inode_of held o row t).created ≡ row.created
+
+-- All that a change or a checkpoint of a whole store rests on: rows and inodes rest on their own blocks, and stay from their last
+-- entry on; a fresh row and a blank inode; the entries between two inodes, their sizes and the blocks that they need.
+pub record ChangesStand : Type 0 where
+  pub row : RowStays
+  pub inode : RowInodeStays
+  pub journal : IsByStays
+  pub later : IsByLater
+  pub last : LastInodeStays
+  pub making : RowsKeepTheMaking
+  pub meaning : OnlyItsBlocksMatter
+  pub pointers_lead : HeldPointersLead
+  pub one_place : OnePlace
+  pub fresh_row : FreshRowStands
+  pub fresh_latest : FreshRowIsBy
+  pub fresh_inode : FreshInode
+  pub blank_count : BlankCount
+  pub blank_holes : BlankHoles
+  pub entry_count : EntriesAreSome
+  pub entry_sizes : EntriesHaveSizes
+  pub entry_pointers : EntriesPoint
+  pub sizes_add_up : SizesAddUp
+  pub blocks_are_needed : SomeBlocksAreNeeded
+  pub groups_ascend : GroupsAscend

@@ -1,0 +1,125 @@
+-- The rows of what is kept, and the values beside them, are found as what is kept is.
+use Rattle.std.proofs.Common.{◌≡◌, ℕ, ◌==◌, ◌<◌, ◌+◌, if◌then◌else◌, Bool, true, false, List, Option, Some, None, IsSome, IfSome, option_map, Result, Ok, Err, OnOk, refl, sym, ap, subst, ◌∙◌, inl, inr}
+use Rattle.std.proofs.lemmas.Bool.{cases_Bool, cond-true, cond-false, eqb-true}
+use Rattle.std.proofs.lemmas.Option.{none-some}
+use Rattle.std.proofs.lemmas.Map.Made.{lookup-map_values}
+use Rattle.std.specs.BTreeMap.{is_at}
+use Rattle.std.specs.Ordering.{nat_cmp}
+use Rattle.object_map.specs.declared.map.Row.{Row}
+use Rattle.object_map.specs.declared.map.Kept.{Kept}
+use Rattle.object_map.specs.Objects.{value_of, with_value, without_value, IsNextAbove, parts_of, IsKeptOf, Puts, PutsRow, Removes}
+
+pub on_ok : {T E : Type 0} {P Q : Type 0} → (P → Q) → (result : Result T E) → OnOk result P → OnOk result Q
+on_ok f (Ok x) is = f is
+on_ok f (Err e) is = is
+
+module _ {X Y : Type 0} (g : X → Y) where
+  mapped_if : (b : Bool) (x : X) (found : Option X) → option_map g (if b then Some x else found) ≡ (if b then Some (g x) else option_map g found)
+  mapped_if true x found = refl
+  mapped_if false x found = refl
+
+  mapped_without : (b : Bool) (found : Option X) → option_map g (if b then None else found) ≡ (if b then None else option_map g found)
+  mapped_without true found = refl
+  mapped_without false found = refl
+
+  none_mapped : (found : Option X) → option_map g found ≡ None → found ≡ None
+  none_mapped None e = refl
+  none_mapped (Some x) e = absurd (none-some (g x) (sym e))
+
+  some_mapped : (found : Option X) → IsSome found → IsSome (option_map g found)
+  some_mapped None some = some
+  some_mapped (Some x) some = some
+
+module _ {V : Type 0} where
+  row_at : (es : List (ℕ × Kept V)) (q : ℕ) → value_of (parts_of es).rows q ≡ option_map (λ k. k.row) (value_of es q)
+  row_at es q = lookup-map_values (λ (k : Kept V). k.row) (is_at (nat_cmp q)) es
+
+  value_at : (es : List (ℕ × Kept V)) (q : ℕ) → value_of (parts_of es).values q ≡ option_map (λ k. k.value) (value_of es q)
+  value_at es q = lookup-map_values (λ (k : Kept V). k.value) (is_at (nat_cmp q)) es
+
+  -- what is kept of an object is its row and its value
+  pub kept_of : (es : List (ℕ × Kept V)) (o : ℕ) (found : Option (Kept V)) → found ≡ value_of es o → IsKeptOf (parts_of es) o found
+  kept_of es o found is = record {
+    row = ap (option_map (λ k. k.row)) is ∙ sym (row_at es o);
+    value = ap (option_map (λ k. k.value)) is ∙ sym (value_at es o);
+  }
+
+  -- an object without a row has nothing
+  pub none_kept : (es : List (ℕ × Kept V)) (o : ℕ) → value_of (parts_of es).rows o ≡ None → value_of es o ≡ None
+  none_kept es o none = none_mapped (λ (k : Kept V). k.row) (value_of es o) (sym (row_at es o) ∙ none)
+
+  -- where something is kept of an object, its row and its value are kept
+  pub puts : (es fs : List (ℕ × Kept V)) (o : ℕ) (kept : Kept V) → ((q : ℕ) → value_of fs q ≡ with_value (value_of es) o kept q) → Puts (parts_of es) o kept.row kept.value (parts_of fs)
+  puts es fs o kept put = record {
+    rows = λ q. row_at fs q ∙ ap (option_map (λ k. k.row)) (put q) ∙ mapped_if (λ (k : Kept V). k.row) (o == q) kept (value_of es q) ∙ ap (λ v. if o == q then Some kept.row else v) (sym (row_at es q));
+    values = λ q. value_at fs q ∙ ap (option_map (λ k. k.value)) (put q) ∙ mapped_if (λ (k : Kept V). k.value) (o == q) kept (value_of es q) ∙ ap (λ v. if o == q then Some kept.value else v) (sym (value_at es q));
+  }
+
+  changed_by : (es fs : List (ℕ × Kept V)) (o : ℕ) (row : Row) (value : V) (found : Option (Kept V))
+      → IfSome found (λ old. (q : ℕ) → value_of fs q ≡ with_value (value_of es) o (record { row = record row { stamp = old.row.stamp + 1 }; value = value }) q)
+      → IfSome (option_map (λ k. k.row) found) (λ old. Puts (parts_of es) o (record row { stamp = old.stamp + 1 }) value (parts_of fs))
+  changed_by es fs o row value None put = put
+  changed_by es fs o row value (Some old) put = puts es fs o (record { row = record row { stamp = old.row.stamp + 1 }; value = value }) put
+
+  -- where another row and another value are put, with the next stamp
+  pub changed : (es fs : List (ℕ × Kept V)) (o : ℕ) (row : Row) (value : V)
+      → IfSome (value_of es o) (λ old. (q : ℕ) → value_of fs q ≡ with_value (value_of es) o (record { row = record row { stamp = old.row.stamp + 1 }; value = value }) q)
+      → IfSome (value_of (parts_of es).rows o) (λ old. Puts (parts_of es) o (record row { stamp = old.stamp + 1 }) value (parts_of fs))
+  changed es fs o row value put = subst (λ (r : Option Row). IfSome r (λ old. Puts (parts_of es) o (record row { stamp = old.stamp + 1 }) value (parts_of fs))) (sym (row_at es o)) (changed_by es fs o row value (value_of es o) put)
+
+  value_stays : (es fs : List (ℕ × Kept V)) (o : ℕ) (row : Row) (old : Kept V) → value_of es o ≡ Some old
+      → ((q : ℕ) → value_of fs q ≡ with_value (value_of es) o (record old { row = row }) q) → (q : ℕ) → value_of (parts_of fs).values q ≡ value_of (parts_of es).values q
+  value_stays es fs o row old there put q = elim (cases_Bool (o == q)) [
+    | inl here ↦
+        (puts es fs o (record old { row = row }) put).values q ∙ cond-true (o == q) (Some old.value) (value_of (parts_of es).values q) here
+        ∙ sym (ap (λ (k : ℕ). value_of (parts_of es).values k) (sym (eqb-true o q here)) ∙ value_at es o ∙ ap (option_map (λ k. k.value)) there)
+    | inr other ↦ (puts es fs o (record old { row = row }) put).values q ∙ cond-false (o == q) (Some old.value) (value_of (parts_of es).values q) other
+  ]
+
+  row_changed_by : (es fs : List (ℕ × Kept V)) (o : ℕ) (row : Row) (found : Option (Kept V)) → value_of es o ≡ found
+      → IfSome found (λ old. (q : ℕ) → value_of fs q ≡ with_value (value_of es) o (record old { row = record row { stamp = old.row.stamp + 1 } }) q)
+      → IfSome (option_map (λ k. k.row) found) (λ old. PutsRow (parts_of es) o (record row { stamp = old.stamp + 1 }) (parts_of fs))
+  row_changed_by es fs o row None is put = put
+  row_changed_by es fs o row (Some old) is put = record {
+    rows = (puts es fs o (record old { row = record row { stamp = old.row.stamp + 1 } }) put).rows;
+    values = value_stays es fs o (record row { stamp = old.row.stamp + 1 }) old is put;
+  }
+
+  -- where another row is put, with the next stamp
+  pub row_changed : (es fs : List (ℕ × Kept V)) (o : ℕ) (row : Row)
+      → IfSome (value_of es o) (λ old. (q : ℕ) → value_of fs q ≡ with_value (value_of es) o (record old { row = record row { stamp = old.row.stamp + 1 } }) q)
+      → IfSome (value_of (parts_of es).rows o) (λ old. PutsRow (parts_of es) o (record row { stamp = old.stamp + 1 }) (parts_of fs))
+  row_changed es fs o row put = subst (λ (r : Option Row). IfSome r (λ old. PutsRow (parts_of es) o (record row { stamp = old.stamp + 1 }) (parts_of fs))) (sym (row_at es o)) (row_changed_by es fs o row (value_of es o) refl put)
+
+  stamps_by : (found : Option (Kept V)) (P : ℕ → Type 0) → IfSome (option_map (λ k. k.row) found) (λ old. P old.stamp) → IfSome found (λ old. P old.row.stamp)
+  stamps_by None P is = is
+  stamps_by (Some old) P is = is
+
+  -- what holds of an object's stamp, and that it has a row, hold of what is kept of it
+  pub stamps : (es : List (ℕ × Kept V)) (o : ℕ) (P : ℕ → Type 0) → IfSome (value_of (parts_of es).rows o) (λ old. P old.stamp) → IfSome (value_of es o) (λ old. P old.row.stamp)
+  stamps es o P is = stamps_by (value_of es o) P (subst (λ (r : Option Row). IfSome r (λ old. P old.stamp)) (row_at es o) is)
+
+  there_by : (found : Option (Kept V)) → IsSome (option_map (λ k. k.row) found) → IsSome found
+  there_by None is = is
+  there_by (Some old) is = is
+
+  pub there : (es : List (ℕ × Kept V)) (o : ℕ) → IsSome (value_of (parts_of es).rows o) → IsSome (value_of es o)
+  there es o is = there_by (value_of es o) (subst (λ (r : Option Row). IsSome r) (row_at es o) is)
+
+  -- where nothing is kept of an object any more, it has neither
+  pub removes : (es fs : List (ℕ × Kept V)) (o : ℕ) → ((q : ℕ) → value_of fs q ≡ without_value (value_of es) o q) → Removes (parts_of es) o (parts_of fs)
+  removes es fs o gone = record {
+    rows = λ q. row_at fs q ∙ ap (option_map (λ k. k.row)) (gone q) ∙ mapped_without (λ (k : Kept V). k.row) (o == q) (value_of es q) ∙ ap (λ v. if o == q then None else v) (sym (row_at es q));
+    values = λ q. value_at fs q ∙ ap (option_map (λ k. k.value)) (gone q) ∙ mapped_without (λ (k : Kept V). k.value) (o == q) (value_of es q) ∙ ap (λ v. if o == q then None else v) (sym (value_at es q));
+  }
+
+  -- the next object of which something is kept is the next that has a row
+  pub next_row : (es : List (ℕ × Kept V)) (o next : ℕ) → IsNextAbove es o next → IsNextAbove (parts_of es).rows o next
+  next_row es o next is = record {
+    above = is.above;
+    there = subst (λ (r : Option Row). IsSome r) (sym (row_at es next)) (some_mapped (λ (k : Kept V). k.row) (value_of es next) is.there);
+    least = λ q over under. row_at es q ∙ ap (option_map (λ k. k.row)) (is.least q over under);
+  }
+
+  pub none_above : (es : List (ℕ × Kept V)) (o : ℕ) → ((q : ℕ) → o < q → value_of es q ≡ None) → (q : ℕ) → o < q → value_of (parts_of es).rows q ≡ None
+  none_above es o none q over = row_at es q ∙ ap (option_map (λ k. k.row)) (none q over)

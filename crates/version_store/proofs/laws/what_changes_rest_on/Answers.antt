@@ -1,0 +1,25 @@
+use Rattle.version_store.proofs.laws.what_changes_rest_on.Goals as goal
+
+pub returns : goal.returns
+returns c = record {
+  row = c.a_row_is_its_own_blocks.ensures.row;
+  inode = c.a_row_is_its_own_blocks.ensures.inode;
+  journal = c.a_row_is_by_later_moments.ensures.journal;
+  later = c.a_row_is_by_later_moments.ensures.later;
+  last = c.the_last_inode_stays.ensures;
+  making = c.a_row_keeps_the_making.ensures;
+  meaning = c.only_its_blocks_matter.ensures;
+  pointers_lead = c.held_pointers_lead.ensures;
+  one_place = c.one_place_has_one_name.ensures;
+  fresh_row = c.a_fresh_row_stands.ensures.row;
+  fresh_latest = c.a_fresh_row_stands.ensures.latest;
+  fresh_inode = c.a_fresh_row_stands.ensures.inode;
+  blank_count = c.a_blank_inode_has_holes_alone.ensures.count;
+  blank_holes = c.a_blank_inode_has_holes_alone.ensures.holes;
+  entry_count = c.the_entries_between_two_inodes.ensures.count;
+  entry_sizes = c.the_entries_between_two_inodes.ensures.sizes;
+  entry_pointers = c.the_entries_between_two_inodes.ensures.pointers;
+  sizes_add_up = c.bytes_add_up.ensures.sizes;
+  blocks_are_needed = c.few_blocks_are_needed.ensures.least;
+  groups_ascend = c.groups_join_and_part.ensures.ascend;
+}
