@@ -17,13 +17,14 @@ use Rattle.inode.specs.Laws.{OnlyItsBlocksMatter}
 use Rattle.object_map.specs.declared.map.Row.{Row}
 use Rattle.object_map.specs.Rows.{row_of, with_row}
 use Rattle.time_read.specs.Rows.{IsRow, entries_of, inode_of}
+use Rattle.time_read.specs.Orderly.{IsOrderly}
 use Rattle.row_changes.specs.Recent.{IsBy}
 use Rattle.row_changes.specs.Moved.{OnlyCheckpointChanged, IsMoved}
 use Rattle.version_store.specs.Store.{StoreFields, IsStore, IsObject, DataIsNamed, pointers_of}
 use Rattle.version_store.specs.Versions.{Stays, inode_by, inode_in, version_by, version_in}
 use Rattle.version_store.specs.Checkpointing.{last_entry, is_behind, IsCheckpointed}
 use Rattle.version_store.specs.private.CheckpointSteps.{CanCheckpoint, Checkpointed}
-use Rattle.version_store.specs.private.Below.{RowStays, RowInodeStays, IsByStays, IsByLater, LastInodeStays, GroupsAscend, RowsKeepTheMaking}
+use Rattle.version_store.specs.private.Below.{OrderlyStays, RowStays, RowInodeStays, IsByStays, IsByLater, LastInodeStays, GroupsAscend, RowsKeepTheMaking}
 use Rattle.version_store.proofs.Frames.{DataStays, data_there, data_agree, data_pointers, stays_object, inode_in_stays, version_in_stays}
 use Rattle.version_store.proofs.Telling.{Moves, same_entries, leads_later, same_pointers, moved_leads_to, moved_leads}
 use Rattle.version_store.proofs.Steps.{row_here, row_beside, row_cases, none_cases, stamped_row, stamped_inode, taken_places}
@@ -92,7 +93,7 @@ pub known : GroupsAscend → RowsKeepTheMaking → (s : StoreFields) (o : ℕ) (
 known ascend making s o row i m can =
     let held = s.log.held in
     let object = can.store.objects o row can.there in
-    let made = can.store.made o row can.there in
+    let made = (can.store.orderly o row can.there).made.0 in
     let bound = can.store.stamps o row can.there in
     let free = can.room in
     let is = can.moment in
@@ -120,6 +121,7 @@ pub record Rewrites (s : StoreFields) (log : Log) (o : ℕ) (row next : Row) (m 
   pub stands : IsRow log.held o next
   pub by : IsBy log.held o next m
   pub inode : (t : ℕ) → inode_of log.held o next t ≡ inode_of s.log.held o row t
+  pub orderly : (latest : ℕ) → m ≤ latest → IsOrderly s.log.held o row latest → IsOrderly log.held o next latest
   pub fields : next ≡ record row { checkpoint = next.checkpoint; checkpoint_moment = m }
   pub moved : IsMoved s.log.held row.checkpoint next.checkpoint log.held
   pub some : IsSome next.checkpoint
@@ -181,18 +183,19 @@ rewritten_beside s later o q r only other named p held =
     subst (λ (slots : List (Option Place)). Contains slots (Some p)) (sym (same_pointers s.log.held later q r stays.journal stays.checkpoints))
     (named p (subst (λ (view : Place → Option (List ℕ)). IsSome (view p)) (only Data q refl) held))
 
-rewritten_store : RowStays → RowInodeStays → IsByStays → IsByLater → OnlyItsBlocksMatter → (s : StoreFields) (rows : List (ℕ × Row)) (log : Log) (o : ℕ) (row next : Row) (i : Inode) (m : ℕ)
+rewritten_store : OrderlyStays → RowStays → RowInodeStays → IsByStays → IsByLater → OnlyItsBlocksMatter → (s : StoreFields) (rows : List (ℕ × Row)) (log : Log) (o : ℕ) (row next : Row) (i : Inode) (m : ℕ)
     → CanCheckpoint s o row i m → Known s o row i m → Rewrites s log o row next m → IsPut s rows o row next → IsStore (next_store s rows log)
-rewritten_store stands same by later_by matter s rows log o row next i m can know writes put =
+rewritten_store orderly stands same by later_by matter s rows log o row next i m can know writes put =
     let fewer : length log.ahead + 1 ≡ length s.log.ahead = taken_places s.log.ahead log.ahead 1 writes.ahead know.ahead in
-    let created : next.created ≡ row.created = ap (λ (r : Row). r.created) writes.fields in
     record {
       objects = row_cases (row_of s.rows) (row_of rows) o (record next { stamp = row.stamp + 1 }) put (λ q r. IsObject log.held q r s.latest)
           (rewritten_object later_by matter s log o row next m (row.stamp + 1) writes know.upto (can.store.objects o row can.there))
           (λ q r other e. stays_object stands same by matter q s.log.held log.held r s.latest (checkpoint_stays o q s.log.held log.held writes.others other) (can.store.objects q r e));
-      made = row_cases (row_of s.rows) (row_of rows) o (record next { stamp = row.stamp + 1 }) put (λ q r. 1 ≤ r.created)
-          (let least = can.store.made o row can.there in omega (arith, least, created))
-          (λ q r other e. can.store.made q r e);
+      orderly = row_cases (row_of s.rows) (row_of rows) o (record next { stamp = row.stamp + 1 }) put (λ q r. IsOrderly log.held q r s.latest)
+          (orderly.stamp log.held o s.latest (row.stamp + 1) next (writes.orderly s.latest know.upto (can.store.orderly o row can.there)))
+          (λ q r other e.
+          let stays = checkpoint_stays o q s.log.held log.held writes.others other in
+          orderly.blocks s.log.held log.held q s.latest r stays.journal stays.checkpoints (can.store.orderly q r e));
       named = row_cases (row_of s.rows) (row_of rows) o (record next { stamp = row.stamp + 1 }) put (λ q r. DataIsNamed log.held q r)
           (rewritten_here s log o row next m (row.stamp + 1) writes know.stands (can.store.named o row can.there))
           (λ q r other e. rewritten_beside s log.held o q r writes.others other (can.store.named q r e));
@@ -282,11 +285,11 @@ rewritten_current s rows log o row next m writes put =
     let by : AllBy next.checkpoint_moment (entries_of log.held o next) = subst (λ (k : ℕ). AllBy k (entries_of log.held o next)) (sym moment) writes.by.entries in
     subst (λ (r : Option Row). IfSome r (λ x. AllBy x.checkpoint_moment (entries_of log.held o x))) (sym found) by
 
-pub rewritten : RowStays → RowInodeStays → IsByStays → IsByLater → LastInodeStays → OnlyItsBlocksMatter → (s : StoreFields) (rows : List (ℕ × Row)) (log : Log) (o : ℕ) (row next : Row) (i : Inode) (m : ℕ)
+pub rewritten : OrderlyStays → RowStays → RowInodeStays → IsByStays → IsByLater → LastInodeStays → OnlyItsBlocksMatter → (s : StoreFields) (rows : List (ℕ × Row)) (log : Log) (o : ℕ) (row next : Row) (i : Inode) (m : ℕ)
     → CanCheckpoint s o row i m → Known s o row i m → Rewrites s log o row next m → IsPut s rows o row next → Checkpointed s o row (next_store s rows log)
-rewritten stands same by later_by last matter s rows log o row next i m can know writes put = record {
+rewritten orderly stands same by later_by last matter s rows log o row next i m can know writes put = record {
   stands = record {
-    store = rewritten_store stands same by later_by matter s rows log o row next i m can know writes put;
+    store = rewritten_store orderly stands same by later_by matter s rows log o row next i m can know writes put;
     versions = rewritten_versions same matter s rows log o row next m can.store can.there writes put;
     inodes = rewritten_inodes same s rows log o row next m can.there writes put;
     latest = refl;

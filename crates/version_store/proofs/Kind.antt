@@ -28,7 +28,7 @@ use Rattle.version_store.specs.Versions.{version_in, version_taken}
 use Rattle.version_store.specs.Costs.{subject_row, subject_inode, row_or_fresh, pointers_moved, data_blocks, attribute_by, sizes_by, refusal_by, blocks_taken, room}
 use Rattle.version_store.specs.Taking.{IsReadyFor, RowChanges, data_by}
 use Rattle.version_store.specs.private.Turning.{CanTake, CanTurn, Turns, IsTaken, blocks_turned}
-use Rattle.version_store.specs.private.Below.{RowStays, RowInodeStays, IsByStays, IsByLater, FreshRowStands, FreshRowIsBy, FreshInode, BlankCount, BlankHoles, EntriesHaveSizes, SizesAddUp}
+use Rattle.version_store.specs.private.Below.{OrderlyStays, RowStays, RowInodeStays, IsByStays, IsByLater, FreshRowStands, FreshRowIsBy, FreshInode, BlankCount, BlankHoles, EntriesHaveSizes, SizesAddUp}
 use Rattle.version_store.proofs.Frames.{growth_stays, stays_inode}
 use Rattle.version_store.proofs.Naming.{NamesNew}
 use Rattle.version_store.proofs.Steps.{grown_store, grown_versions, added_store, added_versions, row_here, row_beside}
@@ -123,17 +123,20 @@ sizes_made sizes s change m i log j makes = counted sizes change i j m makes.mov
 
 -- ---- a change of an object that is there
 
-pub can_turn : RowStays → RowInodeStays → IsByStays → OnlyItsBlocksMatter → EntriesHaveSizes → SizesAddUp → (s : StoreFields) (change : Change) (m : ℕ) (log : Log) (i j : Inode)
+pub can_turn : OrderlyStays → RowStays → RowInodeStays → IsByStays → OnlyItsBlocksMatter → EntriesHaveSizes → SizesAddUp → (s : StoreFields) (change : Change) (m : ℕ) (log : Log) (i j : Inode)
     → CanTake s change m i → IsSubject s (object_of change) m i → Makes s change m i log j → CanTurn (record s { log = log }) (object_of change) i j m
-can_turn stands same by matter sizes add_up s change m log i j can subject makes =
+can_turn orderly stands same by matter sizes add_up s change m log i j can subject makes =
     let free_row : refusal_by (room s) change subject.row i ≡ None =
     ap (refusal_by (room s) change subject.row) can.begins ∙ sym (ap (λ (r : Row). refusal_by (room s) change r (subject_inode s (object_of change) m)) subject.subject) ∙ can.free in
     record {
-      store = grown_store stands same by matter s log (object_of change) (data_by (contents_of s.log.held) change i) j makes.grows makes.names (subst (λ (r : Option Row). IsSome r) (sym subject.there) refl) can.store;
+      store = grown_store orderly stands same by matter s log (object_of change) (data_by (contents_of s.log.held) change i) j makes.grows makes.names (subst (λ (r : Option Row). IsSome r) (sym subject.there) refl) can.store;
       later = can.later;
       row = subject.row;
       there = subject.there;
       before = subject.is ∙ sym (stays_inode same (object_of change) s.log.held log.held subject.row s.latest (growth_stays (object_of change) (data_by (contents_of s.log.held) change i) s.log log (object_of change) makes.grows));
+      from =
+          let stays = growth_stays (object_of change) (data_by (contents_of s.log.held) change i) s.log log (object_of change) makes.grows in
+          inr (orderly.blocks s.log.held log.held (object_of change) s.latest subject.row stays.journal stays.checkpoints (can.store.orderly (object_of change) subject.row subject.there), subject.alive);
       lead = makes.lead;
       tidy = makes.tidy;
       pointers = makes.pointers;
@@ -213,11 +216,12 @@ can_create stands by fresh later_by count holes sizes add_up s change m rows i j
     let free_row : refusal_by (room s) change (fresh_row m) i ≡ None =
     ap (refusal_by (room s) change (fresh_row m)) can.begins ∙ sym (ap (λ (r : Row). refusal_by (room s) change r (subject_inode s (object_of change) m)) subject) ∙ can.free in
     record {
-      store = added_store stands by fresh later_by count holes s rows (object_of change) m j put can.takes.numbered (let after = can.later in omega (arith, after)) none can.store;
+      store = added_store stands by fresh later_by count holes s rows (object_of change) m j put can.takes.numbered none can.store;
       later = can.later;
       row = fresh_row m;
       there = put (object_of change) ∙ row_here (row_of s.rows) (object_of change) (fresh_row m);
       before = can.begins ∙ ap (λ (r : Row). inode_of s.log.held (object_of change) r s.latest) subject;
+      from = inl refl;
       lead = makes.lead;
       tidy = makes.tidy;
       pointers = makes.pointers;

@@ -21,7 +21,7 @@ use Rattle.version_store.specs.Versions.{inode_by, inode_in, version_by, version
 use Rattle.version_store.specs.Costs.{row_or_fresh, subject_inode, room}
 use Rattle.version_store.specs.Checkpointing.{last_entry, is_behind}
 use Rattle.version_store.specs.private.CheckpointSteps.{CanCheckpoint}
-use Rattle.object_map.specs.Objects.{value_of, with_value, without_value}
+use Rattle.object_map.specs.Objects.{value_of, with_value}
 use Rattle.version_store.specs.private.Below.{RowInodeStays, LastInodeStays, FreshInode, BlankCount, BlankHoles, GroupsAscend, RowsKeepTheMaking}
 use Rattle.version_store.proofs.Frames.{growth_stays, journal_stays, inode_in_stays}
 use Rattle.version_store.specs.Taking.{IsThere}

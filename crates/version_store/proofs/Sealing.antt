@@ -33,7 +33,7 @@ pub shrunk_store : (s : StoreFields) (held : Place → Option Stored) (ahead : L
 shrunk_store s held ahead same fewer store =
     subst (λ (h : Place → Option Stored). IsStore (over s h ahead)) (sym same) (record {
       objects = store.objects;
-      made = store.made;
+      orderly = store.orderly;
       named = store.named;
       nothing = store.nothing;
       stamps = λ o row e. let bound = store.stamps o row e in omega (arith, fewer, bound);

@@ -24,11 +24,12 @@ use Rattle.object_map.specs.declared.map.Row.{Row}
 use Rattle.object_map.specs.Rows.{row_of, with_row, fresh_row}
 use Rattle.time_read.specs.Rows.{IsRow, inode_of}
 use Rattle.version_store.specs.Store.{StoreFields, IsStore, IsObject, HasNothing, DataIsNamed, pointers_of, sides_told, IsLed}
+use Rattle.time_read.specs.Orderly.{IsOrderly}
 use Rattle.row_changes.specs.Recent.{IsBy}
 use Rattle.version_store.specs.Versions.{Stays, inode_by, version_by, version_in}
 use Rattle.version_store.specs.Taking.{RowChanges}
 use Rattle.version_store.specs.private.Turning.{LeadsTo, IsOpenFor, Turns}
-use Rattle.version_store.specs.private.Below.{RowStays, RowInodeStays, IsByStays, IsByLater, LastInodeStays, FreshRowStands, FreshRowIsBy, FreshInode, BlankCount, BlankHoles}
+use Rattle.version_store.specs.private.Below.{OrderlyStays, RowStays, RowInodeStays, IsByStays, IsByLater, LastInodeStays, FreshRowStands, FreshRowIsBy, FreshInode, BlankCount, BlankHoles}
 use Rattle.version_store.proofs.Frames.{DataStays, data_there, data_agree, data_pointers, stays_object, growth_stays, journal_stays, version_by_stays}
 use Rattle.version_store.proofs.Telling.{Leads, Grows, inode_told, leads_later, same_pointers, grown_leads_to, grown_leads, fresh_pointers}
 use Rattle.version_store.proofs.Naming.{NamesNew}
@@ -73,13 +74,15 @@ grown_named s log object blocks j grows new store o row e p there =
       | inr other ↦ inl (before (subst (λ (seen : Option (List ℕ)). IsSome seen) (grows.others Data o p other) there))
     ]
 
-pub grown_store : RowStays → RowInodeStays → IsByStays → OnlyItsBlocksMatter → (s : StoreFields) (log : Log) (object : ℕ) (blocks : List (List ℕ)) (j : Inode)
+pub grown_store : OrderlyStays → RowStays → RowInodeStays → IsByStays → OnlyItsBlocksMatter → (s : StoreFields) (log : Log) (object : ℕ) (blocks : List (List ℕ)) (j : Inode)
     → GrowsBy object blocks s.log log → NamesNew object s.log j log → IsSome (row_of s.rows object) → IsStore s → IsOpenFor object j (record s { log = log })
-grown_store stands same by matter s log object blocks j grows new there store =
+grown_store orderly stands same by matter s log object blocks j grows new there store =
     let few : length log.ahead ≤ length s.log.ahead = fewer s.log.ahead log.ahead (length blocks) grows.ahead in
     record {
       objects = λ o row e. stays_object stands same by matter o s.log.held log.held row s.latest (growth_stays object blocks s.log log o grows) (store.objects o row e);
-      made = store.made;
+      orderly = λ o row other e.
+          let stays = growth_stays object blocks s.log log o grows in
+          orderly.blocks s.log.held log.held o s.latest row stays.journal stays.checkpoints (store.orderly o row e);
       named = grown_named s log object blocks j grows new store;
       nothing = λ o none kind p. grows.others kind o p (and_right (same_kind kind Data) (object == o) (other_object (row_of s.rows) object o there none)) ∙ store.nothing o none kind p;
       stamps = λ o row e. let bound = store.stamps o row e in omega (arith, few, bound);
@@ -142,12 +145,12 @@ none_cases rows after o row put q none = elim (cases_Bool (o == q)) [
 ]
 
 pub added_store : FreshRowStands → FreshRowIsBy → FreshInode → IsByLater → BlankCount → BlankHoles → (s : StoreFields) (rows : List (ℕ × Row)) (object m : ℕ) (j : Inode)
-    → ((q : ℕ) → row_of rows q ≡ with_row (row_of s.rows) object (fresh_row m) q) → 1 ≤ object → 1 ≤ m → row_of s.rows object ≡ None → IsStore s → IsOpenFor object j (record s { rows = rows })
-added_store stands by fresh later count holes s rows object m j put numbered above none store = record {
+    → ((q : ℕ) → row_of rows q ≡ with_row (row_of s.rows) object (fresh_row m) q) → 1 ≤ object → row_of s.rows object ≡ None → IsStore s → IsOpenFor object j (record s { rows = rows })
+added_store stands by fresh later count holes s rows object m j put numbered none store = record {
   objects = row_cases (row_of s.rows) (row_of rows) object (fresh_row m) put (λ q r. IsObject s.log.held q r s.latest)
       (fresh_object stands by fresh later count holes s.log.held object m s.latest numbered (store.nothing object none))
       (λ q r other e. store.objects q r e);
-  made = row_cases (row_of s.rows) (row_of rows) object (fresh_row m) put (λ q r. 1 ≤ r.created) above (λ q r other e. store.made q r e);
+  orderly = λ q r other e. store.orderly q r (sym (row_beside (row_of s.rows) object q (fresh_row m) other) ∙ sym (put q) ∙ e);
   named = row_cases (row_of s.rows) (row_of rows) object (fresh_row m) put (λ q r. (p : Place) → IsSome (of_kind Data q s.log.held p) → Contains (pointers_of s.log.held q r) (Some p) ⊎ ((object ≡ q) × LeadsTo j p))
       (λ p there. absurd (false≢true (sym (ap is_some (store.nothing object none Data p)) ∙ there)))
       (λ q r other e p there. inl (store.named q r e p there));
@@ -182,6 +185,7 @@ pub record Records (held later : Place → Option Stored) (o : ℕ) (row next : 
   pub row_stands : IsRow later o next
   pub by : IsBy later o next m
   pub inode : (t : ℕ) → inode_of later o next t ≡ cond (leb m t) i (inode_of held o row t)
+  pub orderly : IsOrderly later o next m
   pub others : OnlyJournalChanged o held later
 
 -- stamps are told of nothing but themselves
@@ -248,11 +252,11 @@ taken_places before after n e room =
     let count : length after ≡ length before - n = ap length e ∙ length-drop n before in
     omega (arith, count)
 
-recorded_store : RowStays → RowInodeStays → IsByStays → IsByLater → LastInodeStays → OnlyItsBlocksMatter → (s later : StoreFields) (o m n count : ℕ) (row next : Row) (i : Inode)
+recorded_store : OrderlyStays → RowStays → RowInodeStays → IsByStays → IsByLater → LastInodeStays → OnlyItsBlocksMatter → (s later : StoreFields) (o m n count : ℕ) (row next : Row) (i : Inode)
     → IsOpenFor o i s → row_of s.rows o ≡ Some row → s.latest < m → later.latest ≡ m → Records s.log.held later.log.held o row next i m → Tidy (contents_of s.log.held) i → PointersHeld s.log.held o i
     → ((q : ℕ) → row_of later.rows q ≡ with_row (row_of s.rows) o (record next { stamp = n }) q) → n ≡ row.stamp + 1
-    → next.created ≡ row.created → later.log.ahead ≡ drop count s.log.ahead → 1 ≤ count → count ≤ length s.log.ahead → IsStore later
-recorded_store stands same by later_by last matter s later o m n count row next i store there before latest records tidy pointers put stamp created ahead some room =
+    → later.log.ahead ≡ drop count s.log.ahead → 1 ≤ count → count ≤ length s.log.ahead → IsStore later
+recorded_store orderly stands same by later_by last matter s later o m n count row next i store there before latest records tidy pointers put stamp ahead some room =
     let le : s.latest ≤ m = omega (arith, before) in
     let fewer_ahead : length later.log.ahead + count ≡ length s.log.ahead = taken_places s.log.ahead later.log.ahead count ahead room in
     record {
@@ -260,9 +264,12 @@ recorded_store stands same by later_by last matter s later o m n count row next 
           (row_cases (row_of s.rows) (row_of later.rows) o (record next { stamp = n }) put (λ q r. IsObject later.log.held q r m)
           (recorded_object matter s.log.held later.log.held o row next i m s.latest n records (store.objects o row there) tidy pointers)
           (λ q r other e. by_later later_by later.log.held q r s.latest m le (stays_object stands same by matter q s.log.held later.log.held r s.latest (journal_stays o q s.log.held later.log.held records.others other) (store.objects q r e))));
-      made = row_cases (row_of s.rows) (row_of later.rows) o (record next { stamp = n }) put (λ q r. 1 ≤ r.created)
-          (let least = store.made o row there in omega (arith, least, created))
-          (λ q r other e. store.made q r e);
+      orderly = subst (λ (k : ℕ). (q : ℕ) (r : Row) → row_of later.rows q ≡ Some r → IsOrderly later.log.held q r k) (sym latest)
+          (row_cases (row_of s.rows) (row_of later.rows) o (record next { stamp = n }) put (λ q r. IsOrderly later.log.held q r m)
+          (orderly.stamp later.log.held o m n next records.orderly)
+          (λ q r other e.
+          let stays = journal_stays o q s.log.held later.log.held records.others other in
+          orderly.later later.log.held q r s.latest m le (orderly.blocks s.log.held later.log.held q s.latest r stays.journal stays.checkpoints (store.orderly q r other e))));
       named = row_cases (row_of s.rows) (row_of later.rows) o (record next { stamp = n }) put (λ q r. DataIsNamed later.log.held q r)
           (recorded_here s later.log.held o row next i m n records there store)
           (recorded_beside s later.log.held o i records.others store);
@@ -311,12 +318,12 @@ recorded_versions same matter s later o m n row next i store there records point
 ]
 
 -- the whole step
-pub recorded : RowStays → RowInodeStays → IsByStays → IsByLater → LastInodeStays → OnlyItsBlocksMatter → (s later : StoreFields) (o m n count : ℕ) (row next : Row) (i : Inode)
+pub recorded : OrderlyStays → RowStays → RowInodeStays → IsByStays → IsByLater → LastInodeStays → OnlyItsBlocksMatter → (s later : StoreFields) (o m n count : ℕ) (row next : Row) (i : Inode)
     → IsOpenFor o i s → row_of s.rows o ≡ Some row → s.latest < m → later.latest ≡ m → Records s.log.held later.log.held o row next i m → Tidy (contents_of s.log.held) i → PointersHeld s.log.held o i
     → ((q : ℕ) → row_of later.rows q ≡ with_row (row_of s.rows) o (record next { stamp = n }) q) → n ≡ row.stamp + 1
-    → next.created ≡ row.created → later.log.ahead ≡ drop count s.log.ahead → 1 ≤ count → count ≤ length s.log.ahead → RowChanges s o m later.rows → Turns s o m i count later
-recorded stands same by later_by last matter s later o m n count row next i store there before latest records tidy pointers put stamp created ahead some room changes = record {
-  store = recorded_store stands same by later_by last matter s later o m n count row next i store there before latest records tidy pointers put stamp created ahead some room;
+    → later.log.ahead ≡ drop count s.log.ahead → 1 ≤ count → count ≤ length s.log.ahead → RowChanges s o m later.rows → Turns s o m i count later
+recorded orderly stands same by later_by last matter s later o m n count row next i store there before latest records tidy pointers put stamp ahead some room changes = record {
+  store = recorded_store orderly stands same by later_by last matter s later o m n count row next i store there before latest records tidy pointers put stamp ahead some room;
   versions = recorded_versions same matter s later o m n row next i store there records pointers put;
   latest = latest;
   row = changes;

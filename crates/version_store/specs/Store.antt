@@ -12,6 +12,7 @@ use Rattle.journal_chain.specs.Chain.{times, chain_places}
 use Rattle.object_map.specs.declared.map.Row.{Row}
 use Rattle.object_map.specs.Rows.{row_of}
 use Rattle.time_read.specs.Rows.{IsRow, inode_of, entries_of, checkpoint_of}
+use Rattle.time_read.specs.Orderly.{IsOrderly}
 use Rattle.row_changes.specs.Recent.{IsBy}
 use Rattle.inode.specs.Contents.{contents_of}
 use Rattle.inode.specs.Tidiness.{Tidy, PointersHeld}
@@ -73,12 +74,12 @@ DataIsNamed held o row = (p : Place) → IsSome (of_kind Data o held p) → Cont
 abbrev pub HasNothing : (Place → Option Stored) → ℕ → Type 0
 HasNothing held o = (kind : BlockKind) (p : Place) → of_kind kind o held p ≡ None
 
--- Each object that has a row is held and was made at a moment above 0; of its data no block is held but those that
--- pointers of the row lead to, and of an object without a row no block at all. A row was changed no more often than places
--- were taken: each change takes one.
+-- Each object that has a row is held, and its row is in order up to the last change; of its data no block is held but
+-- those that pointers of the row lead to, and of an object without a row no block at all. A row was changed no more often
+-- than places were taken: each change takes one.
 pub record IsStore (s : StoreFields) : Type 0 where
   pub objects : (o : ℕ) (row : Row) → row_of s.rows o ≡ Some row → IsObject s.log.held o row s.latest
-  pub made : (o : ℕ) (row : Row) → row_of s.rows o ≡ Some row → 1 ≤ row.created
+  pub orderly : (o : ℕ) (row : Row) → row_of s.rows o ≡ Some row → IsOrderly s.log.held o row s.latest
   pub named : (o : ℕ) (row : Row) → row_of s.rows o ≡ Some row → DataIsNamed s.log.held o row
   pub nothing : (o : ℕ) → row_of s.rows o ≡ None → HasNothing s.log.held o
   pub stamps : (o : ℕ) (row : Row) → row_of s.rows o ≡ Some row → row.stamp + length s.log.ahead ≤ MOST_PLACES

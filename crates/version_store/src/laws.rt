@@ -9,7 +9,7 @@ use journal_chain::packing::laws::{bytes_add_up, few_blocks_are_needed};
 use row_changes::laws::{
     a_fresh_row_stands, a_row_is_by_later_moments, a_row_keeps_the_making, the_last_inode_stays,
 };
-use time_read::laws::a_row_is_its_own_blocks;
+use time_read::laws::{a_row_is_its_own_blocks, an_orderly_row_stays};
 use undo_redo::laws::{
     a_blank_inode_has_holes_alone, groups_join_and_part, the_entries_between_two_inodes,
 };
@@ -70,6 +70,7 @@ pub(crate) fn what_changes_rest_on()
     a_row_is_its_own_blocks();
     a_row_is_by_later_moments();
     a_row_keeps_the_making();
+    an_orderly_row_stays();
     the_last_inode_stays();
     only_its_blocks_matter();
     held_pointers_lead();

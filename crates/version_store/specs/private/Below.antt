@@ -16,6 +16,7 @@ use Rattle.inode.specs.Laws.{OnlyItsBlocksMatter, HeldPointersLead}
 use Rattle.object_map.specs.declared.map.Row.{Row}
 use Rattle.object_map.specs.Rows.{fresh_row}
 use Rattle.time_read.specs.Rows.{IsRow, inode_of}
+use Rattle.time_read.specs.Orderly.{IsOrderly}
 use Rattle.row_changes.specs.Recent.{IsBy}
 
 abbrev pub RowStays : Type 0
@@ -76,6 +77,12 @@ GroupsAscend = (entries : List EntryFields) → grouped entries ≡ true → mom
 abbrev pub RowsKeepTheMaking : Type 0
 RowsKeepTheMaking = (held : Place → Option Stored) (o : ℕ) (row : Row) (t : ℕ) → IsRow held o row → (inode_of held o row t).created ≡ row.created
 
+-- Rows in order rest on their own blocks and not on their stamps, and stay in order.
+pub record OrderlyStays : Type 0 where
+  pub blocks : (held later : Place → Option Stored) (o latest : ℕ) (row : Row) → of_kind Journal o later ≡ of_kind Journal o held → of_kind Checkpoint o later ≡ of_kind Checkpoint o held → IsOrderly held o row latest → IsOrderly later o row latest
+  pub stamp : (held : Place → Option Stored) (o latest n : ℕ) (row : Row) → IsOrderly held o row latest → IsOrderly held o (record row { stamp = n }) latest
+  pub later : (held : Place → Option Stored) (o : ℕ) (row : Row) (a b : ℕ) → a ≤ b → IsOrderly held o row a → IsOrderly held o row b
+
 -- All that a change or a checkpoint of a whole store rests on: rows and inodes rest on their own blocks, and stay from their last
 -- entry on; a fresh row and a blank inode; the entries between two inodes, their sizes and the blocks that they need.
 pub record ChangesStand : Type 0 where
@@ -85,6 +92,7 @@ pub record ChangesStand : Type 0 where
   pub later : IsByLater
   pub last : LastInodeStays
   pub making : RowsKeepTheMaking
+  pub orderly : OrderlyStays
   pub meaning : OnlyItsBlocksMatter
   pub pointers_lead : HeldPointersLead
   pub one_place : OnePlace

@@ -1,5 +1,5 @@
 -- What one change leaves of a whole store. No public clause cites this file.
-use Rattle.std.specs.Prelude.{◌≡◌, ◌⊎◌, ℕ, ◌+◌, ◌<◌, ◌≤◌, ◌==◌, ◌&&◌, ◌||◌, nat_le, if◌then◌else◌, drop, length, Some, None, IsSome, is_some}
+use Rattle.std.specs.Prelude.{◌≡◌, ◌⊎◌, ℕ, ◌+◌, ◌<◌, ◌≤◌, ◌==◌, ◌&&◌, ◌||◌, true, false, nat_le, if◌then◌else◌, drop, length, Some, None, IsSome, is_some}
 use Rattle.std.specs.List.{Contains}
 use Rattle.s4_types.specs.Pointer.{Place}
 use Rattle.s4_types.specs.declared.changes.Change.{Change}
@@ -8,11 +8,12 @@ use Rattle.block_log.specs.Log.{of_kind}
 use Rattle.codec.specs.Checkpoint.{pointer_at}
 use Rattle.codec.specs.declared.inodes.Inode.{Inode}
 use Rattle.object_map.specs.declared.map.Row.{Row}
-use Rattle.object_map.specs.Rows.{row_of}
+use Rattle.object_map.specs.Rows.{row_of, fresh_row}
 use Rattle.undo_redo.specs.Between.{CanLead, entries_between}
 use Rattle.journal_chain.specs.Chain.{OnlyJournalChanged}
 use Rattle.journal_chain.specs.Push.{push_refusal, pushed_blocks}
 use Rattle.time_read.specs.Rows.{chain_of, inode_of}
+use Rattle.time_read.specs.Orderly.{IsOrderly}
 use Rattle.inode.specs.Contents.{contents_of, meaning}
 use Rattle.inode.specs.Tidiness.{Tidy, PointersHeld}
 use Rattle.version_store.specs.Store.{StoreFields, IsStore, IsObject, HasNothing, pointers_of}
@@ -34,23 +35,26 @@ pub record CanTake (s : StoreFields) (change : Change) (m : ℕ) (present : Inod
 abbrev pub LeadsTo : Inode → Place → Type 0
 LeadsTo i p = (k : ℕ) × (pointer_at i k ≡ Some p)
 
--- A store, but that data of one object may be held which nothing names yet: this inode, its next one, leads there.
+-- A store, but that the row of one object may not be in order yet, and that data of it may be held which nothing names yet:
+-- this inode, its next one, leads there.
 pub record IsOpenFor (o : ℕ) (i : Inode) (s : StoreFields) : Type 0 where
   pub objects : (q : ℕ) (row : Row) → row_of s.rows q ≡ Some row → IsObject s.log.held q row s.latest
-  pub made : (q : ℕ) (row : Row) → row_of s.rows q ≡ Some row → 1 ≤ row.created
+  pub orderly : (q : ℕ) (row : Row) → (o == q) ≡ false → row_of s.rows q ≡ Some row → IsOrderly s.log.held q row s.latest
   pub named : (q : ℕ) (row : Row) → row_of s.rows q ≡ Some row → (p : Place) → IsSome (of_kind Data q s.log.held p) → Contains (pointers_of s.log.held q row) (Some p) ⊎ ((o ≡ q) × LeadsTo i p)
   pub nothing : (q : ℕ) → row_of s.rows q ≡ None → HasNothing s.log.held q
   pub stamps : (q : ℕ) (row : Row) → row_of s.rows q ≡ Some row → row.stamp + length s.log.ahead ≤ MOST_PLACES
   pub few : length s.log.ahead ≤ MOST_PLACES
 
 -- An object can have another inode from a moment on: it has a row, the first inode is its present one, entries of the
--- moment lead from it to the next one, which is tidy, and there is room for them.
+-- moment lead from it to the next one, which is tidy, and there is room for them. Either the row is that of an object made
+-- at the moment, or it is in order and the first inode is live.
 pub record CanTurn (s : StoreFields) (o : ℕ) (i j : Inode) (m : ℕ) : Type 0 where
   pub store : IsOpenFor o j s
   pub later : s.latest < m
   pub row : Row
   pub there : row_of s.rows o ≡ Some row
   pub before : i ≡ inode_of s.log.held o row s.latest
+  pub from : (row ≡ fresh_row m) ⊎ (IsOrderly s.log.held o row s.latest × (i.alive ≡ true))
   pub lead : CanLead i j m
   pub tidy : Tidy (contents_of s.log.held) j
   pub pointers : PointersHeld s.log.held o j

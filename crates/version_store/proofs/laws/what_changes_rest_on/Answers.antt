@@ -8,6 +8,7 @@ returns c = record {
   later = c.a_row_is_by_later_moments.ensures.later;
   last = c.the_last_inode_stays.ensures;
   making = c.a_row_keeps_the_making.ensures;
+  orderly = record { blocks = c.an_orderly_row_stays.ensures.blocks; stamp = c.an_orderly_row_stays.ensures.stamp; later = c.an_orderly_row_stays.ensures.later };
   meaning = c.only_its_blocks_matter.ensures;
   pointers_lead = c.held_pointers_lead.ensures;
   one_place = c.one_place_has_one_name.ensures;

@@ -10,7 +10,7 @@ turn-requires g c =
     let s : StoreFields = fields_of g.B.Blocks.log c.args.self.now in
     let subject = can_subject s (Delete c.args.object) c.args.moment c.args.present.now c.requires c.requires.takes.ready in
     let makes = deleted_makes s c.args.object c.args.moment c.args.present.now c.deleted-after.result c.requires subject c.deleted-after.ensures.inode (c.deleted-after.ensures.meaning (contents_of s.log.held) c.args.object c.args.moment) (c.deleted-after.ensures.tidy (contents_of s.log.held) subject.tidy) in
-    can_turn c.what_changes_rest_on.ensures.row c.what_changes_rest_on.ensures.inode c.what_changes_rest_on.ensures.journal c.what_changes_rest_on.ensures.meaning c.what_changes_rest_on.ensures.entry_sizes c.what_changes_rest_on.ensures.sizes_add_up
+    can_turn c.what_changes_rest_on.ensures.orderly c.what_changes_rest_on.ensures.row c.what_changes_rest_on.ensures.inode c.what_changes_rest_on.ensures.journal c.what_changes_rest_on.ensures.meaning c.what_changes_rest_on.ensures.entry_sizes c.what_changes_rest_on.ensures.sizes_add_up
     s (Delete c.args.object) c.args.moment s.log c.args.present.now c.deleted-after.result c.requires subject makes
 
 pub returns : goal.returns

@@ -24,6 +24,7 @@ returns g c =
       stands = c.in-Ok.ensures.row;
       by = c.in-Ok.ensures.latest;
       inode = c.in-Ok.ensures.inode;
+      orderly = c.in-Ok.ensures.orderly;
       fields = c.in-Ok.ensures.fields;
       moved = c.in-Ok.ensures.moved;
       some = c.in-Ok.ensures.some;
@@ -32,7 +33,7 @@ returns g c =
     } in
     let put = subst (λ (r : Option Row). IfSome r (λ old. PutsRow c.self.inside.objects c.args.object (record c.in-Ok.next { stamp = old.stamp + 1 }) c.change_row.new.self)) can.there c.change_row.ensures.changed in
     subst (λ (v : StoreOf _). Checkpointed (fields_of g.B.Blocks.log v) c.args.object c.args.row.now (record { rows = c.change_row.new.self.rows; log = log; latest = c.self.inside.latest })) c.self.view_is
-    (rewritten c.what_changes_rest_on.ensures.row c.what_changes_rest_on.ensures.inode c.what_changes_rest_on.ensures.journal c.what_changes_rest_on.ensures.later c.what_changes_rest_on.ensures.last c.what_changes_rest_on.ensures.meaning
+    (rewritten c.what_changes_rest_on.ensures.orderly c.what_changes_rest_on.ensures.row c.what_changes_rest_on.ensures.inode c.what_changes_rest_on.ensures.journal c.what_changes_rest_on.ensures.later c.what_changes_rest_on.ensures.last c.what_changes_rest_on.ensures.meaning
     s c.change_row.new.self.rows log c.args.object c.args.row.now c.in-Ok.next c.args.inode.now c.args.moment can know writes put.rows)
 
 pub invariant_of-self : goal.invariant_of-self
@@ -45,6 +46,7 @@ invariant_of-self g c =
       stands = c.in-Ok.ensures.row;
       by = c.in-Ok.ensures.latest;
       inode = c.in-Ok.ensures.inode;
+      orderly = c.in-Ok.ensures.orderly;
       fields = c.in-Ok.ensures.fields;
       moved = c.in-Ok.ensures.moved;
       some = c.in-Ok.ensures.some;
@@ -52,6 +54,6 @@ invariant_of-self g c =
       ahead = c.in-Ok.ensures.ahead;
     } in
     let put = subst (λ (r : Option Row). IfSome r (λ old. PutsRow c.self.inside.objects c.args.object (record c.in-Ok.next { stamp = old.stamp + 1 }) c.change_row.new.self)) can.there c.change_row.ensures.changed in
-    let made = rewritten c.what_changes_rest_on.ensures.row c.what_changes_rest_on.ensures.inode c.what_changes_rest_on.ensures.journal c.what_changes_rest_on.ensures.later c.what_changes_rest_on.ensures.last c.what_changes_rest_on.ensures.meaning
+    let made = rewritten c.what_changes_rest_on.ensures.orderly c.what_changes_rest_on.ensures.row c.what_changes_rest_on.ensures.inode c.what_changes_rest_on.ensures.journal c.what_changes_rest_on.ensures.later c.what_changes_rest_on.ensures.last c.what_changes_rest_on.ensures.meaning
     s c.change_row.new.self.rows log c.args.object c.args.row.now c.in-Ok.next c.args.inode.now c.args.moment can know writes put.rows in
     λ o. put.values o ∙ c.self.invariant o ∙ sym (made.stands.inodes o c.self.inside.latest)

@@ -27,7 +27,7 @@ turn-requires g c =
     let can = subst (λ (v : StoreOf _). CanTake (fields_of g.B.Blocks.log v) (Truncate c.args.object c.args.size) c.args.moment c.args.present.now) (sym c.self.view_is) c.requires in
     let subject = can_subject s (Truncate c.args.object c.args.size) c.args.moment c.args.present.now can can.takes.ready in
     let makes = truncated_makes c.what_changes_rest_on.ensures.one_place c.what_changes_rest_on.ensures.pointers_lead s c.args.object c.args.moment c.args.size (g.B.Blocks.log c.truncate-after.new.table) c.args.present.now c.truncate-after.result can subject c.truncate-after.ensures.growth c.truncate-after.ensures.log c.truncate-after.ensures.inode c.truncate-after.ensures.tidy c.truncate-after.ensures.pointers c.truncate-after.ensures.meaning in
-    can_turn c.what_changes_rest_on.ensures.row c.what_changes_rest_on.ensures.inode c.what_changes_rest_on.ensures.journal c.what_changes_rest_on.ensures.meaning c.what_changes_rest_on.ensures.entry_sizes c.what_changes_rest_on.ensures.sizes_add_up
+    can_turn c.what_changes_rest_on.ensures.orderly c.what_changes_rest_on.ensures.row c.what_changes_rest_on.ensures.inode c.what_changes_rest_on.ensures.journal c.what_changes_rest_on.ensures.meaning c.what_changes_rest_on.ensures.entry_sizes c.what_changes_rest_on.ensures.sizes_add_up
     s (Truncate c.args.object c.args.size) c.args.moment (g.B.Blocks.log c.truncate-after.new.table) c.args.present.now c.truncate-after.result can subject makes
 
 pub returns : goal.returns

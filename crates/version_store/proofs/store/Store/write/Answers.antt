@@ -27,7 +27,7 @@ turn-requires g c =
     let can = subst (λ (v : StoreOf _). CanTake (fields_of g.B.Blocks.log v) (Write c.args.object c.args.offset c.args.bytes.now) c.args.moment c.args.present.now) (sym c.self.view_is) c.requires in
     let subject = can_subject s (Write c.args.object c.args.offset c.args.bytes.now) c.args.moment c.args.present.now can can.takes.ready in
     let makes = written_makes c.what_changes_rest_on.ensures.one_place c.what_changes_rest_on.ensures.pointers_lead s c.args.object c.args.moment c.args.offset c.args.bytes.now (g.B.Blocks.log c.write-after.new.table) c.args.present.now c.write-after.result can subject c.write-after.ensures.growth c.write-after.ensures.log c.write-after.ensures.inode c.write-after.ensures.tidy c.write-after.ensures.pointers c.write-after.ensures.meaning in
-    can_turn c.what_changes_rest_on.ensures.row c.what_changes_rest_on.ensures.inode c.what_changes_rest_on.ensures.journal c.what_changes_rest_on.ensures.meaning c.what_changes_rest_on.ensures.entry_sizes c.what_changes_rest_on.ensures.sizes_add_up
+    can_turn c.what_changes_rest_on.ensures.orderly c.what_changes_rest_on.ensures.row c.what_changes_rest_on.ensures.inode c.what_changes_rest_on.ensures.journal c.what_changes_rest_on.ensures.meaning c.what_changes_rest_on.ensures.entry_sizes c.what_changes_rest_on.ensures.sizes_add_up
     s (Write c.args.object c.args.offset c.args.bytes.now) c.args.moment (g.B.Blocks.log c.write-after.new.table) c.args.present.now c.write-after.result can subject makes
 
 pub returns : goal.returns
