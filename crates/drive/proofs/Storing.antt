@@ -28,7 +28,7 @@ use Rattle.version_store.specs.Store.{StoreFields, IsStore}
 use Rattle.s4_model.specs.Effect.{is_of_versions, object_of}
 use Rattle.version_store.specs.Versions.{inode_by, version_by, version_in, version_taken}
 use Rattle.version_store.specs.Costs.{change_refusal, subject_inode, blocks_taken}
-use Rattle.version_store.specs.Taking.{IsThere, IsReadyFor, RowChanges, Appends, data_by}
+use Rattle.version_store.specs.Taking.{IsThere, IsReadyFor, RowChanges, AppendsBy}
 use Rattle.version_store.specs.Laws.{ThePresentStays}
 use Rattle.drive.specs.Keeping.{IsKeptDrive}
 use Rattle.drive.specs.Fields.{DriveFields, SessionFields, store_of, state_in}
@@ -50,7 +50,7 @@ ready_of_versions store (change.FlushO object first last) ready = absurd ready
 
 -- what taking a change leaves is what its request stores
 pub stored_version : (store after : StoreFields) (c : Change) (m at : ℕ) → IsReadyFor store c → m ≡ at
-    → Appends (object_of c) (data_by (contents_of store.log.held) c (subject_inode store (object_of c) m)) (blocks_taken store c m) store.log after.log → RowChanges store (object_of c) m after.rows → after.latest ≡ m → StoresChange store c at after
+    → AppendsBy store c m after.log → RowChanges store (object_of c) m after.rows → after.latest ≡ m → StoresChange store c at after
 stored_version store after c m at ready is blocks rows latest =
     let version : StoresVersion store c m after = record { blocks = blocks; rows = rows; latest = latest } in
     subst (λ (t : ℕ). StoresChange store c t after) is

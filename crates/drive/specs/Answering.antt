@@ -19,7 +19,7 @@ use Rattle.inode.specs.Contents.{contents_of, bytes_of}
 use Rattle.version_store.specs.Store.{StoreFields}
 use Rattle.version_store.specs.Costs.{subject_inode, blocks_taken}
 use Rattle.s4_model.specs.Effect.{is_of_versions, object_of}
-use Rattle.version_store.specs.Taking.{data_by, Appends, RowChanges}
+use Rattle.version_store.specs.Taking.{AppendsBy, RowChanges}
 use Rattle.segment_word.specs.AcceptRule.{FitsLedger}
 use Rattle.segment_word.specs.Counting.{pins_in}
 use Rattle.segment_word.specs.Handles.{Held}
@@ -47,7 +47,7 @@ owners_after reply seat owners = if is_acceptance reply then owners ++ seat ∷ 
 -- object's journal. The object's row has another journal, and its stamp is one more; a created one has the row of its creation.
 -- All other rows are as they were, and nothing is later than the change.
 pub record StoresVersion (store : StoreFields) (change : Change) (m : ℕ) (after : StoreFields) : Type 0 where
-  pub blocks : Appends (object_of change) (data_by (contents_of store.log.held) change (subject_inode store (object_of change) m)) (blocks_taken store change m) store.log after.log
+  pub blocks : AppendsBy store change m after.log
   pub rows : RowChanges store (object_of change) m after.rows
   pub latest : after.latest ≡ m
 

@@ -18,6 +18,10 @@ with_value values o value = λ q. if o == q then Some value else values q
 abbrev pub without_value : {V : Type 0} → (ℕ → Option V) → ℕ → ℕ → Option V
 without_value values o = λ q. if o == q then None else values q
 
+-- an object has this value, and all others have what they had
+abbrev pub PutsAt : {V : Type 0} → List (ℕ × V) → ℕ → V → List (ℕ × V) → Type 0
+PutsAt values o value later = (q : ℕ) → value_of later q ≡ with_value (value_of values) o value q
+
 -- there is a value of an object above another, and none between
 pub record IsNextAbove {V : Type 0} (values : List (ℕ × V)) (o next : ℕ) : Type 0 where
   pub above : o < next
@@ -40,12 +44,12 @@ pub record IsKeptOf {V : Type 0} (m : MapOf V) (o : ℕ) (found : Option (Kept V
 
 -- an object has this row and this value, and all others are as they were
 pub record Puts {V : Type 0} (m : MapOf V) (o : ℕ) (row : Row) (value : V) (n : MapOf V) : Type 0 where
-  pub rows : (q : ℕ) → value_of n.rows q ≡ with_value (value_of m.rows) o row q
-  pub values : (q : ℕ) → value_of n.values q ≡ with_value (value_of m.values) o value q
+  pub rows : PutsAt m.rows o row n.rows
+  pub values : PutsAt m.values o value n.values
 
 -- an object has this row; all other rows, and all values, are as they were
 pub record PutsRow {V : Type 0} (m : MapOf V) (o : ℕ) (row : Row) (n : MapOf V) : Type 0 where
-  pub rows : (q : ℕ) → value_of n.rows q ≡ with_value (value_of m.rows) o row q
+  pub rows : PutsAt m.rows o row n.rows
   pub values : (q : ℕ) → value_of n.values q ≡ value_of m.values q
 
 -- an object has neither row nor value, and all others are as they were

@@ -1,5 +1,5 @@
 ghost use Rattle.std.specs.Prelude.{◌≡◌, ℕ, ◌+◌, ◌<◌, ◌^◌, Some, None, IsSome, IfSome, IfNone, IfOk, IfErr, OnOk, OnErr, [], length, option_copied};
-ghost use Rattle.object_map.specs.Objects.{value_of, with_value, without_value, IsNextAbove, IsKeptOf, Puts, PutsRow, Removes};
+ghost use Rattle.object_map.specs.Objects.{value_of, without_value, PutsAt, IsNextAbove, IsKeptOf, Puts, PutsRow, Removes};
 ghost use Rattle.object_map.specs.Rows.{row_of, fresh_row};
 ghost use Rattle.s4_types.specs.declared.refusals.Refusal.TheVariants.{NoMemory};
 
@@ -71,7 +71,7 @@ impl<V: Copy + Drop> Model for ObjectMap<V> {
 // A value at a key that has none.
 fn put<V: Drop>(map: &mut BTreeMap<u64, V>, key: u64, value: V) -> Result<(), Refusal>
     requires fresh { value_of map.old.entries key ≡ None }
-    ensures put { OnOk result ((q : ℕ) → value_of map.new.entries q ≡ with_value (value_of map.old.entries) key value q) }
+    ensures put { OnOk result (PutsAt map.old.entries key value map.new.entries) }
     ensures refusal { IfErr result (λ e. e ≡ NoMemory) }
     ensures unchanged { OnErr result (map.new.entries ≡ map.old.entries) }
 {
@@ -94,7 +94,7 @@ fn next_of(old: &Row, row: &Row) -> Row
 fn replace<V: Copy + Drop>(map: &mut BTreeMap<u64, Kept<V>>, key: u64, row: &Row, value: &V)
     requires there { IfSome (value_of map.old.entries key) (λ old. old.row.stamp + 1 < 2 ^ 64) }
     requires some { IsSome (value_of map.old.entries key) }
-    ensures changed { IfSome (value_of map.old.entries key) (λ old. (q : ℕ) → value_of map.new.entries q ≡ with_value (value_of map.old.entries) key (record { row = record row.now { stamp = old.row.stamp + 1 }; value = value.now }) q) }
+    ensures changed { IfSome (value_of map.old.entries key) (λ old. PutsAt map.old.entries key (record { row = record row.now { stamp = old.row.stamp + 1 }; value = value.now }) map.new.entries) }
 {
     if let Some(kept) = map.get_mut(&key) {
         *kept = Kept {
@@ -108,7 +108,7 @@ fn replace<V: Copy + Drop>(map: &mut BTreeMap<u64, Kept<V>>, key: u64, row: &Row
 fn replace_row<V: Copy + Drop>(map: &mut BTreeMap<u64, Kept<V>>, key: u64, row: &Row)
     requires there { IfSome (value_of map.old.entries key) (λ old. old.row.stamp + 1 < 2 ^ 64) }
     requires some { IsSome (value_of map.old.entries key) }
-    ensures changed { IfSome (value_of map.old.entries key) (λ old. (q : ℕ) → value_of map.new.entries q ≡ with_value (value_of map.old.entries) key (record old { row = record row.now { stamp = old.row.stamp + 1 } }) q) }
+    ensures changed { IfSome (value_of map.old.entries key) (λ old. PutsAt map.old.entries key (record old { row = record row.now { stamp = old.row.stamp + 1 } }) map.new.entries) }
 {
     if let Some(place) = map.get_mut(&key) {
         place.row = next_of(&place.row, row);

@@ -10,11 +10,12 @@ use Rattle.codec.specs.declared.inodes.Inode.{Inode}
 use Rattle.object_map.specs.declared.map.Row.{Row}
 use Rattle.object_map.specs.Rows.{row_of, with_row}
 use Rattle.journal_chain.specs.Chain.{OnlyJournalChanged}
+use Rattle.inode.specs.Contents.{contents_of}
 use Rattle.inode.specs.Changed.{blocks_written, blocks_cut}
 use Rattle.inode.specs.Growth.{with_data, GrowsBy}
 use Rattle.version_store.specs.Store.{StoreFields}
 use Rattle.version_store.specs.Versions.{version_in}
-use Rattle.version_store.specs.Costs.{subject_row}
+use Rattle.version_store.specs.Costs.{subject_row, subject_inode, blocks_taken}
 use Rattle.s4_model.specs.Effect.{object_of}
 
 -- an object is there now
@@ -65,3 +66,7 @@ pub record Appends (object : ℕ) (data_bytes : List (List ℕ)) (count : ℕ) (
   pub growth : GrowsBy object data_bytes before between
   pub others : OnlyJournalChanged object between.held after.held
   pub ahead : after.ahead ≡ drop count before.ahead
+
+-- what a change at this moment appends to a store's log: its data, and as many blocks in all as are counted before
+abbrev pub AppendsBy : StoreFields → Change → ℕ → Log → Type 0
+AppendsBy s change m later = Appends (object_of change) (data_by (contents_of s.log.held) change (subject_inode s (object_of change) m)) (blocks_taken s change m) s.log later

@@ -4,12 +4,11 @@ ghost use Rattle.s4_types.specs.declared.changes.Change.TheVariants.{Create, Del
 ghost use Rattle.s4_types.specs.declared.refusals.Refusal.TheVariants.{NoMemory};
 ghost use Rattle.undo_redo.specs.Runs.{blank};
 ghost use Rattle.object_map.specs.Rows.{row_of, with_row, fresh_row};
-ghost use Rattle.inode.specs.Contents.{contents_of};
 ghost use Rattle.version_store.specs.Store.{fields_of, IsStore};
 ghost use Rattle.version_store.specs.Versions.{version_in, version_taken};
-ghost use Rattle.version_store.specs.Costs.{subject_row, subject_inode, blocks_taken, change_refusal};
+ghost use Rattle.version_store.specs.Costs.{subject_row, subject_inode, change_refusal};
 ghost use Rattle.s4_model.specs.Effect.{object_of};
-ghost use Rattle.version_store.specs.Taking.{Takes, RowChanges, data_by, Appends};
+ghost use Rattle.version_store.specs.Taking.{Takes, RowChanges, AppendsBy};
 ghost use Rattle.version_store.specs.private.Turning.{CanTake, CanTurn, Turns, IsTaken, blocks_turned};
 
 use crate::costs::{object_of, refusal};
@@ -210,7 +209,7 @@ impl<B: Blocks> Store<B> {
         ensures latest { OnOk result (self.new.latest ≡ moment) }
         ensures rows { OnOk result ((o : ℕ) → is_some (row_of self.new.rows o) ≡ (is_some (row_of self.old.rows o) || o == object_of change.now)) }
         ensures row { OnOk result (RowChanges (fields_of B.log self.old) (object_of change.now) moment self.new.rows) }
-        ensures blocks { OnOk result (Appends (object_of change.now) (data_by (contents_of (B.log self.old.table).held) change.now (subject_inode (fields_of B.log self.old) (object_of change.now) moment)) (blocks_taken (fields_of B.log self.old) change.now moment) (B.log self.old.table) (B.log self.new.table)) }
+        ensures blocks { OnOk result (AppendsBy (fields_of B.log self.old) change.now moment (B.log self.new.table)) }
         ensures answer { MatchResult result (λ _. change_refusal (fields_of B.log self.old) change.now moment ≡ None)
             (λ e. (e ≡ NoMemory) ⊎ (change_refusal (fields_of B.log self.old) change.now moment ≡ Some e)) }
         ensures memory { IfErr result (λ e. e ≡ NoMemory → (change_refusal (fields_of B.log self.old) change.now moment ≡ None) × (row_of self.old.rows (object_of change.now) ≡ None)) }
