@@ -1,5 +1,5 @@
 -- The rows of what is kept, and the values beside them, are found as what is kept is.
-use Rattle.std.proofs.Common.{◌≡◌, ℕ, ◌==◌, ◌<◌, ◌+◌, if◌then◌else◌, Bool, true, false, List, Option, Some, None, IsSome, IfSome, option_map, Result, Ok, Err, OnOk, refl, sym, ap, subst, ◌∙◌, inl, inr}
+use Rattle.std.proofs.Common.{◌≡◌, ℕ, ◌==◌, ◌<◌, ◌+◌, ◌^◌, if◌then◌else◌, Bool, true, false, List, Option, Some, None, IsSome, IfSome, option_map, Result, Ok, Err, OnOk, refl, sym, ap, subst, ◌∙◌, inl, inr}
 use Rattle.std.proofs.lemmas.Bool.{cases_Bool, cond-true, cond-false, eqb-true}
 use Rattle.std.proofs.lemmas.Option.{none-some}
 use Rattle.std.proofs.lemmas.Map.Made.{lookup-map_values}
@@ -7,7 +7,7 @@ use Rattle.std.specs.BTreeMap.{is_at}
 use Rattle.std.specs.Ordering.{nat_cmp}
 use Rattle.object_map.specs.declared.map.Row.{Row}
 use Rattle.object_map.specs.declared.map.Kept.{Kept}
-use Rattle.object_map.specs.Objects.{value_of, with_value, without_value, IsNextAbove, parts_of, IsKeptOf, Puts, PutsRow, Removes}
+use Rattle.object_map.specs.Objects.{value_of, with_value, without_value, IsNextAbove, MapOf, parts_of, IsKeptOf, Puts, PutsRow, Removes}
 
 pub on_ok : {T E : Type 0} {P Q : Type 0} → (P → Q) → (result : Result T E) → OnOk result P → OnOk result Q
 on_ok f (Ok x) is = f is
@@ -91,20 +91,23 @@ module _ {V : Type 0} where
       → IfSome (value_of (parts_of es).rows o) (λ old. PutsRow (parts_of es) o (record row { stamp = old.stamp + 1 }) (parts_of fs))
   row_changed es fs o row put = subst (λ (r : Option Row). IfSome r (λ old. PutsRow (parts_of es) o (record row { stamp = old.stamp + 1 }) (parts_of fs))) (sym (row_at es o)) (row_changed_by es fs o row (value_of es o) refl put)
 
-  stamps_by : (found : Option (Kept V)) (P : ℕ → Type 0) → IfSome (option_map (λ k. k.row) found) (λ old. P old.stamp) → IfSome found (λ old. P old.row.stamp)
-  stamps_by None P is = is
-  stamps_by (Some old) P is = is
-
-  -- what holds of an object's stamp, and that it has a row, hold of what is kept of it
-  pub stamps : (es : List (ℕ × Kept V)) (o : ℕ) (P : ℕ → Type 0) → IfSome (value_of (parts_of es).rows o) (λ old. P old.stamp) → IfSome (value_of es o) (λ old. P old.row.stamp)
-  stamps es o P is = stamps_by (value_of es o) P (subst (λ (r : Option Row). IfSome r (λ old. P old.stamp)) (row_at es o) is)
+  stamps_by : (found : Option (Kept V)) → IfSome (option_map (λ k. k.row) found) (λ old. old.stamp + 1 < 2 ^ 64) → IfSome found (λ old. old.row.stamp + 1 < 2 ^ 64)
+  stamps_by None is = is
+  stamps_by (Some old) is = is
 
   there_by : (found : Option (Kept V)) → IsSome (option_map (λ k. k.row) found) → IsSome found
   there_by None is = is
   there_by (Some old) is = is
 
-  pub there : (es : List (ℕ × Kept V)) (o : ℕ) → IsSome (value_of (parts_of es).rows o) → IsSome (value_of es o)
-  there es o is = there_by (value_of es o) (subst (λ (r : Option Row). IsSome r) (row_at es o) is)
+  -- the bound of an object's stamp, and that it has a row, hold of what is kept of it
+  pub can_change : (es : List (ℕ × Kept V)) (m : MapOf V) (o n : ℕ) → parts_of es ≡ m → n ≡ o → IfSome (value_of m.rows o) (λ old. old.stamp + 1 < 2 ^ 64) → IsSome (value_of m.rows o)
+      → IfSome (value_of es n) (λ old. old.row.stamp + 1 < 2 ^ 64) × IsSome (value_of es n)
+  can_change es m o n view number is some =
+      let rows : value_of m.rows o ≡ option_map (λ k. k.row) (value_of es n) =
+      ap (λ (v : MapOf V). value_of v.rows o) (sym view) ∙ row_at es o ∙ ap (λ (k : ℕ). option_map (λ (k : Kept V). k.row) (value_of es k)) (sym number) in (
+        stamps_by (value_of es n) (subst (λ (r : Option Row). IfSome r (λ old. old.stamp + 1 < 2 ^ 64)) rows is),
+        there_by (value_of es n) (subst (λ (r : Option Row). IsSome r) rows some),
+      )
 
   -- where nothing is kept of an object any more, it has neither
   pub removes : (es fs : List (ℕ × Kept V)) (o : ℕ) → ((q : ℕ) → value_of fs q ≡ without_value (value_of es) o q) → Removes (parts_of es) o (parts_of fs)

@@ -1,19 +1,14 @@
-use Rattle.std.proofs.Common.{◌≡◌, ℕ, ◌+◌, ◌<◌, ◌^◌, IsSome, IfSome, sym, subst}
+use Rattle.std.proofs.Common.{◌≡◌, ℕ, ◌+◌, IfSome, subst}
 use Rattle.object_map.specs.declared.map.Row.{Row}
 use Rattle.object_map.specs.Objects.{MapOf, Puts, value_of, with_value, parts_of}
 use Rattle.object_map.specs.Rows.{row_of}
-use Rattle.object_map.proofs.Mapped.{changed, stamps, there}
+use Rattle.object_map.proofs.Mapped.{changed, can_change}
 use Rattle.object_map.proofs.map.ObjectMap.change.Goals as goal
 
 pub replace-requires : goal.replace-requires
 replace-requires g c =
-    let objects = c.self.inside.objects.entries in
-    let is = subst (λ (m : MapOf _). IfSome (row_of m.rows c.args.object) (λ old. old.stamp + 1 < 2 ^ 64)) (sym c.self.view_is) c.requires.there in
-    let some = subst (λ (m : MapOf _). IsSome (row_of m.rows c.args.object)) (sym c.self.view_is) c.requires.some in
-    record {
-      there = subst (λ (n : ℕ). IfSome (value_of objects n) (λ old. old.row.stamp + 1 < 2 ^ 64)) (sym c.number.ensures) (stamps objects c.args.object (λ (n : ℕ). n + 1 < 2 ^ 64) is);
-      some = subst (λ (n : ℕ). IsSome (value_of objects n)) (sym c.number.ensures) (there objects c.args.object some);
-    }
+    let can = can_change c.self.inside.objects.entries c.args.self.now c.args.object c.number.result c.self.view_is c.number.ensures c.requires.there c.requires.some in
+    record { there = can.0; some = can.1 }
 
 pub returns : goal.returns
 returns g c =
