@@ -25,7 +25,7 @@ BeginsDead [] = ⊥
 BeginsDead (e ∷ entries) = e.before.alive ≡ false
 
 -- Entries that lead from a first inode on, of an object made at this moment, are in order up to a latest moment. Each is
--- of a moment from the making to the latest; so is the last change of each live inode behind some of them. A dead inode
+-- of a moment from the making to the latest; so is the last change of each live inode, the first among them. A dead inode
 -- is the first or the last. The first, where it is dead, is blank. At least one inode is live.
 pub record IsOrderlyChain (created latest : ℕ) (first : Inode) (entries : List EntryFields) : Type 0 where
   pub moments : AllByRecursion (λ e. IsFromTo created latest e.moment) entries
