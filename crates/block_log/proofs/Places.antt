@@ -1,5 +1,5 @@
 -- What holds of one place and of another.
-use Rattle.std.proofs.Common.{◌≡◌, inl, inr, ℕ, true, false, ◌==◌, ◌&&◌, List, [], ◌∷◌, Option, Some, None, if◌then◌else◌, refl, sym, ap, ◌∙◌, subst}
+use Rattle.std.proofs.Common.{◌≡◌, inl, inr, ℕ, ◌+◌, true, false, ◌==◌, ◌&&◌, List, [], ◌∷◌, Option, Some, None, if◌then◌else◌, refl, sym, ap, ◌∙◌, subst}
 use Rattle.std.proofs.lemmas.Bool.{eqb-true, eq-eqb, and_parts, and_from, cases_Bool}
 use Rattle.s4_types.specs.Pointer.{Place}
 use Rattle.block_log.specs.declared.kinds.BlockKind.{BlockKind}
@@ -20,14 +20,14 @@ same_as_itself p =
     (and_from (p.block == p.block) (p.generation == p.generation) (eq-eqb p.block p.block refl) (eq-eqb p.generation p.generation refl))
 
 -- an update at a place, seen at that place and elsewhere
-put : (Place → Option Stored) → Place → Option Stored → Place → Option Stored
+unfoldable pub put : (Place → Option Stored) → Place → Option Stored → Place → Option Stored
 put held p found = λ q. if same_place p q then found else held q
 
 put_here : (held : Place → Option Stored) (p : Place) (found : Option Stored) → put held p found p ≡ found
 unfolding put
 put_here held p found = ap (λ b. if b then found else held p) (same_as_itself p)
 
-put_elsewhere : (held : Place → Option Stored) (p : Place) (found : Option Stored) (q : Place) → same_place p q ≡ false → put held p found q ≡ held q
+pub put_elsewhere : (held : Place → Option Stored) (p : Place) (found : Option Stored) (q : Place) → same_place p q ≡ false → put held p found q ≡ held q
 unfolding put
 put_elsewhere held p found q h = ap (λ b. if b then found else held q) h
 
@@ -44,10 +44,11 @@ put_unseen held p found k o q new old = elim (cases_Bool (same_place p q)) [
 ]
 
 -- where the places ahead are known
-puts_first : (log : Log) (block : Stored) (q : Place) (ahead : List Place) → log.ahead ≡ q ∷ ahead → log.held q ≡ None → Puts log block q (record { held = with_held log.held q block; ahead = ahead })
+puts_first : (log : Log) (block : Stored) (q : Place) (ahead : List Place) → log.ahead ≡ q ∷ ahead → log.held q ≡ None → Puts log block q (record { held = with_held log.held q block; ahead = ahead; spent = 1 + log.spent })
 unfolding put
 puts_first log block q ahead h fresh = record {
   ahead = h;
+  spent = refl;
   fresh = fresh;
   here = put_here log.held q (Some block);
   kept = λ r e. put_elsewhere log.held q (Some block) r e;
@@ -55,14 +56,14 @@ puts_first log block q ahead h fresh = record {
 }
 
 -- what stands in an option, or the other
-abbrev inside : Option (Place × Log) → Place × Log → Place × Log
+abbrev pub inside : Option (Place × Log) → Place × Log → Place × Log
 inside None other = other
 inside (Some x) other = x
 
 puts_at : (log : Log) (block : Stored) (ahead : List Place) (p : Place) (after : Log) → log.ahead ≡ ahead → appended_at log block ahead ≡ Some (p, after) → log.held p ≡ None → Puts log block p after
 puts_at log block [] p after h e fresh = absurd cc
 puts_at log block (q ∷ ahead) p after h e fresh =
-    let same : (q, record { held = with_held log.held q block; ahead = ahead }) ≡ (p, after) = ap (λ o. inside o (p, after)) e in
+    let same : (q, record { held = with_held log.held q block; ahead = ahead; spent = 1 + log.spent }) ≡ (p, after) = ap (λ o. inside o (p, after)) e in
     subst (λ (x : Place × Log). log.held x.0 ≡ None → Puts log block x.0 x.1) same (λ f. puts_first log block q ahead h f) fresh
 
 pub puts : (before after : Log) (block : Stored) (p : Place) → appended before block ≡ Some (p, after) → before.held p ≡ None → Puts before block p after
@@ -72,6 +73,7 @@ pub takes : (before : Log) (block : Stored) (p : Place) → before.held p ≡ So
 unfolding put
 takes before block p h = record {
   ahead = refl;
+  spent = refl;
   here = put_here before.held p None;
   kept = λ q e. put_elsewhere before.held p None q e;
   others = λ k o q e. put_unseen before.held p None k o q refl (ap (seen_as k o) h ∙ not_seen k o block e);

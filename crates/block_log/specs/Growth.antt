@@ -1,5 +1,5 @@
 -- What one append, and one drop, leave as they were.
-use Rattle.std.specs.Prelude.{◌≡◌, ℕ, false, ◌==◌, ◌&&◌, ◌∷◌, Option, Some, None}
+use Rattle.std.specs.Prelude.{◌≡◌, ℕ, ◌+◌, false, ◌==◌, ◌&&◌, ◌∷◌, Option, Some, None}
 use Rattle.s4_types.specs.Pointer.{Place}
 use Rattle.block_log.specs.declared.kinds.BlockKind.{BlockKind}
 use Rattle.block_log.specs.Log.{Log, Stored, same_place, same_kind, of_kind}
@@ -8,9 +8,10 @@ use Rattle.block_log.specs.Log.{Log, Stored, same_place, same_kind, of_kind}
 abbrev pub OthersStay : BlockKind → ℕ → (Place → Option Stored) → (Place → Option Stored) → Type 0
 OthersStay kind object before after = (k : BlockKind) (o : ℕ) (q : Place) → (same_kind k kind && object == o) ≡ false → of_kind k o after q ≡ of_kind k o before q
 
--- A block was put at the first place ahead, where nothing was held; all else is as it was.
+-- A block was put at the first place ahead, which is spent now, and where nothing was held; all else is as it was.
 pub record Puts (before : Log) (block : Stored) (p : Place) (after : Log) : Type 0 where
   pub ahead : before.ahead ≡ p ∷ after.ahead
+  pub spent : after.spent ≡ 1 + before.spent
   pub fresh : before.held p ≡ None
   pub here : after.held p ≡ Some block
   pub kept : (q : Place) → same_place p q ≡ false → after.held q ≡ before.held q
@@ -19,6 +20,7 @@ pub record Puts (before : Log) (block : Stored) (p : Place) (after : Log) : Type
 -- The block at a place is held no longer; all else is as it was.
 pub record LetsGo (before : Log) (block : Stored) (p : Place) (after : Log) : Type 0 where
   pub ahead : after.ahead ≡ before.ahead
+  pub spent : after.spent ≡ before.spent
   pub here : after.held p ≡ None
   pub kept : (q : Place) → same_place p q ≡ false → after.held q ≡ before.held q
   pub others : OthersStay block.kind block.object before.held after.held

@@ -1,5 +1,5 @@
 -- What a table of blocks holds, and how appending and dropping change it.
-use Rattle.std.specs.Prelude.{ℕ, Bool, true, false, ◌==◌, ◌&&◌, if◌then◌else◌, List, [], ◌∷◌, Option, Some, None}
+use Rattle.std.specs.Prelude.{ℕ, ◌+◌, Bool, true, false, ◌==◌, ◌&&◌, if◌then◌else◌, List, [], ◌∷◌, Option, Some, None}
 use Rattle.s4_types.specs.Pointer.{Place}
 use Rattle.block_log.specs.declared.kinds.BlockKind.{BlockKind}
 use Rattle.block_log.specs.declared.kinds.BlockKind.TheVariants.{Journal, Checkpoint, Data}
@@ -10,10 +10,12 @@ pub record Stored : Type 0 where
   pub object : ℕ
   pub bytes : List ℕ
 
--- the block that each held pointer leads to, and the places that the next appends take, in order
+-- The block that each held pointer leads to, the places that the next appends take, in order, and how many places were ever
+-- taken.
 pub record Log : Type 0 where
   pub held : Place → Option Stored
   pub ahead : List Place
+  pub spent : ℕ
 
 -- the two places are one
 abbrev pub same_place : Place → Place → Bool
@@ -30,7 +32,7 @@ without held p = λ q. if same_place p q then None else held q
 -- what a block's append makes of a log where these places are ahead, and the place that it takes: the first of them
 abbrev pub appended_at : Log → Stored → List Place → Option (Place × Log)
 appended_at log block [] = None
-appended_at log block (p ∷ ahead) = Some (p, record { held = with_held log.held p block; ahead = ahead })
+appended_at log block (p ∷ ahead) = Some (p, record { held = with_held log.held p block; ahead = ahead; spent = 1 + log.spent })
 
 -- what a block's append makes of a log, and the place that it takes
 abbrev pub appended : Log → Stored → Option (Place × Log)

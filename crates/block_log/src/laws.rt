@@ -1,9 +1,10 @@
 //! Laws of the log, for the layers above: each function does nothing, and its contract is the law.
 
-ghost use Rattle.std.specs.Prelude.{◌≡◌, true, Option, Some, None};
+ghost use Rattle.std.specs.Prelude.{◌≡◌, ℕ, ◌+◌, true, Option, Some, None};
 ghost use Rattle.s4_types.specs.Pointer.{Place};
 ghost use Rattle.block_log.specs.Log.{Log, Stored, same_place, appended, dropped};
 ghost use Rattle.block_log.specs.Growth.{Puts, LetsGo};
+ghost use Rattle.block_log.specs.Taken.{TakesPlaces};
 
 /// Places that the test finds to be one are equal.
 pub fn one_place_has_one_name()
@@ -18,4 +19,24 @@ pub fn an_append_puts_one_block()
 /// Dropping a held block takes it alone.
 pub fn a_drop_takes_one_block()
     ensures { (before : Log) (block : Stored) (p : Place) → before.held p ≡ Some block → LetsGo before block p (dropped before p) }
+{}
+
+/// An append takes the first place ahead.
+pub fn an_append_takes_one_place()
+    ensures { (before after : Log) (block : Stored) (p : Place) → appended before block ≡ Some (p, after) → TakesPlaces 1 before after }
+{}
+
+/// A drop takes no place, whatever is held there.
+pub fn a_drop_takes_no_place()
+    ensures { (before : Log) (p : Place) → TakesPlaces 0 before (dropped before p) }
+{}
+
+/// Where nothing changes, no place is taken.
+pub fn no_change_takes_no_place()
+    ensures { (log : Log) → TakesPlaces 0 log log }
+{}
+
+/// Two changes in turn take as many places as both together.
+pub fn places_taken_add_up()
+    ensures { (n m : ℕ) (first second third : Log) → TakesPlaces n first second → TakesPlaces m second third → TakesPlaces (n + m) first third }
 {}

@@ -12,7 +12,7 @@ pub type Block = [u8; BLOCK_BYTES];
 
 /// A table of blocks behind pointers.
 pub trait Blocks {
-    // What the held pointers lead to, and where the next appends go.
+    // What the held pointers lead to, where the next appends go, and how many places were ever taken.
     ghost log: { Self → Log };
 
     /// Appends a block, and answers the pointer by which it is held from now on. No held pointer equals it.

@@ -6,7 +6,7 @@ ghost use Rattle.codec.specs.Entry.{EntryFields, same_slot, ascend_from, was_not
 
 use crate::attributes::Attribute;
 use arrayvec::ArrayVec;
-use s4_types::limits::{ENTRY_TRIPLES, OBJECT_BYTES};
+use s4_types::limits::{ENTRY_TRIPLES, OBJECT_BLOCKS, OBJECT_BYTES};
 use s4_types::{Moment, Ptr};
 use std::marker::Model;
 
@@ -122,7 +122,9 @@ fn may_stand(low: u8, triple: Triple) -> bool
     ensures exact { result ≡ (nat_le low triple.index && (nat_lt triple.index OBJECT_BLOCKS && not (same_slot triple.before triple.after))) }
     ensures room { IsTrue result → triple.index < OBJECT_BLOCKS }
 {
-    low <= triple.index && triple.index < 48 && !is_same_slot(triple.before, triple.after)
+    low <= triple.index
+        && (triple.index as usize) < OBJECT_BLOCKS
+        && !is_same_slot(triple.before, triple.after)
 }
 
 fn ascends(triples: &[Triple]) -> bool

@@ -1,8 +1,6 @@
 -- What a new drive begins with.
-use Rattle.std.proofs.Common.{◌≡◌, true, false, ℕ, ◌+◌, ◌*◌, ◌≤◌, Option, None, List, [], ◌∷◌, length, length-append, refl, ap, ◌∙◌, zero, suc, cond, arith}
-use Rattle.std.specs.List.{flat_map, range_with_len}
+use Rattle.std.proofs.Common.{◌≡◌, true, false, ℕ, Option, None, refl, ap, ◌∙◌, cond, arith}
 use Rattle.std.specs.Prelude.{nat_le}
-use Rattle.std.proofs.lemmas.List.FromFn.{length-range_with_len}
 use Rattle.s4_types.specs.declared.versions.Version.TheVariants.{Absent}
 use Rattle.s4_model.specs.State.{state_of, new_history}
 use Rattle.s4_model.specs.VersionAt.{version_of}
@@ -11,24 +9,8 @@ use Rattle.object_map.specs.declared.map.Row.{Row}
 use Rattle.object_map.specs.Rows.{row_of}
 use Rattle.version_store.specs.Store.{StoreFields, IsStore}
 use Rattle.version_store.specs.Versions.{version_in, version_by, inode_by}
-use Rattle.segment_table.specs.Room.{places, new_places}
 use Rattle.window.specs.Timeline.{Timeline, StandsFor}
 use Rattle.drive.specs.Keeping.{IsKeptDrive}
-
-length-places : (f g b n : ℕ) → length (places f g b n) ≡ n
-unfolding places
-length-places f g b zero = refl
-length-places f g b (suc n) = ap suc (length-places f g (b + 1) n)
-
-length-frames : (xs : List ℕ) → length (flat_map (λ f. places f 1 1 15) xs) ≡ 15 * length xs
-length-frames [] = refl
-length-frames (f ∷ fs) =
-    let more : length (f ∷ fs) ≡ 1 + length fs = omega arith in
-    length-append (places f 1 1 15) (flat_map (λ g. places g 1 1 15) fs) ∙ omega (arith, length-places f 1 1 15, length-frames fs)
-
--- a new drive has at most as many places as the largest
-pub few_places : (n : ℕ) → n ≤ 1024 → length (new_places n) ≤ 15360
-few_places n le = omega (arith, length-frames (range_with_len 0 n), length-range_with_len 0 n)
 
 no_version : (s : StoreFields) (o t : ℕ) → row_of s.rows o ≡ None → version_in s o t ≡ Absent
 no_version s o t none = ap (λ (r : Option Row). version_by s.log.held (inode_by s.log.held o t r)) none

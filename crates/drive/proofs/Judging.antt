@@ -1,7 +1,7 @@
 -- Judging a request for a version by the present inode of its object.
-use Rattle.std.proofs.Common.{◌≡◌, ℕ, ◌+◌, ◌≤◌, Bool, true, false, cond, Option, Some, None, IsSome, List, length, refl, sym, ap, subst, ◌∙◌, arith}
-use Rattle.std.proofs.lemmas.Bool.{le-ltb, false≢true}
-use Rattle.std.specs.Prelude.{nat_lt}
+use Rattle.std.proofs.Common.{◌≡◌, ℕ, ◌+◌, ◌≤◌, inl, inr, Bool, true, false, cond, Option, Some, None, IsSome, List, length, refl, sym, ap, subst, ◌∙◌, arith}
+use Rattle.std.proofs.lemmas.Bool.{cases_lt, le-ltb, false≢true}
+use Rattle.std.specs.Prelude.{nat_lt, is_some}
 use Rattle.s4_types.specs.Pointer.{Place}
 use Rattle.s4_types.specs.declared.changes.Change.{Change}
 use Rattle.s4_types.specs.declared.changes.Change.TheVariants as change
@@ -22,7 +22,7 @@ use Rattle.inode.specs.Contents.{contents_of, bytes_of, meaning}
 use Rattle.inode.specs.Laws.{TheSizeCountsTheBytes}
 use Rattle.version_store.specs.Store.{StoreFields}
 use Rattle.version_store.specs.Versions.{inode_in, version_in, version_by}
-use Rattle.version_store.specs.Taking.{Takes, IsReadyFor, IsThere}
+use Rattle.version_store.specs.Taking.{Takes, IsReadyFor, IsAboveAll, IsThere}
 use Rattle.version_store.specs.Laws.{ThePresentStays}
 use Rattle.window.specs.Timeline.{Timeline}
 use Rattle.admission.specs.Later.{later_refusal, IsWithin, IsOfVersions, IsAllowed, HasSize, object_asked}
@@ -110,13 +110,22 @@ admin_is_later s (FlushO object first last) within of = absurd of
 
 -- ---- what a store takes
 
+-- the next object's number is above that of each object that has a row
+pub next_above : (s : State) (store : StoreFields) (w : Timeline) (next object : ℕ) → IsKeptDrive s store w next → object ≡ next → IsAboveAll store object
+next_above s store w next object kept is q there = elim (cases_lt q object) [
+  | inl less ↦ less
+  | inr most ↦
+      let number : next ≡ s.next = kept.next in
+      absurd (false≢true (sym (ap is_some (kept.unborn q (omega (arith, is, number, most)))) ∙ there))
+]
+
 -- what is allowed by the present size can be taken
 is_ready : ThePresentStays → (s : State) (store : StoreFields) (w : Timeline) (next : ℕ) (size : Option ℕ) (c : Change) → IsKeptDrive s store w next → IsAllowed next size c → (IsSome size → IsThere store (object_of c)) → (IsReadyFor store c) × (1 ≤ object_of c)
 is_ready stays s store w next size (change.Create object attribute) kept allowed there =
     let o : object ≡ next = allowed.0 in
     let n : next ≡ s.next = kept.next in
     let low : 1 ≤ s.next = kept.sound.numbered in
-    (kept.unborn object (omega arith), omega arith)
+    (next_above s store w next object kept o, omega arith)
 is_ready stays s store w next size (change.Delete object) kept allowed there = (there allowed, (there_is_given stays s store w next object kept (there allowed)).0)
 is_ready stays s store w next size (change.Write object offset bytes) kept allowed there = (there allowed, (there_is_given stays s store w next object kept (there allowed)).0)
 is_ready stays s store w next size (change.Truncate object n) kept allowed there = (there allowed, (there_is_given stays s store w next object kept (there allowed)).0)

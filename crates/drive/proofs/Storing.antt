@@ -23,11 +23,10 @@ use Rattle.window.specs.Timeline.{Timeline, StandsFor}
 use Rattle.block_log.specs.Log.{Stored}
 use Rattle.object_map.specs.declared.map.Row.{Row}
 use Rattle.object_map.specs.Rows.{row_of}
-use Rattle.inode.specs.Contents.{contents_of}
 use Rattle.version_store.specs.Store.{StoreFields, IsStore}
 use Rattle.s4_model.specs.Effect.{is_of_versions, object_of}
 use Rattle.version_store.specs.Versions.{inode_by, version_by, version_in, version_taken}
-use Rattle.version_store.specs.Costs.{change_refusal, subject_inode, blocks_taken}
+use Rattle.version_store.specs.Costs.{change_refusal}
 use Rattle.version_store.specs.Taking.{IsThere, IsReadyFor, RowChanges, AppendsBy}
 use Rattle.version_store.specs.Laws.{ThePresentStays}
 use Rattle.drive.specs.Keeping.{IsKeptDrive}

@@ -17,7 +17,6 @@ use Rattle.segment_word.specs.AcceptViews.{Ledger, Told, with_change, caught_up,
 use Rattle.codec.specs.declared.inodes.Inode.{Inode}
 use Rattle.inode.specs.Contents.{contents_of, bytes_of}
 use Rattle.version_store.specs.Store.{StoreFields}
-use Rattle.version_store.specs.Costs.{subject_inode, blocks_taken}
 use Rattle.s4_model.specs.Effect.{is_of_versions, object_of}
 use Rattle.version_store.specs.Taking.{AppendsBy, RowChanges}
 use Rattle.segment_word.specs.AcceptRule.{FitsLedger}

@@ -6,6 +6,7 @@ ghost use Rattle.s4_model.specs.Sound.{IsSound};
 ghost use Rattle.object_map.specs.Objects.{IsNextAbove};
 ghost use Rattle.object_map.specs.Rows.{row_of};
 ghost use Rattle.segment_table.specs.Room.{pointers_in};
+ghost use Rattle.segment_table.specs.Table.{HoldsWholeBlocks};
 ghost use Rattle.version_store.specs.Store.{IsStore};
 ghost use Rattle.version_store.specs.Costs.{room};
 ghost use Rattle.version_store.specs.Versions.{entries_of_object, inode_in};
@@ -21,13 +22,14 @@ use segment_word::Naming;
 impl<J: Naming> Drive<J> {
     /// Shows what always holds of a drive: at each moment that can be read, the blocks of each object decode to exactly the
     /// version that the history tells; that history begins with the drive's base and is sound; the frames are those
-    /// of the table that `J` names; and the objects stand on their blocks.
+    /// of the table that `J` names; the objects stand on their blocks; and each block that is held has 512 bytes.
     pub fn rules(&self)
         ensures decodes { DecodesWhereVisible (store_of self.now) (state_in self.now) }
         ensures base { (history_of self.now).base ≡ J.base }
         ensures frames { self.now.store.table.drive.table ≡ J.frames }
         ensures sound { IsSound (state_in self.now) }
         ensures store { IsStore (store_of self.now) }
+        ensures whole { HoldsWholeBlocks self.now.store.table }
     {
         let _ = &self.next;
         self.store.rules();

@@ -47,11 +47,11 @@ impl NewDrive {
     /// and no object has a row.
     ///
     /// NoMemory where memory was refused, Busy where a count of those that share it was full.
-    #[tactic(auto, using(crate::proofs::Beginning::few_places, crate::proofs::Beginning::kept_new))]
+    #[tactic(auto, using(crate::proofs::Beginning::kept_new))]
     pub fn new(alloc: Global, frames: usize, window: u64) -> Result<Self, Refusal>
         requires { IsFrameCount frames }
         ensures window { IfOk result (λ d. d.window ≡ window) }
-        ensures log { IfOk result (λ d. log_of d.store.table ≡ record { held = λ p. None; ahead = new_places frames }) }
+        ensures log { IfOk result (λ d. log_of d.store.table ≡ record { held = λ p. None; ahead = new_places frames; spent = 0 }) }
         ensures empty { IfOk result (λ d. (o : ℕ) → row_of d.store.rows o ≡ None) }
         ensures latest { IfOk result (λ d. d.store.latest ≡ 0) }
         ensures store { IfOk result (λ d. IsStore (fields_of log_of d.store)) }
@@ -59,6 +59,7 @@ impl NewDrive {
     {
         every_history_is_sound();
         let table = SegmentTable::new(alloc, frames)?;
+        table.rules();
         let store = Store::new(alloc, table);
         let accepts = Accepts::new(alloc)?;
         let window = Window::new(alloc, window);

@@ -1,10 +1,14 @@
 -- Data blocks appended one by one.
-use Rattle.std.proofs.Common.{◌≡◌, ℕ, zero, suc, ◌+◌, ◌-◌, ◌<◌, ◌==◌, true, false, ◌&&◌, List, [], ◌∷◌, ◌++◌, length, drop, slice_get, Option, Some, None, IsSome, inl, inr, refl, ap, sym, ◌∙◌, subst, arith}
+use Rattle.std.proofs.Common.{◌≡◌, ℕ, zero, suc, ◌+◌, ◌-◌, ◌<◌, ◌==◌, true, false, ◌&&◌, List, [], ◌∷◌, ◌++◌, length, take, drop, slice_get, Option, Some, None, IsSome, inl, inr, refl, ap, sym, ◌∙◌, subst, arith}
 use Rattle.std.proofs.lemmas.Bool.{cases_lt, cases_Bool, and_parts, and_from, eqb-true, eq-eqb, cond-true, cond-false, false≢true}
+use Rattle.std.specs.List.{Contains}
 use Rattle.std.proofs.lemmas.List.{length-append, length-drop, drop-drop}
+use Rattle.std.proofs.lemmas.List.Elements.{Contains-append_left, Contains-append_right}
+use Rattle.std.proofs.Math.Seq.{take-add}
 use Rattle.std.proofs.lemmas.Option.{slice_get_within, same_Some, none-some}
 use Rattle.s4_types.specs.Pointer.{Place}
 use Rattle.block_log.specs.Log.{Log, Stored, with_held, seen_as, same_kind, same_place}
+use Rattle.block_log.specs.Taken.{TakesPlaces}
 use Rattle.block_log.specs.declared.kinds.BlockKind.{BlockKind}
 use Rattle.block_log.specs.declared.kinds.BlockKind.TheVariants.{Data}
 use Rattle.inode.specs.Growth.{data_block, log_grown, grown_at, with_data, GrowsBy}
@@ -76,7 +80,7 @@ slice_get-drop (x ∷ xs) (suc n) k (suc m) e = slice_get-drop xs n k m (omega a
 pub grows-none : (object : ℕ) (log : Log) → GrowsBy object [] log log
 grows-none object log = record {
   room = omega arith;
-  ahead = refl;
+  takes = record { ahead = refl; spent = omega arith; among = λ p none some. absurd (none_is_some (log.held p) none some) };
   fresh = λ n p lt e. absurd (omega arith);
   taken = λ n p bytes e none. absurd (none-some bytes none);
   kept = λ p held. refl;
@@ -90,7 +94,7 @@ ahead_is (p ∷ ahead) q e = ap (λ first. first ∷ ahead) (same_Some p q e)
 
 -- the log after a block at the first place ahead
 abbrev put_at : Log → Stored → Place → Log
-put_at log block q = record { held = with_held log.held q block; ahead = drop 1 log.ahead }
+put_at log block q = record { held = with_held log.held q block; ahead = drop 1 log.ahead; spent = 1 + log.spent }
 
 grown_is : (log : Log) (block : Stored) (q : Place) → slice_get log.ahead 0 ≡ Some q → log_grown log block ≡ put_at log block q
 grown_is log block q e = ap (grown_at log block) (ahead_is log.ahead q e)
@@ -106,7 +110,7 @@ taken_more object blocks bytes before mid q grows first free n p found at_n is_f
           held_beside mid.held q p (data_block object bytes) free (some_is (mid.held p) (data_block object found) old) ∙ old
       | inr past ↦
           let last : n ≡ length blocks = omega arith in
-          let here : q ≡ p = same_Some q p (sym first ∙ ap (λ a. slice_get a 0) grows.ahead ∙ slice_get-drop before.ahead (length blocks) 0 n (omega arith) ∙ at_n) in
+          let here : q ≡ p = same_Some q p (sym first ∙ ap (λ a. slice_get a 0) grows.takes.ahead ∙ slice_get-drop before.ahead (length blocks) 0 n (omega arith) ∙ at_n) in
           let same : bytes ≡ found = same_Some bytes found (sym (slice_get-at_end blocks bytes) ∙ ap (slice_get (blocks ++ bytes ∷ [])) (sym last) ∙ is_found) in
           ap (with_held mid.held q (data_block object bytes)) (sym here) ∙ held_here mid.held q (data_block object bytes) ∙ ap (λ b. Some (data_block object b)) same
     ]
@@ -122,22 +126,43 @@ fresh_more object blocks bytes before mid q grows first free n p lt at_n =
     elim (cases_lt n (length blocks)) [
       | inl below ↦ grows.fresh n p below at_n
       | inr past ↦
-          let here : q ≡ p = same_Some q p (sym first ∙ ap (λ a. slice_get a 0) grows.ahead ∙ slice_get-drop before.ahead (length blocks) 0 n (omega arith) ∙ at_n) in
+          let here : q ≡ p = same_Some q p (sym first ∙ ap (λ a. slice_get a 0) grows.takes.ahead ∙ slice_get-drop before.ahead (length blocks) 0 n (omega arith) ∙ at_n) in
           is_free (before.held p) (mid.held p) (grows.kept p) (ap mid.held (sym here) ∙ free)
     ]
 
 drop_one_more : (before mid : List Place) (n m : ℕ) → mid ≡ drop n before → n + 1 ≡ m → drop 1 mid ≡ drop m before
 drop_one_more before mid n m e more = ap (drop 1) e ∙ drop-drop 1 n before ∙ ap (λ k. drop k before) (omega arith)
 
+take_one_more : (before mid : List Place) (n m : ℕ) (q : Place) → mid ≡ drop n before → n + 1 ≡ m → slice_get mid 0 ≡ Some q → take m before ≡ take n before ++ q ∷ []
+take_one_more before mid n m q e more first =
+    ap (λ k. take k before) (sym more) ∙ take-add n 1 before ∙ ap (λ rest. take n before ++ take 1 rest) (sym e ∙ ahead_is mid q first)
+
+-- what is newly held stands at a place that was taken before, or at the new one
+among_one_more : (before mid : Log) (n m : ℕ) (q : Place) (block : Stored) → TakesPlaces n before mid → n + 1 ≡ m → slice_get mid.ahead 0 ≡ Some q
+    → (p : Place) → before.held p ≡ None → IsSome (with_held mid.held q block p) → Contains (take m before.ahead) p
+among_one_more before mid n m q block takes more first p none some =
+    subst (λ places. Contains places p) (sym (take_one_more before.ahead mid.ahead n m q takes.ahead more first)) (elim (cases_Bool (same_place q p)) [
+      | inl e ↦ Contains-append_right (take n before.ahead) (q ∷ []) p (subst (λ r. Contains (q ∷ []) r) (same_place-eq q p e) (0, omega arith, refl))
+      | inr e ↦ Contains-append_left (take n before.ahead) (q ∷ []) p (takes.among p none (subst (λ (there : Option Stored). IsSome there) (cond-false (same_place q p) (Some block) (mid.held p) e) some))
+    ])
+
+-- one block more takes one place more
+taken_one_more : (before mid : Log) (n m : ℕ) (q : Place) (block : Stored) → TakesPlaces n before mid → n + 1 ≡ m → slice_get mid.ahead 0 ≡ Some q → TakesPlaces m before (put_at mid block q)
+taken_one_more before mid n m q block takes more first = record {
+  ahead = drop_one_more before.ahead mid.ahead n m takes.ahead more;
+  spent = (let one = takes.spent in omega (arith, one, more));
+  among = among_one_more before mid n m q block takes more first;
+}
+
 pub grows-more : (object : ℕ) (blocks : List (List ℕ)) (bytes : List ℕ) (before mid : Log) (q : Place) → GrowsBy object blocks before mid → slice_get mid.ahead 0 ≡ Some q → mid.held q ≡ None
     → GrowsBy object (blocks ++ bytes ∷ []) before (log_grown mid (data_block object bytes))
 grows-more object blocks bytes before mid q grows first free =
     let longer : length (blocks ++ bytes ∷ []) ≡ length blocks + 1 = length-append blocks (bytes ∷ []) in
     let within : 0 < length mid.ahead = slice_get_within mid.ahead 0 q first in
-    let left : length mid.ahead ≡ length before.ahead - length blocks = ap length grows.ahead ∙ length-drop (length blocks) before.ahead in
+    let left : length mid.ahead ≡ length before.ahead - length blocks = ap length grows.takes.ahead ∙ length-drop (length blocks) before.ahead in
     subst (GrowsBy object (blocks ++ bytes ∷ []) before) (sym (grown_is mid (data_block object bytes) q first)) (record {
       room = omega arith;
-      ahead = drop_one_more before.ahead mid.ahead (length blocks) (length (blocks ++ bytes ∷ [])) grows.ahead (sym longer);
+      takes = taken_one_more before mid (length blocks) (length (blocks ++ bytes ∷ [])) q (data_block object bytes) grows.takes (sym longer) first;
       fresh = fresh_more object blocks bytes before mid q grows first free;
       taken = taken_more object blocks bytes before mid q grows first free;
       kept = λ p held. held_beside mid.held q p (data_block object bytes) free (subst IsSome (sym (grows.kept p held)) held) ∙ grows.kept p held;

@@ -1,8 +1,6 @@
 -- Ranges of bytes: the laws that the layers above are told.
-use Rattle.std.proofs.Common.{◌≡◌, ℕ, ◌+◌, ◌-◌, ◌<◌, ◌≤◌, min, List, ◌++◌, length, slice_index, take, drop, refl, sym, arith}
-use Rattle.s4_types.specs.Pointer.{Place}
-use Rattle.codec.specs.declared.inodes.Inode.{Inode}
-use Rattle.inode.specs.Contents.{listed, byte_of, bytes_of}
+use Rattle.std.proofs.Common.{◌+◌, ◌-◌, min, refl}
+use Rattle.inode.specs.Contents.{listed, byte_of}
 use Rattle.inode.specs.Laws.{RangesJoin, ARangeHasParts, AListIsARange, EqualRanges, BytesFromAnOffset}
 use Rattle.inode.proofs.Listing.{listed-is, listed-same, listed-join, listed-between}
 use Rattle.inode.proofs.ReadBytes.{read_is}

@@ -99,7 +99,7 @@ pub upto-more : (object : ℕ) (bytes_at : ℕ → ℕ) (i : Inode) (first index
 upto-more object bytes_at i first index before now pointers p upto le lt at free =
     let count : length (listed_blocks bytes_at first (index - first)) ≡ index - first = listed_blocks-length bytes_at first (index - first) in
     let more : listed_blocks bytes_at first (index + 1 - first) ≡ listed_blocks bytes_at first (index - first) ++ block_of bytes_at index ∷ [] = listed_blocks-more bytes_at first (index - first) (index + 1 - first) index (omega arith) (omega arith) in
-    let place : slice_get before.ahead (index - first) ≡ Some p = sym (slice_get-drop before.ahead (length (listed_blocks bytes_at first (index - first))) 0 (index - first) (omega arith)) ∙ ap (λ a. slice_get a 0) (sym upto.growth.ahead) ∙ at in
+    let place : slice_get before.ahead (index - first) ≡ Some p = sym (slice_get-drop before.ahead (length (listed_blocks bytes_at first (index - first))) 0 (index - first) (omega arith)) ∙ ap (λ a. slice_get a 0) (sym upto.growth.takes.ahead) ∙ at in
     record {
       log = ap (λ l. log_grown l (data_block object (block_of bytes_at index))) upto.log ∙ sym (with_data-push object (listed_blocks bytes_at first (index - first)) (block_of bytes_at index) before) ∙ ap (λ blocks. with_data object blocks before) (sym more);
       growth = subst (λ blocks. GrowsBy object blocks before (log_grown now (data_block object (block_of bytes_at index)))) (sym more) (grows-more object (listed_blocks bytes_at first (index - first)) (block_of bytes_at index) before now p upto.growth at free);
@@ -109,7 +109,7 @@ upto-more object bytes_at i first index before now pointers p upto le lt at free
 pub upto-room : (object : ℕ) (bytes_at : ℕ → ℕ) (i : Inode) (first index : ℕ) (before now : Log) (slots : List (Option Place)) → Upto object bytes_at i first index before now slots → index - first < length before.ahead → 0 < length now.ahead
 upto-room object bytes_at i first index before now slots upto lt =
     let count : length (listed_blocks bytes_at first (index - first)) ≡ index - first = listed_blocks-length bytes_at first (index - first) in
-    let left : length now.ahead ≡ length before.ahead - length (listed_blocks bytes_at first (index - first)) = ap length upto.growth.ahead ∙ length-drop (length (listed_blocks bytes_at first (index - first))) before.ahead in
+    let left : length now.ahead ≡ length before.ahead - length (listed_blocks bytes_at first (index - first)) = ap length upto.growth.takes.ahead ∙ length-drop (length (listed_blocks bytes_at first (index - first))) before.ahead in
     omega arith
 
 -- The step of a write: the block is made over the contents as they are now, which agree with those before wherever the

@@ -1,7 +1,8 @@
 -- What the data blocks of a change make of a log.
-use Rattle.std.specs.Prelude.{◌≡◌, ℕ, ◌<◌, ◌≤◌, ◌==◌, ◌&&◌, false, List, [], ◌∷◌, length, drop, slice_get, None, Some, IsSome}
+use Rattle.std.specs.Prelude.{◌≡◌, ℕ, ◌+◌, ◌<◌, ◌≤◌, ◌==◌, ◌&&◌, false, List, [], ◌∷◌, length, slice_get, None, Some, IsSome}
 use Rattle.s4_types.specs.Pointer.{Place}
 use Rattle.block_log.specs.Log.{Log, Stored, with_held, of_kind, same_kind}
+use Rattle.block_log.specs.Taken.{TakesPlaces}
 use Rattle.block_log.specs.declared.kinds.BlockKind.{BlockKind}
 use Rattle.block_log.specs.declared.kinds.BlockKind.TheVariants.{Data}
 
@@ -12,7 +13,7 @@ data_block object bytes = record { kind = Data; object = object; bytes = bytes }
 -- the log after a block took the first of these places; as it was where there is none
 abbrev pub grown_at : Log → Stored → List Place → Log
 grown_at log block [] = log
-grown_at log block (p ∷ ahead) = record { held = with_held log.held p block; ahead = ahead }
+grown_at log block (p ∷ ahead) = record { held = with_held log.held p block; ahead = ahead; spent = 1 + log.spent }
 
 -- the log after a block was appended
 abbrev pub log_grown : Log → Stored → Log
@@ -27,7 +28,7 @@ with_data object (bytes ∷ blocks) log = with_data object blocks (log_grown log
 -- no block was; all that was held is, and but for this object's data nothing came.
 pub record GrowsBy (object : ℕ) (blocks : List (List ℕ)) (before after : Log) : Type 0 where
   pub room : length blocks ≤ length before.ahead
-  pub ahead : after.ahead ≡ drop (length blocks) before.ahead
+  pub takes : TakesPlaces (length blocks) before after
   pub fresh : (n : ℕ) (p : Place) → n < length blocks → slice_get before.ahead n ≡ Some p → before.held p ≡ None
   pub taken : (n : ℕ) (p : Place) (bytes : List ℕ) → slice_get before.ahead n ≡ Some p → slice_get blocks n ≡ Some bytes → after.held p ≡ Some (data_block object bytes)
   pub kept : (p : Place) → IsSome (before.held p) → after.held p ≡ before.held p

@@ -1,6 +1,6 @@
 -- What the definitions come to: each of these holds of all inodes and contents, and is the contract of a function with
 -- an empty body.
-use Rattle.std.specs.Prelude.{◌≡◌, ℕ, ◌+◌, ◌-◌, ◌*◌, ◌<◌, ◌≤◌, ◌↔◌, min, true, List, [], ◌++◌, length, take, drop, slice_index, Option, None, Some}
+use Rattle.std.specs.Prelude.{◌≡◌, ℕ, ◌+◌, ◌-◌, ◌*◌, ◌<◌, ◌≤◌, ◌↔◌, min, true, List, ◌++◌, length, take, drop, slice_index, Option, None, Some}
 use Rattle.std.specs.List.{flat_map}
 use Rattle.s4_types.specs.Pointer.{Place}
 use Rattle.block_log.specs.Log.{Stored}

@@ -1,23 +1,23 @@
 -- What a call on a table answers, and what it makes of a chain that is being written.
-use Rattle.std.proofs.Common.{◌≡◌, ℕ, ◌+◌, ◌≤◌, Bool, true, false, ◌==◌, cond, List, [], ◌∷◌, ◌++◌, length, Option, Some, None, Result, Ok, is_some, IsSome, IfOk, refl, sym, ap, ◌∙◌, subst, arith, nat_le, ◌&&◌, add-zero, append_assoc, drop, add_comm}
+use Rattle.std.proofs.Common.{◌≡◌, ℕ, ◌+◌, ◌≤◌, Bool, true, false, ◌==◌, cond, List, [], ◌∷◌, ◌++◌, length, Option, Some, None, Result, Ok, is_some, IsSome, IfOk, refl, sym, ap, ◌∙◌, subst, arith, nat_le, ◌&&◌, add-zero, append_assoc, add_comm}
 use Rattle.std.specs.Option.{option_to_list}
 use Rattle.std.proofs.lemmas.Bool.{eq-eqb, le-leb, true≢false}
 use Rattle.std.proofs.lemmas.Option.{none-some, same_Some, cond_some}
-use Rattle.std.proofs.lemmas.List.{drop-drop}
 use Rattle.s4_types.specs.Pointer.{Place}
 use Rattle.s4_types.specs.declared.limits.TheConstants.{CHAIN_BLOCKS, CHAIN_ENTRY_BYTES}
 use Rattle.block_log.specs.declared.kinds.BlockKind.TheVariants.{Journal}
 use Rattle.block_log.specs.Log.{Log, Stored, appended, dropped, with_held, without, of_kind, seen_as, same_kind}
+use Rattle.block_log.specs.Taken.{TakesPlaces}
 use Rattle.codec.specs.Fields.{◌>>=◌, all_of, kept, Reads}
 use Rattle.codec.specs.Entry.{EntryFields, entry_length, entries_length}
 use Rattle.codec.specs.Journal.{JournalFields, journal_at, journal_spelling}
-use Rattle.journal_chain.specs.Sizes.{fits, filled_with}
+use Rattle.journal_chain.specs.Sizes.{fits, filled_with, breaks}
 use Rattle.journal_chain.specs.Packing.{filled_bytes, packed, joined, AllFit}
 use Rattle.journal_chain.specs.Chain.{Link, ChainFields, journal_of, journal_in, blocks_of, Holds, OnlyJournalChanged}
 use Rattle.journal_chain.specs.Writing.{head_of, Finished, Unfinished, Put, spelled_journal, reopened}
 use Rattle.journal_chain.proofs.Spelled.{bind_some, bind_is}
-use Rattle.journal_chain.proofs.Loops.{all_fit-append}
-use Rattle.journal_chain.proofs.Tables.{Taken, append_takes, only-trans}
+use Rattle.journal_chain.proofs.Loops.{all_fit-append, AddUp}
+use Rattle.journal_chain.proofs.Tables.{append_holds, only-trans}
 use Rattle.journal_chain.proofs.Chains.{entries_length-last, held_of, put_finished, put_changes_only, drop_finished, drop_changes_only, entry_begins, finished_of, begins_head, head_there, reopens, head_reopened}
 
 -- ---- appending a block
@@ -26,17 +26,21 @@ reads_back : (block : JournalFields) → all_of journal_at (journal_spelling blo
 unfolding journal_of
 reads_back block h = bind_is (all_of journal_at (journal_spelling block)) (λ j. kept (j.object == block.object) j) block h ∙ ap (λ t. cond t (Some block) None) (eq-eqb block.object block.object refl)
 
+-- an append takes one place
+abbrev pub TakesOne : Type 0
+TakesOne = (before after : Log) (block : Stored) (p : Place) → appended before block ≡ Some (p, after) → TakesPlaces 1 before after
+
 pub put_since : {E : Type 0} (log later : Log) (r : Result Place E) (p : Place) (block : JournalFields) (o : ℕ) (bytes : List ℕ)
-    → r ≡ Ok p → IfOk r (λ q. appended log (record { kind = Journal; object = o; bytes = bytes }) ≡ Some (q, later)) → IfOk r (λ q. log.held q ≡ None)
+    → TakesOne → r ≡ Ok p → IfOk r (λ q. appended log (record { kind = Journal; object = o; bytes = bytes }) ≡ Some (q, later)) → IfOk r (λ q. log.held q ≡ None)
     → o ≡ block.object → bytes ≡ journal_spelling block → all_of journal_at bytes ≡ Some block → Put log later p block
-put_since {E} log later r p block o bytes is took free object spells reads =
+put_since {E} log later r p block o bytes takes is took free object spells reads =
     let took_p : appended log (record { kind = Journal; object = o; bytes = bytes }) ≡ Some (p, later) =
     subst (λ (x : Result Place E). IfOk x (λ q. appended log (record { kind = Journal; object = o; bytes = bytes }) ≡ Some (q, later))) is took in
-    let t : Taken log later p (record { kind = Journal; object = o; bytes = bytes }) = append_takes log later (record { kind = Journal; object = o; bytes = bytes }) p took_p in
+    let held : later.held ≡ with_held log.held p (record { kind = Journal; object = o; bytes = bytes }) = append_holds log later (record { kind = Journal; object = o; bytes = bytes }) p took_p in
     record {
       free = subst (λ (x : Result Place E). IfOk x (λ q. log.held q ≡ None)) is free;
-      held = t.held ∙ ap (λ n. with_held log.held p (record { kind = Journal; object = n; bytes = bytes })) object ∙ ap (λ b. with_held log.held p (record { kind = Journal; object = block.object; bytes = b })) spells;
-      ahead = t.ahead;
+      held = held ∙ ap (λ n. with_held log.held p (record { kind = Journal; object = n; bytes = bytes })) object ∙ ap (λ b. with_held log.held p (record { kind = Journal; object = block.object; bytes = b })) spells;
+      takes = takes log later (record { kind = Journal; object = o; bytes = bytes }) p took_p;
       spells = reads_back block (subst (λ b. all_of journal_at b ≡ Some block) spells reads);
     }
 
@@ -228,10 +232,9 @@ pushed_holds held between later chain after old new stale block head bytes fille
       whole = whole (old ++ new);
     }))
 
--- the places ahead after the last block
-pub ahead_last : (needed : ℕ) (p : Place) (first between later : List Place) → between ≡ drop needed first → between ≡ p ∷ later → later ≡ drop (1 + needed) first
-ahead_last needed p first between later dropped is =
-    sym (ap (drop 1) (sym dropped ∙ is)) ∙ drop-drop 1 needed first ∙ ap (λ n. drop n first) (add_comm needed 1)
+-- the places that are taken once the last block is appended
+pub takes_last : (needed : ℕ) (first between later : Log) → AddUp → TakesPlaces needed first between → TakesPlaces 1 between later → TakesPlaces (1 + needed) first later
+takes_last needed first between later adds most last = subst (λ n. TakesPlaces n first later) (add_comm needed 1) (adds needed 1 first between later most last)
 
 pub alone_filled : (after : List EntryFields) (e : EntryFields) → after ≡ e ∷ [] → entries_length after ≡ filled_with 0 (entry_length e)
 unfolding entries_length

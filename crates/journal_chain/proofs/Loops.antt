@@ -1,8 +1,10 @@
 -- Entries one after another: what is taken already, and what is left.
 use Rattle.std.proofs.Common.{◌≡◌, ℕ, ◌+◌, ◌-◌, ◌≤◌, ◌<◌, cond, List, [], ◌∷◌, ◌++◌, map, length, get_or, take, drop, sym, ap, ◌∙◌, subst, arith, length-drop, length-take}
-use Rattle.std.proofs.lemmas.List.{drop_more, drop_all, drop-drop, map-append, length-map}
+use Rattle.std.proofs.lemmas.List.{drop_more, drop_all, map-append, length-map}
 use Rattle.std.proofs.lemmas.Grind.{take_at_read}
 use Rattle.s4_types.specs.Pointer.{Place}
+use Rattle.block_log.specs.Log.{Log}
+use Rattle.block_log.specs.Taken.{TakesPlaces}
 use Rattle.codec.specs.Entry.{EntryFields, entry_length, entries_length}
 use Rattle.journal_chain.specs.Sizes.{fits, filled_with, breaks}
 use Rattle.journal_chain.specs.Packing.{AllFit}
@@ -46,18 +48,21 @@ sizes_few xs i n sizes is lt le =
 pub breaks_one : (filled size : ℕ) (rest : List ℕ) → breaks filled (size ∷ rest) ≡ breaks filled (size ∷ []) + breaks (filled_with filled size) rest
 breaks_one filled size rest = let b = cond (fits filled size) 0 1 in let goal : b + breaks (filled_with filled size) rest ≡ (b + 0) + breaks (filled_with filled size) rest = omega arith in goal
 
--- the places ahead after one entry more, and those that the others need
-pub ahead_more : (filled later : ℕ) (xs : List EntryFields) (i : ℕ) (e : EntryFields) (ahead after : List Place)
-    → i < length xs → e ≡ get_or xs i e → later ≡ filled_with filled (entry_length e) → after ≡ drop (breaks filled (entry_length e ∷ [])) ahead
-    → drop (breaks later (map entry_length (drop (i + 1) xs))) after ≡ drop (breaks filled (map entry_length (drop i xs))) ahead
-ahead_more filled later xs i e ahead after lt is filled_is after_is =
-    let one = breaks filled (entry_length e ∷ []) in
+-- two changes in turn take as many places as both together
+abbrev pub AddUp : Type 0
+AddUp = (n m : ℕ) (first second third : Log) → TakesPlaces n first second → TakesPlaces m second third → TakesPlaces (n + m) first third
+
+-- the places that one entry more and the others after it take
+pub takes_more : (filled later : ℕ) (xs : List EntryFields) (i : ℕ) (e : EntryFields) (log between after : Log)
+    → AddUp → i < length xs → e ≡ get_or xs i e → later ≡ filled_with filled (entry_length e) → TakesPlaces (breaks filled (entry_length e ∷ [])) log between
+    → TakesPlaces (breaks later (map entry_length (drop (i + 1) xs))) between after → TakesPlaces (breaks filled (map entry_length (drop i xs))) log after
+takes_more filled later xs i e log between after adds lt is filled_is one others =
     let rest = map entry_length (drop (i + 1) xs) in
-    ap (λ f. drop (breaks f rest) after) filled_is
-    ∙ ap (drop (breaks (filled_with filled (entry_length e)) rest)) after_is
-    ∙ drop-drop (breaks (filled_with filled (entry_length e)) rest) one ahead
-    ∙ ap (λ n. drop n ahead) (sym (breaks_one filled (entry_length e) rest))
-    ∙ ap (λ l. drop (breaks filled (map entry_length l)) ahead) (sym (next_left xs i e lt is))
+    let sum : breaks filled (entry_length e ∷ []) + breaks later rest ≡ breaks filled (map entry_length (drop i xs)) =
+    ap (λ f. breaks filled (entry_length e ∷ []) + breaks f rest) filled_is
+    ∙ sym (breaks_one filled (entry_length e) rest)
+    ∙ ap (λ l. breaks filled (map entry_length l)) (sym (next_left xs i e lt is)) in
+    subst (λ n. TakesPlaces n log after) sum (adds (breaks filled (entry_length e ∷ [])) (breaks later rest) log between after one others)
 
 pub room_first : (filled : ℕ) (xs : List EntryFields) (i : ℕ) (e : EntryFields) (room : ℕ)
     → i < length xs → e ≡ get_or xs i e → breaks filled (map entry_length (drop i xs)) ≤ room → breaks filled (entry_length e ∷ []) ≤ room
@@ -77,6 +82,6 @@ room_more filled later xs i e ahead after lt is filled_is after_is le =
     let short : length after ≡ length ahead - breaks filled (entry_length e ∷ []) = ap length after_is ∙ length-drop (breaks filled (entry_length e ∷ [])) ahead in
     omega (arith, whole, same, short, le)
 
-pub ahead_end : (filled n : ℕ) (xs : List EntryFields) (i : ℕ) (ahead first : List Place) → length xs ≤ i
-    → drop (breaks filled (map entry_length (drop i xs))) ahead ≡ drop n first → ahead ≡ drop n first
-ahead_end filled n xs i ahead first le h = ap (λ l. drop (breaks filled (map entry_length l)) ahead) (sym (drop_all i xs le)) ∙ h
+-- no entry is left, so none takes a place
+pub takes_end : (filled : ℕ) (xs : List EntryFields) (i : ℕ) (log : Log) → length xs ≤ i → TakesPlaces 0 log log → TakesPlaces (breaks filled (map entry_length (drop i xs))) log log
+takes_end filled xs i log le none = subst (λ l. TakesPlaces (breaks filled (map entry_length l)) log log) (sym (drop_all i xs le)) none

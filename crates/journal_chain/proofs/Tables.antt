@@ -1,5 +1,5 @@
 -- How a table's views change when a block is put at a free place, and when one is dropped.
-use Rattle.std.proofs.Common.{◌≡◌, inl, inr, ℕ, Bool, true, false, ◌==◌, ◌&&◌, cond, List, [], ◌∷◌, Option, Some, None, is_some, refl, sym, ap, ◌∙◌}
+use Rattle.std.proofs.Common.{◌≡◌, inl, inr, ℕ, ◌+◌, Bool, true, false, ◌==◌, ◌&&◌, cond, List, [], ◌∷◌, Option, Some, None, is_some, refl, sym, ap, ◌∙◌}
 use Rattle.std.proofs.lemmas.Bool.{cases_Bool, both_ways, and_parts, eq-eqb, eqb-true}
 use Rattle.std.proofs.lemmas.Option.{none-some, same_Some}
 use Rattle.s4_types.specs.Pointer.{Place}
@@ -10,27 +10,20 @@ use Rattle.journal_chain.specs.Chain.{OnlyJournalChanged}
 use Rattle.journal_chain.proofs.Places.{one_place, same_as_itself}
 use Rattle.journal_chain.proofs.Steps.{ChangedAt}
 
--- an append takes the first place ahead
-pub record Taken (log later : Log) (p : Place) (block : Stored) : Type 0 where
-  pub held : later.held ≡ with_held log.held p block
-  pub ahead : log.ahead ≡ p ∷ later.ahead
-
-appended_takes : (log later : Log) (block : Stored) (ahead : List Place) (p : Place) → log.ahead ≡ ahead → appended_at log block ahead ≡ Some (p, later) → Taken log later p block
-appended_takes log later block [] p e h = absurd (none-some (p, later) h)
-appended_takes log later block (q ∷ ahead) p e h =
+append_at_holds : (log later : Log) (block : Stored) (ahead : List Place) (p : Place) → appended_at log block ahead ≡ Some (p, later) → later.held ≡ with_held log.held p block
+append_at_holds log later block [] p h = absurd (none-some (p, later) h)
+append_at_holds log later block (q ∷ ahead) p h =
     let f = λ (x : Place × Log). x.0 in
     let g = λ (x : Place × Log). x.1 in
-    let made : Log = record { held = with_held log.held q block; ahead = ahead } in
+    let made : Log = record { held = with_held log.held q block; ahead = ahead; spent = 1 + log.spent } in
     let both : ◌≡◌ {A = Place × Log} (q, made) (p, later) = same_Some (q, made) (p, later) h in
     let place : q ≡ p = ap f both in
     let log_is : made ≡ later = ap g both in
-    record {
-      held = sym (ap (λ (l : Log). l.held) log_is) ∙ ap (λ r. with_held log.held r block) place;
-      ahead = e ∙ ap (λ r. r ∷ ahead) place ∙ ap (λ (l : Log). p ∷ l.ahead) log_is;
-    }
+    sym (ap (λ (l : Log). l.held) log_is) ∙ ap (λ r. with_held log.held r block) place
 
-pub append_takes : (log later : Log) (block : Stored) (p : Place) → appended log block ≡ Some (p, later) → Taken log later p block
-append_takes log later block p h = appended_takes log later block log.ahead p refl h
+-- a block is held at the place that its append takes
+pub append_holds : (log later : Log) (block : Stored) (p : Place) → appended log block ≡ Some (p, later) → later.held ≡ with_held log.held p block
+append_holds log later block p h = append_at_holds log later block log.ahead p h
 
 -- this object's journal, and no other view
 abbrev pub is_journal_of : ℕ → BlockKind → ℕ → Bool

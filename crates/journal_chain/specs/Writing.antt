@@ -4,6 +4,7 @@ use Rattle.std.specs.Prelude.{◌≡◌, ℕ, ◌+◌, if◌then◌else◌, List
 use Rattle.s4_types.specs.Pointer.{Place}
 use Rattle.block_log.specs.declared.kinds.BlockKind.TheVariants.{Journal}
 use Rattle.block_log.specs.Log.{Log, Stored, of_kind, with_held}
+use Rattle.block_log.specs.Taken.{TakesPlaces}
 use Rattle.codec.specs.Fields.{◌>>=◌, all_of, bit}
 use Rattle.codec.specs.Entry.{EntryFields}
 use Rattle.codec.specs.Journal.{JournalFields, journal_at, journal_spelling}
@@ -50,11 +51,11 @@ pub record Unfinished (held : Place → Option Stored) (o : ℕ) (stale : List P
 abbrev pub stored_journal : JournalFields → Stored
 stored_journal block = record { kind = Journal; object = block.object; bytes = journal_spelling block }
 
--- a journal block was appended, at a place that was free
+-- a journal block was appended, at a place that was free, and one place was taken
 pub record Put (log later : Log) (p : Place) (block : JournalFields) : Type 0 where
   pub free : log.held p ≡ None
   pub held : later.held ≡ with_held log.held p (stored_journal block)
-  pub ahead : log.ahead ≡ p ∷ later.ahead
+  pub takes : TakesPlaces 1 log later
   pub spells : journal_of block.object (journal_spelling block) ≡ Some block
 
 -- the head, where an entry of this size goes into it; it is then to be dropped

@@ -1,10 +1,11 @@
-ghost use Rattle.std.specs.Prelude.{◌≡◌, ℕ, ◌+◌, ◌≤◌, ◌<◌, ◌++◌, List, [], ◌∷◌, length, map, drop, nat_lt, None, Some, OnOk, OnErr, MatchResult, IsSome, Option};
+ghost use Rattle.std.specs.Prelude.{◌≡◌, ℕ, ◌+◌, ◌≤◌, ◌<◌, ◌++◌, List, [], ◌∷◌, length, map, nat_lt, None, Some, OnOk, OnErr, MatchResult, IsSome, Option};
 ghost use Rattle.std.specs.Option.{option_to_list};
 ghost use Rattle.s4_types.specs.declared.limits.TheConstants.{CHAIN_ENTRY_BYTES, JOURNAL_ENTRY_BYTES};
 ghost use Rattle.s4_types.specs.Pointer.{Place};
 ghost use Rattle.s4_types.specs.declared.refusals.Refusal.TheVariants.{NoMemory};
 ghost use Rattle.block_log.specs.declared.kinds.BlockKind.TheVariants.{Journal};
 ghost use Rattle.block_log.specs.Log.{Stored, of_kind};
+ghost use Rattle.block_log.specs.Taken.{TakesPlaces};
 ghost use Rattle.codec.specs.Entry.{entry_length, entries_length};
 ghost use Rattle.journal_chain.specs.Sizes.{blocks_needed, filled_with};
 ghost use Rattle.journal_chain.specs.Packing.{AllFit, filled_bytes, packed};
@@ -21,6 +22,7 @@ use crate::table::{reopen, write};
 use crate::writing::{bytes_of, finish, first_block, sizes_of, take_all};
 use arrayvec::ArrayVec;
 use block_log::Blocks;
+use block_log::laws::{no_change_takes_no_place, places_taken_add_up};
 use codec::{Entry, JournalBytes};
 use s4_types::limits::{CHAIN_ENTRY_BYTES, SHORTEST_ENTRY_BYTES};
 use s4_types::{ObjectId, Ptr, Refusal};
@@ -181,12 +183,13 @@ impl Chain {
         requires room { pushed_blocks self.old (first.now ∷ later.now) ≤ length (B.log table.old).ahead }
         ensures holds { Holds (B.log table.new).held self.new (entries_held (B.log table.old).held self.old ++ first.now ∷ later.now) }
         ensures others { OnlyJournalChanged self.old.object (B.log table.old).held (B.log table.new).held }
-        ensures ahead { (B.log table.new).ahead ≡ drop (pushed_blocks self.old (first.now ∷ later.now)) (B.log table.old).ahead }
+        ensures takes { TakesPlaces (pushed_blocks self.old (first.now ∷ later.now)) (B.log table.old) (B.log table.new) }
         ensures object { self.new.object ≡ self.old.object }
     {
         blocks_have_the_entries();
         bytes_add_up();
         chains_are_short();
+        places_taken_add_up();
         let stale = self.reopened(first.byte_count());
         let mut block = self.begun(table, first);
         take_all(table, &mut block, later);
@@ -203,11 +206,12 @@ impl Chain {
         requires few { length entries.now ≤ 3 }
         ensures holds { OnOk result (Holds (B.log table.new).held self.new (entries_held (B.log table.old).held self.old ++ entries.now)) }
         ensures others { OnlyJournalChanged self.old.object (B.log table.old).held (B.log table.new).held }
-        ensures ahead { OnOk result ((B.log table.new).ahead ≡ drop (pushed_blocks self.old entries.now) (B.log table.old).ahead) }
+        ensures takes { OnOk result (TakesPlaces (pushed_blocks self.old entries.now) (B.log table.old) (B.log table.new)) }
         ensures answer { MatchResult result (λ _. push_refusal self.old (B.log table.old).ahead entries.now ≡ None) (λ e. push_refusal self.old (B.log table.old).ahead entries.now ≡ Some e) }
         ensures object { self.new.object ≡ self.old.object }
         ensures unchanged { OnErr result ((B.log table.new ≡ B.log table.old) × (self.new ≡ self.old)) }
     {
+        no_change_takes_no_place();
         let bytes = bytes_of(entries);
         if self.is_full_for(bytes) {
             return Err(Refusal::ChainFull);
@@ -265,10 +269,11 @@ impl Chain {
         ensures filled { (stale : List Place) → Standing object (of_kind Journal object (B.log table.old).held) [] stale
             → result.filled ≡ filled_bytes (packed (first.now ∷ later.now)) }
         ensures others { OnlyJournalChanged object (B.log table.old).held (B.log table.new).held }
-        ensures ahead { (B.log table.new).ahead ≡ drop (whole_blocks (first.now ∷ later.now)) (B.log table.old).ahead }
+        ensures takes { TakesPlaces (whole_blocks (first.now ∷ later.now)) (B.log table.old) (B.log table.new) }
         ensures object { result.object ≡ object }
         ensures bytes { result.bytes ≡ bytes }
     {
+        places_taken_add_up();
         let mut chain = Chain::empty(object);
         let mut block = first_block(object, first);
         take_all(table, &mut block, later);
@@ -286,11 +291,12 @@ impl Chain {
         requires room { whole_blocks (first.now ∷ later.now) ≤ length (B.log table.old).ahead }
         ensures holds { Holds (B.log table.new).held self.new (first.now ∷ later.now) }
         ensures others { OnlyJournalChanged self.old.object (B.log table.old).held (B.log table.new).held }
-        ensures ahead { (B.log table.new).ahead ≡ drop (whole_blocks (first.now ∷ later.now)) (B.log table.old).ahead }
+        ensures takes { TakesPlaces (whole_blocks (first.now ∷ later.now)) (B.log table.old) (B.log table.new) }
         ensures object { self.new.object ≡ self.old.object }
     {
         blocks_have_the_entries();
         chains_are_short();
+        places_taken_add_up();
         let stale = places(table, self.head());
         let chain = Chain::afresh(self.object(), table, first, later, bytes);
         drop_all(table, stale.as_slice());
@@ -302,7 +308,7 @@ impl Chain {
         requires { Holds (B.log table.old).held self.old (entries_held (B.log table.old).held self.old) }
         ensures holds { Holds (B.log table.new).held self.new [] }
         ensures others { OnlyJournalChanged self.old.object (B.log table.old).held (B.log table.new).held }
-        ensures ahead { (B.log table.new).ahead ≡ (B.log table.old).ahead }
+        ensures takes { TakesPlaces 0 (B.log table.old) (B.log table.new) }
         ensures object { self.new.object ≡ self.old.object }
     {
         let stale = places(table, self.head());
@@ -320,7 +326,7 @@ impl Chain {
         requires limit { entries_length entries.now ≤ CHAIN_ENTRY_BYTES }
         ensures holds { OnOk result (Holds (B.log table.new).held self.new entries.now) }
         ensures others { OnlyJournalChanged self.old.object (B.log table.old).held (B.log table.new).held }
-        ensures ahead { OnOk result ((B.log table.new).ahead ≡ drop (whole_blocks entries.now) (B.log table.old).ahead) }
+        ensures takes { OnOk result (TakesPlaces (whole_blocks entries.now) (B.log table.old) (B.log table.new)) }
         ensures answer { MatchResult result (λ _. rewrite_refusal (B.log table.old).ahead entries.now ≡ None) (λ e. rewrite_refusal (B.log table.old).ahead entries.now ≡ Some e) }
         ensures object { self.new.object ≡ self.old.object }
         ensures unchanged { OnErr result ((B.log table.new ≡ B.log table.old) × (self.new ≡ self.old)) }

@@ -3,6 +3,7 @@ ghost use Rattle.std.specs.Prelude.{◌≡◌, ℕ, ◌++◌, List, [], map, Opt
 ghost use Rattle.std.specs.List.{flat_map};
 ghost use Rattle.std.specs.Option.{option_to_list};
 ghost use Rattle.s4_types.specs.Pointer.{Place};
+ghost use Rattle.block_log.specs.Taken.{TakesPlaces};
 ghost use Rattle.codec.specs.Entry.{EntryFields};
 ghost use Rattle.journal_chain.specs.Chain.{OnlyJournalChanged};
 ghost use Rattle.journal_chain.specs.Writing.{Finished};
@@ -11,6 +12,7 @@ ghost use Rattle.journal_chain.specs.Back.{links_back, places_back};
 use crate::table::open;
 use arrayvec::ArrayVec;
 use block_log::Blocks;
+use block_log::laws::{a_drop_takes_no_place, no_change_takes_no_place, places_taken_add_up};
 use s4_types::Ptr;
 use s4_types::limits::CHAIN_BLOCKS;
 
@@ -37,8 +39,10 @@ fn drop_one<B: Blocks>(table: &mut B, place: Option<Ptr>)
         → Finished (B.log table.old).held o (option_to_list place ++ stale) head entries → Finished (B.log table.new).held o stale head entries }
     ensures others { (o : ℕ) (stale : List Place) (head : Option Place) (entries : List EntryFields)
         → Finished (B.log table.old).held o (option_to_list place ++ stale) head entries → OnlyJournalChanged o (B.log table.old).held (B.log table.new).held }
-    ensures ahead { (B.log table.new).ahead ≡ (B.log table.old).ahead }
+    ensures takes { TakesPlaces 0 (B.log table.old) (B.log table.new) }
 {
+    a_drop_takes_no_place();
+    no_change_takes_no_place();
     match place {
         Some(place) => table.drop_block(place),
         None => {}
@@ -51,8 +55,10 @@ pub(crate) fn drop_all<B: Blocks>(table: &mut B, places: &[Option<Ptr>])
         → Finished (B.log table.old).held o (flat_map option_to_list places.now) head entries → Finished (B.log table.new).held o [] head entries }
     ensures others { (o : ℕ) (head : Option Place) (entries : List EntryFields)
         → Finished (B.log table.old).held o (flat_map option_to_list places.now) head entries → OnlyJournalChanged o (B.log table.old).held (B.log table.new).held }
-    ensures ahead { (B.log table.new).ahead ≡ (B.log table.old).ahead }
+    ensures takes { TakesPlaces 0 (B.log table.old) (B.log table.new) }
 {
+    no_change_takes_no_place();
+    places_taken_add_up();
     for place in places {
         drop_one(table, *place);
     }

@@ -1,7 +1,8 @@
 //! Entries taken into the newest block, which is in memory, and blocks appended as they fill.
-ghost use Rattle.std.specs.Prelude.{◌≡◌, ℕ, ◌+◌, ◌≤◌, ◌<◌, ◌++◌, List, [], ◌∷◌, length, map, drop, Option, Some, None};
+ghost use Rattle.std.specs.Prelude.{◌≡◌, ℕ, ◌+◌, ◌≤◌, ◌<◌, ◌++◌, List, [], ◌∷◌, length, map, Option, Some, None};
 ghost use Rattle.std.specs.Option.{option_to_list};
 ghost use Rattle.s4_types.specs.Pointer.{Place};
+ghost use Rattle.block_log.specs.Taken.{TakesPlaces};
 ghost use Rattle.codec.specs.Entry.{EntryFields, entry_length, entries_length};
 ghost use Rattle.journal_chain.specs.Sizes.{filled_with, filled_after, breaks};
 ghost use Rattle.journal_chain.specs.Packing.{AllFit};
@@ -11,6 +12,7 @@ ghost use Rattle.journal_chain.specs.Writing.{Finished, Unfinished};
 use crate::table::write;
 use arrayvec::ArrayVec;
 use block_log::Blocks;
+use block_log::laws::{a_drop_takes_no_place, no_change_takes_no_place, places_taken_add_up};
 use codec::{Entry, JournalBytes};
 use s4_types::{ObjectId, Ptr};
 
@@ -57,10 +59,11 @@ pub(crate) fn take<B: Blocks>(table: &mut B, block: &mut JournalBytes, entry: &E
         → Unfinished (B.log table.old).held block.old.object stale block.old entries
         → Unfinished (B.log table.new).held block.old.object stale block.new (entries ++ entry.now ∷ []) }
     ensures others { OnlyJournalChanged block.old.object (B.log table.old).held (B.log table.new).held }
-    ensures ahead { (B.log table.new).ahead ≡ drop (breaks (entries_length block.old.entries) (entry_length entry.now ∷ [])) (B.log table.old).ahead }
+    ensures takes { TakesPlaces (breaks (entries_length block.old.entries) (entry_length entry.now ∷ [])) (B.log table.old) (B.log table.new) }
     ensures object { block.new.object ≡ block.old.object }
     ensures filled { entries_length block.new.entries ≡ filled_with (entries_length block.old.entries) (entry_length entry.now) }
 {
+    no_change_takes_no_place();
     if block.fits(entry) {
         block.add(entry);
         return;
@@ -77,9 +80,11 @@ pub(crate) fn take_all<B: Blocks>(table: &mut B, block: &mut JournalBytes, entri
         → Unfinished (B.log table.old).held block.old.object stale block.old before
         → Unfinished (B.log table.new).held block.old.object stale block.new (before ++ entries.now) }
     ensures others { OnlyJournalChanged block.old.object (B.log table.old).held (B.log table.new).held }
-    ensures ahead { (B.log table.new).ahead ≡ drop (breaks (entries_length block.old.entries) (map entry_length entries.now)) (B.log table.old).ahead }
+    ensures takes { TakesPlaces (breaks (entries_length block.old.entries) (map entry_length entries.now)) (B.log table.old) (B.log table.new) }
     ensures object { block.new.object ≡ block.old.object }
 {
+    no_change_takes_no_place();
+    places_taken_add_up();
     for entry in entries {
         take(table, block, entry);
     }
@@ -95,8 +100,10 @@ pub(crate) fn finish<B: Blocks>(table: &mut B, block: &JournalBytes, stale: Opti
     ensures others { (entries : List EntryFields)
         → Unfinished (B.log table.old).held block.now.object (option_to_list stale) block.now entries
         → OnlyJournalChanged block.now.object (B.log table.old).held (B.log table.new).held }
-    ensures ahead { (B.log table.old).ahead ≡ result ∷ (B.log table.new).ahead }
+    ensures takes { TakesPlaces 1 (B.log table.old) (B.log table.new) }
 {
+    a_drop_takes_no_place();
+    places_taken_add_up();
     let head = write(table, block);
     if let Some(old) = stale {
         table.drop_block(old);

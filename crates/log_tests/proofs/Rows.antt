@@ -8,13 +8,13 @@ use Rattle.block_log.specs.declared.kinds.BlockKind.TheVariants as kind
 use Rattle.block_log.specs.Log.{Stored, of_kind, seen_as}
 use Rattle.codec.specs.declared.inodes.Inode.{Inode}
 use Rattle.codec.specs.Checkpoint.{pointer_at}
-use Rattle.undo_redo.specs.Runs.{blank}
+use Rattle.undo_redo.specs.Runs.{AllBy, blank}
 use Rattle.inode.specs.Contents.{byte_in, byte_of, contents_of}
 use Rattle.inode.specs.Tidiness.{PointersHeld}
 use Rattle.object_map.specs.declared.map.Row.{Row}
 use Rattle.object_map.specs.Rows.{fresh_row}
 use Rattle.journal_chain.specs.Chain.{ChainFields, Holds, entries_held}
-use Rattle.time_read.specs.Rows.{IsRow, chain_of, inode_of}
+use Rattle.time_read.specs.Rows.{IsRow, chain_of, entries_of, inode_of, last_inode}
 use Rattle.row_changes.specs.Recent.{IsBy}
 use Rattle.log_tests.specs.Subject.{IsRecorded, IsPresent}
 
@@ -87,4 +87,16 @@ checked held later o row row2 inode latest m one stands by is stays present = re
   stands = subst (λ (n : ℕ). IsRow later n row2) one stands;
   by = subst (λ (n : ℕ). IsBy later n row2 m) one by;
   present = present ∙ sym stays ∙ sym (ap (λ (n : ℕ). inode_of held n row m) one) ∙ sym is ∙ ap (λ (n : ℕ). inode_of later n row2 m) one;
+}
+
+-- from the moment on by which all is told, the inode behind all entries is current
+abbrev pub LastIsCurrent : Type 0
+LastIsCurrent = (held : Place → Option Stored) (o t : ℕ) (row : Row) → AllBy t (entries_of held o row) → inode_of held o row t ≡ last_inode held o row
+
+-- what a row tells after its checkpoint and its journal are written anew
+pub rewritten : (later : Place → Option Stored) (o : ℕ) (row : Row) (inode : Inode) (m : ℕ) → LastIsCurrent → o ≡ 1 → IsRow later o row → IsBy later o row m → last_inode later o row ≡ inode → IsRecorded later row inode m
+rewritten later o row inode m current one stands by last = record {
+  stands = subst (λ (n : ℕ). IsRow later n row) one stands;
+  by = subst (λ (n : ℕ). IsBy later n row m) one by;
+  present = sym last ∙ sym (current later o m row by.entries) ∙ ap (λ (n : ℕ). inode_of later n row m) one;
 }

@@ -1,5 +1,5 @@
 -- Tables that were just made hold nothing.
-use Rattle.std.proofs.Common.{◌≡◌, ℕ, List, get_or, length, replicate, Option, None, inl, inr, refl, ap, ◌∙◌, arith}
+use Rattle.std.proofs.Common.{◌≡◌, ℕ, List, get_or, length, replicate, Option, None, inl, inr, ap, ◌∙◌, arith}
 use Rattle.std.proofs.lemmas.Bool.{cases_lt}
 use Rattle.std.proofs.lemmas.List.{length-replicate, get_or-replicate, get_or_past}
 use Rattle.block_log.specs.Log.{Stored}

@@ -52,6 +52,7 @@ impl PlainLog {
         requires { places ≤ 160 }
         ensures nothing { (p : Place) → (⟦<PlainLog as Blocks>⟧.log result).held p ≡ None }
         ensures count { length (⟦<PlainLog as Blocks>⟧.log result).ahead ≡ places }
+        ensures unspent { (⟦<PlainLog as Blocks>⟧.log result).spent ≡ 0 }
     {
         PlainLog {
             held: nothing_held(),
@@ -72,10 +73,12 @@ impl PlainLog {
 }
 
 impl Blocks for PlainLog {
-    // Block 1 of each frame, at generation 1, holds what stands at the frame's number; those from `next` on come next.
+    // Block 1 of each frame, at generation 1, holds what stands at the frame's number; those from `next` on come next, and
+    // all before it were taken.
     ghost log = { λ t. record {
       held = λ p. if p.block == 1 && p.generation == 1 then slice_index_or t.held p.frame None else None;
       ahead = map (λ n. record { frame = n; block = 1; generation = 1 }) (range_with_len t.next (t.end - t.next));
+      spent = t.next;
     } };
 
     fn append(&mut self, kind: BlockKind, object: ObjectId, block: &Block) -> Result<Ptr, Refusal> {

@@ -29,7 +29,7 @@ told_there N held o c None h = tt
 told_there N held o c (Some p) h = spelled_there (of_kind Checkpoint o held p) (ap is_some h)
 
 -- the checkpoint that a row names is held
-older_there : (held : Place → Option Stored) (o : ℕ) (row : Row) → IsRow held o row → IfSome row.checkpoint (λ p. IsSome (of_kind Checkpoint o held p))
+pub older_there : (held : Place → Option Stored) (o : ℕ) (row : Row) → IsRow held o row → IfSome row.checkpoint (λ p. IsSome (of_kind Checkpoint o held p))
 older_there held o row r = told_there (row.checkpoint_moment ≡ 0) held o (record { object = o; moment = row.checkpoint_moment; inode = inode_of held o row row.checkpoint_moment }) row.checkpoint r.checkpoint
 
 -- ---- the new one
@@ -73,7 +73,7 @@ written log between after o row p i m one r latest present put told gone kept on
   only = one_left log between after o p row.checkpoint one put gone kept r.only;
 }
 
-all_by : (t : ℕ) (entries : List EntryFields) → AllBy t entries → entries_by t entries ≡ entries
+pub all_by : (t : ℕ) (entries : List EntryFields) → AllBy t entries → entries_by t entries ≡ entries
 all_by t [] h = refl
 all_by t (e ∷ entries) h = cond-true (entry_is_by t e) (e ∷ entries_by t entries) (entries_by t entries) h.0 ∙ ap (λ es. e ∷ es) (all_by t entries h.1)
 
@@ -83,7 +83,7 @@ undone laws first last i entries m run by present =
     let is : i ≡ last = present ∙ laws.done first entries m by ∙ sym (laws.end first last entries run) in
     ap (λ es. undone_all es i) (all_by m entries by) ∙ ap (undone_all entries) is ∙ sym (laws.beginning first last entries run)
 
-told_before : (created t : ℕ) (entries : List EntryFields) (c : CheckpointFields) → inode_before created t entries (Some c) ≡ undone_all (entries_by t entries) c.inode
+pub told_before : (created t : ℕ) (entries : List EntryFields) (c : CheckpointFields) → inode_before created t entries (Some c) ≡ undone_all (entries_by t entries) c.inode
 unfolding inode_before
 told_before created t entries c = refl
 

@@ -4,3 +4,5 @@ pub mod OrderKept
 pub mod Places
 pub mod Pushing
 pub mod Recently
+pub mod RewrittenBlocks
+pub mod RewrittenRow

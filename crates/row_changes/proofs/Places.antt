@@ -19,11 +19,11 @@ put_only before between after o p put only k other h =
     let at : (q : Place) → of_kind k other between.held q ≡ of_kind k other before.held q = λ q. put.put.others k other q (ap (λ b. b && o == other) (turned k) ∙ h) in
     only k other h ∙ λ i q. at q i
 
-same_place-self : (p : Place) → same_place p p ≡ true
+pub same_place-self : (p : Place) → same_place p p ≡ true
 same_place-self p = and_from (p.frame == p.frame) (p.block == p.block && p.generation == p.generation) (eq-eqb p.frame p.frame refl) (and_from (p.block == p.block) (p.generation == p.generation) (eq-eqb p.block p.block refl) (eq-eqb p.generation p.generation refl))
 
 -- where a checkpoint is seen, something is held
-held_there : (o : ℕ) (there : Option Stored) → IsSome (seen_as Checkpoint o there) → there ≡ None → ⊥
+pub held_there : (o : ℕ) (there : Option Stored) → IsSome (seen_as Checkpoint o there) → there ≡ None → ⊥
 held_there o there seen none = both_ways false refl (sym (ap (λ x. is_some (seen_as Checkpoint o x)) none) ∙ seen)
 
 -- the new place, where nothing was held, is not the older one
@@ -37,7 +37,7 @@ not_older before after o p (Some q) one put there = elim (cases_Bool (same_place
 ]
 
 -- nothing is held at the older place, if there was one
-older_gone : (after : Log) (older : Option Place) (q : Place) → ((p q : Place) → same_place p q ≡ true → p ≡ q) → IfSome older (λ p. after.held p ≡ None) → is_at older q ≡ true → after.held q ≡ None
+pub older_gone : (after : Log) (older : Option Place) (q : Place) → ((p q : Place) → same_place p q ≡ true → p ≡ q) → IfSome older (λ p. after.held p ≡ None) → is_at older q ≡ true → after.held q ≡ None
 older_gone after None q one gone at = absurd (false≢true at)
 older_gone after (Some p) q one gone at = sym (ap after.held (one p q at)) ∙ gone
 

@@ -1,4 +1,5 @@
 pub mod Recent
 pub mod Moved
+pub mod Rewritten
 pub mod Laws
 pub mod private

@@ -1,4 +1,5 @@
-ghost use Rattle.std.specs.Prelude.{◌≡◌, ℕ, ◌-◌, ◌++◌, true, nat_le, if◌then◌else◌, drop, Some, None, IfOk, OnErr, MatchResult};
+ghost use Rattle.std.specs.Prelude.{◌≡◌, ℕ, ◌-◌, ◌++◌, true, nat_le, if◌then◌else◌, Some, None, IfOk, OnErr, MatchResult};
+ghost use Rattle.block_log.specs.Taken.{TakesPlaces};
 ghost use Rattle.undo_redo.specs.Between.{CanLead, entries_between};
 ghost use Rattle.journal_chain.specs.Chain.{OnlyJournalChanged};
 ghost use Rattle.journal_chain.specs.Push.{push_refusal, pushed_blocks};
@@ -41,7 +42,7 @@ pub fn record_change<B: Blocks>(
     ensures orderly { IfOk result (λ later. IsOrderly (B.log table.old).held object row.now (moment - 1) → before.now.alive ≡ true → IsOrderly (B.log table.new).held object later moment) }
     ensures fields { IfOk result (λ later. later ≡ record row.now { head = later.head; journal_bytes = later.journal_bytes; head_bytes = later.head_bytes }) }
     ensures others { OnlyJournalChanged object (B.log table.old).held (B.log table.new).held }
-    ensures ahead { IfOk result (λ _. (B.log table.new).ahead ≡ drop (pushed_blocks (chain_of object row.now) (entries_between before.now after.now moment)) (B.log table.old).ahead) }
+    ensures takes { IfOk result (λ _. TakesPlaces (pushed_blocks (chain_of object row.now) (entries_between before.now after.now moment)) (B.log table.old) (B.log table.new)) }
     ensures answer { MatchResult result
         (λ _. push_refusal (chain_of object row.now) (B.log table.old).ahead (entries_between before.now after.now moment) ≡ None)
         (λ e. push_refusal (chain_of object row.now) (B.log table.old).ahead (entries_between before.now after.now moment) ≡ Some e) }

@@ -1,8 +1,9 @@
-ghost use Rattle.std.specs.Prelude.{◌≡◌, ℕ, ◌<◌, ◌≤◌, true, false, drop, length, Some, None, IsSome, IfSome, IfOk, IfErr, OnErr, MatchResult};
+ghost use Rattle.std.specs.Prelude.{◌≡◌, ℕ, ◌<◌, ◌≤◌, true, false, length, Some, None, IsSome, IfSome, IfOk, IfErr, OnErr, MatchResult};
 ghost use Rattle.s4_types.specs.Pointer.{Place};
 ghost use Rattle.s4_types.specs.declared.refusals.Refusal.TheVariants.{NoSpace};
 ghost use Rattle.block_log.specs.declared.kinds.BlockKind.TheVariants as kind;
 ghost use Rattle.block_log.specs.Log.{of_kind};
+ghost use Rattle.block_log.specs.Taken.{TakesPlaces};
 ghost use Rattle.codec.specs.Checkpoint.{checkpoint_rules};
 ghost use Rattle.checkpoint.specs.Held.{checkpoint_held, PutsCheckpoint};
 ghost use Rattle.time_read.specs.Rows.{IsRow, inode_of};
@@ -11,7 +12,10 @@ ghost use Rattle.row_changes.specs.Recent.{IsBy};
 ghost use Rattle.row_changes.specs.Moved.{OnlyCheckpointChanged, IsMoved, is_at};
 
 use block_log::Blocks;
-use block_log::laws::{a_drop_takes_one_block, one_place_has_one_name};
+use block_log::laws::{
+    a_drop_takes_no_place, a_drop_takes_one_block, no_change_takes_no_place,
+    one_place_has_one_name, places_taken_add_up,
+};
 use checkpoint::write_checkpoint;
 use codec::{Checkpoint, Inode};
 use object_map::Row;
@@ -19,7 +23,7 @@ use s4_types::{Moment, ObjectId, Ptr, Refusal};
 use undo_redo::laws::{a_run_has_one_end_and_one_beginning, the_inode_at_a_moment};
 
 /// Appends the checkpoint of an inode.
-fn put<B: Blocks>(
+pub(crate) fn put<B: Blocks>(
     table: &mut B,
     object: ObjectId,
     inode: &Inode,
@@ -27,6 +31,7 @@ fn put<B: Blocks>(
 ) -> Result<Ptr, Refusal>
     requires { checkpoint_rules (record { object = object; moment = moment; inode = inode.now }) ≡ true }
     ensures told { IfOk result (λ p. checkpoint_held (B.log table.new).held object p ≡ Some (record { object = object; moment = moment; inode = inode.now })) }
+    ensures takes { IfOk result (λ _. TakesPlaces 1 (B.log table.old) (B.log table.new)) }
     ensures growth { IfOk result (λ p. PutsCheckpoint (B.log table.old) object p (B.log table.new)) }
     ensures full { IfErr result (λ e. (e ≡ NoSpace) × ((length (B.log table.old).ahead ≡ 0) × (B.log table.new ≡ B.log table.old))) }
 {
@@ -35,14 +40,16 @@ fn put<B: Blocks>(
 }
 
 /// Drops a checkpoint of an object, if there is one.
-fn drop_older<B: Blocks>(table: &mut B, object: ObjectId, older: Option<Ptr>)
+pub(crate) fn drop_older<B: Blocks>(table: &mut B, object: ObjectId, older: Option<Ptr>)
     requires { IfSome older (λ p. IsSome (of_kind kind.Checkpoint object (B.log table.old).held p)) }
     ensures gone { IfSome older (λ p. (B.log table.new).held p ≡ None) }
     ensures kept { (q : Place) → is_at older q ≡ false → (B.log table.new).held q ≡ (B.log table.old).held q }
     ensures others { OnlyCheckpointChanged object (B.log table.old).held (B.log table.new).held }
-    ensures ahead { (B.log table.new).ahead ≡ (B.log table.old).ahead }
+    ensures takes { TakesPlaces 0 (B.log table.old) (B.log table.new) }
 {
     a_drop_takes_one_block();
+    a_drop_takes_no_place();
+    no_change_takes_no_place();
     if let Some(place) = older {
         table.drop_block(place);
     }
@@ -71,11 +78,12 @@ pub fn record_checkpoint<B: Blocks>(
     ensures moved { IfOk result (λ later. IsMoved (B.log table.old).held row.now.checkpoint later.checkpoint (B.log table.new).held) }
     ensures some { IfOk result (λ later. IsSome later.checkpoint) }
     ensures others { OnlyCheckpointChanged object (B.log table.old).held (B.log table.new).held }
-    ensures ahead { IfOk result (λ _. (B.log table.new).ahead ≡ drop 1 (B.log table.old).ahead) }
+    ensures takes { IfOk result (λ _. TakesPlaces 1 (B.log table.old) (B.log table.new)) }
     ensures answer { MatchResult result (λ _. 0 < length (B.log table.old).ahead) (λ e. (e ≡ NoSpace) × (length (B.log table.old).ahead ≡ 0)) }
     ensures unchanged { OnErr result (B.log table.new ≡ B.log table.old) }
 {
     one_place_has_one_name();
+    places_taken_add_up();
     a_run_has_one_end_and_one_beginning();
     the_inode_at_a_moment();
     let place = put(table, object, inode, moment)?;

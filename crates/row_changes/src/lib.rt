@@ -1,14 +1,16 @@
-//! What a change of an object makes of its row and of its blocks: entries behind its journal, and a checkpoint in place
-//! of an older one.
+//! What a change of an object makes of its row and of its blocks: entries behind its journal, a checkpoint in place of an
+//! older one, and both written anew.
 //!
 //! The layers above may rely on this: from a change's moment on the object's inode is the changed one, and before it
-//! each is as it was; a checkpoint changes no inode. A row tells of moments up to one that is known, and a row that is in
-//! order stays so; blocks of other kinds and objects stay.
+//! each is as it was; a checkpoint changes no inode; a journal that is written anew tells what it was given. A row tells
+//! of moments up to one that is known, and a row that is in order stays so; blocks of other kinds and objects stay.
 #![tactic(auto)]
 
 mod changes;
 mod checkpoints;
 pub mod laws;
+mod rewrites;
 
 pub use changes::record_change;
 pub use checkpoints::record_checkpoint;
+pub use rewrites::{rewrite_row, rewritten_blocks};

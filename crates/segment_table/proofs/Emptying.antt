@@ -1,26 +1,25 @@
 -- A frame is marked and released: what holds of a table goes on to hold, the same is held, and what is ahead.
-use Rattle.std.proofs.Common.{◌≡◌, ◌≢◌, inl, inr, ℕ, zero, suc, ◌+◌, ◌-◌, ◌^◌, ◌<◌, ◌≤◌, Bool, true, false, ◌==◌, ◌&&◌, ◌||◌, nat_lt, if◌then◌else◌, List, [], ◌∷◌, ◌++◌, length, map, reverse, set, get_or, Option, Some, None, refl, sym, ap, subst, ◌∙◌, arith}
+use Rattle.std.proofs.Common.{◌≡◌, inl, inr, ℕ, zero, suc, ◌+◌, ◌-◌, ◌<◌, ◌≤◌, Bool, true, false, ◌==◌, ◌||◌, if◌then◌else◌, List, [], ◌∷◌, ◌++◌, length, reverse, get_or, Option, Some, None, refl, sym, ap, subst, ◌∙◌, arith}
 use Rattle.std.specs.List.{AllByRecursion, flat_map, list_any}
-use Rattle.std.proofs.lemmas.List.{get_or-set_same, get_or-set_other, length-set}
-use Rattle.std.proofs.lemmas.Bool.{cases_Bool, cases_eq, eq-eqb, lt-ltb, ltb-true}
+use Rattle.std.specs.Prelude.{Result, Ok, Err, OnErr}
+use Rattle.std.proofs.lemmas.Bool.{cases_Bool, eq-eqb}
 use Rattle.s4_types.specs.Pointer.{Place}
 use Rattle.block_log.specs.Log.{Stored}
-use Rattle.segment_word.specs.Frames.{Phase, Free, Open, Sealed, Emptied, Frame, no_frame, code_of, is_free, is_open, is_sealed}
+use Rattle.segment_word.specs.Frames.{Phase, Free, Open, Sealed, Emptied, Frame, code_of, is_free, is_open, is_sealed}
 use Rattle.segment_word.specs.Layout.{frame_at, block_bytes}
-use Rattle.segment_word.specs.Steps.{released}
-use Rattle.segment_word.specs.Handles.{Drive, with_changed, with_released, HasMissed}
+use Rattle.segment_word.specs.Handles.{Drive, with_changed}
 use Rattle.segment_table.specs.declared.slots.Slot.{Slot}
 use Rattle.segment_table.specs.Slots.{no_slot}
-use Rattle.segment_table.specs.Table.{Table, slots_at, block_slot, stored, held_block, held_at}
-use Rattle.segment_table.specs.Room.{is_filling, can_open, numbers, places, rest_of, whole_of, places_ahead, log_of}
-use Rattle.segment_table.specs.Sealing.{IsLetGo, IsFit, IsSummed, IsSoundTable, IsPartFilled}
-use Rattle.segment_table.specs.Changes.{IsAlone, KeepsGeneration, NoneHeld, IsMarked, IsReleased, IsAheadAgain}
-use Rattle.segment_table.proofs.Alone.{put_here, alone, length-alone, elsewhere, generation_alone, numbers_alone}
+use Rattle.segment_table.specs.Table.{Table, slots_at, block_slot, stored, held_block}
+use Rattle.segment_table.specs.Room.{is_filling, can_open, numbers, places, rest_of, whole_of, log_of}
+use Rattle.segment_table.specs.Sealing.{IsLetGo, IsFit, IsSummed, IsSoundTable}
+use Rattle.segment_table.specs.Changes.{IsAlone, KeepsGeneration, NoneHeld, IsMarked}
+use Rattle.segment_table.proofs.Alone.{put_here, alone, length-alone, generation_alone, numbers_alone}
 use Rattle.segment_table.proofs.Ahead.{vacant_same}
 use Rattle.segment_table.proofs.Holding.{held_kept}
-use Rattle.segment_table.proofs.Sound.{fits_changed, stays}
+use Rattle.segment_table.proofs.Sound.{fits_changed, stays, same_lives}
+use Rattle.segment_table.proofs.Spending.{spent_kept}
 use Rattle.segment_table.proofs.Steps.{same_logs}
-use Rattle.segment_table.proofs.Vacating.{JoinsAt, joins_at, numbers_fewer, numbers_apart_from, put_back_is}
 
 -- no used block is held, by a test and one by one
 none_by : (held rest : Bool) → (held || rest) ≡ false → (held ≡ false) × (rest ≡ false)
@@ -100,6 +99,7 @@ log_marked old new f inside m =
     ∙ ap (λ (l : List ℕ). flat_map (rest_of new) (numbers is_filling 0 old.drive.frames) ++ flat_map (whole_of new) l) vacant
     ∙ ap (λ (l : List Place). l ++ flat_map (whole_of new) (numbers can_open 0 old.drive.frames)) (rests_same old new f (numbers is_filling 0 old.drive.frames) at.0 generation m.slots)
     ∙ ap (λ (l : List Place). flat_map (rest_of old) (numbers is_filling 0 old.drive.frames) ++ l) (wholes_same old new f (numbers can_open 0 old.drive.frames) at.0 generation))
+    (spent_kept old new f at.0 generation m.slots)
 
 pub sound_marked : (old new : Table) (free : List ℕ) (current : Option ℕ) (f : ℕ) → IsSoundTable old free current → f < length old.drive.frames → AllByRecursion IsLetGo (slots_at old.slots f) → IsMarked f old new → IsSoundTable new free current
 sound_marked old new free current f sound inside gone m =
@@ -110,6 +110,7 @@ sound_marked old new free current f sound inside gone m =
     let S : Frame → Type 0 = λ x. IsSummed f x (slots_at old.slots f) in
     let two : 2 ≤ code_of k.phase = (let is : code_of k.phase ≡ 2 = ap code_of m.sealed in omega arith) in
     let changed : IsFit f (frame_at new.drive.frames f) (slots_at old.slots f) = record {
+      lives = same_lives k (frame_at new.drive.frames f) (ap (λ (x : Frame). x.generation) at.1) fit.lives;
       few = fit.few;
       owned = fit.owned;
       whole = λ b low high. ap (λ (x : Frame). length (block_bytes x.contents b)) at.1 ∙ fit.whole b low high;
@@ -153,3 +154,8 @@ same_sound t d free current s e =
 
 pub same_log : (t : Table) (d : Drive) → d.frames ≡ t.drive.frames → log_of (record { drive = d; slots = t.slots }) ≡ log_of t
 same_log t d e = ap (λ (l : List Frame). log_of (record { drive = record d { frames = l }; slots = t.slots })) e
+
+-- what holds anyway holds of an error
+pub on_err : {T E P : Type 0} (r : Result T E) → P → OnErr r P
+on_err (Ok x) p = tt
+on_err (Err e) p = p

@@ -1,5 +1,5 @@
 -- A frame is released: what holds of a table goes on to hold, the same is held, and its places are ahead again.
-use Rattle.std.proofs.Common.{◌≡◌, ◌≢◌, inl, inr, ℕ, zero, suc, ◌+◌, ◌-◌, ◌^◌, ◌<◌, ◌≤◌, Bool, true, false, ◌&&◌, nat_lt, List, [], ◌∷◌, ◌++◌, length, reverse, set, Option, refl, sym, ap, subst, ◌∙◌, append_assoc, arith}
+use Rattle.std.proofs.Common.{◌≡◌, ◌≢◌, inl, inr, ℕ, ◌+◌, ◌-◌, ◌^◌, ◌<◌, ◌≤◌, Bool, true, false, ◌&&◌, nat_lt, List, [], ◌∷◌, ◌++◌, length, reverse, set, Option, refl, sym, ap, subst, ◌∙◌, append_assoc, arith}
 use Rattle.std.specs.List.{AllByRecursion, flat_map}
 use Rattle.std.proofs.lemmas.List.{get_or-set_same, get_or-set_other, length-set, length-reverse}
 use Rattle.std.proofs.lemmas.Bool.{cases_eq, lt-ltb, le-ltb}
@@ -10,7 +10,7 @@ use Rattle.segment_word.specs.Steps.{released}
 use Rattle.segment_word.specs.Handles.{Drive, with_changed, with_released}
 use Rattle.segment_table.specs.declared.slots.Slot.{Slot}
 use Rattle.segment_table.specs.Table.{Table, slots_at, held_block, held_at}
-use Rattle.segment_table.specs.Room.{is_filling, can_open, numbers, places, rest_of, whole_of, places_ahead}
+use Rattle.segment_table.specs.Room.{is_filling, can_open, numbers, places, rest_of, whole_of, places_ahead, places_spent}
 use Rattle.segment_table.specs.Sealing.{IsLetGo, IsFit, IsSoundTable, IsPartFilled}
 use Rattle.segment_table.specs.Changes.{IsAlone, IsMarked, IsReleased, IsAheadAgain}
 use Rattle.segment_table.specs.private.Putting.{IsPutBetween}
@@ -18,6 +18,7 @@ use Rattle.segment_table.proofs.Alone.{put_here, alone, length-alone, elsewhere,
 use Rattle.segment_table.proofs.Numbers.{numbers_same}
 use Rattle.segment_table.proofs.Sound.{fits_changed}
 use Rattle.segment_table.proofs.Vacating.{Joins, joins, numbers_fewer, apart_from, put_back_is}
+use Rattle.segment_table.proofs.Spending.{spent_again}
 use Rattle.segment_table.proofs.Emptying.{none_held_at, same_sound, marked_here}
 
 -- a frame that is being emptied takes no append, open or free
@@ -91,7 +92,10 @@ sound_released old new free free' current f sound r vacant =
     let a : IsAlone f old.drive d = alone old.drive d f k r.inside refl in
     let is : frame_at d.frames f ≡ k = put_here old.drive f k r.inside in
     let phase : (frame_at d.frames f).phase ≡ Free = ap (λ (x : Frame). x.phase) is in
+    let more : (frame_at old.drive.frames f).generation + 1 < 2 ^ 32 = r.goes_on in
+    let next : (frame_at d.frames f).generation ≡ (frame_at old.drive.frames f).generation + 1 = ap (λ (x : Frame). x.generation) is in
     let fit : IsFit f (frame_at d.frames f) [] = record {
+      lives = (omega (arith, next), omega (arith, next, more));
       few = omega arith;
       owned = tt;
       whole = λ b low high. absurd (omega arith);
@@ -205,3 +209,9 @@ pub part_same : (old new : Table) → IsPartFilled old → new.drive.frames ≡ 
 part_same old new part frames slots g within phase =
     let P : List (List Slot) → Type 0 = λ l. (1 ≤ length (slots_at l g)) × (length (slots_at l g) < 15) in
     subst P (sym slots) (part g (subst (λ (l : List Frame). g < length l) frames within) (subst (λ (l : List Frame). (frame_at l g).phase ≡ Open) frames phase))
+
+-- no fewer places were ever taken
+pub spent_released : (old new : Table) (free : List ℕ) (current : Option ℕ) (f : ℕ) → IsSoundTable old free current → IsReleased f old new → places_spent old ≤ places_spent new
+spent_released old new free current f sound r =
+    let inside : f < length old.drive.frames = r.inside in
+    spent_again old new f (released (frame_at old.drive.frames f)) inside (omega (arith, sound.counted, inside)) (frames_are old new f r) (released_generation old new f r) (sound.fit f inside) r.slots

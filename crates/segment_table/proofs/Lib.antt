@@ -4,6 +4,7 @@ pub mod Numbers
 pub mod Holding
 pub mod Ahead
 pub mod Sound
+pub mod Spending
 pub mod Steps
 pub mod Summing
 pub mod Reading

@@ -1,5 +1,5 @@
 -- What is known of a block that is held, of the open frame, and of a new table.
-use Rattle.std.proofs.Common.{◌≡◌, ◌≢◌, inl, inr, ◌⊎◌, ℕ, zero, suc, ◌+◌, ◌-◌, ◌<◌, ◌≤◌, Bool, true, false, ◌==◌, if◌then◌else◌, List, [], ◌∷◌, ◌++◌, length, map, set, get_or, slice_get, replicate, Option, Some, None, IsSome, IfSome, MatchBool, option_map, refl, sym, ap, subst, ◌∙◌, arith}
+use Rattle.std.proofs.Common.{◌≡◌, ◌≢◌, inl, inr, ◌⊎◌, ℕ, zero, suc, ◌+◌, ◌-◌, ◌*◌, ◌^◌, ◌<◌, ◌≤◌, Bool, true, false, ◌==◌, if◌then◌else◌, List, [], ◌∷◌, ◌++◌, length, map, set, get_or, slice_get, replicate, Option, Some, None, IsSome, IfSome, MatchBool, option_map, refl, sym, ap, subst, ◌∙◌, arith}
 use Rattle.std.specs.List.{AllByRecursion, flat_map, range_with_len}
 use Rattle.std.specs.Option.{option_to_list}
 use Rattle.std.proofs.lemmas.List.{get_or_past, get_or_read, get_or-replicate, length-reverse, length-replicate}
@@ -12,12 +12,13 @@ use Rattle.segment_word.specs.Handles.{fresh_frame}
 use Rattle.segment_table.specs.declared.slots.Slot.{Slot}
 use Rattle.segment_table.specs.Slots.{no_slot, let_go, held_part}
 use Rattle.segment_table.specs.Table.{Table, slots_at, block_slot, stored, held_block, held_at, HoldsWholeBlocks, part_of}
-use Rattle.segment_table.specs.Room.{is_filling, can_open, numbers, places, rest_of, whole_of, places_ahead, log_of, new_places}
+use Rattle.segment_table.specs.Room.{is_filling, can_open, numbers, places, rest_of, whole_of, places_ahead, places_spent, log_of, new_places}
 use Rattle.segment_table.specs.Sealing.{IsLetGo, AreWhole, IsSoundTable}
 use Rattle.segment_table.specs.Changes.{IsFilling, NoneIsFilling}
 use Rattle.segment_table.proofs.Numbers.{numbers_none, numbers_one, numbers_all, numbers_nil}
-use Rattle.segment_table.proofs.Ahead.{filling_at, numbers_few}
+use Rattle.segment_table.proofs.Ahead.{filling_at, numbers_few, left_filling, left_none, numbers_apart}
 use Rattle.segment_table.proofs.Sound.{parts_gone, sound_gone}
+use Rattle.segment_table.proofs.Spending.{spent_new, spent_most}
 use Rattle.segment_table.proofs.Steps.{log_gone}
 
 -- a held block is used, at its frame's generation
@@ -204,7 +205,7 @@ wholes_new t count a (suc n) frames h =
     ∙ ap (λ (l : List Place). places a 1 1 15 ++ l) (wholes_new t count (a + 1) n frames (omega arith))
 
 -- a new table holds nothing, and all its places are ahead
-pub new_log : (t : Table) (count : ℕ) → t.drive.frames ≡ replicate count fresh_frame → t.slots ≡ replicate count [] → log_of t ≡ record { held = λ p. None; ahead = new_places count }
+pub new_log : (t : Table) (count : ℕ) → t.drive.frames ≡ replicate count fresh_frame → t.slots ≡ replicate count [] → log_of t ≡ record { held = λ p. None; ahead = new_places count; spent = 0 }
 new_log t count frames slots =
     let held : (p : Place) → held_at t p ≡ None = λ p.
     ap (λ (l : List Slot). held_block (frame_at t.drive.frames p.frame) l p.block p.generation) (ap (λ (l : List (List Slot)). slots_at l p.frame) slots ∙ no_slots_at count p.frame) ∙ none_held (frame_at t.drive.frames p.frame) p.block p.generation in
@@ -212,7 +213,8 @@ new_log t count frames slots =
     ap (λ (l : List ℕ). flat_map (rest_of t) l ++ flat_map (whole_of t) (numbers can_open 0 t.drive.frames)) (ap (λ (l : List Frame). numbers is_filling 0 l) frames ∙ numbers_nil is_filling 0 count fresh_frame refl)
     ∙ ap (λ (l : List ℕ). flat_map (whole_of t) l) (ap (λ (l : List Frame). numbers can_open 0 l) frames ∙ numbers_all can_open 0 count fresh_frame refl)
     ∙ wholes_new t count 0 count frames (omega arith) in
-    λ i. record { held = λ p. held p i; ahead = ahead i }
+    let spent : places_spent t ≡ 0 = spent_new t count frames slots in
+    λ i. record { held = λ p. held p i; ahead = ahead i; spent = spent i }
 
 -- a held block's frame is open where it is the one that the table knows, and else sealed
 pub open_or_sealed : (t : Table) (free : List ℕ) (current : Option ℕ) (p : Place) (f g : ℕ) → IsSoundTable t free current → IsSome (held_at t p) → current ≡ Some f → g ≡ p.frame
@@ -225,3 +227,25 @@ open_or_sealed t free current p f g sound h is at = elim (cases_eq f g) [
       subst M (sym (ne_eqb f g ne))
       (held_sealed_frame t free current p sound h (λ e. let same : Some f ≡ Some p.frame = sym is ∙ e in let equal : f ≡ p.frame = (cc) in ne (equal ∙ sym at))))
 ]
+
+-- at most 15,360 places are ahead
+ahead_few : (t : Table) (free : List ℕ) (current : Option ℕ) → IsSoundTable t free current → length (places_ahead t) ≤ 15360
+ahead_few t free None sound =
+    let left : length (places_ahead t) ≡ 15 * length free = left_none t free (current_none t free None sound refl) sound.vacant in
+    let few : length free ≤ 1024 = free_few t free None sound in
+    omega (arith, left, few)
+ahead_few t free (Some f) sound =
+    let filling : IsFilling f t = current_filling t free (Some f) f sound refl in
+    let left : length (places_ahead t) ≡ 15 * length free + (15 - length (slots_at t.slots f)) = left_filling t f free filling sound.vacant in
+    let opens : List ℕ = numbers can_open 0 t.drive.frames in
+    let count : length free ≡ length opens = ap length sound.vacant ∙ length-reverse opens in
+    let one : length (numbers is_filling 0 t.drive.frames) ≡ 1 = ap length filling in
+    let most : length t.drive.frames ≤ 1024 = sound.most in
+    omega (arith, numbers_apart 0 t.drive.frames, left, count, one, most)
+
+-- with all that were ever taken they are fewer than 2^46
+pub places_few : (t : Table) (free : List ℕ) (current : Option ℕ) → IsSoundTable t free current → places_spent t + length (places_ahead t) < 2 ^ 46
+places_few t free current sound =
+    let ahead : length (places_ahead t) ≤ 15360 = ahead_few t free current sound in
+    let spent : places_spent t ≤ 1024 * (15 * 2 ^ 32) = spent_most t free current sound in
+    omega (arith, ahead, spent)

@@ -1,5 +1,5 @@
 -- What holds of a table goes on to hold, after each change of one frame.
-use Rattle.std.proofs.Common.{◌≡◌, inl, inr, ℕ, zero, suc, ◌+◌, ◌<◌, ◌≤◌, false, List, [], ◌∷◌, ◌++◌, length, map, reverse, set, get_or, replicate, Option, Some, None, refl, sym, ap, subst, ◌∙◌, length-append, arith}
+use Rattle.std.proofs.Common.{◌≡◌, inl, inr, ℕ, zero, suc, ◌+◌, ◌^◌, ◌<◌, ◌≤◌, false, List, [], ◌∷◌, ◌++◌, length, map, reverse, set, get_or, replicate, Option, Some, None, refl, sym, ap, subst, ◌∙◌, length-append, arith}
 use Rattle.std.specs.List.{AllByRecursion, range_with_len}
 use Rattle.std.proofs.lemmas.List.{get_or-set_same, get_or-set_other, set-get_or, length-set, reverse-reverse, get_or-replicate, length-replicate}
 use Rattle.std.proofs.lemmas.Bool.{cases_eq}
@@ -37,6 +37,10 @@ fits_changed old new f s inside a slots fits fit g h = elim (cases_eq g f) [
 pub stays : (l : List (List Slot)) (f : ℕ) → l ≡ set l f (slots_at l f)
 stays l f = sym (set-get_or l f [])
 
+-- a frame of the same generation has as many lives
+pub same_lives : (k k' : Frame) → k'.generation ≡ k.generation → (1 ≤ k.generation) × (k.generation < 2 ^ 32) → (1 ≤ k'.generation) × (k'.generation < 2 ^ 32)
+same_lives k k' same lives = subst (λ (n : ℕ). (1 ≤ n) × (n < 2 ^ 32)) (sym same) lives
+
 -- a frame that can be opened is opened
 pub opened_alone : (old : Drive) (new : Drive) (f : ℕ) → f < length old.frames → new ≡ with_changed old f (record (frame_at old.frames f) { phase = Open }) → IsAlone f old new × (frame_at new.frames f ≡ record (frame_at old.frames f) { phase = Open })
 opened_alone old new f inside e =
@@ -52,8 +56,9 @@ opened_vacant old new f rest first e =
     ap (λ (d : Drive). numbers can_open 0 d.frames) e
     ∙ numbers_lost can_open 0 f old.frames (record (frame_at old.frames f) { phase = Open }) rest (first ∙ ap (λ (n : ℕ). n ∷ rest) (omega arith)) refl
 
-fit_opened : (f : ℕ) (k k' : Frame) (s : List Slot) → IsFit f k s → k'.phase ≡ Open → k'.contents ≡ k.contents → IsFit f k' s
-fit_opened f k k' s fit phase contents = record {
+fit_opened : (f : ℕ) (k k' : Frame) (s : List Slot) → IsFit f k s → k'.phase ≡ Open → k'.generation ≡ k.generation → k'.contents ≡ k.contents → IsFit f k' s
+fit_opened f k k' s fit phase generation contents = record {
+  lives = same_lives k k' generation fit.lives;
   few = fit.few;
   owned = fit.owned;
   whole = λ b low high. ap (λ (l : List ℕ). length (block_bytes l b)) contents ∙ fit.whole b low high;
@@ -74,7 +79,7 @@ sound_opened old new free free' current f sound none split changed slots =
       vacant = sym (ap reverse (opened_vacant old.drive new.drive f (reverse free') first changed) ∙ reverse-reverse free');
       filling = sym (opened_filling old.drive new.drive f inside none changed);
       fit = fits_changed old new f (slots_at old.slots f) (omega (arith, sound.counted)) a.0 (slots ∙ stays old.slots f) sound.fit
-          (fit_opened f (frame_at old.drive.frames f) (frame_at new.drive.frames f) (slots_at old.slots f) (sound.fit f inside) (ap (λ (k : Frame). k.phase) a.1)
+          (fit_opened f (frame_at old.drive.frames f) (frame_at new.drive.frames f) (slots_at old.slots f) (sound.fit f inside) (ap (λ (k : Frame). k.phase) a.1) (ap (λ (k : Frame). k.generation) a.1)
           (ap (λ (k : Frame). k.contents) a.1));
     }
 
@@ -102,6 +107,7 @@ sound_put old new free current f slot block sound filling room own size put =
     let phase : (frame_at new.drive.frames f).phase ≡ Open = put.phase ∙ at.1 in
     let fit : IsFit f (frame_at old.drive.frames f) (slots_at old.slots f) = sound.fit f inside in
     let changed : IsFit f (frame_at new.drive.frames f) (slots_at old.slots f ++ slot ∷ []) = record {
+      lives = same_lives (frame_at old.drive.frames f) (frame_at new.drive.frames f) put.generation fit.lives;
       few = omega (arith, length-append (slots_at old.slots f) (slot ∷ []));
       owned = owned_more (slots_at old.slots f) slot fit.owned own;
       whole = put_whole old new f slot block room size put fit.whole;
@@ -127,6 +133,7 @@ sound_sealed old new free current f sound filling sealed slots =
     let inside : f < length old.drive.frames = at.0 in
     let fit : IsFit f (frame_at old.drive.frames f) (slots_at old.slots f) = sound.fit f inside in
     let changed : IsFit f (frame_at new.drive.frames f) (slots_at old.slots f) = record {
+      lives = same_lives (frame_at old.drive.frames f) (frame_at new.drive.frames f) sealed.generation fit.lives;
       few = fit.few;
       owned = fit.owned;
       whole = λ b low high. ap length (sealed.used b low high) ∙ fit.whole b low high;
@@ -163,6 +170,7 @@ fit_gone f k s i fit =
     let P : List Part → Type 0 = λ parts. SpellsSummary (payload_of k.contents) (block_bytes k.contents 0) (record { frame = f; generation = k.generation; parts = parts }) in
     let parts : map (λ (x : Slot). x.part) (set s i slot) ≡ map (λ (x : Slot). x.part) s = map-set_same (λ (x : Slot). x.part) s i slot no_slot refl in
     record {
+      lives = fit.lives;
       few = omega (arith, length-set s i slot, fit.few);
       owned = gone_owned s i slot fit.owned (λ low. owned_at s i fit.owned low);
       whole = λ b low high. fit.whole b low (omega (arith, length-set s i slot));
@@ -189,7 +197,7 @@ parts_gone old f i g inside = elim (cases_eq g f) [
   | inr ne ↦ ap (map (λ (x : Slot). x.part)) (get_or-set_other old f g (let_go (slots_at old f) i) [] ne)
 ]
 
-unchanged_drive : (d e : Drive) (f : ℕ) → e ≡ d → IsAlone f d e
+pub unchanged_drive : (d e : Drive) (f : ℕ) → e ≡ d → IsAlone f d e
 unchanged_drive d e f same = same ∙ unchanged d f ∙ ap (λ (x : Drive). with_changed d f (frame_at x.frames f)) (sym same)
 
 pub sound_gone : (old new : Table) (free : List ℕ) (current : Option ℕ) (f i : ℕ) → IsSoundTable old free current → f < length old.slots → new.drive ≡ old.drive → new.slots ≡ set old.slots f (let_go (slots_at old.slots f) i) → IsSoundTable new free current
@@ -208,6 +216,7 @@ sound_gone old new free current f i sound inside drive slots =
 
 fit_fresh : (f : ℕ) → IsFit f fresh_frame []
 fit_fresh f = record {
+  lives = (omega arith, omega arith);
   few = omega arith;
   owned = tt;
   whole = λ b low high. absurd (omega arith);

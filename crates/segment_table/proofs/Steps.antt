@@ -10,16 +10,17 @@ use Rattle.segment_word.specs.Handles.{Drive, with_changed}
 use Rattle.segment_table.specs.declared.slots.Slot.{Slot}
 use Rattle.segment_table.specs.Slots.{let_go}
 use Rattle.segment_table.specs.Table.{Table, slots_at, held_at}
-use Rattle.segment_table.specs.Room.{can_open, numbers, places, rest_of, places_ahead, log_of}
+use Rattle.segment_table.specs.Room.{can_open, numbers, places, rest_of, places_ahead, places_spent, log_of}
 use Rattle.segment_table.specs.Sealing.{IsSoundTable, IsPartFilled}
 use Rattle.segment_table.specs.Changes.{KeepsBlock, IsFilling, NoneIsFilling, IsReadyFrame, IsPut, IsSealed, with_slot}
 use Rattle.segment_table.proofs.Alone.{unchanged, alone, put_here}
 use Rattle.segment_table.proofs.Holding.{held_kept, held_put, held_gone}
 use Rattle.segment_table.proofs.Ahead.{CanOpen, vacant_first, filling_at, popped, ahead_put, ahead_sealed, ahead_opened, ahead_same, places_none}
-use Rattle.segment_table.proofs.Sound.{opened_alone, opened_filling, opened_vacant, put_filling, sealed_filling, used_gone}
+use Rattle.segment_table.proofs.Sound.{opened_alone, opened_filling, opened_vacant, put_filling, sealed_filling, used_gone, unchanged_drive}
+use Rattle.segment_table.proofs.Spending.{spent_same, spent_kept, spent_put}
 
-pub same_logs : (old new : Table) → held_at new ≡ held_at old → places_ahead new ≡ places_ahead old → log_of new ≡ log_of old
-same_logs old new held ahead = λ i. record { held = held i; ahead = ahead i }
+pub same_logs : (old new : Table) → held_at new ≡ held_at old → places_ahead new ≡ places_ahead old → places_spent new ≡ places_spent old → log_of new ≡ log_of old
+same_logs old new held ahead spent = λ i. record { held = held i; ahead = ahead i; spent = spent i }
 
 pub first_vacant : (old : Table) (free free' : List ℕ) (current : Option ℕ) (f : ℕ) → IsSoundTable old free current → free ≡ free' ++ f ∷ [] → CanOpen old.drive.frames f
 first_vacant old free free' current f sound split =
@@ -52,6 +53,7 @@ log_opened old new free free' current f sound none split changed slots =
     let first : numbers can_open 0 old.drive.frames ≡ f ∷ reverse free' = popped (numbers can_open 0 old.drive.frames) free free' f sound.vacant split in
     same_logs old new (held_kept old new f ready.alone ready.generation (λ b low high. ap (λ (l : List ℕ). block_bytes l b) ready.contents) slots)
     (ahead_opened old new f (reverse free') none first ready.filling (opened_vacant old.drive new.drive f (reverse free') first changed) ready.alone ready.generation slots (no_slots_yet old free current f sound can))
+    (spent_kept old new f ready.alone ready.generation slots)
 
 -- the open frame is ready as it is
 pub ready_same : (t : Table) (f : ℕ) → f < length t.slots → IsFilling f t → IsPartFilled t → IsReadyFrame f t t
@@ -120,7 +122,7 @@ put_appended old new f part block p filling inside room put at =
     let st : Stored = record { kind = part.kind; object = part.object; bytes = block } in
     let slot : Slot = record { part = part; held = true } in
     ap (λ (l : List Place). appended_at (log_of old) st l) (ahead_put old new f slot block filling (put_filling old new f slot block filling put) inside room put)
-    ∙ (λ i. Some (sym at i, record { held = sym (held_put old new f part block inside room put) i; ahead = places_ahead new }))
+    ∙ (λ i. Some (sym at i, record { held = sym (held_put old new f part block inside room put) i; ahead = places_ahead new; spent = sym (spent_put old new f slot block (filling_at old f filling).0 inside put) i }))
 
 pub held_sealed : (old new : Table) (f : ℕ) → IsSealed f (slots_at old.slots f) old.drive new.drive → new.slots ≡ old.slots → held_at new ≡ held_at old
 held_sealed old new f sealed slots = held_kept old new f sealed.alone sealed.generation sealed.used slots
@@ -135,10 +137,13 @@ log_sealed old new f filling sealed slots full =
     let g : ℕ = (frame_at old.drive.frames f).generation in
     let none : rest_of old f ≡ [] = ap (λ (n : ℕ). places f g (n + 1) (15 - n)) full ∙ places_none f g 16 in
     same_logs old new (held_sealed old new f sealed slots) (ap (λ (l : List Place). l ++ places_ahead new) (sym none) ∙ rest_sealed old new f filling sealed)
+    (spent_kept old new f sealed.alone sealed.generation slots)
 
 pub log_gone : (old new : Table) (p : Place) → p.frame < length old.slots → 1 ≤ p.block → (frame_at old.drive.frames p.frame).generation ≡ p.generation → new.drive ≡ old.drive → new.slots ≡ set old.slots p.frame (let_go (slots_at old.slots p.frame) (p.block - 1))
     → log_of new ≡ dropped (log_of old) p
 log_gone old new p inside low current drive slots =
     let held : held_at new ≡ without (held_at old) p = held_gone old new p inside low current drive slots in
-    let ahead : places_ahead new ≡ places_ahead old = ahead_same old new drive (λ f. ap (λ (l : List (List Slot)). length (slots_at l f)) slots ∙ used_gone old.slots p.frame (p.block - 1) f inside) in
-    λ i. record { held = held i; ahead = ahead i }
+    let used : (f : ℕ) → length (slots_at new.slots f) ≡ length (slots_at old.slots f) = λ f. ap (λ (l : List (List Slot)). length (slots_at l f)) slots ∙ used_gone old.slots p.frame (p.block - 1) f inside in
+    let ahead : places_ahead new ≡ places_ahead old = ahead_same old new drive used in
+    let spent : places_spent new ≡ places_spent old = spent_same old new p.frame (unchanged_drive old.drive new.drive p.frame drive) (ap (λ (d : Drive). (frame_at d.frames p.frame).generation) drive) used in
+    λ i. record { held = held i; ahead = ahead i; spent = spent i }

@@ -1,5 +1,5 @@
--- Which places the next appends take.
-use Rattle.std.specs.Prelude.{ℕ, zero, suc, ◌+◌, ◌-◌, ◌^◌, Bool, ◌&&◌, nat_lt, if◌then◌else◌, List, [], ◌∷◌, ◌++◌, length, filter}
+-- Which places the next appends take, and how many were ever taken.
+use Rattle.std.specs.Prelude.{ℕ, zero, suc, ◌+◌, ◌-◌, ◌*◌, ◌^◌, Bool, ◌&&◌, nat_lt, if◌then◌else◌, List, [], ◌∷◌, ◌++◌, length, filter}
 use Rattle.std.specs.List.{flat_map, range_with_len}
 use Rattle.s4_types.specs.Pointer.{Place}
 use Rattle.block_log.specs.Log.{Log}
@@ -38,9 +38,23 @@ whole_of t f = places f (frame_at t.drive.frames f).generation 1 15
 abbrev pub places_ahead : Table → List Place
 places_ahead t = flat_map (rest_of t) (numbers is_filling 0 t.drive.frames) ++ flat_map (whole_of t) (numbers can_open 0 t.drive.frames)
 
+-- How many places of frame f were ever taken: the used blocks of its present life, and all 15 of each earlier one. A life
+-- that ended with unused blocks counts as if they had been used.
+abbrev pub spent_at : Table → ℕ → ℕ
+spent_at t f = 15 * ((frame_at t.drive.frames f).generation - 1) + length (slots_at t.slots f)
+
+-- the sum of a number of each of n frames, from frame f on
+abbrev pub sum_over : (ℕ → ℕ) → ℕ → ℕ → ℕ
+sum_over number f zero = 0
+sum_over number f (suc n) = number f + sum_over number (f + 1) n
+
+-- how many places of all frames were ever taken
+abbrev pub places_spent : Table → ℕ
+places_spent t = sum_over (spent_at t) 0 (length t.drive.frames)
+
 -- the table as a log
 abbrev pub log_of : Table → Log
-log_of t = record { held = held_at t; ahead = places_ahead t }
+log_of t = record { held = held_at t; ahead = places_ahead t; spent = places_spent t }
 
 -- all places of a new drive, in order
 abbrev pub new_places : ℕ → List Place

@@ -1,5 +1,5 @@
 -- What a frame has in its blocks once it is sealed, and what holds of each frame of a table.
-use Rattle.std.specs.Prelude.{◌≡◌, ℕ, zero, suc, ◌+◌, ◌<◌, ◌≤◌, false, List, [], ◌∷◌, length, map, reverse, Option}
+use Rattle.std.specs.Prelude.{◌≡◌, ℕ, zero, suc, ◌+◌, ◌^◌, ◌<◌, ◌≤◌, false, List, [], ◌∷◌, length, map, reverse, Option}
 use Rattle.std.specs.List.{AllByRecursion}
 use Rattle.std.specs.Option.{option_to_list}
 use Rattle.codec.specs.Summary.{SummaryFields, SpellsSummary}
@@ -37,8 +37,9 @@ IsLetGo slot = slot.held ≡ false
 abbrev pub AreWhole : List ℕ → ℕ → Type 0
 AreWhole contents n = (b : ℕ) → 1 ≤ b → b ≤ n → length (block_bytes contents b) ≡ 512
 
--- the used blocks of frame f fit what the frame is for
+-- the used blocks of frame f fit what the frame is for, and its generation has 32 bits
 pub record IsFit (f : ℕ) (k : Frame) (slots : List Slot) : Type 0 where
+  pub lives : (1 ≤ k.generation) × (k.generation < 2 ^ 32)
   pub few : length slots ≤ 15
   pub owned : AllByRecursion IsOwned slots
   pub whole : AreWhole k.contents (length slots)

@@ -11,7 +11,7 @@ ghost use Rattle.segment_word.specs.Counting.{pins_in};
 ghost use Rattle.segment_word.specs.FrameRule.{AllAgree};
 ghost use Rattle.segment_word.specs.Handles.{fresh_frame, IsAmong, pin_of, HasMissed};
 ghost use Rattle.segment_table.specs.Table.{Table, slots_at, held_at, HoldsWholeBlocks, is_of, part_of};
-ghost use Rattle.segment_table.specs.Room.{is_filling, can_open, numbers, rest_of, places_ahead, log_of, pointers_in};
+ghost use Rattle.segment_table.specs.Room.{is_filling, can_open, numbers, rest_of, places_ahead, places_spent, log_of, pointers_in};
 ghost use Rattle.segment_table.specs.Sealing.{IsFit, IsPartFilled};
 ghost use Rattle.segment_table.specs.Changes.{IsFilling, NoneIsFilling, IsReadyFrame, IsPut, IsSealed, IsSealedIn, NoneHeld, IsMarked, IsReleased, IsAheadAgain};
 ghost use Rattle.segment_table.specs.private.Putting.{IsPutBetween};
@@ -103,12 +103,14 @@ impl Segments {
         })
     }
 
-    /// Shows what holds of each frame between calls, that at most one is open, and that each held block is whole.
+    /// Shows what holds of each frame between calls, that at most one is open, that each held block is whole, and that the
+    /// places that were ever taken and those ahead are fewer than 2^46.
     pub fn rules(&self)
         ensures fit { (f : ℕ) → f < length self.now.drive.frames → IsFit f (frame_at self.now.drive.frames f) (slots_at self.now.slots f) }
         ensures one_open { length (numbers is_filling 0 self.now.drive.frames) ≤ 1 }
         ensures whole { HoldsWholeBlocks self.now }
         ensures sizes { (length self.now.drive.frames ≤ 1024) × (length self.now.slots ≡ length self.now.drive.frames) }
+        ensures bounded { places_spent self.now + length (places_ahead self.now) < 2 ^ 46 }
     {
         let _ = &self.current;
     }
@@ -221,6 +223,7 @@ impl Segments {
         ensures filling { NoneIsFilling self.new }
         ensures held { (log_of self.new).held ≡ (log_of self.old).held }
         ensures ahead { rest_of self.old frame ++ places_ahead self.new ≡ places_ahead self.old }
+        ensures spent { places_spent self.new ≡ places_spent self.old }
     {
         seals::seal(&mut self.seat, frame, &self.slots[frame as usize]);
         self.current = None;
@@ -329,6 +332,7 @@ impl Segments {
     pub fn release(&mut self, frame: u16) -> Result<(), Refusal>
         ensures released { OnOk result (IsReleased frame self.old self.new) }
         ensures held { (log_of self.new).held ≡ (log_of self.old).held }
+        ensures spent { OnOk result (places_spent self.old ≤ places_spent self.new) }
         ensures again { OnOk result ((frame_at self.old.drive.frames frame).generation + 2 < 2 ^ 32 → IsAheadAgain frame self.old self.new) }
         ensures retired { OnOk result ((frame_at self.old.drive.frames frame).generation + 2 ≡ 2 ^ 32 → places_ahead self.new ≡ places_ahead self.old) }
         ensures missed { OnErr result ((frame_at self.old.drive.frames frame).phase ≡ Emptied → HasMissed frame self.old.drive self.new.drive) }

@@ -51,7 +51,7 @@ impl SegmentTable {
         requires { IsFrameCount frames }
         ensures frames { IfOk result (λ t. t.drive.frames ≡ replicate frames fresh_frame) }
         ensures unused { IfOk result (λ t. t.slots ≡ replicate frames []) }
-        ensures log { IfOk result (λ t. log_of t ≡ record { held = λ p. None; ahead = new_places frames }) }
+        ensures log { IfOk result (λ t. log_of t ≡ record { held = λ p. None; ahead = new_places frames; spent = 0 }) }
         ensures refusal { IfErr result (λ e. (e ≡ NoMemory) ⊎ (e ≡ Busy)) }
     {
         let count = frames as u16;
@@ -61,14 +61,15 @@ impl SegmentTable {
     }
 
     /// Shows what holds between calls: the used blocks of each frame fit what it is for, so that a sealed frame spells its
-    /// summary in front of zeros in its unused blocks; at most one frame is open, with 1 to 14 used blocks; and each held
-    /// block has 512 bytes.
+    /// summary in front of zeros in its unused blocks; at most one frame is open, with 1 to 14 used blocks; each held block
+    /// has 512 bytes; and the places that were ever taken and those ahead are fewer than 2^46, over all lives of the frames.
     pub fn rules(&self)
         ensures fit { (f : ℕ) → f < length self.now.drive.frames → IsFit f (frame_at self.now.drive.frames f) (slots_at self.now.slots f) }
         ensures one_open { length (numbers is_filling 0 self.now.drive.frames) ≤ 1 }
         ensures whole { HoldsWholeBlocks self.now }
         ensures part_filled { IsPartFilled self.now }
         ensures sizes { (length self.now.drive.frames ≤ 1024) × (length self.now.slots ≡ length self.now.drive.frames) }
+        ensures bounded { (log_of self.now).spent + length (log_of self.now).ahead < 2 ^ 46 }
     {
         self.segments.rules();
     }
@@ -81,6 +82,7 @@ impl SegmentTable {
         ensures sealed { (f : ℕ) → IsFilling f self.old → IsSealedIn f self.old self.new }
         ensures held { (log_of self.new).held ≡ (log_of self.old).held }
         ensures ahead { (f : ℕ) → IsFilling f self.old → rest_of self.old f ++ places_ahead self.new ≡ places_ahead self.old }
+        ensures spent { (log_of self.new).spent ≡ (log_of self.old).spent }
     {
         if let Some(frame) = self.segments.open_frame() {
             self.segments.seal(frame);
@@ -101,13 +103,15 @@ impl SegmentTable {
     }
 
     /// A frame that is being emptied and has no reader is free at its next generation: its 15 payload blocks are ahead again,
-    /// in their order. One that reaches the last generation, 2^32 - 1, is retired instead.
+    /// in their order. One that reaches the last generation, 2^32 - 1, is retired instead. No fewer places than before were ever
+    /// taken: the frame's life counts as whole.
     ///
     /// InUse where the frame isn't being emptied or isn't there, and nothing has changed then; or where its word counted a
     /// reader at the one exchange that was tried, which is noted, and no frame or block has changed.
     pub fn release(&mut self, frame: u16) -> Result<(), Refusal>
         ensures released { OnOk result (IsReleased frame self.old self.new) }
         ensures held { (log_of self.new).held ≡ (log_of self.old).held }
+        ensures spent { OnOk result ((log_of self.old).spent ≤ (log_of self.new).spent) }
         ensures again { OnOk result ((frame_at self.old.drive.frames frame).generation + 2 < 2 ^ 32 → IsAheadAgain frame self.old self.new) }
         ensures retired { OnOk result ((frame_at self.old.drive.frames frame).generation + 2 ≡ 2 ^ 32 → places_ahead self.new ≡ places_ahead self.old) }
         ensures missed { OnErr result ((frame_at self.old.drive.frames frame).phase ≡ Emptied → HasMissed frame self.old.drive self.new.drive) }

@@ -1,5 +1,5 @@
 //! Whole blocks, word by word. The highest byte of each word stands first.
-ghost use Rattle.std.specs.Prelude.{◌≡◌, ℕ, ◌+◌, ◌*◌, ◌/◌, ◌%◌, ◌^◌, ◌<◌, ◌≤◌, [], ◌∷◌, ◌-◌, ◌++◌, length, take, drop, flat_map, OnOk, IfErr};
+ghost use Rattle.std.specs.Prelude.{◌≡◌, ℕ, ◌+◌, ◌*◌, ◌/◌, ◌%◌, ◌^◌, ◌<◌, ◌≤◌, [], ◌∷◌, ◌-◌, ◌++◌, length, take, drop, flat_map, OnOk, IfOk, IfErr};
 ghost use mathlib.Core.Option.{some};
 ghost use lib.ListN.{get_elem?};
 ghost use Rattle.byteorder.specs.Endian.{big_bytes};
@@ -84,6 +84,76 @@ fn append_word(word: u64, from: usize, to: usize, into: &mut Vec<u8>) -> Result<
     Ok(())
 }
 
+/// Words that are added at once where so many are whole: their bytes stay in registers until then.
+const RUN_WORDS: usize = 8;
+
+/// Bytes of so many words.
+const RUN_BYTES: usize = 64;
+
+/// Adds the bytes of eight words of a block from that of an index on, of a frame that the seat of a pin counts on.
+fn append_run(
+    words: &Words,
+    seat: &mut Place,
+    frame: usize,
+    block: usize,
+    index: usize,
+    into: &mut Vec<u8>,
+) -> Result<(), Refusal>
+    requires table { seat.old.table_id ≡ words.now.table_id }
+    requires inside { (1025 * frame + 1024 < words.now.table_id.words) × (words.now.table_id.words ≤ 1049600) × (block < 16) }
+    requires index { index ≤ 56 }
+    ensures seat { IsSameSeat seat.old seat.new }
+    ensures view { seat.new.me.0 ≡ seat.old.me.0 }
+    ensures bytes { OnOk result (GrowsByPinned seat.old.me.0.pins frame block (8 * index) (8 * index + 64) into.old.items into.new.items) }
+    ensures added { OnOk result (length into.new.items ≡ length into.old.items + 64) }
+    ensures refusal { IfErr result (λ e. e ≡ NoMemory) }
+{
+    let first = FRAME_WORDS * frame + 1 + BLOCK_WORDS * block + index;
+    let mut found = [0; RUN_WORDS];
+    for i in 0..RUN_WORDS {
+        found[i] = read(words, seat, first + i);
+    }
+    let mut bytes = [0; RUN_BYTES];
+    BigEndian::write_u64_into(&found, &mut bytes);
+    into.extend_from_slice(&bytes)?;
+    Ok(())
+}
+
+/// Adds the bytes of a block from one place on, of a frame that the seat of a pin counts on: eight words where so many are whole,
+/// and else those up to an end or to that of their word. Answers where they end.
+fn append_next(
+    words: &Words,
+    seat: &mut Place,
+    frame: usize,
+    block: usize,
+    at: usize,
+    to: usize,
+    into: &mut Vec<u8>,
+) -> Result<usize, Refusal>
+    requires table { seat.old.table_id ≡ words.now.table_id }
+    requires inside { (1025 * frame + 1024 < words.now.table_id.words) × (words.now.table_id.words ≤ 1049600) × (block < 16) }
+    requires range { (at < to) × (to ≤ 512) }
+    ensures seat { IsSameSeat seat.old seat.new }
+    ensures view { seat.new.me.0 ≡ seat.old.me.0 }
+    ensures later { IfOk result (λ next. at < next) }
+    ensures within { IfOk result (λ next. next ≤ to) }
+    ensures bytes { IfOk result (λ next. GrowsByPinned seat.old.me.0.pins frame block at next into.old.items into.new.items) }
+    ensures added { IfOk result (λ next. length into.new.items ≡ length into.old.items + (next - at)) }
+    ensures refusal { IfErr result (λ e. e ≡ NoMemory) }
+{
+    let index = at / WORD_BYTES;
+    let start = at % WORD_BYTES;
+    if start == 0 && to - at >= RUN_BYTES {
+        append_run(words, seat, frame, block, index, into)?;
+        return Ok(at + RUN_BYTES);
+    }
+    let first = FRAME_WORDS * frame + 1 + BLOCK_WORDS * block;
+    let word = read(words, seat, first + index);
+    let end = WORD_BYTES.min(start + (to - at));
+    append_word(word, start, end, into)?;
+    Ok(at + (end - start))
+}
+
 /// Adds the bytes of a block from one place on and up to another, of a frame that the seat of a pin counts on.
 pub fn append_bytes(
     words: &Words,
@@ -103,14 +173,9 @@ pub fn append_bytes(
     ensures added { OnOk result (length into.new.items ≡ length into.old.items + (to - from)) }
     ensures refusal { IfErr result (λ e. e ≡ NoMemory) }
 {
-    let first = FRAME_WORDS * frame + 1 + BLOCK_WORDS * block;
     let mut at = from;
     while at < to {
-        let word = read(words, seat, first + at / WORD_BYTES);
-        let start = at % WORD_BYTES;
-        let end = WORD_BYTES.min(start + (to - at));
-        append_word(word, start, end, into)?;
-        at += end - start;
+        at = append_next(words, seat, frame, block, at, to, into)?;
     }
     Ok(())
 }

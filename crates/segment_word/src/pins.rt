@@ -125,7 +125,7 @@ impl Pin {
     }
 
     /// Adds the bytes `from..to` of the 512 of block `block`, from 0 to 15, of a frame that it counts on, as they were when the
-    /// frame was pinned. Each goes from its word straight into `into`.
+    /// frame was pinned. Eight words at a time are added where so many are whole, and else one.
     ///
     /// NoMemory alone, where `into` has no room and more is refused; it may have some of the bytes then. Where it has room,
     /// nothing is asked for.

@@ -4,6 +4,7 @@ ghost use Rattle.version_store.specs.Store.{fields_of, IsStore};
 mod acts;
 mod checkpoints;
 mod fresh;
+mod replacements;
 mod steps;
 
 use acts::{Act, Deed, play, play_anew};
@@ -121,9 +122,9 @@ fn two_objects(rt: HostRuntime) -> Result<(), Fail> {
 
 /// Objects 1, 2 and 3 are made, written and changed in turn.
 static IN_TURN: [Act; 26] = [
-    Act::Takes(Deed::Create(2, b"b", 1)),
-    Act::Takes(Deed::Create(3, b"c", 2)),
-    Act::Takes(Deed::Create(1, b"a", 3)),
+    Act::Takes(Deed::Create(1, b"a", 1)),
+    Act::Takes(Deed::Create(2, b"b", 2)),
+    Act::Takes(Deed::Create(3, b"c", 3)),
     Act::Takes(Deed::Write(1, 4, 0, b"one")),
     Act::Takes(Deed::Write(2, 5, 0, b"two")),
     Act::Takes(Deed::Write(3, 6, 0, b"three")),
@@ -144,9 +145,9 @@ static IN_TURN: [Act; 26] = [
     Act::Same(3, 9, true),
     Act::Same(1, 9, false),
     Act::Same(4, 9, true),
-    Act::Entries(1, &[(3, 0, 0), (4, 0, 3), (7, 3, 2), (10, 2, 3)]),
-    Act::Entries(2, &[(1, 0, 0), (5, 0, 3), (9, 3, 3)]),
-    Act::Entries(3, &[(2, 0, 0), (6, 0, 5), (8, 5, 5)]),
+    Act::Entries(1, &[(1, 0, 0), (4, 0, 3), (7, 3, 2), (10, 2, 3)]),
+    Act::Entries(2, &[(2, 0, 0), (5, 0, 3), (9, 3, 3)]),
+    Act::Entries(3, &[(3, 0, 0), (6, 0, 5), (8, 5, 5)]),
     Act::Entries(4, &[]),
 ];
 

@@ -1,9 +1,11 @@
 -- What a checkpoint that is written leaves of a store.
-use Rattle.std.proofs.Common.{◌≡◌, ℕ, suc, ◌+◌, ◌*◌, ◌-◌, ◌^◌, ◌<◌, ◌≤◌, ◌==◌, ◌&&◌, ◌||◌, leb, ltb, true, false, List, [], ◌∷◌, length, drop, slice_index_or, Option, Some, None, IsSome, IfSome, MatchOption, is_some, refl, sym, ap, subst, ◌∙◌, inl, inr, arith}
+use Rattle.std.proofs.Common.{◌≡◌, ℕ, suc, ◌+◌, ◌*◌, ◌-◌, ◌^◌, ◌<◌, ◌≤◌, ◌==◌, ◌&&◌, ◌||◌, leb, ltb, true, false, List, [], ◌∷◌, length, slice_index_or, Option, Some, None, IsSome, IfSome, MatchOption, is_some, refl, sym, ap, subst, ◌∙◌, inl, inr, arith}
 use Rattle.std.specs.Prelude.{is_none}
 use Rattle.std.specs.List.{Contains}
 use Rattle.std.proofs.lemmas.Bool.{cases_Bool, and_from, and_parts, and_right, or_left, or_right, eqb-true, ltb-true, ltb-false, leb-true, le-leb, false≢true}
+use Rattle.std.proofs.lemmas.List.{append-nil}
 use Rattle.s4_types.specs.Pointer.{Place}
+use Rattle.block_log.specs.Taken.{TakesPlaces}
 use Rattle.block_log.specs.Log.{Log, Stored, same_kind}
 use Rattle.block_log.specs.declared.kinds.BlockKind.TheVariants.{Journal, Checkpoint, Data}
 use Rattle.codec.specs.Checkpoint.{holes_past, checkpoint_rules}
@@ -27,7 +29,9 @@ use Rattle.version_store.specs.private.CheckpointSteps.{CanCheckpoint, Checkpoin
 use Rattle.version_store.specs.private.Below.{OrderlyStays, RowStays, RowInodeStays, IsByStays, IsByLater, LastInodeStays, GroupsAscend, RowsKeepTheMaking}
 use Rattle.version_store.proofs.Frames.{DataStays, data_there, data_agree, data_pointers, stays_object, inode_in_stays, version_in_stays}
 use Rattle.version_store.proofs.Telling.{Moves, same_entries, leads_later, same_pointers, moved_leads_to, moved_leads}
-use Rattle.version_store.proofs.Steps.{row_here, row_beside, row_cases, none_cases, stamped_row, stamped_inode, taken_places}
+use Rattle.version_store.proofs.Across.{IsAcross, changed_across}
+use Rattle.version_store.proofs.Spending.{sum_stays}
+use Rattle.version_store.proofs.Steps.{row_here, row_beside, row_cases, none_cases, stamped_row, stamped_inode}
 
 -- ---- the last moment of a journal
 
@@ -39,7 +43,7 @@ last_least low (e ∷ entries) ascend =
     let rest : e.moment ≤ last_moment e.moment entries = last_least e.moment entries parts.1 in
     omega (arith, first, rest)
 
-all_by_last : (low t : ℕ) (entries : List EntryFields) → moments_ascend_from low entries ≡ true → last_moment low entries ≤ t → AllBy t entries
+pub all_by_last : (low t : ℕ) (entries : List EntryFields) → moments_ascend_from low entries ≡ true → last_moment low entries ≤ t → AllBy t entries
 all_by_last low t [] ascend le = tt
 all_by_last low t (e ∷ entries) ascend le =
     let parts = and_parts (leb low e.moment) (moments_ascend_from e.moment entries) ascend in
@@ -63,7 +67,7 @@ first_hole size p none = elim (cases_Bool (ltb 0 size)) [
   | inr empty ↦ or_right (ltb 0 size) (is_none p) (ap (λ (slot : Option Place). is_none slot) (none (ltb-false 0 size empty)))
 ]
 
-holes_all : (size : ℕ) (pointers : List (Option Place)) → ((k : ℕ) → size ≤ 512 * k → slice_index_or pointers k None ≡ None) → holes_past size pointers ≡ true
+pub holes_all : (size : ℕ) (pointers : List (Option Place)) → ((k : ℕ) → size ≤ 512 * k → slice_index_or pointers k None ≡ None) → holes_past size pointers ≡ true
 unfolding holes_past
 holes_all size [] holes = refl
 holes_all size (p ∷ pointers) holes =
@@ -71,7 +75,7 @@ holes_all size (p ∷ pointers) holes =
     (first_hole size p (λ le. holes 0 (omega (arith, le))))
     (holes_all (size - 512) pointers (λ k le. holes (suc k) (omega (arith, le))))
 
-keeps_rules : (o m : ℕ) (i : Inode) → 1 ≤ o → 1 ≤ m → 1 ≤ i.created → i.size ≤ 24576 → holes_past i.size i.pointers ≡ true → checkpoint_rules (record { object = o; moment = m; inode = i }) ≡ true
+pub keeps_rules : (o m : ℕ) (i : Inode) → 1 ≤ o → 1 ≤ m → 1 ≤ i.created → i.size ≤ 24576 → holes_past i.size i.pointers ≡ true → checkpoint_rules (record { object = o; moment = m; inode = i }) ≡ true
 unfolding checkpoint_rules
 keeps_rules o m i object moment created size holes =
     and_from (leb 1 o) (leb 1 m && (leb 1 i.created && (leb i.size 24576 && holes_past i.size i.pointers))) (le-leb 1 o object)
@@ -95,6 +99,7 @@ known ascend making s o row i m can =
     let object = can.store.objects o row can.there in
     let made = (can.store.orderly o row can.there).made.0 in
     let bound = can.store.stamps o row can.there in
+    let most = can.store.bounded in
     let free = can.room in
     let is = can.moment in
     let behind : row.checkpoint_moment < last_entry held o row = ltb-true row.checkpoint_moment (last_entry held o row) can.behind in
@@ -110,7 +115,7 @@ known ascend making s o row i m can =
       inode = can.inode;
       rules = subst (λ (k : Inode). checkpoint_rules (record { object = o; moment = m; inode = k }) ≡ true) (sym can.inode) rules;
       upto = omega (arith, is, upto);
-      stamp = omega (arith, bound);
+      stamp = omega (arith, bound, most);
       ahead = omega (arith, free);
     }
 
@@ -126,7 +131,7 @@ pub record Rewrites (s : StoreFields) (log : Log) (o : ℕ) (row next : Row) (m 
   pub moved : IsMoved s.log.held row.checkpoint next.checkpoint log.held
   pub some : IsSome next.checkpoint
   pub others : OnlyCheckpointChanged o s.log.held log.held
-  pub ahead : log.ahead ≡ drop 1 s.log.ahead
+  pub takes : TakesPlaces 1 s.log log
 
 -- the store with other rows and another log
 abbrev pub next_store : StoreFields → List (ℕ × Row) → Log → StoreFields
@@ -183,10 +188,21 @@ rewritten_beside s later o q r only other named p held =
     subst (λ (slots : List (Option Place)). Contains slots (Some p)) (sym (same_pointers s.log.held later q r stays.journal stays.checkpoints))
     (named p (subst (λ (view : Place → Option (List ℕ)). IsSome (view p)) (only Data q refl) held))
 
+-- what holds across rows is kept: no entry is added, and no making is another
+rewritten_across : (s : StoreFields) (rows : List (ℕ × Row)) (log : Log) (o : ℕ) (row next : Row) (i : Inode) (m : ℕ) → CanCheckpoint s o row i m → Known s o row i m → Rewrites s log o row next m → IsPut s rows o row next → IsAcross log.held rows
+rewritten_across s rows log o row next i m can know writes put =
+    let entries : entries_of log.held o next ≡ entries_of s.log.held o row = (rewritten_moves s log o row next m writes know.stands).entries in
+    changed_across s.rows rows s.log.held log.held o row (record next { stamp = row.stamp + 1 }) (s.latest + 1) s.latest [] can.there put (ap (λ (r : Row). r.created) writes.fields)
+    (entries ∙ sym (append-nil (entries_of s.log.held o row))) tt (omega arith) (λ q r e. (can.store.objects q r e).by.entries)
+    (λ q r other e. same_entries s.log.held log.held q r (checkpoint_stays o q s.log.held log.held writes.others other).journal)
+    (record { ascending = can.store.ascending; apart = can.store.apart })
+
 rewritten_store : OrderlyStays → RowStays → RowInodeStays → IsByStays → IsByLater → OnlyItsBlocksMatter → (s : StoreFields) (rows : List (ℕ × Row)) (log : Log) (o : ℕ) (row next : Row) (i : Inode) (m : ℕ)
     → CanCheckpoint s o row i m → Known s o row i m → Rewrites s log o row next m → IsPut s rows o row next → IsStore (next_store s rows log)
 rewritten_store orderly stands same by later_by matter s rows log o row next i m can know writes put =
-    let fewer : length log.ahead + 1 ≡ length s.log.ahead = taken_places s.log.ahead log.ahead 1 writes.ahead know.ahead in
+    let sum = sum_stays 1 s.log log writes.takes know.ahead in
+    let more : log.spent ≡ 1 + s.log.spent = writes.takes.spent in
+    let across = rewritten_across s rows log o row next i m can know writes put in
     record {
       objects = row_cases (row_of s.rows) (row_of rows) o (record next { stamp = row.stamp + 1 }) put (λ q r. IsObject log.held q r s.latest)
           (rewritten_object later_by matter s log o row next m (row.stamp + 1) writes know.upto (can.store.objects o row can.there))
@@ -202,10 +218,12 @@ rewritten_store orderly stands same by later_by matter s rows log o row next i m
       nothing = λ q none kind p.
           let gone = none_cases (row_of s.rows) (row_of rows) o (record next { stamp = row.stamp + 1 }) put q none in
           ap (λ (view : Place → Option (List ℕ)). view p) (writes.others kind q (and_right (same_kind Checkpoint kind) (o == q) gone.0)) ∙ can.store.nothing q gone.1 kind p;
-      stamps = row_cases (row_of s.rows) (row_of rows) o (record next { stamp = row.stamp + 1 }) put (λ q r. r.stamp + length log.ahead ≤ 15360)
-          (let bound = can.store.stamps o row can.there in omega (arith, bound, fewer))
-          (λ q r other e. let bound = can.store.stamps q r e in omega (arith, bound, fewer));
-      few = let bound = can.store.few in omega (arith, bound, fewer);
+      stamps = row_cases (row_of s.rows) (row_of rows) o (record next { stamp = row.stamp + 1 }) put (λ q r. r.stamp ≤ log.spent)
+          (let bound = can.store.stamps o row can.there in omega (arith, bound, more))
+          (λ q r other e. let bound = can.store.stamps q r e in omega (arith, bound, more));
+      bounded = let bound = can.store.bounded in omega (arith, bound, sum);
+      ascending = across.ascending;
+      apart = across.apart;
     }
 
 rewritten_inodes : RowInodeStays → (s : StoreFields) (rows : List (ℕ × Row)) (log : Log) (o : ℕ) (row next : Row) (m : ℕ) → row_of s.rows o ≡ Some row → Rewrites s log o row next m → IsPut s rows o row next
@@ -245,7 +263,7 @@ rewritten_rows s rows o row next there put q = elim (cases_Bool (o == q)) [
   | inr other ↦ ap (λ (r : Option Row). is_some r) (put q ∙ row_beside (row_of s.rows) o q (record next { stamp = row.stamp + 1 }) other)
 ]
 
-some_place : (c : Option Place) → IsSome c → (p : Place) × (c ≡ Some p)
+pub some_place : (c : Option Place) → IsSome c → (p : Place) × (c ≡ Some p)
 some_place None some = absurd (false≢true some)
 some_place (Some p) some = (p, refl)
 
@@ -274,7 +292,7 @@ rewritten_made last s rows log o row next i m can know writes put =
       written = rewritten_told last s log o row next i m p can know writes at;
       moved = subst (λ (c : Option Place). IsMoved s.log.held row.checkpoint c log.held) at writes.moved;
       others = writes.others;
-      ahead = writes.ahead;
+      takes = writes.takes;
     }
 
 rewritten_current : (s : StoreFields) (rows : List (ℕ × Row)) (log : Log) (o : ℕ) (row next : Row) (m : ℕ) → Rewrites s log o row next m → IsPut s rows o row next

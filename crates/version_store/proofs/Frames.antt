@@ -32,7 +32,7 @@ seen_bytes (Some block) kind o bytes seen =
       | inr other ↦ absurd (none-some bytes (sym (cond-false (same_kind kind block.kind && block.object == o) (Some block.bytes) None other) ∙ seen))
     ]
 
-same_bytes : (kind : BlockKind) (o : ℕ) (before after : Option Stored) (seen : Option (List ℕ)) → seen_as kind o before ≡ seen → IsSome seen → seen_as kind o after ≡ seen → bytes_stored after ≡ bytes_stored before
+pub same_bytes : (kind : BlockKind) (o : ℕ) (before after : Option Stored) (seen : Option (List ℕ)) → seen_as kind o before ≡ seen → IsSome seen → seen_as kind o after ≡ seen → bytes_stored after ≡ bytes_stored before
 same_bytes kind o before after None was some is = absurd (false≢true some)
 same_bytes kind o before after (Some bytes) was some is = seen_bytes after kind o bytes is ∙ sym (seen_bytes before kind o bytes was)
 

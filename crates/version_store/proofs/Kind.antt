@@ -3,13 +3,12 @@ use Rattle.std.proofs.Common.{◌≡◌, ℕ, ◌+◌, ◌≤◌, ◌==◌, ◌&
 use Rattle.std.specs.Prelude.{is_some}
 use Rattle.std.proofs.lemmas.Bool.{cases_Bool, cond-true, cond-false, or_right, eqb-true, eq-eqb, eqb-false, ne_eqb, false≢true, true≢false, and_left}
 use Rattle.std.proofs.Math.Bool.{or-false}
-use Rattle.std.proofs.lemmas.List.{drop-drop}
 use Rattle.std.proofs.lemmas.Option.{none-some}
-use Rattle.s4_types.specs.Pointer.{Place}
 use Rattle.s4_types.specs.declared.changes.Change.{Change}
 use Rattle.s4_types.specs.declared.changes.Change.TheVariants.{Create, Delete, Write, Truncate, SetAttr, SetWindow, Flush, FlushO}
 use Rattle.s4_types.specs.declared.versions.Version.{Version}
 use Rattle.s4_model.specs.Effect.{effect, is_change_of, object_of}
+use Rattle.block_log.specs.Taken.{TakesPlaces}
 use Rattle.block_log.specs.Log.{Log}
 use Rattle.codec.specs.Entry.{EntryFields, entry_length}
 use Rattle.codec.specs.declared.inodes.Inode.{Inode}
@@ -26,12 +25,14 @@ use Rattle.time_read.specs.Rows.{inode_of}
 use Rattle.version_store.specs.Store.{StoreFields}
 use Rattle.version_store.specs.Versions.{version_in, version_taken}
 use Rattle.version_store.specs.Costs.{subject_row, subject_inode, row_or_fresh, pointers_moved, data_blocks, attribute_by, sizes_by, refusal_by, blocks_taken, room}
-use Rattle.version_store.specs.Taking.{IsReadyFor, RowChanges, data_by}
+use Rattle.version_store.specs.Taking.{IsReadyFor, IsAboveAll, RowChanges, data_by}
 use Rattle.version_store.specs.private.Turning.{CanTake, CanTurn, Turns, IsTaken, blocks_turned}
-use Rattle.version_store.specs.private.Below.{OrderlyStays, RowStays, RowInodeStays, IsByStays, IsByLater, FreshRowStands, FreshRowIsBy, FreshInode, BlankCount, BlankHoles, EntriesHaveSizes, SizesAddUp}
+use Rattle.version_store.proofs.Spending.{none_taken}
+use Rattle.version_store.specs.private.Below.{PlacesAddUp, OrderlyStays, RowStays, RowInodeStays, IsByStays, IsByLater, FreshRowStands, FreshRowIsBy, FreshInode, BlankCount, BlankHoles, EntriesHaveSizes, SizesAddUp}
 use Rattle.version_store.proofs.Frames.{growth_stays, stays_inode}
 use Rattle.version_store.proofs.Naming.{NamesNew}
 use Rattle.version_store.proofs.Steps.{grown_store, grown_versions, added_store, added_versions, row_here, row_beside}
+use Rattle.version_store.proofs.Across.{above_has_none}
 use Rattle.version_store.proofs.Subjects.{IsSubject, free_of, counted, free_to_push}
 
 -- ---- which inodes entries lead to
@@ -84,7 +85,7 @@ created_leads j m later alive created changed count_before count_after size = re
 pub grows_none : (object : ℕ) (log : Log) → GrowsBy object [] log log
 grows_none object log = record {
   room = omega arith;
-  ahead = refl;
+  takes = none_taken log;
   fresh = λ n p lt e. absurd (omega arith);
   taken = λ n p bytes e none. absurd (none-some bytes none);
   kept = λ p held. refl;
@@ -141,7 +142,7 @@ can_turn orderly stands same by matter sizes add_up s change m log i j can subje
       tidy = makes.tidy;
       pointers = makes.pointers;
       free = free_to_push add_up change subject.row (object_of change) s.log.ahead log.ahead (entries_between i j m) i (free_of (room s) change subject.row i free_row)
-          (sizes_made sizes s change m i log j makes) (makes.grows.ahead ∙ ap (λ n. drop n s.log.ahead) makes.amount);
+          (sizes_made sizes s change m i log j makes) (makes.grows.takes.ahead ∙ ap (λ n. drop n s.log.ahead) makes.amount);
     }
 
 -- exactly the object of the changed row has one that it may not have had
@@ -153,9 +154,9 @@ rows_with rows after o q row put = elim (cases_Bool (o == q)) [
       ap is_some (put ∙ row_beside rows o q row other) ∙ sym (ap (λ (b : Bool). is_some (rows q) || b) ne ∙ or-false (is_some (rows q)))
 ]
 
--- the blocks of a turn, and those of the data before it
-both_taken : (before between after : List Place) (n k m : ℕ) → after ≡ drop k between → between ≡ drop n before → n + k ≡ m → after ≡ drop m before
-both_taken before between after n k m e f sum_is = e ∙ ap (drop k) f ∙ drop-drop k n before ∙ ap (λ c. drop c before) sum_is
+-- the blocks of the data, and those of the turn behind it
+both_taken : PlacesAddUp → (before between after : Log) (n k m : ℕ) → TakesPlaces n before between → TakesPlaces k between after → n + k ≡ m → TakesPlaces m before after
+both_taken add_up before between after n k m first second sum_is = subst (λ count. TakesPlaces count before after) sum_is (add_up n k before between after first second)
 
 blocks_counted : (change : Change) (row : Row) (i : Inode) (entries : List EntryFields) (n : ℕ) → map entry_length entries ≡ sizes_by change i → n ≡ data_blocks change i
     → n + blocks_needed row.head_bytes (map entry_length entries) ≡ data_blocks change i + blocks_needed row.head_bytes (sizes_by change i)
@@ -179,10 +180,10 @@ turned_versions s between later change m j count of same means turns q t =
           ∙ sym (cond-false (is_change_of q change && leb m t) (effect change m (version_in s q s.latest)) (version_in s q t) (and_left (is_change_of q change) (leb m t) (of q ∙ other)))
     ]
 
-pub taken_of : RowInodeStays → OnlyItsBlocksMatter → EntriesHaveSizes → (s later : StoreFields) (change : Change) (m : ℕ) (log : Log) (i j : Inode)
+pub taken_of : PlacesAddUp → RowInodeStays → OnlyItsBlocksMatter → EntriesHaveSizes → (s later : StoreFields) (change : Change) (m : ℕ) (log : Log) (i j : Inode)
     → CanTake s change m i → IsSubject s (object_of change) m i → Makes s change m i log j
     → Turns (record s { log = log }) (object_of change) m j (blocks_turned (record s { log = log }) (object_of change) i j m) later → IsTaken s change m i later
-taken_of same matter sizes s later change m log i j can subject makes turns = record {
+taken_of places_add_up same matter sizes s later change m log i j can subject makes turns = record {
   store = turns.store;
   taken = turned_versions s (record s { log = log }) later change m j (blocks_turned (record s { log = log }) (object_of change) i j m) (of_object s change can.takes.ready)
       (grown_versions same matter s log (object_of change) (data_by (contents_of s.log.held) change i) makes.grows can.store) (makes.means ∙ sym (ap (effect change m) subject.version)) turns;
@@ -194,7 +195,7 @@ taken_of same matter sizes s later change m log i j can subject makes turns = re
     grown = makes.made;
     growth = makes.grows;
     others = turns.others;
-    ahead = both_taken s.log.ahead log.ahead later.log.ahead (length (data_by (contents_of s.log.held) change i)) (blocks_turned (record s { log = log }) (object_of change) i j m) (blocks_taken s change m) turns.ahead makes.grows.ahead
+    takes = both_taken places_add_up s.log log later.log (length (data_by (contents_of s.log.held) change i)) (blocks_turned (record s { log = log }) (object_of change) i j m) (blocks_taken s change m) makes.grows.takes turns.takes
         (blocks_counted change (subject_row s (object_of change) m) i (entries_between i j m) (length (data_by (contents_of s.log.held) change i)) (sizes_made sizes s change m i log j makes) makes.amount
         ∙ ap (λ (k : Inode). data_blocks change k + blocks_needed (subject_row s (object_of change) m).head_bytes (sizes_by change k)) can.begins);
   };
@@ -209,14 +210,15 @@ pub blank_subject : FreshInode → (s : StoreFields) (o m : ℕ) → row_of s.ro
 blank_subject fresh s o m none = ap (λ (r : Row). inode_of s.log.held o r s.latest) (fresh_subject s o m none) ∙ fresh s.log.held o m s.latest
 
 pub can_create : FreshRowStands → FreshRowIsBy → FreshInode → IsByLater → BlankCount → BlankHoles → EntriesHaveSizes → SizesAddUp → (s : StoreFields) (change : Change) (m : ℕ) (rows : List (ℕ × Row)) (i j : Inode)
-    → CanTake s change m i → row_of s.rows (object_of change) ≡ None → Makes s change m i s.log j → data_blocks change i ≡ 0
+    → CanTake s change m i → IsAboveAll s (object_of change) → Makes s change m i s.log j → data_blocks change i ≡ 0
     → ((q : ℕ) → row_of rows q ≡ with_row (row_of s.rows) (object_of change) (fresh_row m) q) → CanTurn (record s { rows = rows }) (object_of change) i j m
-can_create stands by fresh later_by count holes sizes add_up s change m rows i j can none makes no_data put =
+can_create stands by fresh later_by count holes sizes add_up s change m rows i j can above makes no_data put =
+    let none : row_of s.rows (object_of change) ≡ None = above_has_none s (object_of change) above in
     let subject : subject_row s (object_of change) m ≡ fresh_row m = fresh_subject s (object_of change) m none in
     let free_row : refusal_by (room s) change (fresh_row m) i ≡ None =
     ap (refusal_by (room s) change (fresh_row m)) can.begins ∙ sym (ap (λ (r : Row). refusal_by (room s) change r (subject_inode s (object_of change) m)) subject) ∙ can.free in
     record {
-      store = added_store stands by fresh later_by count holes s rows (object_of change) m j put can.takes.numbered none can.store;
+      store = added_store stands by fresh later_by count holes s rows (object_of change) m j put can.takes.numbered above can.later can.store;
       later = can.later;
       row = fresh_row m;
       there = put (object_of change) ∙ row_here (row_of s.rows) (object_of change) (fresh_row m);
@@ -243,11 +245,16 @@ created_row s between o m rows first subject added changes = record {
   put = put_again (row_of s.rows) (row_of between.rows) (row_of rows) o first changes.next added changes.put;
 }
 
+-- a change without data takes the blocks of its turn
+turned_alone : (n : ℕ) → n ≡ 0 + n
+turned_alone n = omega arith
+
 pub created_taken : FreshInode → EntriesHaveSizes → (s later : StoreFields) (change : Change) (m : ℕ) (rows : List (ℕ × Row)) (i j : Inode)
-    → CanTake s change m i → row_of s.rows (object_of change) ≡ None → Makes s change m i s.log j → data_blocks change i ≡ 0
+    → CanTake s change m i → IsAboveAll s (object_of change) → Makes s change m i s.log j → data_blocks change i ≡ 0
     → ((q : ℕ) → row_of rows q ≡ with_row (row_of s.rows) (object_of change) (fresh_row m) q) → effect change m (version_in s (object_of change) s.latest) ≡ effect change m (meaning (contents_of s.log.held) i)
     → Turns (record s { rows = rows }) (object_of change) m j (blocks_turned (record s { rows = rows }) (object_of change) i j m) later → IsTaken s change m i later
-created_taken fresh sizes s later change m rows i j can none makes no_data put begins turns =
+created_taken fresh sizes s later change m rows i j can above makes no_data put begins turns =
+    let none : row_of s.rows (object_of change) ≡ None = above_has_none s (object_of change) above in
     let subject : subject_row (record s { rows = rows }) (object_of change) m ≡ subject_row s (object_of change) m =
     ap (row_or_fresh m) (put (object_of change) ∙ row_here (row_of s.rows) (object_of change) (fresh_row m)) ∙ sym (fresh_subject s (object_of change) m none) in
     let changes = created_row s (record s { rows = rows }) (object_of change) m later.rows (fresh_row m) subject put turns.row in
@@ -263,9 +270,11 @@ created_taken fresh sizes s later change m rows i j can none makes no_data put b
         grown = makes.made;
         growth = makes.grows;
         others = turns.others;
-        ahead = both_taken s.log.ahead s.log.ahead later.log.ahead 0 (blocks_turned (record s { rows = rows }) (object_of change) i j m) (blocks_taken s change m) turns.ahead refl
-            (ap (λ (r : Row). 0 + blocks_needed r.head_bytes (map entry_length (entries_between i j m))) subject
+        takes = subst (λ count. TakesPlaces count s.log later.log)
+            (turned_alone (blocks_turned (record s { rows = rows }) (object_of change) i j m)
+            ∙ ap (λ (r : Row). 0 + blocks_needed r.head_bytes (map entry_length (entries_between i j m))) subject
             ∙ blocks_counted change (subject_row s (object_of change) m) i (entries_between i j m) 0 (sizes_made sizes s change m i s.log j makes) (sym no_data)
-            ∙ ap (λ (k : Inode). data_blocks change k + blocks_needed (subject_row s (object_of change) m).head_bytes (sizes_by change k)) can.begins);
+            ∙ ap (λ (k : Inode). data_blocks change k + blocks_needed (subject_row s (object_of change) m).head_bytes (sizes_by change k)) can.begins)
+            turns.takes;
       };
     }

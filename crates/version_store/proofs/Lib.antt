@@ -2,6 +2,8 @@ pub mod Frames
 pub mod Counting
 pub mod Telling
 pub mod Naming
+pub mod Across
+pub mod Spending
 pub mod Steps
 pub mod Subjects
 pub mod Kind
@@ -14,3 +16,7 @@ pub mod Sealing
 pub mod InPlace
 pub mod Checkpointing
 pub mod CheckpointSteps
+pub mod Dropping
+pub mod Replacing
+pub mod Replaced
+pub mod Cutting

@@ -24,6 +24,7 @@ use Rattle.version_store.specs.private.Turning.{CanTake}
 use Rattle.version_store.specs.private.Below.{OnePlace, FreshInode, BlankCount, BlankHoles}
 use Rattle.version_store.proofs.Counting.{Fresh, none_moved, written_moves, truncated_moves}
 use Rattle.version_store.proofs.Naming.{written_names, truncated_names}
+use Rattle.version_store.proofs.Across.{above_has_none}
 use Rattle.version_store.proofs.Subjects.{IsSubject, subject_of, free_of}
 use Rattle.version_store.proofs.Kind.{Makes, grows_none, alive_leads, deleted_leads, created_leads, blank_subject}
 
@@ -79,7 +80,7 @@ pub created_makes : FreshInode → BlankCount → BlankHoles → (s : StoreField
     → meaning (contents_of s.log.held) j ≡ effect (Create o attribute) m (meaning (contents_of s.log.held) i) → Tidy (contents_of s.log.held) j → Makes s (Create o attribute) m i s.log j
 created_makes fresh count holes s o m attribute i j can alive size made changed attribute_is none means tidy =
     let later = can.later in
-    let is : i ≡ blank m = can.begins ∙ blank_subject fresh s o m can.takes.ready in
+    let is : i ≡ blank m = can.begins ∙ blank_subject fresh s o m (above_has_none s o can.takes.ready) in
     record {
       grows = grows_none o s.log;
       made = refl;

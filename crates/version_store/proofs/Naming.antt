@@ -107,7 +107,7 @@ spelled_there None c told = absurd (none-some c told)
 spelled_there (Some block) c told = refl
 
 -- the checkpoint that a row names is held
-checkpoint_there : (held : Place → Option Stored) (o : ℕ) (row : Row) (p : Place) → IsRow held o row → row.checkpoint ≡ Some p → IsSome (of_kind Checkpoint o held p)
+pub checkpoint_there : (held : Place → Option Stored) (o : ℕ) (row : Row) (p : Place) → IsRow held o row → row.checkpoint ≡ Some p → IsSome (of_kind Checkpoint o held p)
 checkpoint_there held o row p r at =
     let c : CheckpointFields = record { object = o; moment = row.checkpoint_moment; inode = inode_of held o row row.checkpoint_moment } in
     spelled_there (of_kind Checkpoint o held p) c (subst (λ (place : Option Place). MatchOption place (row.checkpoint_moment ≡ 0) (λ q. checkpoint_held held o q ≡ Some c)) at r.checkpoint)

@@ -1,7 +1,7 @@
 -- A store whose table has fewer places ahead and holds what it held.
 use Rattle.std.proofs.Common.{◌≡◌, ℕ, ◌+◌, ◌≤◌, List, [], ◌∷◌, ◌++◌, length, Option, refl, sym, ap, subst, arith, length-append}
 use Rattle.s4_types.specs.Pointer.{Place}
-use Rattle.block_log.specs.Log.{Stored}
+use Rattle.block_log.specs.Log.{Log, Stored}
 use Rattle.segment_table.specs.Table.{Table}
 use Rattle.segment_table.specs.Room.{is_filling, numbers, rest_of, places_ahead}
 use Rattle.segment_table.specs.Changes.{IsFilling, NoneIsFilling}
@@ -26,22 +26,24 @@ fewer_ahead old new one idle sealed =
     fewer_by (numbers is_filling 0 old.drive.frames) (rest_of old) (places_ahead old) (places_ahead new) one (λ none. ap (λ (t : Table). places_ahead t) (idle none)) sealed
 
 -- the store over another log
-abbrev pub over : StoreFields → (Place → Option Stored) → List Place → StoreFields
-over s held ahead = record s { log = record { held = held; ahead = ahead } }
+abbrev pub over : StoreFields → Log → StoreFields
+over s log = record s { log = log }
 
-pub shrunk_store : (s : StoreFields) (held : Place → Option Stored) (ahead : List Place) → held ≡ s.log.held → length ahead ≤ length s.log.ahead → IsStore s → IsStore (over s held ahead)
-shrunk_store s held ahead same fewer store =
-    subst (λ (h : Place → Option Stored). IsStore (over s h ahead)) (sym same) (record {
+pub shrunk_store : (s : StoreFields) (log : Log) → log.held ≡ s.log.held → length log.ahead ≤ length s.log.ahead → log.spent ≡ s.log.spent → IsStore s → IsStore (over s log)
+shrunk_store s log same fewer spent store =
+    subst (λ (h : Place → Option Stored). IsStore (over s (record log { held = h }))) (sym same) (record {
       objects = store.objects;
       orderly = store.orderly;
       named = store.named;
       nothing = store.nothing;
-      stamps = λ o row e. let bound = store.stamps o row e in omega (arith, fewer, bound);
-      few = let bound = store.few in omega (arith, fewer, bound);
+      stamps = λ o row e. let bound = store.stamps o row e in omega (arith, spent, bound);
+      bounded = let bound = store.bounded in omega (arith, fewer, spent, bound);
+      ascending = store.ascending;
+      apart = store.apart;
     })
 
-pub same_inodes : (s : StoreFields) (held : Place → Option Stored) (ahead : List Place) → held ≡ s.log.held → (o t : ℕ) → inode_in (over s held ahead) o t ≡ inode_in s o t
-same_inodes s held ahead same o t = ap (λ (h : Place → Option Stored). inode_by h o t (row_of s.rows o)) same
+pub same_inodes : (s : StoreFields) (log : Log) → log.held ≡ s.log.held → (o t : ℕ) → inode_in (over s log) o t ≡ inode_in s o t
+same_inodes s log same o t = ap (λ (h : Place → Option Stored). inode_by h o t (row_of s.rows o)) same
 
-pub same_versions : (s : StoreFields) (held : Place → Option Stored) (ahead : List Place) → held ≡ s.log.held → (o t : ℕ) → version_in (over s held ahead) o t ≡ version_in s o t
-same_versions s held ahead same o t = ap (λ (h : Place → Option Stored). version_by h (inode_by h o t (row_of s.rows o))) same
+pub same_versions : (s : StoreFields) (log : Log) → log.held ≡ s.log.held → (o t : ℕ) → version_in (over s log) o t ≡ version_in s o t
+same_versions s log same o t = ap (λ (h : Place → Option Stored). version_by h (inode_by h o t (row_of s.rows o))) same

@@ -1,20 +1,20 @@
 -- The steps that a change of an object is made of: its data is appended, its row is added, its journal is written.
-use Rattle.std.proofs.Common.{◌≡◌, ◌⊎◌, ℕ, ◌+◌, ◌-◌, ◌<◌, ◌≤◌, ◌==◌, ◌&&◌, ◌/◌, ◌%◌, leb, Bool, false, cond, List, length, drop, Option, Some, None, IsSome, refl, sym, ap, subst, ◌∙◌, inl, inr, arith}
+use Rattle.std.proofs.Common.{◌≡◌, ◌⊎◌, ℕ, ◌+◌, ◌<◌, ◌≤◌, ◌==◌, ◌&&◌, ◌/◌, ◌%◌, leb, Bool, false, cond, List, length, Option, Some, None, IsSome, refl, sym, ap, subst, ◌∙◌, inl, inr, arith}
 use Rattle.std.specs.Prelude.{is_some}
 use Rattle.std.specs.List.{Contains}
 use Rattle.std.proofs.lemmas.Bool.{cases_Bool, cond-true, cond-false, and_right, eqb-true, eqb-false, eq-eqb, ne_eqb, le-leb, false≢true}
-use Rattle.std.proofs.lemmas.List.{length-drop}
 use Rattle.std.proofs.lemmas.List.Elements.{All-nil}
 use Rattle.std.proofs.lemmas.Option.{none-some, same_Some}
 use Rattle.s4_types.specs.Pointer.{Place}
 use Rattle.s4_types.specs.declared.versions.Version.{Version}
 use Rattle.s4_types.specs.declared.versions.Version.TheVariants.{Absent}
+use Rattle.block_log.specs.Taken.{TakesPlaces}
 use Rattle.block_log.specs.Log.{Log, Stored, of_kind, same_kind}
 use Rattle.block_log.specs.declared.kinds.BlockKind.TheVariants.{Journal, Checkpoint, Data}
 use Rattle.codec.specs.declared.inodes.Inode.{Inode}
 use Rattle.codec.specs.Checkpoint.{pointer_at}
 use Rattle.codec.specs.Entry.{EntryFields}
-use Rattle.undo_redo.specs.Runs.{blank}
+use Rattle.undo_redo.specs.Runs.{blank, AllAt}
 use Rattle.journal_chain.specs.Chain.{OnlyJournalChanged}
 use Rattle.inode.specs.Contents.{byte_in, byte_of, contents_of, meaning}
 use Rattle.inode.specs.Tidiness.{Tidy, PointersHeld}
@@ -23,16 +23,18 @@ use Rattle.inode.specs.Laws.{OnlyItsBlocksMatter}
 use Rattle.object_map.specs.declared.map.Row.{Row}
 use Rattle.object_map.specs.Rows.{row_of, with_row, fresh_row}
 use Rattle.time_read.specs.Rows.{IsRow, inode_of}
+use Rattle.version_store.proofs.Spending.{sum_stays}
 use Rattle.version_store.specs.Store.{StoreFields, IsStore, IsObject, HasNothing, DataIsNamed, pointers_of, sides_told, IsLed}
 use Rattle.time_read.specs.Orderly.{IsOrderly}
 use Rattle.row_changes.specs.Recent.{IsBy}
 use Rattle.version_store.specs.Versions.{Stays, inode_by, version_by, version_in}
-use Rattle.version_store.specs.Taking.{RowChanges}
+use Rattle.version_store.specs.Taking.{RowChanges, IsAboveAll}
 use Rattle.version_store.specs.private.Turning.{LeadsTo, IsOpenFor, Turns}
 use Rattle.version_store.specs.private.Below.{OrderlyStays, RowStays, RowInodeStays, IsByStays, IsByLater, LastInodeStays, FreshRowStands, FreshRowIsBy, FreshInode, BlankCount, BlankHoles}
 use Rattle.version_store.proofs.Frames.{DataStays, data_there, data_agree, data_pointers, stays_object, growth_stays, journal_stays, version_by_stays}
-use Rattle.version_store.proofs.Telling.{Leads, Grows, inode_told, leads_later, same_pointers, grown_leads_to, grown_leads, fresh_pointers}
+use Rattle.version_store.proofs.Telling.{Leads, Grows, inode_told, leads_later, same_pointers, same_entries, grown_leads_to, grown_leads, fresh_pointers}
 use Rattle.version_store.proofs.Naming.{NamesNew}
+use Rattle.version_store.proofs.Across.{IsAcross, kept_across, changed_across, added_across, above_has_none}
 
 -- ---- rows
 
@@ -47,11 +49,6 @@ pub other_object : (rows : ℕ → Option Row) (o q : ℕ) → IsSome (rows o) �
 other_object rows o q there none = ne_eqb o q (λ (e : o ≡ q). false≢true (sym (ap is_some (ap rows e ∙ none)) ∙ there))
 
 -- ---- data is appended
-
-fewer : (before after : List Place) (n : ℕ) → after ≡ drop n before → length after ≤ length before
-fewer before after n e =
-    let count : length after ≡ length before - n = ap length e ∙ length-drop n before in
-    omega (arith, count)
 
 -- a row leads where it led while its object's blocks stay
 stays_naming : (o : ℕ) (held later : Place → Option Stored) (row : Row) (p : Place) → Stays o held later → Contains (pointers_of held o row) (Some p) → Contains (pointers_of later o row) (Some p)
@@ -77,7 +74,9 @@ grown_named s log object blocks j grows new store o row e p there =
 pub grown_store : OrderlyStays → RowStays → RowInodeStays → IsByStays → OnlyItsBlocksMatter → (s : StoreFields) (log : Log) (object : ℕ) (blocks : List (List ℕ)) (j : Inode)
     → GrowsBy object blocks s.log log → NamesNew object s.log j log → IsSome (row_of s.rows object) → IsStore s → IsOpenFor object j (record s { log = log })
 grown_store orderly stands same by matter s log object blocks j grows new there store =
-    let few : length log.ahead ≤ length s.log.ahead = fewer s.log.ahead log.ahead (length blocks) grows.ahead in
+    let sum = sum_stays (length blocks) s.log log grows.takes grows.room in
+    let more : log.spent ≡ length blocks + s.log.spent = grows.takes.spent in
+    let across : IsAcross log.held s.rows = kept_across s.rows s.log.held log.held (λ q r e. same_entries s.log.held log.held q r (growth_stays object blocks s.log log q grows).journal) (record { ascending = store.ascending; apart = store.apart }) in
     record {
       objects = λ o row e. stays_object stands same by matter o s.log.held log.held row s.latest (growth_stays object blocks s.log log o grows) (store.objects o row e);
       orderly = λ o row other e.
@@ -85,8 +84,10 @@ grown_store orderly stands same by matter s log object blocks j grows new there 
           orderly.blocks s.log.held log.held o s.latest row stays.journal stays.checkpoints (store.orderly o row e);
       named = grown_named s log object blocks j grows new store;
       nothing = λ o none kind p. grows.others kind o p (and_right (same_kind kind Data) (object == o) (other_object (row_of s.rows) object o there none)) ∙ store.nothing o none kind p;
-      stamps = λ o row e. let bound = store.stamps o row e in omega (arith, few, bound);
-      few = let bound = store.few in omega (arith, few, bound);
+      stamps = λ o row e. let bound = store.stamps o row e in omega (arith, more, bound);
+      bounded = let bound = store.bounded in omega (arith, sum, bound);
+      ascending = across.ascending;
+      apart = across.apart;
     }
 
 pub grown_versions : RowInodeStays → OnlyItsBlocksMatter → (s : StoreFields) (log : Log) (object : ℕ) (blocks : List (List ℕ)) → GrowsBy object blocks s.log log → IsStore s
@@ -145,21 +146,26 @@ none_cases rows after o row put q none = elim (cases_Bool (o == q)) [
 ]
 
 pub added_store : FreshRowStands → FreshRowIsBy → FreshInode → IsByLater → BlankCount → BlankHoles → (s : StoreFields) (rows : List (ℕ × Row)) (object m : ℕ) (j : Inode)
-    → ((q : ℕ) → row_of rows q ≡ with_row (row_of s.rows) object (fresh_row m) q) → 1 ≤ object → row_of s.rows object ≡ None → IsStore s → IsOpenFor object j (record s { rows = rows })
-added_store stands by fresh later count holes s rows object m j put numbered none store = record {
-  objects = row_cases (row_of s.rows) (row_of rows) object (fresh_row m) put (λ q r. IsObject s.log.held q r s.latest)
-      (fresh_object stands by fresh later count holes s.log.held object m s.latest numbered (store.nothing object none))
-      (λ q r other e. store.objects q r e);
-  orderly = λ q r other e. store.orderly q r (sym (row_beside (row_of s.rows) object q (fresh_row m) other) ∙ sym (put q) ∙ e);
-  named = row_cases (row_of s.rows) (row_of rows) object (fresh_row m) put (λ q r. (p : Place) → IsSome (of_kind Data q s.log.held p) → Contains (pointers_of s.log.held q r) (Some p) ⊎ ((object ≡ q) × LeadsTo j p))
-      (λ p there. absurd (false≢true (sym (ap is_some (store.nothing object none Data p)) ∙ there)))
-      (λ q r other e p there. inl (store.named q r e p there));
-  nothing = λ o gone. store.nothing o (none_cases (row_of s.rows) (row_of rows) object (fresh_row m) put o gone).1;
-  stamps = row_cases (row_of s.rows) (row_of rows) object (fresh_row m) put (λ q r. r.stamp + length s.log.ahead ≤ 15360)
-      (let bound = store.few in omega (arith, bound))
-      (λ q r other e. store.stamps q r e);
-  few = store.few;
-}
+    → ((q : ℕ) → row_of rows q ≡ with_row (row_of s.rows) object (fresh_row m) q) → 1 ≤ object → IsAboveAll s object → s.latest < m → IsStore s → IsOpenFor object j (record s { rows = rows })
+added_store stands by fresh later count holes s rows object m j put numbered above after store =
+    let none : row_of s.rows object ≡ None = above_has_none s object above in
+    let across = added_across s rows object m above put (λ q r e. let made = (store.orderly q r e).made.1 in omega (arith, made, after)) (record { ascending = store.ascending; apart = store.apart }) in
+    record {
+      objects = row_cases (row_of s.rows) (row_of rows) object (fresh_row m) put (λ q r. IsObject s.log.held q r s.latest)
+          (fresh_object stands by fresh later count holes s.log.held object m s.latest numbered (store.nothing object none))
+          (λ q r other e. store.objects q r e);
+      orderly = λ q r other e. store.orderly q r (sym (row_beside (row_of s.rows) object q (fresh_row m) other) ∙ sym (put q) ∙ e);
+      named = row_cases (row_of s.rows) (row_of rows) object (fresh_row m) put (λ q r. (p : Place) → IsSome (of_kind Data q s.log.held p) → Contains (pointers_of s.log.held q r) (Some p) ⊎ ((object ≡ q) × LeadsTo j p))
+          (λ p there. absurd (false≢true (sym (ap is_some (store.nothing object none Data p)) ∙ there)))
+          (λ q r other e p there. inl (store.named q r e p there));
+      nothing = λ o gone. store.nothing o (none_cases (row_of s.rows) (row_of rows) object (fresh_row m) put o gone).1;
+      stamps = row_cases (row_of s.rows) (row_of rows) object (fresh_row m) put (λ q r. r.stamp ≤ s.log.spent)
+          (omega arith)
+          (λ q r other e. store.stamps q r e);
+      bounded = store.bounded;
+      ascending = across.ascending;
+      apart = across.apart;
+    }
 
 pub added_versions : FreshInode → (s : StoreFields) (rows : List (ℕ × Row)) (object m : ℕ) → ((q : ℕ) → row_of rows q ≡ with_row (row_of s.rows) object (fresh_row m) q) → row_of s.rows object ≡ None
     → (o t : ℕ) → version_in (record s { rows = rows }) o t ≡ version_in s o t
@@ -182,6 +188,8 @@ pub record Records (held later : Place → Option Stored) (o : ℕ) (row next : 
   pub new : List EntryFields
   pub grows : Grows held later o row next new
   pub told : Leads held o (sides_told new)
+  pub moments : AllAt m new
+  pub made : next.created ≡ row.created
   pub row_stands : IsRow later o next
   pub by : IsBy later o next m
   pub inode : (t : ℕ) → inode_of later o next t ≡ cond (leb m t) i (inode_of held o row t)
@@ -246,19 +254,23 @@ recorded_beside s later o i only store q r other e p held =
 by_later : IsByLater → (held : Place → Option Stored) (o : ℕ) (row : Row) (latest m : ℕ) → latest ≤ m → IsObject held o row latest → IsObject held o row m
 by_later later held o row latest m le object = record { stands = object.stands; by = later held o row latest m le object.by; led = object.led; tidy = object.tidy; pointers = object.pointers }
 
--- blocks that were taken are ahead no longer
-pub taken_places : (before after : List Place) (n : ℕ) → after ≡ drop n before → n ≤ length before → length after + n ≡ length before
-taken_places before after n e room =
-    let count : length after ≡ length before - n = ap length e ∙ length-drop n before in
-    omega (arith, count)
+-- what holds across rows is kept: the object's chain has entries of the moment besides, and no other chain is changed
+recorded_across : (s later : StoreFields) (o : ℕ) (row next : Row) (i : Inode) (m n : ℕ) → Records s.log.held later.log.held o row next i m → row_of s.rows o ≡ Some row → IsOpenFor o i s → s.latest < m
+    → ((q : ℕ) → row_of later.rows q ≡ with_row (row_of s.rows) o (record next { stamp = n }) q) → IsAcross later.log.held later.rows
+recorded_across s later o row next i m n records there store before put =
+    changed_across s.rows later.rows s.log.held later.log.held o row (record next { stamp = n }) m s.latest records.new there put records.made records.grows.entries records.moments before
+    (λ q r e. (store.objects q r e).by.entries) (λ q r other e. same_entries s.log.held later.log.held q r (journal_stays o q s.log.held later.log.held records.others other).journal)
+    (record { ascending = store.ascending; apart = store.apart })
 
 recorded_store : OrderlyStays → RowStays → RowInodeStays → IsByStays → IsByLater → LastInodeStays → OnlyItsBlocksMatter → (s later : StoreFields) (o m n count : ℕ) (row next : Row) (i : Inode)
     → IsOpenFor o i s → row_of s.rows o ≡ Some row → s.latest < m → later.latest ≡ m → Records s.log.held later.log.held o row next i m → Tidy (contents_of s.log.held) i → PointersHeld s.log.held o i
     → ((q : ℕ) → row_of later.rows q ≡ with_row (row_of s.rows) o (record next { stamp = n }) q) → n ≡ row.stamp + 1
-    → later.log.ahead ≡ drop count s.log.ahead → 1 ≤ count → count ≤ length s.log.ahead → IsStore later
-recorded_store orderly stands same by later_by last matter s later o m n count row next i store there before latest records tidy pointers put stamp ahead some room =
+    → TakesPlaces count s.log later.log → 1 ≤ count → count ≤ length s.log.ahead → IsStore later
+recorded_store orderly stands same by later_by last matter s later o m n count row next i store there before latest records tidy pointers put stamp takes some room =
     let le : s.latest ≤ m = omega (arith, before) in
-    let fewer_ahead : length later.log.ahead + count ≡ length s.log.ahead = taken_places s.log.ahead later.log.ahead count ahead room in
+    let sum = sum_stays count s.log later.log takes room in
+    let more : later.log.spent ≡ count + s.log.spent = takes.spent in
+    let across = recorded_across s later o row next i m n records there store before put in
     record {
       objects = subst (λ (k : ℕ). (q : ℕ) (r : Row) → row_of later.rows q ≡ Some r → IsObject later.log.held q r k) (sym latest)
           (row_cases (row_of s.rows) (row_of later.rows) o (record next { stamp = n }) put (λ q r. IsObject later.log.held q r m)
@@ -276,10 +288,12 @@ recorded_store orderly stands same by later_by last matter s later o m n count r
       nothing = λ q none kind p.
           let gone = none_cases (row_of s.rows) (row_of later.rows) o (record next { stamp = n }) put q none in
           ap (λ (view : Place → Option (List ℕ)). view p) (records.others kind q (and_right (same_kind Journal kind) (o == q) gone.0)) ∙ store.nothing q gone.1 kind p;
-      stamps = row_cases (row_of s.rows) (row_of later.rows) o (record next { stamp = n }) put (λ q r. r.stamp + length later.log.ahead ≤ 15360)
-          (let bound = store.stamps o row there in omega (arith, bound, stamp, fewer_ahead, some))
-          (λ q r other e. let bound = store.stamps q r e in omega (arith, bound, fewer_ahead));
-      few = let bound = store.few in omega (arith, bound, fewer_ahead);
+      stamps = row_cases (row_of s.rows) (row_of later.rows) o (record next { stamp = n }) put (λ q r. r.stamp ≤ later.log.spent)
+          (let bound = store.stamps o row there in omega (arith, bound, stamp, more, some))
+          (λ q r other e. let bound = store.stamps q r e in omega (arith, bound, more));
+      bounded = let bound = store.bounded in omega (arith, bound, sum);
+      ascending = across.ascending;
+      apart = across.apart;
     }
 
 version_of_inode : (held later : Place → Option Stored) (m t : ℕ) (i j : Inode) → OnlyItsBlocksMatter → (o : ℕ) → DataStays o held later → PointersHeld held o i → PointersHeld held o j
@@ -321,12 +335,12 @@ recorded_versions same matter s later o m n row next i store there records point
 pub recorded : OrderlyStays → RowStays → RowInodeStays → IsByStays → IsByLater → LastInodeStays → OnlyItsBlocksMatter → (s later : StoreFields) (o m n count : ℕ) (row next : Row) (i : Inode)
     → IsOpenFor o i s → row_of s.rows o ≡ Some row → s.latest < m → later.latest ≡ m → Records s.log.held later.log.held o row next i m → Tidy (contents_of s.log.held) i → PointersHeld s.log.held o i
     → ((q : ℕ) → row_of later.rows q ≡ with_row (row_of s.rows) o (record next { stamp = n }) q) → n ≡ row.stamp + 1
-    → later.log.ahead ≡ drop count s.log.ahead → 1 ≤ count → count ≤ length s.log.ahead → RowChanges s o m later.rows → Turns s o m i count later
-recorded orderly stands same by later_by last matter s later o m n count row next i store there before latest records tidy pointers put stamp ahead some room changes = record {
-  store = recorded_store orderly stands same by later_by last matter s later o m n count row next i store there before latest records tidy pointers put stamp ahead some room;
+    → TakesPlaces count s.log later.log → 1 ≤ count → count ≤ length s.log.ahead → RowChanges s o m later.rows → Turns s o m i count later
+recorded orderly stands same by later_by last matter s later o m n count row next i store there before latest records tidy pointers put stamp takes some room changes = record {
+  store = recorded_store orderly stands same by later_by last matter s later o m n count row next i store there before latest records tidy pointers put stamp takes some room;
   versions = recorded_versions same matter s later o m n row next i store there records pointers put;
   latest = latest;
   row = changes;
   others = records.others;
-  ahead = ahead;
+  takes = takes;
 }

@@ -70,7 +70,7 @@ before_cases (t ∷ triples) pointers n p at = elim (before_cases triples (set p
   ]
 ]
 
-redone_cases : (entries : List EntryFields) (i : Inode) (n : ℕ) (p : Place) → pointer_at (redone_all entries i) n ≡ Some p → Contains (sides_told entries) (Some p) ⊎ (pointer_at i n ≡ Some p)
+pub redone_cases : (entries : List EntryFields) (i : Inode) (n : ℕ) (p : Place) → pointer_at (redone_all entries i) n ≡ Some p → Contains (sides_told entries) (Some p) ⊎ (pointer_at i n ≡ Some p)
 unfolding redone
 redone_cases [] i n p at = inr at
 redone_cases (e ∷ entries) i n p at = elim (redone_cases entries (redone e i) n p at) [
@@ -81,7 +81,7 @@ redone_cases (e ∷ entries) i n p at = elim (redone_cases entries (redone e i) 
   ]
 ]
 
-undone_cases : (entries : List EntryFields) (j : Inode) (n : ℕ) (p : Place) → pointer_at (undone_all entries j) n ≡ Some p → Contains (sides_told entries) (Some p) ⊎ (pointer_at j n ≡ Some p)
+pub undone_cases : (entries : List EntryFields) (j : Inode) (n : ℕ) (p : Place) → pointer_at (undone_all entries j) n ≡ Some p → Contains (sides_told entries) (Some p) ⊎ (pointer_at j n ≡ Some p)
 unfolding undone
 undone_cases [] j n p at = inr at
 undone_cases (e ∷ entries) j n p at = elim (before_cases e.triples (undone_all entries j).pointers n p at) [
@@ -93,7 +93,7 @@ undone_cases (e ∷ entries) j n p at = elim (before_cases e.triples (undone_all
 ]
 
 -- what some of the entries tell all of them tell
-by_told : (t : ℕ) (entries : List EntryFields) (x : Option Place) → Contains (sides_told (entries_by t entries)) x → Contains (sides_told entries) x
+pub by_told : (t : ℕ) (entries : List EntryFields) (x : Option Place) → Contains (sides_told (entries_by t entries)) x → Contains (sides_told entries) x
 by_told t [] x there = there
 by_told t (e ∷ entries) x there = elim (cases_Bool (entry_is_by t e)) [
   | inl is ↦
@@ -107,7 +107,7 @@ by_told t (e ∷ entries) x there = elim (cases_Bool (entry_is_by t e)) [
       Contains-append_right (sides_of e.triples) (sides_told entries) x (by_told t entries x kept)
 ]
 
-slot_there : (pointers : List (Option Place)) (n : ℕ) (p : Place) → get_or pointers n None ≡ Some p → Contains pointers (Some p)
+pub slot_there : (pointers : List (Option Place)) (n : ℕ) (p : Place) → get_or pointers n None ≡ Some p → Contains pointers (Some p)
 slot_there [] n p at = absurd (none-some p at)
 slot_there (q ∷ pointers) zero p at = (0, omega arith, at)
 slot_there (q ∷ pointers) (suc n) p at = Contains-append_right (q ∷ []) pointers (Some p) (slot_there pointers n p at)

@@ -1,9 +1,10 @@
 -- When an object's checkpoint has to be written, when that is refused, and what a store is then.
-use Rattle.std.specs.Prelude.{◌≡◌, ℕ, ◌+◌, ◌==◌, ◌&&◌, Bool, nat_lt, if◌then◌else◌, drop, Option, Some, None, IfSome, MatchBool}
+use Rattle.std.specs.Prelude.{◌≡◌, ℕ, ◌+◌, ◌==◌, ◌&&◌, Bool, nat_lt, if◌then◌else◌, Option, Some, None, IfSome, MatchBool}
 use Rattle.s4_types.specs.Pointer.{Place}
 use Rattle.s4_types.specs.declared.refusals.Refusal.{Refusal}
 use Rattle.s4_types.specs.declared.refusals.Refusal.TheVariants.{NoObject, NoSpace}
 use Rattle.block_log.specs.Log.{Stored}
+use Rattle.block_log.specs.Taken.{TakesPlaces}
 use Rattle.undo_redo.specs.Runs.{last_moment}
 use Rattle.checkpoint.specs.Held.{checkpoint_held}
 use Rattle.object_map.specs.declared.map.Row.{Row}
@@ -39,7 +40,7 @@ pub record IsCheckpointed (s : StoreFields) (o : ℕ) (row : Row) (later : Store
   pub written : checkpoint_held later.log.held o place ≡ Some (record { object = o; moment = last_entry s.log.held o row; inode = inode_of s.log.held o row s.latest })
   pub moved : IsMoved s.log.held row.checkpoint (Some place) later.log.held
   pub others : OnlyCheckpointChanged o s.log.held later.log.held
-  pub ahead : later.log.ahead ≡ drop 1 s.log.ahead
+  pub takes : TakesPlaces 1 s.log later.log
 
 -- What a checkpoint that isn't refused leaves: it is written where it has to be, and else nothing has changed.
 abbrev pub Checkpoints : StoreFields → ℕ → StoreFields → Type 0

@@ -1,8 +1,10 @@
 pub mod Planning
+pub mod Across
 pub mod Store
 pub mod Versions
 pub mod Costs
 pub mod Taking
 pub mod Laws
 pub mod Checkpointing
+pub mod Replacing
 pub mod private

@@ -1,5 +1,5 @@
 -- What contracts see of a store of objects, and what holds of each store.
-use Rattle.std.specs.Prelude.{◌≡◌, ℕ, ◌+◌, ◌≤◌, List, [], ◌∷◌, ◌++◌, length, Option, Some, None, IsSome, IfSome}
+use Rattle.std.specs.Prelude.{◌≡◌, ℕ, ◌+◌, ◌^◌, ◌<◌, ◌≤◌, List, [], ◌∷◌, ◌++◌, length, Option, Some, None, IsSome, IfSome}
 use Rattle.std.specs.List.{All, Contains, flat_map}
 use Rattle.s4_types.specs.Pointer.{Place}
 use Rattle.block_log.specs.declared.kinds.BlockKind.{BlockKind}
@@ -16,7 +16,7 @@ use Rattle.time_read.specs.Orderly.{IsOrderly}
 use Rattle.row_changes.specs.Recent.{IsBy}
 use Rattle.inode.specs.Contents.{contents_of}
 use Rattle.inode.specs.Tidiness.{Tidy, PointersHeld}
-use Rattle.version_store.specs.declared.store.TheConstants.{MOST_PLACES}
+use Rattle.version_store.specs.Across.{MakingsAscend, ChainsShareNoMoment}
 
 -- the rows of all objects, the table that their blocks are in, and the moment of the last change
 pub record StoreOf (T : Type 0) : Type 0 where
@@ -76,14 +76,17 @@ HasNothing held o = (kind : BlockKind) (p : Place) → of_kind kind o held p ≡
 
 -- Each object that has a row is held, and its row is in order up to the last change; of its data no block is held but
 -- those that pointers of the row lead to, and of an object without a row no block at all. A row was changed no more often
--- than places were taken: each change takes one.
+-- than places were ever taken: each change takes one. The places that were ever taken and those ahead are fewer than 2^46.
+-- Across rows: of two objects the one with the greater number was made later, and no moment stands in the chains of both.
 pub record IsStore (s : StoreFields) : Type 0 where
   pub objects : (o : ℕ) (row : Row) → row_of s.rows o ≡ Some row → IsObject s.log.held o row s.latest
   pub orderly : (o : ℕ) (row : Row) → row_of s.rows o ≡ Some row → IsOrderly s.log.held o row s.latest
   pub named : (o : ℕ) (row : Row) → row_of s.rows o ≡ Some row → DataIsNamed s.log.held o row
   pub nothing : (o : ℕ) → row_of s.rows o ≡ None → HasNothing s.log.held o
-  pub stamps : (o : ℕ) (row : Row) → row_of s.rows o ≡ Some row → row.stamp + length s.log.ahead ≤ MOST_PLACES
-  pub few : length s.log.ahead ≤ MOST_PLACES
+  pub stamps : (o : ℕ) (row : Row) → row_of s.rows o ≡ Some row → row.stamp ≤ s.log.spent
+  pub bounded : s.log.spent + length s.log.ahead < 2 ^ 46
+  pub ascending : MakingsAscend s.rows
+  pub apart : ChainsShareNoMoment s.log.held s.rows
 
 -- A row names an object's block of this kind at a place: it stands in the object's chain, once; or it is the checkpoint of
 -- the row; or the checkpoint has a pointer to it, or a triple of the chain has, on either side.

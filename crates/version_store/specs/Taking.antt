@@ -1,11 +1,12 @@
 -- Which changes a store takes, and what taking one appends.
-use Rattle.std.specs.Prelude.{◌≡◌, ℕ, ◌+◌, ◌≤◌, false, List, [], drop, None}
+use Rattle.std.specs.Prelude.{◌≡◌, ℕ, ◌+◌, ◌≤◌, ◌<◌, false, List, [], IsSome}
 use Rattle.s4_types.specs.Pointer.{Place}
 use Rattle.s4_types.specs.declared.changes.Change.{Change}
 use Rattle.s4_types.specs.declared.changes.Change.TheVariants.{Create, Delete, Write, Truncate, SetAttr, SetWindow, Flush, FlushO}
 use Rattle.s4_model.specs.Limits.{Fits}
 use Rattle.s4_model.specs.Refusals.{is_absent}
 use Rattle.block_log.specs.Log.{Log}
+use Rattle.block_log.specs.Taken.{TakesPlaces}
 use Rattle.codec.specs.declared.inodes.Inode.{Inode}
 use Rattle.object_map.specs.declared.map.Row.{Row}
 use Rattle.object_map.specs.Rows.{row_of, with_row}
@@ -22,10 +23,15 @@ use Rattle.s4_model.specs.Effect.{object_of}
 abbrev pub IsThere : StoreFields → ℕ → Type 0
 IsThere s o = is_absent (version_in s o s.latest) ≡ false
 
--- A change can be made of a store's objects: a Create of an object without a row, or another change of one that is there.
+-- An object's number is above that of each object that has a row.
+abbrev pub IsAboveAll : StoreFields → ℕ → Type 0
+IsAboveAll s o = (q : ℕ) → IsSome (row_of s.rows q) → q < o
+
+-- A change can be made of a store's objects: a Create of an object above all that have rows, since numbers ascend and none is
+-- given twice; or another change of one that is there.
 -- A change that makes no version is none of a store.
 abbrev pub IsReadyFor : StoreFields → Change → Type 0
-IsReadyFor s (Create object attribute) = row_of s.rows object ≡ None
+IsReadyFor s (Create object attribute) = IsAboveAll s object
 IsReadyFor s (Delete object) = IsThere s object
 IsReadyFor s (Write object offset bytes) = IsThere s object
 IsReadyFor s (Truncate object size) = IsThere s object
@@ -65,7 +71,7 @@ pub record Appends (object : ℕ) (data_bytes : List (List ℕ)) (count : ℕ) (
   pub grown : between ≡ with_data object data_bytes before
   pub growth : GrowsBy object data_bytes before between
   pub others : OnlyJournalChanged object between.held after.held
-  pub ahead : after.ahead ≡ drop count before.ahead
+  pub takes : TakesPlaces count before after
 
 -- what a change at this moment appends to a store's log: its data, and as many blocks in all as are counted before
 abbrev pub AppendsBy : StoreFields → Change → ℕ → Log → Type 0

@@ -1,3 +1,5 @@
 pub mod Turning
 pub mod CheckpointSteps
 pub mod Below
+pub mod Dropping
+pub mod Replacing

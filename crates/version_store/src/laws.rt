@@ -1,9 +1,10 @@
 //! Laws of stores, for the layers above: each function does nothing, and its contract is the law.
 
 ghost use Rattle.version_store.specs.Laws.{ObjectsStay, InodesStay, VersionsStay, ThePresentStays, ChangesBeginWithThePresent, ChangesBeginWithThePresentVersion, TheAliveAreThere, HeldIsWhatRowsName, EachHeldBlockIsNamed, InodesPointToWhatRowsName};
+ghost use Rattle.version_store.specs.Replacing.{AJournalCanBeCut};
 ghost use Rattle.version_store.specs.private.Below.{ChangesStand};
 
-use block_log::laws::one_place_has_one_name;
+use block_log::laws::{one_place_has_one_name, places_taken_add_up};
 use inode::laws::{held_pointers_lead, only_its_blocks_matter};
 use journal_chain::packing::laws::{bytes_add_up, few_blocks_are_needed};
 use row_changes::laws::{
@@ -11,7 +12,9 @@ use row_changes::laws::{
 };
 use time_read::laws::{a_row_is_its_own_blocks, an_orderly_row_stays};
 use undo_redo::laws::{
-    a_blank_inode_has_holes_alone, groups_join_and_part, the_entries_between_two_inodes,
+    a_blank_inode_has_holes_alone, a_run_has_one_end_and_one_beginning, groups_join_and_part,
+    runs_join_and_part, the_entries_between_two_inodes, the_inode_at_a_moment,
+    the_inode_at_a_moment_stands_in_the_run,
 };
 
 /// What an object is at each moment rests on its own blocks alone: where its journal and its checkpoints are the same, and
@@ -63,6 +66,18 @@ pub fn inodes_point_to_what_rows_name()
     ensures { InodesPointToWhatRowsName }
 {}
 
+/// An object's journal can be replaced by its own later entries, where there are some, with the present inode as it is.
+pub fn a_journal_can_be_cut()
+    ensures { AJournalCanBeCut }
+{
+    runs_join_and_part();
+    a_run_has_one_end_and_one_beginning();
+    the_inode_at_a_moment();
+    the_inode_at_a_moment_stands_in_the_run();
+    groups_join_and_part();
+    a_row_keeps_the_making();
+}
+
 // What the crates below say of rows, inodes and entries, for the functions that change an object or write its checkpoint.
 pub(crate) fn what_changes_rest_on()
     ensures { ChangesStand }
@@ -75,6 +90,7 @@ pub(crate) fn what_changes_rest_on()
     only_its_blocks_matter();
     held_pointers_lead();
     one_place_has_one_name();
+    places_taken_add_up();
     a_fresh_row_stands();
     a_blank_inode_has_holes_alone();
     the_entries_between_two_inodes();

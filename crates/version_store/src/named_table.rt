@@ -7,7 +7,7 @@ ghost use Rattle.block_log.specs.Log.{appended, dropped};
 ghost use Rattle.inode.specs.Contents.{contents_of, bytes_of};
 ghost use Rattle.inode.specs.Tidiness.{PointersLead};
 ghost use Rattle.segment_word.specs.Counting.{pins_in};
-ghost use Rattle.segment_table.specs.Table.{held_at};
+ghost use Rattle.segment_table.specs.Table.{held_at, HoldsWholeBlocks};
 ghost use Rattle.segment_table.specs.Room.{is_filling, numbers, rest_of, places_ahead, log_of, pointers_in};
 ghost use Rattle.segment_table.specs.Changes.{IsFilling, NoneIsFilling, IsSealedIn};
 ghost use Rattle.time_read.specs.Plans.{IsAt, pieces_of, bytes_planned, pins_held, is_pinned, is_pinned_in};
@@ -52,10 +52,11 @@ impl<J: Naming> NamedTable<J> {
         }
     }
 
-    /// Shows that its frames are the drive's, and that at most one of them is open.
+    /// Shows that its frames are the drive's, that at most one of them is open, and that each held block has 512 bytes.
     pub(crate) fn rules(&self)
         ensures frames { self.now.drive.table ≡ J.frames }
         ensures one_open { length (numbers is_filling 0 self.now.drive.frames) ≤ 1 }
+        ensures whole { HoldsWholeBlocks self.now }
     {
         self.table.rules();
     }
@@ -67,6 +68,7 @@ impl<J: Naming> NamedTable<J> {
         ensures sealed { (f : ℕ) → IsFilling f self.old → IsSealedIn f self.old self.new }
         ensures held { (log_of self.new).held ≡ (log_of self.old).held }
         ensures ahead { (f : ℕ) → IsFilling f self.old → rest_of self.old f ++ places_ahead self.new ≡ places_ahead self.old }
+        ensures spent { (log_of self.new).spent ≡ (log_of self.old).spent }
     {
         self.table.rules();
         self.table.seal_open();

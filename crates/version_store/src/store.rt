@@ -1,5 +1,5 @@
 //! A store of objects: made, looked at and read.
-ghost use Rattle.std.specs.Prelude.{◌≡◌, ℕ, ◌≤◌, ◌<◌, Some, None, length, take, drop, IfSome, IfNone, IfOk, IfErr, option_copied};
+ghost use Rattle.std.specs.Prelude.{◌≡◌, ℕ, ◌+◌, ◌^◌, ◌≤◌, ◌<◌, Some, None, length, take, drop, IfSome, IfNone, IfOk, IfErr, option_copied};
 ghost use Rattle.s4_types.specs.Pointer.{Place};
 ghost use Rattle.s4_types.specs.declared.refusals.Refusal.TheVariants.{NoMemory};
 ghost use Rattle.object_map.specs.Objects.{IsNextAbove};
@@ -12,6 +12,7 @@ ghost use Rattle.version_store.specs.Costs.{room};
 mod changes;
 mod checkpoints;
 mod frames;
+mod replacements;
 mod seals;
 
 use crate::laws::the_present_stays;
@@ -24,9 +25,6 @@ use s4_types::{Moment, ObjectId, Refusal};
 use std::alloc::Global;
 use std::marker::Model;
 use time_read::laws::the_last_inode_is_current;
-
-/// Payload blocks of the largest drive: 1,024 frames of 15.
-pub const MOST_PLACES: usize = 15_360;
 
 /// The rows of all objects, and the table that their blocks are in.
 #[derive(Drop)]
@@ -55,10 +53,10 @@ impl<B: Blocks> Model for Store<B> {
 }
 
 impl<B: Blocks> Store<B> {
-    /// A store without objects, over a table that holds no block and has at most 15,360 places.
+    /// A store without objects, over a table that holds no block; places of it that were taken and those ahead are fewer than 2^46.
     pub fn new(alloc: Global, table: B) -> Self
         requires nothing { (p : Place) → (B.log table).held p ≡ None }
-        requires few { length (B.log table).ahead ≤ 15360 }
+        requires bounded { (B.log table).spent + length (B.log table).ahead < 2 ^ 46 }
         ensures store { IsStore (fields_of B.log result) }
         ensures empty { (o : ℕ) → row_of result.rows o ≡ None }
         ensures log { B.log result.table ≡ B.log table }

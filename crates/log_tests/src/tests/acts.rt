@@ -73,6 +73,8 @@ pub(super) enum Act {
     Dies(u64),
     /// Its inode is written as its checkpoint of a moment.
     Checkpoints(u64),
+    /// Its inode is written as its checkpoint of a moment, and its whole journal afresh.
+    Rewrites(u64),
     /// What it is at moments.
     Stands(&'static [(u64, Version)]),
     /// What its checkpoint of a moment tells, and the number of the checkpoint's place.
@@ -181,7 +183,7 @@ fn rename<B: Blocks>(subject: &mut Subject<B>, first: u64, end: u64) -> Result<(
 }
 
 /// Does what an act does. One that tells what is so does nothing.
-fn do_act<B: Blocks>(subject: &mut Subject<B>, act: Act) -> Result<(), Fail>
+fn do_act<B: Blocks>(alloc: Global, subject: &mut Subject<B>, act: Act) -> Result<(), Fail>
     requires { IsPresent (B.log subject.old.table).held subject.old.row subject.old.inode subject.old.latest }
     ensures { OnOk result (IsPresent (B.log subject.new.table).held subject.new.row subject.new.inode subject.new.latest) }
 {
@@ -193,6 +195,7 @@ fn do_act<B: Blocks>(subject: &mut Subject<B>, act: Act) -> Result<(), Fail>
         Act::Renames(first, end) => rename(subject, first, end),
         Act::Dies(moment) => Ok(subject.delete(moment)?),
         Act::Checkpoints(moment) => subject.checkpoint(moment),
+        Act::Rewrites(moment) => Ok(subject.rewrite(alloc, moment)?),
         _ => Ok(()),
     }
 }
@@ -230,7 +233,7 @@ pub(super) fn play<B: Blocks>(
     ensures { OnOk result (IsPresent (B.log subject.new.table).held subject.new.row subject.new.inode subject.new.latest) }
 {
     for (i, act) in acts.iter().enumerate() {
-        do_act(subject, *act)?;
+        do_act(alloc, subject, *act)?;
         assert!(rt; is_so(alloc, subject, *act)?, "act {i}");
     }
     Ok(())

@@ -4,7 +4,7 @@ ghost use Rattle.s4_types.specs.Pointer.{Place};
 ghost use Rattle.journal_chain.specs.Chain.{Holds, entries_held};
 ghost use Rattle.log_tests.specs.Subject.{IsPresent};
 
-use crate::tests::acts::{Act, Version, played};
+use crate::tests::acts::{Act, Version, play, played};
 use crate::tests::pushing::{
     empty_chain, entries, long_entries, long_entry, push, read_back, rewrite, rewrite_whole,
     short_entry,
@@ -298,5 +298,33 @@ fn a_change_of_an_object_with_a_full_chain(rt: HostRuntime) -> Result<(), Fail> 
     let blocks = subject.held_blocks();
     assert!(rt; blocks == other.held_blocks());
     assert!(rt; blocks.iter().filter(|block| block.is_some()).count() == 36);
+    Ok(())
+}
+
+/// The checkpoint stands at the first place ahead, and the 36 blocks of the journal behind it.
+static REWRITTEN: [Act; 5] = [
+    Act::Rewrites(90),
+    Act::Stands(&VERSIONS),
+    Act::Recalls(90, 73, LAST),
+    Act::Row(11_712, 164, 109),
+    Act::Left(10),
+];
+
+/// Whether a rewriting is refused since there is no room, and leaves the row and the number of places.
+fn has_no_room(alloc: Global, subject: &mut Subject<SegmentTable>) -> bool
+    requires { IsPresent (⟦<SegmentTable as Blocks>⟧.log subject.old.table).held subject.old.row subject.old.inode subject.old.latest }
+{
+    let (row, left) = (subject.row(), subject.blocks_left());
+    let answer = subject.rewrite(alloc, 91);
+    answer == Err(Refusal::NoRoom) && subject.row() == row && subject.blocks_left() == left
+}
+
+#[test]
+fn an_object_with_a_full_chain_written_anew(rt: HostRuntime) -> Result<(), Fail> {
+    let alloc = rt.alloc();
+    let mut subject = played(&rt, alloc, 8, FULL_JOURNAL.as_slice())?;
+    play(&rt, alloc, &mut subject, REWRITTEN.as_slice())?;
+    assert!(rt; has_no_room(alloc, &mut subject));
+    check_held(&rt, &subject.held_blocks(), 73, 110);
     Ok(())
 }

@@ -1,11 +1,11 @@
 //! An object over a table of blocks, as the tests change it: what the layers ask of its row and its inode holds from one
 //! change to the next.
-ghost use Rattle.std.specs.Prelude.{◌≡◌, ◌<◌, ◌≤◌, true, None, IsSome, IsTrue, IfSome, OnOk, length};
+ghost use Rattle.std.specs.Prelude.{◌≡◌, ◌<◌, ◌≤◌, true, None, IsSome, IsTrue, IfSome, IfOk, OnOk, length};
 ghost use Rattle.s4_types.specs.Pointer.{Place};
 ghost use Rattle.undo_redo.specs.Between.{CanLead};
 ghost use Rattle.inode.specs.Contents.{contents_of};
 ghost use Rattle.inode.specs.Tidiness.{Tidy, PointersHeld, PointersLead};
-ghost use Rattle.time_read.specs.Rows.{chain_of};
+ghost use Rattle.time_read.specs.Rows.{chain_of, entries_of};
 ghost use Rattle.segment_table.specs.Table.{held_at};
 ghost use Rattle.log_tests.specs.Subject.{IsRecorded, IsPresent};
 
@@ -20,8 +20,10 @@ use inode::{
 };
 use journal_chain::Chain;
 use object_map::Row;
-use row_changes::laws::{a_fresh_row_stands, a_row_is_by_later_moments, the_last_inode_stays};
-use row_changes::{record_change, record_checkpoint};
+use row_changes::laws::{
+    a_fresh_row_stands, a_row_is_by_later_moments, a_row_keeps_the_making, the_last_inode_stays,
+};
+use row_changes::{record_change, record_checkpoint, rewrite_row};
 use s4_types::limits::{CHAIN_ENTRY_BYTES, JOURNAL_ENTRY_BYTES, OBJECT_BLOCKS, OBJECT_BYTES};
 use s4_types::{Moment, ObjectId, Ptr, Refusal};
 use segment_table::SegmentTable;
@@ -30,7 +32,7 @@ use std::test::Fail;
 use time_read::laws::{a_row_is_its_own_blocks, the_last_inode_is_current};
 use time_read::{ReadPlan, entries, inode_at, plan};
 use undo_redo::blank;
-use undo_redo::laws::a_blank_inode_has_holes_alone;
+use undo_redo::laws::{a_blank_inode_has_holes_alone, a_run_has_one_end_and_one_beginning};
 
 /// The object of these tests.
 pub(super) const OBJECT: u64 = 1;
@@ -227,6 +229,38 @@ impl<B: Blocks> Subject<B> {
         Ok(())
     }
 
+    /// The present inode is written as the object's checkpoint, and the journal afresh with the entries that it has.
+    /// NoObject where the moment is an earlier one, or has no such checkpoint.
+    pub(super) fn rewrite(&mut self, alloc: Global, moment: u64) -> Result<(), Refusal>
+        requires { IsPresent (B.log self.old.table).held self.old.row self.old.inode self.old.latest }
+        ensures { IsPresent (B.log self.new.table).held self.new.row self.new.inode self.new.latest }
+    {
+        let moment = Moment::new(moment);
+        let object = ObjectId::new(OBJECT);
+        let entries = self.entries(alloc)?;
+        if moment.number() < self.latest.number()
+            || Checkpoint::new(object, moment, self.inode).is_none()
+        {
+            return Err(Refusal::NoObject);
+        }
+        a_row_is_by_later_moments();
+        a_row_keeps_the_making();
+        a_run_has_one_end_and_one_beginning();
+        the_last_inode_is_current();
+        only_its_blocks_matter();
+        let row = rewrite_row(
+            &mut self.table,
+            object,
+            &self.row,
+            &self.inode,
+            moment,
+            entries.as_slice(),
+        )?;
+        self.row = row;
+        self.latest = moment;
+        Ok(())
+    }
+
     /// The checkpoint, read back.
     pub(super) fn read_checkpoint(&mut self) -> Option<Checkpoint>
         requires { IsPresent (B.log self.old.table).held self.old.row self.old.inode self.old.latest }
@@ -276,7 +310,8 @@ impl<B: Blocks> Subject<B> {
     /// The entries of the journal, oldest first, asked for once more where memory was refused.
     pub(super) fn entries(&mut self, alloc: Global) -> Result<Vec<Entry>, Refusal>
         requires { IsPresent (B.log self.old.table).held self.old.row self.old.inode self.old.latest }
-        ensures { IsPresent (B.log self.new.table).held self.new.row self.new.inode self.new.latest }
+        ensures present { IsPresent (B.log self.new.table).held self.new.row self.new.inode self.new.latest }
+        ensures entries { IfOk result (λ entries. entries.items ≡ entries_of (B.log self.new.table).held OBJECT self.new.row) }
     {
         let object = ObjectId::new(OBJECT);
         match entries(alloc, &mut self.table, object, &self.row) {

@@ -3,7 +3,8 @@ ghost use Rattle.version_store.specs.Store.{fields_of, IsStore};
 
 use super::fresh::Fresh;
 use super::steps::{
-    Shown, bytes_at, create, delete, entries_of, present_of, set_attribute, truncate, write,
+    Shown, bytes_at, create, cut, delete, entries_of, present_of, remove, set_attribute, truncate,
+    write,
 };
 use block_log::Blocks;
 use codec::{Entry, Inode};
@@ -27,6 +28,9 @@ pub(super) enum Deed {
     /// The moment.
     Delete(u64, u64),
     Checkpoint(u64),
+    Remove(u64),
+    /// The journal is replaced by its entries that are later than this moment.
+    Cut(u64, u64),
 }
 
 /// What a row tells: its creation, the bytes of its journal, its stamp, and its checkpoint's moment.
@@ -71,7 +75,9 @@ fn object_of(deed: Deed) -> ObjectId {
         | Deed::Truncate(object, ..)
         | Deed::SetAttribute(object, ..)
         | Deed::Delete(object, _)
-        | Deed::Checkpoint(object) => ObjectId::new(object),
+        | Deed::Checkpoint(object)
+        | Deed::Remove(object)
+        | Deed::Cut(object, _) => ObjectId::new(object),
     }
 }
 
@@ -100,6 +106,8 @@ fn done<B: Blocks>(
         }
         Deed::Delete(object, at) => delete(store, object, at),
         Deed::Checkpoint(object) => Ok(checkpoint(store, object)),
+        Deed::Remove(object) => Ok(remove(store, object)),
+        Deed::Cut(object, at) => cut(store, object, at),
     }
 }
 

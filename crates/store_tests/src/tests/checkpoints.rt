@@ -99,7 +99,7 @@ fn a_checkpoint_without_room(rt: HostRuntime) -> Result<(), Fail> {
 
 /// The table of a drive of 8 frames.
 fn eight_frames(alloc: Global) -> Result<SegmentTable, Fail>
-    ensures { IfOk result (λ table. log_of table ≡ record { held = λ p. None; ahead = new_places 8 }) }
+    ensures { IfOk result (λ table. log_of table ≡ record { held = λ p. None; ahead = new_places 8; spent = 0 }) }
 {
     match SegmentTable::new(alloc, 8) {
         Ok(table) => Ok(table),
@@ -112,6 +112,7 @@ fn over_eight_frames(alloc: Global) -> Result<Store<SegmentTable>, Fail>
     ensures { IfOk result (λ store. IsStore (fields_of log_of store)) }
 {
     let table = eight_frames(alloc)?;
+    table.rules();
     Ok(Store::new(alloc, table))
 }
 

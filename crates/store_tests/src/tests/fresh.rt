@@ -1,5 +1,5 @@
 //! Tables that tests make anew.
-ghost use Rattle.std.specs.Prelude.{◌≡◌, ◌≤◌, None, length};
+ghost use Rattle.std.specs.Prelude.{◌≡◌, ◌+◌, ◌^◌, ◌<◌, None, length};
 ghost use Rattle.s4_types.specs.Pointer.{Place};
 ghost use Rattle.block_log.specs.Log.{Log};
 
@@ -11,7 +11,7 @@ pub(super) trait Fresh: Blocks {
     /// A table that holds no block.
     fn fresh() -> Self
         ensures nothing { (p : Place) → (Self.log result).held p ≡ None }
-        ensures few { length (Self.log result).ahead ≤ 15360 };
+        ensures bounded { (Self.log result).spent + length (Self.log result).ahead < 2 ^ 46 };
 }
 
 /// A table of 160 places.

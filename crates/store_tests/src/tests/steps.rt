@@ -2,8 +2,9 @@
 //! the tests come to the same values whichever one allocation is refused.
 ghost use Rattle.std.specs.Prelude.{◌≡◌, Some, IfOk, IfSome};
 ghost use Rattle.s4_model.specs.Limits.{Fits};
+ghost use Rattle.undo_redo.specs.Runs.{entries_past};
 ghost use Rattle.version_store.specs.Store.{fields_of, IsStore};
-ghost use Rattle.version_store.specs.Versions.{inode_in};
+ghost use Rattle.version_store.specs.Versions.{entries_of_object, inode_in};
 ghost use Rattle.version_store.specs.Taking.{IsThere, IsReadyFor};
 ghost use Rattle.version_store.specs.Costs.{subject_inode};
 ghost use Rattle.s4_model.specs.Effect.{object_of};
@@ -14,7 +15,7 @@ use s4_types::{Bytes, Change, Moment, ObjectId, Refusal};
 use std::alloc::Global;
 use std::test::*;
 use version_store::Store;
-use version_store::laws::changes_begin_with_the_present_version;
+use version_store::laws::{a_journal_can_be_cut, changes_begin_with_the_present_version};
 
 fn copied(alloc: Global, bytes: &[u8]) -> Result<Bytes, Fail>
     ensures { IfOk result (λ copy. copy ≡ bytes.now) }
@@ -38,7 +39,8 @@ pub(super) fn present_of<B: Blocks>(
     Ok(store.subject(object, moment))
 }
 
-/// Creates an object that has no row.
+/// Creates an object whose number is above that of each object that has a row.
+#[tactic(auto, using(crate::proofs::Numbers::above_all))]
 pub(super) fn create<B: Blocks>(
     alloc: Global,
     store: &mut Store<B>,
@@ -51,9 +53,12 @@ pub(super) fn create<B: Blocks>(
 {
     let id = ObjectId::new(object);
     let moment = Moment::new(moment);
-    if object == 0 || attribute.len() > 64 || moment <= store.latest() || store.row(id).is_some() {
+    if object == 0 || attribute.len() > 64 || moment <= store.latest() {
         return Err(Fail::from("no such creation"));
     }
+    let None = store.next_row(ObjectId::new(object - 1)) else {
+        return Err(Fail::from("no such number"));
+    };
     let change = Change::Create {
         object: id,
         attribute: copied(alloc, attribute)?,
@@ -195,10 +200,66 @@ pub(super) fn entries_of<B: Blocks>(
     object: ObjectId,
 ) -> Result<Vec<Entry>, Fail>
     requires { IsStore (fields_of B.log store.old) }
-    ensures { fields_of B.log store.new ≡ fields_of B.log store.old }
+    ensures entries { IfOk result (λ entries. entries.items ≡ entries_of_object (fields_of B.log store.old) object) }
+    ensures same { fields_of B.log store.new ≡ fields_of B.log store.old }
 {
     match store.entries(object) {
         Ok(entries) => Ok(entries),
         Err(_) => Ok(store.entries(object)?),
+    }
+}
+
+/// Removes an object's row.
+pub(super) fn remove<B: Blocks>(store: &mut Store<B>, object: u64) -> Result<(), Refusal>
+    requires { IsStore (fields_of B.log store.old) }
+    ensures { IsStore (fields_of B.log store.new) }
+{
+    let object = ObjectId::new(object);
+    match store.remove(object) {
+        Err(Refusal::NoMemory) => store.remove(object),
+        answer => answer,
+    }
+}
+
+/// The entries that are later than a moment.
+fn keep_later(entries: &mut Vec<Entry>, at: Moment)
+    ensures { entries.new.items ≡ entries_past at entries.old.items }
+{
+    entries.retain(|entry| !(entry.moment() <= at));
+}
+
+/// Replaces an object's journal by its entries that are later than a moment, and asks for memory once.
+fn cut_once<B: Blocks>(
+    store: &mut Store<B>,
+    object: ObjectId,
+    at: Moment,
+) -> Result<Result<(), Refusal>, Fail>
+    requires { IsStore (fields_of B.log store.old) }
+    ensures { IsStore (fields_of B.log store.new) }
+{
+    a_journal_can_be_cut();
+    let mut entries = entries_of(store, object)?;
+    keep_later(&mut entries, at);
+    if entries.is_empty() || store.row(object).is_none() {
+        return Err(Fail::from("no such entries"));
+    }
+    let present = store.subject(object, at);
+    Ok(store.replace(object, &present, entries.as_slice()))
+}
+
+/// Replaces an object's journal by its entries that are later than a moment.
+pub(super) fn cut<B: Blocks>(
+    store: &mut Store<B>,
+    object: u64,
+    at: u64,
+) -> Result<Result<(), Refusal>, Fail>
+    requires { IsStore (fields_of B.log store.old) }
+    ensures { IsStore (fields_of B.log store.new) }
+{
+    let object = ObjectId::new(object);
+    let at = Moment::new(at);
+    match cut_once(store, object, at)? {
+        Err(Refusal::NoMemory) => cut_once(store, object, at),
+        answer => Ok(answer),
     }
 }

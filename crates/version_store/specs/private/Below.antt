@@ -1,5 +1,5 @@
 -- What the laws of the crates below say, as premises of lemmas. No public clause cites this file.
-use Rattle.std.specs.Prelude.{◌≡◌, ℕ, ◌<◌, ◌≤◌, true, List, length, map, sum, Option, None}
+use Rattle.std.specs.Prelude.{◌≡◌, ℕ, ◌+◌, ◌<◌, ◌≤◌, true, List, length, map, sum, Option, None}
 use Rattle.std.specs.List.{AllByRecursion}
 use Rattle.codec.specs.Checkpoint.{pointer_at}
 use Rattle.codec.specs.Entry.{EntryFields, entry_length, entries_length, pair_length}
@@ -8,9 +8,11 @@ use Rattle.journal_chain.specs.Sizes.{blocks_needed}
 use Rattle.undo_redo.specs.Between.{entries_between, triples_between, pair_between, AreOf}
 use Rattle.undo_redo.specs.Sizes.{entry_sizes}
 use Rattle.s4_types.specs.Pointer.{Place}
-use Rattle.block_log.specs.Log.{Stored, of_kind, same_place}
+use Rattle.s4_types.specs.declared.limits.TheConstants.{OBJECT_BLOCKS}
+use Rattle.block_log.specs.Log.{Log, Stored, of_kind, same_place}
+use Rattle.block_log.specs.Taken.{TakesPlaces}
 use Rattle.block_log.specs.declared.kinds.BlockKind.TheVariants.{Journal, Checkpoint}
-use Rattle.undo_redo.specs.Runs.{blank, moments_ascend_from}
+use Rattle.undo_redo.specs.Runs.{blank, moments_ascend_from, AllAt}
 use Rattle.undo_redo.specs.Groups.{grouped}
 use Rattle.inode.specs.Laws.{OnlyItsBlocksMatter, HeldPointersLead}
 use Rattle.object_map.specs.declared.map.Row.{Row}
@@ -50,8 +52,11 @@ FreshInode = (held : Place → Option Stored) (o created t : ℕ) → inode_of h
 abbrev pub OnePlace : Type 0
 OnePlace = (p q : Place) → same_place p q ≡ true → p ≡ q
 
+abbrev pub PlacesAddUp : Type 0
+PlacesAddUp = (n m : ℕ) (first second third : Log) → TakesPlaces n first second → TakesPlaces m second third → TakesPlaces (n + m) first third
+
 abbrev pub BlankCount : Type 0
-BlankCount = (created : ℕ) → length (blank created).pointers ≡ 48
+BlankCount = (created : ℕ) → length (blank created).pointers ≡ OBJECT_BLOCKS
 
 abbrev pub BlankHoles : Type 0
 BlankHoles = (created n : ℕ) → pointer_at (blank created) n ≡ None
@@ -71,6 +76,9 @@ SomeBlocksAreNeeded = (filled : ℕ) (sizes : List ℕ) → 0 < length sizes →
 abbrev pub EntriesPoint : Type 0
 EntriesPoint = (i j : Inode) (m : ℕ) → AllByRecursion (λ e. AreOf i j e.triples) (entries_between i j m)
 
+abbrev pub EntriesAreAt : Type 0
+EntriesAreAt = (i j : Inode) (m : ℕ) → AllAt m (entries_between i j m)
+
 abbrev pub GroupsAscend : Type 0
 GroupsAscend = (entries : List EntryFields) → grouped entries ≡ true → moments_ascend_from 0 entries ≡ true
 
@@ -84,7 +92,8 @@ pub record OrderlyStays : Type 0 where
   pub later : (held : Place → Option Stored) (o : ℕ) (row : Row) (a b : ℕ) → a ≤ b → IsOrderly held o row a → IsOrderly held o row b
 
 -- All that a change or a checkpoint of a whole store rests on: rows and inodes rest on their own blocks, and stay from their last
--- entry on; a fresh row and a blank inode; the entries between two inodes, their sizes and the blocks that they need.
+-- entry on; a fresh row and a blank inode; the entries between two inodes, their sizes and the blocks that they need; the places
+-- that two changes in turn take.
 pub record ChangesStand : Type 0 where
   pub row : RowStays
   pub inode : RowInodeStays
@@ -96,6 +105,7 @@ pub record ChangesStand : Type 0 where
   pub meaning : OnlyItsBlocksMatter
   pub pointers_lead : HeldPointersLead
   pub one_place : OnePlace
+  pub places_add_up : PlacesAddUp
   pub fresh_row : FreshRowStands
   pub fresh_latest : FreshRowIsBy
   pub fresh_inode : FreshInode
@@ -104,6 +114,7 @@ pub record ChangesStand : Type 0 where
   pub entry_count : EntriesAreSome
   pub entry_sizes : EntriesHaveSizes
   pub entry_pointers : EntriesPoint
+  pub entry_moments : EntriesAreAt
   pub sizes_add_up : SizesAddUp
   pub blocks_are_needed : SomeBlocksAreNeeded
   pub groups_ascend : GroupsAscend

@@ -1,10 +1,11 @@
 -- What one change leaves of a whole store. No public clause cites this file.
-use Rattle.std.specs.Prelude.{◌≡◌, ◌⊎◌, ℕ, ◌+◌, ◌<◌, ◌≤◌, ◌==◌, ◌&&◌, ◌||◌, true, false, nat_le, if◌then◌else◌, drop, length, Some, None, IsSome, is_some}
+use Rattle.std.specs.Prelude.{◌≡◌, ◌⊎◌, ℕ, ◌+◌, ◌^◌, ◌<◌, ◌≤◌, ◌==◌, ◌&&◌, ◌||◌, true, false, nat_le, if◌then◌else◌, length, Some, None, IsSome, is_some}
 use Rattle.std.specs.List.{Contains}
 use Rattle.s4_types.specs.Pointer.{Place}
 use Rattle.s4_types.specs.declared.changes.Change.{Change}
 use Rattle.block_log.specs.declared.kinds.BlockKind.TheVariants.{Data}
 use Rattle.block_log.specs.Log.{of_kind}
+use Rattle.block_log.specs.Taken.{TakesPlaces}
 use Rattle.codec.specs.Checkpoint.{pointer_at}
 use Rattle.codec.specs.declared.inodes.Inode.{Inode}
 use Rattle.object_map.specs.declared.map.Row.{Row}
@@ -17,7 +18,7 @@ use Rattle.time_read.specs.Orderly.{IsOrderly}
 use Rattle.inode.specs.Contents.{contents_of, meaning}
 use Rattle.inode.specs.Tidiness.{Tidy, PointersHeld}
 use Rattle.version_store.specs.Store.{StoreFields, IsStore, IsObject, HasNothing, pointers_of}
-use Rattle.version_store.specs.declared.store.TheConstants.{MOST_PLACES}
+use Rattle.version_store.specs.Across.{MakingsAscend, ChainsShareNoMoment}
 use Rattle.version_store.specs.Versions.{version_in, version_taken}
 use Rattle.version_store.specs.Costs.{subject_row, subject_inode, blocks_taken, change_refusal}
 use Rattle.s4_model.specs.Effect.{object_of}
@@ -42,8 +43,10 @@ pub record IsOpenFor (o : ℕ) (i : Inode) (s : StoreFields) : Type 0 where
   pub orderly : (q : ℕ) (row : Row) → (o == q) ≡ false → row_of s.rows q ≡ Some row → IsOrderly s.log.held q row s.latest
   pub named : (q : ℕ) (row : Row) → row_of s.rows q ≡ Some row → (p : Place) → IsSome (of_kind Data q s.log.held p) → Contains (pointers_of s.log.held q row) (Some p) ⊎ ((o ≡ q) × LeadsTo i p)
   pub nothing : (q : ℕ) → row_of s.rows q ≡ None → HasNothing s.log.held q
-  pub stamps : (q : ℕ) (row : Row) → row_of s.rows q ≡ Some row → row.stamp + length s.log.ahead ≤ MOST_PLACES
-  pub few : length s.log.ahead ≤ MOST_PLACES
+  pub stamps : (q : ℕ) (row : Row) → row_of s.rows q ≡ Some row → row.stamp ≤ s.log.spent
+  pub bounded : s.log.spent + length s.log.ahead < 2 ^ 46
+  pub ascending : MakingsAscend s.rows
+  pub apart : ChainsShareNoMoment s.log.held s.rows
 
 -- An object can have another inode from a moment on: it has a row, the first inode is its present one, entries of the
 -- moment lead from it to the next one, which is tidy, and there is room for them. Either the row is that of an object made
@@ -72,7 +75,7 @@ pub record Turns (s : StoreFields) (o m : ℕ) (i : Inode) (count : ℕ) (later 
   pub latest : later.latest ≡ m
   pub row : RowChanges s o m later.rows
   pub others : OnlyJournalChanged o s.log.held later.log.held
-  pub ahead : later.log.ahead ≡ drop count s.log.ahead
+  pub takes : TakesPlaces count s.log later.log
 
 -- A change of an object was taken, which began with this inode.
 pub record IsTaken (s : StoreFields) (change : Change) (m : ℕ) (present : Inode) (later : StoreFields) : Type 0 where

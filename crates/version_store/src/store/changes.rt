@@ -145,6 +145,7 @@ impl<B: Blocks> Store<B> {
     }
 
     /// Takes a creation. NoMemory where its row and its inode couldn't be stored; then nothing has changed.
+    #[tactic(auto, using(crate::proofs::Across::above_has_none))]
     fn create(
         &mut self,
         object: ObjectId,
@@ -166,6 +167,7 @@ impl<B: Blocks> Store<B> {
     }
 
     /// Takes a change that isn't refused. NoMemory of a creation alone, and then nothing has changed.
+    #[tactic(auto, using(crate::proofs::Across::above_has_none))]
     fn perform(&mut self, change: &Change, present: &Inode, moment: Moment) -> Result<(), Refusal>
         requires { CanTake (fields_of B.log self.old) change.now moment present.now }
         ensures taken { OnOk result (IsTaken (fields_of B.log self.old) change.now moment present.now (fields_of B.log self.new)) }
@@ -193,9 +195,10 @@ impl<B: Blocks> Store<B> {
         Ok(())
     }
 
-    /// Takes a change of an object at a moment later than that of each change before. From the moment on the object's version
-    /// is what the model makes of it; the versions of all other moments and objects stay. Data blocks are appended by
-    /// ascending index, and after them the journal's.
+    /// Takes a change of an object at a moment later than that of each change before; a creation is of an object whose number
+    /// is above that of each object that has a row. From the moment on the object's version is what the model makes of it; the
+    /// versions of all other moments and objects stay. Data blocks are appended by ascending index, and after them the
+    /// journal's.
     ///
     /// ChainFull exactly where the journal's entries would have more than 11,712 bytes; else NoSpace exactly where the
     /// change appends more blocks than there is room for beside the reserve; else NoMemory where a creation's row and its

@@ -21,7 +21,7 @@ use time_read::laws::a_row_tells_a_chain;
 use undo_redo::laws::groups_join_and_part;
 
 /// The moment of an object's last journal entry, and 0 where it has none. It reads one block at most.
-fn last_entry<B: Blocks>(table: &mut B, object: ObjectId, row: &Row) -> Moment
+pub(super) fn last_entry<B: Blocks>(table: &mut B, object: ObjectId, row: &Row) -> Moment
     requires { IsRow (B.log table.old).held object row.now }
     ensures moment { result ≡ last_entry (B.log table.old).held object row.now }
     ensures same { B.log table.new ≡ B.log table.old }

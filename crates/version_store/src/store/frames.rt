@@ -5,6 +5,7 @@ ghost use Rattle.s4_types.specs.declared.refusals.Refusal.TheVariants.{NoMemory,
 ghost use Rattle.inode.specs.Contents.{contents_of, bytes_of};
 ghost use Rattle.segment_word.specs.Counting.{pins_in};
 ghost use Rattle.segment_table.specs.Room.{log_of, pointers_in};
+ghost use Rattle.segment_table.specs.Table.{HoldsWholeBlocks};
 ghost use Rattle.time_read.specs.Plans.{IsAt, pieces_of, bytes_planned, pins_held, is_pinned, is_pinned_in};
 ghost use Rattle.version_store.specs.Planning.{IsReadPlan, IsPlanRefusal};
 ghost use Rattle.version_store.specs.Store.{fields_of, IsStore};
@@ -41,9 +42,10 @@ impl Store<SegmentTable> {
 }
 
 impl<J: Naming> Store<NamedTable<J>> {
-    /// Shows that its frames are those of the drive that `J` names.
+    /// Shows that its frames are those of the drive that `J` names, and that each block that it holds has 512 bytes.
     pub fn rules(&self)
         ensures frames { self.now.table.drive.table ≡ J.frames }
+        ensures whole { HoldsWholeBlocks self.now.table }
     {
         self.table.rules();
     }

@@ -42,7 +42,7 @@ returns g c =
       orderly = turned_orderly laws.end laws.done held later o row head bytes filled before after m new p c.requires.lead;
       fields = search rules;
       others = search rules;
-      ahead = search rules;
+      takes = search rules;
       answer = search rules;
       unchanged = search rules;
     }

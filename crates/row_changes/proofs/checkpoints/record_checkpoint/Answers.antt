@@ -29,7 +29,7 @@ returns g c =
       moved = search rules;
       some = search rules;
       others = put_only log between later o place c.in_ok-place.ensures.growth c.drop_older.ensures.others;
-      ahead = search rules;
+      takes = c.places_taken_add_up.ensures 1 0 log between later c.in_ok-place.ensures.takes c.drop_older.ensures.takes;
       answer = search rules;
       unchanged = search rules;
     }

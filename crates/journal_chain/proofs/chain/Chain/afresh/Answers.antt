@@ -1,11 +1,12 @@
-use Rattle.std.proofs.Common.{◌∙◌, ◌∷◌, Option, map, drop, sym, ap, subst}
+use Rattle.std.proofs.Common.{◌∙◌, ◌∷◌, Option, map, sym, ap, subst}
 use Rattle.s4_types.specs.Pointer.{Place}
+use Rattle.block_log.specs.Taken.{TakesPlaces}
 use Rattle.codec.specs.Entry.{entry_length}
 use Rattle.codec.specs.Journal.{JournalFields}
 use Rattle.journal_chain.specs.Sizes.{filled_with, breaks}
 use Rattle.journal_chain.specs.Chain.{ChainFields}
 use Rattle.journal_chain.specs.Writing.{Finished}
-use Rattle.journal_chain.proofs.Calls.{ahead_last}
+use Rattle.journal_chain.proofs.Calls.{takes_last}
 use Rattle.journal_chain.proofs.Afresh.{written, written_only}
 use Rattle.journal_chain.proofs.chain.Chain.afresh.Goals as goal
 
@@ -27,10 +28,11 @@ returns-clause-others g c =
     written_only (g.B.Blocks.log c.args.table.now) (g.B.Blocks.log c.take_all.new.table) (g.B.Blocks.log c.write-head.new.table) c.args.object c.first_block-block.result c.take_all.new.block c.write-head.result
     (ap (λ (j : JournalFields). j.object) c.first_block-block.ensures.value) c.take_all.ensures.object c.take_all.ensures.others c.write-head.ensures
 
-pub returns-clause-ahead : goal.returns-clause-ahead
-returns-clause-ahead g c =
+pub returns-clause-takes : goal.returns-clause-takes
+returns-clause-takes g c =
     let log = g.B.Blocks.log c.args.table.now in
+    let log2 = g.B.Blocks.log c.take_all.new.table in
     let sizes = map entry_length c.args.later.now in
-    ahead_last (breaks (filled_with 0 (entry_length c.args.first.now)) sizes) c.write-head.result log.ahead (g.B.Blocks.log c.take_all.new.table).ahead (g.B.Blocks.log c.write-head.new.table).ahead
-    (c.take_all.ensures.ahead ∙ ap (λ n. drop (breaks n sizes) log.ahead) c.first_block-block.ensures.filled)
-    c.write-head.ensures.ahead
+    takes_last (breaks (filled_with 0 (entry_length c.args.first.now)) sizes) log log2 (g.B.Blocks.log c.write-head.new.table) c.places_taken_add_up.ensures
+    (subst (λ n. TakesPlaces (breaks n sizes) log log2) c.first_block-block.ensures.filled c.take_all.ensures.takes)
+    c.write-head.ensures.takes

@@ -1,11 +1,12 @@
-use Rattle.std.proofs.Common.{◌∙◌, ◌++◌, ◌∷◌, map, drop, ap}
+use Rattle.std.proofs.Common.{◌∙◌, ◌++◌, ◌∷◌, map, ap, subst}
 use Rattle.std.specs.Option.{option_to_list}
 use Rattle.block_log.specs.Log.{Log}
-use Rattle.codec.specs.Entry.{entry_length}
+use Rattle.block_log.specs.Taken.{TakesPlaces}
+use Rattle.codec.specs.Entry.{entry_length, entries_length}
 use Rattle.journal_chain.specs.Sizes.{filled_with, breaks}
 use Rattle.journal_chain.specs.Chain.{entries_held}
 use Rattle.journal_chain.specs.Writing.{reopened}
-use Rattle.journal_chain.proofs.Calls.{Pushed, pushed, pushed_holds, ahead_last}
+use Rattle.journal_chain.proofs.Calls.{Pushed, pushed, pushed_holds, takes_last}
 use Rattle.journal_chain.proofs.chain.Chain.append.Goals as goal
 
 pub returns-clause-holds : goal.returns-clause-holds
@@ -44,15 +45,13 @@ returns-clause-others g c =
     c.take_all.ensures.unfinished c.take_all.ensures.others c.take_all.ensures.object c.finish-head.ensures.finished c.finish-head.ensures.others in
     p.others
 
-pub returns-clause-ahead : goal.returns-clause-ahead
-returns-clause-ahead g c =
+pub returns-clause-takes : goal.returns-clause-takes
+returns-clause-takes g c =
     let chain = c.args.self.now in
     let log = g.B.Blocks.log c.args.table.now in
-    let log1 = g.B.Blocks.log c.begun-block.new.table in
     let log2 = g.B.Blocks.log c.take_all.new.table in
-    let log3 = g.B.Blocks.log c.finish-head.new.table in
     let sizes = map entry_length c.args.later.now in
-    ahead_last (breaks (filled_with chain.filled (entry_length c.args.first.now)) sizes) c.finish-head.result log.ahead log2.ahead log3.ahead
-    (c.take_all.ensures.ahead ∙ ap (λ n. drop (breaks n sizes) log1.ahead) c.begun-block.ensures.filled
-    ∙ ap (λ (l : Log). drop (breaks (filled_with chain.filled (entry_length c.args.first.now)) sizes) l.ahead) c.begun-block.ensures.same)
-    c.finish-head.ensures.ahead
+    takes_last (breaks (filled_with chain.filled (entry_length c.args.first.now)) sizes) log log2 (g.B.Blocks.log c.finish-head.new.table) c.places_taken_add_up.ensures
+    (subst (λ n. TakesPlaces (breaks n sizes) log log2) c.begun-block.ensures.filled
+    (subst (λ (l : Log). TakesPlaces (breaks (entries_length c.begun-block.result.entries) sizes) l log2) c.begun-block.ensures.same c.take_all.ensures.takes))
+    c.finish-head.ensures.takes

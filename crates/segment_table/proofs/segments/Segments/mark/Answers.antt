@@ -1,7 +1,7 @@
-use Rattle.std.proofs.Common.{rules, ◌≡◌, ℕ, ◌<◌, true, false, [], List, length, refl, sym, ap, subst, ◌∙◌, arith, set}
+use Rattle.std.proofs.Common.{rules, ◌≡◌, ℕ, ◌<◌, true, false, [], length, refl, sym, ap, subst, ◌∙◌, arith}
 use Rattle.std.specs.List.{list_any}
 use Rattle.std.proofs.lemmas.List.{get_or_read, length-set}
-use Rattle.segment_word.specs.Frames.{Emptied, Frame, is_sealed}
+use Rattle.segment_word.specs.Frames.{Emptied, is_sealed}
 use Rattle.segment_word.specs.Layout.{frame_at}
 use Rattle.segment_word.specs.Handles.{Drive}
 use Rattle.segment_table.specs.declared.slots.Slot.{Slot}

@@ -2,10 +2,11 @@ use Rattle.std.proofs.Common.{◌≡◌, ◌++◌, [], List, refl, subst, arith}
 use Rattle.std.proofs.lemmas.List.{get_or_read}
 use Rattle.segment_table.specs.declared.slots.Slot.{Slot}
 use Rattle.segment_table.specs.Table.{Table, slots_at, held_at}
-use Rattle.segment_table.specs.Room.{rest_of, places_ahead}
+use Rattle.segment_table.specs.Room.{rest_of, places_ahead, places_spent}
 use Rattle.segment_table.specs.Changes.{IsSealed}
 use Rattle.segment_table.proofs.Alone.{length-alone}
 use Rattle.segment_table.proofs.Sound.{sound_sealed, sealed_filling}
+use Rattle.segment_table.proofs.Spending.{spent_kept}
 use Rattle.segment_table.proofs.Steps.{AtFilling, at_filling, held_sealed, rest_sealed}
 use Rattle.segment_table.proofs.segments.Segments.seal.Goals as goal
 
@@ -48,3 +49,10 @@ returns-clause-ahead c =
     let R : Table → Type 0 = λ t. rest_of t c.args.frame ++ places_ahead new ≡ places_ahead t in
     let sealed : S (slots_at old.slots c.args.frame) = subst S (get_or_read old.slots c.args.frame c.index.result.now at.within c.index.ensures []) c.seal.ensures in
     subst R c.self.view_is (rest_sealed old new c.args.frame at.filling sealed)
+
+pub returns-clause-spent : goal.returns-clause-spent
+returns-clause-spent c =
+    let old : Table = record { drive = c.self.inside.seat; slots = c.self.inside.slots.items } in
+    let new : Table = record { drive = c.seal.new.seat; slots = c.self.inside.slots.items } in
+    let S : Table → Type 0 = λ t. places_spent new ≡ places_spent t in
+    subst S c.self.view_is (spent_kept old new c.args.frame c.seal.ensures.alone c.seal.ensures.generation refl)

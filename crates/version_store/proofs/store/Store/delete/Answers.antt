@@ -18,5 +18,5 @@ returns g c =
     let s : StoreFields = fields_of g.B.Blocks.log c.args.self.now in
     let subject = can_subject s (Delete c.args.object) c.args.moment c.args.present.now c.requires c.requires.takes.ready in
     let makes = deleted_makes s c.args.object c.args.moment c.args.present.now c.deleted-after.result c.requires subject c.deleted-after.ensures.inode (c.deleted-after.ensures.meaning (contents_of s.log.held) c.args.object c.args.moment) (c.deleted-after.ensures.tidy (contents_of s.log.held) subject.tidy) in
-    taken_of c.what_changes_rest_on.ensures.inode c.what_changes_rest_on.ensures.meaning c.what_changes_rest_on.ensures.entry_sizes
+    taken_of c.what_changes_rest_on.ensures.places_add_up c.what_changes_rest_on.ensures.inode c.what_changes_rest_on.ensures.meaning c.what_changes_rest_on.ensures.entry_sizes
     s (fields_of g.B.Blocks.log c.turn.new.self) (Delete c.args.object) c.args.moment s.log c.args.present.now c.deleted-after.result c.requires subject makes c.turn.ensures

@@ -29,7 +29,7 @@ returns g c =
       moved = c.in-Ok.ensures.moved;
       some = c.in-Ok.ensures.some;
       others = c.in-Ok.ensures.others;
-      ahead = c.in-Ok.ensures.ahead;
+      takes = c.in-Ok.ensures.takes;
     } in
     let put = subst (λ (r : Option Row). IfSome r (λ old. PutsRow c.self.inside.objects c.args.object (record c.in-Ok.next { stamp = old.stamp + 1 }) c.change_row.new.self)) can.there c.change_row.ensures.changed in
     subst (λ (v : StoreOf _). Checkpointed (fields_of g.B.Blocks.log v) c.args.object c.args.row.now (record { rows = c.change_row.new.self.rows; log = log; latest = c.self.inside.latest })) c.self.view_is
@@ -51,7 +51,7 @@ invariant_of-self g c =
       moved = c.in-Ok.ensures.moved;
       some = c.in-Ok.ensures.some;
       others = c.in-Ok.ensures.others;
-      ahead = c.in-Ok.ensures.ahead;
+      takes = c.in-Ok.ensures.takes;
     } in
     let put = subst (λ (r : Option Row). IfSome r (λ old. PutsRow c.self.inside.objects c.args.object (record c.in-Ok.next { stamp = old.stamp + 1 }) c.change_row.new.self)) can.there c.change_row.ensures.changed in
     let made = rewritten c.what_changes_rest_on.ensures.orderly c.what_changes_rest_on.ensures.row c.what_changes_rest_on.ensures.inode c.what_changes_rest_on.ensures.journal c.what_changes_rest_on.ensures.later c.what_changes_rest_on.ensures.last c.what_changes_rest_on.ensures.meaning

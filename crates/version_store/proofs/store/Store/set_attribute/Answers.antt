@@ -22,5 +22,5 @@ returns g c =
     let subject = can_subject s (SetAttr c.args.object c.args.attribute.now) c.args.moment c.args.present.now c.requires c.requires.takes.ready in
     let makes = set_makes s c.args.object c.args.moment c.args.attribute.now c.args.present.now c.with_attribute-after.result c.requires subject (c.with_attribute-after.ensures.inode ∙ ap (λ (a : List ℕ). record c.args.present.now { attribute = a; changed = c.args.moment }) c.attribute_of-attribute.ensures)
     (c.with_attribute-after.ensures.meaning (contents_of s.log.held) c.args.object ∙ ap (λ (a : List ℕ). effect (SetAttr c.args.object a) c.args.moment (meaning (contents_of s.log.held) c.args.present.now)) c.attribute_of-attribute.ensures) (c.with_attribute-after.ensures.tidy (contents_of s.log.held) subject.tidy) in
-    taken_of c.what_changes_rest_on.ensures.inode c.what_changes_rest_on.ensures.meaning c.what_changes_rest_on.ensures.entry_sizes
+    taken_of c.what_changes_rest_on.ensures.places_add_up c.what_changes_rest_on.ensures.inode c.what_changes_rest_on.ensures.meaning c.what_changes_rest_on.ensures.entry_sizes
     s (fields_of g.B.Blocks.log c.turn.new.self) (SetAttr c.args.object c.args.attribute.now) c.args.moment s.log c.args.present.now c.with_attribute-after.result c.requires subject makes c.turn.ensures

@@ -38,7 +38,7 @@ returns g c =
     let makes = truncated_makes c.what_changes_rest_on.ensures.one_place c.what_changes_rest_on.ensures.pointers_lead s c.args.object c.args.moment c.args.size (g.B.Blocks.log c.truncate-after.new.table) c.args.present.now c.truncate-after.result can subject c.truncate-after.ensures.growth c.truncate-after.ensures.log c.truncate-after.ensures.inode c.truncate-after.ensures.tidy c.truncate-after.ensures.pointers c.truncate-after.ensures.meaning in
     let later : StoreFields = fields_of g.B.Blocks.log c.turn.new.self in
     subst (λ (v : StoreOf _). IsTaken (fields_of g.B.Blocks.log v) (Truncate c.args.object c.args.size) c.args.moment c.args.present.now later) c.self.view_is
-    (taken_of c.what_changes_rest_on.ensures.inode c.what_changes_rest_on.ensures.meaning c.what_changes_rest_on.ensures.entry_sizes
+    (taken_of c.what_changes_rest_on.ensures.places_add_up c.what_changes_rest_on.ensures.inode c.what_changes_rest_on.ensures.meaning c.what_changes_rest_on.ensures.entry_sizes
     s later (Truncate c.args.object c.args.size) c.args.moment (g.B.Blocks.log c.truncate-after.new.table) c.args.present.now c.truncate-after.result can subject makes c.turn.ensures)
 
 pub invariant_of-self : goal.invariant_of-self

@@ -24,11 +24,11 @@ returns g c =
     let there : row_of c.self.inside.objects.rows c.args.object ≡ Some c.in-Some.kept.now.row = sym c.in-Some.ensures.row in
     let know = known c.what_changes_rest_on.ensures.later c.what_changes_rest_on.ensures.last s c.args.object c.args.before.now c.args.after.now c.args.moment c.in-Some.kept.now.row can there in
     let records : Records s.log.held later.log.held c.args.object c.in-Some.kept.now.row c.in-Ok.next c.args.after.now c.args.moment =
-    records_of s later.log.held c.args.object c.args.before.now c.args.after.now c.args.moment c.in-Some.kept.now.row c.in-Ok.next c.what_changes_rest_on.ensures.entry_pointers can there c.what_changes_rest_on.ensures.orderly c.in-Ok.ensures.made c.in-Ok.ensures.orderly c.in-Ok.ensures.row c.in-Ok.ensures.latest c.in-Ok.ensures.inode c.in-Ok.ensures.entries c.in-Ok.ensures.fields c.in-Ok.ensures.others in
+    records_of s later.log.held c.args.object c.args.before.now c.args.after.now c.args.moment c.in-Some.kept.now.row c.in-Ok.next c.what_changes_rest_on.ensures.entry_pointers c.what_changes_rest_on.ensures.entry_moments can there c.what_changes_rest_on.ensures.orderly c.in-Ok.ensures.made c.in-Ok.ensures.orderly c.in-Ok.ensures.row c.in-Ok.ensures.latest c.in-Ok.ensures.inode c.in-Ok.ensures.entries c.in-Ok.ensures.fields c.in-Ok.ensures.others in
     let put = subst (λ (r : Option Row). IfSome r (λ old. Puts c.self.inside.objects c.args.object (record c.in-Ok.next { stamp = old.stamp + 1 }) c.args.after.now c.change.new.self)) there c.change.ensures.changed in
     subst (λ (v : StoreOf _). Turns (fields_of g.B.Blocks.log v) c.args.object c.args.moment c.args.after.now (blocks_turned (fields_of g.B.Blocks.log v) c.args.object c.args.before.now c.args.after.now c.args.moment) later) c.self.view_is
     (turned c.what_changes_rest_on.ensures.orderly c.what_changes_rest_on.ensures.row c.what_changes_rest_on.ensures.inode c.what_changes_rest_on.ensures.journal c.what_changes_rest_on.ensures.later c.what_changes_rest_on.ensures.meaning c.what_changes_rest_on.ensures.entry_count c.what_changes_rest_on.ensures.blocks_are_needed
-    s later c.args.object c.args.moment c.args.before.now c.args.after.now c.in-Some.kept.now.row c.in-Ok.next can there know refl records c.in-Ok.ensures.fields put.rows c.in-Ok.ensures.ahead)
+    s later c.args.object c.args.moment c.args.before.now c.args.after.now c.in-Some.kept.now.row c.in-Ok.next can there know refl records c.in-Ok.ensures.fields put.rows c.in-Ok.ensures.takes)
 
 pub invariant_of-self : goal.invariant_of-self
 invariant_of-self g c =

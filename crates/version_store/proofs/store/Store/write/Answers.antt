@@ -38,7 +38,7 @@ returns g c =
     let makes = written_makes c.what_changes_rest_on.ensures.one_place c.what_changes_rest_on.ensures.pointers_lead s c.args.object c.args.moment c.args.offset c.args.bytes.now (g.B.Blocks.log c.write-after.new.table) c.args.present.now c.write-after.result can subject c.write-after.ensures.growth c.write-after.ensures.log c.write-after.ensures.inode c.write-after.ensures.tidy c.write-after.ensures.pointers c.write-after.ensures.meaning in
     let later : StoreFields = fields_of g.B.Blocks.log c.turn.new.self in
     subst (λ (v : StoreOf _). IsTaken (fields_of g.B.Blocks.log v) (Write c.args.object c.args.offset c.args.bytes.now) c.args.moment c.args.present.now later) c.self.view_is
-    (taken_of c.what_changes_rest_on.ensures.inode c.what_changes_rest_on.ensures.meaning c.what_changes_rest_on.ensures.entry_sizes
+    (taken_of c.what_changes_rest_on.ensures.places_add_up c.what_changes_rest_on.ensures.inode c.what_changes_rest_on.ensures.meaning c.what_changes_rest_on.ensures.entry_sizes
     s later (Write c.args.object c.args.offset c.args.bytes.now) c.args.moment (g.B.Blocks.log c.write-after.new.table) c.args.present.now c.write-after.result can subject makes c.turn.ensures)
 
 pub invariant_of-self : goal.invariant_of-self

@@ -1,0 +1,157 @@
+ghost use Rattle.std.specs.Prelude.{◌≡◌, ℕ, ◌<◌, ◌≤◌, true, length, map, Some, IsSome, IfOk, OnErr, MatchResult};
+ghost use Rattle.s4_types.specs.declared.limits.TheConstants.{CHAIN_ENTRY_BYTES, JOURNAL_ENTRY_BYTES};
+ghost use Rattle.s4_types.specs.declared.refusals.Refusal.TheVariants.{NoRoom};
+ghost use Rattle.block_log.specs.Taken.{TakesPlaces};
+ghost use Rattle.codec.specs.Entry.{entry_length, entries_length};
+ghost use Rattle.codec.specs.Checkpoint.{checkpoint_rules};
+ghost use Rattle.undo_redo.specs.Runs.{AllBy, Run, inode_after, undone_all};
+ghost use Rattle.undo_redo.specs.Groups.{grouped};
+ghost use Rattle.journal_chain.specs.Chain.{Holds, OnlyJournalChanged};
+ghost use Rattle.journal_chain.specs.Push.{whole_blocks};
+ghost use Rattle.checkpoint.specs.Held.{checkpoint_held, PutsCheckpoint};
+ghost use Rattle.time_read.specs.Rows.{IsRow, chain_of, entries_of, first_of, inode_of, last_inode};
+ghost use Rattle.time_read.specs.Orderly.{IsFromTo, IsOrderly, IsOrderlyChain};
+ghost use Rattle.row_changes.specs.Recent.{IsBy};
+ghost use Rattle.row_changes.specs.Rewritten.{OnlyHistoryChanged, rewritten_blocks};
+
+use crate::checkpoints::{drop_older, put};
+use arrayvec::ArrayVec;
+use block_log::Blocks;
+use block_log::laws::{one_place_has_one_name, places_taken_add_up};
+use codec::{Entry, Inode};
+use journal_chain::Chain;
+use journal_chain::laws::{a_chain_has_its_entries, a_chain_is_its_journal_blocks};
+use journal_chain::packing::blocks_needed;
+use journal_chain::packing::laws::{chains_are_short, few_blocks_are_needed};
+use object_map::Row;
+use s4_types::limits::{CHAIN_ENTRY_BYTES, SHORTEST_ENTRY_BYTES};
+use s4_types::{Moment, ObjectId, Ptr, Refusal};
+use time_read::laws::a_row_tells_a_chain;
+use undo_redo::laws::{
+    a_run_has_one_end_and_one_beginning, a_run_keeps_the_making, the_inode_at_a_moment,
+};
+
+// So many of the shortest entries have the most bytes that a chain may have.
+const CHAIN_ENTRIES: usize = CHAIN_ENTRY_BYTES / SHORTEST_ENTRY_BYTES;
+
+/// The bytes of each of the entries of a chain.
+fn sizes_of(entries: &[Entry]) -> ArrayVec<usize, CHAIN_ENTRIES>
+    requires { length entries.now ≤ 344 }
+    ensures { result.items ≡ map entry_length entries.now }
+{
+    let mut sizes = ArrayVec::new();
+    for entry in entries {
+        sizes.push(entry.byte_count());
+    }
+    sizes
+}
+
+/// How many places it takes to write an object's checkpoint and its whole journal anew with these entries, of at most
+/// 11,712 bytes: what `rewrite_row` counts before anything is written.
+pub fn rewritten_blocks(entries: &[Entry]) -> usize
+    requires { entries_length entries.now ≤ CHAIN_ENTRY_BYTES }
+    ensures { result ≡ rewritten_blocks entries.now }
+{
+    chains_are_short();
+    few_blocks_are_needed();
+    let sizes = sizes_of(entries);
+    1 + blocks_needed(0, sizes.as_slice())
+}
+
+/// Appends the checkpoint of an inode where a place is ahead.
+fn put_ahead<B: Blocks>(table: &mut B, object: ObjectId, inode: &Inode, moment: Moment) -> Ptr
+    requires rules { checkpoint_rules (record { object = object; moment = moment; inode = inode.now }) ≡ true }
+    requires room { 0 < length (B.log table.old).ahead }
+    ensures told { checkpoint_held (B.log table.new).held object result ≡ Some (record { object = object; moment = moment; inode = inode.now }) }
+    ensures takes { TakesPlaces 1 (B.log table.old) (B.log table.new) }
+    ensures growth { PutsCheckpoint (B.log table.old) object result (B.log table.new) }
+{
+    put(table, object, inode, moment).unwrap()
+}
+
+/// Writes the journal of a row afresh where there is room, and answers its chain.
+fn write_chain<B: Blocks>(table: &mut B, object: ObjectId, row: &Row, entries: &[Entry]) -> Chain
+    requires object { 1 ≤ object }
+    requires bytes { row.now.journal_bytes ≤ CHAIN_ENTRY_BYTES }
+    requires one_block { row.now.head_bytes ≤ JOURNAL_ENTRY_BYTES }
+    requires held { Holds (B.log table.old).held (chain_of object row.now) (entries_of (B.log table.old).held object row.now) }
+    requires limit { entries_length entries.now ≤ CHAIN_ENTRY_BYTES }
+    requires room { whole_blocks entries.now ≤ length (B.log table.old).ahead }
+    ensures holds { Holds (B.log table.new).held result entries.now }
+    ensures object { result.object ≡ object }
+    ensures others { OnlyJournalChanged object (B.log table.old).held (B.log table.new).held }
+    ensures takes { TakesPlaces (whole_blocks entries.now) (B.log table.old) (B.log table.new) }
+{
+    let mut chain = Chain::of(object, row.head, row.journal_bytes, row.head_bytes);
+    chain.rewrite(table, entries).unwrap();
+    chain
+}
+
+/// Writes an object's present inode as its checkpoint of a moment, and then its whole journal afresh with these entries,
+/// the oldest first and at most 11,712 bytes of them, in place of what stood; and answers its row after that. With no
+/// entry there is no journal, and the checkpoint alone tells the inode.
+///
+/// At each moment the inode is then the one that the entries tell. A row whose new entries are in order is in order.
+///
+/// NoRoom exactly where fewer places are ahead than `rewritten_blocks` counts; then nothing has changed.
+pub fn rewrite_row<B: Blocks>(
+    table: &mut B,
+    object: ObjectId,
+    row: &Row,
+    present: &Inode,
+    moment: Moment,
+    entries: &[Entry],
+) -> Result<Row, Refusal>
+    requires row { IsRow (B.log table.old).held object row.now }
+    requires run { Run (undone_all entries.now present.now) entries.now present.now }
+    requires groups { grouped entries.now ≡ true }
+    requires latest { AllBy moment entries.now }
+    requires limit { entries_length entries.now ≤ CHAIN_ENTRY_BYTES }
+    requires created { present.now.created ≡ row.now.created }
+    requires rules { checkpoint_rules (record { object = object; moment = moment; inode = present.now }) ≡ true }
+    ensures row { IfOk result (λ later. IsRow (B.log table.new).held object later) }
+    ensures latest { IfOk result (λ later. IsBy (B.log table.new).held object later moment) }
+    ensures entries { IfOk result (λ later. entries_of (B.log table.new).held object later ≡ entries.now) }
+    ensures first { IfOk result (λ later. first_of (B.log table.new).held object later ≡ undone_all entries.now present.now) }
+    ensures inode { IfOk result (λ later. (t : ℕ) → inode_of (B.log table.new).held object later t ≡ inode_after (undone_all entries.now present.now) entries.now t) }
+    ensures last { IfOk result (λ later. last_inode (B.log table.new).held object later ≡ present.now) }
+    ensures orderly { IfOk result (λ later. (latest : ℕ) → IsOrderlyChain row.now.created latest (undone_all entries.now present.now) entries.now
+        → IsFromTo row.now.created latest moment → IsFromTo 1 latest row.now.created → IsOrderly (B.log table.new).held object later latest) }
+    ensures fields { IfOk result (λ later. later ≡ record row.now {
+      checkpoint = later.checkpoint;
+      checkpoint_moment = moment;
+      head = later.head;
+      journal_bytes = entries_length entries.now;
+      head_bytes = later.head_bytes;
+    }) }
+    ensures some { IfOk result (λ later. IsSome later.checkpoint) }
+    ensures others { OnlyHistoryChanged object (B.log table.old).held (B.log table.new).held }
+    ensures takes { IfOk result (λ _. TakesPlaces (rewritten_blocks entries.now) (B.log table.old) (B.log table.new)) }
+    ensures answer { MatchResult result
+        (λ _. rewritten_blocks entries.now ≤ length (B.log table.old).ahead)
+        (λ e. (e ≡ NoRoom) × (length (B.log table.old).ahead < rewritten_blocks entries.now)) }
+    ensures unchanged { OnErr result (B.log table.new ≡ B.log table.old) }
+{
+    one_place_has_one_name();
+    places_taken_add_up();
+    a_chain_has_its_entries();
+    a_chain_is_its_journal_blocks();
+    a_row_tells_a_chain();
+    a_run_has_one_end_and_one_beginning();
+    a_run_keeps_the_making();
+    the_inode_at_a_moment();
+    if table.blocks_left() < rewritten_blocks(entries) {
+        return Err(Refusal::NoRoom);
+    }
+    let place = put_ahead(table, object, present, moment);
+    let chain = write_chain(table, object, row, entries);
+    drop_older(table, object, row.checkpoint);
+    Ok(Row {
+        checkpoint: Some(place),
+        checkpoint_moment: moment,
+        head: chain.head(),
+        journal_bytes: chain.bytes() as u16,
+        head_bytes: chain.filled() as u16,
+        ..*row
+    })
+}

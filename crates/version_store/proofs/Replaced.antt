@@ -1,0 +1,307 @@
+-- What the replacement of an object's journal leaves of a whole store.
+use Rattle.std.proofs.Common.{◌≡◌, inl, inr, ℕ, ◌+◌, ◌<◌, ◌≤◌, ◌==◌, ◌&&◌, ◌||◌, ◌++◌, not, true, false, cond, Bool, List, [], ◌∷◌, length, Option, Some, None, IsSome, MatchOption, refl, sym, ap, subst, ◌∙◌, arith}
+use Rattle.std.specs.List.{Contains, AllByRecursion}
+use Rattle.std.proofs.lemmas.Bool.{cases_Bool, cond-true, cond-false, and_right, eqb-true, le-leb, leb-true, false≢true}
+use Rattle.std.proofs.lemmas.List.Elements.{All-weaker, All-contains_itself, Contains-append_left, Contains-append_right}
+use Rattle.s4_types.specs.Pointer.{Place}
+use Rattle.block_log.specs.Taken.{TakesPlaces}
+use Rattle.block_log.specs.Log.{Log, Stored, of_kind, same_kind}
+use Rattle.block_log.specs.declared.kinds.BlockKind.TheVariants.{Journal, Checkpoint, Data}
+use Rattle.codec.specs.Fields.{◌>>=◌}
+use Rattle.codec.specs.Checkpoint.{pointer_at, checkpoint_rules}
+use Rattle.codec.specs.Entry.{EntryFields, entries_length}
+use Rattle.codec.specs.declared.inodes.Inode.{Inode}
+use Rattle.undo_redo.specs.Runs.{AllBy, Run, undone_all, entries_by, last_moment}
+use Rattle.checkpoint.specs.Held.{checkpoint_held}
+use Rattle.inode.specs.Contents.{contents_of, meaning}
+use Rattle.inode.specs.Tidiness.{Tidy, PointersHeld, AgreeAt}
+use Rattle.inode.specs.Laws.{OnlyItsBlocksMatter}
+use Rattle.object_map.specs.declared.map.Row.{Row}
+use Rattle.object_map.specs.Objects.{value_of, with_value}
+use Rattle.object_map.specs.Rows.{row_of, with_row}
+use Rattle.time_read.specs.Rows.{IsRow, entries_of, checkpoint_of, inode_of}
+use Rattle.time_read.specs.Orderly.{IsOrderly, IsOrderlyChain, IsFromTo}
+use Rattle.row_changes.specs.Recent.{IsBy}
+use Rattle.version_store.specs.Store.{StoreFields, IsStore, IsObject, DataIsNamed, IsLed, sides_told, pointers_kept, pointers_of}
+use Rattle.version_store.specs.Versions.{inode_by, inode_in, version_by, version_in}
+use Rattle.version_store.specs.Checkpointing.{last_entry}
+use Rattle.version_store.specs.Replacing.{IsMomentOf, OnlyDataChanged, OtherObjectsStay, CanReplace, IsReplaced, inode_led, pointers_told}
+use Rattle.row_changes.specs.Rewritten.{OnlyHistoryChanged, rewritten_blocks}
+use Rattle.version_store.specs.private.Below.{OnePlace, OrderlyStays, RowStays, RowInodeStays, IsByStays, IsByLater}
+use Rattle.version_store.specs.private.Dropping.{leads_to, is_among}
+use Rattle.version_store.specs.private.Replacing.{Replaces, AllAreDone, RunsEnd}
+use Rattle.version_store.proofs.Frames.{same_bytes, stays_object, inode_in_stays, version_in_stays}
+use Rattle.version_store.proofs.Telling.{same_entries, Leads, redone_cases, undone_cases, by_told, slot_there, led_there}
+use Rattle.version_store.proofs.Steps.{row_here, row_beside, row_cases, none_cases, stamped_row, stamped_inode}
+use Rattle.version_store.proofs.Spending.{sum_stays}
+use Rattle.version_store.proofs.Across.{IsAcross, renewed_across}
+use Rattle.version_store.proofs.CheckpointSteps.{next_store, keeps_rules, holes_all, some_place}
+use Rattle.version_store.proofs.Dropping.{contained_leads, leads_contained}
+use Rattle.version_store.proofs.Replacing.{other_stays, other_named}
+
+-- ---- what is asked of the checkpoint
+
+last_from_to : (low high given : ℕ) (entries : List EntryFields) → IsFromTo low high given → AllByRecursion (λ e. IsFromTo low high e.moment) entries → IsFromTo low high (last_moment given entries)
+last_from_to low high given [] within all = within
+last_from_to low high given (e ∷ entries) within all = last_from_to low high e.moment entries all.0 all.1
+
+pub last_within : (low high : ℕ) (entries : List EntryFields) → 0 < length entries → AllByRecursion (λ e. IsFromTo low high e.moment) entries → IsFromTo low high (last_moment 0 entries)
+last_within low high [] some all = absurd (omega (arith, some))
+last_within low high (e ∷ entries) some all = last_from_to low high e.moment entries all.0 all.1
+
+-- behind all entries the inode is the present one
+pub led_last : AllAreDone → RunsEnd → (present : Inode) (entries : List EntryFields) (t : ℕ) → Run (undone_all entries present) entries present → AllBy t entries → inode_led present entries t ≡ present
+led_last done end present entries t run by = done (undone_all entries present) entries t by ∙ sym (end (undone_all entries present) present entries run)
+
+-- what is known where a journal can be replaced: the checkpoint's moment is one from the making to the last change, and its rules hold
+pub record Known (s : StoreFields) (o : ℕ) (row : Row) (present : Inode) (entries : List EntryFields) (m : ℕ) : Type 0 where
+  pub object : IsObject s.log.held o row s.latest
+  pub orderly : IsOrderly s.log.held o row s.latest
+  pub named : DataIsNamed s.log.held o row
+  pub within : IsFromTo row.created s.latest m
+  pub by : AllBy m entries
+  pub last : inode_led present entries m ≡ present
+  pub rules : checkpoint_rules (record { object = o; moment = m; inode = present }) ≡ true
+  pub there : row_of s.rows o ≡ Some row
+  pub stamp : row.stamp ≤ s.log.spent
+
+pub known : AllAreDone → RunsEnd → (s : StoreFields) (o : ℕ) (row : Row) (present : Inode) (entries : List EntryFields) (m : ℕ) → IsStore s → row_of s.rows o ≡ Some row → CanReplace s o row present entries → m ≡ last_entry s.log.held o row
+    → Known s o row present entries m
+known done end s o row present entries m store there can is =
+    let object = store.objects o row there in
+    let orderly = store.orderly o row there in
+    let made = orderly.made in
+    let within : IsFromTo row.created s.latest m = subst (IsFromTo row.created s.latest) (sym is) (last_within row.created s.latest (entries_of s.log.held o row) can.journal orderly.chain.moments) in
+    let by : AllBy m entries = subst (λ (k : ℕ). AllBy k entries) (sym is) can.by in
+    let last = led_last done end present entries m can.run by in
+    let tidy : Tidy (contents_of s.log.held) present = subst (Tidy (contents_of s.log.held)) last (can.tidy m) in
+    let created = can.made in
+    record {
+      object = object;
+      orderly = orderly;
+      named = store.named o row there;
+      within = within;
+      by = by;
+      last = last;
+      rules = keeps_rules o m present object.stands.object (let low = within.0 in let first = made.0 in omega (arith, low, first)) (let first = made.0 in omega (arith, created, first)) tidy.size (holes_all present.size present.pointers tidy.holes);
+      there = there;
+      stamp = store.stamps o row there;
+    }
+
+-- ---- the blocks
+
+-- what became of a table's blocks: of an object's data what the new row leads to stays, and no other is held
+pub record Swaps (held later : Place → Option Stored) (o : ℕ) (present : Inode) (entries : List EntryFields) : Type 0 where
+  pub kept : (p : Place) → Contains (pointers_told present entries) (Some p) → of_kind Data o later p ≡ of_kind Data o held p
+  pub named : (p : Place) → IsSome (of_kind Data o later p) → Contains (pointers_told present entries) (Some p)
+  pub others : OtherObjectsStay o held later
+
+-- a block that is kept stays
+stays_kept : (leads among : Bool) (seen : Option (List ℕ)) → among ≡ true → cond (leads && not among) None seen ≡ seen
+stays_kept true true seen is = refl
+stays_kept true false seen is = absurd (false≢true is)
+stays_kept false among seen is = refl
+
+-- and one that stays is kept, or nothing led to it
+kept_stays : (leads among : Bool) (seen : Option (List ℕ)) → IsSome (cond (leads && not among) None seen) → (IsSome seen → leads ≡ true) → among ≡ true
+kept_stays true true seen some led = refl
+kept_stays true false seen some led = absurd (false≢true some)
+kept_stays false among seen some led = absurd (false≢true (led some))
+
+pub swapped : OnePlace → (held between later : Place → Option Stored) (o : ℕ) (row : Row) (present : Inode) (entries : List EntryFields) (kept : List Place) → DataIsNamed held o row
+    → ((p : Place) → is_among p kept ≡ leads_to p (pointers_told present entries)) → OnlyDataChanged o held between
+    → ((p : Place) → of_kind Data o between p ≡ cond (leads_to p (pointers_of held o row) && not (is_among p kept)) None (of_kind Data o held p))
+    → OnlyHistoryChanged o between later → Swaps held later o present entries
+swapped one held between later o row present entries kept named is others dropped history =
+    let same : of_kind Data o later ≡ of_kind Data o between = history Data o refl in
+    record {
+      kept = λ p there. ap (λ (view : Place → Option (List ℕ)). view p) same ∙ dropped p
+          ∙ stays_kept (leads_to p (pointers_of held o row)) (is_among p kept) (of_kind Data o held p) (is p ∙ contained_leads p (pointers_told present entries) there);
+      named = λ p some.
+          let some_between : IsSome (of_kind Data o between p) = subst (λ (view : Place → Option (List ℕ)). IsSome (view p)) same some in
+          leads_contained one p (pointers_told present entries)
+          (sym (is p) ∙ kept_stays (leads_to p (pointers_of held o row)) (is_among p kept) (of_kind Data o held p) (subst (λ (seen : Option (List ℕ)). IsSome seen) (dropped p) some_between)
+          (λ was. contained_leads p (pointers_of held o row) (named p was)));
+      others = λ kind other beside. history kind other (and_right (same_kind Journal kind || same_kind Checkpoint kind) (o == other) beside) ∙ others kind other (and_right (same_kind Data kind) (o == other) beside);
+    }
+
+-- ---- the object
+
+-- what was recorded of the object: its next row stands, and tells these entries and this present inode
+pub record Rewrites (later : Log) (o : ℕ) (row next : Row) (present : Inode) (entries : List EntryFields) (m : ℕ) : Type 0 where
+  pub stands : IsRow later.held o next
+  pub by : IsBy later.held o next m
+  pub entries_are : entries_of later.held o next ≡ entries
+  pub inode : (t : ℕ) → inode_of later.held o next t ≡ inode_led present entries t
+  pub orderly : (latest : ℕ) → IsOrderlyChain row.created latest (undone_all entries present) entries → IsFromTo row.created latest m → IsFromTo 1 latest row.created → IsOrderly later.held o next latest
+  pub fields : next ≡ record row { checkpoint = next.checkpoint; checkpoint_moment = m; head = next.head; journal_bytes = entries_length entries; head_bytes = next.head_bytes }
+  pub some : IsSome next.checkpoint
+
+-- each inode that the entries lead to points to what is told
+led_told : (present : Inode) (entries : List EntryFields) (t k : ℕ) (p : Place) → pointer_at (inode_led present entries t) k ≡ Some p → Contains (pointers_told present entries) (Some p)
+led_told present entries t k p at = elim (redone_cases (entries_by t entries) (undone_all entries present) k p at) [
+  | inl told ↦ Contains-append_right present.pointers (sides_told entries) (Some p) (by_told t entries (Some p) told)
+  | inr first ↦ elim (undone_cases entries present k p first) [
+    | inl told ↦ Contains-append_right present.pointers (sides_told entries) (Some p) told
+    | inr here ↦ Contains-append_left present.pointers (sides_told entries) (Some p) (slot_there present.pointers k p here)
+  ]
+]
+
+-- what is told leads to blocks
+told_there : (s : StoreFields) (later : Place → Option Stored) (o : ℕ) (row : Row) (present : Inode) (entries : List EntryFields) → IsObject s.log.held o row s.latest → CanReplace s o row present entries → Swaps s.log.held later o present entries
+    → (p : Place) → Contains (pointers_told present entries) (Some p) → IsSome (of_kind Data o s.log.held p) × IsSome (of_kind Data o later p)
+told_there s later o row present entries object can swaps p there =
+    let was = led_there s.log.held o (pointers_of s.log.held o row) p object.led (can.pointers p there) in
+    (was, subst (λ (seen : Option (List ℕ)). IsSome seen) (sym (swaps.kept p there)) was)
+
+slot_led : (later : Place → Option Stored) (o : ℕ) (pointers : List (Option Place)) → ((p : Place) → Contains pointers (Some p) → IsSome (of_kind Data o later p)) → (x : Option Place) → Contains pointers x → IsLed later o x
+slot_led later o pointers leads None there = tt
+slot_led later o pointers leads (Some p) there = leads p there
+
+told_led : (later : Place → Option Stored) (o : ℕ) (pointers : List (Option Place)) → ((p : Place) → Contains pointers (Some p) → IsSome (of_kind Data o later p)) → Leads later o pointers
+told_led later o pointers leads = All-weaker (Contains pointers) (IsLed later o) (slot_led later o pointers leads) pointers (All-contains_itself pointers)
+
+told_agree : (s : StoreFields) (later : Place → Option Stored) (o : ℕ) (row : Row) (present : Inode) (entries : List EntryFields) (t : ℕ) → IsObject s.log.held o row s.latest → CanReplace s o row present entries → Swaps s.log.held later o present entries
+    → AgreeAt (contents_of s.log.held) (contents_of later) (inode_led present entries t)
+told_agree s later o row present entries t object can swaps k p at =
+    let there = led_told present entries t k p at in
+    same_bytes Data o (s.log.held p) (later p) (of_kind Data o s.log.held p) refl (told_there s later o row present entries object can swaps p there).0 (swaps.kept p there)
+
+-- the pointers of the row are those that are told
+kept_is : (later : Log) (o : ℕ) (row next : Row) (present : Inode) (entries : List EntryFields) (m : ℕ) → Rewrites later o row next present entries m → inode_led present entries m ≡ present → pointers_kept (checkpoint_of later.held o next) ≡ present.pointers
+kept_is later o row next present entries m writes last =
+    let (p, at) = some_place next.checkpoint writes.some in
+    let told = subst (λ (c : Option Place). MatchOption c (next.checkpoint_moment ≡ 0) (λ q. checkpoint_held later.held o q ≡ Some (record { object = o; moment = next.checkpoint_moment; inode = inode_of later.held o next next.checkpoint_moment }))) at writes.stands.checkpoint in
+    let moment : next.checkpoint_moment ≡ m = ap (λ (r : Row). r.checkpoint_moment) writes.fields in
+    ap (λ (c : Option Place). pointers_kept (c >>= checkpoint_held later.held o)) at
+    ∙ ap pointers_kept told
+    ∙ ap (λ (i : Inode). i.pointers) (writes.inode next.checkpoint_moment ∙ ap (inode_led present entries) moment ∙ last)
+
+pointers_are : (later : Log) (o : ℕ) (row next : Row) (present : Inode) (entries : List EntryFields) (m : ℕ) → Rewrites later o row next present entries m → inode_led present entries m ≡ present → pointers_of later.held o next ≡ pointers_told present entries
+pointers_are later o row next present entries m writes last =
+    ap (λ (kept : List (Option Place)). kept ++ sides_told (entries_of later.held o next)) (kept_is later o row next present entries m writes last)
+    ∙ ap (λ (es : List EntryFields). present.pointers ++ sides_told es) writes.entries_are
+
+-- the next row, changed once more
+abbrev pub put_row : Row → Row → Row
+put_row row next = record next { stamp = row.stamp + 1 }
+
+replaced_object : IsByLater → OnlyItsBlocksMatter → (s : StoreFields) (log : Log) (o : ℕ) (row next : Row) (present : Inode) (entries : List EntryFields) (m : ℕ)
+    → CanReplace s o row present entries → Known s o row present entries m → Swaps s.log.held log.held o present entries → Rewrites log o row next present entries m → IsObject log.held o (put_row row next) s.latest
+replaced_object later_by matter s log o row next present entries m can know swaps writes =
+    let by = later_by log.held o next m s.latest know.within.1 writes.by in
+    let there : (p : Place) → Contains (pointers_told present entries) (Some p) → IsSome (of_kind Data o log.held p) = λ p told. (told_there s log.held o row present entries know.object can swaps p told).1 in
+    let is : (t : ℕ) → inode_of log.held o (put_row row next) t ≡ inode_led present entries t = λ t. stamped_inode log.held o next (row.stamp + 1) t ∙ writes.inode t in
+    record {
+      stands = stamped_row log.held o next (row.stamp + 1) writes.stands;
+      by = record { entries = by.entries; checkpoint = by.checkpoint };
+      led = subst (Leads log.held o) (sym (pointers_are log o row next present entries m writes know.last)) (told_led log.held o (pointers_told present entries) there);
+      tidy = λ t. subst (Tidy (contents_of log.held)) (sym (is t))
+          ((matter (contents_of s.log.held) (contents_of log.held) (inode_led present entries t) (told_agree s log.held o row present entries t know.object can swaps)).1 (can.tidy t));
+      pointers = λ t. subst (PointersHeld log.held o) (sym (is t)) (λ k p at. there p (led_told present entries t k p at));
+    }
+
+-- ---- the store
+
+-- the rows with the next one, changed once more
+abbrev pub IsPut : StoreFields → List (ℕ × Row) → ℕ → Row → Row → Type 0
+IsPut s rows o row next = (q : ℕ) → row_of rows q ≡ with_row (row_of s.rows) o (put_row row next) q
+
+replaced_store : OrderlyStays → RowStays → RowInodeStays → IsByStays → IsByLater → OnlyItsBlocksMatter → (s : StoreFields) (rows : List (ℕ × Row)) (log : Log) (o : ℕ) (row next : Row) (present : Inode) (entries : List EntryFields) (m : ℕ)
+    → IsStore s → CanReplace s o row present entries → Known s o row present entries m → Swaps s.log.held log.held o present entries → Rewrites log o row next present entries m
+    → TakesPlaces (rewritten_blocks entries) s.log log → rewritten_blocks entries ≤ length s.log.ahead → IsPut s rows o row next → IsStore (next_store s rows log)
+replaced_store orderly stands same by later_by matter s rows log o row next present entries m store can know swaps writes takes room put =
+    let sum = sum_stays (rewritten_blocks entries) s.log log takes room in
+    let more : log.spent ≡ rewritten_blocks entries + s.log.spent = takes.spent in
+    let across : IsAcross log.held rows = renewed_across s.rows rows s.log.held log.held o row (put_row row next) know.there put (ap (λ (r : Row). r.created) writes.fields)
+    (subst (λ (es : List EntryFields). (e : EntryFields) → Contains es e → IsMomentOf (entries_of s.log.held o row) e.moment) (sym writes.entries_are) can.moments)
+    (λ q r beside e. same_entries s.log.held log.held q r (swaps.others Journal q beside))
+    (record { ascending = store.ascending; apart = store.apart }) in
+    record {
+      objects = row_cases (row_of s.rows) (row_of rows) o (put_row row next) put (λ q r. IsObject log.held q r s.latest)
+          (replaced_object later_by matter s log o row next present entries m can know swaps writes)
+          (λ q r beside e. stays_object stands same by matter q s.log.held log.held r s.latest (other_stays o q s.log.held log.held swaps.others beside) (store.objects q r e));
+      orderly = row_cases (row_of s.rows) (row_of rows) o (put_row row next) put (λ q r. IsOrderly log.held q r s.latest)
+          (orderly.stamp log.held o s.latest (row.stamp + 1) next (writes.orderly s.latest can.order know.within know.orderly.made))
+          (λ q r beside e. orderly.blocks s.log.held log.held q s.latest r (swaps.others Journal q beside) (swaps.others Checkpoint q beside) (store.orderly q r e));
+      named = row_cases (row_of s.rows) (row_of rows) o (put_row row next) put (λ q r. DataIsNamed log.held q r)
+          (λ p there. subst (λ (pointers : List (Option Place)). Contains pointers (Some p)) (sym (pointers_are log o row next present entries m writes know.last)) (swaps.named p there))
+          (λ q r beside e. other_named s.log.held log.held o q r swaps.others beside (store.named q r e));
+      nothing = λ q none kind p.
+          let gone = none_cases (row_of s.rows) (row_of rows) o (put_row row next) put q none in
+          ap (λ (view : Place → Option (List ℕ)). view p) (swaps.others kind q gone.0) ∙ store.nothing q gone.1 kind p;
+      stamps = row_cases (row_of s.rows) (row_of rows) o (put_row row next) put (λ q r. r.stamp ≤ log.spent)
+          (let bound = know.stamp in omega (arith, bound, more))
+          (λ q r beside e. let bound = store.stamps q r e in omega (arith, bound, more));
+      bounded = let bound = store.bounded in omega (arith, bound, sum);
+      ascending = across.ascending;
+      apart = across.apart;
+    }
+
+replaced_inodes : RowInodeStays → (s : StoreFields) (rows : List (ℕ × Row)) (log : Log) (o : ℕ) (row next : Row) (present : Inode) (entries : List EntryFields) (m : ℕ)
+    → Swaps s.log.held log.held o present entries → Rewrites log o row next present entries m → IsPut s rows o row next
+    → (q t : ℕ) → inode_in (next_store s rows log) q t ≡ cond (o == q) (Some (inode_led present entries t)) (inode_in s q t)
+replaced_inodes same s rows log o row next present entries m swaps writes put q t = elim (cases_Bool (o == q)) [
+  | inl is ↦
+      let found : row_of rows o ≡ Some (put_row row next) = put o ∙ row_here (row_of s.rows) o (put_row row next) in
+      let here : inode_in (next_store s rows log) o t ≡ Some (inode_led present entries t) =
+      ap (inode_by log.held o t) found ∙ ap (λ (i : Inode). Some i) (stamped_inode log.held o next (row.stamp + 1) t ∙ writes.inode t) in
+      subst (λ (k : ℕ). inode_in (next_store s rows log) k t ≡ Some (inode_led present entries t)) (eqb-true o q is) here ∙ sym (cond-true (o == q) (Some (inode_led present entries t)) (inode_in s q t) is)
+  | inr beside ↦ inode_in_stays same s (next_store s rows log) q t (put q ∙ row_beside (row_of s.rows) o q (put_row row next) beside) (other_stays o q s.log.held log.held swaps.others beside)
+      ∙ sym (cond-false (o == q) (Some (inode_led present entries t)) (inode_in s q t) beside)
+]
+
+replaced_versions : RowInodeStays → OnlyItsBlocksMatter → (s : StoreFields) (rows : List (ℕ × Row)) (log : Log) (o : ℕ) (row next : Row) (present : Inode) (entries : List EntryFields) (m : ℕ)
+    → IsStore s → CanReplace s o row present entries → Known s o row present entries m → Swaps s.log.held log.held o present entries → Rewrites log o row next present entries m → IsPut s rows o row next
+    → (q t : ℕ) → version_in (next_store s rows log) q t ≡ cond (o == q) (meaning (contents_of s.log.held) (inode_led present entries t)) (version_in s q t)
+replaced_versions same matter s rows log o row next present entries m store can know swaps writes put q t = elim (cases_Bool (o == q)) [
+  | inl is ↦
+      ap (version_by log.held) (replaced_inodes same s rows log o row next present entries m swaps writes put q t ∙ cond-true (o == q) (Some (inode_led present entries t)) (inode_in s q t) is)
+      ∙ (matter (contents_of s.log.held) (contents_of log.held) (inode_led present entries t) (told_agree s log.held o row present entries t know.object can swaps)).0
+      ∙ sym (cond-true (o == q) (meaning (contents_of s.log.held) (inode_led present entries t)) (version_in s q t) is)
+  | inr beside ↦ version_in_stays same matter s (next_store s rows log) q t store (put q ∙ row_beside (row_of s.rows) o q (put_row row next) beside) (other_stays o q s.log.held log.held swaps.others beside)
+      ∙ sym (cond-false (o == q) (meaning (contents_of s.log.held) (inode_led present entries t)) (version_in s q t) beside)
+]
+
+replaced_made : (s : StoreFields) (rows : List (ℕ × Row)) (log : Log) (o : ℕ) (row next : Row) (present : Inode) (entries : List EntryFields) (m : ℕ)
+    → Known s o row present entries m → m ≡ last_entry s.log.held o row → Swaps s.log.held log.held o present entries → Rewrites log o row next present entries m
+    → TakesPlaces (rewritten_blocks entries) s.log log → IsPut s rows o row next → IsReplaced s o row present entries (next_store s rows log)
+replaced_made s rows log o row next present entries m know is swaps writes takes put = record {
+  next = put_row row next;
+  rest = ap (λ (r : Row). record r { stamp = row.stamp + 1; journal_bytes = next.journal_bytes }) writes.fields
+      ∙ ap (λ (k : ℕ). record row { checkpoint = next.checkpoint; checkpoint_moment = k; head = next.head; journal_bytes = next.journal_bytes; head_bytes = next.head_bytes; stamp = row.stamp + 1 }) is;
+  put = put;
+  journal = writes.entries_are;
+  pointers = pointers_are log o row next present entries m writes know.last;
+  kept = swaps.kept;
+  named = swaps.named;
+  others = swaps.others;
+  takes = takes;
+  latest = refl;
+}
+
+pub replaced : OrderlyStays → RowStays → RowInodeStays → IsByStays → IsByLater → OnlyItsBlocksMatter → (s : StoreFields) (rows : List (ℕ × Row)) (log : Log) (o : ℕ) (row next : Row) (present : Inode) (entries : List EntryFields) (m : ℕ)
+    → IsStore s → CanReplace s o row present entries → Known s o row present entries m → m ≡ last_entry s.log.held o row → Swaps s.log.held log.held o present entries → Rewrites log o row next present entries m
+    → TakesPlaces (rewritten_blocks entries) s.log log → rewritten_blocks entries ≤ length s.log.ahead → IsPut s rows o row next → Replaces s o row present entries (next_store s rows log)
+replaced orderly stands same by later_by matter s rows log o row next present entries m store can know is swaps writes takes room put = record {
+  store = replaced_store orderly stands same by later_by matter s rows log o row next present entries m store can know swaps writes takes room put;
+  replaced = replaced_made s rows log o row next present entries m know is swaps writes takes put;
+  inodes = replaced_inodes same s rows log o row next present entries m swaps writes put;
+  versions = replaced_versions same matter s rows log o row next present entries m store can know swaps writes put;
+}
+
+-- ---- the inode beside the row
+
+by_later : (a b : ℕ) (entries : List EntryFields) → a ≤ b → AllBy a entries → AllBy b entries
+by_later a b [] le by = tt
+by_later a b (e ∷ entries) le by = (le-leb e.moment b (let at : e.moment ≤ a = leb-true e.moment a by.0 in omega (arith, at, le)), by_later a b entries le by.1)
+
+pub led_later : AllAreDone → RunsEnd → (s : StoreFields) (o : ℕ) (row : Row) (present : Inode) (entries : List EntryFields) (m : ℕ) → Known s o row present entries m → CanReplace s o row present entries → inode_led present entries s.latest ≡ present
+led_later done end s o row present entries m know can = led_last done end present entries s.latest can.run (by_later m s.latest entries know.within.1 know.by)
+
+-- the inode beside each row is its present one, where one was changed with its row
+pub kept_beside : (o : ℕ) (values after : List (ℕ × Inode)) (present : Inode) (latest : ℕ) (s later : StoreFields) (led : ℕ → Inode) → led latest ≡ present
+    → ((q : ℕ) → value_of after q ≡ with_value (value_of values) o present q) → ((q : ℕ) → value_of values q ≡ inode_in s q latest)
+    → ((q t : ℕ) → inode_in later q t ≡ cond (o == q) (Some (led t)) (inode_in s q t)) → (q : ℕ) → value_of after q ≡ inode_in later q latest
+kept_beside o values after present latest s later led last put keeps inodes q =
+    put q ∙ ap (λ (i : Option Inode). cond (o == q) (Some present) i) (keeps q) ∙ ap (λ (i : Inode). cond (o == q) (Some i) (inode_in s q latest)) (sym last) ∙ sym (inodes q latest)

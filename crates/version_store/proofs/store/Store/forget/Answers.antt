@@ -1,0 +1,29 @@
+-- The store's facts are those of the opened store; what is to be shown is of the store as it was passed.
+use Rattle.std.proofs.Common.{◌==◌, cond, Option, None, refl, sym, ap, subst, ◌∙◌}
+use Rattle.codec.specs.declared.inodes.Inode.{Inode}
+use Rattle.version_store.specs.Store.{StoreOf, StoreFields, IsStore, fields_of}
+use Rattle.version_store.specs.Replacing.{IsRemoved}
+use Rattle.version_store.specs.private.Replacing.{Removes}
+use Rattle.version_store.proofs.CheckpointSteps.{next_store}
+use Rattle.version_store.proofs.Replacing.{removed}
+use Rattle.version_store.proofs.store.Store.forget.Goals as goal
+
+pub returns : goal.returns
+returns g c =
+    let s : StoreFields = record { rows = c.self.inside.objects.rows; log = g.B.Blocks.log c.self.inside.table; latest = c.self.inside.latest } in
+    let log = g.B.Blocks.log c.drop_all.new.table in
+    let store = subst (λ (v : StoreOf _). IsStore (fields_of g.B.Blocks.log v)) (sym c.self.view_is) c.requires.store in
+    let gone : IsRemoved s c.args.object (next_store s c.remove.new.self.rows log) = record { rows = c.remove.ensures.rows; nothing = c.drop_all.ensures.nothing; others = c.drop_all.ensures.others; takes = c.drop_all.ensures.takes; latest = refl } in
+    subst (λ (v : StoreOf _). Removes (fields_of g.B.Blocks.log v) c.args.object (next_store s c.remove.new.self.rows log)) c.self.view_is
+    (removed c.what_changes_rest_on.ensures.orderly c.what_changes_rest_on.ensures.row c.what_changes_rest_on.ensures.inode c.what_changes_rest_on.ensures.journal c.what_changes_rest_on.ensures.meaning
+    s c.remove.new.self.rows log c.args.object store gone)
+
+pub invariant_of-self : goal.invariant_of-self
+invariant_of-self g c =
+    let s : StoreFields = record { rows = c.self.inside.objects.rows; log = g.B.Blocks.log c.self.inside.table; latest = c.self.inside.latest } in
+    let log = g.B.Blocks.log c.drop_all.new.table in
+    let store = subst (λ (v : StoreOf _). IsStore (fields_of g.B.Blocks.log v)) (sym c.self.view_is) c.requires.store in
+    let gone : IsRemoved s c.args.object (next_store s c.remove.new.self.rows log) = record { rows = c.remove.ensures.rows; nothing = c.drop_all.ensures.nothing; others = c.drop_all.ensures.others; takes = c.drop_all.ensures.takes; latest = refl } in
+    let made = removed c.what_changes_rest_on.ensures.orderly c.what_changes_rest_on.ensures.row c.what_changes_rest_on.ensures.inode c.what_changes_rest_on.ensures.journal c.what_changes_rest_on.ensures.meaning
+    s c.remove.new.self.rows log c.args.object store gone in
+    λ o. c.remove.ensures.values o ∙ ap (λ (i : Option Inode). cond (c.args.object == o) None i) (c.self.invariant o) ∙ sym (made.inodes o c.self.inside.latest)

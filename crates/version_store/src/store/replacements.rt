@@ -1,0 +1,130 @@
+//! The removal of an object's row, and its replacement by one with another journal.
+ghost use Rattle.std.specs.Prelude.{◌≡◌, ◌⊎◌, ℕ, ◌<◌, ◌≤◌, ◌==◌, if◌then◌else◌, None, Some, IsSome, IfSome, IfErr, OnOk, OnErr, MatchResult, length};
+ghost use Rattle.s4_types.specs.Pointer.{Place};
+ghost use Rattle.s4_types.specs.declared.refusals.Refusal.TheVariants.{NoMemory, NoRoom};
+ghost use Rattle.s4_types.specs.declared.versions.Version.TheVariants.{Absent};
+ghost use Rattle.inode.specs.Contents.{contents_of, meaning};
+ghost use Rattle.object_map.specs.Rows.{row_of};
+ghost use Rattle.version_store.specs.Store.{fields_of, IsStore, pointers_of};
+ghost use Rattle.version_store.specs.Versions.{inode_in, version_in};
+ghost use Rattle.version_store.specs.Replacing.{CanReplace, IsRemoved, IsReplaced, inode_led, pointers_told};
+ghost use Rattle.row_changes.specs.Rewritten.{rewritten_blocks};
+ghost use Rattle.version_store.specs.private.Dropping.{leads_to, is_among};
+ghost use Rattle.version_store.specs.private.Replacing.{Removes, Replaces};
+
+use crate::data_blocks::{drop_all, drop_data, places_of, pointers_of, pointers_told};
+use crate::laws::what_changes_rest_on;
+use crate::store::Store;
+use crate::store::checkpoints::last_entry;
+use block_log::Blocks;
+use codec::{Entry, Inode};
+use object_map::Row;
+use row_changes::{rewrite_row, rewritten_blocks};
+use s4_types::{ObjectId, Ptr, Refusal};
+use std::collections::HashSet;
+use undo_redo::laws::{a_run_has_one_end_and_one_beginning, the_inode_at_a_moment};
+
+impl<B: Blocks> Store<B> {
+    /// An object that has this row, which leads to its data by these pointers, has neither row nor block any more.
+    fn forget(&mut self, object: ObjectId, row: &Row, pointers: &[Option<Ptr>])
+        requires store { IsStore (fields_of B.log self.old) }
+        requires row { row_of self.old.rows object ≡ Some row.now }
+        requires pointers { pointers.now ≡ pointers_of (B.log self.old.table).held object row.now }
+        ensures { Removes (fields_of B.log self.old) object (fields_of B.log self.new) }
+    {
+        what_changes_rest_on();
+        drop_all(self.alloc, &mut self.table, object, row, pointers);
+        self.objects.remove(object);
+    }
+
+    /// An object's row goes, if it has one, and with it its journal, its checkpoint and its data: no block of the object is held
+    /// any more. All other objects are as they were, and no place is taken.
+    ///
+    /// NoMemory alone, where the memory for the list of its data blocks is refused; then nothing has changed.
+    pub fn remove(&mut self, object: ObjectId) -> Result<(), Refusal>
+        requires { IsStore (fields_of B.log self.old) }
+        ensures store { IsStore (fields_of B.log self.new) }
+        ensures removed { OnOk result (IsRemoved (fields_of B.log self.old) object (fields_of B.log self.new)) }
+        ensures inodes { OnOk result ((q t : ℕ) → inode_in (fields_of B.log self.new) q t ≡ (if object == q then None else inode_in (fields_of B.log self.old) q t)) }
+        ensures versions { OnOk result ((q t : ℕ) → version_in (fields_of B.log self.new) q t ≡ (if object == q then Absent else version_in (fields_of B.log self.old) q t)) }
+        ensures refusal { IfErr result (λ e. e ≡ NoMemory) }
+        ensures unchanged { OnErr result (fields_of B.log self.new ≡ fields_of B.log self.old) }
+    {
+        let Some(row) = self.row(object) else {
+            return Ok(());
+        };
+        let pointers = pointers_of(self.alloc, &mut self.table, object, &row)?;
+        self.forget(object, &row, pointers.as_slice());
+        Ok(())
+    }
+
+    /// An object's data blocks that these pointers lead to are dropped, but for those that are kept, and its journal and its
+    /// checkpoint are written afresh, where there is room for them.
+    fn put_replacement(
+        &mut self,
+        object: ObjectId,
+        row: &Row,
+        present: &Inode,
+        entries: &[Entry],
+        pointers: &[Option<Ptr>],
+        kept: &HashSet<Ptr>,
+    )
+        requires store { IsStore (fields_of B.log self.old) }
+        requires row { row_of self.old.rows object ≡ Some row.now }
+        requires can { CanReplace (fields_of B.log self.old) object row.now present.now entries.now }
+        requires pointers { pointers.now ≡ pointers_of (B.log self.old.table).held object row.now }
+        requires kept { (p : Place) → is_among p kept.now.keys ≡ leads_to p (pointers_told present.now entries.now) }
+        requires room { rewritten_blocks entries.now ≤ length (B.log self.old.table).ahead }
+        ensures { Replaces (fields_of B.log self.old) object row.now present.now entries.now (fields_of B.log self.new) }
+    {
+        what_changes_rest_on();
+        the_inode_at_a_moment();
+        a_run_has_one_end_and_one_beginning();
+        let moment = last_entry(&mut self.table, object, row);
+        drop_data(&mut self.table, object, pointers, kept);
+        let Ok(next) = rewrite_row(&mut self.table, object, row, present, moment, entries) else {
+            unreachable!()
+        };
+        self.objects.change(object, &next, present);
+    }
+
+    /// An object's journal becomes these entries, the oldest first, and its present inode this one, which is written as its
+    /// checkpoint with the moment of the last entry that stood. Its data blocks that nothing of the new row leads to are
+    /// dropped. So at each moment the object's inode is the one that the entries lead to, with the bytes that its blocks had.
+    /// All other objects are as they were, and the moment of the last change stays.
+    ///
+    /// NoRoom exactly where fewer places are ahead than the checkpoint and the entries take; else NoMemory alone, where the
+    /// memory for the lists of data blocks is refused. Then nothing has changed. It takes time in proportion to the old
+    /// entries and the new ones.
+    pub fn replace(
+        &mut self,
+        object: ObjectId,
+        present: &Inode,
+        entries: &[Entry],
+    ) -> Result<(), Refusal>
+        requires store { IsStore (fields_of B.log self.old) }
+        requires some { IsSome (row_of self.old.rows object) }
+        requires can { IfSome (row_of self.old.rows object) (λ row. CanReplace (fields_of B.log self.old) object row present.now entries.now) }
+        ensures store { IsStore (fields_of B.log self.new) }
+        ensures replaced { OnOk result (IfSome (row_of self.old.rows object) (λ row. IsReplaced (fields_of B.log self.old) object row present.now entries.now (fields_of B.log self.new))) }
+        ensures inodes { OnOk result ((q t : ℕ) → inode_in (fields_of B.log self.new) q t ≡ (if object == q then Some (inode_led present.now entries.now t) else inode_in (fields_of B.log self.old) q t)) }
+        ensures versions { OnOk result ((q t : ℕ) → version_in (fields_of B.log self.new) q t
+            ≡ (if object == q then meaning (contents_of (B.log self.old.table).held) (inode_led present.now entries.now t) else version_in (fields_of B.log self.old) q t)) }
+        ensures answer { MatchResult result (λ _. rewritten_blocks entries.now ≤ length (B.log self.old.table).ahead)
+            (λ e. ((e ≡ NoRoom) × (length (B.log self.old.table).ahead < rewritten_blocks entries.now))
+            ⊎ ((e ≡ NoMemory) × (rewritten_blocks entries.now ≤ length (B.log self.old.table).ahead))) }
+        ensures unchanged { OnErr result (fields_of B.log self.new ≡ fields_of B.log self.old) }
+    {
+        if self.table.blocks_left() < rewritten_blocks(entries) {
+            return Err(Refusal::NoRoom);
+        }
+        let Some(row) = self.row(object) else {
+            unreachable!()
+        };
+        let pointers = pointers_of(self.alloc, &mut self.table, object, &row)?;
+        let told = pointers_told(self.alloc, &present.pointers, entries)?;
+        let kept = places_of(self.alloc, told.as_slice())?;
+        self.put_replacement(object, &row, present, entries, pointers.as_slice(), &kept);
+        Ok(())
+    }
+}
