@@ -99,11 +99,11 @@ versions_taken stays s store w next a kept lt o t needed =
     ]
 
 -- no object is there whose number wasn't given
-none_unless : (r : Option Row) → is_some r ≡ false → r ≡ None
+pub none_unless : (r : Option Row) → is_some r ≡ false → r ≡ None
 none_unless None e = refl
 none_unless (Some row) e = absurd (true≢false e)
 
-some_none : (r : Option Row) → r ≡ None → is_some r ≡ false
+pub some_none : (r : Option Row) → r ≡ None → is_some r ≡ false
 some_none r e = ap (λ (x : Option Row). is_some x) e
 
 unborn_taken : (s : State) (store later : StoreFields) (w : Timeline) (next : ℕ) (a : Accepted) → IsKeptDrive s store w next
@@ -177,19 +177,3 @@ given_by stays s store w next (SetAttr object attribute) kept ready is = (there_
 given_by stays s store w next (SetWindow window) kept ready is = absurd ready
 given_by stays s store w next (Flush first last) kept ready is = absurd ready
 given_by stays s store w next (FlushO object first last) kept ready is = absurd ready
-
--- ---- upkeep
-
--- objects that have the rows and the versions that they had
-pub kept_alike : (s : State) (store later : StoreFields) (w : Timeline) (next : ℕ) → IsKeptDrive s store w next → IsStore later
-    → ((o t : ℕ) → version_in later o t ≡ version_in store o t) → later.latest ≡ store.latest
-    → ((o : ℕ) → is_some (row_of later.rows o) ≡ is_some (row_of store.rows o)) → IsKeptDrive s later w next
-kept_alike s store later w next kept is_store versions latest rows = let past : store.latest ≤ s.clock = kept.past in record {
-  window = kept.window;
-  next = kept.next;
-  store = is_store;
-  versions = λ o t needed. versions o t ∙ kept.versions o t needed;
-  past = omega (arith, latest);
-  unborn = λ o ge. none_unless (row_of later.rows o) (rows o ∙ some_none (row_of store.rows o) (kept.unborn o ge));
-  sound = kept.sound;
-}

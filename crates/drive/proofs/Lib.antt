@@ -9,3 +9,4 @@ pub mod Told
 pub mod Storing
 pub mod Served
 pub mod Parts
+pub mod Leading

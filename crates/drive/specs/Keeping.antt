@@ -22,6 +22,10 @@ HasVersions store s = (o t : ℕ) → IsNeeded s o t → version_in store o t �
 abbrev pub DecodesWhereVisible : StoreFields → State → Type 0
 DecodesWhereVisible store s = (o t : ℕ) → IsVisible s o t → version_in store o t ≡ version_of s o t
 
+-- the versions that are needed are, over other blocks and rows, what they are over these
+abbrev pub KeepsVersions : State → StoreFields → StoreFields → Type 0
+KeepsVersions s store later = (o t : ℕ) → IsNeeded s o t → version_in later o t ≡ version_in store o t
+
 -- Objects, window and the next object's number are those of a state: its versions, its clock, window, floor and spans, its
 -- next number. Nothing was stored later than its clock, and no object is there whose number wasn't given.
 pub record IsKeptDrive (s : State) (objects : StoreFields) (w : Timeline) (number : ℕ) : Type 0 where

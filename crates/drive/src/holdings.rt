@@ -1,5 +1,5 @@
 //! What a drive holds, for the layers above it.
-ghost use Rattle.std.specs.Prelude.{◌≡◌, ℕ, ◌<◌, None, MatchBool, IfSome, IfNone, IfOk, IfErr};
+ghost use Rattle.std.specs.Prelude.{◌≡◌, ℕ, ◌<◌, ◌≤◌, None, MatchBool, IfSome, IfNone, IfOk, IfErr};
 ghost use Rattle.s4_types.specs.declared.refusals.Refusal.TheVariants.{NoMemory};
 ghost use Rattle.s4_model.specs.Visible.{IsSeenBetween};
 ghost use Rattle.s4_model.specs.Sound.{IsSound};
@@ -22,13 +22,15 @@ use segment_word::Naming;
 impl<J: Naming> Drive<J> {
     /// Shows what always holds of a drive: at each moment that can be read, the blocks of each object decode to exactly the
     /// version that the history tells; that history begins with the drive's base and is sound; the frames are those
-    /// of the table that `J` names; the objects stand on their blocks; and each block that is held has 512 bytes.
+    /// of the table that `J` names; the objects stand on their blocks, and none was changed later than the clock; and each
+    /// block that is held has 512 bytes.
     pub fn rules(&self)
         ensures decodes { DecodesWhereVisible (store_of self.now) (state_in self.now) }
         ensures base { (history_of self.now).base ≡ J.base }
         ensures frames { self.now.store.table.drive.table ≡ J.frames }
         ensures sound { IsSound (state_in self.now) }
         ensures store { IsStore (store_of self.now) }
+        ensures past { (store_of self.now).latest ≤ (state_in self.now).clock }
         ensures whole { HoldsWholeBlocks self.now.store.table }
     {
         let _ = &self.next;

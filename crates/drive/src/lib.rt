@@ -6,6 +6,9 @@
 //! so, and what is refused leaves objects, window and spans. After each call a session has seen all accepted changes, and only
 //! an accepted one of its own adds to its numbers.
 //!
+//! Frames are marked and released, an object's row removed and its journal replaced, where every version that can be read
+//! stays; and it stays whatever they answer.
+//!
 //! A Read can be had as a plan, which is fetched without the drive; one that is asked as a request is planned and fetched at once.
 //!
 //! A read of the present costs the blocks of its own bytes, and a change those, its journal's and the sealing of the frames
@@ -22,6 +25,7 @@ mod holdings;
 mod new_drive;
 mod plans;
 mod reads;
+mod replacements;
 mod requests;
 mod session;
 mod upkeep;

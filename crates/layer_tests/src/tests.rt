@@ -1,6 +1,7 @@
 //! The layers, from frames up to the rows of objects.
 mod changes;
 mod checkpoint_blocks;
+mod cleaned_chains;
 mod empty_chains;
 mod emptying;
 mod inodes;
@@ -10,4 +11,5 @@ mod memories;
 mod numbers;
 mod requests;
 mod seats;
+mod undoing;
 mod windows;

@@ -7,7 +7,7 @@ use Rattle.std.specs.BTreeMap.{is_at}
 use Rattle.std.specs.Ordering.{nat_cmp}
 use Rattle.object_map.specs.declared.map.Row.{Row}
 use Rattle.object_map.specs.declared.map.Kept.{Kept}
-use Rattle.object_map.specs.Objects.{value_of, with_value, without_value, IsNextAbove, MapOf, parts_of, IsKeptOf, Puts, PutsRow, Removes}
+use Rattle.object_map.specs.Objects.{value_of, with_value, without_value, IsNextAbove, MapOf, parts_of, IsKeptOf, Puts, PutsRow, PutsValue, Removes}
 
 pub on_ok : {T E : Type 0} {P Q : Type 0} → (P → Q) → (result : Result T E) → OnOk result P → OnOk result Q
 on_ok f (Ok x) is = f is
@@ -90,6 +90,34 @@ module _ {V : Type 0} where
       → IfSome (value_of es o) (λ old. (q : ℕ) → value_of fs q ≡ with_value (value_of es) o (record old { row = record row { stamp = old.row.stamp + 1 } }) q)
       → IfSome (value_of (parts_of es).rows o) (λ old. PutsRow (parts_of es) o (record row { stamp = old.stamp + 1 }) (parts_of fs))
   row_changed es fs o row put = subst (λ (r : Option Row). IfSome r (λ old. PutsRow (parts_of es) o (record row { stamp = old.stamp + 1 }) (parts_of fs))) (sym (row_at es o)) (row_changed_by es fs o row (value_of es o) refl put)
+
+  row_stays : (es fs : List (ℕ × Kept V)) (o : ℕ) (value : V) (old : Kept V) → value_of es o ≡ Some old
+      → ((q : ℕ) → value_of fs q ≡ with_value (value_of es) o (record old { value = value }) q) → (q : ℕ) → value_of (parts_of fs).rows q ≡ value_of (parts_of es).rows q
+  row_stays es fs o value old there put q = elim (cases_Bool (o == q)) [
+    | inl here ↦
+        (puts es fs o (record old { value = value }) put).rows q ∙ cond-true (o == q) (Some old.row) (value_of (parts_of es).rows q) here
+        ∙ sym (ap (λ (k : ℕ). value_of (parts_of es).rows k) (sym (eqb-true o q here)) ∙ row_at es o ∙ ap (option_map (λ k. k.row)) there)
+    | inr other ↦ (puts es fs o (record old { value = value }) put).rows q ∙ cond-false (o == q) (Some old.row) (value_of (parts_of es).rows q) other
+  ]
+
+  value_changed_by : (es fs : List (ℕ × Kept V)) (o : ℕ) (value : V) (found : Option (Kept V)) → value_of es o ≡ found
+      → IfSome found (λ old. (q : ℕ) → value_of fs q ≡ with_value (value_of es) o (record old { value = value }) q)
+      → IfSome (option_map (λ k. k.row) found) (λ old. PutsValue (parts_of es) o value (parts_of fs))
+  value_changed_by es fs o value None is put = put
+  value_changed_by es fs o value (Some old) is put = record {
+    rows = row_stays es fs o value old is put;
+    values = (puts es fs o (record old { value = value }) put).values;
+  }
+
+  -- where another value is put
+  pub value_changed : (es fs : List (ℕ × Kept V)) (o : ℕ) (value : V)
+      → IfSome (value_of es o) (λ old. (q : ℕ) → value_of fs q ≡ with_value (value_of es) o (record old { value = value }) q)
+      → IfSome (value_of (parts_of es).rows o) (λ old. PutsValue (parts_of es) o value (parts_of fs))
+  value_changed es fs o value put = subst (λ (r : Option Row). IfSome r (λ old. PutsValue (parts_of es) o value (parts_of fs))) (sym (row_at es o)) (value_changed_by es fs o value (value_of es o) refl put)
+
+  -- the value of what is kept
+  pub value_was : (es : List (ℕ × Kept V)) (o : ℕ) → option_map (λ (k : Kept V). k.value) (value_of es o) ≡ value_of (parts_of es).values o
+  value_was es o = sym (value_at es o)
 
   stamps_by : (found : Option (Kept V)) → IfSome (option_map (λ k. k.row) found) (λ old. old.stamp + 1 < 2 ^ 64) → IfSome found (λ old. old.row.stamp + 1 < 2 ^ 64)
   stamps_by None is = is

@@ -1,5 +1,5 @@
-ghost use Rattle.std.specs.Prelude.{◌≡◌, ℕ, ◌+◌, ◌<◌, ◌^◌, Some, None, IsSome, IfSome, IfNone, IfOk, IfErr, OnOk, OnErr, [], length, option_copied};
-ghost use Rattle.object_map.specs.Objects.{value_of, without_value, PutsAt, IsNextAbove, IsKeptOf, Puts, PutsRow, Removes};
+ghost use Rattle.std.specs.Prelude.{◌≡◌, ℕ, ◌+◌, ◌<◌, ◌^◌, Some, None, IsSome, IfSome, IfNone, IfOk, IfErr, OnOk, OnErr, [], length, option_copied, option_map};
+ghost use Rattle.object_map.specs.Objects.{value_of, without_value, PutsAt, IsNextAbove, IsKeptOf, Puts, PutsRow, PutsValue, Removes};
 ghost use Rattle.object_map.specs.Rows.{row_of, fresh_row};
 ghost use Rattle.s4_types.specs.declared.refusals.Refusal.TheVariants.{NoMemory};
 
@@ -7,6 +7,7 @@ use s4_types::{Moment, ObjectId, Ptr, Refusal};
 use std::alloc::Global;
 use std::collections::BTreeMap;
 use std::marker::Model;
+use std::mem;
 use std::ops::Bound;
 
 /// Where an object's versions stand.
@@ -46,8 +47,8 @@ impl Row {
 }
 
 /// What is kept of an object.
-#[derive(Clone, Copy)]
-pub struct Kept<V: Copy + Drop> {
+#[derive(Drop)]
+pub struct Kept<V: Drop> {
     /// Where its versions stand.
     pub row: Row,
     /// What stands beside the row.
@@ -56,11 +57,11 @@ pub struct Kept<V: Copy + Drop> {
 
 /// A map from objects to their rows, with a value beside each.
 #[derive(Drop)]
-pub struct ObjectMap<V: Copy + Drop> {
+pub struct ObjectMap<V: Drop> {
     objects: BTreeMap<u64, Kept<V>>,
 }
 
-impl<V: Copy + Drop> Model for ObjectMap<V> {
+impl<V: Drop> Model for ObjectMap<V> {
     ghost use Rattle.object_map.specs.Objects.{MapOf, parts_of};
 
     ghost Value = { MapOf V };
@@ -91,21 +92,19 @@ fn next_of(old: &Row, row: &Row) -> Row
 }
 
 // At a key another row, whose stamp is one above the old one's, and another value.
-fn replace<V: Copy + Drop>(map: &mut BTreeMap<u64, Kept<V>>, key: u64, row: &Row, value: &V)
+fn replace<V: Drop>(map: &mut BTreeMap<u64, Kept<V>>, key: u64, row: &Row, value: V)
     requires there { IfSome (value_of map.old.entries key) (λ old. old.row.stamp + 1 < 2 ^ 64) }
     requires some { IsSome (value_of map.old.entries key) }
-    ensures changed { IfSome (value_of map.old.entries key) (λ old. PutsAt map.old.entries key (record { row = record row.now { stamp = old.row.stamp + 1 }; value = value.now }) map.new.entries) }
+    ensures changed { IfSome (value_of map.old.entries key) (λ old. PutsAt map.old.entries key (record { row = record row.now { stamp = old.row.stamp + 1 }; value = value }) map.new.entries) }
 {
     if let Some(kept) = map.get_mut(&key) {
-        *kept = Kept {
-            row: next_of(&kept.row, row),
-            value: *value,
-        };
+        kept.row = next_of(&kept.row, row);
+        kept.value = value;
     }
 }
 
 // At a key another row, whose stamp is one above the old one's; the value stays.
-fn replace_row<V: Copy + Drop>(map: &mut BTreeMap<u64, Kept<V>>, key: u64, row: &Row)
+fn replace_row<V: Drop>(map: &mut BTreeMap<u64, Kept<V>>, key: u64, row: &Row)
     requires there { IfSome (value_of map.old.entries key) (λ old. old.row.stamp + 1 < 2 ^ 64) }
     requires some { IsSome (value_of map.old.entries key) }
     ensures changed { IfSome (value_of map.old.entries key) (λ old. PutsAt map.old.entries key (record old { row = record row.now { stamp = old.row.stamp + 1 } }) map.new.entries) }
@@ -113,6 +112,15 @@ fn replace_row<V: Copy + Drop>(map: &mut BTreeMap<u64, Kept<V>>, key: u64, row: 
     if let Some(place) = map.get_mut(&key) {
         place.row = next_of(&place.row, row);
     }
+}
+
+// At a key another value; the row stays. Answers the value that stood there.
+fn exchange<V: Drop>(map: &mut BTreeMap<u64, Kept<V>>, key: u64, value: V) -> Option<V>
+    ensures was { result ≡ option_map (λ k. k.value) (value_of map.old.entries key) }
+    ensures changed { IfSome (value_of map.old.entries key) (λ old. PutsAt map.old.entries key (record old { value = value }) map.new.entries) }
+{
+    let kept = map.get_mut(&key)?;
+    Some(mem::replace(&mut kept.value, value))
 }
 
 // The value at a key goes, if there is one.
@@ -132,7 +140,7 @@ fn next_key<V: Drop>(map: &BTreeMap<u64, V>, key: u64) -> Option<u64>
     Some(*next)
 }
 
-impl<V: Copy + Drop> ObjectMap<V> {
+impl<V: Drop> ObjectMap<V> {
     /// A map without objects.
     pub fn new(alloc: Global) -> Self
         ensures rows { result.rows ≡ [] }
@@ -152,25 +160,21 @@ impl<V: Copy + Drop> ObjectMap<V> {
 
     /// A row for an object that has none, without journal and checkpoint and with stamp 0, and a value beside it. NoMemory, and
     /// nothing has changed, where the map couldn't grow.
-    pub fn add(&mut self, object: ObjectId, created: Moment, value: &V) -> Result<(), Refusal>
+    pub fn add(&mut self, object: ObjectId, created: Moment, value: V) -> Result<(), Refusal>
         requires fresh { row_of self.old.rows object ≡ None }
-        ensures added { OnOk result (Puts self.old object (fresh_row created) value.now self.new) }
+        ensures added { OnOk result (Puts self.old object (fresh_row created) value self.new) }
         ensures refusal { IfErr result (λ e. e ≡ NoMemory) }
         ensures unchanged { OnErr result (self.new ≡ self.old) }
     {
         let row = Row::fresh(created);
-        put(
-            &mut self.objects,
-            object.number(),
-            Kept { row, value: *value },
-        )
+        put(&mut self.objects, object.number(), Kept { row, value })
     }
 
     /// An object's row becomes this one, but for the stamp, which is one above the old row's; and the value beside it this.
-    pub fn change(&mut self, object: ObjectId, row: &Row, value: &V)
+    pub fn change(&mut self, object: ObjectId, row: &Row, value: V)
         requires there { IfSome (row_of self.old.rows object) (λ old. old.stamp + 1 < 2 ^ 64) }
         requires some { IsSome (row_of self.old.rows object) }
-        ensures changed { IfSome (row_of self.old.rows object) (λ old. Puts self.old object (record row.now { stamp = old.stamp + 1 }) value.now self.new) }
+        ensures changed { IfSome (row_of self.old.rows object) (λ old. Puts self.old object (record row.now { stamp = old.stamp + 1 }) value self.new) }
     {
         replace(&mut self.objects, object.number(), row, value);
     }
@@ -182,6 +186,15 @@ impl<V: Copy + Drop> ObjectMap<V> {
         ensures changed { IfSome (row_of self.old.rows object) (λ old. PutsRow self.old object (record row.now { stamp = old.stamp + 1 }) self.new) }
     {
         replace_row(&mut self.objects, object.number(), row);
+    }
+
+    /// The value beside an object's row becomes this one, and the row stays. Answers the value that stood there, and none where
+    /// the object has no row: then the value is let go.
+    pub fn exchange(&mut self, object: ObjectId, value: V) -> Option<V>
+        ensures was { result ≡ value_of self.old.values object }
+        ensures changed { IfSome (row_of self.old.rows object) (λ old. PutsValue self.old object value self.new) }
+    {
+        exchange(&mut self.objects, object.number(), value)
     }
 
     /// An object's row and value go, if it has any.

@@ -153,7 +153,8 @@ fewer_across rows after held later was across = record {
       both_same (entries_of later o r) (entries_of later q t) (entries_of held o r) (entries_of held q t) (was o r e).1 (was q t f).1 (across.apart o q r t less (was o r e).0 (was q t f).0);
 }
 
-fresh_entries : (held : Place → Option Stored) (o created : ℕ) → entries_of held o (fresh_row created) ≡ []
+-- an object that was just created has no entries
+pub fresh_entries : (held : Place → Option Stored) (o created : ℕ) → entries_of held o (fresh_row created) ≡ []
 unfolding chain_entries chain_links links_from joined
 fresh_entries held o created = refl
 

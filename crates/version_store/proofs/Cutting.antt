@@ -17,7 +17,7 @@ use Rattle.time_read.specs.Rows.{entries_of, first_of, inode_of, checkpoint_of}
 use Rattle.time_read.specs.Orderly.{IsOrderlyChain, IsFromTo, inode_behind}
 use Rattle.version_store.specs.Store.{StoreFields, IsStore, IsObject, sides_of, sides_told, pointers_kept}
 use Rattle.version_store.specs.Checkpointing.{last_entry}
-use Rattle.version_store.specs.Replacing.{CanReplace}
+use Rattle.version_store.specs.Replacing.{CanReplace, inode_led}
 use Rattle.version_store.specs.private.Below.{GroupsAscend, RowsKeepTheMaking}
 use Rattle.version_store.specs.private.Replacing.{AllAreDone, RunsEnd, RunsBegin, RunsJoin, InodesJoin, EntriesPart, LaterEntriesRun, LaterGroups}
 use Rattle.version_store.proofs.Telling.{inode_told}
@@ -143,17 +143,20 @@ cut_order laws created latest t first entries split some order =
 
 -- ---- the whole
 
+-- from the cut on the inode is the one that was current
+led_later : Laws → (first : Inode) (entries : List EntryFields) (t at : ℕ) → entries ≡ entries_by t entries ++ entries_past t entries → t ≤ at
+    → inode_after first entries at ≡ inode_after (inode_after first entries t) (entries_past t entries) at
+led_later laws first entries t at split le =
+    ap (λ (es : List EntryFields). inode_after first es at) split
+    ∙ laws.inode_join first (entries_by t entries) (entries_past t entries) at
+    ∙ ap (λ (i : Inode). inode_after i (entries_past t entries) at) (laws.done first (entries_by t entries) at (by_all t at entries le))
+
 -- at each moment the inode is the one that was current then, or that which was current when the entries were cut
 led_cases : Laws → (first : Inode) (entries : List EntryFields) (t at : ℕ) (P : Inode → Type 0) → entries ≡ entries_by t entries ++ entries_past t entries → ((u : ℕ) → P (inode_after first entries u))
     → P (inode_after (inode_after first entries t) (entries_past t entries) at)
 led_cases laws first entries t at P split all = elim (cases_lt at t) [
   | inl lt ↦ subst P (sym (ap (λ (es : List EntryFields). redone_all es (inode_after first entries t)) (past_later t at entries lt))) (all t)
-  | inr le ↦
-      let whole : inode_after first entries at ≡ inode_after (inode_after first entries t) (entries_past t entries) at =
-      ap (λ (es : List EntryFields). inode_after first es at) split
-      ∙ laws.inode_join first (entries_by t entries) (entries_past t entries) at
-      ∙ ap (λ (i : Inode). inode_after i (entries_past t entries) at) (laws.done first (entries_by t entries) at (by_all t at entries le)) in
-      subst P whole (all at)
+  | inr le ↦ subst P (led_later laws first entries t at split le) (all at)
 ]
 
 tidy_after : (s : StoreFields) (o : ℕ) (row : Row) → IsObject s.log.held o row s.latest → (u : ℕ) → Tidy (contents_of s.log.held) (inode_after (first_of s.log.held o row) (entries_of s.log.held o row) u)
@@ -166,6 +169,31 @@ last_is laws s o row object =
     laws.end (first_of s.log.held o row) object.stands.last (entries_of s.log.held o row) object.stands.run
     ∙ sym (laws.done (first_of s.log.held o row) (entries_of s.log.held o row) s.latest object.by.entries)
 
+split_at : Laws → (s : StoreFields) (o t : ℕ) (row : Row) → IsObject s.log.held o row s.latest → entries_of s.log.held o row ≡ entries_by t (entries_of s.log.held o row) ++ entries_past t (entries_of s.log.held o row)
+split_at laws s o t row object = laws.parts (entries_of s.log.held o row) 0 t (laws.ascend (entries_of s.log.held o row) object.stands.groups)
+
+-- the later entries lead from the inode at the moment to the present one
+cut_run : Laws → (s : StoreFields) (o t : ℕ) (row : Row) → IsObject s.log.held o row s.latest
+    → Run (inode_after (first_of s.log.held o row) (entries_of s.log.held o row) t) (entries_past t (entries_of s.log.held o row)) (inode_of s.log.held o row s.latest)
+cut_run laws s o t row object =
+    let first : Inode = first_of s.log.held o row in
+    let entries : List EntryFields = entries_of s.log.held o row in
+    subst (λ (i : Inode). Run (inode_after first entries t) (entries_past t entries) i) (last_is laws s o row object)
+    (laws.behind first object.stands.last entries 0 t (laws.ascend entries object.stands.groups) object.stands.run)
+
+cut_start : Laws → (s : StoreFields) (o t : ℕ) (row : Row) → IsObject s.log.held o row s.latest
+    → inode_after (first_of s.log.held o row) (entries_of s.log.held o row) t ≡ undone_all (entries_past t (entries_of s.log.held o row)) (inode_of s.log.held o row s.latest)
+cut_start laws s o t row object =
+    laws.begin (inode_after (first_of s.log.held o row) (entries_of s.log.held o row) t) (inode_of s.log.held o row s.latest) (entries_past t (entries_of s.log.held o row)) (cut_run laws s o t row object)
+
+pub cut_shows : Laws → (s : StoreFields) (o t at : ℕ) (row : Row) → IsStore s → row_of s.rows o ≡ Some row → t ≤ at
+    → inode_led (inode_of s.log.held o row s.latest) (entries_past t (entries_of s.log.held o row)) at ≡ inode_of s.log.held o row at
+unfolding inode_of
+cut_shows laws s o t at row store there le =
+    let object = store.objects o row there in
+    sym (led_later laws (first_of s.log.held o row) (entries_of s.log.held o row) t at (split_at laws s o t row object) le
+    ∙ ap (λ (i : Inode). inode_after i (entries_past t (entries_of s.log.held o row)) at) (cut_start laws s o t row object))
+
 pub can_cut : Laws → (s : StoreFields) (o t : ℕ) (row : Row) → IsStore s → row_of s.rows o ≡ Some row → 0 < length (entries_past t (entries_of s.log.held o row))
     → CanReplace s o row (inode_of s.log.held o row s.latest) (entries_past t (entries_of s.log.held o row))
 can_cut laws s o t row store there some =
@@ -176,10 +204,10 @@ can_cut laws s o t row store there some =
     let back : List EntryFields = entries_past t entries in
     let present : Inode = inode_of held o row s.latest in
     let ascend : moments_ascend_from 0 entries ≡ true = laws.ascend entries object.stands.groups in
-    let split : entries ≡ entries_by t entries ++ back = laws.parts entries 0 t ascend in
+    let split : entries ≡ entries_by t entries ++ back = split_at laws s o t row object in
     let count : length entries ≡ length (entries_by t entries) + length back = ap length split ∙ length-append (entries_by t entries) back in
-    let run : Run (inode_after first entries t) back present = subst (λ (i : Inode). Run (inode_after first entries t) back i) (last_is laws s o row object) (laws.behind first object.stands.last entries 0 t ascend object.stands.run) in
-    let start : inode_after first entries t ≡ undone_all back present = laws.begin (inode_after first entries t) present back run in
+    let run : Run (inode_after first entries t) back present = cut_run laws s o t row object in
+    let start : inode_after first entries t ≡ undone_all back present = cut_start laws s o t row object in
     let bytes = past_bytes t entries in
     let limit = object.stands.chain.limit in
     record {

@@ -8,6 +8,7 @@ pub mod Steps
 pub mod Subjects
 pub mod Kind
 pub mod Present
+pub mod Beside
 pub mod Planned
 pub mod Costing
 pub mod Turning

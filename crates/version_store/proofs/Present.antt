@@ -21,7 +21,7 @@ use Rattle.version_store.specs.Versions.{inode_by, inode_in, version_by, version
 use Rattle.version_store.specs.Costs.{row_or_fresh, subject_inode, room}
 use Rattle.version_store.specs.Checkpointing.{last_entry, is_behind}
 use Rattle.version_store.specs.private.CheckpointSteps.{CanCheckpoint}
-use Rattle.object_map.specs.Objects.{value_of, with_value}
+use Rattle.object_map.specs.Objects.{with_value}
 use Rattle.version_store.specs.private.Below.{RowInodeStays, LastInodeStays, FreshInode, BlankCount, BlankHoles, GroupsAscend, RowsKeepTheMaking}
 use Rattle.version_store.proofs.Frames.{growth_stays, journal_stays, inode_in_stays}
 use Rattle.version_store.specs.Taking.{IsThere}
@@ -89,32 +89,32 @@ no_row s o t none = no_row_by s.log.held o t (row_of s.rows o) none
 -- ---- what is kept beside the rows
 
 -- of each object its present inode is kept
-abbrev pub Keeps : List (ℕ × Inode) → StoreFields → Type 0
-Keeps kept s = (q : ℕ) → value_of kept q ≡ inode_in s q s.latest
+abbrev pub Keeps : (ℕ → Option Inode) → StoreFields → Type 0
+Keeps kept s = (q : ℕ) → kept q ≡ inode_in s q s.latest
 
 -- data that is appended leaves the inodes
-pub grown_keeps : RowInodeStays → (s : StoreFields) (log : Log) (object : ℕ) (blocks : List (List ℕ)) (kept : List (ℕ × Inode)) → GrowsBy object blocks s.log log → Keeps kept s → Keeps kept (record s { log = log })
+pub grown_keeps : RowInodeStays → (s : StoreFields) (log : Log) (object : ℕ) (blocks : List (List ℕ)) (kept : ℕ → Option Inode) → GrowsBy object blocks s.log log → Keeps kept s → Keeps kept (record s { log = log })
 grown_keeps same s log object blocks kept grows keeps q =
     keeps q ∙ sym (inode_in_stays same s (record s { log = log }) q s.latest refl (growth_stays object blocks s.log log q grows))
 
 -- a row that was added begins with the inode that was
-pub added_keeps : FreshInode → (s : StoreFields) (rows : List (ℕ × Row)) (o m : ℕ) (first : Inode) (kept after : List (ℕ × Inode)) → first ≡ blank m
-    → ((q : ℕ) → row_of rows q ≡ with_row (row_of s.rows) o (fresh_row m) q) → ((q : ℕ) → value_of after q ≡ with_value (value_of kept) o first q) → Keeps kept s → Keeps after (record s { rows = rows })
+pub added_keeps : FreshInode → (s : StoreFields) (rows : List (ℕ × Row)) (o m : ℕ) (first : Inode) (kept after : ℕ → Option Inode) → first ≡ blank m
+    → ((q : ℕ) → row_of rows q ≡ with_row (row_of s.rows) o (fresh_row m) q) → ((q : ℕ) → after q ≡ with_value kept o first q) → Keeps kept s → Keeps after (record s { rows = rows })
 added_keeps fresh s rows o m first kept after is put kept_put keeps q = elim (cases_Bool (o == q)) [
   | inl here ↦
-      kept_put q ∙ cond-true (o == q) (Some first) (value_of kept q) here
+      kept_put q ∙ cond-true (o == q) (Some first) (kept q) here
       ∙ ap (λ (i : Inode). Some i) (is ∙ sym (fresh s.log.held q m s.latest))
       ∙ sym (ap (inode_by s.log.held q s.latest) (put q ∙ cond-true (o == q) (Some (fresh_row m)) (row_of s.rows q) here))
   | inr other ↦
-      kept_put q ∙ cond-false (o == q) (Some first) (value_of kept q) other
+      kept_put q ∙ cond-false (o == q) (Some first) (kept q) other
       ∙ keeps q
       ∙ sym (ap (inode_by s.log.held q s.latest) (put q ∙ row_beside (row_of s.rows) o q (fresh_row m) other))
 ]
 
 -- an object that turns to its next inode has that one from then on, and no other object has another
-pub turned_keeps : RowInodeStays → LastInodeStays → (s later : StoreFields) (o m stamp : ℕ) (j : Inode) (row next : Row) (kept after : List (ℕ × Inode)) → ((q : ℕ) (r : Row) → row_of s.rows q ≡ Some r → IsObject s.log.held q r s.latest) → s.latest ≤ m
+pub turned_keeps : RowInodeStays → LastInodeStays → (s later : StoreFields) (o m stamp : ℕ) (j : Inode) (row next : Row) (kept after : ℕ → Option Inode) → ((q : ℕ) (r : Row) → row_of s.rows q ≡ Some r → IsObject s.log.held q r s.latest) → s.latest ≤ m
     → inode_of later.log.held o next m ≡ (if nat_le m m then j else inode_of s.log.held o row m) → OnlyJournalChanged o s.log.held later.log.held
-    → ((q : ℕ) → row_of later.rows q ≡ with_row (row_of s.rows) o (record next { stamp = stamp }) q) → ((q : ℕ) → value_of after q ≡ with_value (value_of kept) o j q)
+    → ((q : ℕ) → row_of later.rows q ≡ with_row (row_of s.rows) o (record next { stamp = stamp }) q) → ((q : ℕ) → after q ≡ with_value kept o j q)
     → later.latest ≡ m → Keeps kept s → Keeps after later
 unfolding inode_of
 turned_keeps same last s later o m stamp j row next kept after objects le inode only put kept_put latest keeps q = elim (cases_Bool (o == q)) [
@@ -123,11 +123,11 @@ turned_keeps same last s later o m stamp j row next kept after objects le inode 
       let present : inode_in later o m ≡ Some j =
       ap (inode_by later.log.held o m) (put o ∙ row_here (row_of s.rows) o (record next { stamp = stamp }))
       ∙ ap (λ (i : Inode). Some i) (inode ∙ cond-true (nat_le m m) j (inode_of s.log.held o row m) (le-leb m m (omega arith))) in
-      kept_put q ∙ cond-true (o == q) (Some j) (value_of kept q) here
+      kept_put q ∙ cond-true (o == q) (Some j) (kept q) here
       ∙ sym (ap (λ (t : ℕ). inode_in later q t) latest ∙ ap (λ (k : ℕ). inode_in later k m) (sym is) ∙ present)
   | inr other ↦
       let there : inode_in later q m ≡ inode_in s q m = inode_in_stays same s later q m (put q ∙ row_beside (row_of s.rows) o q (record next { stamp = stamp }) other) (journal_stays o q s.log.held later.log.held only other) in
-      kept_put q ∙ cond-false (o == q) (Some j) (value_of kept q) other
+      kept_put q ∙ cond-false (o == q) (Some j) (kept q) other
       ∙ keeps q
       ∙ sym (ap (λ (t : ℕ). inode_in later q t) latest ∙ there ∙ inode_by_present last s.log.held q s.latest m (row_of s.rows q) (objects q) le)
 ]

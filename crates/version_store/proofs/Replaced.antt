@@ -17,7 +17,7 @@ use Rattle.inode.specs.Contents.{contents_of, meaning}
 use Rattle.inode.specs.Tidiness.{Tidy, PointersHeld, AgreeAt}
 use Rattle.inode.specs.Laws.{OnlyItsBlocksMatter}
 use Rattle.object_map.specs.declared.map.Row.{Row}
-use Rattle.object_map.specs.Objects.{value_of, with_value}
+use Rattle.object_map.specs.Objects.{with_value}
 use Rattle.object_map.specs.Rows.{row_of, with_row}
 use Rattle.time_read.specs.Rows.{IsRow, entries_of, checkpoint_of, inode_of}
 use Rattle.time_read.specs.Orderly.{IsOrderly, IsOrderlyChain, IsFromTo}
@@ -300,8 +300,8 @@ pub led_later : AllAreDone → RunsEnd → (s : StoreFields) (o : ℕ) (row : Ro
 led_later done end s o row present entries m know can = led_last done end present entries s.latest can.run (by_later m s.latest entries know.within.1 know.by)
 
 -- the inode beside each row is its present one, where one was changed with its row
-pub kept_beside : (o : ℕ) (values after : List (ℕ × Inode)) (present : Inode) (latest : ℕ) (s later : StoreFields) (led : ℕ → Inode) → led latest ≡ present
-    → ((q : ℕ) → value_of after q ≡ with_value (value_of values) o present q) → ((q : ℕ) → value_of values q ≡ inode_in s q latest)
-    → ((q t : ℕ) → inode_in later q t ≡ cond (o == q) (Some (led t)) (inode_in s q t)) → (q : ℕ) → value_of after q ≡ inode_in later q latest
+pub kept_beside : (o : ℕ) (values after : ℕ → Option Inode) (present : Inode) (latest : ℕ) (s later : StoreFields) (led : ℕ → Inode) → led latest ≡ present
+    → ((q : ℕ) → after q ≡ with_value values o present q) → ((q : ℕ) → values q ≡ inode_in s q latest)
+    → ((q t : ℕ) → inode_in later q t ≡ cond (o == q) (Some (led t)) (inode_in s q t)) → (q : ℕ) → after q ≡ inode_in later q latest
 kept_beside o values after present latest s later led last put keeps inodes q =
     put q ∙ ap (λ (i : Option Inode). cond (o == q) (Some present) i) (keeps q) ∙ ap (λ (i : Inode). cond (o == q) (Some i) (inode_in s q latest)) (sym last) ∙ sym (inodes q latest)

@@ -1,5 +1,8 @@
--- A store whose table has fewer places ahead and holds what it held.
-use Rattle.std.proofs.Common.{◌≡◌, ℕ, ◌+◌, ◌≤◌, List, [], ◌∷◌, ◌++◌, length, Option, refl, sym, ap, subst, arith, length-append}
+-- A store whose table has other places ahead and holds what it held.
+use Rattle.std.proofs.Common.{◌≡◌, ℕ, ◌+◌, ◌^◌, ◌<◌, ◌≤◌, List, [], ◌∷◌, ◌++◌, length, Option, refl, sym, ap, subst, arith, length-append}
+use Rattle.std.specs.Prelude.{OnOk, OnErr}
+use Rattle.std.specs.declared.result.Result.{Result}
+use Rattle.std.specs.declared.result.Result.TheVariants.{Ok, Err}
 use Rattle.s4_types.specs.Pointer.{Place}
 use Rattle.block_log.specs.Log.{Log, Stored}
 use Rattle.segment_table.specs.Table.{Table}
@@ -29,21 +32,30 @@ fewer_ahead old new one idle sealed =
 abbrev pub over : StoreFields → Log → StoreFields
 over s log = record s { log = log }
 
-pub shrunk_store : (s : StoreFields) (log : Log) → log.held ≡ s.log.held → length log.ahead ≤ length s.log.ahead → log.spent ≡ s.log.spent → IsStore s → IsStore (over s log)
-shrunk_store s log same fewer spent store =
+-- no fewer places were ever taken, and those with the ones ahead are few enough
+pub store_over : (s : StoreFields) (log : Log) → log.held ≡ s.log.held → s.log.spent ≤ log.spent → log.spent + length log.ahead < 2 ^ 46 → IsStore s → IsStore (over s log)
+store_over s log same spent bounded store =
     subst (λ (h : Place → Option Stored). IsStore (over s (record log { held = h }))) (sym same) (record {
       objects = store.objects;
       orderly = store.orderly;
       named = store.named;
       nothing = store.nothing;
       stamps = λ o row e. let bound = store.stamps o row e in omega (arith, spent, bound);
-      bounded = let bound = store.bounded in omega (arith, fewer, spent, bound);
+      bounded = bounded;
       ascending = store.ascending;
       apart = store.apart;
     })
+
+pub shrunk_store : (s : StoreFields) (log : Log) → log.held ≡ s.log.held → length log.ahead ≤ length s.log.ahead → log.spent ≡ s.log.spent → IsStore s → IsStore (over s log)
+shrunk_store s log same fewer spent store = let bound = store.bounded in store_over s log same (omega (arith, spent)) (omega (arith, fewer, spent, bound)) store
 
 pub same_inodes : (s : StoreFields) (log : Log) → log.held ≡ s.log.held → (o t : ℕ) → inode_in (over s log) o t ≡ inode_in s o t
 same_inodes s log same o t = ap (λ (h : Place → Option Stored). inode_by h o t (row_of s.rows o)) same
 
 pub same_versions : (s : StoreFields) (log : Log) → log.held ≡ s.log.held → (o t : ℕ) → version_in (over s log) o t ≡ version_in s o t
 same_versions s log same o t = ap (λ (h : Place → Option Stored). version_by h (inode_by h o t (row_of s.rows o))) same
+
+-- no fewer places were ever taken, whatever a release answers
+pub no_fewer_spent : {T E : Type 0} (r : Result T E) (old new : Log) → OnOk r (old.spent ≤ new.spent) → OnErr r (new ≡ old) → old.spent ≤ new.spent
+no_fewer_spent (Ok x) old new grown same = grown
+no_fewer_spent (Err e) old new grown same = let equal : new.spent ≡ old.spent = ap (λ (log : Log). log.spent) same in omega (arith, equal)

@@ -7,4 +7,5 @@ pub mod Taking
 pub mod Laws
 pub mod Checkpointing
 pub mod Replacing
+pub mod Emptying
 pub mod private

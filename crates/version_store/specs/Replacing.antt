@@ -94,3 +94,8 @@ pub record IsReplaced (s : StoreFields) (o : ℕ) (row : Row) (present : Inode) 
 abbrev pub AJournalCanBeCut : Type 0
 AJournalCanBeCut = (s : StoreFields) (o t : ℕ) (row : Row) → IsStore s → row_of s.rows o ≡ Some row → 0 < length (entries_past t (entries_of s.log.held o row))
     → CanReplace s o row (inode_of s.log.held o row s.latest) (entries_past t (entries_of s.log.held o row))
+
+-- From that moment on they lead to the inodes that the object has.
+abbrev pub ACutJournalShowsTheSame : Type 0
+ACutJournalShowsTheSame = (s : StoreFields) (o t at : ℕ) (row : Row) → IsStore s → row_of s.rows o ≡ Some row → t ≤ at
+    → inode_led (inode_of s.log.held o row s.latest) (entries_past t (entries_of s.log.held o row)) at ≡ inode_of s.log.held o row at

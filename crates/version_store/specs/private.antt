@@ -3,3 +3,4 @@ pub mod CheckpointSteps
 pub mod Below
 pub mod Dropping
 pub mod Replacing
+pub mod Beside

@@ -1,7 +1,7 @@
 //! Laws of stores, for the layers above: each function does nothing, and its contract is the law.
 
 ghost use Rattle.version_store.specs.Laws.{ObjectsStay, InodesStay, VersionsStay, ThePresentStays, ChangesBeginWithThePresent, ChangesBeginWithThePresentVersion, TheAliveAreThere, HeldIsWhatRowsName, EachHeldBlockIsNamed, InodesPointToWhatRowsName};
-ghost use Rattle.version_store.specs.Replacing.{AJournalCanBeCut};
+ghost use Rattle.version_store.specs.Replacing.{AJournalCanBeCut, ACutJournalShowsTheSame};
 ghost use Rattle.version_store.specs.private.Below.{ChangesStand};
 
 use block_log::laws::{one_place_has_one_name, places_taken_add_up};
@@ -69,6 +69,19 @@ pub fn inodes_point_to_what_rows_name()
 /// An object's journal can be replaced by its own later entries, where there are some, with the present inode as it is.
 pub fn a_journal_can_be_cut()
     ensures { AJournalCanBeCut }
+{
+    runs_join_and_part();
+    a_run_has_one_end_and_one_beginning();
+    the_inode_at_a_moment();
+    the_inode_at_a_moment_stands_in_the_run();
+    groups_join_and_part();
+    a_row_keeps_the_making();
+}
+
+/// From a moment on an object's inodes are those that its later entries lead to, ending with the present one: also where there
+/// are none, and the present inode is current since.
+pub fn a_cut_journal_shows_the_same()
+    ensures { ACutJournalShowsTheSame }
 {
     runs_join_and_part();
     a_run_has_one_end_and_one_beginning();

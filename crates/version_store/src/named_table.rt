@@ -1,16 +1,20 @@
 //! The segment table of the drive that a type names.
-ghost use Rattle.std.specs.Prelude.{◌≡◌, ℕ, ◌<◌, ◌≤◌, ◌-◌, ◌↔◌, ◌⊎◌, ◌++◌, true, false, Some, None, length, min, take, drop, IsSome, IfSome, IfOk, IfErr};
+ghost use Rattle.std.specs.Prelude.{◌≡◌, ◌≢◌, ℕ, ◌<◌, ◌≤◌, ◌+◌, ◌-◌, ◌^◌, ◌↔◌, ◌⊎◌, ◌++◌, true, false, Some, None, length, min, take, drop, IsSome, IsOk, IfSome, IfOk, IfErr, OnOk, OnErr, MatchResult};
 ghost use Rattle.std.specs.List.{list_any};
 ghost use Rattle.s4_types.specs.declared.limits.TheConstants.{OBJECT_BLOCKS, OBJECT_BYTES};
-ghost use Rattle.s4_types.specs.declared.refusals.Refusal.TheVariants.{NoMemory, Busy, NoSpace};
+ghost use Rattle.s4_types.specs.declared.refusals.Refusal.TheVariants.{NoMemory, Busy, NoSpace, InUse};
 ghost use Rattle.block_log.specs.Log.{appended, dropped};
 ghost use Rattle.inode.specs.Contents.{contents_of, bytes_of};
 ghost use Rattle.inode.specs.Tidiness.{PointersLead};
+ghost use Rattle.segment_word.specs.Frames.{Emptied};
+ghost use Rattle.segment_word.specs.Layout.{frame_at};
 ghost use Rattle.segment_word.specs.Counting.{pins_in};
+ghost use Rattle.segment_word.specs.Handles.{HasMissed};
 ghost use Rattle.segment_table.specs.Table.{held_at, HoldsWholeBlocks};
 ghost use Rattle.segment_table.specs.Room.{is_filling, numbers, rest_of, places_ahead, log_of, pointers_in};
-ghost use Rattle.segment_table.specs.Changes.{IsFilling, NoneIsFilling, IsSealedIn};
+ghost use Rattle.segment_table.specs.Changes.{IsFilling, NoneIsFilling, IsSealedIn, IsMarked, IsReleased, IsAheadAgain};
 ghost use Rattle.time_read.specs.Plans.{IsAt, pieces_of, bytes_planned, pins_held, is_pinned, is_pinned_in};
+ghost use Rattle.version_store.specs.Emptying.{CanBeEmptied};
 
 use block_log::{Block, BlockKind, Blocks};
 use codec::Inode;
@@ -52,11 +56,13 @@ impl<J: Naming> NamedTable<J> {
         }
     }
 
-    /// Shows that its frames are the drive's, that at most one of them is open, and that each held block has 512 bytes.
+    /// Shows that its frames are the drive's, that at most one of them is open, that each held block has 512 bytes, and that
+    /// places that were ever taken and those ahead are fewer than 2^46.
     pub(crate) fn rules(&self)
         ensures frames { self.now.drive.table ≡ J.frames }
         ensures one_open { length (numbers is_filling 0 self.now.drive.frames) ≤ 1 }
         ensures whole { HoldsWholeBlocks self.now }
+        ensures bounded { (log_of self.now).spent + length (log_of self.now).ahead < 2 ^ 46 }
     {
         self.table.rules();
     }
@@ -72,6 +78,32 @@ impl<J: Naming> NamedTable<J> {
     {
         self.table.rules();
         self.table.seal_open();
+    }
+
+    /// `SegmentTable::mark`.
+    pub(crate) fn mark(&mut self, frame: u16) -> Result<(), Refusal>
+        ensures marked { OnOk result (IsMarked frame self.old self.new) }
+        ensures answer { MatchResult result (λ _. CanBeEmptied frame self.old) (λ e. (e ≡ InUse) × (CanBeEmptied frame self.old → ⊥)) }
+        ensures log { log_of self.new ≡ log_of self.old }
+        ensures refused { OnErr result (self.new ≡ self.old) }
+    {
+        self.table.mark(frame)
+    }
+
+    /// `SegmentTable::release`.
+    pub(crate) fn release(&mut self, frame: u16) -> Result<(), Refusal>
+        ensures released { OnOk result (IsReleased frame self.old self.new) }
+        ensures held { (log_of self.new).held ≡ (log_of self.old).held }
+        ensures spent { OnOk result ((log_of self.old).spent ≤ (log_of self.new).spent) }
+        ensures again { OnOk result ((frame_at self.old.drive.frames frame).generation + 2 < 2 ^ 32 → IsAheadAgain frame self.old self.new) }
+        ensures retired { OnOk result ((frame_at self.old.drive.frames frame).generation + 2 ≡ 2 ^ 32 → places_ahead self.new ≡ places_ahead self.old) }
+        ensures missed { OnErr result ((frame_at self.old.drive.frames frame).phase ≡ Emptied → HasMissed frame self.old.drive self.new.drive) }
+        ensures idle { OnErr result ((frame_at self.old.drive.frames frame).phase ≢ Emptied → self.new ≡ self.old) }
+        ensures refused { OnErr result ((self.new.drive.frames ≡ self.old.drive.frames) × (self.new.slots ≡ self.old.slots)) }
+        ensures log { OnErr result (log_of self.new ≡ log_of self.old) }
+        ensures refusal { IfErr result (λ e. e ≡ InUse) }
+    {
+        self.table.release(frame)
     }
 
     /// `SegmentTable::held_in`.

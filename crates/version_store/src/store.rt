@@ -11,11 +11,13 @@ ghost use Rattle.version_store.specs.Costs.{room};
 
 mod changes;
 mod checkpoints;
+mod emptying;
 mod frames;
 mod replacements;
 mod seals;
 
 use crate::laws::the_present_stays;
+use crate::presents::Present;
 use block_log::Blocks;
 use codec::{Entry, Inode};
 use inode::laws::held_pointers_lead;
@@ -25,31 +27,32 @@ use s4_types::{Moment, ObjectId, Refusal};
 use std::alloc::Global;
 use std::marker::Model;
 use time_read::laws::the_last_inode_is_current;
+use undo_redo::laws::a_run_has_one_end_and_one_beginning;
 
 /// The rows of all objects, and the table that their blocks are in.
 #[derive(Drop)]
 pub struct Store<B: Blocks> {
     alloc: Global,
-    // The present inode stands beside each row, so that neither a change nor a read of the present walks a journal. An inode
-    // takes 672 bytes, its row some 60; with the gaps of the tree both take up to 1,600. At most 15,300 objects can have a row,
-    // each with at least one block of 512 bytes in the table: so at worst this takes three times the memory of the table's blocks.
-    objects: ObjectMap<Inode>,
+    // The present inode and an index of the journal stand beside each row, so that neither a change nor a read walks a journal.
+    // An inode takes 672 bytes, its row some 60, the index's own part some 80; with the gaps of the tree these take up to 1,800.
+    // At most 15,300 objects can have a row, each with at least one block of 512 bytes in the table: so at worst this takes
+    // four times the memory of the table's blocks, and the indexes' lists as much as the journals at most, but for growth and
+    // attributes.
+    objects: ObjectMap<Present>,
     table: B,
     // The moment of the last change, 0 where there was none.
     latest: Moment,
 }
 
 impl<B: Blocks> Model for Store<B> {
-    ghost use Rattle.std.specs.Prelude.{◌≡◌, ℕ};
     ghost use Rattle.version_store.specs.Store.{StoreOf, fields_of};
-    ghost use Rattle.version_store.specs.Versions.{inode_in};
-    ghost use Rattle.object_map.specs.Objects.{value_of};
+    ghost use Rattle.version_store.specs.private.Beside.{IsBeside};
 
     ghost Value = { StoreOf B };
 
     ghost view = { λ s. record { rows = s.objects.rows; table = s.table; latest = s.latest } };
 
-    ghost invariant = { λ s. (o : ℕ) → value_of s.objects.values o ≡ inode_in (fields_of B.log (record { rows = s.objects.rows; table = s.table; latest = s.latest })) o s.latest };
+    ghost invariant = { λ s. IsBeside s.objects.values (fields_of B.log (record { rows = s.objects.rows; table = s.table; latest = s.latest })) };
 }
 
 impl<B: Blocks> Store<B> {
@@ -105,12 +108,12 @@ impl<B: Blocks> Store<B> {
         ensures { option_copied result ≡ inode_in (fields_of B.log self.now) object self.now.latest }
     {
         let kept = self.objects.get(object)?;
-        Some(&kept.value)
+        Some(&kept.value.inode)
     }
 
-    /// The inode of an object at a moment, and none where it has no row. For a moment before the store's last change, of
-    /// whatever object, this object's journal is walked from its newest entry back to the first that isn't later; for any
-    /// other no block is read.
+    /// The inode of an object at a moment, and none where it has no row. Takes no memory. For a moment before the store's last
+    /// change, of whatever object, the object's later changes are undone, the newest first: by the index, or where memory for
+    /// that was refused by a walk of the journal. No block is read but by such a walk.
     pub fn inode_at(&mut self, object: ObjectId, at: Moment) -> Option<Inode>
         requires { IsStore (fields_of B.log self.old) }
         ensures inode { result ≡ inode_in (fields_of B.log self.old) object at }
@@ -118,11 +121,24 @@ impl<B: Blocks> Store<B> {
     {
         the_last_inode_is_current();
         the_present_stays();
+        a_run_has_one_end_and_one_beginning();
         let kept = self.objects.get(object)?;
+        let present = &kept.value;
         if self.latest <= at {
-            return Some(kept.value);
+            return Some(present.inode);
         }
-        Some(time_read::inode_at(&mut self.table, object, &kept.row, &kept.value, at))
+        let Some(index) = &present.index else {
+            return Some(time_read::inode_at(
+                &mut self.table,
+                object,
+                &kept.row,
+                &present.inode,
+                at,
+            ));
+        };
+        let mut inode = present.inode;
+        index.undo_past(at, &mut inode);
+        Some(inode)
     }
 
     /// The journal entries of an object, the oldest first, and none where it has no row.

@@ -4,6 +4,7 @@ ghost use Rattle.s4_types.specs.Sizes.{IsFrameCount};
 
 use crate::tests::asking::Row;
 use crate::tests::drives::{LogDrive, Party, is_answered};
+use crate::tests::rewriting::Answered;
 use crate::tests::{Scene, play};
 use s4_types::{ObjectId, Refusal};
 use std::alloc::Global;
@@ -26,6 +27,14 @@ pub(super) enum Act {
     Checkpoints(u64, Result<(), Refusal>),
     /// A checkpoint of an object is written at this moment, and leaves the inode of the moment.
     Writes(u64, u64),
+    /// A frame is marked, and the answer.
+    Marks(u16, Result<(), Refusal>),
+    /// A frame is released, and the answer.
+    Releases(u16, Result<(), Refusal>),
+    /// An object's row is removed, where the drive shows that it is absent from this moment on and nothing before can be read.
+    Removes(u64, u64, Answered),
+    /// An object's journal is cut to its entries behind this moment, where there are some and nothing before can be read.
+    Cuts(u64, u64, Answered),
     /// The drive's rules are shown.
     Rules,
     /// Blocks of room.
@@ -106,6 +115,22 @@ fn is_written<D: LogDrive>(drive: &mut D, object: u64, moment: u64) -> bool {
     answer.is_ok() && written && before == after
 }
 
+/// The answer to a removal, or the second one where memory was refused.
+fn removed<D: LogDrive>(drive: &mut D, object: u64, from: u64) -> Result<Answered, Fail> {
+    match drive.remove(object, from)? {
+        Some(Err(Refusal::NoMemory)) => drive.remove(object, from),
+        told => Ok(told),
+    }
+}
+
+/// The answer to a cut, or the second one where memory was refused.
+fn cut<D: LogDrive>(drive: &mut D, object: u64, at: u64) -> Result<Answered, Fail> {
+    match drive.cut(object, at)? {
+        Some(Err(Refusal::NoMemory)) => drive.cut(object, at),
+        told => Ok(told),
+    }
+}
+
 fn holds<D: LogDrive>(party: &mut Party<D>, act: Act) -> Result<bool, Fail> {
     match act {
         Act::Asks(row) => is_answered(party, row),
@@ -115,6 +140,10 @@ fn holds<D: LogDrive>(party: &mut Party<D>, act: Act) -> Result<bool, Fail> {
         }
         Act::Checkpoints(object, told) => Ok(party.drive.checkpoint(object) == told),
         Act::Writes(object, moment) => Ok(is_written(&mut party.drive, object, moment)),
+        Act::Marks(frame, told) => Ok(party.drive.mark(frame) == told),
+        Act::Releases(frame, told) => Ok(party.drive.release(frame) == told),
+        Act::Removes(object, from, told) => Ok(removed(&mut party.drive, object, from)? == told),
+        Act::Cuts(object, at, told) => Ok(cut(&mut party.drive, object, at)? == told),
         Act::Rules => {
             party.drive.rules();
             Ok(true)

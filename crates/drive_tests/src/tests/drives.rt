@@ -1,5 +1,6 @@
 //! The drives as the tests call them. No call here has a clause, so that what calls them is proved without their contracts.
 use crate::tests::asking::{Ask, Row, reply_of, request_of};
+use crate::tests::rewriting::{Answered, cut_at, remove_from};
 use codec::{Entry, Inode};
 use drive::{Drive, Session};
 use s4_model::PlainDrive;
@@ -80,6 +81,16 @@ pub(super) trait LogDrive: Drop {
 
     fn checkpoint(&mut self, object: u64) -> Result<(), Refusal>;
 
+    fn mark(&mut self, frame: u16) -> Result<(), Refusal>;
+
+    fn release(&mut self, frame: u16) -> Result<(), Refusal>;
+
+    /// Removes a row where the drive shows that its object is absent from a moment on, and that nothing before can be read.
+    fn remove(&mut self, object: u64, from: u64) -> Result<Answered, Fail>;
+
+    /// Cuts a journal to its entries behind a moment where there are some, and the drive shows that nothing before can be read.
+    fn cut(&mut self, object: u64, at: u64) -> Result<Answered, Fail>;
+
     fn rules(&self);
 
     fn clock(&self) -> u64;
@@ -134,6 +145,22 @@ impl<J: Naming> LogDrive for Drive<J> {
 
     fn checkpoint(&mut self, object: u64) -> Result<(), Refusal> {
         Drive::checkpoint(self, ObjectId::new(object))
+    }
+
+    fn mark(&mut self, frame: u16) -> Result<(), Refusal> {
+        Drive::mark(self, frame)
+    }
+
+    fn release(&mut self, frame: u16) -> Result<(), Refusal> {
+        Drive::release(self, frame)
+    }
+
+    fn remove(&mut self, object: u64, from: u64) -> Result<Answered, Fail> {
+        remove_from(self, ObjectId::new(object), Moment::new(from))
+    }
+
+    fn cut(&mut self, object: u64, at: u64) -> Result<Answered, Fail> {
+        cut_at(self, ObjectId::new(object), Moment::new(at))
     }
 
     fn rules(&self) {

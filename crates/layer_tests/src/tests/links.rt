@@ -48,7 +48,7 @@ fn can_be_later(inode: &Inode, moment: u64) -> bool
 }
 
 /// The entries that lead to an inode which is alive, where there are any.
-fn told_between(before: &Inode, after: &Inode, moment: u64) -> Option<Entries> {
+pub(crate) fn told_between(before: &Inode, after: &Inode, moment: u64) -> Option<Entries> {
     if before.created != after.created
         || after.pointers.as_slice().len() != 48
         || !can_be_earlier(before)

@@ -10,7 +10,7 @@ fn three_rows<R: Abort>(rt: &R, mut map: ObjectMap<u8>) -> Result<ObjectMap<u8>,
         let object = ObjectId::new(u64::from(number));
         assert!(rt; map.get(object).is_none());
         if map.get(object).is_none() {
-            map.add(object, Moment::new(created), &number)?;
+            map.add(object, Moment::new(created), number)?;
         }
     }
     Ok(map)
@@ -67,7 +67,7 @@ fn point(map: &mut ObjectMap<u8>, object: ObjectId, value: Option<u8>) {
         ..kept.row
     };
     match value {
-        Some(value) => map.change(object, &row, &value),
+        Some(value) => map.change(object, &row, value),
         None => map.change_row(object, &row),
     }
 }

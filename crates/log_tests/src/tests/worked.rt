@@ -156,8 +156,8 @@ fn put(rows: &mut ObjectMap<u8>, row: Row) {
 fn one_row(alloc: Global) -> Result<ObjectMap<u8>, Refusal> {
     let mut rows = ObjectMap::new(alloc);
     let object = ObjectId::new(OBJECT);
-    if rows.add(object, Moment::new(10), &0).is_err() {
-        rows.add(object, Moment::new(10), &0)?;
+    if rows.add(object, Moment::new(10), 0).is_err() {
+        rows.add(object, Moment::new(10), 0)?;
     }
     Ok(rows)
 }

@@ -13,6 +13,7 @@ ghost use Rattle.version_store.specs.private.Turning.{CanTake, CanTurn, Turns, I
 
 use crate::costs::{object_of, refusal};
 use crate::laws::{changes_begin_with_the_present, what_changes_rest_on};
+use crate::presents::{Present, take_index};
 use crate::store::Store;
 use block_log::Blocks;
 use codec::{Attribute, Inode};
@@ -21,6 +22,7 @@ use object_map::Row;
 use row_changes::laws::a_fresh_row_stands;
 use row_changes::record_change;
 use s4_types::{Change, Moment, ObjectId, Refusal};
+use undo_index::UndoIndex;
 use undo_redo::blank;
 use undo_redo::laws::a_blank_inode_has_holes_alone;
 
@@ -79,7 +81,12 @@ impl<B: Blocks> Store<B> {
         else {
             unreachable!()
         };
-        self.objects.change(object, &next, after);
+        let index = take_index(&mut self.objects, object, before, after, moment);
+        let present = Present {
+            inode: *after,
+            index,
+        };
+        self.objects.change(object, &next, present);
         self.latest = moment;
     }
 
@@ -141,7 +148,12 @@ impl<B: Blocks> Store<B> {
         ensures unchanged { OnErr result (fields_of B.log self.new ≡ fields_of B.log self.old) }
     {
         a_fresh_row_stands();
-        self.objects.add(object, moment, first)
+        let present = Present {
+            inode: *first,
+            index: Some(UndoIndex::new(self.alloc)),
+        };
+        self.objects.add(object, moment, present)?;
+        Ok(())
     }
 
     /// Takes a creation. NoMemory where its row and its inode couldn't be stored; then nothing has changed.

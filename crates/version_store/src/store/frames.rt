@@ -109,6 +109,7 @@ impl<J: Naming> Store<NamedTable<J>> {
         let Some(kept) = self.objects.get(object) else {
             unreachable!()
         };
-        self.table.plan(self.alloc, &kept.value, offset, wanted)
+        self.table
+            .plan(self.alloc, &kept.value.inode, offset, wanted)
     }
 }

@@ -14,6 +14,7 @@ ghost use Rattle.version_store.specs.private.Replacing.{Removes, Replaces};
 
 use crate::data_blocks::{drop_all, drop_data, places_of, pointers_of, pointers_told};
 use crate::laws::what_changes_rest_on;
+use crate::presents::{Present, index_of};
 use crate::store::Store;
 use crate::store::checkpoints::last_entry;
 use block_log::Blocks;
@@ -85,7 +86,11 @@ impl<B: Blocks> Store<B> {
         let Ok(next) = rewrite_row(&mut self.table, object, row, present, moment, entries) else {
             unreachable!()
         };
-        self.objects.change(object, &next, present);
+        let beside = Present {
+            inode: *present,
+            index: index_of(self.alloc, entries),
+        };
+        self.objects.change(object, &next, beside);
     }
 
     /// An object's journal becomes these entries, the oldest first, and its present inode this one, which is written as its

@@ -5,7 +5,7 @@ use Rattle.segment_table.specs.Room.{log_of}
 use Rattle.version_store.specs.Store.{fields_of}
 use Rattle.version_store.specs.Checkpointing.{Checkpoints}
 use Rattle.drive.specs.Fields.{DriveFields, store_of}
-use Rattle.drive.proofs.Kept.{kept_alike}
+use Rattle.drive.proofs.Leading.{kept_alike}
 use Rattle.drive.proofs.drive.Drive.checkpoint.Goals as goal
 
 pub invariant_of-self : goal.invariant_of-self

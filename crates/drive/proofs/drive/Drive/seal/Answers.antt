@@ -5,7 +5,7 @@ use Rattle.object_map.specs.Rows.{row_of}
 use Rattle.s4_model.specs.State.{state_of}
 use Rattle.segment_table.specs.Room.{log_of}
 use Rattle.version_store.specs.Store.{fields_of}
-use Rattle.drive.proofs.Kept.{kept_alike}
+use Rattle.drive.proofs.Leading.{kept_alike}
 use Rattle.drive.proofs.drive.Drive.seal.Goals as goal
 
 pub invariant_of-self : goal.invariant_of-self

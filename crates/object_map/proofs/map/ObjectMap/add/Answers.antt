@@ -16,7 +16,7 @@ pub returns-clause-added : goal.returns-clause-added
 returns-clause-added g c =
     let objects = c.self.inside.objects.entries in
     let after = c.put.new.map.entries in
-    let put = subst (λ (o : ℕ). OnOk c.put.result ((q : ℕ) → value_of after q ≡ with_value (value_of objects) o (record { row = c.fresh-row.result; value = c.args.value.now }) q)) c.number.ensures c.put.ensures.put in
-    on_ok (λ is. subst (λ (m : MapOf _). Puts m c.args.object (fresh_row c.args.created) c.args.value.now (parts_of after)) c.self.view_is
-    (subst (λ (r : Row). Puts (parts_of objects) c.args.object r c.args.value.now (parts_of after)) c.fresh-row.ensures (puts objects after c.args.object (record { row = c.fresh-row.result; value = c.args.value.now }) is)))
+    let put = subst (λ (o : ℕ). OnOk c.put.result ((q : ℕ) → value_of after q ≡ with_value (value_of objects) o (record { row = c.fresh-row.result; value = c.args.value }) q)) c.number.ensures c.put.ensures.put in
+    on_ok (λ is. subst (λ (m : MapOf _). Puts m c.args.object (fresh_row c.args.created) c.args.value (parts_of after)) c.self.view_is
+    (subst (λ (r : Row). Puts (parts_of objects) c.args.object r c.args.value (parts_of after)) c.fresh-row.ensures (puts objects after c.args.object (record { row = c.fresh-row.result; value = c.args.value }) is)))
     c.put.result put

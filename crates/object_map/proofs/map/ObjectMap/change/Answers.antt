@@ -15,8 +15,8 @@ returns g c =
     let objects = c.self.inside.objects.entries in
     let after = c.replace.new.map.entries in
     let row : Row = c.args.row.now in
-    let put = subst (λ (o : ℕ). IfSome (value_of objects o) (λ old. (q : ℕ) → value_of after q ≡ with_value (value_of objects) o (record { row = record row { stamp = old.row.stamp + 1 }; value = c.args.value.now }) q)) c.number.ensures c.replace.ensures.changed in
+    let put = subst (λ (o : ℕ). IfSome (value_of objects o) (λ old. (q : ℕ) → value_of after q ≡ with_value (value_of objects) o (record { row = record row { stamp = old.row.stamp + 1 }; value = c.args.value }) q)) c.number.ensures c.replace.ensures.changed in
     record {
-      changed = subst (λ (m : MapOf _). IfSome (row_of m.rows c.args.object) (λ old. Puts m c.args.object (record row { stamp = old.stamp + 1 }) c.args.value.now (parts_of after))) c.self.view_is
-          (changed objects after c.args.object row c.args.value.now put);
+      changed = subst (λ (m : MapOf _). IfSome (row_of m.rows c.args.object) (λ old. Puts m c.args.object (record row { stamp = old.stamp + 1 }) c.args.value (parts_of after))) c.self.view_is
+          (changed objects after c.args.object row c.args.value put);
     }

@@ -4,6 +4,7 @@ use Rattle.codec.specs.declared.inodes.Inode.{Inode}
 use Rattle.version_store.specs.Store.{StoreOf, StoreFields, IsStore, fields_of}
 use Rattle.version_store.specs.Replacing.{IsRemoved}
 use Rattle.version_store.specs.private.Replacing.{Removes}
+use Rattle.version_store.proofs.Beside.{gone_inode, removed_indexed}
 use Rattle.version_store.proofs.CheckpointSteps.{next_store}
 use Rattle.version_store.proofs.Replacing.{removed}
 use Rattle.version_store.proofs.store.Store.forget.Goals as goal
@@ -26,4 +27,7 @@ invariant_of-self g c =
     let gone : IsRemoved s c.args.object (next_store s c.remove.new.self.rows log) = record { rows = c.remove.ensures.rows; nothing = c.drop_all.ensures.nothing; others = c.drop_all.ensures.others; takes = c.drop_all.ensures.takes; latest = refl } in
     let made = removed c.what_changes_rest_on.ensures.orderly c.what_changes_rest_on.ensures.row c.what_changes_rest_on.ensures.inode c.what_changes_rest_on.ensures.journal c.what_changes_rest_on.ensures.meaning
     s c.remove.new.self.rows log c.args.object store gone in
-    λ o. c.remove.ensures.values o ∙ ap (λ (i : Option Inode). cond (c.args.object == o) None i) (c.self.invariant o) ∙ sym (made.inodes o c.self.inside.latest)
+    record {
+      inodes = λ q. gone_inode c.self.inside.objects.values c.remove.new.self.values c.args.object c.remove.ensures.values q ∙ ap (λ (i : Option Inode). cond (c.args.object == q) None i) (c.self.invariant.inodes q) ∙ sym (made.inodes q c.self.inside.latest);
+      indexes = removed_indexed s (next_store s c.remove.new.self.rows log) c.args.object c.self.inside.objects.values c.remove.new.self.values gone c.remove.ensures.values c.self.invariant.indexes;
+    }

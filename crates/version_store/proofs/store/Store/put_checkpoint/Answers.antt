@@ -1,10 +1,12 @@
 -- The row's facts are those of the opened store; what is to be shown is of the store as it was passed.
-use Rattle.std.proofs.Common.{◌+◌, Option, IfSome, sym, subst, ◌∙◌}
+use Rattle.std.proofs.Common.{◌+◌, Option, IfSome, sym, ap, subst, ◌∙◌}
+use Rattle.std.specs.Prelude.{option_map}
 use Rattle.object_map.specs.declared.map.Row.{Row}
 use Rattle.object_map.specs.Objects.{PutsRow}
 use Rattle.version_store.specs.Store.{StoreOf, StoreFields, fields_of}
 use Rattle.version_store.specs.private.CheckpointSteps.{CanCheckpoint, Checkpointed}
-use Rattle.version_store.proofs.CheckpointSteps.{Rewrites, known, rewritten}
+use Rattle.version_store.proofs.Beside.{checkpointed_indexed}
+use Rattle.version_store.proofs.CheckpointSteps.{Rewrites, known, rewritten, next_store}
 use Rattle.version_store.proofs.store.Store.put_checkpoint.Goals as goal
 
 pub record_checkpoint-requires : goal.record_checkpoint-requires
@@ -56,4 +58,7 @@ invariant_of-self g c =
     let put = subst (λ (r : Option Row). IfSome r (λ old. PutsRow c.self.inside.objects c.args.object (record c.in-Ok.next { stamp = old.stamp + 1 }) c.change_row.new.self)) can.there c.change_row.ensures.changed in
     let made = rewritten c.what_changes_rest_on.ensures.orderly c.what_changes_rest_on.ensures.row c.what_changes_rest_on.ensures.inode c.what_changes_rest_on.ensures.journal c.what_changes_rest_on.ensures.later c.what_changes_rest_on.ensures.last c.what_changes_rest_on.ensures.meaning
     s c.change_row.new.self.rows log c.args.object c.args.row.now c.in-Ok.next c.args.inode.now c.args.moment can know writes put.rows in
-    λ o. put.values o ∙ c.self.invariant o ∙ sym (made.stands.inodes o c.self.inside.latest)
+    record {
+      inodes = λ q. ap (option_map (λ p. p.inode)) (put.values q) ∙ c.self.invariant.inodes q ∙ sym (made.stands.inodes q c.self.inside.latest);
+      indexes = checkpointed_indexed s (next_store s c.change_row.new.self.rows log) c.args.object c.args.row.now c.self.inside.objects.values c.change_row.new.self.values can.there made.made put.values c.self.invariant.indexes;
+    }

@@ -12,6 +12,9 @@ use Rattle.version_store.specs.Replacing.{OnlyDataChanged, CanReplace, inode_led
 use Rattle.row_changes.specs.Rewritten.{rewritten_blocks}
 use Rattle.version_store.specs.private.Dropping.{leads_to, is_among}
 use Rattle.version_store.specs.private.Replacing.{Replaces}
+use Rattle.version_store.specs.declared.presents.Present.{Present}
+use Rattle.version_store.specs.private.Beside.{inode_beside}
+use Rattle.version_store.proofs.Beside.{inode_put, replaced_indexed}
 use Rattle.version_store.proofs.Spending.{none_more}
 use Rattle.version_store.proofs.CheckpointSteps.{next_store}
 use Rattle.version_store.proofs.Replaced.{Rewrites, known, swapped, replaced, led_later, kept_beside}
@@ -77,7 +80,8 @@ returns g c =
     } in
     let takes = subst (λ (n : ℕ). TakesPlaces n s.log log) (none_more (rewritten_blocks entries)) (c.what_changes_rest_on.ensures.places_add_up 0 (rewritten_blocks entries) s.log between log (subst (λ (l : Log). TakesPlaces 0 l between) c.last_entry-moment.ensures.same c.drop_data.ensures.takes) c.in-Ok.ensures.takes) in
     let room = subst (λ (v : StoreOf _). rewritten_blocks entries ≤ length (g.B.Blocks.log v.table).ahead) (sym c.self.view_is) c.requires.room in
-    let put = subst (λ (r : Option Row). IfSome r (λ old. Puts c.self.inside.objects o (record c.in-Ok.next { stamp = old.stamp + 1 }) present c.change.new.self)) there c.change.ensures.changed in
+    let beside : Present = record { inode = present; index = c.index_of.result } in
+    let put = subst (λ (r : Option Row). IfSome r (λ old. Puts c.self.inside.objects o (record c.in-Ok.next { stamp = old.stamp + 1 }) beside c.change.new.self)) there c.change.ensures.changed in
     let made = replaced c.what_changes_rest_on.ensures.orderly c.what_changes_rest_on.ensures.row c.what_changes_rest_on.ensures.inode c.what_changes_rest_on.ensures.journal c.what_changes_rest_on.ensures.later c.what_changes_rest_on.ensures.meaning
     s c.change.new.self.rows log o row c.in-Ok.next present entries m store can know c.last_entry-moment.ensures.moment swaps writes takes room put.rows in
     subst (λ (v : StoreOf _). Replaces (fields_of g.B.Blocks.log v) o row present entries (next_store s c.change.new.self.rows log)) c.self.view_is made
@@ -112,8 +116,14 @@ invariant_of-self g c =
     } in
     let takes = subst (λ (n : ℕ). TakesPlaces n s.log log) (none_more (rewritten_blocks entries)) (c.what_changes_rest_on.ensures.places_add_up 0 (rewritten_blocks entries) s.log between log (subst (λ (l : Log). TakesPlaces 0 l between) c.last_entry-moment.ensures.same c.drop_data.ensures.takes) c.in-Ok.ensures.takes) in
     let room = subst (λ (v : StoreOf _). rewritten_blocks entries ≤ length (g.B.Blocks.log v.table).ahead) (sym c.self.view_is) c.requires.room in
-    let put = subst (λ (r : Option Row). IfSome r (λ old. Puts c.self.inside.objects o (record c.in-Ok.next { stamp = old.stamp + 1 }) present c.change.new.self)) there c.change.ensures.changed in
+    let beside : Present = record { inode = present; index = c.index_of.result } in
+    let put = subst (λ (r : Option Row). IfSome r (λ old. Puts c.self.inside.objects o (record c.in-Ok.next { stamp = old.stamp + 1 }) beside c.change.new.self)) there c.change.ensures.changed in
     let made = replaced c.what_changes_rest_on.ensures.orderly c.what_changes_rest_on.ensures.row c.what_changes_rest_on.ensures.inode c.what_changes_rest_on.ensures.journal c.what_changes_rest_on.ensures.later c.what_changes_rest_on.ensures.meaning
     s c.change.new.self.rows log o row c.in-Ok.next present entries m store can know c.last_entry-moment.ensures.moment swaps writes takes room put.rows in
-    kept_beside o c.self.inside.objects.values c.change.new.self.values present c.self.inside.latest s (next_store s c.change.new.self.rows log) (λ t. inode_led present entries t)
-    (led_later c.the_inode_at_a_moment.ensures.done c.a_run_has_one_end_and_one_beginning.ensures.end s o row present entries m know can) put.values c.self.invariant made.inodes
+    record {
+      inodes = kept_beside o (inode_beside c.self.inside.objects.values) (inode_beside c.change.new.self.values) present c.self.inside.latest s (next_store s c.change.new.self.rows log) (λ t. inode_led present entries t)
+          (led_later c.the_inode_at_a_moment.ensures.done c.a_run_has_one_end_and_one_beginning.ensures.end s o row present entries m know can)
+          (inode_put c.self.inside.objects.values c.change.new.self.values o beside put.values) c.self.invariant.inodes made.inodes;
+      indexes = replaced_indexed s (next_store s c.change.new.self.rows log) o (record c.in-Ok.next { stamp = row.stamp + 1 }) entries beside c.self.inside.objects.values c.change.new.self.values
+          put.rows made.replaced.others c.in-Ok.ensures.entries c.index_of.ensures put.values c.self.invariant.indexes;
+    }

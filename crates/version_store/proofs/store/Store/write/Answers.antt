@@ -4,6 +4,8 @@ use Rattle.version_store.specs.Store.{StoreOf, StoreFields, fields_of}
 use Rattle.version_store.specs.private.Turning.{CanTake, IsTaken}
 use Rattle.inode.specs.Contents.{contents_of}
 use Rattle.inode.specs.Changed.{blocks_written}
+use Rattle.version_store.specs.private.Beside.{inode_beside}
+use Rattle.version_store.proofs.Beside.{grown_indexed}
 use Rattle.version_store.proofs.Present.{grown_keeps}
 use Rattle.version_store.proofs.Kind.{can_turn, taken_of}
 use Rattle.version_store.proofs.Making.{can_subject, written_makes}
@@ -44,4 +46,9 @@ returns g c =
 pub invariant_of-self : goal.invariant_of-self
 invariant_of-self g c =
     let s : StoreFields = record { rows = c.self.inside.objects.rows; log = g.B.Blocks.log c.self.inside.table; latest = c.self.inside.latest } in
-    grown_keeps c.what_changes_rest_on.ensures.inode s (g.B.Blocks.log c.write-after.new.table) c.args.object (blocks_written (contents_of s.log.held) c.args.present.now c.args.offset c.args.bytes.now) c.self.inside.objects.values c.write-after.ensures.growth c.self.invariant
+    let log = g.B.Blocks.log c.write-after.new.table in
+    let blocks = blocks_written (contents_of s.log.held) c.args.present.now c.args.offset c.args.bytes.now in
+    record {
+      inodes = grown_keeps c.what_changes_rest_on.ensures.inode s log c.args.object blocks (inode_beside c.self.inside.objects.values) c.write-after.ensures.growth c.self.invariant.inodes;
+      indexes = grown_indexed s log c.args.object blocks c.self.inside.objects.values c.write-after.ensures.growth c.self.invariant.indexes;
+    }

@@ -1,0 +1,13 @@
+pub mod Leading
+pub mod Runs
+pub mod Moments
+pub mod Showing
+pub mod Grouped
+pub mod Ordered
+pub mod Seen
+pub mod Shown
+pub mod Lives
+pub mod Places
+pub mod Growing
+pub mod Again
+pub mod Bytes

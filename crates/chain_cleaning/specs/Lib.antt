@@ -1,0 +1,4 @@
+pub mod Cleaned
+pub mod Chains
+pub mod Laws
+pub mod private

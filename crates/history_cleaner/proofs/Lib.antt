@@ -1,0 +1,4 @@
+pub mod Stored
+pub mod Standing
+pub mod Showing
+pub mod EachEntry

@@ -1,0 +1,28 @@
+use Rattle.history_cleaner.proofs.Stored.{RunLaws}
+use Rattle.history_cleaner.proofs.Standing.{Laws, can_stand, stays_empty}
+use Rattle.history_cleaner.proofs.laws.what_is_left_can_stand.Goals as goal
+
+pub returns : goal.returns
+returns c =
+    let run : RunLaws = record {
+      ends = c.a_run_has_one_end_and_one_beginning.ensures.end;
+      begins = c.a_run_has_one_end_and_one_beginning.ensures.beginning;
+      done = c.the_inode_at_a_moment.ensures.done;
+      since = c.the_inode_at_a_moment.ensures.since;
+    } in
+    let laws : Laws = record {
+      run = run;
+      ascend = c.groups_join_and_part.ensures.ascend;
+      is_run = c.a_kept_chain_is_a_run.ensures;
+      is_grouped = c.a_kept_chain_is_grouped.ensures;
+      old = c.a_kept_chain_has_old_moments.ensures;
+      moments = c.the_moments_of_a_kept_chain_are_old.ensures;
+      order = c.a_kept_chain_is_in_order.ensures;
+      shown = c.a_kept_chain_shows_old_inodes.ensures;
+      places = c.a_kept_chain_points_to_old_places.ensures;
+      points = c.inodes_point_to_what_rows_name.ensures;
+      making = c.a_row_keeps_the_making.ensures;
+      later = c.a_chain_is_one_later.ensures;
+      bytes = c.a_kept_chain_takes_no_more_bytes.ensures;
+    } in
+    record { stands = can_stand laws; empty = stays_empty }

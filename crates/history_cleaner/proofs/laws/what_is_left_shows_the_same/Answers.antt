@@ -1,0 +1,23 @@
+use Rattle.history_cleaner.proofs.Stored.{RunLaws}
+use Rattle.history_cleaner.proofs.Showing.{Laws, left_same, none_absent, left_seen, left_throughout}
+use Rattle.history_cleaner.proofs.laws.what_is_left_shows_the_same.Goals as goal
+
+pub returns : goal.returns
+returns c =
+    let run : RunLaws = record {
+      ends = c.a_run_has_one_end_and_one_beginning.ensures.end;
+      begins = c.a_run_has_one_end_and_one_beginning.ensures.beginning;
+      done = c.the_inode_at_a_moment.ensures.done;
+      since = c.the_inode_at_a_moment.ensures.since;
+    } in
+    let laws : Laws = record {
+      run = run;
+      later = c.a_chain_is_one_later.ensures;
+      is_run = c.a_kept_chain_is_a_run.ensures;
+      old = c.a_kept_chain_has_old_moments.ensures;
+      same = c.a_kept_chain_shows_the_same.ensures.same;
+      none = c.a_kept_chain_shows_the_same.ensures.none;
+      alive = c.a_kept_chain_is_seen_alive.ensures;
+      seen = c.a_kept_chain_has_seen_inodes_alone.ensures;
+    } in
+    record { same = left_same laws; none = none_absent laws; seen = left_seen laws; throughout = left_throughout laws }

@@ -1,0 +1,65 @@
+//! Laws of the chains of stored objects, and of what is left of them once nobody can see a part: each function does nothing, and
+//! its contract is the law.
+ghost use Rattle.history_cleaner.specs.Laws.{AStoredChainIsAChain, WhatIsLeftCanStand, AnEmptyJournalStaysEmpty, WhatIsLeftShowsTheSame, NothingIsLeftOfTheAbsent, WhatIsLeftIsSeen, WhatIsLeftIsSeenThroughout};
+
+use chain_cleaning::laws::{
+    a_chain_is_one_later, a_kept_chain_has_old_moments, a_kept_chain_has_seen_inodes_alone,
+    a_kept_chain_is_a_run, a_kept_chain_is_grouped, a_kept_chain_is_in_order,
+    a_kept_chain_is_seen_alive, a_kept_chain_points_to_old_places, a_kept_chain_shows_old_inodes,
+    a_kept_chain_shows_the_same, a_kept_chain_takes_no_more_bytes,
+    the_moments_of_a_kept_chain_are_old,
+};
+use row_changes::laws::a_row_keeps_the_making;
+use undo_redo::laws::{
+    a_run_has_one_end_and_one_beginning, groups_join_and_part, the_inode_at_a_moment,
+};
+use version_store::laws::inodes_point_to_what_rows_name;
+
+/// The chain of a stored object is one that can be cleaned.
+pub fn a_stored_chain_is_a_chain()
+    ensures { AStoredChainIsAChain }
+{
+    a_run_has_one_end_and_one_beginning();
+    the_inode_at_a_moment();
+    a_chain_is_one_later();
+}
+
+/// What is left of an object's chain can stand in the place of its journal.
+pub fn what_is_left_can_stand()
+    ensures stands { WhatIsLeftCanStand }
+    ensures empty { AnEmptyJournalStaysEmpty }
+{
+    a_run_has_one_end_and_one_beginning();
+    groups_join_and_part();
+    the_inode_at_a_moment();
+    a_kept_chain_is_a_run();
+    a_kept_chain_is_grouped();
+    a_kept_chain_has_old_moments();
+    the_moments_of_a_kept_chain_are_old();
+    a_kept_chain_is_in_order();
+    a_kept_chain_shows_old_inodes();
+    a_kept_chain_points_to_old_places();
+    inodes_point_to_what_rows_name();
+    a_row_keeps_the_making();
+    a_chain_is_one_later();
+    a_kept_chain_takes_no_more_bytes();
+}
+
+/// What is left of an object's chain stands for the same version at each moment that can be seen, and from the clock on; where
+/// nothing is left the object is absent then, and else it is there at some moment that can be seen, and at each
+/// moment stands as at such a one.
+pub fn what_is_left_shows_the_same()
+    ensures same { WhatIsLeftShowsTheSame }
+    ensures none { NothingIsLeftOfTheAbsent }
+    ensures seen { WhatIsLeftIsSeen }
+    ensures throughout { WhatIsLeftIsSeenThroughout }
+{
+    a_run_has_one_end_and_one_beginning();
+    the_inode_at_a_moment();
+    a_chain_is_one_later();
+    a_kept_chain_is_a_run();
+    a_kept_chain_has_old_moments();
+    a_kept_chain_shows_the_same();
+    a_kept_chain_is_seen_alive();
+    a_kept_chain_has_seen_inodes_alone();
+}
