@@ -4,7 +4,7 @@ ghost use Rattle.std.specs.List.{range_with_len};
 ghost use Rattle.std.specs.Option.{option_to_list};
 ghost use Rattle.s4_types.specs.declared.refusals.Refusal.TheVariants.{NoMemory, Busy, InUse};
 ghost use Rattle.block_log.specs.Log.{appended, dropped};
-ghost use Rattle.segment_word.specs.Frames.{Pinned, is_sealed};
+ghost use Rattle.segment_word.specs.Frames.{Pinned, is_sealed, is_emptied};
 ghost use Rattle.segment_word.specs.Frames.Phase.{Open, Sealed, Emptied};
 ghost use Rattle.segment_word.specs.Layout.{frame_at, block_bytes};
 ghost use Rattle.segment_word.specs.Counting.{pins_in};
@@ -113,6 +113,13 @@ impl Segments {
         ensures bounded { places_spent self.now + length (places_ahead self.now) < 2 ^ 46 }
     {
         let _ = &self.current;
+    }
+
+    /// How many frames there are.
+    pub fn count(&self) -> u16
+        ensures { result ≡ length self.now.drive.frames }
+    {
+        self.slots.len() as u16
     }
 
     /// The number of the open frame.
@@ -307,6 +314,15 @@ impl Segments {
             return Some(self.seat.generation(number));
         }
         None
+    }
+
+    /// Whether a frame is being emptied; one that isn't there is not.
+    pub fn is_emptied(&mut self, frame: u16) -> bool
+        ensures emptied { result ≡ is_emptied (frame_at self.old.drive.frames frame).phase }
+        ensures same { self.new ≡ self.old }
+    {
+        let number = frame as usize;
+        number < self.slots.len() && self.seat.is_emptied(number)
     }
 
     /// A sealed frame of which no block is held is being emptied from now on.

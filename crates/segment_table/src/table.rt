@@ -4,7 +4,7 @@ ghost use Rattle.s4_types.specs.Sizes.{IsFrameCount};
 ghost use Rattle.s4_types.specs.Pointer.{Place};
 ghost use Rattle.s4_types.specs.declared.refusals.Refusal.TheVariants.{NoMemory, Busy, NoSpace, InUse};
 ghost use Rattle.block_log.specs.Log.{Log, appended, dropped};
-ghost use Rattle.segment_word.specs.Frames.{Pinned};
+ghost use Rattle.segment_word.specs.Frames.{Pinned, is_emptied};
 ghost use Rattle.segment_word.specs.Frames.Phase.{Open, Sealed, Emptied};
 ghost use Rattle.segment_word.specs.Layout.{frame_at, block_bytes};
 ghost use Rattle.segment_word.specs.Counting.{pins_in};
@@ -72,6 +72,21 @@ impl SegmentTable {
         ensures bounded { (log_of self.now).spent + length (log_of self.now).ahead < 2 ^ 46 }
     {
         self.segments.rules();
+    }
+
+    /// How many frames there are.
+    pub fn frame_count(&self) -> u16
+        ensures { result ≡ length self.now.drive.frames }
+    {
+        self.segments.count()
+    }
+
+    /// Whether a frame is being emptied; one that isn't there is not.
+    pub fn is_emptied(&mut self, frame: u16) -> bool
+        ensures emptied { result ≡ is_emptied (frame_at self.old.drive.frames frame).phase }
+        ensures same { self.new ≡ self.old }
+    {
+        self.segments.is_emptied(frame)
     }
 
     /// Seals the open frame: zeros are stored in its unused blocks, and its summary in block 0. Without effect where none

@@ -33,6 +33,12 @@ is_sealed Open = false
 is_sealed Sealed = true
 is_sealed Emptied = false
 
+abbrev pub is_emptied : Phase → Bool
+is_emptied Free = false
+is_emptied Open = false
+is_emptied Sealed = false
+is_emptied Emptied = true
+
 -- a frame: what it is for, its generation, and its 1,024 block words
 pub record Frame : Type 0 where
   pub phase : Phase

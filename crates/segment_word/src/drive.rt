@@ -1,7 +1,7 @@
 //! The drive's seat.
 ghost use Rattle.std.specs.Prelude.{◌≡◌, ◌≢◌, ℕ, ◌+◌, ◌*◌, ◌^◌, ◌<◌, ◌≤◌, length, OnOk, OnErr, IfErr};
 ghost use Rattle.s4_types.specs.declared.refusals.Refusal.TheVariants.{InUse};
-ghost use Rattle.segment_word.specs.Frames.{Frame, code_of, is_sealed};
+ghost use Rattle.segment_word.specs.Frames.{Frame, code_of, is_sealed, is_emptied};
 ghost use Rattle.segment_word.specs.Frames.Phase.{Free, Open, Sealed, Emptied};
 ghost use Rattle.segment_word.specs.Layout.{frame_at, block_bytes, with_block};
 ghost use Rattle.segment_word.specs.FrameRule.{AllRemembered};
@@ -149,6 +149,15 @@ impl DriveSeat {
         ensures same { self.new ≡ self.old }
     {
         self.state(frame) % ONE_READER == SEALED
+    }
+
+    /// Whether a frame is being emptied.
+    pub fn is_emptied(&mut self, frame: usize) -> bool
+        requires { frame < length self.old.frames }
+        ensures emptied { result ≡ is_emptied (frame_at self.old.frames frame).phase }
+        ensures same { self.new ≡ self.old }
+    {
+        self.state(frame) % ONE_READER == EMPTIED
     }
 
     /// Shows what is true of what is remembered: each of the frames has come to the generation that it had, and while it is at

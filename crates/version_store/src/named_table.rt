@@ -6,7 +6,7 @@ ghost use Rattle.s4_types.specs.declared.refusals.Refusal.TheVariants.{NoMemory,
 ghost use Rattle.block_log.specs.Log.{appended, dropped};
 ghost use Rattle.inode.specs.Contents.{contents_of, bytes_of};
 ghost use Rattle.inode.specs.Tidiness.{PointersLead};
-ghost use Rattle.segment_word.specs.Frames.{Emptied};
+ghost use Rattle.segment_word.specs.Frames.{Emptied, is_emptied};
 ghost use Rattle.segment_word.specs.Layout.{frame_at};
 ghost use Rattle.segment_word.specs.Counting.{pins_in};
 ghost use Rattle.segment_word.specs.Handles.{HasMissed};
@@ -78,6 +78,21 @@ impl<J: Naming> NamedTable<J> {
     {
         self.table.rules();
         self.table.seal_open();
+    }
+
+    /// `SegmentTable::frame_count`.
+    pub(crate) fn frame_count(&self) -> u16
+        ensures { result ≡ length self.now.drive.frames }
+    {
+        self.table.frame_count()
+    }
+
+    /// `SegmentTable::is_emptied`.
+    pub(crate) fn is_emptied(&mut self, frame: u16) -> bool
+        ensures emptied { result ≡ is_emptied (frame_at self.old.drive.frames frame).phase }
+        ensures same { self.new ≡ self.old }
+    {
+        self.table.is_emptied(frame)
     }
 
     /// `SegmentTable::mark`.
