@@ -11,3 +11,5 @@ pub mod Places
 pub mod Growing
 pub mod Again
 pub mod Bytes
+pub mod SeenPlaces
+pub mod Unchanged

@@ -138,6 +138,42 @@ AKeptChainPointsToOldPlaces =
     (sees : ℕ → ℕ → Bool) (created latest clock : ℕ) (first : Inode) (entries : List EntryFields)
     → IsChain created latest first entries → IfSome (cleaned sees clock first entries) (HasPlacesWithin (IsPlaceOf first entries))
 
+-- a live inode that a chain shows at some visible moment has a pointer to this place
+abbrev pub IsSeenPlaceOf : (ℕ → Bool) → Inode → List EntryFields → Place → Type 0
+IsSeenPlaceOf visible first entries p =
+    (u : ℕ) × ((visible u ≡ true) × ((inode_after first entries u).alive ≡ true) × ((k : ℕ) × (pointer_at (inode_after first entries u) k ≡ Some p)))
+
+-- Each place to which the inode of a chain points at some moment, or of which an entry tells on either side, is of this kind;
+-- so is each one to which the first inode points, or the last.
+pub record TellsOfPlacesWithin (Is : Place → Type 0) (start : Inode) (chain : List EntryFields) : Type 0 where
+  pub each : (t : ℕ) → PointsWithin Is (inode_after start chain t)
+  pub entries : AllByRecursion (TellsWithin Is) chain
+  pub first : PointsWithin Is start
+  pub last : PointsWithin Is (redone_all chain start)
+
+-- A kept chain tells of seen places alone: a live inode that it shows at some visible moment points there. Another chain may
+-- tell of more, even where it stands at each moment as at some visible one: of three entries of one moment the first may set a
+-- pointer, the second none, and the third that pointer again. Then the place that the first set stands in no inode.
+abbrev pub AKeptChainTellsOfSeenPlacesAlone : Type 0
+AKeptChainTellsOfSeenPlacesAlone =
+    (visible : ℕ → Bool) (sees : ℕ → ℕ → Bool) (created latest clock : ℕ) (first : Inode) (entries : List EntryFields)
+    → FitsSight sees visible → visible clock ≡ true → latest ≤ clock → IsChain created latest first entries
+    → IfSome (cleaned sees clock first entries) (λ chain. TellsOfPlacesWithin (IsSeenPlaceOf visible chain.first chain.entries) chain.first chain.entries)
+
+-- A kept chain shows a live inode at some visible moment.
+abbrev pub AKeptChainShowsALiveInode : Type 0
+AKeptChainShowsALiveInode =
+    (visible : ℕ → Bool) (sees : ℕ → ℕ → Bool) (created latest clock : ℕ) (first : Inode) (entries : List EntryFields)
+    → FitsSight sees visible → visible clock ≡ true → latest ≤ clock → IsChain created latest first entries
+    → IfSome (cleaned sees clock first entries) (λ chain. (u : ℕ) × ((visible u ≡ true) × ((inode_after chain.first chain.entries u).alive ≡ true)))
+
+-- Where the entries of a kept chain are the old ones, it is the old chain: its first inode and its last are the old ones, too.
+abbrev pub AnUnchangedChainIsTheKeptOne : Type 0
+AnUnchangedChainIsTheKeptOne =
+    (visible : ℕ → Bool) (sees : ℕ → ℕ → Bool) (created latest clock : ℕ) (first : Inode) (entries : List EntryFields)
+    → FitsSight sees visible → visible clock ≡ true → latest ≤ clock → IsChain created latest first entries
+    → IfSome (cleaned sees clock first entries) (λ chain. chain.entries ≡ entries → (chain.first ≡ first) × (chain.last ≡ redone_all entries first))
+
 -- The entries that make an object are a chain: they lead from the blank inode to a live one, at the moment of the making.
 abbrev pub ACreationIsAChain : Type 0
 ACreationIsAChain =

@@ -1,10 +1,11 @@
 //! Laws of kept chains, for the layers above: each function does nothing, and its contract is the law.
-ghost use Rattle.chain_cleaning.specs.Laws.{AKeptChainIsARun, AKeptChainHasOldMoments, AKeptChainShowsTheSame, NoKeptChainShowsNothing, AKeptChainIsSeenAlive, AKeptChainShowsOldInodes, AKeptChainHasSeenInodesAlone, TheMomentsOfAKeptChainAreOld, AKeptChainIsGrouped, AKeptChainIsInOrder, AKeptChainPointsToOldPlaces, AKeptChainIsAChain, CleaningAgainChangesNothing, AKeptChainTakesNoMoreBytes, ACreationIsAChain, AChainGoesOn, AChainIsOneLater};
+ghost use Rattle.chain_cleaning.specs.Laws.{AKeptChainIsARun, AKeptChainHasOldMoments, AKeptChainShowsTheSame, NoKeptChainShowsNothing, AKeptChainIsSeenAlive, AKeptChainShowsOldInodes, AKeptChainHasSeenInodesAlone, TheMomentsOfAKeptChainAreOld, AKeptChainIsGrouped, AKeptChainIsInOrder, AKeptChainPointsToOldPlaces, AKeptChainTellsOfSeenPlacesAlone, AKeptChainShowsALiveInode, AnUnchangedChainIsTheKeptOne, AKeptChainIsAChain, CleaningAgainChangesNothing, AKeptChainTakesNoMoreBytes, ACreationIsAChain, AChainGoesOn, AChainIsOneLater};
 
 use codec::journal_laws::entry_bytes_add_up;
 use undo_redo::laws::{
-    a_link_is_an_entry_redone_or_undone, a_run_has_one_end_and_one_beginning, groups_join_and_part,
-    runs_join_and_part, the_entries_between_two_inodes, the_inode_at_a_moment,
+    a_blank_inode_has_holes_alone, a_link_is_an_entry_redone_or_undone,
+    a_run_has_one_end_and_one_beginning, groups_join_and_part, runs_join_and_part,
+    the_entries_between_two_inodes, the_inode_at_a_moment,
 };
 
 /// The entries of a kept chain lead from its first inode to its last.
@@ -133,6 +134,36 @@ pub fn a_kept_chain_points_to_old_places()
     groups_join_and_part();
     the_inode_at_a_moment();
     the_entries_between_two_inodes();
+}
+
+/// Each place to which a kept chain points, by an inode or by an entry, is one to which a live inode points that it shows at
+/// some visible moment; and there is such an inode.
+pub fn a_kept_chain_tells_of_seen_places_alone()
+    ensures places { AKeptChainTellsOfSeenPlacesAlone }
+    ensures live { AKeptChainShowsALiveInode }
+{
+    a_link_is_an_entry_redone_or_undone();
+    a_run_has_one_end_and_one_beginning();
+    groups_join_and_part();
+    the_inode_at_a_moment();
+    the_entries_between_two_inodes();
+    a_blank_inode_has_holes_alone();
+    a_kept_chain_is_a_run();
+    a_kept_chain_is_a_chain();
+    a_kept_chain_shows_the_same();
+    a_kept_chain_is_seen_alive();
+    a_kept_chain_has_seen_inodes_alone();
+    a_kept_chain_points_to_old_places();
+    cleaning_again_changes_nothing();
+}
+
+/// Where the entries of a kept chain are the old ones, so are its first inode and its last.
+pub fn an_unchanged_chain_is_the_kept_one()
+    ensures { AnUnchangedChainIsTheKeptOne }
+{
+    a_run_has_one_end_and_one_beginning();
+    a_kept_chain_is_a_run();
+    a_kept_chain_has_seen_inodes_alone();
 }
 
 /// The entries that make an object are a chain.
