@@ -1,0 +1,3 @@
+pub mod Renaming
+pub mod Apart
+pub mod Laws
