@@ -1,3 +1,7 @@
 pub mod Renamed
 pub mod Below
 pub mod Rules
+pub mod Ordered
+pub mod Told
+pub mod Meaning
+pub mod Growing

@@ -34,7 +34,7 @@ move_is r p q h = elim (cases_Bool (is_in r p)) [
   | inr outside ↦ (let none : new_place r p ≡ None = cond-false (is_in r p) (move_of r p.block) None outside in absurd (cc))
 ]
 
-slot_is : (o : Option Place) → (o ≡ None) ⊎ ((q : Place) × (o ≡ Some q))
+pub slot_is : (o : Option Place) → (o ≡ None) ⊎ ((q : Place) × (o ≡ Some q))
 slot_is None = inl refl
 slot_is (Some q) = inr (q, refl)
 
