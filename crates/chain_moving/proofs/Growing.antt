@@ -1,48 +1,40 @@
--- How a renaming comes to be apart from a chain: move by move.
-use Rattle.std.proofs.Common.{◌≡◌, ◌≢◌, ℕ, zero, suc, ◌+◌, ◌-◌, ◌<◌, ◌≤◌, inl, inr, ◌⊎◌, List, [], ◌∷◌, length, get_or, replicate, Option, Some, None, refl, sym, ap, subst, ◌∙◌, arith}
+-- What is told passes on, and a renaming comes to be apart from a chain move by move.
+use Rattle.std.proofs.Common.{◌≡◌, ◌≢◌, ℕ, zero, suc, ◌-◌, inl, inr, ◌⊎◌, List, [], ◌∷◌, length, get_or, replicate, true, Option, Some, None, refl, sym, ap, ◌∙◌, arith}
 use Rattle.std.proofs.Math.ListN.{set, length-set, get_or-eq_default}
 use Rattle.std.specs.Prelude.{IfSome}
 use Rattle.std.specs.List.{AllByRecursion}
 use Rattle.std.proofs.lemmas.List.{get_or-set_same, get_or-set_other}
-use Rattle.std.proofs.lemmas.Bool.{cases_eq, cases_lt}
+use Rattle.std.proofs.lemmas.Bool.{cases_eq, cases_lt, both_ways}
 use Rattle.s4_types.specs.Pointer.{Place}
 use Rattle.codec.specs.declared.inodes.Inode.{Inode}
 use Rattle.codec.specs.declared.entries.Triple.{Triple}
 use Rattle.codec.specs.Checkpoint.{pointer_at}
 use Rattle.codec.specs.Entry.{EntryFields}
-use Rattle.chain_cleaning.specs.Laws.{PointsWithin, TellsWithin}
-use Rattle.chain_moving.specs.Renaming.{RenamingFields, no_moves, renaming_of, with_move, move_of}
-use Rattle.chain_moving.specs.Apart.{ToldWithin, HasDistinctPlaces, IsNotNew, IsApart}
-use Rattle.chain_moving.specs.Laws.{NothingMovesYet, OneMoreMoves, ARenamingBeginsApart, ARenamingStaysApart}
+use Rattle.chain_cleaning.specs.Laws.{TellsWithin}
+use Rattle.chain_moving.specs.Renaming.{RenamingFields, no_moves, with_move, move_of}
+use Rattle.chain_moving.specs.Apart.{Passes, ToldWithin, IsNotNew}
+use Rattle.chain_moving.specs.Places.{WhatIsToldPassesToo, NothingMovesYet, OneMoreMoves, PlacesStayDistinct, NewPlacesAnswerAlike, ATestTellsApart}
 use Rattle.chain_moving.proofs.Told.{SidesWithin}
 
--- ---- what is told, of two kinds at once
+-- ---- what is told passes on
 
-slot_both : (A B C : Place → Type 0) (slot : Option Place) → ((p : Place) → A p → B p → C p) → IfSome slot A → IfSome slot B → IfSome slot C
-slot_both A B C None so a b = tt
-slot_both A B C (Some p) so a b = so p a b
+slot_on : (A B : Place → Type 0) (slot : Option Place) → ((p : Place) → A p → B p) → IfSome slot A → IfSome slot B
+slot_on A B None so h = tt
+slot_on A B (Some p) so h = so p h
 
-triples_both : (A B C : Place → Type 0) (triples : List Triple) → ((p : Place) → A p → B p → C p) → SidesWithin A triples → SidesWithin B triples → SidesWithin C triples
-triples_both A B C [] so a b = tt
-triples_both A B C (t ∷ triples) so a b = ((slot_both A B C t.before so a.0.0 b.0.0, slot_both A B C t.after so a.0.1 b.0.1), triples_both A B C triples so a.1 b.1)
+triples_on : (A B : Place → Type 0) (triples : List Triple) → ((p : Place) → A p → B p) → SidesWithin A triples → SidesWithin B triples
+triples_on A B [] so h = tt
+triples_on A B (t ∷ triples) so h = ((slot_on A B t.before so h.0.0, slot_on A B t.after so h.0.1), triples_on A B triples so h.1)
 
-entries_both : (A B C : Place → Type 0) (entries : List EntryFields) → ((p : Place) → A p → B p → C p) → AllByRecursion (TellsWithin A) entries → AllByRecursion (TellsWithin B) entries → AllByRecursion (TellsWithin C) entries
-entries_both A B C [] so a b = tt
-entries_both A B C (e ∷ entries) so a b = (triples_both A B C e.triples so a.0 b.0, entries_both A B C entries so a.1 b.1)
+entries_on : (A B : Place → Type 0) (entries : List EntryFields) → ((p : Place) → A p → B p) → AllByRecursion (TellsWithin A) entries → AllByRecursion (TellsWithin B) entries
+entries_on A B [] so h = tt
+entries_on A B (e ∷ entries) so h = (triples_on A B e.triples so h.0, entries_on A B entries so h.1)
 
--- ---- what is told, of each place
+told_on : (A B : Place → Type 0) (i : Inode) (entries : List EntryFields) → ((p : Place) → A p → B p) → ToldWithin A i entries → ToldWithin B i entries
+told_on A B i entries so h = record { pointers = λ k. slot_on A B (pointer_at i k) so (h.pointers k); sides = entries_on A B entries so h.sides }
 
-slot_each : (C : Place → Type 0) (slot : Option Place) → ((p : Place) → C p) → IfSome slot C
-slot_each C None so = tt
-slot_each C (Some p) so = so p
-
-triples_each : (C : Place → Type 0) (triples : List Triple) → ((p : Place) → C p) → SidesWithin C triples
-triples_each C [] so = tt
-triples_each C (t ∷ triples) so = ((slot_each C t.before so, slot_each C t.after so), triples_each C triples so)
-
-entries_each : (C : Place → Type 0) (entries : List EntryFields) → ((p : Place) → C p) → AllByRecursion (TellsWithin C) entries
-entries_each C [] so = tt
-entries_each C (e ∷ entries) so = (triples_each C e.triples so, entries_each C entries so)
+pub passes_too : WhatIsToldPassesToo
+passes_too test other i entries so h = told_on (Passes test) (Passes other) i entries so h
 
 -- ---- the first renaming
 
@@ -56,29 +48,20 @@ unfolding no_moves
 nothing_moves frame generation zero p h = cc
 nothing_moves frame generation (suc n) p h = let none : get_or {A = Option Place} (replicate 15 None) n None ≡ None = none_at 15 n in cc
 
-pub begins_apart : ARenamingBeginsApart
-begins_apart frame generation first entries = record {
-  distinct = λ m n p at too. absurd (nothing_moves frame generation m p at);
-  told = record {
-    pointers = λ k. slot_each (IsNotNew (renaming_of frame generation)) (pointer_at first k) (λ p n. nothing_moves frame generation n p);
-    sides = entries_each (IsNotNew (renaming_of frame generation)) entries (λ p n. nothing_moves frame generation n p);
-  };
-}
-
 -- ---- one more move
 
 pub one_more : OneMoreMoves
-one_more r zero n to p count least most = absurd (omega arith)
-one_more r (suc b) n to p count least most =
+one_more r zero n to count least most = absurd (omega arith)
+one_more r (suc b) n to count least most =
     let e : suc b - 1 ≡ b = omega arith in
     let here : move_of (with_move r (suc b) to) (suc b) ≡ Some to = ap (λ (k : ℕ). get_or (set r.moves k (Some to)) b None) e ∙ get_or-set_same r.moves b (Some to) None (omega arith) in
     (here, others r b n to)
- where
-  others : (r : RenamingFields) (b n : ℕ) (to : Place) → n ≢ suc b → move_of (with_move r (suc b) to) n ≡ move_of r n
-  others r b zero to other = refl
-  others r b (suc m) to other =
-      let e : suc b - 1 ≡ b = omega arith in
-      ap (λ (k : ℕ). get_or (set r.moves k (Some to)) m None) e ∙ get_or-set_other r.moves b m (Some to) None (λ (is : m ≡ b). other (ap (λ (k : ℕ). suc k) is))
+  where
+    others : (r : RenamingFields) (b n : ℕ) (to : Place) → n ≢ suc b → move_of (with_move r (suc b) to) n ≡ move_of r n
+    others r b zero to other = refl
+    others r b (suc m) to other =
+        let e : suc b - 1 ≡ b = omega arith in
+        ap (λ (k : ℕ). get_or (set r.moves k (Some to)) m None) e ∙ get_or-set_other r.moves b m (Some to) None (λ (is : m ≡ b). other (ap (λ (k : ℕ). suc k) is))
 
 -- a move of the renaming with one more is that one, or an old one
 abbrev pub IsThatOrOld : RenamingFields → ℕ → Place → ℕ → Place → Type 0
@@ -97,13 +80,13 @@ that_or_old r block to (suc m) p h = elim (cases_eq m (block - 1)) [
   | inr other ↦ inr (sym (get_or-set_other r.moves (block - 1) m (Some to) None other) ∙ h)
 ]
 
-still_not_new : (r : RenamingFields) (block : ℕ) (to p : Place) → IsNotNew r p → p ≢ to → IsNotNew (with_move r block to) p
-still_not_new r block to p old other n h = elim (that_or_old r block to n p h) [
-  | inl that ↦ other that.0
-  | inr was ↦ old n was
+pub leads_on : NewPlacesAnswerAlike
+leads_on test answer r block to leads is n p h = elim (that_or_old r block to n p h) [
+  | inl that ↦ ap test that.0 ∙ is
+  | inr was ↦ leads n p was
 ]
 
-still_distinct : (r : RenamingFields) (block : ℕ) (to : Place) → HasDistinctPlaces r → IsNotNew r to → HasDistinctPlaces (with_move r block to)
+pub still_distinct : PlacesStayDistinct
 still_distinct r block to distinct fresh m n p at too = elim (that_or_old r block to m p at) [
   | inl that ↦ elim (that_or_old r block to n p too) [
     | inl both ↦ that.1 ∙ sym both.1
@@ -115,13 +98,7 @@ still_distinct r block to distinct fresh m n p at too = elim (that_or_old r bloc
   ]
 ]
 
-pub stays_apart : ARenamingStaysApart
-stays_apart r block to first entries apart fresh told =
-    let so : (p : Place) → IsNotNew r p → p ≢ to → IsNotNew (with_move r block to) p = λ p old other. still_not_new r block to p old other in
-    record {
-      distinct = still_distinct r block to apart.distinct fresh;
-      told = record {
-        pointers = λ k. slot_both (IsNotNew r) (λ p. p ≢ to) (IsNotNew (with_move r block to)) (pointer_at first k) so (apart.told.pointers k) (told.pointers k);
-        sides = entries_both (IsNotNew r) (λ p. p ≢ to) (IsNotNew (with_move r block to)) entries so apart.told.sides told.sides;
-      };
-    }
+pub told_apart : ATestTellsApart
+told_apart test r first entries distinct leads told =
+    let so : (p : Place) → test p ≡ true → IsNotNew r p = λ p passes n h. both_ways (test p) (leads n p h) passes in
+    record { distinct = distinct; told = told_on (Passes test) (IsNotNew r) first entries so told }

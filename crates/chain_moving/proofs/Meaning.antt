@@ -1,20 +1,20 @@
 -- A renamed inode means over the copied blocks what the inode meant.
-use Rattle.std.proofs.Common.{◌≡◌, ℕ, ◌+◌, ◌/◌, ◌%◌, Bool, true, cond, inl, inr, List, Option, Some, None, refl, sym, ap, subst, ◌∙◌}
+use Rattle.std.proofs.Common.{◌≡◌, ℕ, ◌+◌, ◌/◌, ◌%◌, cond, inl, inr, List, Option, Some, None, refl, sym, ap, subst, ◌∙◌}
 use Rattle.std.specs.Prelude.{IfSome}
 use Rattle.std.proofs.lemmas.List.{length-map}
 use Rattle.s4_types.specs.Pointer.{Place}
 use Rattle.s4_types.specs.declared.versions.Version.TheVariants.{Absent, Live}
 use Rattle.codec.specs.declared.inodes.Inode.{Inode}
 use Rattle.codec.specs.Checkpoint.{pointer_at}
-use Rattle.codec.specs.Entry.{EntryFields}
 use Rattle.undo_redo.specs.Runs.{inode_after}
 use Rattle.inode.specs.Contents.{byte_in, byte_of, bytes_of, meaning}
 use Rattle.inode.specs.Tidiness.{Tidy, AgreeAt}
 use Rattle.inode.specs.Laws.{OnlyItsBlocksMatter, EqualRanges}
 use Rattle.chain_cleaning.specs.Laws.{PointsWithin}
-use Rattle.chain_moving.specs.Renaming.{RenamingFields, new_place, renamed, renamed_slot, renamed_inode, renamed_entries}
-use Rattle.chain_moving.specs.Apart.{HasCopies, ToldWithin}
-use Rattle.chain_moving.specs.Laws.{Passes, ARenamedInodeMeansTheSame, AChainPointsToWhatItTells, ARenamedChainShowsTheSame}
+use Rattle.chain_moving.specs.Renaming.{RenamingFields, new_place, renamed, renamed_slot, renamed_inode}
+use Rattle.chain_moving.specs.Apart.{Passes, HasCopies}
+use Rattle.chain_moving.specs.Laws.{ARenamedInodeMeansTheSame, ARenamedChainShowsTheSame}
+use Rattle.chain_moving.specs.Places.{AChainPointsToWhatItTells}
 use Rattle.chain_moving.proofs.Renamed.{pointer_renamed, inode_after_renamed}
 use Rattle.chain_moving.proofs.Rules.{slot_is, renamed_stays, renamed_moves}
 

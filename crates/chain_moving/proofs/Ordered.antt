@@ -1,18 +1,16 @@
 -- A renamed chain is a chain, of as many bytes, at the same moments.
-use Rattle.std.proofs.Common.{◌≡◌, ℕ, ◌+◌, ◌*◌, ◌<◌, ◌==◌, ◌&&◌, leb, ltb, Bool, true, false, cond, List, [], ◌∷◌, map, length, get_or, take, refl, sym, ap, subst, ◌∙◌, arith}
+use Rattle.std.proofs.Common.{◌≡◌, ℕ, ◌+◌, ◌*◌, ◌<◌, ◌==◌, ◌&&◌, ltb, true, cond, List, [], ◌∷◌, map, length, get_or, take, refl, sym, ap, subst, ◌∙◌, arith}
 use Rattle.std.specs.Prelude.{is_none}
-use Rattle.std.specs.List.{AllByRecursion, Contains, list_all}
+use Rattle.std.specs.List.{AllByRecursion, list_all}
 use Rattle.std.proofs.lemmas.List.{length-map, get_or-map, get_or_default, take-map}
 use Rattle.std.proofs.lemmas.List.Folds.{list_all-map}
 use Rattle.codec.specs.declared.inodes.Inode.{Inode}
 use Rattle.codec.specs.declared.entries.Triple.{Triple}
-use Rattle.codec.specs.Entry.{EntryFields, entry_length, entries_length, pair_length, entry_rules}
-use Rattle.undo_redo.specs.Runs.{Run, redone_all, blank}
+use Rattle.codec.specs.Entry.{EntryFields, entry_length, entries_length, pair_length}
+use Rattle.undo_redo.specs.Runs.{Run, redone_all}
 use Rattle.undo_redo.specs.Groups.{above, continues, grouped_behind, grouped}
 use Rattle.time_read.specs.Orderly.{IsFromTo, IsOrderlyChain, inode_behind}
-use Rattle.chain_cleaning.specs.Chains.{IsChain}
 use Rattle.chain_moving.specs.Renaming.{RenamingFields, renamed_triple, renamed_entry, renamed_entries, renamed_inode}
-use Rattle.chain_moving.specs.Apart.{IsApart}
 use Rattle.chain_moving.specs.Laws.{ARenamedChainIsAChain, RenamedEntriesKeepTheirMoments, RenamedEntriesHaveOldMoments, TheMomentsOfRenamedEntriesAreOld, RenamedEntriesTakeAsManyBytes, ARenamedChainTakesAsManyBytes}
 use Rattle.chain_moving.proofs.Renamed.{redone_all_renamed, run_renamed, blank_renamed}
 use Rattle.chain_moving.proofs.Rules.{all_rules}

@@ -1,17 +1,15 @@
 -- Renaming commutes with all that undo and redo make of an inode.
-use Rattle.std.proofs.Common.{◌≡◌, ℕ, zero, suc, ◌<◌, replicate, ◌==◌, leb, Bool, true, false, cond, inl, inr, List, [], ◌∷◌, map, length, get_or, Option, Some, None, refl, sym, ap, subst, ◌∙◌}
+use Rattle.std.proofs.Common.{◌≡◌, ℕ, zero, suc, replicate, ◌==◌, Bool, true, false, cond, List, [], ◌∷◌, map, Option, None, refl, sym, ap, ◌∙◌}
 use Rattle.std.proofs.Math.ListN.{set, get_or-map}
 use Rattle.std.proofs.lemmas.List.{map-set, length-map}
-use Rattle.std.proofs.lemmas.Bool.{cases_Bool, cond-true, cond-false}
-use Rattle.std.specs.List.{filter}
 use Rattle.s4_types.specs.Pointer.{Place}
 use Rattle.codec.specs.declared.inodes.Inode.{Inode}
 use Rattle.codec.specs.declared.entries.Triple.{Triple}
 use Rattle.codec.specs.Checkpoint.{pointer_at, holes}
 use Rattle.codec.specs.Entry.{EntryFields}
-use Rattle.undo_redo.specs.Linked.{pointer_after, pointer_before, Linked}
+use Rattle.undo_redo.specs.Linked.{pointer_after, pointer_before}
 use Rattle.undo_redo.specs.Redone.{with_after, with_before, redone, undone}
-use Rattle.undo_redo.specs.Runs.{Run, redone_all, undone_all, entry_is_by, entries_by, inode_after, blank}
+use Rattle.undo_redo.specs.Runs.{redone_all, undone_all, entry_is_by, entries_by, blank}
 use Rattle.chain_moving.specs.Renaming.{RenamingFields, renamed_slot, renamed_triple, renamed_entry, renamed_entries, renamed_inode}
 use Rattle.chain_moving.specs.Laws.{RenamingCommutesWithRedo, RenamingCommutesWithUndo, RenamingCommutesWithRedoOfAll, RenamingCommutesWithUndoOfAll, ARenamedChainShowsRenamedInodes, ARenamedLinkIsALink, ARenamedRunIsARun, ABlankInodeStays, APointerIsRenamed}
 

@@ -1,5 +1,5 @@
 -- Renaming is one to one on the places that aren't new, so that renamed entries keep the rules of entries.
-use Rattle.std.proofs.Common.{◌≡◌, ◌≢◌, ℕ, zero, suc, ◌+◌, ◌==◌, ◌&&◌, leb, ltb, Bool, true, false, cond, not, inl, inr, ◌⊎◌, List, [], ◌∷◌, map, length, Option, Some, None, refl, sym, ap, subst, ◌∙◌}
+use Rattle.std.proofs.Common.{◌≡◌, ℕ, ◌+◌, ◌==◌, ◌&&◌, leb, ltb, Bool, true, cond, not, inl, inr, ◌⊎◌, List, [], ◌∷◌, map, Option, Some, None, refl, sym, ap, subst, ◌∙◌}
 use Rattle.std.specs.Prelude.{IfSome, unwrap_or, is_none, ◌||◌}
 use Rattle.std.specs.List.{AllByRecursion}
 use Rattle.std.proofs.lemmas.List.{length-map}
@@ -11,9 +11,10 @@ use Rattle.codec.specs.declared.entries.Triple.{Triple}
 use Rattle.codec.specs.Entry.{EntryFields, same_slot, ascend_from, was_nothing, differs, changes_now, entry_rules, checked_entry}
 use Rattle.codec.specs.Fields.{Reads, kept}
 use Rattle.chain_cleaning.specs.Laws.{TellsWithin}
-use Rattle.chain_moving.specs.Renaming.{RenamingFields, move_of, is_in, new_place, renamed, renamed_slot, renamed_triple, renamed_entry, renamed_entries}
+use Rattle.chain_moving.specs.Renaming.{RenamingFields, move_of, is_in, new_place, renamed, renamed_slot, renamed_triple, renamed_entry}
 use Rattle.chain_moving.specs.Apart.{HasDistinctPlaces, IsNotNew}
-use Rattle.chain_moving.specs.Laws.{RenamingIsOneToOne, RenamedEntriesKeepTheRules}
+use Rattle.chain_moving.specs.Laws.{RenamedEntriesKeepTheRules}
+use Rattle.chain_moving.specs.Places.{RenamingIsOneToOne}
 
 -- ---- one to one
 

@@ -1,7 +1,7 @@
 -- The places of which a renamed chain tells.
-use Rattle.std.proofs.Common.{◌≡◌, ℕ, zero, suc, Bool, true, false, cond, inl, inr, List, [], ◌∷◌, map, get_or, Option, Some, None, refl, sym, ap, subst, ◌∙◌}
+use Rattle.std.proofs.Common.{◌≡◌, ℕ, zero, suc, Bool, true, false, not, cond, inl, inr, List, [], ◌∷◌, map, get_or, Option, Some, None, refl, sym, ap, subst, ◌∙◌}
 use Rattle.std.proofs.Math.ListN.{set}
-use Rattle.std.specs.Prelude.{IfSome, IsSome}
+use Rattle.std.specs.Prelude.{IfSome, is_some, ◌||◌}
 use Rattle.std.specs.List.{AllByRecursion}
 use Rattle.std.proofs.lemmas.Bool.{cases_Bool, cond-true, cond-false}
 use Rattle.s4_types.specs.Pointer.{Place}
@@ -9,12 +9,12 @@ use Rattle.codec.specs.declared.inodes.Inode.{Inode}
 use Rattle.codec.specs.declared.entries.Triple.{Triple}
 use Rattle.codec.specs.Checkpoint.{pointer_at}
 use Rattle.codec.specs.Entry.{EntryFields}
-use Rattle.undo_redo.specs.Redone.{with_after, redone}
-use Rattle.undo_redo.specs.Runs.{redone_all, entry_is_by, entries_by, inode_after}
+use Rattle.undo_redo.specs.Redone.{with_after, with_before, redone, undone}
+use Rattle.undo_redo.specs.Runs.{redone_all, undone_all, entry_is_by, entries_by, inode_after}
 use Rattle.chain_cleaning.specs.Laws.{PointsWithin, TellsWithin}
-use Rattle.chain_moving.specs.Renaming.{RenamingFields, move_of, is_in, new_place, renamed, renamed_slot, renamed_triple, renamed_entry, renamed_entries, renamed_inode}
-use Rattle.chain_moving.specs.Apart.{ToldWithin, IsOutside, MovesOut, LeadsWithin}
-use Rattle.chain_moving.specs.Laws.{Passes, AChainPointsToWhatItTells, ARenamedChainTellsOfRenamedPlaces, EachPlaceIsPointedToRenamed, ARenamedChainIsOutOfTheFrame}
+use Rattle.chain_moving.specs.Renaming.{RenamingFields, move_of, is_in, new_place, renamed, renamed_slot, renamed_triple, renamed_entries, renamed_inode}
+use Rattle.chain_moving.specs.Apart.{Passes, ToldWithin, IsNotNew, IsOutside, moves_out, LeadsWithin}
+use Rattle.chain_moving.specs.Places.{AChainIsToldFromEitherEnd, ApartFromEitherEnd, AChainPointsToWhatItTells, ARenamedChainTellsOfRenamedPlaces, EachPlaceIsPointedToRenamed, ARenamedChainIsOutOfTheFrame}
 use Rattle.chain_moving.proofs.Renamed.{pointer_renamed, inode_after_renamed}
 use Rattle.chain_moving.proofs.Rules.{renamed_stays, renamed_moves}
 
@@ -52,21 +52,22 @@ pointed_renamed r first entries p (u, k, at) =
 
 -- ---- out of the frame
 
-is_some : (slot : Option Place) → IsSome slot → (q : Place) × (slot ≡ Some q)
-is_some None h = absurd (cc)
-is_some (Some q) h = (q, refl)
+is_there : (slot : Option Place) → is_some slot ≡ true → (q : Place) × (slot ≡ Some q)
+is_there None h = absurd (cc)
+is_there (Some q) h = (q, refl)
 
-goes_out : (r : RenamingFields) → LeadsWithin (IsOutside r) r → Carries r (MovesOut r) (IsOutside r)
+goes_out : (r : RenamingFields) → LeadsWithin (IsOutside r) r → Carries r (Passes (moves_out r)) (IsOutside r)
 goes_out r leads p moves = elim (cases_Bool (is_in r p)) [
-  | inl inside ↦ (let (q, at) = is_some (move_of r p.block) (moves inside) in
-      let place : new_place r p ≡ Some q = cond-true (is_in r p) (move_of r p.block) None inside ∙ at in
-      subst (λ (z : Place). IsOutside r z) (sym (renamed_moves r p q place)) (leads p.block q at))
+  | inl inside ↦ (let there : is_some (move_of r p.block) ≡ true = sym (ap (λ b. not b || is_some (move_of r p.block)) inside) ∙ moves in
+      let found = is_there (move_of r p.block) there in
+      let place : new_place r p ≡ Some found.0 = cond-true (is_in r p) (move_of r p.block) None inside ∙ found.1 in
+      subst (λ (z : Place). IsOutside r z) (sym (renamed_moves r p found.0 place)) (leads p.block found.0 found.1))
   | inr outside ↦ (let none : new_place r p ≡ None = cond-false (is_in r p) (move_of r p.block) None outside in
       subst (λ (z : Place). IsOutside r z) (sym (renamed_stays r p none)) outside)
 ]
 
 pub out_of_the_frame : ARenamedChainIsOutOfTheFrame
-out_of_the_frame r i entries told leads = renamed_told r (MovesOut r) (IsOutside r) i entries (goes_out r leads) told
+out_of_the_frame r i entries told leads = renamed_told r (Passes (moves_out r)) (IsOutside r) i entries (goes_out r leads) told
 
 -- ---- the inodes of a chain
 
@@ -99,3 +100,30 @@ by_within P t (e ∷ entries) h = all_cond P (entry_is_by t e) e (entries_by t e
 
 pub points_to_what_it_tells : AChainPointsToWhatItTells
 points_to_what_it_tells test first entries t told = all_within (Passes test) (entries_by t entries) first told.pointers (by_within (TellsWithin (Passes test)) t entries told.sides)
+
+-- ---- either end
+
+before_within : (Is : Place → Type 0) (triples : List Triple) (slots : List (Option Place)) (k : ℕ) → ((n : ℕ) → IfSome (get_or slots n None) Is) → SidesWithin Is triples → IfSome (get_or (with_before triples slots) k None) Is
+before_within Is [] slots k h told = h k
+before_within Is (t ∷ triples) slots k h told = before_within Is triples (set slots t.index t.before) k (λ n. set_within Is slots t.index n t.before h told.0.0) told.1
+
+undone_within : (Is : Place → Type 0) (e : EntryFields) (j : Inode) → PointsWithin Is j → TellsWithin Is e → PointsWithin Is (undone e j)
+unfolding undone
+undone_within Is e j h told k = before_within Is e.triples j.pointers k h told
+
+all_undone_within : (Is : Place → Type 0) (entries : List EntryFields) (j : Inode) → PointsWithin Is j → AllByRecursion (TellsWithin Is) entries → PointsWithin Is (undone_all entries j)
+all_undone_within Is [] j h told = h
+all_undone_within Is (e ∷ entries) j h told = undone_within Is e (undone_all entries j) (all_undone_within Is entries j h told.1) told.0
+
+from_the_end : (Is : Place → Type 0) (i : Inode) (entries : List EntryFields) → ToldWithin Is i entries → ToldWithin Is (redone_all entries i) entries
+from_the_end Is i entries h = record { pointers = all_within Is entries i h.pointers h.sides; sides = h.sides }
+
+from_the_beginning : (Is : Place → Type 0) (i : Inode) (entries : List EntryFields) → ToldWithin Is i entries → ToldWithin Is (undone_all entries i) entries
+from_the_beginning Is i entries h = record { pointers = all_undone_within Is entries i h.pointers h.sides; sides = h.sides }
+
+pub from_either_end : AChainIsToldFromEitherEnd
+from_either_end test i entries h = (from_the_end (Passes test) i entries h, from_the_beginning (Passes test) i entries h)
+
+pub apart_from_either_end : ApartFromEitherEnd
+apart_from_either_end r i entries apart =
+    (record { distinct = apart.distinct; told = from_the_end (IsNotNew r) i entries apart.told }, record { distinct = apart.distinct; told = from_the_beginning (IsNotNew r) i entries apart.told })

@@ -1,6 +1,6 @@
--- When a renaming is apart from a chain: its new places are places of which the chain doesn't tell.
-use Rattle.std.specs.Prelude.{◌≡◌, ◌≢◌, ℕ, true, false, List, Some, None, IsSome}
-use Rattle.std.specs.List.{AllByRecursion}
+-- Of which places a chain tells, and when a renaming is apart from it: no new place is one of these.
+use Rattle.std.specs.Prelude.{◌≡◌, ◌≢◌, ℕ, Bool, true, false, not, ◌||◌, List, [], ◌∷◌, ◌++◌, Option, Some, None, is_some}
+use Rattle.std.specs.List.{AllByRecursion, flat_map}
 use Rattle.s4_types.specs.Pointer.{Place}
 use Rattle.codec.specs.declared.inodes.Inode.{Inode}
 use Rattle.codec.specs.Entry.{EntryFields}
@@ -11,6 +11,15 @@ use Rattle.chain_moving.specs.Renaming.{RenamingFields, move_of, is_in, new_plac
 pub record ToldWithin (Is : Place → Type 0) (i : Inode) (entries : List EntryFields) : Type 0 where
   pub pointers : PointsWithin Is i
   pub sides : AllByRecursion (TellsWithin Is) entries
+
+-- a place that passes a test
+abbrev pub Passes : (Place → Bool) → Place → Type 0
+Passes test p = test p ≡ true
+
+-- All pointers of which an inode and entries tell, holes among them: those of the inode, and behind them both sides of each
+-- triple, the oldest entry first.
+abbrev pub slots_told : Inode → List EntryFields → List (Option Place)
+slots_told i entries = i.pointers ++ flat_map (λ e. flat_map (λ t. t.before ∷ t.after ∷ []) e.triples) entries
 
 -- no two blocks move to one place
 abbrev pub HasDistinctPlaces : RenamingFields → Type 0
@@ -30,8 +39,8 @@ abbrev pub IsOutside : RenamingFields → Place → Type 0
 IsOutside r p = is_in r p ≡ false
 
 -- where the place is in the frame at that generation, its block moves
-abbrev pub MovesOut : RenamingFields → Place → Type 0
-MovesOut r p = is_in r p ≡ true → IsSome (move_of r p.block)
+abbrev pub moves_out : RenamingFields → Place → Bool
+moves_out r p = not (is_in r p) || is_some (move_of r p.block)
 
 -- each new place is of this kind
 abbrev pub LeadsWithin : (Place → Type 0) → RenamingFields → Type 0

@@ -1,8 +1,7 @@
 -- The laws of renamed chains.
-use Rattle.std.specs.Prelude.{◌≡◌, ◌≢◌, ℕ, ◌+◌, ◌≤◌, Bool, true, List, length, map, Option, Some, IfSome}
+use Rattle.std.specs.Prelude.{◌≡◌, ℕ, Bool, true, List, map}
 use Rattle.std.specs.List.{AllByRecursion, Contains}
 use Rattle.s4_types.specs.Pointer.{Place}
-use Rattle.s4_types.specs.declared.limits.TheConstants.{PAYLOAD_BLOCKS}
 use Rattle.codec.specs.declared.inodes.Inode.{Inode}
 use Rattle.codec.specs.Checkpoint.{pointer_at}
 use Rattle.codec.specs.Entry.{EntryFields, entry_rules, entry_length, entries_length}
@@ -12,9 +11,9 @@ use Rattle.undo_redo.specs.Runs.{Run, redone_all, undone_all, inode_after, blank
 use Rattle.inode.specs.Contents.{meaning}
 use Rattle.inode.specs.Tidiness.{Tidy}
 use Rattle.chain_cleaning.specs.Chains.{IsChain}
-use Rattle.chain_cleaning.specs.Laws.{IsPlaceOf, PointsWithin, TellsWithin}
-use Rattle.chain_moving.specs.Renaming.{RenamingFields, renaming_of, with_move, move_of, renamed, renamed_slot, renamed_entry, renamed_entries, renamed_inode}
-use Rattle.chain_moving.specs.Apart.{ToldWithin, HasDistinctPlaces, IsNotNew, IsApart, IsOutside, MovesOut, LeadsWithin, HasCopies}
+use Rattle.chain_cleaning.specs.Laws.{PointsWithin, TellsWithin}
+use Rattle.chain_moving.specs.Renaming.{RenamingFields, renamed_slot, renamed_entry, renamed_entries, renamed_inode}
+use Rattle.chain_moving.specs.Apart.{Passes, ToldWithin, HasDistinctPlaces, IsNotNew, IsApart, HasCopies}
 
 -- ---- undo and redo
 
@@ -56,15 +55,9 @@ ABlankInodeStays = (r : RenamingFields) (created : ℕ) → renamed_inode r (bla
 abbrev pub APointerIsRenamed : Type 0
 APointerIsRenamed = (r : RenamingFields) (i : Inode) (n : ℕ) → pointer_at (renamed_inode r i) n ≡ renamed_slot r (pointer_at i n)
 
--- ---- one to one
+-- ---- chains
 
--- Where the new places are distinct, renaming is one to one on the places that aren't new.
-abbrev pub RenamingIsOneToOne : Type 0
-RenamingIsOneToOne =
-    (r : RenamingFields) (p q : Place)
-    → HasDistinctPlaces r → IsNotNew r p → IsNotNew r q → renamed r p ≡ renamed r q → p ≡ q
-
--- So entries that tell of no new place keep the rules of entries when they are renamed.
+-- Entries that tell of no new place keep the rules of entries when they are renamed.
 abbrev pub RenamedEntriesKeepTheRules : Type 0
 RenamedEntriesKeepTheRules =
     (r : RenamingFields) (entries : List EntryFields)
@@ -104,10 +97,6 @@ ARenamedChainTakesAsManyBytes = (r : RenamingFields) (entries : List EntryFields
 
 -- ---- versions
 
--- a place that passes a test
-abbrev pub Passes : (Place → Bool) → Place → Type 0
-Passes test p = test p ≡ true
-
 -- An inode that is renamed means over the copied blocks what it meant, and is tidy where it was: the places that it points to
 -- are among those of the test, and the contents are copied for these.
 abbrev pub ARenamedInodeMeansTheSame : Type 0
@@ -116,62 +105,10 @@ ARenamedInodeMeansTheSame =
     → HasCopies (Passes test) r contents others → PointsWithin (Passes test) i
     → (meaning others (renamed_inode r i) ≡ meaning contents i) × (Tidy contents i → Tidy others (renamed_inode r i))
 
--- A chain that tells alone of places that pass a test points to such places at each moment.
-abbrev pub AChainPointsToWhatItTells : Type 0
-AChainPointsToWhatItTells =
-    (test : Place → Bool) (first : Inode) (entries : List EntryFields) (t : ℕ)
-    → ToldWithin (Passes test) first entries → PointsWithin (Passes test) (inode_after first entries t)
-
--- So a renamed chain shows at each moment an inode that means over the copied blocks what the old one meant.
+-- A renamed chain shows at each moment an inode that means over the copied blocks what the old one meant.
 abbrev pub ARenamedChainShowsTheSame : Type 0
 ARenamedChainShowsTheSame =
     (test : Place → Bool) (r : RenamingFields) (contents others : Place → List ℕ) (first : Inode) (entries : List EntryFields) (t : ℕ)
     → HasCopies (Passes test) r contents others → ToldWithin (Passes test) first entries
     → (meaning others (inode_after (renamed_inode r first) (renamed_entries r entries) t) ≡ meaning contents (inode_after first entries t))
     × (Tidy contents (inode_after first entries t) → Tidy others (inode_after (renamed_inode r first) (renamed_entries r entries) t))
-
--- ---- places
-
--- A renamed chain tells of what the old one told of, renamed: where each place that passes a first test is renamed to one that
--- passes a second, a chain that told alone of places of the first tells alone of places of the second.
-abbrev pub ARenamedChainTellsOfRenamedPlaces : Type 0
-ARenamedChainTellsOfRenamedPlaces =
-    (was is : Place → Bool) (r : RenamingFields) (i : Inode) (entries : List EntryFields)
-    → ((p : Place) → was p ≡ true → is (renamed r p) ≡ true) → ToldWithin (Passes was) i entries
-    → ToldWithin (Passes is) (renamed_inode r i) (renamed_entries r entries)
-
--- Each place to which a chain points at some moment is one to which the renamed chain points then, renamed.
-abbrev pub EachPlaceIsPointedToRenamed : Type 0
-EachPlaceIsPointedToRenamed =
-    (r : RenamingFields) (first : Inode) (entries : List EntryFields) (p : Place)
-    → IsPlaceOf first entries p → IsPlaceOf (renamed_inode r first) (renamed_entries r entries) (renamed r p)
-
--- Where each place of a chain that lies in the frame moves, and no block moves to a place there, a renamed chain tells of no
--- place in the frame at that generation.
-abbrev pub ARenamedChainIsOutOfTheFrame : Type 0
-ARenamedChainIsOutOfTheFrame =
-    (r : RenamingFields) (i : Inode) (entries : List EntryFields)
-    → ToldWithin (MovesOut r) i entries → LeadsWithin (IsOutside r) r → ToldWithin (IsOutside r) (renamed_inode r i) (renamed_entries r entries)
-
--- ---- how a renaming comes to be apart
-
--- With no moves no block moves.
-abbrev pub NothingMovesYet : Type 0
-NothingMovesYet = (frame generation n : ℕ) (p : Place) → move_of (renaming_of frame generation) n ≢ Some p
-
--- With a new place for a block, that block moves there, and the others as before.
-abbrev pub OneMoreMoves : Type 0
-OneMoreMoves =
-    (r : RenamingFields) (block n : ℕ) (to p : Place)
-    → length r.moves ≡ PAYLOAD_BLOCKS → 1 ≤ block → block ≤ PAYLOAD_BLOCKS
-    → (move_of (with_move r block to) block ≡ Some to) × (n ≢ block → move_of (with_move r block to) n ≡ move_of r n)
-
--- A renaming without moves is apart from each chain.
-abbrev pub ARenamingBeginsApart : Type 0
-ARenamingBeginsApart = (frame generation : ℕ) (first : Inode) (entries : List EntryFields) → IsApart (renaming_of frame generation) first entries
-
--- It stays apart where a block gets a new place that is no other's, and of which the chain doesn't tell.
-abbrev pub ARenamingStaysApart : Type 0
-ARenamingStaysApart =
-    (r : RenamingFields) (block : ℕ) (to : Place) (first : Inode) (entries : List EntryFields)
-    → IsApart r first entries → IsNotNew r to → ToldWithin (λ p. p ≢ to) first entries → IsApart (with_move r block to) first entries

@@ -1,5 +1,6 @@
 //! Laws of renamed chains, for the layers above: each function does nothing, and its contract is the law.
-ghost use Rattle.chain_moving.specs.Laws.{RenamingCommutesWithRedo, RenamingCommutesWithUndo, RenamingCommutesWithRedoOfAll, RenamingCommutesWithUndoOfAll, ARenamedChainShowsRenamedInodes, ARenamedLinkIsALink, ARenamedRunIsARun, ABlankInodeStays, APointerIsRenamed, RenamingIsOneToOne, RenamedEntriesKeepTheRules, ARenamedChainIsAChain, RenamedEntriesKeepTheirMoments, RenamedEntriesHaveOldMoments, TheMomentsOfRenamedEntriesAreOld, RenamedEntriesTakeAsManyBytes, ARenamedChainTakesAsManyBytes, ARenamedInodeMeansTheSame, AChainPointsToWhatItTells, ARenamedChainShowsTheSame, ARenamedChainTellsOfRenamedPlaces, EachPlaceIsPointedToRenamed, ARenamedChainIsOutOfTheFrame, NothingMovesYet, OneMoreMoves, ARenamingBeginsApart, ARenamingStaysApart};
+ghost use Rattle.chain_moving.specs.Laws.{RenamingCommutesWithRedo, RenamingCommutesWithUndo, RenamingCommutesWithRedoOfAll, RenamingCommutesWithUndoOfAll, ARenamedChainShowsRenamedInodes, ARenamedLinkIsALink, ARenamedRunIsARun, ABlankInodeStays, APointerIsRenamed, RenamedEntriesKeepTheRules, ARenamedChainIsAChain, RenamedEntriesKeepTheirMoments, RenamedEntriesHaveOldMoments, TheMomentsOfRenamedEntriesAreOld, RenamedEntriesTakeAsManyBytes, ARenamedChainTakesAsManyBytes, ARenamedInodeMeansTheSame, ARenamedChainShowsTheSame};
+ghost use Rattle.chain_moving.specs.Places.{WhatIsToldIsListed, WhatIsToldPassesToo, AChainIsToldFromEitherEnd, AChainPointsToWhatItTells, RenamingIsOneToOne, ARenamedChainTellsInOrder, ARenamedChainTellsOfRenamedPlaces, EachPlaceIsPointedToRenamed, ARenamedChainIsOutOfTheFrame, NothingMovesYet, OneMoreMoves, PlacesStayDistinct, NewPlacesAnswerAlike, ATestTellsApart, ApartFromEitherEnd};
 
 use inode::laws::{only_its_blocks_matter, ranges_join_and_part};
 
@@ -51,12 +52,6 @@ pub fn a_renamed_chain_takes_as_many_bytes()
     ensures all { ARenamedChainTakesAsManyBytes }
 {}
 
-/// A chain points at each moment to places alone of which it tells.
-#[tactic(auto, using(crate::proofs::Told::points_to_what_it_tells))]
-pub fn a_chain_points_to_what_it_tells()
-    ensures { AChainPointsToWhatItTells }
-{}
-
 /// A renamed inode means over the copied blocks what the inode meant, and is tidy where it was.
 pub fn a_renamed_inode_means_the_same()
     ensures { ARenamedInodeMeansTheSame }
@@ -70,12 +65,22 @@ pub fn a_renamed_chain_shows_the_same()
     ensures { ARenamedChainShowsTheSame }
 {
     a_renamed_inode_means_the_same();
-    a_chain_points_to_what_it_tells();
+    what_a_chain_tells();
 }
 
-/// What a renamed chain tells of is what the old one told of, renamed, at each moment.
-#[tactic(auto, using(crate::proofs::Told::pointed_renamed))]
+/// What a chain tells is told by the list of its pointers, and from either end. At each moment the chain points to places
+/// alone of which it tells.
+pub fn what_a_chain_tells()
+    ensures listed { WhatIsToldIsListed }
+    ensures too { WhatIsToldPassesToo }
+    ensures ends { AChainIsToldFromEitherEnd }
+    ensures points { AChainPointsToWhatItTells }
+{}
+
+/// What a renamed chain tells of is what the old one told of, renamed: in the same order, and at each moment.
+#[tactic(auto, using(crate::proofs::Told::pointed_renamed, crate::proofs::Listed::told_in_order))]
 pub fn a_renamed_chain_tells_of_renamed_places()
+    ensures order { ARenamedChainTellsInOrder }
     ensures told { ARenamedChainTellsOfRenamedPlaces }
     ensures pointed { EachPlaceIsPointedToRenamed }
 {}
@@ -85,15 +90,19 @@ pub fn a_renamed_chain_is_out_of_the_frame()
     ensures { ARenamedChainIsOutOfTheFrame }
 {}
 
-/// A new renaming moves nothing, and each move that is put in adds itself alone.
+/// A new renaming moves nothing, and each move that is put in adds itself alone. So the new places stay distinct, and a test
+/// answers of all what it answers of each.
 #[tactic(auto, using(crate::proofs::Growing::one_more))]
 pub fn moves_are_put_in_one_by_one()
     ensures none { NothingMovesYet }
     ensures more { OneMoreMoves }
+    ensures distinct { PlacesStayDistinct }
+    ensures alike { NewPlacesAnswerAlike }
 {}
 
-/// A new renaming is apart from each chain. It stays apart while each new place is no other's and none of the chain's.
-pub fn a_renaming_comes_to_be_apart()
-    ensures begins { ARenamingBeginsApart }
-    ensures stays { ARenamingStaysApart }
+/// A renaming whose new places are distinct is apart from a chain where a test tells them from the places of the chain; and
+/// then from the chain told from its other end.
+pub fn a_test_tells_a_renaming_apart()
+    ensures test { ATestTellsApart }
+    ensures ends { ApartFromEitherEnd }
 {}

@@ -1,9 +1,8 @@
 //! The new places of the blocks of one frame, and pointers renamed by them.
-ghost use Rattle.std.specs.Prelude.{◌≡◌, ◌≤◌, ℕ, true, Option, Some, None, length, map, MatchResult};
+ghost use Rattle.std.specs.Prelude.{◌≡◌, ◌≤◌, length, map, MatchResult};
 ghost use Rattle.std.specs.List.{AllByRecursion};
-ghost use Rattle.s4_types.specs.declared.limits.TheConstants.{PAYLOAD_BLOCKS};
+ghost use Rattle.s4_types.specs.declared.limits.TheConstants.{PAYLOAD_BLOCKS, ENTRY_TRIPLES};
 ghost use Rattle.s4_types.specs.declared.refusals.Refusal.TheVariants.{NoMemory};
-ghost use Rattle.codec.specs.Entry.{EntryFields};
 ghost use Rattle.chain_cleaning.specs.Laws.{TellsWithin};
 ghost use Rattle.chain_moving.specs.Renaming.{renaming_of, no_moves, with_move, renamed, renamed_slot, renamed_triple, renamed_entry, renamed_entries, renamed_inode};
 ghost use Rattle.chain_moving.specs.Apart.{HasDistinctPlaces, IsNotNew};
@@ -17,7 +16,7 @@ use std::marker::Model;
 /// The new places of the blocks of one frame at one generation, for those of its blocks that move.
 ///
 /// Contracts see the frame, the generation and a place, or none, for each of the blocks from 1 to 15. It takes no memory.
-#[derive(Clone, Copy, Drop)]
+#[derive(Clone, Copy)]
 pub struct Renaming {
     frame: u16,
     generation: u32,
@@ -51,6 +50,7 @@ impl Renaming {
     /// A renaming of places in a frame at a generation. No block of it moves yet.
     pub fn new(frame: u16, generation: u32) -> Self
         ensures exact { result ≡ renaming_of frame generation }
+        ensures count { length result.moves ≡ PAYLOAD_BLOCKS }
     {
         Renaming {
             frame,
@@ -69,6 +69,7 @@ impl Renaming {
         self.moves[block as usize - 1] = Some(to);
     }
 
+    /// The new place, where the block at the place moves; else the place as it is.
     fn rename_place(&self, place: Ptr) -> Ptr
         ensures { result ≡ renamed self.now place }
     {
@@ -101,6 +102,7 @@ impl Renaming {
         }
     }
 
+    /// Both pointers of a triple renamed.
     fn rename_triple(&self, triple: Triple) -> Triple
         ensures { result ≡ renamed_triple self.now triple }
     {
@@ -112,7 +114,7 @@ impl Renaming {
     }
 
     fn rename_triples(&self, triples: &[Triple]) -> Triples
-        requires { length triples.now ≤ 16 }
+        requires { length triples.now ≤ ENTRY_TRIPLES }
         ensures { result.items ≡ map (renamed_triple self.now) triples.now }
     {
         let mut renamed = Triples::new();
@@ -138,10 +140,10 @@ impl Renaming {
         .unwrap()
     }
 
-    /// The entries with both pointers of each triple renamed. They tell of no new place, so that the two pointers of a
-    /// triple differ when they are renamed, too.
+    /// The entries with both pointers of each triple renamed. The new places must be distinct, and none of them one of
+    /// which the entries tell: so the two pointers of a triple, which differ, differ when they are renamed, too.
     ///
-    /// NoMemory alone, where the memory for them is refused: it is asked for once.
+    /// NoMemory alone, where the memory for the entries is refused: it is asked for once. Linear in the triples.
     pub fn rename_entries(&self, alloc: Global, entries: &[Entry]) -> Result<Vec<Entry>, Refusal>
         requires distinct { HasDistinctPlaces self.now }
         requires apart { AllByRecursion (TellsWithin (IsNotNew self.now)) entries.now }

@@ -1,4 +1,4 @@
-use Rattle.std.proofs.Common.{◌≡◌, List, map, Option, Some, refl, ap, subst, sym, ◌∙◌}
+use Rattle.std.proofs.Common.{List, map, Option, refl, ap, subst, sym, ◌∙◌}
 use Rattle.std.specs.Prelude.{IsSome}
 use Rattle.codec.specs.declared.entries.Triple.{Triple}
 use Rattle.codec.specs.Entry.{EntryFields}
