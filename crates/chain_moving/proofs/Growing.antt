@@ -13,7 +13,7 @@ use Rattle.codec.specs.Entry.{EntryFields}
 use Rattle.chain_cleaning.specs.Laws.{TellsWithin}
 use Rattle.chain_moving.specs.Renaming.{RenamingFields, no_moves, with_move, move_of}
 use Rattle.chain_moving.specs.Apart.{Passes, ToldWithin, IsNotNew}
-use Rattle.chain_moving.specs.Places.{WhatIsToldPassesToo, NothingMovesYet, OneMoreMoves, PlacesStayDistinct, NewPlacesAnswerAlike, ATestTellsApart}
+use Rattle.chain_moving.specs.Places.{WhatIsToldPassesToo, NothingMovesYet, NoPlacesAreDistinct, NoPlacesAnswerAlike, OneMoreMoves, PlacesStayDistinct, NewPlacesAnswerAlike, ATestTellsApart}
 use Rattle.chain_moving.proofs.Told.{SidesWithin}
 
 -- ---- what is told passes on
@@ -47,6 +47,12 @@ pub nothing_moves : NothingMovesYet
 unfolding no_moves
 nothing_moves frame generation zero p h = cc
 nothing_moves frame generation (suc n) p h = let none : get_or {A = Option Place} (replicate 15 None) n None ≡ None = none_at 15 n in cc
+
+pub none_distinct : NoPlacesAreDistinct
+none_distinct frame generation m n p at too = absurd (nothing_moves frame generation m p at)
+
+pub none_lead : NoPlacesAnswerAlike
+none_lead test answer frame generation n p at = absurd (nothing_moves frame generation n p at)
 
 -- ---- one more move
 

@@ -79,6 +79,13 @@ ARenamedChainIsOutOfTheFrame =
 abbrev pub NothingMovesYet : Type 0
 NothingMovesYet = (frame generation n : ℕ) (p : Place) → move_of (renaming_of frame generation) n ≢ Some p
 
+-- So there are no two new places yet, and what is asked of each new place holds of all.
+abbrev pub NoPlacesAreDistinct : Type 0
+NoPlacesAreDistinct = (frame generation : ℕ) → HasDistinctPlaces (renaming_of frame generation)
+
+abbrev pub NoPlacesAnswerAlike : Type 0
+NoPlacesAnswerAlike = (test : Place → Bool) (answer : Bool) (frame generation : ℕ) → LeadsWithin (λ p. test p ≡ answer) (renaming_of frame generation)
+
 -- With a new place for a block, that block moves there, and the others as before.
 abbrev pub OneMoreMoves : Type 0
 OneMoreMoves =

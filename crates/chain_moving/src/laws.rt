@@ -1,6 +1,6 @@
 //! Laws of renamed chains, for the layers above: each function does nothing, and its contract is the law.
 ghost use Rattle.chain_moving.specs.Laws.{RenamingCommutesWithRedo, RenamingCommutesWithUndo, RenamingCommutesWithRedoOfAll, RenamingCommutesWithUndoOfAll, ARenamedChainShowsRenamedInodes, ARenamedLinkIsALink, ARenamedRunIsARun, ABlankInodeStays, APointerIsRenamed, RenamedEntriesKeepTheRules, ARenamedChainIsAChain, RenamedEntriesKeepTheirMoments, RenamedEntriesHaveOldMoments, TheMomentsOfRenamedEntriesAreOld, RenamedEntriesTakeAsManyBytes, ARenamedChainTakesAsManyBytes, ARenamedInodeMeansTheSame, ARenamedChainShowsTheSame};
-ghost use Rattle.chain_moving.specs.Places.{WhatIsToldIsListed, WhatIsToldPassesToo, AChainIsToldFromEitherEnd, AChainPointsToWhatItTells, RenamingIsOneToOne, ARenamedChainTellsInOrder, ARenamedChainTellsOfRenamedPlaces, EachPlaceIsPointedToRenamed, ARenamedChainIsOutOfTheFrame, NothingMovesYet, OneMoreMoves, PlacesStayDistinct, NewPlacesAnswerAlike, ATestTellsApart, ApartFromEitherEnd};
+ghost use Rattle.chain_moving.specs.Places.{WhatIsToldIsListed, WhatIsToldPassesToo, AChainIsToldFromEitherEnd, AChainPointsToWhatItTells, RenamingIsOneToOne, ARenamedChainTellsInOrder, ARenamedChainTellsOfRenamedPlaces, EachPlaceIsPointedToRenamed, ARenamedChainIsOutOfTheFrame, NothingMovesYet, NoPlacesAreDistinct, NoPlacesAnswerAlike, OneMoreMoves, PlacesStayDistinct, NewPlacesAnswerAlike, ATestTellsApart, ApartFromEitherEnd};
 
 use inode::laws::{only_its_blocks_matter, ranges_join_and_part};
 
@@ -95,6 +95,8 @@ pub fn a_renamed_chain_is_out_of_the_frame()
 #[tactic(auto, using(crate::proofs::Growing::one_more))]
 pub fn moves_are_put_in_one_by_one()
     ensures none { NothingMovesYet }
+    ensures none_distinct { NoPlacesAreDistinct }
+    ensures none_alike { NoPlacesAnswerAlike }
     ensures more { OneMoreMoves }
     ensures distinct { PlacesStayDistinct }
     ensures alike { NewPlacesAnswerAlike }

@@ -48,9 +48,11 @@ fn no_moves() -> [Option<Ptr>; PAYLOAD_BLOCKS]
 
 impl Renaming {
     /// A renaming of places in a frame at a generation. No block of it moves yet.
+    #[tactic(auto, using(crate::proofs::Growing::none_distinct))]
     pub fn new(frame: u16, generation: u32) -> Self
         ensures exact { result ≡ renaming_of frame generation }
         ensures count { length result.moves ≡ PAYLOAD_BLOCKS }
+        ensures distinct { HasDistinctPlaces result }
     {
         Renaming {
             frame,
@@ -59,12 +61,14 @@ impl Renaming {
         }
     }
 
-    /// Gives a block of the frame, from 1 to 15, a new place. An earlier one is forgotten.
+    /// Gives a block of the frame, from 1 to 15, a new place. An earlier one is forgotten. The new places stay distinct where
+    /// this one is no other's.
     pub fn insert(&mut self, block: u8, to: Ptr)
         requires lowest { 1 ≤ block }
         requires highest { block ≤ PAYLOAD_BLOCKS }
         ensures exact { self.new ≡ with_move self.old block to }
         ensures count { length self.new.moves ≡ PAYLOAD_BLOCKS }
+        ensures distinct { HasDistinctPlaces self.old → IsNotNew self.old to → HasDistinctPlaces self.new }
     {
         self.moves[block as usize - 1] = Some(to);
     }
