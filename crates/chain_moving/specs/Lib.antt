@@ -1,0 +1,4 @@
+pub mod Renaming
+pub mod Apart
+pub mod Laws
+pub mod Places
