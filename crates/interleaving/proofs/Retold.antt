@@ -1,11 +1,10 @@
 -- What a run leaves of drive and actors, told by the history alone.
 use Rattle.std.proofs.Common.{◌≡◌, ◌⊎◌, ℕ, List, [], ◌∷◌, zero, suc, Option, None, Some, Result, Ok, Err, inl, inr, refl, sym, ap, ◌∙◌, subst, map}
-use Rattle.std.specs.Prelude.{slice_get, slice_set, option_map}
-use Rattle.std.proofs.lemmas.List.{map-set}
+use Rattle.std.specs.Prelude.{slice_get, option_map}
+use Rattle.std.proofs.lemmas.List.{map-id, map-set}
 use Rattle.atomic_table.specs.Seated.{TableId}
 use Rattle.s4_types.specs.History.{Base, History}
 use Rattle.s4_types.specs.declared.refusals.Refusal.{Refusal}
-use Rattle.s4_types.specs.declared.requests.Role.{Role}
 use Rattle.s4_types.specs.declared.requests.Request.TheVariants.{Read}
 use Rattle.s4_model.specs.Step.{Step as ModelStep}
 use Rattle.segment_word.specs.AcceptViews.{Ledger}
@@ -14,11 +13,10 @@ use Rattle.drive.specs.Fields.{DriveFields, history_of}
 use Rattle.drive.specs.Answering.{reply_planned}
 use Rattle.interleaving.specs.Moving.{Move, Moving, Still, Planned, Copied}
 use Rattle.interleaving.specs.Actors.{ActorFields}
-use Rattle.interleaving.specs.Acting.{Acts, Resolves, CopiesBy, FetchesBy, PutsBy, answer_to, plan_after}
+use Rattle.interleaving.specs.Acting.{Acts, CopiesBy, FetchesBy, PutsBy, answer_to, plan_after}
 use Rattle.interleaving.specs.Running.{Goes, GoesAt, GoesBy, Run}
 use Rattle.interleaving.specs.Telling.{Reader, named_by, reader_of, Names, NamesNothing, GivesBy, ActTells, TellsBy, TellsAt, Tells, Replays}
 use Rattle.interleaving.specs.declared.answers.Answer.{Answer}
-use Rattle.interleaving.specs.declared.answers.Answer.TheVariants as answer
 use Rattle.interleaving.specs.declared.acts.Act.{Act}
 use Rattle.interleaving.specs.declared.acts.Act.TheVariants as act
 use Rattle.interleaving.specs.declared.steps.Step.{Step}
@@ -111,3 +109,11 @@ module _ (cleans : ℕ → DriveFields → Result (Unit {0}) Refusal → DriveFi
       (history_of h.0, map reader_of h.1, step_tells s d h.0 actors h.1 x h.2, run_tells begins frames steps answers h.0 after h.1 later h.4)
   run_tells begins frames [] (x ∷ answers) d after actors later h = absurd h
   run_tells begins frames (s ∷ steps) [] d after actors later h = absurd h
+
+  -- what a run tells that took all steps of a list
+  pub told_whole : (begins : Base) (frames : TableId) (taken copies steps : List Step) (answers : List Answer) (d after : DriveFields) (actors later : List ActorFields)
+      → map (λ (s : Step). s) taken ≡ copies → copies ≡ steps
+      → Run cleans commits begins frames d actors taken answers after later → Replays (history_of d) (map reader_of actors) steps answers (history_of after) (map reader_of later)
+  told_whole begins frames taken copies steps answers d after actors later all same run =
+      subst (λ (x : List Step). Replays (history_of d) (map reader_of actors) x answers (history_of after) (map reader_of later)) (sym (map-id taken) ∙ all ∙ same)
+      (run_tells begins frames taken answers d after actors later run)

@@ -1,6 +1,6 @@
 -- What calls of the drive tell of an actor, whose session they were given.
-use Rattle.std.proofs.Common.{◌≡◌, ℕ, Option, None, Some, Result, Ok, Err, IfOk, IfErr, refl, ap}
-use Rattle.std.specs.Prelude.{OnOk, MatchResult}
+use Rattle.std.proofs.Common.{◌≡◌, ℕ, Option, Result, IfOk, refl, ap}
+use Rattle.std.specs.Prelude.{MatchResult}
 use Rattle.s4_types.specs.Sizes.{ReplyFits}
 use Rattle.s4_types.specs.declared.requests.Request.{Request}
 use Rattle.s4_types.specs.declared.requests.Request.TheVariants.{Read}

@@ -1,5 +1,5 @@
 -- What a step of an actor is answered, and what it leaves of the drive and of the actor.
-use Rattle.std.specs.Prelude.{◌≡◌, ◌⊎◌, ℕ, false, true, Option, None, Some, IsSome, Result, Ok, Err, IfOk, IfErr, OnOk, OnErr, MatchResult}
+use Rattle.std.specs.Prelude.{◌≡◌, ◌⊎◌, ℕ, false, true, Option, None, Some, IsSome, Result, Ok, Err, IfOk, OnOk, OnErr, MatchResult}
 use mathlib.Core.List.{IsPrefix}
 use Rattle.s4_types.specs.Sizes.{ReplyFits}
 use Rattle.s4_types.specs.declared.requests.Request.{Request}

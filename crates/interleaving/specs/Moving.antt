@@ -1,5 +1,5 @@
 -- What a move of an object's blocks out of a frame is of, and when it is out of date.
-use Rattle.std.specs.Prelude.{◌≡◌, ℕ, Bool, false, List, [], MatchBool, MatchOption}
+use Rattle.std.specs.Prelude.{◌≡◌, ℕ, Bool, false, [], MatchBool, MatchOption}
 use Rattle.s4_types.specs.Pointer.{Place}
 use Rattle.object_map.specs.Rows.{row_of}
 use Rattle.segment_table.specs.Room.{pointers_in}

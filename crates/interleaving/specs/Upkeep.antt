@@ -1,5 +1,5 @@
 -- What a step of the drive alone is answered, and what it leaves of the drive.
-use Rattle.std.specs.Prelude.{◌≡◌, ◌≢◌, ◌⊎◌, ℕ, ◌+◌, ◌^◌, ◌<◌, ◌≤◌, List, ◌++◌, Option, None, Some, IfSome, Result, IfErr, OnOk, OnErr, MatchResult}
+use Rattle.std.specs.Prelude.{◌≡◌, ◌≢◌, ◌⊎◌, ℕ, ◌+◌, ◌^◌, ◌<◌, ◌≤◌, ◌++◌, None, Some, IfSome, Result, IfErr, OnOk, OnErr, MatchResult}
 use Rattle.s4_types.specs.declared.refusals.Refusal.{Refusal}
 use Rattle.s4_types.specs.declared.refusals.Refusal.TheVariants.{NoMemory, NoRoom, InUse}
 use Rattle.undo_redo.specs.Runs.{AllBy}
@@ -12,7 +12,7 @@ use Rattle.object_map.specs.Rows.{row_of}
 use Rattle.time_read.specs.Rows.{entries_of}
 use Rattle.version_store.specs.Checkpointing.{checkpoint_refusal, Checkpoints}
 use Rattle.version_store.specs.Emptying.{CanBeEmptied}
-use Rattle.version_store.specs.Versions.{version_in}
+use Rattle.version_store.specs.Versions.{inode_in, version_in}
 use Rattle.drive.specs.Fields.{DriveFields, state_in, store_of}
 use Rattle.drive.specs.Keeping.{KeepsVersions}
 
@@ -37,6 +37,7 @@ pub record WritesCheckpoint (object : ℕ) (d : DriveFields) (done : Result (Uni
   pub unchanged : OnErr done (store_of later ≡ store_of d)
   pub ledger : later.ledger ≡ d.ledger
   pub versions : (o t : ℕ) → version_in (store_of later) o t ≡ version_in (store_of d) o t
+  pub inodes : (o t : ℕ) → inode_in (store_of later) o t ≡ inode_in (store_of d) o t
 
 -- A frame is being emptied from now on. InUse exactly where it isn't sealed or isn't there, or where one of its blocks is held.
 pub record Marks (frame : ℕ) (d : DriveFields) (done : Result (Unit {0}) Refusal) (later : DriveFields) : Type 0 where
@@ -53,14 +54,17 @@ pub record Releases (frame : ℕ) (d : DriveFields) (done : Result (Unit {0}) Re
   pub told : IfErr done (λ e. e ≡ InUse)
   pub missed : OnErr done ((frame_at d.store.table.drive.frames frame).phase ≡ Emptied → HasMissed frame d.store.table.drive later.store.table.drive)
   pub idle : OnErr done ((frame_at d.store.table.drive.frames frame).phase ≢ Emptied → later ≡ d)
+  pub refused : OnErr done ((later.store.table.drive.frames ≡ d.store.table.drive.frames) × (later.store.table.slots ≡ d.store.table.slots))
   pub unchanged : OnErr done (store_of later ≡ store_of d)
   pub again : OnOk done ((frame_at d.store.table.drive.frames frame).generation + 2 < 2 ^ 32 → IsAheadAgain frame d.store.table later.store.table)
   pub retired : OnOk done ((frame_at d.store.table.drive.frames frame).generation + 2 ≡ 2 ^ 32 → places_ahead later.store.table ≡ places_ahead d.store.table)
   pub held : (store_of later).log.held ≡ (store_of d).log.held
+  pub spent : (store_of d).log.spent ≤ (store_of later).log.spent
   pub rows : later.store.rows ≡ d.store.rows
   pub latest : later.store.latest ≡ d.store.latest
   pub ledger : later.ledger ≡ d.ledger
   pub versions : (o t : ℕ) → version_in (store_of later) o t ≡ version_in (store_of d) o t
+  pub inodes : (o t : ℕ) → inode_in (store_of later) o t ≡ inode_in (store_of d) o t
 
 -- An object is cleaned, or that is refused for want of room or of memory, and nothing has changed then. The history and every
 -- needed version are as they were. What else a cleaning comes to is the cleaner's own.
