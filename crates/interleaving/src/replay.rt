@@ -103,7 +103,8 @@ pub fn run<J: Naming, C: Cleans<J>, M: Moves<J>>(
     steps: &[Step],
 ) -> Result<Vec<Answer>, Refusal>
     ensures run { IfOk result (λ answers. Run C.cleans M.commits J.base J.frames drive.old actors.old steps.now answers.items drive.new actors.new) }
-    // Of the drive and the actors nothing is needed to tell the answers but the history, and what each plan of a read names.
+    // The same, told by the history alone: requests and reads that are resolved are the model's steps, a fetch gives the bytes
+    // that its plan named when it was made, and all other steps leave the history.
     ensures model { IfOk result (λ answers. Replays (history_of drive.old) (map reader_of actors.old) steps.now answers.items (history_of drive.new) (map reader_of actors.new)) }
     ensures decodes { DecodesWhereVisible (store_of drive.new) (state_in drive.new) }
     ensures base { (history_of drive.new).base ≡ J.base }
