@@ -1,0 +1,35 @@
+use Rattle.std.proofs.Common.{◌∙◌, arith}
+use Rattle.std.proofs.lemmas.Grind.{common_steps}
+use Rattle.std.proofs.lemmas.Iterator.Adapters.{YieldsList-from_vec}
+use Rattle.std.proofs.lemmas.Iterator.Consumers.{YieldsList-end}
+use Rattle.interleaving.specs.Running.{Stands}
+use Rattle.interleaving.proofs.Runs.{run_on}
+use Rattle.interleaving.proofs.Retold.{told_whole}
+use Rattle.interleaving.proofs.replay.run.Goals as goal
+
+pub loop-step-preserved : goal.loop-step-preserved
+loop-step-preserved g c =
+    let kept = c.rules-in-loop-step.ensures in
+    let stands : Stands g.J.Naming.base g.J.Naming.frames c.take_step-answer.new.drive = record {
+      decodes = kept.decodes;
+      base = kept.base;
+      table = kept.frames;
+      sound = kept.sound;
+      store = kept.store;
+      past = kept.past;
+      whole = kept.whole;
+    } in
+    record {
+      run = run_on g.C.Cleans.cleans g.M.Moves.commits g.J.Naming.base g.J.Naming.frames c.loop-step.yielded c.loop-step.answers.items c.push_reserved.new.self.items c.args.drive.now c.loop-step.drive c.take_step-answer.new.drive
+          c.args.actors.now c.loop-step.actors c.take_step-answer.new.actors c.in-Some.step c.take_step-answer.result c.push_reserved.ensures.items c.loop-step.invariant.run c.take_step-answer.ensures stands;
+      counted = grind (arith, common_steps);
+      room = grind arith;
+    }
+
+pub returns-clause-model : goal.returns-clause-model
+returns-clause-model g c =
+    let made = c.into_iter-step-iterator.ensures.into_iter_gives in
+    let road = YieldsList-from_vec {s = c.into_iter-step-iterator.result} c.in_ok-todo.todo.items made.0 (made.1 ∙ c.in_ok-todo.todo.ok.0) in
+    let whole = YieldsList-end road c.loop-step.yielded c.loop-step.step-iterator c.loop-step.yielded_by c.next.result c.next.new.self c.in-None.is c.next.ensures.steps in
+    told_whole g.C.Cleans.cleans g.M.Moves.commits g.J.Naming.base g.J.Naming.frames c.loop-step.yielded c.in_ok-todo.todo.items c.args.steps.now c.loop-step.answers.items c.args.drive.now c.loop-step.drive c.args.actors.now c.loop-step.actors
+    whole.0 c.in_ok-todo.ensures.copies c.loop-step.invariant.run
