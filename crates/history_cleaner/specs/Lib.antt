@@ -1,1 +1,4 @@
 pub mod Laws
+pub mod Sight
+pub mod Cleaning
+pub mod private
