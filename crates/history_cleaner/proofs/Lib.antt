@@ -4,3 +4,6 @@ pub mod Showing
 pub mod Seeing
 pub mod EachEntry
 pub mod Putting
+pub mod Emptied
+pub mod Reached
+pub mod Holding

@@ -81,7 +81,7 @@ is_left s state o clock present first entries made read is now exact =
 
 -- ---- what may be put in place
 
-sight_of : (state : State) (o : ℕ) → IsVisible state o state.clock → IsSight (is_seen_between state o) (is_visible state o) state.clock
+pub sight_of : (state : State) (o : ℕ) → IsVisible state o state.clock → IsSight (is_seen_between state o) (is_visible state o) state.clock
 sight_of state o now = record { fits = fits state o; now = visible_true state o state.clock now }
 
 needed_of : (state : State) (o t : ℕ) → IsNeeded state o t → IsOf (is_visible state o) state.clock t

@@ -6,10 +6,14 @@ ghost use Rattle.version_store.specs.Versions.{entries_of_object, inode_in};
 ghost use Rattle.drive.specs.Fields.{state_in, store_of};
 ghost use Rattle.drive.specs.Keeping.{KeepsVersions};
 ghost use Rattle.history_cleaner.specs.Cleaning.{Cleans, IsClean, IsUnseen, HasNoRoom};
+ghost use Rattle.history_cleaner.specs.Reaching.{HoldsWhatIsReached};
 ghost use Rattle.history_cleaner.specs.private.Reading.{IsLeft};
 
 use crate::entries::{are_same, each_is_an_entry};
-use crate::laws::{a_stored_chain_is_a_chain, what_is_left_can_stand, what_is_left_shows_the_same};
+use crate::laws::{
+    a_stored_chain_is_a_chain, held_is_what_is_reached, what_is_left_can_stand,
+    what_is_left_shows_the_same, what_is_left_tells_of_seen_places,
+};
 use crate::sight::Sight;
 use chain_cleaning::{Cleaned, clean};
 use codec::{Entry, Inode};
@@ -19,6 +23,7 @@ use s4_types::{ObjectId, Refusal};
 use segment_word::Naming;
 use std::alloc::Global;
 use undo_redo::undo_all;
+use version_store::laws::{inodes_point_to_what_rows_name, what_is_held_is_what_rows_name};
 
 /// What is left of an object that has this present inode and these entries.
 fn what_is_left<J: Naming>(
@@ -52,6 +57,7 @@ fn put<J: Naming>(
     requires left { IsLeft (store_of drive.old) (state_in drive.old) object entries.now left }
     ensures cleaned { OnOk result (Cleans (store_of drive.old) (state_in drive.old) object (store_of drive.new)) }
     ensures clean { OnOk result (IsClean (store_of drive.new) (state_in drive.old) object) }
+    ensures held { OnOk result (HoldsWhatIsReached (store_of drive.new) (state_in drive.old) object) }
     ensures gone { OnOk result (IsUnseen (store_of drive.old) (state_in drive.old) object → row_of drive.new.store.rows object ≡ None) }
     ensures answer { MatchResult result (λ _. HasNoRoom (store_of drive.old) (state_in drive.old) object → ⊥)
         (λ e. (e ≡ NoMemory) ⊎ ((e ≡ NoRoom) × HasNoRoom (store_of drive.old) (state_in drive.old) object)) }
@@ -61,6 +67,10 @@ fn put<J: Naming>(
 {
     what_is_left_can_stand();
     what_is_left_shows_the_same();
+    what_is_left_tells_of_seen_places();
+    held_is_what_is_reached();
+    what_is_held_is_what_rows_name();
+    inodes_point_to_what_rows_name();
     clock_and_floor_never_fall();
     drive.rules();
     let Some(chain) = left else {
@@ -74,7 +84,8 @@ fn put<J: Naming>(
 }
 
 /// Cleans an object: of its chain those inodes stay that are current at some moment that can be read, with the entries between
-/// them and the present inode as its checkpoint. Where none of them is live, the row goes. Every version that can be read stays
+/// them and the present inode as its checkpoint. Where none of them is live, the row goes. Then exactly those of its data blocks are
+/// held to which a live inode points that is current at such a moment. Every version that can be read stays
 /// as it is, and so does the history, whatever is answered. Without effect for an object that has no row, or whose chain
 /// would hold the entries that it holds.
 ///
@@ -88,6 +99,7 @@ pub fn clean_object<J: Naming>(
 ) -> Result<(), Refusal>
     ensures cleaned { OnOk result (Cleans (store_of drive.old) (state_in drive.old) object (store_of drive.new)) }
     ensures clean { OnOk result (IsClean (store_of drive.new) (state_in drive.old) object) }
+    ensures held { OnOk result (HoldsWhatIsReached (store_of drive.new) (state_in drive.old) object) }
     ensures gone { OnOk result (IsUnseen (store_of drive.old) (state_in drive.old) object → row_of drive.new.store.rows object ≡ None) }
     ensures answer { MatchResult result (λ _. HasNoRoom (store_of drive.old) (state_in drive.old) object → ⊥)
         (λ e. (e ≡ NoMemory) ⊎ ((e ≡ NoRoom) × HasNoRoom (store_of drive.old) (state_in drive.old) object)) }
@@ -95,6 +107,8 @@ pub fn clean_object<J: Naming>(
     ensures ledger { drive.new.ledger ≡ drive.old.ledger }
     ensures needed { KeepsVersions (state_in drive.old) (store_of drive.old) (store_of drive.new) }
 {
+    held_is_what_is_reached();
+    drive.rules();
     let clock = drive.clock();
     let Some(present) = drive.inode_at(object, clock) else {
         return Ok(());

@@ -8,7 +8,9 @@
 
 mod cleaning;
 mod entries;
+mod frames;
 pub mod laws;
 mod sight;
 
 pub use cleaning::clean_object;
+pub use frames::empty_frames;

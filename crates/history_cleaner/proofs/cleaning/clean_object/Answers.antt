@@ -5,6 +5,7 @@ use Rattle.segment_word.specs.AcceptViews.{Ledger}
 use Rattle.version_store.specs.Store.{StoreFields}
 use Rattle.drive.specs.Fields.{state_in, store_of}
 use Rattle.history_cleaner.specs.Cleaning.{Cleans, IsUnseen}
+use Rattle.history_cleaner.specs.Reaching.{HoldsWhatIsReached}
 use Rattle.history_cleaner.proofs.Putting.{moved}
 use Rattle.history_cleaner.proofs.cleaning.clean_object.Goals as goal
 
@@ -23,3 +24,11 @@ returns-clause-gone g c =
     let states : state_in before ≡ state_in c.args.drive.now = ap (λ (l : Ledger). state_of l.history) (c.entries.ensures.ledger ∙ c.inode_at.ensures.ledger) in
     moved (λ (s : StoreFields) (a : State). OnOk c.put.result (IsUnseen s a c.args.object → row_of c.put.new.drive.store.rows c.args.object ≡ None))
     (store_of before) (store_of c.args.drive.now) (state_in before) (state_in c.args.drive.now) stores states c.put.ensures.gone
+
+pub returns-clause-held : goal.returns-clause-held
+returns-clause-held g c =
+    let before = c.entries.new.self in
+    let stores : store_of before ≡ store_of c.args.drive.now = c.entries.ensures.store ∙ c.inode_at.ensures.store in
+    let states : state_in before ≡ state_in c.args.drive.now = ap (λ (l : Ledger). state_of l.history) (c.entries.ensures.ledger ∙ c.inode_at.ensures.ledger) in
+    moved (λ (s : StoreFields) (a : State). OnOk c.put.result (HoldsWhatIsReached (store_of c.put.new.drive) a c.args.object))
+    (store_of before) (store_of c.args.drive.now) (state_in before) (state_in c.args.drive.now) stores states c.put.ensures.held
