@@ -1,4 +1,9 @@
 pub mod Stored
 pub mod Standing
 pub mod Showing
+pub mod Seeing
 pub mod EachEntry
+pub mod Putting
+pub mod Emptied
+pub mod Reached
+pub mod Holding

@@ -1,7 +1,6 @@
 -- What is left of an object's chain stands for the same versions.
-use Rattle.std.proofs.Common.{◌≡◌, ℕ, ◌≤◌, Bool, true, false, leb, cond, inl, inr, List, Option, Some, None, refl, sym, ap, subst, ◌∙◌, arith}
+use Rattle.std.proofs.Common.{◌≡◌, ℕ, ◌≤◌, Bool, true, false, leb, cond, inl, inr, List, Option, Some, None, sym, ap, ◌∙◌, arith}
 use Rattle.s4_types.specs.Pointer.{Place}
-use Rattle.s4_types.specs.declared.versions.Version.{Version}
 use Rattle.s4_types.specs.declared.versions.Version.TheVariants.{Absent, Live}
 use Rattle.codec.specs.declared.inodes.Inode.{Inode}
 use Rattle.codec.specs.Entry.{EntryFields}
@@ -15,7 +14,7 @@ use Rattle.version_store.specs.Replacing.{inode_led}
 use Rattle.chain_cleaning.specs.Chains.{IsChain}
 use Rattle.chain_cleaning.specs.Cleaned.{KeptChain, cleaned}
 use Rattle.chain_cleaning.specs.Laws.{ShowsAlike, AKeptChainIsARun, AKeptChainHasOldMoments, AKeptChainShowsTheSame, NoKeptChainShowsNothing, AKeptChainIsSeenAlive, AKeptChainHasSeenInodesAlone, AChainIsOneLater}
-use Rattle.history_cleaner.specs.Laws.{HasChain, IsSight, IsOf, first_stored, left_of, WhatIsLeftShowsTheSame, NothingIsLeftOfTheAbsent, WhatIsLeftIsSeen, WhatIsLeftIsSeenThroughout}
+use Rattle.history_cleaner.specs.Laws.{HasChain, IsSight, first_stored, left_of, WhatIsLeftShowsTheSame, NothingIsLeftOfTheAbsent, WhatIsLeftIsSeen, WhatIsLeftIsSeenThroughout}
 use Rattle.history_cleaner.proofs.Stored.{RunLaws, at_moment, shown_is, stored_chain}
 use Rattle.history_cleaner.proofs.Standing.{some_of}
 

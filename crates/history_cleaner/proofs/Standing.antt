@@ -65,7 +65,7 @@ dark_tidy contents i h = record { count = h.count; size = h.size; holes = h.hole
 
 -- ---- places
 
-if_is : (Is : Place → Type 0) (slot : Option Place) (p : Place) → slot ≡ Some p → IfSome slot Is → Is p
+pub if_is : (Is : Place → Type 0) (slot : Option Place) (p : Place) → slot ≡ Some p → IfSome slot Is → Is p
 if_is Is slot p at h = subst (λ (x : Option Place). IfSome x Is) at h
 
 two_is : (Is : Place → Type 0) (a b : Option Place) (n : ℕ) (p : Place) → n < 2 → get_or (a ∷ b ∷ []) n (Some p) ≡ Some p → IfSome a Is → IfSome b Is → Is p
@@ -80,7 +80,7 @@ sides_are Is (t ∷ triples) p all there = elim (Contains-append_cases (t.before
   | inr behind ↦ sides_are Is triples p all.1 behind
 ]
 
-told_are : (Is : Place → Type 0) (entries : List EntryFields) (p : Place) → AllByRecursion (TellsWithin Is) entries → Contains (sides_told entries) (Some p) → Is p
+pub told_are : (Is : Place → Type 0) (entries : List EntryFields) (p : Place) → AllByRecursion (TellsWithin Is) entries → Contains (sides_told entries) (Some p) → Is p
 told_are Is [] p all there = let (n, below, at) = there in absurd (omega (arith, below))
 told_are Is (e ∷ entries) p all there = elim (Contains-append_cases (sides_of e.triples) (sides_told entries) (Some p) there) [
   | inl here ↦ sides_are Is e.triples p all.0 here

@@ -1,10 +1,8 @@
 -- What holds of an object's chain in a store, and of what is left of it once nobody can see a part of it.
-use Rattle.std.specs.Prelude.{◌≡◌, ◌⊎◌, ℕ, ◌≤◌, ◌<◌, Bool, true, List, [], length, Option, Some, None}
+use Rattle.std.specs.Prelude.{◌≡◌, ◌⊎◌, ℕ, ◌≤◌, ◌<◌, Bool, true, List, length, Option, Some, None}
 use Rattle.std.specs.List.{AllByRecursion}
-use Rattle.s4_types.specs.Pointer.{Place}
 use Rattle.s4_types.specs.declared.limits.TheConstants.{ENTRY_TRIPLES}
 use Rattle.s4_types.specs.declared.versions.Version.TheVariants.{Absent}
-use Rattle.block_log.specs.Log.{Stored}
 use Rattle.codec.specs.declared.inodes.Inode.{Inode}
 use Rattle.codec.specs.Entry.{EntryFields, entry_rules}
 use Rattle.undo_redo.specs.Runs.{undone_all, entries_by}

@@ -1,1 +1,6 @@
 pub mod Laws
+pub mod Sight
+pub mod Cleaning
+pub mod Emptying
+pub mod Reaching
+pub mod private

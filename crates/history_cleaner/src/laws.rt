@@ -1,19 +1,21 @@
 //! Laws of the chains of stored objects, and of what is left of them once nobody can see a part: each function does nothing, and
 //! its contract is the law.
 ghost use Rattle.history_cleaner.specs.Laws.{AStoredChainIsAChain, WhatIsLeftCanStand, AnEmptyJournalStaysEmpty, WhatIsLeftShowsTheSame, NothingIsLeftOfTheAbsent, WhatIsLeftIsSeen, WhatIsLeftIsSeenThroughout};
+ghost use Rattle.history_cleaner.specs.Reaching.{HeldIsWhatIsReached, WhatIsLeftTellsOfSeenPlaces, WhatIsLeftPointsToSeenPlaces, WhatIsLeftBeginsTheSame};
 
 use chain_cleaning::laws::{
     a_chain_is_one_later, a_kept_chain_has_old_moments, a_kept_chain_has_seen_inodes_alone,
     a_kept_chain_is_a_run, a_kept_chain_is_grouped, a_kept_chain_is_in_order,
     a_kept_chain_is_seen_alive, a_kept_chain_points_to_old_places, a_kept_chain_shows_old_inodes,
     a_kept_chain_shows_the_same, a_kept_chain_takes_no_more_bytes,
+    a_kept_chain_tells_of_seen_places_alone, an_unchanged_chain_is_the_kept_one,
     the_moments_of_a_kept_chain_are_old,
 };
 use row_changes::laws::a_row_keeps_the_making;
 use undo_redo::laws::{
     a_run_has_one_end_and_one_beginning, groups_join_and_part, the_inode_at_a_moment,
 };
-use version_store::laws::inodes_point_to_what_rows_name;
+use version_store::laws::{inodes_point_to_what_rows_name, what_is_held_is_what_rows_name};
 
 /// The chain of a stored object is one that can be cleaned.
 pub fn a_stored_chain_is_a_chain()
@@ -62,4 +64,28 @@ pub fn what_is_left_shows_the_same()
     a_kept_chain_shows_the_same();
     a_kept_chain_is_seen_alive();
     a_kept_chain_has_seen_inodes_alone();
+}
+
+/// What is left of an object's chain tells of places alone to which a live inode points that it shows at some moment that can
+/// be seen; and where it has the entries that stand, it is the chain that stands.
+pub fn what_is_left_tells_of_seen_places()
+    ensures tells { WhatIsLeftTellsOfSeenPlaces }
+    ensures points { WhatIsLeftPointsToSeenPlaces }
+    ensures same { WhatIsLeftBeginsTheSame }
+{
+    a_run_has_one_end_and_one_beginning();
+    the_inode_at_a_moment();
+    a_chain_is_one_later();
+    a_kept_chain_is_a_run();
+    a_kept_chain_tells_of_seen_places_alone();
+    an_unchanged_chain_is_the_kept_one();
+}
+
+/// Of an object without a row, or with a chain that tells of seen places alone, exactly those data blocks are held to which a
+/// live inode points that is current at some moment that can be read.
+pub fn held_is_what_is_reached()
+    ensures { HeldIsWhatIsReached }
+{
+    what_is_held_is_what_rows_name();
+    inodes_point_to_what_rows_name();
 }

@@ -1,11 +1,16 @@
-//! The history cleaner's ground: what holds of the chains of stored objects, and of what is left of them.
+//! The history cleaner: of each object's chain those inodes stay that can be read at some moment.
 //!
-//! The layers above may rely on this: the chain of a stored object can be cleaned; what is left of it can stand in the place of
-//! its journal, and stands for the same version at each moment that can be seen, and from the clock on. Nothing here reaches a
-//! drive.
+//! The layers above may rely on this: whatever [`clean_object`] answers, the history and every version that can be read stay. Once
+//! it answered Ok, each inode of the object's chain that doesn't stand between two entries of one moment is current at some
+//! moment that can be read, and an object that is absent at all of them has no row. Nothing is written where the chain would
+//! hold the entries that it holds. `laws` says what holds of the chains of stored objects.
 #![tactic(auto)]
 
+mod cleaning;
 mod entries;
+mod frames;
 pub mod laws;
+mod sight;
 
-pub use entries::each_is_an_entry;
+pub use cleaning::clean_object;
+pub use frames::empty_frames;

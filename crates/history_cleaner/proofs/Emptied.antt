@@ -1,0 +1,362 @@
+-- Frames that hold nothing are marked and released, one after the other.
+use Rattle.std.proofs.Common.{◌≡◌, ◌⊎◌, ℕ, zero, suc, ◌+◌, ◌<◌, ◌≤◌, Bool, true, false, ltb, cond, Result, Ok, Err, inl, inr, List, [], ◌∷◌, length, Option, refl, sym, ap, subst, ◌∙◌, arith}
+use Rattle.std.specs.Prelude.{MatchResult, OnOk, OnErr, IfOk, IfErr, slice_set, count_by}
+use Rattle.std.specs.List.{range_with_len}
+use Rattle.std.proofs.lemmas.Bool.{cases_eq, lt-ltb, le-ltb, false≢true}
+use Rattle.std.proofs.lemmas.List.{get_or-set_same, get_or-set_other, length-set}
+use Rattle.std.proofs.lemmas.List.Sums.{sum_by-cons}
+use Rattle.s4_types.specs.Pointer.{Place}
+use Rattle.s4_types.specs.declared.refusals.Refusal.{Refusal}
+use Rattle.s4_types.specs.declared.refusals.Refusal.TheVariants.{InUse}
+use Rattle.block_log.specs.Log.{Stored}
+use Rattle.segment_word.specs.Frames.{Phase, Free, Open, Sealed, Emptied, is_emptied, Frame, Releases, no_frame}
+use Rattle.segment_word.specs.Layout.{frame_at, word_of}
+use Rattle.segment_word.specs.Handles.{Drive, HasMissed}
+use Rattle.segment_word.specs.Steps.{released}
+use Rattle.segment_table.specs.Table.{Table}
+use Rattle.segment_table.specs.Changes.{NoneHeld, IsMarked, IsReleased}
+use Rattle.segment_table.specs.Room.{log_of}
+use Rattle.version_store.specs.Emptying.{CanBeEmptied}
+use Rattle.version_store.specs.Store.{StoreFields}
+use Rattle.drive.specs.Fields.{DriveFields, store_of}
+use Rattle.history_cleaner.specs.Emptying.{AllVacated, has_risen, frames_risen, HasFoundReader, KeepsObjects}
+use Rattle.history_cleaner.specs.private.Emptying.{MarkedBelow, ReleasedBelow}
+
+-- ---- frames
+
+changed_here : (frames : List Frame) (f : ℕ) (k : Frame) → f < length frames → frame_at (slice_set frames f k) f ≡ k
+changed_here frames f k inside = get_or-set_same frames f k no_frame inside
+
+changed_else : (frames : List Frame) (f n : ℕ) (k : Frame) → (n ≡ f → ⊥) → frame_at (slice_set frames f k) n ≡ frame_at frames n
+changed_else frames f n k other = get_or-set_other frames f n k no_frame other
+
+changed_count : (frames : List Frame) (f : ℕ) (k : Frame) → length (slice_set frames f k) ≡ length frames
+changed_count frames f k = length-set frames f k
+
+not_free : Free ≡ Sealed → ⊥
+not_free is = cc
+
+free_not_emptied : Free ≡ Emptied → ⊥
+free_not_emptied is = cc
+
+not_emptied : Emptied ≡ Sealed → ⊥
+not_emptied is = cc
+
+-- a frame that isn't free has a number
+inside : (frames : List Frame) (f : ℕ) → ((frame_at frames f).phase ≡ Free → ⊥) → f < length frames
+inside [] f other = absurd (other refl)
+inside (k ∷ ks) zero other = omega arith
+inside (k ∷ ks) (suc f) other = let rest : f < length ks = inside ks f other in omega (arith, rest)
+
+-- ---- what stays
+
+pub kept_all : (s : StoreFields) → KeepsObjects s s
+kept_all s = record { held = refl; rows = refl; latest = refl; spent = omega arith; inodes = λ o t. refl; versions = λ o t. refl }
+
+pub kept_on : (a b c : StoreFields) → KeepsObjects a b → KeepsObjects b c → KeepsObjects a c
+kept_on a b c first second =
+    let low : a.log.spent ≤ b.log.spent = first.spent in
+    let high : b.log.spent ≤ c.log.spent = second.spent in
+    record {
+      held = second.held ∙ first.held;
+      rows = second.rows ∙ first.rows;
+      latest = second.latest ∙ first.latest;
+      spent = omega (arith, low, high);
+      inodes = λ o t. second.inodes o t ∙ first.inodes o t;
+      versions = λ o t. second.versions o t ∙ first.versions o t;
+    }
+
+pub kept_same : (s later : StoreFields) → later ≡ s → KeepsObjects s later
+kept_same s later is = subst (KeepsObjects s) (sym is) (kept_all s)
+
+-- nothing is held in a frame where nothing was
+none_again : (f : ℕ) (old new : Table) → (log_of new).held ≡ (log_of old).held → NoneHeld f old → NoneHeld f new
+none_again f old new same none p at = ap (λ (held : Place → Option Stored). held p) same ∙ none p at
+
+-- ---- marking
+
+-- how far marking has come in a drive
+pub record MarksSoFar (f : ℕ) (old new : DriveFields) : Type 0 where
+  pub table : MarkedBelow f old.store.table new.store.table
+  pub same : store_of new ≡ store_of old
+  pub ledger : new.ledger ≡ old.ledger
+
+pub none_marked : (d : DriveFields) → MarksSoFar 0 d d
+none_marked d = record {
+  table = record { count = refl; generations = λ k. refl; marked = λ k below. absurd (omega arith); releases = refl };
+  same = refl;
+  ledger = refl;
+}
+
+-- frame k is another one than that which was marked, or it is that one
+marked_frame : (old new : Table) (f k : ℕ) → IsMarked f old new → (k ≡ f → ⊥) → frame_at new.drive.frames k ≡ frame_at old.drive.frames k
+marked_frame old new f k done other = ap (λ (d : Drive). frame_at d.frames k) done.drive ∙ changed_else old.drive.frames f k (record (frame_at old.drive.frames f) { phase = Emptied }) other
+
+marked_here : (old new : Table) (f : ℕ) → IsMarked f old new → frame_at new.drive.frames f ≡ record (frame_at old.drive.frames f) { phase = Emptied }
+marked_here old new f done =
+    ap (λ (d : Drive). frame_at d.frames f) done.drive
+    ∙ changed_here old.drive.frames f (record (frame_at old.drive.frames f) { phase = Emptied }) (inside old.drive.frames f (λ free. not_free (sym free ∙ done.sealed)))
+
+marked_more : (f : ℕ) (old d new : Table) → MarkedBelow f old d → IsMarked f d new → (log_of new).held ≡ (log_of d).held → MarkedBelow (f + 1) old new
+marked_more f old d new sofar done same = record {
+  count = ap (λ (x : Drive). length x.frames) done.drive ∙ changed_count d.drive.frames f (record (frame_at d.drive.frames f) { phase = Emptied }) ∙ sofar.count;
+  generations = λ k. elim (cases_eq k f) [
+    | inl is ↦ ap (λ (n : ℕ). (frame_at new.drive.frames n).generation) is ∙ ap (λ (x : Frame). x.generation) (marked_here d new f done) ∙ ap (λ (n : ℕ). (frame_at d.drive.frames n).generation) (sym is) ∙ sofar.generations k
+    | inr other ↦ ap (λ (x : Frame). x.generation) (marked_frame d new f k done other) ∙ sofar.generations k
+  ];
+  marked = λ k below can. elim (cases_eq k f) [
+    | inl is ↦ not_emptied (sym (ap (λ (n : ℕ). (frame_at new.drive.frames n).phase) is ∙ ap (λ (x : Frame). x.phase) (marked_here d new f done)) ∙ can.0)
+    | inr other ↦ sofar.marked k (omega arith) (sym (ap (λ (x : Frame). x.phase) (marked_frame d new f k done other)) ∙ can.0, none_again k new d (sym same) can.1)
+  ];
+  releases = ap (λ (x : Drive). x.releases) done.drive ∙ sofar.releases;
+}
+
+marked_not : (f : ℕ) (old d : Table) → MarkedBelow f old d → (CanBeEmptied f d → ⊥) → MarkedBelow (f + 1) old d
+marked_not f old d sofar cannot = record {
+  count = sofar.count;
+  generations = sofar.generations;
+  marked = λ k below can. elim (cases_eq k f) [
+    | inl is ↦ cannot (subst (λ (n : ℕ). CanBeEmptied n d) is can)
+    | inr other ↦ sofar.marked k (omega arith) can
+  ];
+  releases = sofar.releases;
+}
+
+pub mark_step : (r : Result (Unit {0}) Refusal) (f : ℕ) (old d new : DriveFields) → MarksSoFar f old d
+    → OnOk r (IsMarked f d.store.table new.store.table) → MatchResult r (λ _. CanBeEmptied f d.store.table) (λ e. (e ≡ InUse) × (CanBeEmptied f d.store.table → ⊥)) → OnErr r (new ≡ d)
+    → store_of new ≡ store_of d → new.ledger ≡ d.ledger → MarksSoFar (f + 1) old new
+mark_step (Ok u) f old d new sofar marked answer refused same ledger = record {
+  table = marked_more f old.store.table d.store.table new.store.table sofar.table marked (ap (λ (s : StoreFields). s.log.held) same);
+  same = same ∙ sofar.same;
+  ledger = ledger ∙ sofar.ledger;
+}
+mark_step (Err e) f old d new sofar marked answer refused same ledger = record {
+  table = subst (λ (x : DriveFields). MarkedBelow (f + 1) old.store.table x.store.table) (sym refused) (marked_not f old.store.table d.store.table sofar.table answer.1);
+  same = same ∙ sofar.same;
+  ledger = ledger ∙ sofar.ledger;
+}
+
+-- ---- counting
+
+abbrev tally : Bool → ℕ
+tally b = cond b 1 0
+
+count_first : (p : ℕ → Bool) (a n : ℕ) → count_by p (range_with_len a (suc n)) ≡ tally (p a) + count_by p (range_with_len (a + 1) n)
+count_first p a n = sum_by-cons (λ (x : ℕ). tally (p x)) a (range_with_len (a + 1) n)
+
+count_alike : (p q : ℕ → Bool) (a n : ℕ) → ((k : ℕ) → a ≤ k → k < a + n → p k ≡ q k) → count_by p (range_with_len a n) ≡ count_by q (range_with_len a n)
+count_alike p q a zero alike = refl
+count_alike p q a (suc n) alike =
+    count_first p a n
+    ∙ ap (λ (b : Bool). tally b + count_by p (range_with_len (a + 1) n)) (alike a (omega arith) (omega arith))
+    ∙ ap (λ (m : ℕ). tally (q a) + m) (count_alike p q (a + 1) n (λ k low high. alike k (omega arith) (omega arith)))
+    ∙ sym (count_first q a n)
+
+count_last : (p : ℕ → Bool) (a n : ℕ) → count_by p (range_with_len a (suc n)) ≡ count_by p (range_with_len a n) + tally (p (a + n))
+count_last p a zero =
+    let here : tally (p (a + 0)) ≡ tally (p a) = ap (λ (m : ℕ). tally (p m)) (omega arith) in
+    omega (arith, count_first p a 0, here)
+count_last p a (suc n) =
+    let here : tally (p (a + 1 + n)) ≡ tally (p (a + suc n)) = ap (λ (m : ℕ). tally (p m)) (omega arith) in
+    omega (arith, count_first p a (suc n), count_last p (a + 1) n, count_first p a n, here)
+
+-- one more number is counted, or isn't
+count_more : (p q : ℕ → Bool) (n : ℕ) → ((k : ℕ) → k < n → p k ≡ q k) → count_by p (range_with_len 0 (n + 1)) ≡ count_by q (range_with_len 0 n) + tally (p n)
+count_more p q n alike =
+    let next : n + 1 ≡ suc n = omega arith in
+    let here : tally (p (0 + n)) ≡ tally (p n) = ap (λ (m : ℕ). tally (p m)) (omega arith) in
+    ap (λ (m : ℕ). count_by p (range_with_len 0 m)) next ∙ count_last p 0 n
+    ∙ ap (λ (m : ℕ). m + tally (p (0 + n))) (count_alike p q 0 n (λ k low high. alike k (omega arith)))
+    ∙ ap (λ (m : ℕ). count_by q (range_with_len 0 n) + m) here
+
+-- ---- releasing
+
+-- how far releasing has come in a drive
+pub record ReleasesSoFar (f n : ℕ) (old new : DriveFields) : Type 0 where
+  pub table : ReleasedBelow f n old.store.table new.store.table
+  pub objects : KeepsObjects (store_of old) (store_of new)
+  pub ledger : new.ledger ≡ old.ledger
+
+pub none_released : (d : DriveFields) → ReleasesSoFar 0 0 d d
+none_released d = record {
+  table = record { count = refl; from = λ k le. refl; below = λ k below. absurd (omega arith); sealed = λ k is. is; counted = refl; few = omega arith; tried = omega arith };
+  objects = kept_all (store_of d);
+  ledger = refl;
+}
+
+released_frame : (old new : Table) (f k : ℕ) → IsReleased f old new → (k ≡ f → ⊥) → frame_at new.drive.frames k ≡ frame_at old.drive.frames k
+released_frame old new f k done other = ap (λ (d : Drive). frame_at d.frames k) done.drive ∙ changed_else old.drive.frames f k (released (frame_at old.drive.frames f)) other
+
+released_here : (old new : Table) (f : ℕ) → IsReleased f old new → frame_at new.drive.frames f ≡ released (frame_at old.drive.frames f)
+released_here old new f done = ap (λ (d : Drive). frame_at d.frames f) done.drive ∙ changed_here old.drive.frames f (released (frame_at old.drive.frames f)) done.inside
+
+-- frame f was released
+released_more : (f n : ℕ) (old d new : Table) → ReleasedBelow f n old d → IsReleased f d new → ReleasedBelow (f + 1) (n + 1) old new
+released_more f n old d new sofar done =
+    let was : ℕ = (frame_at old.drive.frames f).generation in
+    let is : ℕ = (frame_at new.drive.frames f).generation in
+    let raised : is ≡ was + 1 = ap (λ (x : Frame). x.generation) (released_here d new f done) ∙ ap (λ (m : ℕ). m + 1) (sofar.from f (omega arith)) in
+    let rises : has_risen old.drive.frames new.drive.frames f ≡ true = lt-ltb was is (omega arith) in
+    let more = count_more (has_risen old.drive.frames new.drive.frames) (has_risen old.drive.frames d.drive.frames) f
+    (λ k below. ap (λ (x : Frame). ltb (frame_at old.drive.frames k).generation x.generation) (released_frame d new f k done (λ same. omega (arith, same, below)))) in
+    let one : tally (has_risen old.drive.frames new.drive.frames f) ≡ tally true = ap tally rises in
+    let before : n ≡ count_by (has_risen old.drive.frames d.drive.frames) (range_with_len 0 f) = sofar.counted in
+    let few : n ≤ f = sofar.few in
+    let low : old.drive.releases.tried ≤ d.drive.releases.tried = sofar.tried in
+    let tries : new.drive.releases.tried ≡ d.drive.releases.tried + 1 = ap (λ (x : Drive). x.releases.tried) done.drive in
+    record {
+      count = ap (λ (x : Drive). length x.frames) done.drive ∙ changed_count d.drive.frames f (released (frame_at d.drive.frames f)) ∙ sofar.count;
+      from = λ k le. ap (λ (x : Frame). x.generation) (released_frame d new f k done (λ same. omega (arith, same, le))) ∙ sofar.from k (omega arith);
+      below = λ k lt here. elim (cases_eq k f) [
+        | inl at ↦ free_not_emptied (sym (ap (λ (m : ℕ). (frame_at new.drive.frames m).phase) at ∙ ap (λ (x : Frame). x.phase) (released_here d new f done)) ∙ here)
+        | inr other ↦ sofar.below k (omega arith) (sym (ap (λ (x : Frame). x.phase) (released_frame d new f k done other)) ∙ here)
+      ];
+      sealed = λ k here. elim (cases_eq k f) [
+        | inl at ↦ absurd (not_free (sym (ap (λ (m : ℕ). (frame_at new.drive.frames m).phase) at ∙ ap (λ (x : Frame). x.phase) (released_here d new f done)) ∙ here))
+        | inr other ↦ sofar.sealed k (sym (ap (λ (x : Frame). x.phase) (released_frame d new f k done other)) ∙ here)
+      ];
+      counted = omega (arith, more, one, before);
+      few = omega (arith, few);
+      tried = omega (arith, low, tries);
+    }
+
+-- frame f isn't being emptied
+released_not : (f n : ℕ) (old d : Table) → ReleasedBelow f n old d → is_emptied (frame_at d.drive.frames f).phase ≡ false → ReleasedBelow (f + 1) n old d
+released_not f n old d sofar not =
+    let was : ℕ = (frame_at old.drive.frames f).generation in
+    let is : ℕ = (frame_at d.drive.frames f).generation in
+    let stays : is ≡ was = sofar.from f (omega arith) in
+    let none : has_risen old.drive.frames d.drive.frames f ≡ false = le-ltb was is (omega (arith, stays)) in
+    let more = count_more (has_risen old.drive.frames d.drive.frames) (has_risen old.drive.frames d.drive.frames) f (λ k below. refl) in
+    let zero : tally (has_risen old.drive.frames d.drive.frames f) ≡ tally false = ap tally none in
+    let before : n ≡ count_by (has_risen old.drive.frames d.drive.frames) (range_with_len 0 f) = sofar.counted in
+    let few : n ≤ f = sofar.few in
+    record {
+      count = sofar.count;
+      from = λ k le. sofar.from k (omega arith);
+      below = λ k lt here. elim (cases_eq k f) [
+        | inl at ↦ false≢true (sym not ∙ ap is_emptied (ap (λ (m : ℕ). (frame_at d.drive.frames m).phase) (sym at) ∙ here))
+        | inr other ↦ sofar.below k (omega arith) here
+      ];
+      sealed = sofar.sealed;
+      counted = omega (arith, more, zero, before);
+      few = omega (arith, few);
+      tried = sofar.tried;
+    }
+
+pub release_step : (f n m : ℕ) (old d e new last : DriveFields) → ReleasesSoFar f n old d → e ≡ d → IsReleased f e.store.table new.store.table → KeepsObjects (store_of e) (store_of new) → new.ledger ≡ e.ledger → m ≡ n + 1 → last ≡ new → ReleasesSoFar (f + 1) m old last
+release_step f n m old d e new last sofar same done objects ledger more is =
+    let before : ReleasesSoFar f n old e = subst (ReleasesSoFar f n old) (sym same) sofar in
+    let after : ReleasesSoFar (f + 1) (n + 1) old new = record {
+      table = released_more f n old.store.table e.store.table new.store.table before.table done;
+      objects = kept_on (store_of old) (store_of e) (store_of new) before.objects objects;
+      ledger = ledger ∙ before.ledger;
+    } in
+    subst (ReleasesSoFar (f + 1) m old) (sym is) (subst (λ (k : ℕ). ReleasesSoFar (f + 1) k old new) (sym more) after)
+
+pub skip_step : (f n m : ℕ) (old d e last : DriveFields) → ReleasesSoFar f n old d → e ≡ d → is_emptied (frame_at d.store.table.drive.frames f).phase ≡ false → m ≡ n → last ≡ e → ReleasesSoFar (f + 1) m old last
+skip_step f n m old d e last sofar same not more is =
+    let after : ReleasesSoFar (f + 1) n old d = record {
+      table = released_not f n old.store.table d.store.table sofar.table not;
+      objects = sofar.objects;
+      ledger = sofar.ledger;
+    } in
+    subst (ReleasesSoFar (f + 1) m old) (sym (is ∙ same)) (subst (λ (k : ℕ). ReleasesSoFar (f + 1) k old d) (sym more) after)
+
+-- ---- where a frame had a reader
+
+emptied_is : (p : Phase) → is_emptied p ≡ true → p ≡ Emptied
+emptied_is Free is = absurd (false≢true is)
+emptied_is Open is = absurd (false≢true is)
+emptied_is Sealed is = absurd (false≢true is)
+emptied_is Emptied is = refl
+
+missed_from : (f n : ℕ) (old d new : DriveFields) → ReleasesSoFar f n old d → is_emptied (frame_at d.store.table.drive.frames f).phase ≡ true
+    → ((frame_at d.store.table.drive.frames f).phase ≡ Emptied → HasMissed f d.store.table.drive new.store.table.drive) → HasFoundReader old.store.table.drive new.store.table.drive
+missed_from f n old d new sofar is misses =
+    let emptied : (frame_at d.store.table.drive.frames f).phase ≡ Emptied = emptied_is (frame_at d.store.table.drive.frames f).phase is in
+    let miss : HasMissed f d.store.table.drive new.store.table.drive = misses emptied in
+    let last : new.store.table.drive.releases.last ≡ f = ap (λ (x : Drive). x.releases.last) miss.else_same in
+    let tries : new.store.table.drive.releases.tried ≡ d.store.table.drive.releases.tried + 1 = ap (λ (x : Drive). x.releases.tried) miss.else_same in
+    let low : old.store.table.drive.releases.tried ≤ d.store.table.drive.releases.tried = sofar.table.tried in
+    let frame : frame_at new.store.table.drive.frames new.store.table.drive.releases.last ≡ frame_at d.store.table.drive.frames f =
+    ap (frame_at new.store.table.drive.frames) last ∙ ap (λ (x : Drive). frame_at x.frames f) miss.else_same in
+    record {
+      since = omega (arith, tries, low);
+      emptied = ap (λ (k : Frame). k.phase) frame ∙ emptied;
+      readers = miss.readers;
+      some_reader = miss.some_reader;
+      found = miss.found ∙ ap (λ (k : Frame). word_of k miss.readers) (sym frame);
+    }
+
+pub missed : (f n : ℕ) (old d e new : DriveFields) → ReleasesSoFar f n old d → e ≡ d → is_emptied (frame_at d.store.table.drive.frames f).phase ≡ true
+    → ((frame_at e.store.table.drive.frames f).phase ≡ Emptied → HasMissed f e.store.table.drive new.store.table.drive) → HasFoundReader old.store.table.drive new.store.table.drive
+missed f n old d e new sofar same is misses =
+    missed_from f n old d new sofar is (subst (λ (x : DriveFields). (frame_at x.store.table.drive.frames f).phase ≡ Emptied → HasMissed f x.store.table.drive new.store.table.drive) same misses)
+
+-- the objects are as they were also then
+pub missed_keeps : (f n : ℕ) (old d e new : DriveFields) → ReleasesSoFar f n old d → e ≡ d → KeepsObjects (store_of e) (store_of new) → KeepsObjects (store_of old) (store_of new)
+missed_keeps f n old d e new sofar same objects = kept_on (store_of old) (store_of d) (store_of new) sofar.objects (subst (λ (x : DriveFields). KeepsObjects (store_of x) (store_of new)) same objects)
+
+pub missed_count : (f n : ℕ) (old d e new : DriveFields) → ReleasesSoFar f n old d → e ≡ d → new.store.table.drive.frames ≡ e.store.table.drive.frames → length new.store.table.drive.frames ≡ length old.store.table.drive.frames
+missed_count f n old d e new sofar same stays = ap (λ (ks : List Frame). length ks) stays ∙ ap (λ (x : DriveFields). length x.store.table.drive.frames) same ∙ sofar.table.count
+
+-- ---- at the end
+
+vacated_at : (phase : Phase) → (phase ≡ Sealed → ⊥) → (phase ≡ Emptied → ⊥) → (phase ≡ Open) ⊎ (phase ≡ Free)
+vacated_at Free sealed emptied = inr refl
+vacated_at Open sealed emptied = inl refl
+vacated_at Sealed sealed emptied = absurd (sealed refl)
+vacated_at Emptied sealed emptied = absurd (emptied refl)
+
+-- all frames were marked, and then all released
+all_vacated : (count n : ℕ) (old d new : Table) → count ≡ length old.drive.frames → MarkedBelow count old d → ReleasedBelow count n d new → (log_of new).held ≡ (log_of d).held → AllVacated new
+all_vacated count n old d new whole marked released same f within none =
+    let low : f < length new.drive.frames = within in
+    let lengths : length new.drive.frames ≡ length old.drive.frames = released.count ∙ marked.count in
+    let below : f < count = omega (arith, low, lengths, whole) in
+    vacated_at (frame_at new.drive.frames f).phase (λ sealed. marked.marked f below (released.sealed f sealed, none_again f new d (sym same) none)) (released.below f below)
+
+risen_is : (count n : ℕ) (old d new : Table) → count ≡ length old.drive.frames → MarkedBelow count old d → ReleasedBelow count n d new → n ≡ frames_risen old.drive new.drive
+risen_is count n old d new whole marked released =
+    released.counted
+    ∙ count_alike (has_risen d.drive.frames new.drive.frames) (has_risen old.drive.frames new.drive.frames) 0 count (λ k low high. ap (λ (m : ℕ). ltb m (frame_at new.drive.frames k).generation) (marked.generations k))
+    ∙ ap (λ (m : ℕ). count_by (has_risen old.drive.frames new.drive.frames) (range_with_len 0 m)) whole
+
+found_since : (old d new : Drive) → d.releases ≡ old.releases → HasFoundReader d new → HasFoundReader old new
+found_since old d new same found = record {
+  since = subst (λ (m : ℕ). m < new.releases.tried) (ap (λ (r : Releases). r.tried) same) found.since;
+  emptied = found.emptied;
+  readers = found.readers;
+  some_reader = found.some_reader;
+  found = found.found;
+}
+
+-- all that is promised of the answer
+pub record HasEmptied (r : Result ℕ Refusal) (old new : DriveFields) : Type 0 where
+  pub vacated : OnOk r (AllVacated new.store.table)
+  pub released : IfOk r (λ n. n ≡ frames_risen old.store.table.drive new.store.table.drive)
+  pub refusal : IfErr r (λ e. (e ≡ InUse) × HasFoundReader old.store.table.drive new.store.table.drive)
+  pub frames : length new.store.table.drive.frames ≡ length old.store.table.drive.frames
+  pub objects : KeepsObjects (store_of old) (store_of new)
+  pub ledger : new.ledger ≡ old.ledger
+
+pub emptied : (r : Result ℕ Refusal) (count : ℕ) (old d new : DriveFields) → count ≡ length old.store.table.drive.frames → MarksSoFar count old d
+    → IfOk r (λ n. ReleasedBelow count n d.store.table new.store.table) → IfErr r (λ e. (e ≡ InUse) × HasFoundReader d.store.table.drive new.store.table.drive)
+    → length new.store.table.drive.frames ≡ length d.store.table.drive.frames → KeepsObjects (store_of d) (store_of new) → new.ledger ≡ d.ledger → HasEmptied r old new
+emptied (Ok n) count old d new whole marked released refused frames objects ledger = record {
+  vacated = all_vacated count n old.store.table d.store.table new.store.table whole marked.table released objects.held;
+  released = risen_is count n old.store.table d.store.table new.store.table whole marked.table released;
+  refusal = tt;
+  frames = frames ∙ marked.table.count;
+  objects = kept_on (store_of old) (store_of d) (store_of new) (kept_same (store_of old) (store_of d) marked.same) objects;
+  ledger = ledger ∙ marked.ledger;
+}
+emptied (Err e) count old d new whole marked released refused frames objects ledger = record {
+  vacated = tt;
+  released = tt;
+  refusal = (refused.0, found_since old.store.table.drive d.store.table.drive new.store.table.drive marked.table.releases refused.1);
+  frames = frames ∙ marked.table.count;
+  objects = kept_on (store_of old) (store_of d) (store_of new) (kept_same (store_of old) (store_of d) marked.same) objects;
+  ledger = ledger ∙ marked.ledger;
+}

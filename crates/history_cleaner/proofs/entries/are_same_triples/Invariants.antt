@@ -1,0 +1,6 @@
+-- As far as the loop has come, the two lists have the same items.
+use Rattle.std.proofs.Common.{◌≡◌, take}
+use Rattle.history_cleaner.proofs.entries.are_same_triples.Given as goal
+
+abbrev pub invariant-loop-i : goal.invariant-loop-i
+invariant-loop-i l = take l.i l.triples ≡ take l.i l.others

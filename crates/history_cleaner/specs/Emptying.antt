@@ -1,0 +1,45 @@
+-- What the emptying of a drive's frames leaves.
+use Rattle.std.specs.Prelude.{◌≡◌, ◌⊎◌, ℕ, ◌<◌, ◌≤◌, Bool, List, length, count_by, nat_lt}
+use Rattle.std.specs.List.{range_with_len}
+use Rattle.segment_word.specs.Frames.{Free, Open, Emptied, Frame}
+use Rattle.segment_word.specs.Layout.{frame_at, word_of}
+use Rattle.segment_word.specs.Handles.{Drive}
+use Rattle.segment_table.specs.Table.{Table}
+use Rattle.segment_table.specs.Changes.{NoneHeld}
+use Rattle.version_store.specs.Store.{StoreFields}
+use Rattle.version_store.specs.Versions.{inode_in, version_in}
+
+-- frame f is open or free, unless one of its blocks is held
+abbrev pub IsVacated : ℕ → Table → Type 0
+IsVacated f t = NoneHeld f t → ((frame_at t.drive.frames f).phase ≡ Open) ⊎ ((frame_at t.drive.frames f).phase ≡ Free)
+
+-- each frame of a table is
+abbrev pub AllVacated : Table → Type 0
+AllVacated t = (f : ℕ) → f < length t.drive.frames → IsVacated f t
+
+-- whether a frame has a greater generation than before
+abbrev pub has_risen : List Frame → List Frame → ℕ → Bool
+has_risen old new f = nat_lt (frame_at old f).generation (frame_at new f).generation
+
+-- how many of a drive's frames have
+abbrev pub frames_risen : Drive → Drive → ℕ
+frames_risen old new = count_by (has_risen old.frames new.frames) (range_with_len 0 (length old.frames))
+
+-- The last release was tried since, and found a reader: it was of a frame that is being emptied still, and the word that it
+-- found counted one.
+pub record HasFoundReader (old new : Drive) : Type 0 where
+  pub since : old.releases.tried < new.releases.tried
+  pub emptied : (frame_at new.frames new.releases.last).phase ≡ Emptied
+  pub readers : ℕ
+  pub some_reader : 0 < readers
+  pub found : new.releases.found ≡ word_of (frame_at new.frames new.releases.last) readers
+
+-- The objects of a store are as they were, by their rows, what is held, the last change, and their inodes and versions at
+-- each moment; no fewer places were ever taken.
+pub record KeepsObjects (s later : StoreFields) : Type 0 where
+  pub held : later.log.held ≡ s.log.held
+  pub rows : later.rows ≡ s.rows
+  pub latest : later.latest ≡ s.latest
+  pub spent : s.log.spent ≤ later.log.spent
+  pub inodes : (o t : ℕ) → inode_in later o t ≡ inode_in s o t
+  pub versions : (o t : ℕ) → version_in later o t ≡ version_in s o t
