@@ -19,8 +19,8 @@ use Rattle.segment_table.specs.Room.{log_of}
 use Rattle.version_store.specs.Emptying.{CanBeEmptied}
 use Rattle.version_store.specs.Store.{StoreFields}
 use Rattle.drive.specs.Fields.{DriveFields, store_of}
-use Rattle.history_cleaner.specs.Emptying.{AllVacated, has_risen, frames_risen, HasFoundReader, KeepsObjects}
-use Rattle.history_cleaner.specs.private.Emptying.{MarkedBelow, ReleasedBelow}
+use Rattle.history_cleaner.specs.Emptying.{AllVacated, has_risen, frames_risen, HasFoundReader, KeepsObjects, MarkedBelow}
+use Rattle.history_cleaner.specs.private.Emptying.{ReleasedBelow}
 
 -- ---- frames
 
@@ -138,7 +138,7 @@ mark_step (Err e) f old d new sofar marked answer refused same ledger = record {
 
 -- ---- counting
 
-abbrev tally : Bool → ℕ
+abbrev pub tally : Bool → ℕ
 tally b = cond b 1 0
 
 count_first : (p : ℕ → Bool) (a n : ℕ) → count_by p (range_with_len a (suc n)) ≡ tally (p a) + count_by p (range_with_len (a + 1) n)
@@ -161,7 +161,7 @@ count_last p a (suc n) =
     omega (arith, count_first p a (suc n), count_last p (a + 1) n, count_first p a n, here)
 
 -- one more number is counted, or isn't
-count_more : (p q : ℕ → Bool) (n : ℕ) → ((k : ℕ) → k < n → p k ≡ q k) → count_by p (range_with_len 0 (n + 1)) ≡ count_by q (range_with_len 0 n) + tally (p n)
+pub count_more : (p q : ℕ → Bool) (n : ℕ) → ((k : ℕ) → k < n → p k ≡ q k) → count_by p (range_with_len 0 (n + 1)) ≡ count_by q (range_with_len 0 n) + tally (p n)
 count_more p q n alike =
     let next : n + 1 ≡ suc n = omega arith in
     let here : tally (p (0 + n)) ≡ tally (p n) = ap (λ (m : ℕ). tally (p m)) (omega arith) in
@@ -184,7 +184,7 @@ none_released d = record {
   ledger = refl;
 }
 
-released_frame : (old new : Table) (f k : ℕ) → IsReleased f old new → (k ≡ f → ⊥) → frame_at new.drive.frames k ≡ frame_at old.drive.frames k
+pub released_frame : (old new : Table) (f k : ℕ) → IsReleased f old new → (k ≡ f → ⊥) → frame_at new.drive.frames k ≡ frame_at old.drive.frames k
 released_frame old new f k done other = ap (λ (d : Drive). frame_at d.frames k) done.drive ∙ changed_else old.drive.frames f k (released (frame_at old.drive.frames f)) other
 
 released_here : (old new : Table) (f : ℕ) → IsReleased f old new → frame_at new.drive.frames f ≡ released (frame_at old.drive.frames f)

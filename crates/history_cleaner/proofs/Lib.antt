@@ -7,3 +7,4 @@ pub mod Putting
 pub mod Emptied
 pub mod Reached
 pub mod Holding
+pub mod Sweeping

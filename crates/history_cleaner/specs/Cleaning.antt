@@ -1,5 +1,7 @@
 -- What cleaning an object leaves, and when there is no room for it.
-use Rattle.std.specs.Prelude.{◌≡◌, ℕ, ◌<◌, length, Option, Some, None, IfSome, MatchOption}
+use Rattle.std.specs.Prelude.{◌≡◌, ◌⊎◌, ℕ, ◌<◌, length, Option, Some, None, Result, IfSome, MatchOption, MatchResult, OnOk}
+use Rattle.s4_types.specs.declared.refusals.Refusal.{Refusal}
+use Rattle.s4_types.specs.declared.refusals.Refusal.TheVariants.{NoMemory, NoRoom}
 use Rattle.s4_types.specs.declared.versions.Version.TheVariants.{Absent}
 use Rattle.undo_redo.specs.Runs.{entries_by}
 use Rattle.object_map.specs.declared.map.Row.{Row}
@@ -12,6 +14,7 @@ use Rattle.version_store.specs.Store.{StoreFields}
 use Rattle.version_store.specs.Versions.{version_in}
 use Rattle.version_store.specs.Replacing.{IsRemoved, IsReplaced}
 use Rattle.chain_cleaning.specs.Cleaned.{KeptChain}
+use Rattle.drive.specs.Fields.{DriveFields, store_of, state_in}
 use Rattle.history_cleaner.specs.Laws.{left_of}
 use Rattle.history_cleaner.specs.Sight.{is_seen_between}
 
@@ -51,3 +54,10 @@ pub record HasNoRoom (s : StoreFields) (state : State) (o : ℕ) : Type 0 where
   pub left : left_in s state o row ≡ Some chain
   pub other : chain.entries ≡ entries_of s.log.held o row → ⊥
   pub room : length s.log.ahead < rewritten_blocks chain.entries
+
+-- What cleaning an object comes to, by the drive before it, the answer and the drive after it.
+pub record CleansObject (o : ℕ) (d : DriveFields) (result : Result (Unit {0}) Refusal) (later : DriveFields) : Type 0 where
+  pub cleaned : OnOk result (Cleans (store_of d) (state_in d) o (store_of later))
+  pub clean : OnOk result (IsClean (store_of later) (state_in d) o)
+  pub gone : OnOk result (IsUnseen (store_of d) (state_in d) o → row_of later.store.rows o ≡ None)
+  pub answer : MatchResult result (λ _. HasNoRoom (store_of d) (state_in d) o → ⊥) (λ e. (e ≡ NoMemory) ⊎ ((e ≡ NoRoom) × HasNoRoom (store_of d) (state_in d) o))

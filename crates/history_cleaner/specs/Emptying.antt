@@ -6,6 +6,7 @@ use Rattle.segment_word.specs.Layout.{frame_at, word_of}
 use Rattle.segment_word.specs.Handles.{Drive}
 use Rattle.segment_table.specs.Table.{Table}
 use Rattle.segment_table.specs.Changes.{NoneHeld}
+use Rattle.version_store.specs.Emptying.{CanBeEmptied}
 use Rattle.version_store.specs.Store.{StoreFields}
 use Rattle.version_store.specs.Versions.{inode_in, version_in}
 
@@ -43,3 +44,11 @@ pub record KeepsObjects (s later : StoreFields) : Type 0 where
   pub spent : s.log.spent ≤ later.log.spent
   pub inodes : (o t : ℕ) → inode_in later o t ≡ inode_in s o t
   pub versions : (o t : ℕ) → version_in later o t ≡ version_in s o t
+
+-- No frame below f can begin to be emptied; there are as many frames as there were, each at the generation that it had, and no
+-- release was tried.
+pub record MarkedBelow (f : ℕ) (old new : Table) : Type 0 where
+  pub count : length new.drive.frames ≡ length old.drive.frames
+  pub generations : (k : ℕ) → (frame_at new.drive.frames k).generation ≡ (frame_at old.drive.frames k).generation
+  pub marked : (k : ℕ) → k < f → CanBeEmptied k new → ⊥
+  pub releases : new.drive.releases ≡ old.drive.releases

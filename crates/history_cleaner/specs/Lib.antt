@@ -4,3 +4,4 @@ pub mod Cleaning
 pub mod Emptying
 pub mod Reaching
 pub mod private
+pub mod Rounds

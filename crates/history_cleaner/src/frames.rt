@@ -2,15 +2,15 @@
 ghost use Rattle.std.specs.Prelude.{◌≡◌, ℕ, ◌<◌, IfOk, IfErr, OnOk, length};
 ghost use Rattle.s4_types.specs.declared.refusals.Refusal.TheVariants.{InUse};
 ghost use Rattle.drive.specs.Fields.{store_of};
-ghost use Rattle.history_cleaner.specs.Emptying.{AllVacated, frames_risen, HasFoundReader, KeepsObjects};
-ghost use Rattle.history_cleaner.specs.private.Emptying.{MarkedBelow, ReleasedBelow};
+ghost use Rattle.history_cleaner.specs.Emptying.{AllVacated, frames_risen, HasFoundReader, KeepsObjects, MarkedBelow};
+ghost use Rattle.history_cleaner.specs.private.Emptying.{ReleasedBelow};
 
 use drive::Drive;
 use s4_types::Refusal;
 use segment_word::Naming;
 
 /// Marks each of so many frames that is sealed and holds nothing.
-fn mark_all<J: Naming>(drive: &mut Drive<J>, count: u16)
+pub(crate) fn mark_all<J: Naming>(drive: &mut Drive<J>, count: u16)
     ensures marked { MarkedBelow count drive.old.store.table drive.new.store.table }
     ensures same { store_of drive.new ≡ store_of drive.old }
     ensures ledger { drive.new.ledger ≡ drive.old.ledger }

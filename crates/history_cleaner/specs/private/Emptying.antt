@@ -4,16 +4,7 @@ use Rattle.std.specs.List.{range_with_len}
 use Rattle.segment_word.specs.Frames.{Sealed, Emptied}
 use Rattle.segment_word.specs.Layout.{frame_at}
 use Rattle.segment_table.specs.Table.{Table}
-use Rattle.version_store.specs.Emptying.{CanBeEmptied}
 use Rattle.history_cleaner.specs.Emptying.{has_risen}
-
--- No frame below f can begin to be emptied; there are as many frames as there were, each at the generation that it had, and no
--- release was tried.
-pub record MarkedBelow (f : ℕ) (old new : Table) : Type 0 where
-  pub count : length new.drive.frames ≡ length old.drive.frames
-  pub generations : (k : ℕ) → (frame_at new.drive.frames k).generation ≡ (frame_at old.drive.frames k).generation
-  pub marked : (k : ℕ) → k < f → CanBeEmptied k new → ⊥
-  pub releases : new.drive.releases ≡ old.drive.releases
 
 -- No frame below f is being emptied, and so many of them are in a later life than they were. There are as many frames as there
 -- were, those from f on at the generation that they had, and each that is sealed was sealed. No fewer releases were tried.

@@ -1,0 +1,87 @@
+//! Rounds over all objects, in turns that are short enough to be taken beside sessions.
+ghost use Rattle.std.specs.Prelude.{◌≡◌};
+ghost use Rattle.drive.specs.Fields.{state_in, store_of};
+ghost use Rattle.drive.specs.Keeping.{KeepsVersions};
+ghost use Rattle.history_cleaner.specs.Emptying.{KeepsObjects};
+ghost use Rattle.history_cleaner.specs.Rounds.{Turns, TriedBelow, IsSwept};
+ghost use Rattle.history_cleaner.specs.declared.rounds.Turn.TheVariants.{Ended};
+
+use crate::cleaning::clean_object;
+use crate::frames::mark_all;
+use drive::Drive;
+use s4_types::{ObjectId, Refusal};
+use segment_word::Naming;
+use std::alloc::Global;
+
+/// What a turn came to.
+#[derive(Clone, Copy, Debug, PartialEq, Eq)]
+pub enum Turn {
+    /// The next object was cleaned.
+    Cleaned(ObjectId),
+    /// The next object could not be cleaned, for this reason, and is as it was: it is passed over until the next round.
+    PassedOver(ObjectId, Refusal),
+    /// No object was left. The next turn begins another round.
+    Ended,
+}
+
+/// A round over all objects by ascending number, and behind it another.
+#[derive(Clone, Copy, Debug, PartialEq, Eq)]
+pub struct Rounds {
+    /// The last object of this round that had its turn; 0 before the first one.
+    pub passed: ObjectId,
+}
+
+/// Tries the release of each of so many frames: those that are being emptied and have no reader are free afterwards.
+fn try_releases<J: Naming>(drive: &mut Drive<J>, count: u16)
+    ensures tried { TriedBelow count drive.old.store.table.drive drive.new.store.table.drive }
+    ensures objects { KeepsObjects (store_of drive.old) (store_of drive.new) }
+    ensures ledger { drive.new.ledger ≡ drive.old.ledger }
+{
+    for frame in 0..count {
+        let _ = drive.release(frame);
+    }
+}
+
+/// Marks each frame that is sealed and holds nothing, and then tries to release each that is being emptied. One that has a reader
+/// is left for a later time, and those behind it are tried all the same.
+fn sweep<J: Naming>(drive: &mut Drive<J>)
+    ensures swept { IsSwept drive.old.store.table drive.new.store.table }
+    ensures objects { KeepsObjects (store_of drive.old) (store_of drive.new) }
+    ensures ledger { drive.new.ledger ≡ drive.old.ledger }
+{
+    let count = drive.frame_count();
+    mark_all(drive, count);
+    try_releases(drive, count);
+}
+
+impl Rounds {
+    /// Before the first object.
+    pub fn new() -> Self
+        ensures { result.passed ≡ 0 }
+    {
+        Rounds {
+            passed: ObjectId::new(0),
+        }
+    }
+
+    /// The next object with a row has its turn, and is cleaned. Where none is left the round has ended: the sealed frames that
+    /// hold nothing are marked, and the release of each that is being emptied is tried. The history and every version that
+    /// can be read stay.
+    pub fn turn<J: Naming>(&mut self, alloc: Global, drive: &mut Drive<J>) -> Turn
+        ensures turn { Turns (store_of drive.old) (state_in drive.old) self.old.passed result self.new.passed (store_of drive.new) }
+        ensures swept { result ≡ Ended → IsSwept drive.old.store.table drive.new.store.table }
+        ensures ledger { drive.new.ledger ≡ drive.old.ledger }
+        ensures needed { KeepsVersions (state_in drive.old) (store_of drive.old) (store_of drive.new) }
+    {
+        let Some(object) = drive.next_row(self.passed) else {
+            self.passed = ObjectId::new(0);
+            sweep(drive);
+            return Turn::Ended;
+        };
+        self.passed = object;
+        match clean_object(alloc, drive, object) {
+            Ok(()) => Turn::Cleaned(object),
+            Err(refusal) => Turn::PassedOver(object, refusal),
+        }
+    }
+}
