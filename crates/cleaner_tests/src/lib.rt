@@ -1,0 +1,5 @@
+//! Tests of the history cleaner over whole drives. There is nothing else in this crate.
+#![tactic(auto)]
+
+#[cfg(test)]
+mod tests;
