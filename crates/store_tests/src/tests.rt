@@ -1,43 +1,40 @@
 //! Changes of objects over a small table, and what is told of them then at each moment.
-ghost use Rattle.version_store.specs.Store.{fields_of, IsStore};
-
 mod acts;
 mod checkpoints;
 mod fresh;
 mod replacements;
 mod steps;
 
-use acts::{Act, Deed, play, play_anew};
-use block_log::Blocks;
+use acts::{Act, Deed, play};
 use fresh::Fresh;
 use plain_log::PlainLog;
-use s4_types::{Moment, ObjectId, Refusal};
+use s4_types::Refusal;
 use std::alloc::Global;
 use std::process::Abort;
 use std::test::*;
-use steps::{present_of, set_attribute};
 use version_store::Store;
 
-static NOTHING: [Act; 5] = [
+/// Does all of each list with a new store.
+fn play_all<B: Fresh + Drop, R: Abort>(
+    rt: &R,
+    alloc: Global,
+    lists: &[(&str, &[Act])],
+) -> Result<(), Fail> {
+    for (name, acts) in lists {
+        let mut store = Store::new(alloc, B::fresh());
+        play(rt, alloc, &mut store, name, acts)?;
+    }
+    Ok(())
+}
+
+static NOTHING: [Act; 6] = [
     Act::Stands(100, 0),
     Act::Row(1, None),
     Act::Next(0, None),
     Act::Inode(1, 9, None),
     Act::Present(1, 9, (false, 0, 9, 0, b"")),
+    Act::Blank(1, 9),
 ];
-
-fn holds_nothing<B: Fresh + Drop, R: Abort>(rt: &R, alloc: Global) -> Result<(), Fail> {
-    let mut store = Store::new(alloc, B::fresh());
-    play(rt, alloc, &mut store, NOTHING.as_slice())?;
-    let blank = present_of(&mut store, ObjectId::new(1), Moment::new(9))?;
-    assert!(rt; blank.pointers[0].is_none());
-    Ok(())
-}
-
-#[test]
-fn a_new_store(rt: HostRuntime) -> Result<(), Fail> {
-    holds_nothing::<PlainLog, _>(&rt, rt.alloc())
-}
 
 /// A journal block for each change, a block for each write, and one for the block that is cut.
 static EACH_KIND: [Act; 24] = [
@@ -67,11 +64,6 @@ static EACH_KIND: [Act; 24] = [
     Act::Present(3, 17, (false, 2, 10, 15, b"key")),
 ];
 
-#[test]
-fn each_kind_of_change(rt: HostRuntime) -> Result<(), Fail> {
-    play_anew::<PlainLog, _>(&rt, rt.alloc(), EACH_KIND.as_slice())
-}
-
 static PARTS: [Act; 13] = [
     Act::Takes(Deed::Create(1, b"", 1)),
     Act::Takes(Deed::Write(1, 2, 510, b"abcd")),
@@ -87,11 +79,6 @@ static PARTS: [Act; 13] = [
     Act::Shows((1, 3, u64::MAX, u64::MAX, Some(b""))),
     Act::Shows((1, 4, 509, 3, None)),
 ];
-
-#[test]
-fn parts_of_the_past(rt: HostRuntime) -> Result<(), Fail> {
-    play_anew::<PlainLog, _>(&rt, rt.alloc(), PARTS.as_slice())
-}
 
 /// Of the rows' bytes: the fixed fields of each entry, and 17 bytes for the block of the write.
 static TWO: [Act; 18] = [
@@ -114,11 +101,6 @@ static TWO: [Act; 18] = [
     Act::Next(1, Some(2)),
     Act::Next(2, None),
 ];
-
-#[test]
-fn two_objects(rt: HostRuntime) -> Result<(), Fail> {
-    play_anew::<PlainLog, _>(&rt, rt.alloc(), TWO.as_slice())
-}
 
 /// Objects 1, 2 and 3 are made, written and changed in turn.
 static IN_TURN: [Act; 26] = [
@@ -151,11 +133,6 @@ static IN_TURN: [Act; 26] = [
     Act::Entries(4, &[]),
 ];
 
-#[test]
-fn objects_in_turn(rt: HostRuntime) -> Result<(), Fail> {
-    play_anew::<PlainLog, _>(&rt, rt.alloc(), IN_TURN.as_slice())
-}
-
 const LONGEST: [u8; 24_576] = [7; 24_576];
 
 const ONE_BLOCK_TOO_LONG: [u8; 46 * 512] = [7; 46 * 512];
@@ -178,33 +155,14 @@ static RESERVE: [Act; 12] = [
     Act::Stands(0, 3),
 ];
 
-#[test]
-fn the_reserve(rt: HostRuntime) -> Result<(), Fail> {
-    play_anew::<PlainLog, _>(&rt, rt.alloc(), RESERVE.as_slice())
-}
-
-/// Sets attributes of 64 bytes in turn, at the moments from 2 to 71: each entry has 164 bytes.
-fn fill<B: Blocks>(alloc: Global, store: &mut Store<B>) -> Result<bool, Fail>
-    requires { IsStore (fields_of B.log store.old) }
-    ensures { IsStore (fields_of B.log store.new) }
-{
-    for moment in 2..72 {
-        let attribute = [0x61 + (moment % 2) as u8; 64];
-        if set_attribute(alloc, store, 1, moment, attribute.as_slice())?.is_err() {
-            return Ok(false);
-        }
-    }
-    Ok(true)
-}
-
 const OLDER: [u8; 64] = [0x62; 64];
 
 const NEWER: [u8; 64] = [0x61; 64];
 
-static CREATED: [Act; 1] = [Act::Takes(Deed::Create(1, &OLDER, 1))];
-
 /// 100 bytes of the creation, and 70 entries of 164.
-static FULL: [Act; 7] = [
+static FULL: [Act; 9] = [
+    Act::Takes(Deed::Create(1, &OLDER, 1)),
+    Act::Fills(1),
     Act::Row(1, Some((1, 11_580, 71, None))),
     Act::Stands(29, 71),
     Act::Refuses(Deed::SetAttribute(1, 72, &NEWER), Refusal::ChainFull),
@@ -214,14 +172,19 @@ static FULL: [Act; 7] = [
     Act::Shows((1, 72, 0, 24_576, None)),
 ];
 
-fn fills_a_journal<B: Fresh + Drop, R: Abort>(rt: &R, alloc: Global) -> Result<(), Fail> {
-    let mut store = Store::new(alloc, B::fresh());
-    play(rt, alloc, &mut store, CREATED.as_slice())?;
-    assert!(rt; fill(alloc, &mut store)?);
-    play(rt, alloc, &mut store, FULL.as_slice())
-}
-
 #[test]
-fn a_full_journal(rt: HostRuntime) -> Result<(), Fail> {
-    fills_a_journal::<PlainLog, _>(&rt, rt.alloc())
+fn changes_of_objects(rt: HostRuntime) -> Result<(), Fail> {
+    play_all::<PlainLog, _>(
+        &rt,
+        rt.alloc(),
+        &[
+            ("nothing", NOTHING.as_slice()),
+            ("each kind", EACH_KIND.as_slice()),
+            ("parts", PARTS.as_slice()),
+            ("two", TWO.as_slice()),
+            ("in turn", IN_TURN.as_slice()),
+            ("reserve", RESERVE.as_slice()),
+            ("full", FULL.as_slice()),
+        ],
+    )
 }

@@ -1,7 +1,6 @@
 //! Tests as lists: what is done with a store, and what it tells then.
 ghost use Rattle.version_store.specs.Store.{fields_of, IsStore};
 
-use super::fresh::Fresh;
 use super::steps::{
     Shown, bytes_at, create, cut, delete, entries_of, present_of, remove, set_attribute, truncate,
     write,
@@ -15,7 +14,7 @@ use std::test::*;
 use version_store::Store;
 
 /// What is done with an object.
-#[derive(Clone, Copy, Debug)]
+#[derive(Clone, Copy)]
 pub(super) enum Deed {
     /// Its attribute and the moment.
     Create(u64, &'static [u8], u64),
@@ -43,7 +42,7 @@ type InodeTold = (bool, u32, u64, u64, &'static [u8]);
 type EntryTold = (u64, u32, u32);
 
 /// What is done, or what is told.
-#[derive(Clone, Copy, Debug)]
+#[derive(Clone, Copy)]
 pub(super) enum Act {
     Takes(Deed),
     /// What is taken and leaves the object's row.
@@ -66,6 +65,10 @@ pub(super) enum Act {
     Same(u64, u64, bool),
     /// The entries of an object's journal.
     Entries(u64, &'static [EntryTold]),
+    /// The inode that a change of an object at a moment begins with has no first block.
+    Blank(u64, u64),
+    /// Attributes of 64 bytes are set until an object's journal is full.
+    Fills(u64),
 }
 
 fn object_of(deed: Deed) -> ObjectId {
@@ -179,13 +182,13 @@ fn is_checkpointed<B: Blocks>(store: &mut Store<B>, object: u64) -> Result<bool,
 }
 
 /// Whether an object's present inode is the one that it had at a moment.
-fn is_same<B: Blocks>(store: &mut Store<B>, object: u64, at: u64) -> Result<bool, Fail>
+fn is_same<B: Blocks>(store: &mut Store<B>, object: u64, at: u64) -> bool
     requires { IsStore (fields_of B.log store.old) }
     ensures { IsStore (fields_of B.log store.new) }
 {
     let object = ObjectId::new(object);
     let found = store.inode_at(object, Moment::new(at));
-    Ok(store.present(object).copied() == found)
+    store.present(object).copied() == found
 }
 
 fn is_told(entry: &Entry, told: EntryTold) -> bool {
@@ -212,6 +215,50 @@ fn has_entries<B: Blocks>(
     Ok(same && found.len() == told.len())
 }
 
+/// Whether a read gives what it is to give.
+fn is_shown<B: Blocks>(store: &mut Store<B>, shown: Shown) -> Result<bool, Fail>
+    requires { IsStore (fields_of B.log store.old) }
+    ensures { IsStore (fields_of B.log store.new) }
+{
+    let (object, at, offset, len, bytes) = shown;
+    let found = bytes_at(store, object, at, offset, len)?;
+    Ok(found.as_deref() == bytes)
+}
+
+/// Whether an object has this inode at a moment.
+fn has_inode<B: Blocks>(store: &mut Store<B>, object: u64, at: u64, told: Option<InodeTold>) -> bool
+    requires { IsStore (fields_of B.log store.old) }
+    ensures { IsStore (fields_of B.log store.new) }
+{
+    match (store.inode_at(ObjectId::new(object), Moment::new(at)), told) {
+        (Some(inode), Some(told)) => tells(&inode, told),
+        (found, told) => found.is_none() && told.is_none(),
+    }
+}
+
+/// Whether a change of an object at a moment begins with this inode.
+fn begins_with<B: Blocks>(
+    store: &mut Store<B>,
+    object: u64,
+    at: u64,
+    told: InodeTold,
+) -> Result<bool, Fail>
+    requires { IsStore (fields_of B.log store.old) }
+    ensures { IsStore (fields_of B.log store.new) }
+{
+    let inode = present_of(store, ObjectId::new(object), Moment::new(at))?;
+    Ok(tells(&inode, told))
+}
+
+/// Whether a change of an object at a moment begins with an inode that has no first block.
+fn is_blank<B: Blocks>(store: &mut Store<B>, object: u64, at: u64) -> Result<bool, Fail>
+    requires { IsStore (fields_of B.log store.old) }
+    ensures { IsStore (fields_of B.log store.new) }
+{
+    let inode = present_of(store, ObjectId::new(object), Moment::new(at))?;
+    Ok(inode.pointers[0].is_none())
+}
+
 fn holds<B: Blocks>(alloc: Global, store: &mut Store<B>, act: Act) -> Result<bool, Fail>
     requires { IsStore (fields_of B.log store.old) }
     ensures { IsStore (fields_of B.log store.new) }
@@ -222,29 +269,32 @@ fn holds<B: Blocks>(alloc: Global, store: &mut Store<B>, act: Act) -> Result<boo
         Act::Checkpoints(object) => is_checkpointed(store, object),
         Act::Refuses(deed, refusal) => leaves(alloc, store, deed, Err(refusal)),
         Act::Stands(room, latest) => Ok(stands(store) == (room, latest)),
-        Act::Shows((object, at, offset, len, bytes)) => {
-            let found = bytes_at(store, object, at, offset, len)?;
-            Ok(found.as_deref() == bytes)
-        }
+        Act::Shows(shown) => is_shown(store, shown),
         Act::Row(object, told) => Ok(row_of(store, object) == told),
         Act::Next(object, next) => {
             Ok(store.next_row(ObjectId::new(object)) == next.map(ObjectId::new))
         }
-        Act::Inode(object, at, told) => {
-            Ok(
-                match (store.inode_at(ObjectId::new(object), Moment::new(at)), told) {
-                    (Some(inode), Some(told)) => tells(&inode, told),
-                    (found, told) => found.is_none() && told.is_none(),
-                },
-            )
-        }
-        Act::Present(object, at, told) => {
-            let inode = present_of(store, ObjectId::new(object), Moment::new(at))?;
-            Ok(tells(&inode, told))
-        }
-        Act::Same(object, at, same) => Ok(is_same(store, object, at)? == same),
+        Act::Inode(object, at, told) => Ok(has_inode(store, object, at, told)),
+        Act::Present(object, at, told) => begins_with(store, object, at, told),
+        Act::Same(object, at, same) => Ok(is_same(store, object, at) == same),
         Act::Entries(object, told) => has_entries(store, object, told),
+        Act::Blank(object, at) => is_blank(store, object, at),
+        Act::Fills(object) => fill(alloc, store, object),
     }
+}
+
+/// Sets attributes of 64 bytes of an object in turn, at the moments from 2 to 71: each entry has 164 bytes.
+fn fill<B: Blocks>(alloc: Global, store: &mut Store<B>, object: u64) -> Result<bool, Fail>
+    requires { IsStore (fields_of B.log store.old) }
+    ensures { IsStore (fields_of B.log store.new) }
+{
+    for moment in 2..72 {
+        let attribute = [0x61 + (moment % 2) as u8; 64];
+        if set_attribute(alloc, store, object, moment, attribute.as_slice())?.is_err() {
+            return Ok(false);
+        }
+    }
+    Ok(true)
 }
 
 /// Does all of a list.
@@ -252,23 +302,14 @@ pub(super) fn play<B: Blocks>(
     rt: &impl Abort,
     alloc: Global,
     store: &mut Store<B>,
+    name: &str,
     acts: &[Act],
 ) -> Result<(), Fail>
     requires { IsStore (fields_of B.log store.old) }
     ensures { IsStore (fields_of B.log store.new) }
 {
-    for act in acts {
-        assert!(rt; holds(alloc, store, *act)?, "{act:?}");
+    for (number, act) in acts.iter().enumerate() {
+        assert!(rt; holds(alloc, store, *act)?, "{name}: {number}");
     }
     Ok(())
-}
-
-/// Does all of a list with a new store.
-pub(super) fn play_anew<B: Fresh + Drop, R: Abort>(
-    rt: &R,
-    alloc: Global,
-    acts: &[Act],
-) -> Result<(), Fail> {
-    let mut store = Store::new(alloc, B::fresh());
-    play(rt, alloc, &mut store, acts)
 }

@@ -3,7 +3,8 @@ ghost use Rattle.std.specs.Prelude.{◌≡◌, None, IfOk};
 ghost use Rattle.segment_table.specs.Room.{log_of, new_places};
 ghost use Rattle.version_store.specs.Store.{fields_of, IsStore};
 
-use super::acts::{Act, Deed, play, play_anew};
+use super::acts::{Act, Deed, play};
+use super::play_all;
 use plain_log::PlainLog;
 use s4_types::Refusal;
 use segment_table::SegmentTable;
@@ -45,11 +46,6 @@ static WHAT_IS_NEEDED: [Act; 27] = [
     Act::Shows((1, 40, 0, 24_576, Some(b"aZc"))),
 ];
 
-#[test]
-fn a_checkpoint(rt: HostRuntime) -> Result<(), Fail> {
-    play_anew::<PlainLog, _>(&rt, rt.alloc(), WHAT_IS_NEEDED.as_slice())
-}
-
 static OF_THE_DEAD: [Act; 10] = [
     Act::Takes(Deed::Create(1, b"", 10)),
     Act::Takes(Deed::Write(1, 20, 0, b"abc")),
@@ -62,11 +58,6 @@ static OF_THE_DEAD: [Act; 10] = [
     Act::Shows((1, 29, 0, 24_576, Some(b"abc"))),
     Act::Shows((1, 30, 0, 24_576, None)),
 ];
-
-#[test]
-fn a_checkpoint_of_a_deleted_object(rt: HostRuntime) -> Result<(), Fail> {
-    play_anew::<PlainLog, _>(&rt, rt.alloc(), OF_THE_DEAD.as_slice())
-}
 
 const LONGEST: [u8; 24_576] = [0x61; 24_576];
 
@@ -93,8 +84,16 @@ static NO_ROOM: [Act; 16] = [
 ];
 
 #[test]
-fn a_checkpoint_without_room(rt: HostRuntime) -> Result<(), Fail> {
-    play_anew::<PlainLog, _>(&rt, rt.alloc(), NO_ROOM.as_slice())
+fn checkpoints_of_objects(rt: HostRuntime) -> Result<(), Fail> {
+    play_all::<PlainLog, _>(
+        &rt,
+        rt.alloc(),
+        &[
+            ("what is needed", WHAT_IS_NEEDED.as_slice()),
+            ("of the dead", OF_THE_DEAD.as_slice()),
+            ("no room", NO_ROOM.as_slice()),
+        ],
+    )
 }
 
 /// The table of a drive of 8 frames.
@@ -147,7 +146,7 @@ fn play_sealed<J: Naming, R: Abort>(
 {
     for acts in lists {
         store.seal();
-        play(rt, alloc, store, acts)?;
+        play(rt, alloc, store, "sealed", acts)?;
     }
     Ok(())
 }

@@ -1,5 +1,6 @@
 //! Journals that are replaced by their later entries, and objects that are removed.
-use super::acts::{Act, Deed, play_anew};
+use super::acts::{Act, Deed};
+use super::play_all;
 use plain_log::PlainLog;
 use std::test::*;
 
@@ -30,11 +31,6 @@ static CUT: [Act; 23] = [
     Act::Row(1, Some((10, 142, 7, Some(50)))),
 ];
 
-#[test]
-fn a_cut_journal(rt: HostRuntime) -> Result<(), Fail> {
-    play_anew::<PlainLog, _>(&rt, rt.alloc(), CUT.as_slice())
-}
-
 /// Of an object that was removed nothing is left, and another can be made; of one without a row nothing is removed.
 static REMOVED: [Act; 21] = [
     Act::Takes(Deed::Create(1, b"k", 10)),
@@ -61,6 +57,10 @@ static REMOVED: [Act; 21] = [
 ];
 
 #[test]
-fn a_removed_object(rt: HostRuntime) -> Result<(), Fail> {
-    play_anew::<PlainLog, _>(&rt, rt.alloc(), REMOVED.as_slice())
+fn cut_journals_and_removed_objects(rt: HostRuntime) -> Result<(), Fail> {
+    play_all::<PlainLog, _>(
+        &rt,
+        rt.alloc(),
+        &[("cut", CUT.as_slice()), ("removed", REMOVED.as_slice())],
+    )
 }

@@ -2,13 +2,13 @@
 //! the tests come to the same values whichever one allocation is refused.
 ghost use Rattle.std.specs.Prelude.{◌≡◌, Some, IfOk, IfSome};
 ghost use Rattle.s4_model.specs.Limits.{Fits};
-ghost use Rattle.undo_redo.specs.Runs.{entries_past};
 ghost use Rattle.version_store.specs.Store.{fields_of, IsStore};
 ghost use Rattle.version_store.specs.Versions.{entries_of_object, inode_in};
 ghost use Rattle.version_store.specs.Taking.{IsThere, IsReadyFor};
 ghost use Rattle.version_store.specs.Costs.{subject_inode};
 ghost use Rattle.s4_model.specs.Effect.{object_of};
 
+use crate::keep_later;
 use block_log::Blocks;
 use codec::{Entry, Inode};
 use s4_types::{Bytes, Change, Moment, ObjectId, Refusal};
@@ -219,13 +219,6 @@ pub(super) fn remove<B: Blocks>(store: &mut Store<B>, object: u64) -> Result<(),
         Err(Refusal::NoMemory) => store.remove(object),
         answer => answer,
     }
-}
-
-/// The entries that are later than a moment.
-fn keep_later(entries: &mut Vec<Entry>, at: Moment)
-    ensures { entries.new.items ≡ entries_past at entries.old.items }
-{
-    entries.retain(|entry| !(entry.moment() <= at));
 }
 
 /// Replaces an object's journal by its entries that are later than a moment, and asks for memory once.
