@@ -46,7 +46,7 @@ const SMALL_READS: usize = 2_000;
 /// Whole Reads of each object.
 const WHOLE_READS: usize = 100;
 
-/// How many reads of the past a measure asks, at each moment of the chain in turn.
+/// How many requests a measure asks of the past, at each moment of the chain in turn.
 const PAST_READS: usize = 3_000;
 
 /// Moments of each object that are hidden, none beside another one.
@@ -76,7 +76,9 @@ enum Load {
     WholeReads,
     /// Small Reads at each moment of a chain of so many changes.
     PastReads(usize),
-    /// GetAttr at each of them.
+    /// Whole Reads at each moment of a chain of so many changes.
+    PastWholeReads(usize),
+    /// GetAttr at each moment of a chain of so many changes.
     PastAttributes(usize),
     Flushes,
 }
@@ -193,15 +195,32 @@ impl<J: Naming> Asked<J> {
         Ok(())
     }
 
-    /// Makes an object with a chain of so many changes, and a second one behind it, and answers the moment of its making.
-    fn make_chain(&mut self, changes: usize) -> Result<Moment, BenchError> {
+    /// Makes an object of these bytes with a chain of so many changes, and a second one behind it, and answers the moment of
+    /// its making.
+    fn make_chain(&mut self, changes: usize, bytes: &[u8]) -> Result<Moment, BenchError> {
         let made = self.create()?;
-        self.write(1, 0, &WHOLE[..SMALL])?;
+        self.write(1, 0, bytes)?;
         for _ in 2..changes {
             self.write(1, 0, b"")?;
         }
         self.create()?;
         Ok(made)
+    }
+
+    /// Reads the first object at each moment of its chain in turn.
+    fn read_past(&mut self, made: Moment, changes: usize, length: u32) -> Result<(), BenchError> {
+        for turn in 0..PAST_READS {
+            self.read(1, length, Some(moment_in_turn(made, changes, turn)))?;
+        }
+        Ok(())
+    }
+
+    /// Asks for what the first object was at each moment of its chain in turn.
+    fn ask_past(&mut self, made: Moment, changes: usize) -> Result<(), BenchError> {
+        for turn in 0..PAST_READS {
+            self.get_attribute(1, moment_in_turn(made, changes, turn))?;
+        }
+        Ok(())
     }
 }
 
@@ -212,7 +231,7 @@ fn requests(load: Load) -> usize {
         Load::WholeWrites => OBJECTS * WHOLE_WRITES,
         Load::SmallReads => OBJECTS * SMALL_READS,
         Load::WholeReads => OBJECTS * WHOLE_READS,
-        Load::PastReads(_) | Load::PastAttributes(_) => PAST_READS,
+        Load::PastReads(_) | Load::PastWholeReads(_) | Load::PastAttributes(_) => PAST_READS,
         Load::Flushes => OBJECTS * HIDDEN,
     }
 }
@@ -220,7 +239,10 @@ fn requests(load: Load) -> usize {
 /// Makes what a load asks for, and answers the moment of the first object's making.
 fn prepare<J: Naming>(asked: &mut Asked<J>, load: Load) -> Result<Moment, BenchError> {
     match load {
-        Load::PastReads(changes) | Load::PastAttributes(changes) => asked.make_chain(changes),
+        Load::PastReads(changes) | Load::PastAttributes(changes) => {
+            asked.make_chain(changes, &WHOLE[..SMALL])
+        }
+        Load::PastWholeReads(changes) => asked.make_chain(changes, &WHOLE),
         Load::SmallReads | Load::WholeReads => {
             asked.create_all()?;
             asked.write_whole(1)?;
@@ -251,19 +273,9 @@ fn ask_all<J: Naming>(asked: &mut Asked<J>, made: Moment, load: Load) -> Result<
         Load::WholeWrites => asked.write_whole(WHOLE_WRITES),
         Load::SmallReads => asked.read_all(SMALL_READS, 100),
         Load::WholeReads => asked.read_all(WHOLE_READS, 24_576),
-        Load::PastReads(changes) => {
-            for turn in 0..PAST_READS {
-                let at = moment_in_turn(made, changes, turn);
-                asked.read(1, 100, Some(at))?;
-            }
-            Ok(())
-        }
-        Load::PastAttributes(changes) => {
-            for turn in 0..PAST_READS {
-                asked.get_attribute(1, moment_in_turn(made, changes, turn))?;
-            }
-            Ok(())
-        }
+        Load::PastReads(changes) => asked.read_past(made, changes, 100),
+        Load::PastWholeReads(changes) => asked.read_past(made, changes, 24_576),
+        Load::PastAttributes(changes) => asked.ask_past(made, changes),
         Load::Flushes => {
             for k in 0..HIDDEN {
                 asked.hide(Moment::new(2 * k as u64 + 1))?;
@@ -338,6 +350,19 @@ fn print_load<R: Clock + Eprint>(
     Ok(())
 }
 
+/// Measures what is asked of the past of a chain of so many changes, and prints what comes of it.
+fn print_past<R: Clock + Eprint>(rt: &R, alloc: Global, changes: usize) -> Result<(), BenchError> {
+    for (name, load) in [
+        ("Reads of 100 bytes", Load::PastReads(changes)),
+        ("Reads of 24,576 bytes", Load::PastWholeReads(changes)),
+        ("GetAttr", Load::PastAttributes(changes)),
+    ] {
+        let name = format!(in alloc; "{name} at moments of {changes} changes")?;
+        print_load(rt, alloc, &name, load)?;
+    }
+    Ok(())
+}
+
 /// Measures starts of a drive, and prints what one takes.
 fn print_start<R: Clock + Eprint>(rt: &R, alloc: Global, frames: usize) -> Result<(), BenchError>
     requires { IsFrameCount frames }
@@ -360,25 +385,12 @@ fn main(rt: HostRuntime) -> Result<(), BenchError> {
         ("Writes of 24,576 bytes", Load::WholeWrites),
         ("Reads of 100 bytes, now", Load::SmallReads),
         ("Reads of 24,576 bytes, now", Load::WholeReads),
-        (
-            "Reads of 100 bytes at moments of 10 changes",
-            Load::PastReads(10),
-        ),
-        (
-            "Reads of 100 bytes at moments of 100 changes",
-            Load::PastReads(100),
-        ),
-        (
-            "Reads of 100 bytes at moments of 300 changes",
-            Load::PastReads(300),
-        ),
-        (
-            "GetAttr at moments of 300 changes",
-            Load::PastAttributes(300),
-        ),
         ("FlushO of one moment of one object", Load::Flushes),
     ] {
         print_load(&rt, alloc, name, load)?;
+    }
+    for changes in [10, 100, 300] {
+        print_past(&rt, alloc, changes)?;
     }
     Ok(())
 }
