@@ -4,7 +4,7 @@
 //! time counts. The figures differ from run to run, so they go to standard error, and nothing to standard output.
 #![tactic(auto)]
 
-ghost use Rattle.std.specs.Prelude.{◌≡◌};
+ghost use Rattle.std.specs.Prelude.{◌≡◌, ◌+◌, ◌-◌, ◌%◌, ◌^◌, ◌<◌, min};
 ghost use Rattle.s4_types.specs.Sizes.{IsFrameCount};
 ghost use Rattle.s4_model.specs.State.{new_base};
 
@@ -261,7 +261,9 @@ fn prepare<J: Naming>(asked: &mut Asked<J>, load: Load) -> Result<Moment, BenchE
 }
 
 /// The moment of the change of a chain that comes in turn; the chain begins with the object's making.
-fn moment_in_turn(made: Moment, changes: usize, turn: usize) -> Moment {
+fn moment_in_turn(made: Moment, changes: usize, turn: usize) -> Moment
+    ensures { 0 < changes → result ≡ min (made + turn % changes) (2 ^ 64 - 1) }
+{
     let behind = turn.checked_rem(changes).unwrap_or(0);
     Moment::new(made.number().saturating_add(behind as u64))
 }

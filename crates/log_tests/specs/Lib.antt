@@ -1,1 +1,2 @@
 pub mod Subject
+pub mod Places

@@ -21,5 +21,6 @@
 //! allocation is refused, and fails where memory is never had.
 #![tactic(auto)]
 
+pub mod expected;
 #[cfg(test)]
 mod tests;

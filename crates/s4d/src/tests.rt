@@ -1,25 +1,46 @@
 //! Runs of the program over memory.
-ghost use Rattle.std.specs.Prelude.{◌<◌};
+ghost use Rattle.std.specs.Prelude.{◌+◌, ◌^◌, ◌<◌};
 
 mod faults;
-mod hex_text;
 mod lines;
 mod memory;
 mod pipes;
-mod plain;
 mod rows;
 
 use crate::performing::perform;
-use crate::tests::hex_text::bytes_of;
-use serving::{MemorySink, MemorySource, ReadSource, WriteSink};
+use serving::{MemorySink, MemorySource, ReadSource, Sink, Source, WriteSink};
 use std::alloc::{AllocError, Global};
 
-/// What a run left: its status, and what it wrote.
-#[derive(Debug, Drop)]
+/// What a run left: its status, what it wrote, and its lines on standard error.
+#[derive(Drop)]
 struct Outcome {
     status: u8,
     output: Vec<u8>,
     errors: Vec<u8>,
+}
+
+impl Outcome {
+    /// Whether a run left all this.
+    fn is(&self, status: u8, output: &[u8], errors: &str) -> bool {
+        self.status == status
+            && self.output.as_slice() == output
+            && self.errors.as_slice() == errors.as_bytes()
+    }
+}
+
+/// Performs the words from a reader to a writer: the status, and the lines on standard error.
+fn run_over<R: Source, W: Sink>(
+    alloc: Global,
+    words: &[&str],
+    reader: &mut R,
+    writer: &mut W,
+) -> (u8, Vec<u8>)
+    requires reader { R.failures reader.old + 1 < 2 ^ 64 }
+    requires writer { W.failures writer.old + 1 < 2 ^ 64 }
+{
+    let mut errors = Vec::new(alloc);
+    let status = perform(alloc, words, reader, writer, &mut errors);
+    (status, errors)
 }
 
 /// Performs the words over bytes, which come in pieces of this size.
@@ -33,19 +54,13 @@ fn run_in_pieces(
 {
     let mut reader = MemorySource::new(input, piece);
     let mut writer = MemorySink::new(alloc);
-    let mut errors = Vec::new(alloc);
-    let status = perform(alloc, words, &mut reader, &mut writer, &mut errors);
+    let (status, errors) = run_over(alloc, words, &mut reader, &mut writer);
+    let output = Vec::from_slice(alloc, writer.as_slice())?;
     Ok(Outcome {
         status,
-        output: Vec::from_slice(alloc, writer.as_slice())?,
+        output,
         errors,
     })
-}
-
-/// Performs the words over an input that is written as hex text.
-fn run(alloc: Global, words: &[&str], input: &str) -> Result<Outcome, AllocError> {
-    let input = bytes_of(alloc, input)?;
-    run_in_pieces(alloc, words, input.as_slice(), 65_536)
 }
 
 /// Performs the words over a slice of bytes, a slice to be written and one for the lines.
@@ -62,4 +77,30 @@ fn run_over_slices(
     let status = perform(alloc, words, &mut reader, &mut writer, &mut lines);
     drop(writer);
     status
+}
+
+/// The bytes that a text writes as pairs of hex digits, with spaces where they please.
+fn bytes_of(alloc: Global, text: &str) -> Result<Vec<u8>, AllocError> {
+    let mut bytes = Vec::new(alloc);
+    let mut high = None;
+    for letter in text.bytes() {
+        let digit = match letter {
+            b'0'..=b'9' => letter - b'0',
+            b'a'..=b'f' => letter - b'a' + 10,
+            _ => continue,
+        };
+        high = match high {
+            None => Some(digit),
+            Some(first) => {
+                push_byte(&mut bytes, first, digit)?;
+                None
+            }
+        };
+    }
+    Ok(bytes)
+}
+
+fn push_byte(bytes: &mut Vec<u8>, high: u8, low: u8) -> Result<(), AllocError> {
+    bytes.push(high.wrapping_mul(16).wrapping_add(low))?;
+    Ok(())
 }

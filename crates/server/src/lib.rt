@@ -14,6 +14,3 @@ pub use clocks::SharedClock;
 pub use gate::{Gate, Open};
 pub use locked::Locked;
 pub use running::{Client, MOST_SESSIONS, Outcome, run_sessions};
-
-#[cfg(test)]
-mod tests;

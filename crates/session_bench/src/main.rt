@@ -6,7 +6,7 @@
 //! so they go to standard error, and nothing to standard output.
 #![tactic(auto)]
 
-ghost use Rattle.std.specs.Prelude.{◌≡◌};
+ghost use Rattle.std.specs.Prelude.{◌≡◌, ◌%◌, ◌<◌, true, ◌↔◌};
 ghost use Rattle.s4_model.specs.State.{new_base};
 
 use drive::{Drive, NewDrive};
@@ -131,6 +131,14 @@ fn fill<B: Backend>(alloc: Global, session: &mut B) -> Result<(), BenchError> {
     Ok(())
 }
 
+/// Whether an object is in the share of a session: each is in that of one alone.
+fn is_own(part: usize, index: usize, sessions: usize) -> bool
+    requires { 0 < sessions }
+    ensures { (result ≡ true) ↔ (part % sessions ≡ index) }
+{
+    part % sessions == index
+}
+
 /// One session of so many asks its share of the objects.
 fn ask_share<B: Backend>(
     alloc: Global,
@@ -139,8 +147,11 @@ fn ask_share<B: Backend>(
     sessions: usize,
     load: Load,
 ) -> bool {
+    if sessions == 0 {
+        return false;
+    }
     for part in 0..OBJECTS {
-        let own = part.checked_rem(sessions) == Some(index);
+        let own = is_own(part, index, sessions);
         if own && !ask_all(alloc, session, ObjectId::new(part as u64 + 1), load) {
             return false;
         }

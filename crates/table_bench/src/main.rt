@@ -5,6 +5,8 @@
 //! The figures differ from run to run, so they go to standard error, and nothing to standard output.
 #![tactic(auto)]
 
+ghost use Rattle.std.specs.Prelude.{◌≡◌, IfOk};
+
 use block_log::laws::an_append_puts_one_block;
 use block_log::{Block, BlockKind, Blocks};
 use s4_types::limits::{BLOCK_BYTES, MOST_FRAMES, PAYLOAD_BLOCKS};
@@ -76,7 +78,9 @@ fn append_and_get_all<B: Blocks>(
 }
 
 /// Copies the blocks one by one.
-fn copy_all(alloc: Global, blocks: &[Block]) -> Result<Vec<Block>, Refusal> {
+fn copy_all(alloc: Global, blocks: &[Block]) -> Result<Vec<Block>, Refusal>
+    ensures { IfOk result (λ copies. copies.items ≡ blocks.now) }
+{
     let mut copies = Vec::with_capacity(alloc, blocks.len())?;
     for block in blocks {
         copies.push(*block)?;

@@ -1,6 +1,5 @@
 //! Journal blocks, and records with one byte changed.
-use crate::tests::readings::{FOURTEEN, LONGEST, Shape, THREE, entries_of};
-use crate::tests::records::{MADE, POINTER, WRITTEN, checkpoint_bytes};
+use crate::tests::records::{CHECKPOINT, MADE, POINTER, WRITTEN};
 use codec::{
     Entries, Entry, JournalBlock, Writing, decode_checkpoint, decode_entry, decode_journal,
     decode_ptr, encode_checkpoint, encode_entry, encode_journal, encode_ptr,
@@ -52,26 +51,6 @@ fn a_journal_block_is_spelled_and_read(rt: HostRuntime) -> Result<(), Fail> {
     assert!(rt; is_told(&read, entries.as_slice()));
     let made = JournalBlock::new(ObjectId::new(1), None, entries).ok_or("a block")?;
     assert!(rt; encode_journal(&made).as_slice() == journal_bytes().as_slice());
-    Ok(())
-}
-
-/// An object's number, entries, and whether they can be a journal block: 493 bytes are too many.
-static RULES: [(u64, &[Shape], bool); 6] = [
-    (0, &LONGEST, false),
-    (1, &[], false),
-    (1, &LONGEST, true),
-    (1, &FOURTEEN, true),
-    (1, &THREE, true),
-    (1, &[(1, false, 13), (2, false, 12)], false),
-];
-
-#[test]
-fn rules_of_a_journal_block(rt: HostRuntime) -> Result<(), Fail> {
-    for (object, shapes, is_kept) in RULES {
-        let entries = entries_of(shapes).ok_or("entries")?;
-        let made = JournalBlock::new(ObjectId::new(object), None, entries);
-        assert!(rt; made.is_some() == is_kept);
-    }
     Ok(())
 }
 
@@ -213,7 +192,7 @@ fn every_byte_of_a_pointer_and_of_entries(rt: HostRuntime) {
 #[test]
 fn every_byte_of_a_checkpoint(rt: HostRuntime) {
     let rows = [(0, 112, 10_622), (112, 512, 0)];
-    check_counted(&rt, Kind::Checkpoint, &checkpoint_bytes(), &rows);
+    check_counted(&rt, Kind::Checkpoint, &CHECKPOINT, &rows);
 }
 
 /// The head and the entries, and what stands behind them.

@@ -1,15 +1,18 @@
-//! Journal blocks that are read from their last entry to their first.
-use codec::{Attribute, Entries, Entry, EntryReader, JournalBytes, Pair, Status, Triple, Triples};
+//! Entries of given shapes: which of them can be a journal block, and how a block gives them, from the last to the first.
+use codec::{
+    Attribute, Entries, Entry, EntryReader, JournalBlock, JournalBytes, Pair, Status, Triple,
+    Triples,
+};
 use s4_types::{Moment, ObjectId, Ptr};
 use std::process::Abort;
 use std::test::Fail;
 
 /// An entry's moment, whether its attribute changed, from 64 bytes to 64 others, and how many pointers changed. So it has 34
 /// bytes, 130 more with attributes, and 17 more for each pointer.
-pub(super) type Shape = (u64, bool, u8);
+type Shape = (u64, bool, u8);
 
 /// Fourteen of the shortest entries.
-pub(super) const FOURTEEN: [Shape; 14] = [
+const FOURTEEN: [Shape; 14] = [
     (1, false, 0),
     (2, false, 0),
     (3, false, 0),
@@ -27,10 +30,10 @@ pub(super) const FOURTEEN: [Shape; 14] = [
 ];
 
 /// Entries of 34, 164 and 289 bytes.
-pub(super) const THREE: [Shape; 3] = [(1, false, 0), (2, true, 0), (3, false, 15)];
+const THREE: [Shape; 3] = [(1, false, 0), (2, true, 0), (3, false, 15)];
 
 /// The longest entry.
-pub(super) const LONGEST: [Shape; 1] = [(5, true, 16)];
+const LONGEST: [Shape; 1] = [(5, true, 16)];
 
 fn status(size: u32, changed: u64) -> Status {
     Status {
@@ -78,12 +81,32 @@ fn entry_of(shape: Shape) -> Option<Entry> {
 }
 
 /// Entries of these shapes, where there are no more than fourteen.
-pub(super) fn entries_of(shapes: &[Shape]) -> Option<Entries> {
+fn entries_of(shapes: &[Shape]) -> Option<Entries> {
     let mut entries = Entries::new();
     for shape in shapes {
         entries.try_push(entry_of(*shape)?).ok()?;
     }
     Some(entries)
+}
+
+/// An object's number, entries, and whether they can be a journal block: 493 bytes are too many.
+static RULES: [(u64, &[Shape], bool); 6] = [
+    (0, &LONGEST, false),
+    (1, &[], false),
+    (1, &LONGEST, true),
+    (1, &FOURTEEN, true),
+    (1, &THREE, true),
+    (1, &[(1, false, 13), (2, false, 12)], false),
+];
+
+#[test]
+fn rules_of_a_journal_block(rt: HostRuntime) -> Result<(), Fail> {
+    for (object, shapes, is_kept) in RULES {
+        let entries = entries_of(shapes).ok_or("entries")?;
+        let made = JournalBlock::new(ObjectId::new(object), None, entries);
+        assert!(rt; made.is_some() == is_kept);
+    }
+    Ok(())
 }
 
 /// The journal block of these entries, where all fit.

@@ -146,19 +146,31 @@ fn inode() -> Option<Inode> {
     })
 }
 
-/// The object at moment 12, with an attribute `ab`.
-pub(super) fn checkpoint_bytes() -> [u8; 512] {
-    let mut block = [0; 512];
-    block[..4].copy_from_slice(&[2, 1, 2, 0]);
-    block[7] = 3;
-    block[15] = 1;
-    block[23] = 12;
-    block[31] = 10;
-    block[39] = 11;
-    block[40..42].copy_from_slice(b"ab");
-    block[104..112].copy_from_slice(&POINTER);
-    block
-}
+/// The block of the object at moment 12, with an attribute `ab`.
+pub(super) static CHECKPOINT: [u8; 512] = [
+    2, 1, 2, 0, 0, 0, 0, 3, // alive, an attribute of two bytes, a size of three
+    0, 0, 0, 0, 0, 0, 0, 1, // object 1
+    0, 0, 0, 0, 0, 0, 0, 12, // the checkpoint's moment
+    0, 0, 0, 0, 0, 0, 0, 10, // made
+    0, 0, 0, 0, 0, 0, 0, 11, // changed
+    97, 98, 0, 0, 0, 0, 0, 0, 0, 0, 0, 0, 0, 0, 0, 0, 0, 0, 0, 0, 0, 0, 0, 0, 0, 0, 0, 0, 0, 0, 0,
+    0, 0, 0, 0, 0, 0, 0, 0, 0, 0, 0, 0, 0, 0, 0, 0, 0, 0, 0, 0, 0, 0, 0, 0, 0, 0, 0, 0, 0, 0, 0, 0,
+    0, // the attribute
+    0, 0, 2, 0, 0, 0, 0, 1, // the first pointer
+    0, 0, 0, 0, 0, 0, 0, 0, 0, 0, 0, 0, 0, 0, 0, 0, 0, 0, 0, 0, 0, 0, 0, 0, 0, 0, 0, 0, 0, 0, 0, 0,
+    0, 0, 0, 0, 0, 0, 0, 0, 0, 0, 0, 0, 0, 0, 0, 0, 0, 0, 0, 0, 0, 0, 0, 0, 0, 0, 0, 0, 0, 0, 0, 0,
+    0, 0, 0, 0, 0, 0, 0, 0, 0, 0, 0, 0, 0, 0, 0, 0, 0, 0, 0, 0, 0, 0, 0, 0, 0, 0, 0, 0, 0, 0, 0, 0,
+    0, 0, 0, 0, 0, 0, 0, 0, 0, 0, 0, 0, 0, 0, 0, 0, 0, 0, 0, 0, 0, 0, 0, 0, 0, 0, 0, 0, 0, 0, 0, 0,
+    0, 0, 0, 0, 0, 0, 0, 0, 0, 0, 0, 0, 0, 0, 0, 0, 0, 0, 0, 0, 0, 0, 0, 0, 0, 0, 0, 0, 0, 0, 0, 0,
+    0, 0, 0, 0, 0, 0, 0, 0, 0, 0, 0, 0, 0, 0, 0, 0, 0, 0, 0, 0, 0, 0, 0, 0, 0, 0, 0, 0, 0, 0, 0, 0,
+    0, 0, 0, 0, 0, 0, 0, 0, 0, 0, 0, 0, 0, 0, 0, 0, 0, 0, 0, 0, 0, 0, 0, 0, 0, 0, 0, 0, 0, 0, 0, 0,
+    0, 0, 0, 0, 0, 0, 0, 0, 0, 0, 0, 0, 0, 0, 0, 0, 0, 0, 0, 0, 0, 0, 0, 0, 0, 0, 0, 0, 0, 0, 0, 0,
+    0, 0, 0, 0, 0, 0, 0, 0, 0, 0, 0, 0, 0, 0, 0, 0, 0, 0, 0, 0, 0, 0, 0, 0, 0, 0, 0, 0, 0, 0, 0, 0,
+    0, 0, 0, 0, 0, 0, 0, 0, 0, 0, 0, 0, 0, 0, 0, 0, 0, 0, 0, 0, 0, 0, 0, 0, 0, 0, 0, 0, 0, 0, 0, 0,
+    0, 0, 0, 0, 0, 0, 0, 0, 0, 0, 0, 0, 0, 0, 0, 0, 0, 0, 0, 0, 0, 0, 0, 0, 0, 0, 0, 0, 0, 0, 0, 0,
+    0, 0, 0, 0, 0, 0, 0, 0, 0, 0, 0, 0, 0, 0, 0, 0, 0, 0, 0, 0, 0, 0, 0, 0, // holes
+    0, 0, 0, 0, 0, 0, 0, 0, 0, 0, 0, 0, 0, 0, 0, 0, 0, 0, 0, 0, 0, 0, 0, 0, // zeros
+];
 
 fn is_told(read: &Checkpoint, inode: &Inode) -> bool {
     read.object() == ObjectId::new(1) && read.moment() == Moment::new(12) && read.inode() == inode
@@ -168,8 +180,8 @@ fn is_told(read: &Checkpoint, inode: &Inode) -> bool {
 fn checkpoints(rt: HostRuntime) -> Result<(), Fail> {
     let inode = inode().ok_or("an attribute")?;
     let made = Checkpoint::new(ObjectId::new(1), Moment::new(12), inode).ok_or("a checkpoint")?;
-    assert!(rt; encode_checkpoint(&made).as_slice() == checkpoint_bytes().as_slice());
-    let read = decode_checkpoint(&checkpoint_bytes()).ok_or("read")?;
+    assert!(rt; encode_checkpoint(&made).as_slice() == CHECKPOINT.as_slice());
+    let read = decode_checkpoint(&CHECKPOINT).ok_or("read")?;
     assert!(rt; is_told(&read, &inode));
     Ok(())
 }

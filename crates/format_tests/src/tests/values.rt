@@ -123,14 +123,28 @@ fn lengthened(alloc: Global, given: &[u8], byte: u8) -> Result<Bytes, Fail> {
 }
 
 #[test]
-fn bytes(rt: HostRuntime) -> Result<(), Fail> {
-    assert!(rt; is_nothing(&Bytes::empty(rt.alloc())));
+fn bytes_are_told(rt: HostRuntime) -> Result<(), Fail> {
     for given in [b"".as_slice(), b"abc"] {
         assert!(rt; are_told(rt.alloc(), given)?);
     }
-    for (other, same) in [(b"".as_slice(), false), (b"abd", false), (b"abc", true)] {
+    Ok(())
+}
+
+/// Bytes, and whether they are the same as `abc`.
+static COMPARED: [(&[u8], bool); 3] = [(b"", false), (b"abd", false), (b"abc", true)];
+
+#[test]
+fn bytes_are_compared(rt: HostRuntime) -> Result<(), Fail> {
+    for (other, same) in COMPARED {
         assert!(rt; are_same(rt.alloc(), b"abc", other)? == same);
     }
-    assert!(rt; lengthened(rt.alloc(), b"abc", b'd')?.as_slice() == b"abcd".as_slice());
+    Ok(())
+}
+
+#[test]
+fn bytes_are_none_or_one_more(rt: HostRuntime) -> Result<(), Fail> {
+    assert!(rt; is_nothing(&Bytes::empty(rt.alloc())));
+    let longer = lengthened(rt.alloc(), b"abc", b'd')?;
+    assert!(rt; longer.as_slice() == b"abcd".as_slice());
     Ok(())
 }

@@ -3,6 +3,7 @@ ghost use Rattle.std.specs.Prelude.{◌<◌, ◌≤◌, length, IfOk};
 ghost use Rattle.rpc.specs.Spelling.{RequestFits};
 ghost use Rattle.s4_types.specs.Sizes.{ReplyFits};
 
+use crate::bodies::body_of;
 use rpc::{
     FrameReader, Item, decode_reply, decode_request, encode_reply, encode_request, push_request,
     read_all,
@@ -275,15 +276,6 @@ fn replies(rt: HostRuntime) -> Result<(), Fail> {
     Ok(())
 }
 
-/// A body with one byte again and again behind its front.
-fn body_of(alloc: Global, front: &[u8], count: usize) -> Result<Vec<u8>, Fail> {
-    let mut body = Vec::from_slice(alloc, front)?;
-    for _ in 0..count {
-        body.push(0x61)?;
-    }
-    Ok(body)
-}
-
 /// Whether a body is refused, as a reply's or as a request's.
 fn is_bad(alloc: Global, is_reply: bool, front: &[u8], count: usize) -> Result<bool, Fail> {
     let body = body_of(alloc, front, count)?;
@@ -404,19 +396,36 @@ fn is_read_so(
     )
 }
 
+/// Looks at what is read of a prefix of the stream, in pieces of three sizes.
+fn check_prefix(
+    rt: &impl Abort,
+    alloc: Global,
+    all: &[Item<Request>],
+    prefix: &[u8],
+) -> Result<(), Fail> {
+    for size in [1, 7, STREAM.len()] {
+        assert!(rt;
+            is_read_so(alloc, all, prefix, size)?,
+            "{} {size}",
+            prefix.len()
+        );
+    }
+    Ok(())
+}
+
+/// Looks at the items of the whole stream, and at what is read of each prefix.
+fn check_prefixes(rt: &impl Abort, alloc: Global, all: &[Item<Request>]) -> Result<(), Fail> {
+    assert!(rt; are_all(all));
+    for len in 0..=STREAM.len() {
+        check_prefix(rt, alloc, all, &STREAM[..len])?;
+    }
+    Ok(())
+}
+
 #[test]
 fn prefixes(rt: HostRuntime) -> Result<(), Fail> {
     let (all, _) = read_in_pieces(rt.alloc(), &STREAM, STREAM.len())?;
-    assert!(rt; are_all(all.as_slice()));
-    for len in 0..=STREAM.len() {
-        for size in [1, 7, STREAM.len()] {
-            assert!(rt;
-                is_read_so(rt.alloc(), all.as_slice(), &STREAM[..len], size)?,
-                "{len} {size}"
-            );
-        }
-    }
-    Ok(())
+    check_prefixes(&rt, rt.alloc(), all.as_slice())
 }
 
 /// What is fed to a reader, how many items it gives, and whether the reader has failed then.
@@ -464,13 +473,22 @@ fn flush(alloc: Global) -> Result<Vec<u8>, Fail> {
 }
 
 #[test]
-fn lengths_out_of_range(rt: HostRuntime) -> Result<(), Fail> {
+fn an_empty_frame_and_a_flush(rt: HostRuntime) -> Result<(), Fail> {
     let stream = flush(rt.alloc())?;
     assert!(rt; stream.as_slice() == TWO_FRAMES.as_slice());
     let (items, _) = read_in_pieces(rt.alloc(), &TWO_FRAMES, 25)?;
     assert!(rt; are_bad_and_flush(items.as_slice()));
+    Ok(())
+}
+
+#[test]
+fn the_longest_body_is_awaited(rt: HostRuntime) -> Result<(), Fail> {
     let mut reader = FrameReader::new(rt.alloc())?;
-    feeds(&rt, &mut reader, LONGEST.as_slice())?;
+    feeds(&rt, &mut reader, LONGEST.as_slice())
+}
+
+#[test]
+fn a_longer_body_ends_the_stream(rt: HostRuntime) -> Result<(), Fail> {
     let mut reader = FrameReader::new(rt.alloc())?;
     feeds(&rt, &mut reader, TOO_LONG.as_slice())?;
     for bytes in [TWO_FRAMES.as_slice(), &[]] {
@@ -510,16 +528,25 @@ fn new_reader(alloc: Global) -> Result<FrameReader, Refusal> {
     }
 }
 
+/// Feeds the stream once more, in pieces, and looks whether the same items are read.
+fn check_again(
+    rt: &impl Abort,
+    reader: &mut FrameReader,
+    whole: &[Item<Request>],
+) -> Result<(), Fail> {
+    let mut count = 0;
+    for piece in STREAM.chunks(7) {
+        assert!(rt; goes_on(reader, piece, whole, &mut count)?);
+    }
+    assert!(rt; count == ENDS.len() && reader.is_between_frames());
+    Ok(())
+}
+
 /// Run with each allocation refused in turn, it still reads the same items: nothing was taken.
 #[test]
 fn memory_refused(rt: HostRuntime) -> Result<(), Fail> {
     let mut reader = new_reader(rt.alloc())?;
     let whole = feed_again(&mut reader, &STREAM)?;
     assert!(rt; whole.len() == ENDS.len());
-    let mut count = 0;
-    for piece in STREAM.chunks(7) {
-        assert!(rt; goes_on(&mut reader, piece, whole.as_slice(), &mut count)?);
-    }
-    assert!(rt; count == ENDS.len() && reader.is_between_frames());
-    Ok(())
+    check_again(&rt, &mut reader, whole.as_slice())
 }

@@ -5,6 +5,7 @@ ghost use Rattle.undo_redo.specs.Between.{CanLead};
 ghost use Rattle.time_read.specs.Rows.{IsRow, last_inode};
 ghost use Rattle.row_changes.specs.Recent.{IsBy};
 
+use crate::between::can_be_earlier;
 use block_log::Blocks;
 use codec::{Checkpoint, Inode};
 use object_map::Row;
@@ -12,6 +13,7 @@ use plain_log::PlainLog;
 use row_changes::laws::{a_fresh_row_stands, a_row_is_by_later_moments};
 use row_changes::{record_change, record_checkpoint};
 use s4_types::{Moment, ObjectId, Ptr};
+use std::process::Abort;
 use std::test::Fail;
 use time_read::inode_at;
 use time_read::laws::the_last_inode_is_current;
@@ -19,6 +21,9 @@ use undo_redo::blank;
 
 /// The object of all these tests.
 const OBJECT: u64 = 7;
+
+/// The moment at which it is made.
+const MADE: u64 = 10;
 
 /// The object as a test has made it: its row and its present inode.
 #[derive(Clone, Copy)]
@@ -31,33 +36,17 @@ struct Subject {
 fn begun<B: Blocks>(table: &B) -> Subject
     requires { (p : Place) → (B.log table.now).held p ≡ None }
     ensures row { IsRow (B.log table.now).held OBJECT result.row }
-    ensures latest { IsBy (B.log table.now).held OBJECT result.row 9 }
+    ensures latest { IsBy (B.log table.now).held OBJECT result.row (MADE - 1) }
     ensures present { result.inode ≡ last_inode (B.log table.now).held OBJECT result.row }
 {
     a_fresh_row_stands();
     a_row_is_by_later_moments();
     the_last_inode_is_current();
-    let created = Moment::new(10);
+    let created = Moment::new(MADE);
     Subject {
         row: Row::fresh(created),
         inode: blank(created),
     }
-}
-
-/// Whether an entry can tell an inode's status as the earlier one.
-pub(super) fn can_be_earlier(inode: &Inode) -> bool
-    ensures size { result ≡ true → inode.now.size ≤ 24576 }
-    ensures nothing { result ≡ true → inode.now.alive ≡ false → (inode.now.size ≡ 0) × (inode.now.changed ≡ 0) }
-    ensures count { result ≡ true → length inode.now.pointers ≡ 48 }
-{
-    let pointers: &[Option<Ptr>] = &inode.pointers;
-    if pointers.len() != 48 {
-        return false;
-    }
-    if inode.alive {
-        return inode.size <= 24_576;
-    }
-    inode.size == 0 && inode.changed.number() == 0
 }
 
 /// The inode alive and of a size since a moment, where an entry can tell so.
@@ -127,47 +116,88 @@ fn size_at<B: Blocks>(table: &mut B, subject: &Subject, at: u64) -> Option<u32>
     told.alive.then_some(told.size)
 }
 
+/// Looks at the sizes that the object has at moments, where it is alive.
+fn check_sizes<B: Blocks>(
+    rt: &impl Abort,
+    table: &mut B,
+    subject: &Subject,
+    told: &[(u64, Option<u32>)],
+)
+    requires row { IsRow (B.log table.old).held OBJECT subject.now.row }
+    requires present { subject.now.inode ≡ last_inode (B.log table.old).held OBJECT subject.now.row }
+{
+    for (at, size) in told {
+        assert!(rt; size_at(table, subject, *at) == *size, "{at}");
+    }
+}
+
+/// Looks at the blocks of a row: the frames of its checkpoint and of its journal's head, and the checkpoint's moment.
+fn check_places(rt: &impl Abort, row: &Row, checkpoint: Option<u16>, moment: u64, head: u16) {
+    let place = checkpoint.and_then(|frame| Ptr::new(frame, 1, 1));
+    assert!(rt; row.checkpoint == place && row.checkpoint_moment == Moment::new(moment));
+    assert!(rt; row.head == Ptr::new(head, 1, 1) && row.stamp == 0);
+}
+
 #[test]
-fn a_change_is_told_from_its_moment_on(rt: HostRuntime) -> Result<(), Fail> {
+fn an_object_is_nothing_before_its_making(rt: HostRuntime) {
     let mut table = PlainLog::new(15);
     let none = begun(&table);
     assert!(rt; size_at(&mut table, &none, 10) == None);
-    let first = resized(&mut table, &none, 10, 0)?;
-    let second = resized(&mut table, &first, 11, 3)?;
-    let third = resized(&mut table, &second, 12, 5)?;
-    assert!(rt; size_at(&mut table, &third, 0) == None);
-    assert!(rt; size_at(&mut table, &third, 9) == None);
-    assert!(rt; size_at(&mut table, &third, 10) == Some(0));
-    assert!(rt; size_at(&mut table, &third, 11) == Some(3));
-    assert!(rt; size_at(&mut table, &third, 12) == Some(5));
-    assert!(rt; size_at(&mut table, &third, u64::MAX) == Some(5));
-    assert!(rt; third.row.head == Ptr::new(2, 1, 1) && third.row.checkpoint == None);
-    assert!(rt;
-        third.row.journal_bytes == 102 && third.row.head_bytes == 102 && third.row.stamp == 0
-    );
+}
+
+/// The object made at moment 10, and given a size at two later moments; looks at its sizes.
+fn check_changes<B: Blocks>(rt: &impl Abort, table: &mut B) -> Result<Row, Fail>
+    requires { (p : Place) → (B.log table.old).held p ≡ None }
+{
+    let none = begun(table);
+    let first = resized(table, &none, 10, 0)?;
+    let second = resized(table, &first, 11, 3)?;
+    let third = resized(table, &second, 12, 5)?;
+    check_sizes(rt, table, &third, &CHANGED);
+    Ok(third.row)
+}
+
+static CHANGED: [(u64, Option<u32>); 6] = [
+    (0, None),
+    (9, None),
+    (10, Some(0)),
+    (11, Some(3)),
+    (12, Some(5)),
+    (u64::MAX, Some(5)),
+];
+
+#[test]
+fn a_change_is_told_from_its_moment_on(rt: HostRuntime) -> Result<(), Fail> {
+    let mut table = PlainLog::new(15);
+    let row = check_changes(&rt, &mut table)?;
+    check_places(&rt, &row, None, 0, 2);
+    assert!(rt; row.journal_bytes == 102 && row.head_bytes == 102);
     assert!(rt; table.blocks_left() == 12);
     Ok(())
+}
+
+static CHECKPOINTED: [(u64, Option<u32>); 3] = [(9, None), (10, Some(7)), (11, Some(3))];
+
+/// The object made with a size and checkpointed, and given another size; answers its row, and the one after a second
+/// checkpoint.
+fn check_checkpoints<B: Blocks>(rt: &impl Abort, table: &mut B) -> Result<[Row; 2], Fail>
+    requires { (p : Place) → (B.log table.old).held p ≡ None }
+{
+    let none = begun(table);
+    let first = resized(table, &none, 10, 7)?;
+    let second = checkpointed(table, &first, 10)?;
+    let third = resized(table, &second, 11, 3)?;
+    let fourth = checkpointed(table, &third, 11)?;
+    check_sizes(rt, table, &fourth, &CHECKPOINTED);
+    Ok([third.row, fourth.row])
 }
 
 #[test]
 fn a_checkpoint_changes_no_inode(rt: HostRuntime) -> Result<(), Fail> {
     let mut table = PlainLog::new(15);
-    let none = begun(&table);
-    let first = resized(&mut table, &none, 10, 7)?;
-    let second = checkpointed(&mut table, &first, 10)?;
-    let third = resized(&mut table, &second, 11, 3)?;
-    assert!(rt;
-        third.row.checkpoint == Ptr::new(1, 1, 1) && third.row.checkpoint_moment == Moment::new(10)
-    );
-    let fourth = checkpointed(&mut table, &third, 11)?;
-    assert!(rt; size_at(&mut table, &fourth, 9) == None);
-    assert!(rt; size_at(&mut table, &fourth, 10) == Some(7));
-    assert!(rt; size_at(&mut table, &fourth, 11) == Some(3));
-    assert!(rt;
-        fourth.row.checkpoint == Ptr::new(3, 1, 1)
-            && fourth.row.checkpoint_moment == Moment::new(11)
-    );
-    assert!(rt; fourth.row.head == Ptr::new(2, 1, 1) && fourth.row.stamp == 0);
+    let [before, after] = check_checkpoints(&rt, &mut table)?;
+    check_places(&rt, &before, Some(1), 10, 2);
+    check_places(&rt, &after, Some(3), 11, 2);
     assert!(rt; table.blocks_left() == 11);
     Ok(())
 }

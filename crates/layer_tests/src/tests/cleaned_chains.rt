@@ -4,7 +4,7 @@ ghost use Rattle.undo_redo.specs.Runs.{redone_all};
 ghost use Rattle.undo_redo.specs.Between.{CanLead};
 ghost use Rattle.chain_cleaning.specs.Chains.{IsChain};
 
-use crate::tests::changes::can_be_earlier;
+use crate::between::can_be_earlier;
 use chain_cleaning::laws::{a_chain_goes_on, a_chain_is_one_later, a_creation_is_a_chain};
 use chain_cleaning::{Cleaned, Sees, clean};
 use codec::{Entry, Inode};
@@ -129,6 +129,34 @@ fn deleted(history: &mut History, moment: u64) -> Result<(), Fail>
     changed(history, &after, moment)
 }
 
+/// What becomes of the object at a moment: it gets a pointer into this frame, or it is deleted where there is none.
+type Change = (u64, Option<u16>);
+
+fn turn(history: &mut History, change: Change) -> Result<(), Fail>
+    requires chain { IsChain history.old.first.created history.old.latest history.old.first history.old.entries.items }
+    requires present { history.old.inode ≡ redone_all history.old.entries.items history.old.first }
+    ensures chain { OnOk result (IsChain history.new.first.created history.new.latest history.new.first history.new.entries.items) }
+    ensures present { OnOk result (history.new.inode ≡ redone_all history.new.entries.items history.new.first) }
+{
+    let (moment, frame) = change;
+    match frame {
+        Some(frame) => points(history, moment, frame),
+        None => deleted(history, moment),
+    }
+}
+
+/// The history of an object with these changes.
+fn history_of(alloc: Global, changes: &[Change]) -> Result<History, Fail>
+    ensures { IfOk result (λ h. IsChain h.first.created h.latest h.first h.entries.items) }
+{
+    let mut history = created(alloc)?;
+    for change in changes {
+        turn(&mut history, *change)?;
+    }
+    Ok(history)
+}
+
+/// What is left of a history at a clock, where what is older than a floor and a span are hidden.
 fn left(
     alloc: Global,
     history: &History,
@@ -145,6 +173,18 @@ fn left(
     let sight = Sight { floor, hidden };
     let entries = history.entries.as_slice();
     Ok(clean(alloc, &history.first, entries, Moment::new(clock), &sight)?)
+}
+
+/// What is left of these changes at moment 50 where a span is hidden.
+fn left_of(alloc: Global, changes: &[Change], hidden: (u64, u64)) -> Result<Option<Cleaned>, Fail> {
+    let history = history_of(alloc, changes)?;
+    left(alloc, &history, 50, 0, hidden)
+}
+
+/// The inode after these changes.
+fn present(alloc: Global, changes: &[Change]) -> Result<Inode, Fail> {
+    let history = history_of(alloc, changes)?;
+    Ok(history.inode)
 }
 
 /// Whether entries are of these moments.
@@ -171,31 +211,33 @@ fn turns(entry: &Entry, before: u16, after: u16) -> bool {
         && triples[0].after == Ptr::new(after, 2, 1)
 }
 
+static WRITES: [Change; 3] = [(20, Some(1)), (30, Some(2)), (40, Some(3))];
+
 #[test]
 fn a_hidden_write_is_skipped(rt: HostRuntime) -> Result<(), Fail> {
-    let mut history = created(rt.alloc())?;
-    points(&mut history, 20, 1)?;
-    points(&mut history, 30, 2)?;
-    points(&mut history, 40, 3)?;
-    let chain = left(rt.alloc(), &history, 50, 0, (30, 39))?.ok_or("none")?;
+    let last = present(rt.alloc(), &WRITES)?;
+    let chain = left_of(rt.alloc(), &WRITES, (30, 39))?.ok_or("none")?;
     let entries = chain.entries.as_slice();
     assert!(rt; are_of(entries, &[10, 20, 40]));
     assert!(rt; entries.len() == 3 && turns(&entries[2], 1, 3));
-    assert!(rt; leads(&chain) && chain.last == history.inode);
-    let all = left(rt.alloc(), &history, 50, 0, (31, 39))?.ok_or("none")?;
-    assert!(rt; are_of(all.entries.as_slice(), &[10, 20, 30, 40]));
+    assert!(rt; leads(&chain) && chain.last == last);
     Ok(())
 }
 
 #[test]
+fn a_write_that_is_seen_for_a_moment_is_kept(rt: HostRuntime) -> Result<(), Fail> {
+    let all = left_of(rt.alloc(), &WRITES, (31, 39))?.ok_or("none")?;
+    assert!(rt; are_of(all.entries.as_slice(), &[10, 20, 30, 40]));
+    Ok(())
+}
+
+static DELETED: [Change; 3] = [(20, Some(1)), (30, Some(2)), (40, None)];
+
+#[test]
 fn a_deletion_behind_a_hidden_write_changes_the_flag(rt: HostRuntime) -> Result<(), Fail> {
-    let mut history = created(rt.alloc())?;
-    points(&mut history, 20, 1)?;
-    let mut dead = history.inode;
+    let mut dead = present(rt.alloc(), &[(20, Some(1))])?;
     dead.alive = false;
-    points(&mut history, 30, 2)?;
-    deleted(&mut history, 40)?;
-    let chain = left(rt.alloc(), &history, 50, 0, (30, 39))?.ok_or("none")?;
+    let chain = left_of(rt.alloc(), &DELETED, (30, 39))?.ok_or("none")?;
     let entries = chain.entries.as_slice();
     assert!(rt; are_of(entries, &[10, 20, 40]));
     assert!(rt; entries.len() == 3 && entries[2].triples().is_empty());
@@ -205,10 +247,8 @@ fn a_deletion_behind_a_hidden_write_changes_the_flag(rt: HostRuntime) -> Result<
 
 #[test]
 fn a_dead_object_that_is_hidden_has_no_chain(rt: HostRuntime) -> Result<(), Fail> {
-    let mut history = created(rt.alloc())?;
-    points(&mut history, 20, 1)?;
-    deleted(&mut history, 40)?;
-    assert!(rt; left(rt.alloc(), &history, 50, 0, (0, 49))?.is_none());
+    let chain = left_of(rt.alloc(), &[(20, Some(1)), (40, None)], (0, 49))?;
+    assert!(rt; chain.is_none());
     Ok(())
 }
 

@@ -1,7 +1,5 @@
 //! Entries between inodes, and inodes led along them.
-ghost use Rattle.std.specs.Prelude.{◌≡◌, ◌≤◌, true, false};
-
-use crate::tests::changes::can_be_earlier;
+use crate::between::{can_be_earlier, told_between};
 use codec::{Attribute, Entry, Inode, decode_entry};
 use s4_types::{Moment, Ptr};
 use std::alloc::Global;
@@ -35,28 +33,6 @@ fn written(moment: u64, size: u32, count: usize, frame: u16) -> Inode {
 fn read(bytes: &[u8]) -> Result<Entry, Fail> {
     let (entry, _) = decode_entry(bytes).ok_or("no entry")?;
     Ok(entry)
-}
-
-/// Whether an entry of a moment can tell an inode's status as the later one, the inode being alive.
-fn can_be_later(inode: &Inode, moment: u64) -> bool
-    ensures size { result ≡ true → inode.now.size ≤ 24576 }
-    ensures alive { result ≡ true → inode.now.alive ≡ true }
-    ensures changed { result ≡ true → inode.now.changed ≡ moment }
-    ensures made { result ≡ true → 1 ≤ moment }
-{
-    inode.alive && inode.size <= 24_576 && inode.changed.number() == moment && moment > 0
-}
-
-/// The entries that lead to an inode which is alive, where there are any.
-pub(crate) fn told_between(before: &Inode, after: &Inode, moment: u64) -> Option<Entries> {
-    if before.created != after.created
-        || after.pointers.as_slice().len() != 48
-        || !can_be_earlier(before)
-        || !can_be_later(after, moment)
-    {
-        return None;
-    }
-    Some(entries_between(before, after, Moment::new(moment)))
 }
 
 /// The entries of an object's deletion.

@@ -1,7 +1,7 @@
 //! An index of undoings against the entries themselves.
 ghost use Rattle.std.specs.Prelude.{◌≤◌};
 
-use crate::tests::links::told_between;
+use crate::between::told_between;
 use codec::{Attribute, Entry, Inode};
 use s4_types::{Moment, Ptr};
 use std::test::Fail;

@@ -1,10 +1,13 @@
 //! Tests as lists: what is done with the object, and what is told of it then.
-ghost use Rattle.std.specs.Prelude.{◌≡◌, IfOk, OnOk};
+ghost use Rattle.std.specs.Prelude.{◌≡◌, ◌<◌, IfOk, IfSome, OnOk, map};
+ghost use Rattle.std.specs.List.{range_with_len};
 ghost use Rattle.s4_types.specs.Sizes.{IsFrameCount};
 ghost use Rattle.log_tests.specs.Subject.{IsPresent};
+ghost use Rattle.log_tests.specs.Places.{pointer_of};
 
+use crate::expected::place;
 use crate::tests::subject::Subject;
-use crate::tests::tables::{new_table, place};
+use crate::tests::tables::new_table;
 use block_log::Blocks;
 use codec::{Attribute, Entry, Inode, Status};
 use object_map::Row;
@@ -14,14 +17,13 @@ use segment_table::SegmentTable;
 use std::alloc::Global;
 use std::process::Abort;
 use std::test::Fail;
-use undo_redo::blank;
 
 /// The moment at which the object is made.
 const MADE: u64 = 10;
 
 /// Pointers from an index on, the number of the place to which the first of them leads, and how many they are. Each leads
 /// to the place behind that of the one before.
-pub(super) type Run = (usize, usize, usize);
+pub(super) type Run = (usize, u16, usize);
 
 /// What the object is at a moment.
 #[derive(Clone, Copy)]
@@ -90,26 +92,43 @@ pub(super) enum Act {
 }
 
 /// Where the pointer of an index leads.
-fn pointer_of(runs: &[Run], index: usize) -> Option<Ptr> {
-    for (first, number, count) in runs {
-        if *first <= index && index - *first < *count {
-            return place(number.saturating_add(index - *first));
-        }
+fn pointer_of(runs: &[Run], index: usize) -> Option<Ptr>
+    requires { index < 48 }
+    ensures { result ≡ pointer_of runs.now index }
+{
+    let (first, number, _) = runs.iter().find(|(first, _, count)| {
+        *first <= index && index.saturating_sub(*first) < *count
+    })?;
+    place(usize::from(*number) + index.saturating_sub(*first))
+}
+
+/// Where the pointers of all indices lead.
+fn pointers_of(runs: &[Run]) -> [Option<Ptr>; OBJECT_BLOCKS]
+    ensures { result ≡ map (pointer_of runs.now) (range_with_len 0 48) }
+{
+    let mut pointers = [None; OBJECT_BLOCKS];
+    for index in 0..OBJECT_BLOCKS {
+        pointers[index] = pointer_of(runs, index);
     }
-    None
+    pointers
 }
 
 /// The inode of a version.
-pub(super) fn inode_of(version: &Version) -> Option<Inode> {
-    let mut inode = blank(Moment::new(MADE));
-    inode.alive = version.alive;
-    inode.size = version.size;
-    inode.changed = Moment::new(version.changed);
-    inode.attribute = Attribute::new(version.name)?;
-    for index in 0..OBJECT_BLOCKS {
-        inode.pointers[index] = pointer_of(version.runs, index);
-    }
-    Some(inode)
+pub(super) fn inode_of(version: &Version) -> Option<Inode>
+    ensures flag { IfSome result (λ inode. inode.alive ≡ version.now.alive) }
+    ensures size { IfSome result (λ inode. inode.size ≡ version.now.size) }
+    ensures moments { IfSome result (λ inode. (inode.created ≡ MADE) × (inode.changed ≡ version.now.changed)) }
+    ensures attribute { IfSome result (λ inode. inode.attribute ≡ version.now.name.now) }
+    ensures pointers { IfSome result (λ inode. inode.pointers ≡ map (pointer_of version.now.runs.now) (range_with_len 0 48)) }
+{
+    Some(Inode {
+        alive: version.alive,
+        size: version.size,
+        created: Moment::new(MADE),
+        changed: Moment::new(version.changed),
+        attribute: Attribute::new(version.name)?,
+        pointers: pointers_of(version.runs),
+    })
 }
 
 fn is_row(row: &Row, bytes: u16, filled: u16, head: usize) -> bool {
@@ -126,7 +145,8 @@ fn leads_so(entry: &Entry, run: Run) -> bool {
     let triples = entry.triples();
     for (k, triple) in triples.iter().enumerate() {
         let is_next = triple.index as usize == first.saturating_add(k);
-        let leads = triple.before.is_none() && triple.after == place(number.saturating_add(k));
+        let after = place(usize::from(number).saturating_add(k));
+        let leads = triple.before.is_none() && triple.after == after;
         if !is_next || !leads {
             return false;
         }

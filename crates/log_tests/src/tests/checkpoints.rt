@@ -1,17 +1,19 @@
 //! A checkpoint between changes, and the inodes on both sides of it.
+use crate::expected::{block_of, place};
 use crate::tests::acts::{Act, UNMADE, Version, played};
-use crate::tests::tables::{block_of, place};
+use crate::tests::tables::held_bytes;
 use std::test::Fail;
 
-/// The block of the checkpoint up to the attribute's zeros: alive, an attribute of one byte, 3 bytes, object 1, the
-/// moments 35, 10 and 30, and the attribute `k`.
-static FIELDS: [u8; 41] = [
-    2, 1, 1, 0, 0, 0, 0, 3, 0, 0, 0, 0, 0, 0, 0, 1, 0, 0, 0, 0, 0, 0, 0, 0x23, 0, 0, 0, 0, 0, 0, 0,
-    0x0a, 0, 0, 0, 0, 0, 0, 0, 0x1e, 0x6b,
+/// The block of the checkpoint up to its holes: alive, an attribute of one byte, 3 bytes, object 1, the moments 35, 10 and
+/// 30, the attribute `k`, and a pointer to block 4 of frame 0.
+static CHECKPOINT: [u8; 112] = [
+    2, 1, 1, 0, 0, 0, 0, 3, 0, 0, 0, 0, 0, 0, 0, 1, // three bytes of object 1
+    0, 0, 0, 0, 0, 0, 0, 0x23, 0, 0, 0, 0, 0, 0, 0, 0x0a, 0, 0, 0, 0, 0, 0, 0, 0x1e, // the moments
+    0x6b, 0, 0, 0, 0, 0, 0, 0, 0, 0, 0, 0, 0, 0, 0, 0, 0, 0, 0, 0, 0, 0, 0, 0, // the attribute
+    0, 0, 0, 0, 0, 0, 0, 0, 0, 0, 0, 0, 0, 0, 0, 0, 0, 0, 0, 0, 0, 0, 0, 0, // zeros
+    0, 0, 0, 0, 0, 0, 0, 0, 0, 0, 0, 0, 0, 0, 0, 0, // behind it
+    0, 0, 4, 0, 0, 0, 0, 1, // the first pointer
 ];
-
-/// The first of its pointers, to block 4 of frame 0. The others are holes.
-static POINTER: [u8; 8] = [0, 0, 4, 0, 0, 0, 0, 1];
 
 const CREATED: Version = Version {
     alive: true,
@@ -113,8 +115,8 @@ static READ_BACK: [Act; 6] = [
 
 #[test]
 fn a_checkpoint_read_back(rt: HostRuntime) -> Result<(), Fail> {
-    let mut subject = played(&rt, rt.alloc(), 8, READ_BACK.as_slice())?;
-    let block = subject.held_bytes(place(5).ok_or("a place")?);
-    assert!(rt; block == Some(block_of(&[&FIELDS, &[0; 63], &POINTER])));
+    let mut table = played(&rt, rt.alloc(), 8, READ_BACK.as_slice())?.into_table();
+    let block = held_bytes(&mut table, place(5).ok_or("a place")?);
+    assert!(rt; block == Some(block_of(&CHECKPOINT).ok_or("a block")?));
     Ok(())
 }

@@ -22,30 +22,84 @@ fn empty(table: &mut SegmentTable, frame: u16) {
     }
 }
 
-fn is_in_use(answer: Result<(), Refusal>) -> bool {
-    answer == Err(Refusal::InUse)
+/// What is done with the table, and what it must tell.
+#[derive(Clone, Copy)]
+enum Act {
+    /// So many data blocks are appended.
+    Fills(usize),
+    /// All blocks of a frame's first life are dropped.
+    Empties(u16),
+    /// A frame is marked, or it is in use.
+    Marks(u16, bool),
+    /// A frame is released, or it is in use.
+    Releases(u16, bool),
+    /// How many blocks are left.
+    Left(usize),
+    /// A data block is appended, to block 1 of this frame at generation 2.
+    Begins(u16),
 }
 
-// Frames 0 and 1 are filled and emptied; they come back by number, whichever is released first.
+/// Whether an answer is that it was done, or that the frame is in use.
+fn is_done(answer: Result<(), Refusal>, done: bool) -> bool {
+    match answer {
+        Ok(()) => done,
+        Err(refusal) => !done && refusal == Refusal::InUse,
+    }
+}
+
+/// Whether a data block goes to block 1 of this frame, at generation 2.
+fn begins(table: &mut SegmentTable, frame: u16) -> Result<bool, Refusal> {
+    let place = table.append(BlockKind::Data, ObjectId::new(1), &[7; 512])?;
+    Ok(Some(place) == Ptr::new(frame, 1, 2))
+}
+
+/// Does an act, and tells whether all is so.
+fn is_so(table: &mut SegmentTable, act: Act) -> Result<bool, Refusal> {
+    match act {
+        Act::Fills(blocks) => {
+            fill(table, blocks)?;
+            Ok(true)
+        }
+        Act::Empties(frame) => {
+            empty(table, frame);
+            Ok(true)
+        }
+        Act::Marks(frame, done) => Ok(is_done(table.mark(frame), done)),
+        Act::Releases(frame, done) => Ok(is_done(table.release(frame), done)),
+        Act::Left(count) => Ok(table.blocks_left() == count),
+        Act::Begins(frame) => begins(table, frame),
+    }
+}
+
+/// Frames 0 and 1 are filled and emptied; they come back by number, whichever is released first.
+static FILLED_AGAIN: [Act; 20] = [
+    Act::Fills(30),
+    Act::Marks(0, false),
+    Act::Releases(0, false),
+    Act::Marks(2, false),
+    Act::Marks(8, false),
+    Act::Releases(8, false),
+    Act::Empties(0),
+    Act::Empties(1),
+    Act::Marks(0, true),
+    Act::Marks(1, true),
+    Act::Marks(1, false),
+    Act::Left(90),
+    Act::Releases(1, true),
+    Act::Releases(0, true),
+    Act::Releases(0, false),
+    Act::Left(120),
+    Act::Begins(0),
+    Act::Fills(14),
+    Act::Begins(1),
+    Act::Left(104),
+];
+
 #[test]
 fn frames_are_filled_again(rt: HostRuntime) -> Result<(), Fail> {
     let mut table = new_table(rt.alloc(), 8)?;
-    fill(&mut table, 30)?;
-    assert!(rt; is_in_use(table.mark(0)) && is_in_use(table.release(0)));
-    assert!(rt;
-        is_in_use(table.mark(2)) && is_in_use(table.mark(8)) && is_in_use(table.release(8))
-    );
-    empty(&mut table, 0);
-    empty(&mut table, 1);
-    assert!(rt; table.mark(0).is_ok() && table.mark(1).is_ok() && is_in_use(table.mark(1)));
-    assert!(rt; table.blocks_left() == 90);
-    assert!(rt;
-        table.release(1).is_ok() && table.release(0).is_ok() && is_in_use(table.release(0))
-    );
-    assert!(rt; table.blocks_left() == 120);
-    let first = table.append(BlockKind::Data, ObjectId::new(1), &[7; 512])?;
-    fill(&mut table, 14)?;
-    let next = table.append(BlockKind::Data, ObjectId::new(1), &[7; 512])?;
-    assert!(rt; Some(first) == Ptr::new(0, 1, 2) && Some(next) == Ptr::new(1, 1, 2));
+    for (i, act) in FILLED_AGAIN.iter().enumerate() {
+        assert!(rt; is_so(&mut table, *act)?, "act {i}");
+    }
     Ok(())
 }

@@ -1,5 +1,6 @@
 //! The table over its frames: what is done with it in tables, each row with what it must tell.
-use crate::tests::tables::{block_of, held_bytes, new_table, read_blocks};
+use crate::expected::block_of;
+use crate::tests::tables::{held_bytes, new_table, read_blocks};
 use block_log::{Block, BlockKind, Blocks};
 use codec::{Part, decode_summary, encode_ptr};
 use s4_types::{ObjectId, Ptr, Refusal};
@@ -86,14 +87,13 @@ fn append(
 
 fn is_appended(table: &mut SegmentTable, told: Told, spelled: [u8; 8]) -> Result<bool, Fail> {
     let (kind, object, bytes) = told;
-    let place = append(table, kind, object, &block_of(&[bytes]))?;
+    let place = append(table, kind, object, &block_of(bytes).ok_or("a block")?)?;
     Ok(encode_ptr(Some(place)) == spelled)
 }
 
 fn is_told(table: &mut SegmentTable, place: Ptr, told: Told) -> bool {
     let (kind, object, bytes) = told;
-    table.part(place) == Some(part(kind, object))
-        && held_bytes(table, place) == Some(block_of(&[bytes]))
+    table.part(place) == Some(part(kind, object)) && held_bytes(table, place) == block_of(bytes)
 }
 
 fn is_held_so(table: &mut SegmentTable, place: Ptr, told: Option<Told>) -> bool {
@@ -135,7 +135,7 @@ fn is_read(table: &mut SegmentTable, place: Ptr, told: Option<&[u8]>) -> Result<
     let Some(bytes) = told else {
         return Ok(read.is_none() && pinned.is_none());
     };
-    let block = block_of(&[bytes]);
+    let block = block_of(bytes).ok_or("a block")?;
     Ok(pinned.is_some() && read == Some([block, block]))
 }
 
@@ -464,6 +464,6 @@ fn memory_refused_in_turn(rt: HostRuntime) -> Result<(), Fail> {
         Some(blocks) => blocks,
         None => blocks_or_none(&mut table)?.ok_or("sealed")?,
     };
-    assert!(rt; blocks[1] == block_of(&[b"abc"]) && blocks[2] == [0; 512]);
+    assert!(rt; Some(blocks[1]) == block_of(b"abc") && blocks[2] == [0; 512]);
     Ok(())
 }

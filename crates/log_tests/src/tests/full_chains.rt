@@ -4,13 +4,14 @@ ghost use Rattle.s4_types.specs.Pointer.{Place};
 ghost use Rattle.journal_chain.specs.Chain.{Holds, entries_held};
 ghost use Rattle.log_tests.specs.Subject.{IsPresent};
 
+use crate::expected::place;
 use crate::tests::acts::{Act, Version, play, played};
 use crate::tests::pushing::{
     empty_chain, entries, long_entries, long_entry, push, read_back, rewrite, rewrite_whole,
     short_entry,
 };
 use crate::tests::subject::Subject;
-use crate::tests::tables::{held_blocks, new_table, place};
+use crate::tests::tables::{held_blocks, new_table};
 use block_log::{Block, Blocks};
 use codec::Entry;
 use journal_chain::Chain;
@@ -292,11 +293,11 @@ fn is_refused(subject: &mut Subject<SegmentTable>, moment: u64) -> bool
 
 #[test]
 fn a_change_of_an_object_with_a_full_chain(rt: HostRuntime) -> Result<(), Fail> {
-    let mut other = played(&rt, rt.alloc(), 8, FULL_JOURNAL.as_slice())?;
+    let other = played(&rt, rt.alloc(), 8, FULL_JOURNAL.as_slice())?;
     let mut subject = played(&rt, rt.alloc(), 8, FULL_JOURNAL.as_slice())?;
     assert!(rt; is_refused(&mut subject, 83));
-    let blocks = subject.held_blocks();
-    assert!(rt; blocks == other.held_blocks());
+    let blocks = held_blocks(&mut subject.into_table());
+    assert!(rt; blocks == held_blocks(&mut other.into_table()));
     assert!(rt; blocks.iter().filter(|block| block.is_some()).count() == 36);
     Ok(())
 }
@@ -325,6 +326,6 @@ fn an_object_with_a_full_chain_written_anew(rt: HostRuntime) -> Result<(), Fail>
     let mut subject = played(&rt, alloc, 8, FULL_JOURNAL.as_slice())?;
     play(&rt, alloc, &mut subject, REWRITTEN.as_slice())?;
     assert!(rt; has_no_room(alloc, &mut subject));
-    check_held(&rt, &subject.held_blocks(), 73, 110);
+    check_held(&rt, &held_blocks(&mut subject.into_table()), 73, 110);
     Ok(())
 }

@@ -3,10 +3,11 @@ ghost use Rattle.std.specs.Prelude.{◌≡◌, None, IfOk, OnOk};
 ghost use Rattle.s4_types.specs.Pointer.{Place};
 ghost use Rattle.journal_chain.specs.Chain.{Holds, entries_held};
 
+use crate::expected::place;
 use crate::tests::pushing::{
     append_data, empty_chain, long_entries, long_entry, push, read_back, rewrite, short_entry,
 };
-use crate::tests::tables::{held_blocks, new_table, place};
+use crate::tests::tables::{held_blocks, new_table};
 use block_log::{Block, Blocks};
 use checkpoint::write_checkpoint;
 use codec::Checkpoint;

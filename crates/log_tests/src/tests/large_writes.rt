@@ -1,7 +1,8 @@
 //! Writes of whole objects, whose entries of one moment stand in several journal blocks.
+use crate::expected::place;
 use crate::tests::acts::{Act, Told, UNMADE, Version, inode_of, played};
 use crate::tests::subject::{OBJECT, Subject};
-use crate::tests::tables::place;
+use crate::tests::tables::held_bytes;
 use block_log::Block;
 use codec::decode_journal;
 use s4_types::{ObjectId, Ptr};
@@ -108,10 +109,10 @@ static BLOCKS: [(usize, Option<usize>, usize, usize); 3] = [
 ];
 
 /// Looks at the journal's blocks.
-fn check_blocks(rt: &impl Abort, subject: &mut Subject<SegmentTable>) -> Result<(), Fail> {
+fn check_blocks(rt: &impl Abort, table: &mut SegmentTable) -> Result<(), Fail> {
     for (number, previous, count, bytes) in BLOCKS {
         let there = place(number).ok_or("a place")?;
-        let block = subject.held_bytes(there).ok_or("a block")?;
+        let block = held_bytes(table, there).ok_or("a block")?;
         assert!(rt;
             is_journal(&block, previous.and_then(place), count, bytes),
             "{number}"
@@ -122,9 +123,9 @@ fn check_blocks(rt: &impl Abort, subject: &mut Subject<SegmentTable>) -> Result<
 
 #[test]
 fn blocks_of_one_moment(rt: HostRuntime) -> Result<(), Fail> {
-    let mut subject = played(&rt, rt.alloc(), 16, ONE_WRITE.as_slice())?;
-    check_blocks(&rt, &mut subject)?;
-    let first = subject.held_bytes(place(0).ok_or("a place")?);
+    let mut table = played(&rt, rt.alloc(), 16, ONE_WRITE.as_slice())?.into_table();
+    check_blocks(&rt, &mut table)?;
+    let first = held_bytes(&mut table, place(0).ok_or("a place")?);
     assert!(rt; first.is_none());
     Ok(())
 }

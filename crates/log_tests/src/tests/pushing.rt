@@ -1,6 +1,7 @@
 //! Chains of journal blocks, pushed to without any object above them.
-ghost use Rattle.std.specs.Prelude.{◌≡◌, ◌+◌, ◌^◌, ◌<◌, ◌≤◌, length, None, IfOk, OnOk};
+ghost use Rattle.std.specs.Prelude.{◌≡◌, ◌+◌, ◌^◌, ◌<◌, ◌≤◌, length, None, IfSome, IfOk, OnOk};
 ghost use Rattle.s4_types.specs.Pointer.{Place};
+ghost use Rattle.codec.specs.Entry.{entry_length};
 ghost use Rattle.journal_chain.specs.Chain.{Holds, entries_held};
 
 use block_log::laws::an_append_puts_one_block;
@@ -13,9 +14,14 @@ use s4_types::{Moment, ObjectId, Ptr, Refusal};
 use std::alloc::Global;
 
 /// An entry of 34 bytes at a moment, and 17 more for each of so many pointers that were set.
-fn entry_of(moment: u64, pair: Option<Pair>, pointers: u8) -> Option<Entry> {
+fn entry_of(moment: u64, pair: Option<Pair>, pointers: u8) -> Option<Entry>
+    requires { pointers ≤ 16 }
+    ensures moment { IfSome result (λ entry. entry.moment ≡ moment) }
+    ensures pair { IfSome result (λ entry. entry.pair ≡ pair) }
+    ensures pointers { IfSome result (λ entry. length entry.triples ≡ pointers) }
+{
     let mut triples = Triples::new();
-    for index in 0..pointers.min(16) {
+    for index in 0..pointers {
         triples.push(Triple {
             index,
             before: None,
@@ -36,13 +42,21 @@ fn entry_of(moment: u64, pair: Option<Pair>, pointers: u8) -> Option<Entry> {
 }
 
 /// An entry of 34 bytes at a moment.
-pub(super) fn short_entry(moment: u64) -> Option<Entry> {
+#[tactic(auto, unfolding(codec::specs::Entry::entry_length, codec::specs::Entry::pair_length))]
+pub(super) fn short_entry(moment: u64) -> Option<Entry>
+    ensures moment { IfSome result (λ entry. entry.moment ≡ moment) }
+    ensures bytes { IfSome result (λ entry. entry_length entry ≡ 34) }
+{
     entry_of(moment, None, 0)
 }
 
 /// An entry of 244 bytes at a moment: 34, 6 of two attributes of two bytes behind their lengths, and 17 for each of 12
 /// pointers.
-pub(super) fn long_entry(moment: u64) -> Option<Entry> {
+#[tactic(auto, unfolding(codec::specs::Entry::entry_length, codec::specs::Entry::pair_length))]
+pub(super) fn long_entry(moment: u64) -> Option<Entry>
+    ensures moment { IfSome result (λ entry. entry.moment ≡ moment) }
+    ensures bytes { IfSome result (λ entry. entry_length entry ≡ 244) }
+{
     let pair = Pair {
         before: Attribute::new(b"ab")?,
         after: Attribute::new(b"cd")?,

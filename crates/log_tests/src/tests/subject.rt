@@ -1,17 +1,17 @@
 //! An object over a table of blocks, as the tests change it: what the layers ask of its row and its inode holds from one
 //! change to the next.
-ghost use Rattle.std.specs.Prelude.{◌≡◌, ◌<◌, ◌≤◌, true, None, IsSome, IsTrue, IfSome, IfOk, OnOk, length};
+ghost use Rattle.std.specs.Prelude.{◌≡◌, ◌<◌, ◌≤◌, true, None, IsSome, IsTrue, IfSome, IfOk, OnOk, length, take, drop};
 ghost use Rattle.s4_types.specs.Pointer.{Place};
 ghost use Rattle.undo_redo.specs.Between.{CanLead};
-ghost use Rattle.inode.specs.Contents.{contents_of};
+ghost use Rattle.inode.specs.Contents.{contents_of, bytes_of};
 ghost use Rattle.inode.specs.Tidiness.{Tidy, PointersHeld, PointersLead};
 ghost use Rattle.time_read.specs.Rows.{chain_of, entries_of};
 ghost use Rattle.segment_table.specs.Table.{held_at};
 ghost use Rattle.log_tests.specs.Subject.{IsRecorded, IsPresent};
 
 use crate::tests::acts::{Version, inode_of};
-use crate::tests::{pushing, tables};
-use block_log::{Block, BlockKind, Blocks};
+use crate::tests::pushing;
+use block_log::{BlockKind, Blocks};
 use checkpoint::read_checkpoint;
 use codec::{Attribute, Checkpoint, Entry, Inode};
 use inode::laws::only_its_blocks_matter;
@@ -63,19 +63,27 @@ impl<B: Blocks> Subject<B> {
         }
     }
 
-    pub(super) fn row(&self) -> Row {
+    pub(super) fn row(&self) -> Row
+        ensures { result ≡ self.now.row }
+    {
         self.row
     }
 
-    pub(super) fn inode(&self) -> Inode {
+    pub(super) fn inode(&self) -> Inode
+        ensures { result ≡ self.now.inode }
+    {
         self.inode
     }
 
-    pub(super) fn blocks_left(&self) -> usize {
+    pub(super) fn blocks_left(&self) -> usize
+        ensures { result ≡ length (B.log self.now.table).ahead }
+    {
         self.table.blocks_left()
     }
 
-    pub(super) fn into_table(self) -> B {
+    pub(super) fn into_table(self) -> B
+        ensures { result ≡ self.table }
+    {
         let Subject { table, .. } = self;
         table
     }
@@ -367,6 +375,7 @@ fn read_all<B: Blocks>(alloc: Global, table: &mut B, inode: &Inode) -> Result<Ve
     requires size { inode.now.size ≤ 24576 }
     requires count { length inode.now.pointers ≡ 48 }
     requires lead { PointersLead (B.log table.old).held inode.now }
+    ensures { IfOk result (λ bytes. bytes.items ≡ take OBJECT_BYTES (drop 0 (bytes_of (contents_of (B.log table.old).held) inode.now))) }
 {
     match read(alloc, table, inode, 0, OBJECT_BYTES) {
         Err(Refusal::NoMemory) => read(alloc, table, inode, 0, OBJECT_BYTES),
@@ -375,22 +384,10 @@ fn read_all<B: Blocks>(alloc: Global, table: &mut B, inode: &Inode) -> Result<Ve
 }
 
 impl Subject<SegmentTable> {
-    /// The bytes of each held block of the first 8 frames, by the place's number.
-    pub(super) fn held_blocks(&mut self) -> [Option<Block>; 120] {
-        tables::held_blocks(&mut self.table)
-    }
-
-    /// The bytes of a block where the pointer is held.
-    pub(super) fn held_bytes(&mut self, place: Ptr) -> Option<Block> {
-        tables::held_bytes(&mut self.table, place)
-    }
-
     /// The bytes that an inode tells. None where its pointers don't all lead to data of the object.
-    pub(super) fn bytes(
-        &mut self,
-        alloc: Global,
-        inode: &Inode,
-    ) -> Result<Option<Vec<u8>>, Refusal> {
+    pub(super) fn bytes(&mut self, alloc: Global, inode: &Inode) -> Result<Option<Vec<u8>>, Refusal>
+        ensures { IfOk result (λ told. IfSome told (λ bytes. bytes.items ≡ take OBJECT_BYTES (drop 0 (bytes_of (contents_of (held_at self.old.table)) inode.now)))) }
+    {
         if inode.size > OBJECT_BYTES as u32 || !leads(&mut self.table, inode) {
             return Ok(None);
         }

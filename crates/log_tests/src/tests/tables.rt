@@ -1,9 +1,12 @@
 //! Segment tables of the tests, and what their blocks hold.
-ghost use Rattle.std.specs.Prelude.{◌≡◌, ◌<◌, ◌≤◌, None, IfOk};
+ghost use Rattle.std.specs.Prelude.{◌≡◌, ◌<◌, None, Some, IfOk, map};
+ghost use Rattle.std.specs.List.{range_with_len};
 ghost use Rattle.s4_types.specs.Sizes.{IsFrameCount};
 ghost use Rattle.s4_types.specs.Pointer.{Place};
 ghost use Rattle.segment_word.specs.Counting.{pins_in};
+ghost use Rattle.log_tests.specs.Places.{place_of, bytes_held};
 
+use crate::expected::place;
 use block_log::{Block, Blocks};
 use s4_types::{Ptr, Refusal};
 use segment_table::SegmentTable;
@@ -21,42 +24,35 @@ pub(super) fn new_table(alloc: Global, frames: usize) -> Result<SegmentTable, Re
     }
 }
 
-/// The place of the payload block of this number, from 0 on, of a new drive.
-pub(super) fn place(number: usize) -> Option<Ptr> {
-    let frame = u16::try_from(number / 15).ok()?;
-    Ptr::new(frame, (number % 15 + 1) as u8, 1)
-}
-
 /// The bytes of a block where the pointer is held.
-pub(super) fn held_bytes(table: &mut SegmentTable, place: Ptr) -> Option<Block> {
+pub(super) fn held_bytes(table: &mut SegmentTable, place: Ptr) -> Option<Block>
+    ensures bytes { result ≡ bytes_held table.old (Some place) }
+    ensures same { table.new ≡ table.old }
+{
     table.part(place)?;
     Some(table.get(place))
 }
 
-/// The bytes of each held block of the first 8 frames of a new drive, by the place's number.
-pub(super) fn held_blocks(table: &mut SegmentTable) -> [Option<Block>; 120] {
-    let mut blocks = [None; 120];
-    for number in 0..120usize {
-        if let Some(there) = place(number) {
-            blocks[number] = held_bytes(table, there);
-        }
-    }
-    blocks
+/// The bytes of the block of this number, where it is held.
+fn numbered_bytes(table: &mut SegmentTable, number: usize) -> Option<Block>
+    requires { number < 120 }
+    ensures bytes { result ≡ bytes_held table.old (place_of number) }
+    ensures same { table.new ≡ table.old }
+{
+    let there = place(number)?;
+    held_bytes(table, there)
 }
 
-/// These bytes one after the other, and zeros behind them.
-pub(super) fn block_of(parts: &[&[u8]]) -> Block {
-    let mut block = [0; 512];
-    let mut at = 0;
-    for part in parts {
-        for byte in *part {
-            if at < 512 {
-                block[at] = *byte;
-                at += 1;
-            }
-        }
+/// The bytes of each held block of the first 8 frames of a new drive, by the place's number.
+pub(super) fn held_blocks(table: &mut SegmentTable) -> [Option<Block>; 120]
+    ensures bytes { result ≡ map (λ number. bytes_held table.old (place_of number)) (range_with_len 0 120) }
+    ensures same { table.new ≡ table.old }
+{
+    let mut blocks = [None; 120];
+    for number in 0..120usize {
+        blocks[number] = numbered_bytes(table, number);
     }
-    block
+    blocks
 }
 
 pub(super) fn read_blocks(pin: &mut Pin, frame: usize) -> [Block; 16]
@@ -67,21 +63,4 @@ pub(super) fn read_blocks(pin: &mut Pin, frame: usize) -> [Block; 16]
         blocks[block] = pin.read_block(frame, block);
     }
     blocks
-}
-
-/// All 16 blocks of the sealed frame of a held block, read through a pin. None where it isn't sealed.
-///
-/// The pin takes memory for the frame's number, and asks once more where it was refused.
-pub(super) fn frame_blocks(
-    table: &mut SegmentTable,
-    place: Ptr,
-) -> Result<Option<[Block; 16]>, Refusal> {
-    if table.part(place).is_none() || table.is_open(place) {
-        return Ok(None);
-    }
-    let mut pin = table.pin()?;
-    if table.count_on(&mut pin, place).is_err() {
-        table.count_on(&mut pin, place)?;
-    }
-    Ok(Some(read_blocks(&mut pin, place.frame() as usize)))
 }

@@ -1,9 +1,10 @@
 //! The worked example of the formats: an object made at moment 10 and written at moment 11, byte by byte.
 ghost use Rattle.log_tests.specs.Subject.{IsPresent};
 
+use crate::expected::{block_of, place};
 use crate::tests::acts::{Act, played};
 use crate::tests::subject::{OBJECT, Subject};
-use crate::tests::tables::{block_of, frame_blocks, held_bytes, new_table, place};
+use crate::tests::tables::{held_bytes, new_table, read_blocks};
 use block_log::{Block, Blocks};
 use codec::encode_ptr;
 use object_map::{ObjectMap, Row};
@@ -13,26 +14,21 @@ use std::alloc::Global;
 use std::process::Abort;
 use std::test::Fail;
 
-/// The head of a journal block of object 1 that has one entry of 34 bytes and no block before it.
-const HEAD_OF_ONE: [u8; 24] = [
-    1, 1, 0, 0x22, 0, 0, 0, 0, 0, 0, 0, 0, 0, 0, 0, 1, 0, 0, 0, 0, 0, 0, 0, 0,
+/// The journal block of the creation alone.
+const CREATED: [u8; 58] = [
+    1, 1, 0, 0x22, 0, 0, 0, 0, 0, 0, 0, 0, 0, 0, 0, 1, 0, 0, 0, 0, 0, 0, 0, 0, // one entry of object 1
+    0, 0, 0, 0, 0, 0, 0, 0x0a, 2, 0, 0, 0, 0, 0, 0, 0, 0, 0, 0, 0, 0, 0, 0, 0, // made at moment 10
+    0, 0, 0, 0, 0, 0, 0, 0, 0, 0x0a,
 ];
 
-/// The same of two entries of 85 bytes.
-const HEAD_OF_TWO: [u8; 24] = [
-    1, 2, 0, 0x55, 0, 0, 0, 0, 0, 0, 0, 0, 0, 0, 0, 1, 0, 0, 0, 0, 0, 0, 0, 0,
-];
-
-/// The entry of the creation at moment 10, with an empty attribute.
-const CREATE: [u8; 34] = [
-    0, 0, 0, 0, 0, 0, 0, 0x0a, 2, 0, 0, 0, 0, 0, 0, 0, 0, 0, 0, 0, 0, 0, 0, 0, 0, 0, 0, 0, 0, 0, 0,
-    0, 0, 0x0a,
-];
-
-/// The entry of the write of `abc` at moment 11, to block 2 of frame 0.
-const WRITE: [u8; 51] = [
-    0, 0, 0, 0, 0, 0, 0, 0x0b, 3, 1, 0, 0, 0, 0, 0, 0, 0, 3, 0, 0, 0, 0, 0, 0, 0, 0x0a, 0, 0, 0, 0,
-    0, 0, 0, 0x0b, 0, 0, 0, 0, 0, 0, 0, 0, 0, 0, 0, 2, 0, 0, 0, 0, 1,
+/// The journal block of both, the second of which writes `abc` to block 2 of frame 0.
+const BOTH: [u8; 109] = [
+    1, 2, 0, 0x55, 0, 0, 0, 0, 0, 0, 0, 0, 0, 0, 0, 1, 0, 0, 0, 0, 0, 0, 0, 0, // two entries of object 1
+    0, 0, 0, 0, 0, 0, 0, 0x0a, 2, 0, 0, 0, 0, 0, 0, 0, 0, 0, 0, 0, 0, 0, 0, 0, // made at moment 10
+    0, 0, 0, 0, 0, 0, 0, 0, 0, 0x0a, // with an empty attribute
+    0, 0, 0, 0, 0, 0, 0, 0x0b, 3, 1, 0, 0, 0, 0, 0, 0, 0, 3, // written at moment 11
+    0, 0, 0, 0, 0, 0, 0, 0x0a, 0, 0, 0, 0, 0, 0, 0, 0x0b, 0, // its first pointer was a hole
+    0, 0, 0, 0, 0, 0, 0, 0, 0, 0, 2, 0, 0, 0, 0, 1,
 ];
 
 /// The summary of the frame with these two journal blocks and the data between them, up to its zeros.
@@ -47,41 +43,37 @@ const DIGEST: [u8; 32] = [
     0x17, 0xbf, 0x6c, 0x66, 0x8d, 0x4a, 0x7f, 0xac, 0x1e, 0xd6, 0x81, 0x54, 0x9f, 0x96, 0xcc, 0xf4,
 ];
 
-/// The bytes of a block, these one after the other, or none where its place isn't held.
-type Held = Option<&'static [&'static [u8]]>;
-
-/// The journal block of the creation alone.
-const CREATED: &[&[u8]] = &[&HEAD_OF_ONE, &CREATE];
-
-/// The journal block of both.
-const BOTH: &[&[u8]] = &[&HEAD_OF_TWO, &CREATE, &WRITE];
+/// The bytes that a block begins with, in front of zeros, or none where its place isn't held.
+type Held = Option<&'static [u8]>;
 
 /// Whether the journal's head is spelled so, and places by their numbers hold these blocks.
 fn are_held(
-    subject: &mut Subject<SegmentTable>,
+    subject: Subject<SegmentTable>,
     spelled: [u8; 8],
     blocks: &[(usize, Held)],
 ) -> Result<bool, Fail> {
+    let head = subject.row().head;
+    let mut table = subject.into_table();
     for (number, held) in blocks {
         let there = place(*number).ok_or("a place")?;
         let block = match held {
-            Some(parts) => Some(block_of(parts)),
+            Some(bytes) => Some(block_of(bytes).ok_or("a block")?),
             None => None,
         };
-        if subject.held_bytes(there) != block {
+        if held_bytes(&mut table, there) != block {
             return Ok(false);
         }
     }
-    Ok(encode_ptr(subject.row().head) == spelled)
+    Ok(encode_ptr(head) == spelled)
 }
 
 static MADE: [Act; 3] = [Act::Makes(b""), Act::Row(34, 34, 0), Act::Left(239)];
 
 #[test]
 fn the_block_of_a_create(rt: HostRuntime) -> Result<(), Fail> {
-    let mut subject = played(&rt, rt.alloc(), 16, MADE.as_slice())?;
-    let blocks = [(0, Some(CREATED))];
-    assert!(rt; are_held(&mut subject, [0, 0, 1, 0, 0, 0, 0, 1], &blocks)?);
+    let subject = played(&rt, rt.alloc(), 16, MADE.as_slice())?;
+    let blocks = [(0, Some(CREATED.as_slice()))];
+    assert!(rt; are_held(subject, [0, 0, 1, 0, 0, 0, 0, 1], &blocks)?);
     Ok(())
 }
 
@@ -94,32 +86,44 @@ static WRITTEN: [Act; 4] = [
 ];
 
 /// The creation's block is no longer held.
-static BLOCKS: [(usize, Held); 3] = [(0, None), (1, Some(&[b"abc"])), (2, Some(BOTH))];
+static BLOCKS: [(usize, Held); 3] = [(0, None), (1, Some(b"abc")), (2, Some(&BOTH))];
 
 #[test]
 fn blocks_of_a_create_and_a_write(rt: HostRuntime) -> Result<(), Fail> {
-    let mut subject = played(&rt, rt.alloc(), 16, WRITTEN.as_slice())?;
-    assert!(rt; are_held(&mut subject, [0, 0, 3, 0, 0, 0, 0, 1], &BLOCKS)?);
+    let subject = played(&rt, rt.alloc(), 16, WRITTEN.as_slice())?;
+    assert!(rt; are_held(subject, [0, 0, 3, 0, 0, 0, 0, 1], &BLOCKS)?);
     Ok(())
 }
 
-/// The frame of both: its summary, its used blocks, and zeros.
-static FRAME: [&[&[u8]]; 5] = [
-    &[&SUMMARY, &[0; 437], &DIGEST],
-    CREATED,
-    &[b"abc"],
-    BOTH,
-    &[],
-];
+/// All 16 blocks of the sealed frame of a held block, read through a pin. None where it isn't sealed.
+///
+/// The pin takes memory for the frame's number, and asks once more where it was refused.
+fn frame_blocks(table: &mut SegmentTable, place: Ptr) -> Result<Option<[Block; 16]>, Refusal> {
+    if table.part(place).is_none() || table.is_open(place) {
+        return Ok(None);
+    }
+    let mut pin = table.pin()?;
+    if table.count_on(&mut pin, place).is_err() {
+        table.count_on(&mut pin, place)?;
+    }
+    Ok(Some(read_blocks(&mut pin, place.frame() as usize)))
+}
+
+/// The frame's blocks of both behind its summary, and what all others are.
+static USED: [&[u8]; 4] = [&CREATED, b"abc", &BOTH, &[]];
+
+/// Whether a block is the summary of both: its fields, zeros, and its digest.
+fn is_summary(block: &Block) -> bool {
+    block[..43] == SUMMARY[..] && block[43..480] == [0; 437][..] && block[480..] == DIGEST[..]
+}
 
 fn is_frame(blocks: &[Block; 16]) -> bool {
-    for (number, block) in blocks.iter().enumerate() {
-        let parts = FRAME[number.min(4)];
-        if *block != block_of(parts) {
+    for number in 1..16usize {
+        if Some(blocks[number]) != block_of(USED[(number - 1).min(3)]) {
             return false;
         }
     }
-    true
+    is_summary(&blocks[0])
 }
 
 #[test]
@@ -129,10 +133,8 @@ fn the_frame_of_a_create_and_a_write(rt: HostRuntime) -> Result<(), Fail> {
     let data = place(1).ok_or("a place")?;
     let blocks = frame_blocks(&mut table, data)?.ok_or("sealed")?;
     assert!(rt; is_frame(&blocks));
-    assert!(rt;
-        held_bytes(&mut table, data) == Some(block_of(&[b"abc"])),
-        "sealed"
-    );
+    let block = block_of(b"abc").ok_or("a block")?;
+    assert!(rt; held_bytes(&mut table, data) == Some(block), "sealed");
     Ok(())
 }
 

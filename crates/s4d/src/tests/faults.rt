@@ -1,8 +1,6 @@
 //! Readers and writers that fail, and inputs cut into pieces.
 
-use crate::performing::perform;
-use crate::tests::hex_text::bytes_of;
-use crate::tests::{run_in_pieces, run_over_slices};
+use crate::tests::{bytes_of, run_in_pieces, run_over, run_over_slices};
 use serving::{FailAfter, MemorySink, MemorySource};
 use std::test::Fail;
 
@@ -31,12 +29,7 @@ fn pieces_change_nothing(rt: HostRuntime) -> Result<(), Fail> {
     let output = bytes_of(rt.alloc(), OUTPUT)?;
     for piece in 1..91 {
         let outcome = run_in_pieces(rt.alloc(), WORDS.as_slice(), input.as_slice(), piece)?;
-        assert_eq!(rt; outcome.status, 0, "pieces of {piece}");
-        assert_eq!(rt;
-            outcome.output.as_slice(),
-            output.as_slice(),
-            "pieces of {piece}"
-        );
+        assert!(rt; outcome.is(0, output.as_slice(), ""), "pieces of {piece}");
     }
     Ok(())
 }
@@ -49,18 +42,13 @@ fn a_reader_that_fails(rt: HostRuntime) -> Result<(), Fail> {
     for count in 0..91 {
         let mut reader = FailAfter::new(MemorySource::new(input.as_slice(), 90), count);
         let mut writer = MemorySink::new(alloc);
-        let mut errors = Vec::new(alloc);
-        let status = perform(
-            alloc,
-            WORDS.as_slice(),
-            &mut reader,
-            &mut writer,
-            &mut errors,
-        );
+        let (status, errors) = run_over(alloc, WORDS.as_slice(), &mut reader, &mut writer);
+        let is_told = status == 1 && errors.as_slice() == b"s4d: ReadFailed\n".as_slice();
         let expected = output.as_slice().get(..answered(count));
-        assert_eq!(rt; status, 1, "after {count} bytes");
-        assert_eq!(rt; errors.as_slice(), b"s4d: ReadFailed\n".as_slice());
-        assert_eq!(rt; Some(writer.as_slice()), expected, "after {count} bytes");
+        assert!(rt;
+            is_told && Some(writer.as_slice()) == expected,
+            "after {count} bytes"
+        );
     }
     Ok(())
 }
@@ -73,20 +61,11 @@ fn a_writer_that_fails(rt: HostRuntime) -> Result<(), Fail> {
     for count in 0..47 {
         let mut reader = MemorySource::new(input.as_slice(), 90);
         let mut writer = FailAfter::new(MemorySink::new(alloc), count);
-        let mut errors = Vec::new(alloc);
-        let status = perform(
-            alloc,
-            WORDS.as_slice(),
-            &mut reader,
-            &mut writer,
-            &mut errors,
-        );
+        let (status, errors) = run_over(alloc, WORDS.as_slice(), &mut reader, &mut writer);
+        let is_told = status == 1 && errors.as_slice() == b"s4d: WriteFailed\n".as_slice();
         let expected = output.as_slice().get(..count);
-        assert_eq!(rt; status, 1, "after {count} bytes");
-        assert_eq!(rt; errors.as_slice(), b"s4d: WriteFailed\n".as_slice());
-        assert_eq!(rt;
-            Some(writer.inner().as_slice()),
-            expected,
+        assert!(rt;
+            is_told && Some(writer.inner().as_slice()) == expected,
             "after {count} bytes"
         );
     }
@@ -109,8 +88,11 @@ fn readers_and_writers_of_std(rt: HostRuntime) -> Result<(), Fail> {
             &mut errors,
         );
         let expected = output.as_slice().get(..room.min(47));
-        assert_eq!(rt; status, u8::from(room < 47), "room for {room} bytes");
-        assert_eq!(rt; all.get(..room.min(47)), expected, "room for {room} bytes");
+        let is_done = status == u8::from(room < 47);
+        assert!(rt;
+            is_done && all.get(..room.min(47)) == expected,
+            "room for {room} bytes"
+        );
     }
     Ok(())
 }

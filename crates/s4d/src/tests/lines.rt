@@ -1,6 +1,8 @@
 //! Lines of words, good and bad.
 
-use crate::tests::run;
+use crate::tests::{bytes_of, run_in_pieces};
+use std::alloc::Global;
+use std::process::Abort;
 use std::test::Fail;
 
 static BAD: [&[&str]; 23] = [
@@ -47,31 +49,35 @@ static GOOD: [&[&str]; 8] = [
     ],
 ];
 
-/// A frame that makes an object, and the reply to it at the first moment.
+/// A frame that makes an object.
 static CREATE: &str = "00000002 01 00";
 
-#[test]
-fn a_bad_line_is_told_so(rt: HostRuntime) -> Result<(), Fail> {
-    for words in &BAD {
-        let outcome = run(rt.alloc(), words, CREATE)?;
-        assert_eq!(rt; outcome.status, 2, "{words:?}");
-        assert_eq!(rt;
-            outcome.errors.as_slice(),
-            b"s4d: usage\n".as_slice(),
-            "{words:?}"
+/// Each of the lines is answered by a status and with this on standard error, and so many bytes are written to the frame.
+fn are_answered<R: Abort>(
+    rt: &R,
+    alloc: Global,
+    lines: &[&[&str]],
+    status: u8,
+    errors: &str,
+    length: usize,
+) -> Result<(), Fail> {
+    let input = bytes_of(alloc, CREATE)?;
+    for (number, words) in lines.iter().enumerate() {
+        let outcome = run_in_pieces(alloc, words, input.as_slice(), 65_536)?;
+        assert!(rt;
+            outcome.is(status, outcome.output.as_slice(), errors) && outcome.output.len() == length,
+            "line {number}"
         );
-        assert!(rt; outcome.output.is_empty(), "{words:?}");
     }
     Ok(())
 }
 
 #[test]
+fn a_bad_line_is_told_so(rt: HostRuntime) -> Result<(), Fail> {
+    are_answered(&rt, rt.alloc(), &BAD, 2, "s4d: usage\n", 0)
+}
+
+#[test]
 fn a_good_line_is_served(rt: HostRuntime) -> Result<(), Fail> {
-    for words in &GOOD {
-        let outcome = run(rt.alloc(), words, CREATE)?;
-        assert_eq!(rt; outcome.status, 0, "{words:?}");
-        assert!(rt; outcome.errors.is_empty(), "{words:?}");
-        assert_eq!(rt; outcome.output.len(), 21, "{words:?}");
-    }
-    Ok(())
+    are_answered(&rt, rt.alloc(), &GOOD, 0, "", 21)
 }

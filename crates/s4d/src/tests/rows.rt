@@ -4,10 +4,10 @@ ghost use Rattle.std.specs.Prelude.{◌≡◌};
 ghost use Rattle.s4_model.specs.State.{new_base};
 
 use crate::piping::OwnDrive;
-use crate::tests::hex_text::bytes_of;
-use crate::tests::plain::PlainSession;
+use crate::tests::bytes_of;
 use drive::NewDrive;
-use s4_types::{Moment, Role};
+use s4_model::PlainDrive;
+use s4_types::{Moment, Reply, Request, Role};
 use segment_word::Naming;
 use serving::{Backend, Clock, MemorySink, MemorySource, ServeEnd, serve};
 use std::alloc::Global;
@@ -135,58 +135,65 @@ static ROWS: [Row; 12] = [
     },
 ];
 
-/// The replies of a backend to the requests of a row.
-fn replies_of<B: Backend>(
-    alloc: Global,
-    row: &Row,
-    session: &mut B,
-) -> Result<(ServeEnd, Vec<u8>), Fail> {
+/// Whether a backend replies to the requests of a row as it says, to their end.
+fn answers<B: Backend>(alloc: Global, row: &Row, session: &mut B) -> Result<bool, Fail> {
     let requests = bytes_of(alloc, row.requests)?;
+    let replies = bytes_of(alloc, row.replies)?;
     let mut reader = MemorySource::new(requests.as_slice(), 65_536);
     let mut writer = MemorySink::new(alloc);
     let mut clock = Given {
         moments: row.moments,
     };
     let end = serve(alloc, &mut reader, &mut writer, session, &mut clock);
-    Ok((end, Vec::from_slice(alloc, writer.as_slice())?))
+    Ok(end == ServeEnd::Ended && writer.as_slice() == replies.as_slice())
 }
 
-/// The replies of a drive that was just made.
-fn drive_replies<J: Naming>(
-    alloc: Global,
-    row: &Row,
-    made: NewDrive,
-) -> Result<(ServeEnd, Vec<u8>), Fail>
+/// Whether a drive that was just made does.
+fn drive_answers<J: Naming>(alloc: Global, row: &Row, made: NewDrive) -> Result<bool, Fail>
     requires frames { made.store.table.drive.table ≡ J.frames }
     requires accepts { made.accepts ≡ J.accepts }
     requires base { new_base made.window ≡ J.base }
 {
     let mut own = OwnDrive::new(made.named::<J>(), row.role)?;
-    replies_of(alloc, row, &mut own)
+    answers(alloc, row, &mut own)
 }
 
 #[test]
 fn replies_are_those_of_the_rules(rt: HostRuntime) -> Result<(), Fail> {
-    let alloc = rt.alloc();
     for row in &ROWS {
-        let replies = bytes_of(alloc, row.replies)?;
-        let made = NewDrive::new(alloc, 16, 100)?;
-        let (end, written) = drive_replies::<Brand>(alloc, row, made)?;
-        assert_eq!(rt; end, ServeEnd::Ended, "{}", row.name);
-        assert_eq!(rt; written.as_slice(), replies.as_slice(), "{}", row.name);
+        let made = NewDrive::new(rt.alloc(), 16, 100)?;
+        assert!(rt;
+            drive_answers::<Brand>(rt.alloc(), row, made)?,
+            "{}",
+            row.name
+        );
     }
     Ok(())
 }
 
+/// A session of one role with the plain drive, which answers by the list of all changes: the reference.
+#[derive(Drop)]
+struct PlainSession {
+    drive: PlainDrive,
+    role: Role,
+}
+
+impl Backend for PlainSession {
+    ghost steps = { λ old request now reply new. Unit {0} };
+
+    fn request(&mut self, request: Request, now: Moment) -> Reply {
+        self.drive.request(self.role, request, now)
+    }
+}
+
 #[test]
 fn so_are_those_of_the_plain_drive(rt: HostRuntime) -> Result<(), Fail> {
-    let alloc = rt.alloc();
     for row in &ROWS {
-        let replies = bytes_of(alloc, row.replies)?;
-        let mut session = PlainSession::new(alloc, 100, row.role);
-        let (end, written) = replies_of(alloc, row, &mut session)?;
-        assert_eq!(rt; end, ServeEnd::Ended, "{}", row.name);
-        assert_eq!(rt; written.as_slice(), replies.as_slice(), "{}", row.name);
+        let mut session = PlainSession {
+            drive: PlainDrive::new(rt.alloc(), 100),
+            role: row.role,
+        };
+        assert!(rt; answers(rt.alloc(), row, &mut session)?, "{}", row.name);
     }
     Ok(())
 }
