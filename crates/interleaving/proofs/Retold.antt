@@ -88,16 +88,10 @@ module _ (cleans : ℕ → DriveFields → Result (Unit {0}) Refusal → DriveFi
   -- what a step tells
   step_tells : (s : Step) (d after : DriveFields) (actors later : List ActorFields) (x : Answer) → Goes cleans commits s d actors x after later
       → Tells s (history_of d) (map reader_of actors) x (history_of after) (map reader_of later)
-  step_tells (step.Request actor request now) d after actors later x h = at_tells commits actor (act.Request request now) d after actors later x h
-  step_tells (step.Resolve actor object offset len at now) d after actors later x h = at_tells commits actor (act.Resolve object offset len at now) d after actors later x h
-  step_tells (step.Fetch actor) d after actors later x h = at_tells commits actor act.Fetch d after actors later x h
-  step_tells (step.Meet actor) d after actors later x h = at_tells commits actor act.Meet d after actors later x h
+  step_tells (step.By actor act) d after actors later x h = at_tells commits actor act d after actors later x h
   step_tells step.Seal d after actors later x h = (same_history d after h.seals.ledger, ap (map reader_of) h.same)
   step_tells (step.Checkpoint object) d after actors later x h = (same_history d after h.call.ledger, ap (map reader_of) h.same)
   step_tells (step.Clean object) d after actors later x h = (same_history d after h.call.ledger, ap (map reader_of) h.same)
-  step_tells (step.Plan actor frame object) d after actors later x h = at_tells commits actor (act.Plan frame object) d after actors later x h
-  step_tells (step.Copy actor) d after actors later x h = at_tells commits actor act.Copy d after actors later x h
-  step_tells (step.Commit actor) d after actors later x h = at_tells commits actor act.Commit d after actors later x h
   step_tells (step.Mark frame) d after actors later x h = (same_history d after h.call.ledger, ap (map reader_of) h.same)
   step_tells (step.Release frame) d after actors later x h = (same_history d after h.call.ledger, ap (map reader_of) h.same)
 

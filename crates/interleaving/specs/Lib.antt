@@ -5,3 +5,4 @@ pub mod Acting
 pub mod Upkeep
 pub mod Running
 pub mod Telling
+pub mod private

@@ -15,7 +15,6 @@ use Rattle.interleaving.specs.Upkeep.{Seals, WritesCheckpoint, Marks, Releases, 
 use Rattle.interleaving.specs.declared.answers.Answer.{Answer}
 use Rattle.interleaving.specs.declared.answers.Answer.TheVariants.{Done, Idle}
 use Rattle.interleaving.specs.declared.acts.Act.{Act}
-use Rattle.interleaving.specs.declared.acts.Act.TheVariants as act
 use Rattle.interleaving.specs.declared.steps.Step.{Step}
 use Rattle.interleaving.specs.declared.steps.Step.TheVariants as step
 
@@ -67,16 +66,10 @@ module _ (commits : Move → DriveFields → Result (Unit {0}) Refusal → Drive
 module _ (cleans : ℕ → DriveFields → Result (Unit {0}) Refusal → DriveFields → Type 0) (commits : Move → DriveFields → Result (Unit {0}) Refusal → DriveFields → Type 0) where
   -- what a step is answered, and what it leaves
   abbrev pub Goes : Step → DriveFields → List ActorFields → Answer → DriveFields → List ActorFields → Type 0
-  Goes (step.Request actor request now) d actors x after later = GoesAt commits actor (act.Request request now) d actors x after later
-  Goes (step.Resolve actor object offset len at now) d actors x after later = GoesAt commits actor (act.Resolve object offset len at now) d actors x after later
-  Goes (step.Fetch actor) d actors x after later = GoesAt commits actor act.Fetch d actors x after later
-  Goes (step.Meet actor) d actors x after later = GoesAt commits actor act.Meet d actors x after later
+  Goes (step.By actor act) d actors x after later = GoesAt commits actor act d actors x after later
   Goes step.Seal d actors x after later = IsSealedNow d actors x after later
   Goes (step.Checkpoint object) d actors x after later = IsTended (λ done. WritesCheckpoint object d done after) actors x later
   Goes (step.Clean object) d actors x after later = IsTended (λ done. Tidies cleans object d done after) actors x later
-  Goes (step.Plan actor frame object) d actors x after later = GoesAt commits actor (act.Plan frame object) d actors x after later
-  Goes (step.Copy actor) d actors x after later = GoesAt commits actor act.Copy d actors x after later
-  Goes (step.Commit actor) d actors x after later = GoesAt commits actor act.Commit d actors x after later
   Goes (step.Mark frame) d actors x after later = IsTended (λ done. Marks frame d done after) actors x later
   Goes (step.Release frame) d actors x after later = IsTended (λ done. Releases frame d done after) actors x later
 

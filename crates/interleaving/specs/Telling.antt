@@ -78,16 +78,10 @@ TellsAt number a h readers x after later = TellsBy (slice_get readers number) nu
 
 -- What a step is answered, and what it leaves: a step of the drive alone leaves all of it.
 abbrev pub Tells : Step → History → List Reader → Answer → History → List Reader → Type 0
-Tells (step.Request actor request now) h readers x after later = TellsAt actor (act.Request request now) h readers x after later
-Tells (step.Resolve actor object offset len at now) h readers x after later = TellsAt actor (act.Resolve object offset len at now) h readers x after later
-Tells (step.Fetch actor) h readers x after later = TellsAt actor act.Fetch h readers x after later
-Tells (step.Meet actor) h readers x after later = TellsAt actor act.Meet h readers x after later
+Tells (step.By actor act) h readers x after later = TellsAt actor act h readers x after later
 Tells step.Seal h readers x after later = (after ≡ h) × (later ≡ readers)
 Tells (step.Checkpoint object) h readers x after later = (after ≡ h) × (later ≡ readers)
 Tells (step.Clean object) h readers x after later = (after ≡ h) × (later ≡ readers)
-Tells (step.Plan actor frame object) h readers x after later = TellsAt actor (act.Plan frame object) h readers x after later
-Tells (step.Copy actor) h readers x after later = TellsAt actor act.Copy h readers x after later
-Tells (step.Commit actor) h readers x after later = TellsAt actor act.Commit h readers x after later
 Tells (step.Mark frame) h readers x after later = (after ≡ h) × (later ≡ readers)
 Tells (step.Release frame) h readers x after later = (after ≡ h) × (later ≡ readers)
 

@@ -17,6 +17,7 @@ mod steps;
 mod upkeep;
 
 pub use actors::Actor;
+pub use acts::Act;
 pub use answers::Answer;
 pub use moves::{Cleans, Moves};
 pub use replay::run;

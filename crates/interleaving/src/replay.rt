@@ -43,46 +43,13 @@ fn take_step<J: Naming, C: Cleans<J>, M: Moves<J>>(
     ensures { Goes C.cleans M.commits step drive.old actors.old result drive.new actors.new }
 {
     match step {
-        Step::Request {
-            actor,
-            request,
-            now,
-        } => by_actor(alloc, drive, actors, actor, Act::Request { request, now }),
-        Step::Resolve {
-            actor,
-            object,
-            offset,
-            length,
-            at,
-            now,
-        } => by_actor(
-            alloc,
-            drive,
-            actors,
-            actor,
-            Act::Resolve {
-                object,
-                offset,
-                length,
-                at,
-                now,
-            },
-        ),
-        Step::Fetch { actor } => by_actor(alloc, drive, actors, actor, Act::Fetch),
-        Step::Meet { actor } => by_actor(alloc, drive, actors, actor, Act::Meet),
+        Step::By { actor, act } => by_actor(alloc, drive, actors, actor, act),
         Step::Seal => {
             seal(drive);
             Answer::Done
         }
         Step::Checkpoint { object } => answer_to(checkpoint(drive, object)),
         Step::Clean { object } => answer_to(clean::<J, C>(alloc, drive, object)),
-        Step::Plan {
-            actor,
-            frame,
-            object,
-        } => by_actor(alloc, drive, actors, actor, Act::Plan { frame, object }),
-        Step::Copy { actor } => by_actor(alloc, drive, actors, actor, Act::Copy),
-        Step::Commit { actor } => by_actor(alloc, drive, actors, actor, Act::Commit),
         Step::Mark { frame } => answer_to(mark(drive, frame)),
         Step::Release { frame } => answer_to(release(drive, frame)),
     }
