@@ -145,8 +145,8 @@ fn an_object_is_nothing_before_its_making(rt: HostRuntime) {
     assert!(rt; size_at(&mut table, &none, 10) == None);
 }
 
-/// The object made at moment 10, and given a size at two later moments; looks at its sizes.
-fn check_changes<B: Blocks>(rt: &impl Abort, table: &mut B) -> Result<Row, Fail>
+/// The object made at moment 10, and given a size at two later moments; looks at its sizes, its row and its blocks.
+fn check_changes<B: Blocks>(rt: &impl Abort, table: &mut B) -> Result<(), Fail>
     requires { (p : Place) → (B.log table.old).held p ≡ None }
 {
     let none = begun(table);
@@ -154,7 +154,10 @@ fn check_changes<B: Blocks>(rt: &impl Abort, table: &mut B) -> Result<Row, Fail>
     let second = resized(table, &first, 11, 3)?;
     let third = resized(table, &second, 12, 5)?;
     check_sizes(rt, table, &third, &CHANGED);
-    Ok(third.row)
+    check_places(rt, &third.row, None, 0, 2);
+    assert!(rt; third.row.journal_bytes == 102 && third.row.head_bytes == 102);
+    assert!(rt; table.blocks_left() == 12);
+    Ok(())
 }
 
 static CHANGED: [(u64, Option<u32>); 6] = [
@@ -168,12 +171,7 @@ static CHANGED: [(u64, Option<u32>); 6] = [
 
 #[test]
 fn a_change_is_told_from_its_moment_on(rt: HostRuntime) -> Result<(), Fail> {
-    let mut table = PlainLog::new(15);
-    let row = check_changes(&rt, &mut table)?;
-    check_places(&rt, &row, None, 0, 2);
-    assert!(rt; row.journal_bytes == 102 && row.head_bytes == 102);
-    assert!(rt; table.blocks_left() == 12);
-    Ok(())
+    check_changes(&rt, &mut PlainLog::new(15))
 }
 
 static CHECKPOINTED: [(u64, Option<u32>); 3] = [(9, None), (10, Some(7)), (11, Some(3))];
