@@ -111,7 +111,35 @@ impl<J: Naming> Drive<J> {
             .plan(object, moment, &inode, offset, u64::from(length))
     }
 
-    /// The bytes of an object from an offset on, at a moment.
+    /// The bytes of an object from an offset on, at a moment. They are read at once, so no pin is needed: neither a seat of
+    /// pins is taken nor a frame's word changed.
+    fn bytes_at(
+        &mut self,
+        object: ObjectId,
+        offset: u64,
+        length: u32,
+        at: Option<Moment>,
+    ) -> Result<Vec<u8>, Refusal>
+        requires { length ≤ READ_BYTES }
+        ensures ledger { self.new.ledger ≡ self.old.ledger }
+        ensures store { store_of self.new ≡ store_of self.old }
+        ensures fits { IfOk result (λ bytes. ReplyFits (Reply.Data bytes.items)) }
+        ensures ok { IfOk result (λ bytes. IsAnswered (later_refusal (state_in self.old) (Read object offset length at)) (state_in self.old) (Read object offset length at) (Reply.Data bytes.items)) }
+        ensures refused { IfErr result (IsJudgedOut (later_refusal (state_in self.old) (Read object offset length at)) (Read object offset length at)) }
+    {
+        let moment = self.moment_asked(at);
+        if self.store.latest() <= moment {
+            self.live_present(object, moment)?;
+            return self
+                .store
+                .read_present(object, offset, u64::from(length));
+        }
+        let inode = self.live_inode(object, moment)?;
+        self.store
+            .read(object, moment, &inode, offset, u64::from(length))
+    }
+
+    /// The reply to a Read.
     fn read(
         &mut self,
         object: ObjectId,
@@ -124,10 +152,10 @@ impl<J: Naming> Drive<J> {
         ensures store { store_of self.new ≡ store_of self.old }
         ensures fits { IfOk result ReplyFits }
         ensures ok { IfOk result (IsAnswered (later_refusal (state_in self.old) (Read object offset length at)) (state_in self.old) (Read object offset length at)) }
-        ensures refused { IfErr result (IsUnplanned (later_refusal (state_in self.old) (Read object offset length at)) self.new (Read object offset length at)) }
+        ensures refused { IfErr result (IsJudgedOut (later_refusal (state_in self.old) (Read object offset length at)) (Read object offset length at)) }
     {
-        let plan = self.planned(object, offset, length, at)?;
-        Ok(Reply::Data(Bytes::from_vec(plan.fetch(self.alloc)?)))
+        let bytes = self.bytes_at(object, offset, length, at)?;
+        Ok(Reply::Data(Bytes::from_vec(bytes)))
     }
 
     /// An object's size, moments and attribute, at a moment.

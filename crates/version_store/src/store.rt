@@ -1,5 +1,5 @@
 //! A store of objects: made, looked at and read.
-ghost use Rattle.std.specs.Prelude.{◌≡◌, ℕ, ◌+◌, ◌^◌, ◌≤◌, ◌<◌, Some, None, length, take, drop, IfSome, IfNone, IfOk, IfErr, option_copied};
+ghost use Rattle.std.specs.Prelude.{◌≡◌, ℕ, ◌+◌, ◌^◌, ◌≤◌, ◌<◌, Some, None, length, take, drop, IsSome, IfSome, IfNone, IfOk, IfErr, option_copied};
 ghost use Rattle.s4_types.specs.Pointer.{Place};
 ghost use Rattle.s4_types.specs.declared.refusals.Refusal.TheVariants.{NoMemory};
 ghost use Rattle.object_map.specs.Objects.{IsNextAbove};
@@ -176,5 +176,34 @@ impl<B: Blocks> Store<B> {
     {
         held_pointers_lead();
         inode::read(self.alloc, &mut self.table, inode, offset, len)
+    }
+
+    /// The bytes of an object that has a row, as they are now: [`Store::read`] of its present inode, which isn't copied.
+    ///
+    /// NoMemory alone, where the memory for the bytes is refused.
+    pub fn read_present(
+        &mut self,
+        object: ObjectId,
+        offset: u64,
+        len: u64,
+    ) -> Result<Vec<u8>, Refusal>
+        requires store { IsStore (fields_of B.log self.old) }
+        requires there { IsSome (inode_in (fields_of B.log self.old) object self.old.latest) }
+        ensures bytes { IfOk result (λ bytes. IfSome (inode_in (fields_of B.log self.old) object self.old.latest)
+            (λ inode. bytes.items ≡ take len (drop offset (bytes_of (contents_of (B.log self.old.table).held) inode)))) }
+        ensures refusal { IfErr result (λ e. e ≡ NoMemory) }
+        ensures same { fields_of B.log self.new ≡ fields_of B.log self.old }
+    {
+        held_pointers_lead();
+        let Some(kept) = self.objects.get(object) else {
+            unreachable!()
+        };
+        inode::read(
+            self.alloc,
+            &mut self.table,
+            &kept.value.inode,
+            offset,
+            len,
+        )
     }
 }
