@@ -1,5 +1,5 @@
 //! An object's checkpoint and journal at other places, as of the moments that they have.
-ghost use Rattle.std.specs.Prelude.{◌≡◌, ℕ, ◌<◌, ◌≤◌, true, List, length, Option, None, Some, IsSome, IfSome, IfOk, OnErr, MatchResult, MatchOption, is_some, option_copied, take};
+ghost use Rattle.std.specs.Prelude.{◌≡◌, ℕ, ◌<◌, ◌≤◌, true, length, map, None, Some, IsSome, IfSome, IfOk, OnErr, MatchResult, MatchOption, is_some, option_copied, take};
 ghost use Rattle.std.specs.List.{Contains};
 ghost use Rattle.s4_types.specs.Pointer.{Place};
 ghost use Rattle.s4_types.specs.declared.limits.TheConstants.{CHAIN_ENTRY_BYTES, JOURNAL_ENTRY_BYTES};
@@ -7,17 +7,68 @@ ghost use Rattle.s4_types.specs.declared.refusals.Refusal.TheVariants.{NoRoom};
 ghost use Rattle.block_log.specs.declared.kinds.BlockKind.TheVariants.{Journal, Checkpoint};
 ghost use Rattle.block_log.specs.Log.{of_kind};
 ghost use Rattle.block_log.specs.Taken.{TakesPlaces};
-ghost use Rattle.codec.specs.Entry.{entries_length};
+ghost use Rattle.codec.specs.Fields.{◌>>=◌};
+ghost use Rattle.codec.specs.Entry.{entry_length, entries_length};
+ghost use Rattle.codec.specs.Checkpoint.{checkpoint_rules};
 ghost use Rattle.undo_redo.specs.Runs.{inode_after};
-ghost use Rattle.time_read.specs.Rows.{IsRow, entries_of, first_of, checkpoint_of, inode_of};
+ghost use Rattle.journal_chain.specs.Chain.{Holds, OnlyJournalChanged};
+ghost use Rattle.journal_chain.specs.Push.{whole_blocks};
+ghost use Rattle.checkpoint.specs.Held.{checkpoint_held};
+ghost use Rattle.time_read.specs.Rows.{IsRow, chain_of, entries_of, first_of, checkpoint_of, inode_of};
 ghost use Rattle.time_read.specs.Orderly.{IsFromTo, IsOrderly, IsOrderlyChain, BeginsDead};
+ghost use Rattle.row_changes.specs.Moved.{OnlyCheckpointChanged};
 ghost use Rattle.row_changes.specs.Rewritten.{OnlyHistoryChanged};
-ghost use Rattle.row_changes.specs.Moving.{CanTell, checkpoint_with, first_with, moved_blocks};
+ghost use Rattle.row_changes.specs.Moving.{CanTell, checkpoint_count, checkpoint_at, checkpoint_with, first_with, moved_blocks};
 
+use crate::checkpoints::{drop_older, put};
+use crate::rewrites::rewritten_blocks;
+use arrayvec::ArrayVec;
 use block_log::Blocks;
+use block_log::laws::{no_change_takes_no_place, one_place_has_one_name, places_taken_add_up};
 use codec::{Entry, Inode};
+use journal_chain::Chain;
+use journal_chain::laws::{a_chain_has_its_entries, a_chain_is_its_journal_blocks};
+use journal_chain::packing::blocks_needed;
+use journal_chain::packing::laws::{chains_are_short, few_blocks_are_needed};
 use object_map::Row;
-use s4_types::{ObjectId, Refusal};
+use s4_types::limits::{CHAIN_ENTRY_BYTES, SHORTEST_ENTRY_BYTES};
+use s4_types::{ObjectId, Ptr, Refusal};
+use time_read::laws::a_row_tells_a_chain;
+
+// So many of the shortest entries have the most bytes that a chain may have.
+const CHAIN_ENTRIES: usize = CHAIN_ENTRY_BYTES / SHORTEST_ENTRY_BYTES;
+
+/// The bytes of each entry of an object's journal. It is walked from the newest entry back.
+fn sizes_told<B: Blocks>(
+    table: &mut B,
+    object: ObjectId,
+    row: &Row,
+) -> ArrayVec<usize, CHAIN_ENTRIES>
+    requires { IsRow (B.log table.old).held object row.now }
+    ensures sizes { result.items ≡ map entry_length (entries_of (B.log table.old).held object row.now) }
+    ensures same { B.log table.new ≡ B.log table.old }
+{
+    a_row_tells_a_chain();
+    chains_are_short();
+    let chain = Chain::of(object, row.head, row.journal_bytes, row.head_bytes);
+    let mut sizes = ArrayVec::new();
+    let mut back = chain.entries_back();
+    while let Some(entry) = back.next(table) {
+        sizes.push(entry.byte_count());
+    }
+    sizes.reverse();
+    sizes
+}
+
+/// How many checkpoints a row names: one or none.
+fn checkpoint_count(row: &Row) -> usize
+    ensures { result ≡ checkpoint_count row.now.checkpoint }
+{
+    match row.checkpoint {
+        None => 0,
+        Some(_) => 1,
+    }
+}
 
 /// How many places it takes to write an object's checkpoint, if it has one, and its whole journal at other places: what
 /// `move_row` counts before anything is written. Takes no memory.
@@ -26,7 +77,60 @@ pub fn moved_blocks<B: Blocks>(table: &mut B, object: ObjectId, row: &Row) -> us
     ensures blocks { result ≡ moved_blocks row.now (entries_of (B.log table.old).held object row.now) }
     ensures same { B.log table.new ≡ B.log table.old }
 {
-    0
+    few_blocks_are_needed();
+    let sizes = sizes_told(table, object, row);
+    checkpoint_count(row) + blocks_needed(0, sizes.as_slice())
+}
+
+/// Puts a checkpoint of this inode, if there is one, in place of the one that an object's row names, where there is room, and
+/// answers where it stands.
+fn move_checkpoint<B: Blocks>(
+    table: &mut B,
+    object: ObjectId,
+    row: &Row,
+    kept: Option<&Inode>,
+) -> Option<Ptr>
+    requires row { IsRow (B.log table.old).held object row.now }
+    requires same { is_some (option_copied kept.entry) ≡ is_some row.now.checkpoint }
+    requires rules { IfSome (option_copied kept.entry) (λ i. checkpoint_rules (checkpoint_at object row.now i) ≡ true) }
+    requires room { checkpoint_count row.now.checkpoint ≤ length (B.log table.old).ahead }
+    ensures told { result >>= checkpoint_held (B.log table.new).held object ≡ checkpoint_with object row.now (option_copied kept.entry) }
+    ensures some { is_some result ≡ is_some row.now.checkpoint }
+    ensures only { (p : Place) → IsSome (of_kind Checkpoint object (B.log table.new).held p) → result ≡ Some p }
+    ensures places { (p : Place) → IsSome (of_kind Checkpoint object (B.log table.new).held p) → Contains (take (checkpoint_count row.now.checkpoint) (B.log table.old).ahead) p }
+    ensures others { OnlyCheckpointChanged object (B.log table.old).held (B.log table.new).held }
+    ensures takes { TakesPlaces (checkpoint_count row.now.checkpoint) (B.log table.old) (B.log table.new) }
+{
+    one_place_has_one_name();
+    no_change_takes_no_place();
+    places_taken_add_up();
+    let inode = kept?;
+    let place = put(table, object, inode, row.checkpoint_moment).unwrap();
+    drop_older(table, object, row.checkpoint);
+    Some(place)
+}
+
+/// Drops all journal blocks of an object, and then writes its journal afresh where there is room, and answers its chain. So
+/// each journal block of it is at a place that was taken.
+fn move_chain<B: Blocks>(table: &mut B, object: ObjectId, row: &Row, entries: &[Entry]) -> Chain
+    requires object { 1 ≤ object }
+    requires bytes { row.now.journal_bytes ≤ CHAIN_ENTRY_BYTES }
+    requires one_block { row.now.head_bytes ≤ JOURNAL_ENTRY_BYTES }
+    requires held { Holds (B.log table.old).held (chain_of object row.now) (entries_of (B.log table.old).held object row.now) }
+    requires limit { entries_length entries.now ≤ CHAIN_ENTRY_BYTES }
+    requires room { whole_blocks entries.now ≤ length (B.log table.old).ahead }
+    ensures holds { Holds (B.log table.new).held result entries.now }
+    ensures object { result.object ≡ object }
+    ensures places { (p : Place) → IsSome (of_kind Journal object (B.log table.new).held p) → Contains (take (whole_blocks entries.now) (B.log table.old).ahead) p }
+    ensures others { OnlyJournalChanged object (B.log table.old).held (B.log table.new).held }
+    ensures takes { TakesPlaces (whole_blocks entries.now) (B.log table.old) (B.log table.new) }
+{
+    a_chain_has_its_entries();
+    places_taken_add_up();
+    let mut chain = Chain::of(object, row.head, row.journal_bytes, row.head_bytes);
+    chain.rewrite(table, &[]).unwrap();
+    chain.rewrite(table, entries).unwrap();
+    chain
 }
 
 /// Writes an object's checkpoint, if it has one, with this inode, and then its whole journal afresh with these entries, the
@@ -70,5 +174,21 @@ pub fn move_row<B: Blocks>(
         (λ e. (e ≡ NoRoom) × (length (B.log table.old).ahead < moved_blocks row.now entries.now)) }
     ensures unchanged { OnErr result (B.log table.new ≡ B.log table.old) }
 {
-    Err(Refusal::NoRoom)
+    places_taken_add_up();
+    a_chain_has_its_entries();
+    a_chain_is_its_journal_blocks();
+    a_row_tells_a_chain();
+    let journal = rewritten_blocks(entries) - 1;
+    if table.blocks_left() < checkpoint_count(row) + journal {
+        return Err(Refusal::NoRoom);
+    }
+    let checkpoint = move_checkpoint(table, object, row, kept);
+    let chain = move_chain(table, object, row, entries);
+    Ok(Row {
+        checkpoint,
+        head: chain.head(),
+        journal_bytes: chain.bytes() as u16,
+        head_bytes: chain.filled() as u16,
+        ..*row
+    })
 }
