@@ -1,5 +1,5 @@
 //! An object's checkpoint and journal at other places, as of the moments that they have.
-ghost use Rattle.std.specs.Prelude.{◌≡◌, ℕ, ◌<◌, ◌≤◌, true, length, map, None, Some, IsSome, IfSome, IfOk, OnErr, MatchResult, MatchOption, is_some, option_copied, take};
+ghost use Rattle.std.specs.Prelude.{◌≡◌, ℕ, ◌<◌, ◌≤◌, true, [], length, map, None, Some, IsSome, IfSome, IfOk, OnErr, MatchResult, MatchOption, is_some, option_copied, take};
 ghost use Rattle.std.specs.List.{Contains};
 ghost use Rattle.s4_types.specs.Pointer.{Place};
 ghost use Rattle.s4_types.specs.declared.limits.TheConstants.{CHAIN_ENTRY_BYTES, JOURNAL_ENTRY_BYTES};
@@ -7,7 +7,6 @@ ghost use Rattle.s4_types.specs.declared.refusals.Refusal.TheVariants.{NoRoom};
 ghost use Rattle.block_log.specs.declared.kinds.BlockKind.TheVariants.{Journal, Checkpoint};
 ghost use Rattle.block_log.specs.Log.{of_kind};
 ghost use Rattle.block_log.specs.Taken.{TakesPlaces};
-ghost use Rattle.codec.specs.Fields.{◌>>=◌};
 ghost use Rattle.codec.specs.Entry.{entry_length, entries_length};
 ghost use Rattle.codec.specs.Checkpoint.{checkpoint_rules};
 ghost use Rattle.undo_redo.specs.Runs.{inode_after};
@@ -27,7 +26,9 @@ use block_log::Blocks;
 use block_log::laws::{no_change_takes_no_place, one_place_has_one_name, places_taken_add_up};
 use codec::{Entry, Inode};
 use journal_chain::Chain;
-use journal_chain::laws::{a_chain_has_its_entries, a_chain_is_its_journal_blocks};
+use journal_chain::laws::{
+    a_chain_has_its_entries, a_chain_is_its_journal_blocks, changes_add_up,
+};
 use journal_chain::packing::blocks_needed;
 use journal_chain::packing::laws::{chains_are_short, few_blocks_are_needed};
 use object_map::Row;
@@ -82,6 +83,26 @@ pub fn moved_blocks<B: Blocks>(table: &mut B, object: ObjectId, row: &Row) -> us
     checkpoint_count(row) + blocks_needed(0, sizes.as_slice())
 }
 
+/// Puts a checkpoint of this inode in place of the one that an object's row names, if it names one, where a place is ahead.
+fn put_anew<B: Blocks>(table: &mut B, object: ObjectId, row: &Row, inode: &Inode) -> Ptr
+    requires row { IsRow (B.log table.old).held object row.now }
+    requires rules { checkpoint_rules (checkpoint_at object row.now inode.now) ≡ true }
+    requires room { 0 < length (B.log table.old).ahead }
+    ensures told { checkpoint_held (B.log table.new).held object result ≡ Some (checkpoint_at object row.now inode.now) }
+    ensures only { (p : Place) → IsSome (of_kind Checkpoint object (B.log table.new).held p) → Some result ≡ Some p }
+    ensures place { Contains (take 1 (B.log table.old).ahead) result }
+    ensures others { OnlyCheckpointChanged object (B.log table.old).held (B.log table.new).held }
+    ensures takes { TakesPlaces 1 (B.log table.old) (B.log table.new) }
+{
+    one_place_has_one_name();
+    places_taken_add_up();
+    let Ok(place) = put(table, object, inode, row.checkpoint_moment) else {
+        unreachable!()
+    };
+    drop_older(table, object, row.checkpoint);
+    place
+}
+
 /// Puts a checkpoint of this inode, if there is one, in place of the one that an object's row names, where there is room, and
 /// answers where it stands.
 fn move_checkpoint<B: Blocks>(
@@ -91,23 +112,38 @@ fn move_checkpoint<B: Blocks>(
     kept: Option<&Inode>,
 ) -> Option<Ptr>
     requires row { IsRow (B.log table.old).held object row.now }
-    requires same { is_some (option_copied kept.entry) ≡ is_some row.now.checkpoint }
-    requires rules { IfSome (option_copied kept.entry) (λ i. checkpoint_rules (checkpoint_at object row.now i) ≡ true) }
+    requires same { is_some (option_copied kept) ≡ is_some row.now.checkpoint }
+    requires rules { IfSome (option_copied kept) (λ i. checkpoint_rules (checkpoint_at object row.now i) ≡ true) }
     requires room { checkpoint_count row.now.checkpoint ≤ length (B.log table.old).ahead }
-    ensures told { result >>= checkpoint_held (B.log table.new).held object ≡ checkpoint_with object row.now (option_copied kept.entry) }
+    ensures told { checkpoint_of (B.log table.new).held object (record row.now { checkpoint = result }) ≡ checkpoint_with object row.now (option_copied kept.entry) }
     ensures some { is_some result ≡ is_some row.now.checkpoint }
     ensures only { (p : Place) → IsSome (of_kind Checkpoint object (B.log table.new).held p) → result ≡ Some p }
     ensures places { (p : Place) → IsSome (of_kind Checkpoint object (B.log table.new).held p) → Contains (take (checkpoint_count row.now.checkpoint) (B.log table.old).ahead) p }
     ensures others { OnlyCheckpointChanged object (B.log table.old).held (B.log table.new).held }
     ensures takes { TakesPlaces (checkpoint_count row.now.checkpoint) (B.log table.old) (B.log table.new) }
 {
-    one_place_has_one_name();
     no_change_takes_no_place();
-    places_taken_add_up();
     let inode = kept?;
-    let place = put(table, object, inode, row.checkpoint_moment).unwrap();
-    drop_older(table, object, row.checkpoint);
-    Some(place)
+    Some(put_anew(table, object, row, inode))
+}
+
+/// Drops all journal blocks of an object, and answers its chain, of no entries.
+fn drop_chain<B: Blocks>(table: &mut B, object: ObjectId, row: &Row) -> Chain
+    requires object { 1 ≤ object }
+    requires bytes { row.now.journal_bytes ≤ CHAIN_ENTRY_BYTES }
+    requires one_block { row.now.head_bytes ≤ JOURNAL_ENTRY_BYTES }
+    requires held { Holds (B.log table.old).held (chain_of object row.now) (entries_of (B.log table.old).held object row.now) }
+    ensures holds { Holds (B.log table.new).held result [] }
+    ensures object { result.object ≡ object }
+    ensures gone { (p : Place) → of_kind Journal object (B.log table.new).held p ≡ None }
+    ensures others { OnlyJournalChanged object (B.log table.old).held (B.log table.new).held }
+    ensures takes { TakesPlaces 0 (B.log table.old) (B.log table.new) }
+{
+    let mut chain = Chain::of(object, row.head, row.journal_bytes, row.head_bytes);
+    let Ok(()) = chain.rewrite(table, &[]) else {
+        unreachable!()
+    };
+    chain
 }
 
 /// Drops all journal blocks of an object, and then writes its journal afresh where there is room, and answers its chain. So
@@ -127,9 +163,11 @@ fn move_chain<B: Blocks>(table: &mut B, object: ObjectId, row: &Row, entries: &[
 {
     a_chain_has_its_entries();
     places_taken_add_up();
-    let mut chain = Chain::of(object, row.head, row.journal_bytes, row.head_bytes);
-    chain.rewrite(table, &[]).unwrap();
-    chain.rewrite(table, entries).unwrap();
+    changes_add_up();
+    let mut chain = drop_chain(table, object, row);
+    let Ok(()) = chain.rewrite(table, entries) else {
+        unreachable!()
+    };
     chain
 }
 
@@ -149,7 +187,7 @@ pub fn move_row<B: Blocks>(
     entries: &[Entry],
 ) -> Result<Row, Refusal>
     requires row { IsRow (B.log table.old).held object row.now }
-    requires tell { CanTell object row.now (option_copied kept.entry) entries.now }
+    requires tell { CanTell object row.now (option_copied kept) entries.now }
     ensures row { IfOk result (λ later. IsRow (B.log table.new).held object later) }
     ensures entries { IfOk result (λ later. entries_of (B.log table.new).held object later ≡ entries.now) }
     ensures checkpoint { IfOk result (λ later. checkpoint_of (B.log table.new).held object later ≡ checkpoint_with object row.now (option_copied kept.entry)) }
