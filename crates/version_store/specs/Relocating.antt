@@ -42,7 +42,7 @@ blocks_ascend_from low (c ∷ copies) = nat_le low c.place.block && blocks_ascen
 pub record AreCopies (held : Place → Option Stored) (o : ℕ) (copies : List CopiedBlock) : Type 0 where
   pub frame : AllByRecursion (λ c. is_in (frame_of_copies copies) c.place ≡ true) copies
   pub ascending : blocks_ascend_from 1 copies ≡ true
-  pub held : AllByRecursion (λ c. of_kind Data o held c.place ≡ Some c.bytes) copies
+  pub bytes : AllByRecursion (λ c. of_kind Data o held c.place ≡ Some c.bytes) copies
 
 -- a copied block stood at the place
 abbrev pub IsCopied : List CopiedBlock → Place → Type 0
@@ -75,9 +75,9 @@ pub record IsRelocated (s : StoreFields) (o : ℕ) (row : Row) (copies : List Co
   pub copied : (p q : Place) → new_place (renaming_by copies s.log.ahead) p ≡ Some q → of_kind Data o later.log.held q ≡ of_kind Data o s.log.held p
   pub gone : (p : Place) → IsCopied copies p → later.log.held p ≡ None
   pub stayed : (p : Place) → IsSome (of_kind Data o s.log.held p) → new_place (renaming_by copies s.log.ahead) p ≡ None → of_kind Data o later.log.held p ≡ of_kind Data o s.log.held p
-  pub data : (p : Place) → IsSome (of_kind Data o later.log.held p)
+  pub blocks : (p : Place) → IsSome (of_kind Data o later.log.held p)
     → (of_kind Data o later.log.held p ≡ of_kind Data o s.log.held p) ⊎ Contains (take (blocks_relocated s.log.held o row copies) s.log.ahead) p
-  pub written : (p : Place) → IsSome (of_kind Journal o later.log.held p) → Contains (take (blocks_relocated s.log.held o row copies) s.log.ahead) p
+  pub chains : (p : Place) → IsSome (of_kind Journal o later.log.held p) → Contains (take (blocks_relocated s.log.held o row copies) s.log.ahead) p
   pub checkpoints : (p : Place) → IsSome (of_kind Checkpoint o later.log.held p) → Contains (take (blocks_relocated s.log.held o row copies) s.log.ahead) p
   pub others : OtherObjectsStay o s.log.held later.log.held
   pub takes : TakesPlaces (blocks_relocated s.log.held o row copies) s.log later.log

@@ -10,6 +10,7 @@ ghost use Rattle.version_store.specs.Relocating.{AreCopies, IsRelocated, blocks_
 use crate::copies::CopiedBlock;
 use crate::store::Store;
 use block_log::Blocks;
+use row_changes::moved_blocks;
 use s4_types::{ObjectId, Refusal};
 
 impl<B: Blocks> Store<B> {
@@ -37,6 +38,14 @@ impl<B: Blocks> Store<B> {
             ⊎ ((e ≡ NoMemory) × (blocks_relocated (B.log self.old.table).held object row copies.now ≤ length (B.log self.old.table).ahead)))) }
         ensures unchanged { OnErr result (fields_of B.log self.new ≡ fields_of B.log self.old) }
     {
-        Err(Refusal::NoRoom)
+        let Some(row) = self.row(object) else {
+            unreachable!()
+        };
+        let history = moved_blocks(&mut self.table, object, &row);
+        let left = self.table.blocks_left();
+        if left < history || left - history < copies.len() {
+            return Err(Refusal::NoRoom);
+        }
+        Err(Refusal::NoMemory)
     }
 }
