@@ -1,3 +1,4 @@
+pub mod Appending
 pub mod Frames
 pub mod Counting
 pub mod Telling
