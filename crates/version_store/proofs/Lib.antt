@@ -1,3 +1,5 @@
+pub mod RelocatedBlocks
+pub mod RenamedHistory
 pub mod Appending
 pub mod Frames
 pub mod Counting
