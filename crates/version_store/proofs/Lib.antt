@@ -1,3 +1,4 @@
+pub mod Relocated
 pub mod RelocatedBlocks
 pub mod RenamedHistory
 pub mod Appending

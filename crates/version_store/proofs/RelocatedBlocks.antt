@@ -37,7 +37,7 @@ recursion_at P (y ∷ xs) x all (zero, below, at) = subst P at all.0
 recursion_at P (y ∷ xs) x all (suc n, below, at) = recursion_at P xs x all.1 (n, omega (arith, below), at)
 
 pub copied_stood : (p : Place) (copies : List CopiedBlock) → IsCopied copies p → stood_at p copies ≡ true
-copied_stood p copies (c, (n, below, at), is) =
+copied_stood p copies (c, ((n, below, at), is)) =
     list_any_at (λ (x : CopiedBlock). same_place x.place p) copies n c below (ap (λ (x : CopiedBlock). same_place x.place p) at ∙ ap (λ (q : Place). same_place q p) is ∙ same_place-self p)
 
 pub stood_copied : OnePlace → (p : Place) (copies : List CopiedBlock) → stood_at p copies ≡ true → IsCopied copies p
@@ -45,7 +45,7 @@ stood_copied one p [] stood = absurd (false≢true stood)
 stood_copied one p (c ∷ copies) stood = elim (cases_Bool (same_place c.place p)) [
   | inl is ↦ (c, ((0, omega arith, refl), one c.place p is))
   | inr beside ↦
-      let (d, among, is) = stood_copied one p copies (sym (ap (λ (b : Bool). b || stood_at p copies) beside) ∙ stood) in
+      let (d, (among, is)) = stood_copied one p copies (sym (ap (λ (b : Bool). b || stood_at p copies) beside) ∙ stood) in
       (d, (Contains-append_right (c ∷ []) copies d among, is))
 ]
 
@@ -71,7 +71,7 @@ pub record Dropped (before between moved later : Log) (o : ℕ) (copies : List C
   pub dropped : (q : Place) → later.held q ≡ cond (stood_at q copies) None (moved.held q)
 
 copied_held : (before between moved later : Log) (o : ℕ) (copies : List CopiedBlock) (r : RenamingFields) → Dropped before between moved later o copies r → (p : Place) → IsCopied copies p → IsSome (of_kind Data o before.held p)
-copied_held before between moved later o copies r d p (c, among, is) =
+copied_held before between moved later o copies r d p (c, (among, is)) =
     subst (λ (q : Place). IsSome (of_kind Data o before.held q)) is (ap is_some (recursion_at (λ (x : CopiedBlock). of_kind Data o before.held x.place ≡ Some x.bytes) copies c d.are.bytes among))
 
 frame_at : (before between moved later : Log) (o : ℕ) (copies : List CopiedBlock) (r : RenamingFields) → Dropped before between moved later o copies r → (c : CopiedBlock) → Contains copies c → is_in r c.place ≡ true
@@ -115,7 +115,7 @@ moved_are before between moved later o copies r d p = (there, back)
         let of = copy_of before between moved later o copies r d p q new in
         (of.copy, (of.among, of.place))
     back : IsCopied copies p → IsSome (new_place r p)
-    back (c, among, is) = subst (λ (x : Place). IsSome (new_place r x)) is (ap is_some (new_at before between moved later o copies r d c among) ∙ elim (d.appended.each c among) [
+    back (c, (among, is)) = subst (λ (x : Place). IsSome (new_place r x)) is (ap is_some (new_at before between moved later o copies r d c among) ∙ elim (d.appended.each c among) [
       | inl some ↦ some
       | inr left ↦ absurd (none_left c left)
     ])
