@@ -25,6 +25,7 @@ mod holdings;
 mod new_drive;
 mod plans;
 mod reads;
+mod relocations;
 mod replacements;
 mod requests;
 mod session;

@@ -1,3 +1,7 @@
+pub mod Relocated
+pub mod RelocatedBlocks
+pub mod RenamedHistory
+pub mod Appending
 pub mod Frames
 pub mod Counting
 pub mod Telling

@@ -9,12 +9,15 @@
 //! Which changes may be asked for, and at which moments, is told elsewhere.
 #![tactic(auto)]
 
+mod copies;
 mod costs;
 mod data_blocks;
+mod histories;
 pub mod laws;
 mod named_table;
 mod presents;
 mod store;
 
+pub use copies::CopiedBlock;
 pub use named_table::NamedTable;
 pub use store::Store;

@@ -13,6 +13,7 @@ mod changes;
 mod checkpoints;
 mod emptying;
 mod frames;
+mod relocations;
 mod replacements;
 mod seals;
 
