@@ -14,6 +14,7 @@ mod checkpoints;
 mod emptying;
 mod frames;
 mod relocations;
+mod pins;
 mod replacements;
 mod seals;
 
