@@ -45,8 +45,8 @@ impl<J: Naming> Drive<J> {
     /// ChainFull where the entries of the object's chain would have more than 11,712 bytes, else with NoSpace where there is
     /// less room than blocks are appended. NoMemory comes only where a growth was refused. A Create, a Read and a GetAttr are
     /// answered so only where nothing else refuses them, a Flush and a FlushO also in place of TooManySpans and ClockEnd, and no
-    /// other request is. Busy comes of a Read alone, where no check applies: it needs a block of a sealed frame, and no pin is to
-    /// be had.
+    /// other request is. The contract lets a Read that no check refuses be Busy, as one that is resolved, where it needs a block of
+    /// a sealed frame; this drive reads at once and takes no pin for it, so that it never is.
     pub fn request(&mut self, session: &mut Session<J>, request: Request, now: Moment) -> Reply
         // The history goes on by a step of the model.
         ensures step { Step (history_of self.old) session.old.role request now result (history_of self.new) }
