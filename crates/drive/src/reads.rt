@@ -130,9 +130,7 @@ impl<J: Naming> Drive<J> {
         let moment = self.moment_asked(at);
         if self.store.latest() <= moment {
             self.live_present(object, moment)?;
-            return self
-                .store
-                .read_present(object, offset, u64::from(length));
+            return self.store.read_present(object, offset, u64::from(length));
         }
         let inode = self.live_inode(object, moment)?;
         self.store

@@ -88,8 +88,8 @@ moved_row held later o row kept entries p h b f s =
       run = subst (λ (es : List EntryFields). Run (first_of later o next) es (redone_all entries start)) (sym s.found) run;
       groups = ap grouped s.found ∙ s.tell.groups;
       checkpoint = checkpoint_tells later o row.checkpoint_moment row kept (inode_of later o next row.checkpoint_moment) p
-      (λ q. checkpoint_held held o q ≡ Some (record { object = o; moment = row.checkpoint_moment; inode = inode_of held o row row.checkpoint_moment }))
-      s.some s.tell.same refl s.was.checkpoint (current_is kept (inode_after start entries row.checkpoint_moment) (inode_of later o next row.checkpoint_moment) (sym now) s.tell.current) s.told;
+          (λ q. checkpoint_held held o q ≡ Some (record { object = o; moment = row.checkpoint_moment; inode = inode_of held o row row.checkpoint_moment }))
+          s.some s.tell.same refl s.was.checkpoint (current_is kept (inode_after start entries row.checkpoint_moment) (inode_of later o next row.checkpoint_moment) (sym now) s.tell.current) s.told;
       only = s.only;
       created = ap (λ (k : Inode). k.created) first ∙ s.tell.created;
     }
@@ -110,7 +110,7 @@ moved_orderly held later o row kept entries p h b f latest s orderly made at =
       made = made;
       chain = subst (λ (es : List EntryFields). IsOrderlyChain row.created latest (first_of later o next) es) (sym s.found) begun;
       checkpoint = matched (BeginsDead (entries_of later o next)) (IsFromTo row.created latest row.checkpoint_moment) row.checkpoint p s.some
-      (subst (λ (es : List EntryFields). MatchOption row.checkpoint (BeginsDead es) (λ q. IsFromTo row.created latest row.checkpoint_moment)) (sym s.found) at);
+          (subst (λ (es : List EntryFields). MatchOption row.checkpoint (BeginsDead es) (λ q. IsFromTo row.created latest row.checkpoint_moment)) (sym s.found) at);
     }
 
 -- ---- the checkpoint was put first, and then the chain

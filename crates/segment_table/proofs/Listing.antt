@@ -30,9 +30,9 @@ all_passed Q P test each [] a = tt
 all_passed {X} Q P test each (x ∷ xs) a =
     let rest : AllByRecursion P (filter test xs) = all_passed Q P test each xs a.1 in
     elim (cases_Bool (test x)) [
-    | inl passes ↦ subst (λ (b : Bool). AllByRecursion P (cond b (x ∷ filter test xs) (filter test xs))) (sym passes) (each x a.0 passes, rest)
-    | inr fails ↦ subst (λ (b : Bool). AllByRecursion P (cond b (x ∷ filter test xs) (filter test xs))) (sym fails) rest
-  ]
+      | inl passes ↦ subst (λ (b : Bool). AllByRecursion P (cond b (x ∷ filter test xs) (filter test xs))) (sym passes) (each x a.0 passes, rest)
+      | inr fails ↦ subst (λ (b : Bool). AllByRecursion P (cond b (x ∷ filter test xs) (filter test xs))) (sym fails) rest
+    ]
 
 has_first : {X : Type 0} (x : X) (xs : List X) → Contains (x ∷ xs) x
 has_first x xs = (0, omega arith, refl)
@@ -49,9 +49,9 @@ passed_has {X} test x passes (y ∷ ys) (zero, h, e) =
 passed_has {X} test x passes (y ∷ ys) (suc k, h, e) =
     let rest : Contains (filter test ys) x = passed_has test x passes ys (k, omega arith, e) in
     elim (cases_Bool (test y)) [
-    | inl is ↦ subst (λ (b : Bool). Contains (cond b (y ∷ filter test ys) (filter test ys)) x) (sym is) (has_later y x (filter test ys) rest)
-    | inr is ↦ subst (λ (b : Bool). Contains (cond b (y ∷ filter test ys) (filter test ys)) x) (sym is) rest
-  ]
+      | inl is ↦ subst (λ (b : Bool). Contains (cond b (y ∷ filter test ys) (filter test ys)) x) (sym is) (has_later y x (filter test ys) rest)
+      | inr is ↦ subst (λ (b : Bool). Contains (cond b (y ∷ filter test ys) (filter test ys)) x) (sym is) rest
+    ]
 
 -- ---- places
 
@@ -77,10 +77,10 @@ all_numbers test P n (k ∷ ks) each =
     let rest : AllByRecursion P (numbers test (n + 1) ks) = all_numbers test P (n + 1) ks (λ i h passes. (let at : n + suc i ≡ n + 1 + i = omega arith in subst P at (each (suc i) (omega arith) passes))) in
     let first : n + 0 ≡ n = omega arith in
     elim (cases_Bool (test k)) [
-    | inl passes ↦ subst (λ (b : Bool). AllByRecursion P (if b then n ∷ numbers test (n + 1) ks else numbers test (n + 1) ks)) (sym passes)
-    (subst P first (each 0 (omega arith) passes), rest)
-    | inr fails ↦ subst (λ (b : Bool). AllByRecursion P (if b then n ∷ numbers test (n + 1) ks else numbers test (n + 1) ks)) (sym fails) rest
-  ]
+      | inl passes ↦ subst (λ (b : Bool). AllByRecursion P (if b then n ∷ numbers test (n + 1) ks else numbers test (n + 1) ks)) (sym passes)
+          (subst P first (each 0 (omega arith) passes), rest)
+      | inr fails ↦ subst (λ (b : Bool). AllByRecursion P (if b then n ∷ numbers test (n + 1) ks else numbers test (n + 1) ks)) (sym fails) rest
+    ]
 
 -- ---- phases
 
@@ -117,18 +117,18 @@ none_listed = []
 
 pub listed_held : WhatIsListedIsHeld
 listed_held t o f p has = elim (cases_Bool (is_sealed (frame_at t.drive.frames f).phase)) [
-    | inl passes ↦ (let test : Place → Bool = λ q. is_of o (held_at t q) in
-        let g : ℕ = (frame_at t.drive.frames f).generation in
-        let Q : Place → Type 0 = λ q. (q.frame ≡ f) × (q.generation ≡ g) × (1 ≤ q.block) × (q.block ≤ 15) in
-        let whole : AllByRecursion Q (whole_of t f) = all_places Q f g 1 15 (λ k low high. (refl, refl, low, omega arith)) in
-        let all : AllByRecursion (IsListed t o f) (filter test (whole_of t f)) = all_passed Q (IsListed t o f) test
-        (λ q is held. record { frame = is.0; generation = is.1; payload = (is.2, is.3); sealed = passes; held = held }) (whole_of t f) whole in
-        let here : Contains (filter test (whole_of t f)) p = subst (λ (b : Bool). Contains (if b then filter test (whole_of t f) else []) p) passes has in
-        All-contains (IsListed t o f) _ p (All-from_recursion (IsListed t o f) _ all) here)
-    | inr fails ↦ (let here : Contains none_listed p = subst (λ (b : Bool). Contains (if b then filter (λ q. is_of o (held_at t q)) (whole_of t f) else []) p) fails has in
-        let none : here.0 < 0 = here.1 in
-        absurd (omega arith))
-  ]
+  | inl passes ↦ (let test : Place → Bool = λ q. is_of o (held_at t q) in
+      let g : ℕ = (frame_at t.drive.frames f).generation in
+      let Q : Place → Type 0 = λ q. (q.frame ≡ f) × (q.generation ≡ g) × (1 ≤ q.block) × (q.block ≤ 15) in
+      let whole : AllByRecursion Q (whole_of t f) = all_places Q f g 1 15 (λ k low high. (refl, refl, low, omega arith)) in
+      let all : AllByRecursion (IsListed t o f) (filter test (whole_of t f)) = all_passed Q (IsListed t o f) test
+      (λ q is held. record { frame = is.0; generation = is.1; payload = (is.2, is.3); sealed = passes; held = held }) (whole_of t f) whole in
+      let here : Contains (filter test (whole_of t f)) p = subst (λ (b : Bool). Contains (if b then filter test (whole_of t f) else []) p) passes has in
+      All-contains (IsListed t o f) _ p (All-from_recursion (IsListed t o f) _ all) here)
+  | inr fails ↦ (let here : Contains none_listed p = subst (λ (b : Bool). Contains (if b then filter (λ q. is_of o (held_at t q)) (whole_of t f) else []) p) fails has in
+      let none : here.0 < 0 = here.1 in
+      absurd (omega arith))
+]
 
 of_some : (o : ℕ) (held : Option Stored) → is_of o held ≡ true → IsSome held
 of_some o None e = absurd (cc)
@@ -157,6 +157,6 @@ few_outside (s ∷ ss) (suc f) h = few_outside ss f (omega arith)
 pub lists_fit : (t : Table) → length t.slots ≡ length t.drive.frames → ((f : ℕ) → f < length t.drive.frames → IsFit f (frame_at t.drive.frames f) (slots_at t.slots f)) → ListsAllHeld t
 lists_fit t counted fit = lists_all t
     (λ f. elim (cases_lt f (length t.drive.frames)) [
-    | inl inside ↦ (fit f inside).few
-    | inr outside ↦ few_outside t.slots f (omega arith)
-  ])
+      | inl inside ↦ (fit f inside).few
+      | inr outside ↦ few_outside t.slots f (omega arith)
+    ])

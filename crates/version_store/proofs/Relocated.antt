@@ -30,7 +30,7 @@ pub record Moved (between moved : Log) (o : ℕ) (row next : Row) (kept : Option
   pub checkpoint : checkpoint_of moved.held o next ≡ checkpoint_with o row kept
   pub inode : (t : ℕ) → inode_of moved.held o next t ≡ inode_after (first_with o row kept entries) entries t
   pub orderly : (latest : ℕ) → IsOrderlyChain row.created latest (first_with o row kept entries) entries → IsFromTo 1 latest row.created
-    → MatchOption row.checkpoint (BeginsDead entries) (λ p. IsFromTo row.created latest row.checkpoint_moment) → IsOrderly moved.held o next latest
+      → MatchOption row.checkpoint (BeginsDead entries) (λ p. IsFromTo row.created latest row.checkpoint_moment) → IsOrderly moved.held o next latest
   pub fields : next ≡ record row { checkpoint = next.checkpoint; head = next.head; journal_bytes = entries_length entries; head_bytes = next.head_bytes }
   pub history : OnlyHistoryChanged o between.held moved.held
   pub takes : TakesPlaces (moved_blocks row entries) between moved

@@ -114,6 +114,7 @@ moved_are before between moved later o copies r d p = (there, back)
         let (q, new) = some_place (new_place r p) some in
         let of = copy_of before between moved later o copies r d p q new in
         (of.copy, (of.among, of.place))
+
     back : IsCopied copies p → IsSome (new_place r p)
     back (c, (among, is)) = subst (λ (x : Place). IsSome (new_place r x)) is (ap is_some (new_at before between moved later o copies r d c among) ∙ elim (d.appended.each c among) [
       | inl some ↦ some

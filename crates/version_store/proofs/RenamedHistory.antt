@@ -145,7 +145,7 @@ can_tell laws held o row r stands rules =
       same = same_kept r (checkpoint_of held o row) ∙ told_same (row.checkpoint_moment ≡ 0) row.checkpoint (checkpoint_held held o) (checkpoint_now held o row) stands.checkpoint;
       rules = rules_kept laws.rules o row r (checkpoint_of held o row) (checkpoint_now held o row) refl refl is rules;
       current = current_kept r (checkpoint_of held o row) (checkpoint_now held o row) (inode_after (first_with o row kept (renamed_entries r entries)) (renamed_entries r entries) row.checkpoint_moment) is
-      (sym (shown_renamed laws.blank laws.undo laws.by laws.shown held o row r row.checkpoint_moment));
+          (sym (shown_renamed laws.blank laws.undo laws.by laws.shown held o row r row.checkpoint_moment));
       run = subst (λ (i : Inode). Run i (renamed_entries r entries) (redone_all (renamed_entries r entries) i)) (sym start) run;
       groups = laws.groups r entries ∙ stands.groups;
       bytes = subst (λ n. n ≤ 11712) (sym (laws.bytes r entries)) stands.chain.limit;

@@ -13,8 +13,8 @@ mod changes;
 mod checkpoints;
 mod emptying;
 mod frames;
-mod relocations;
 mod pins;
+mod relocations;
 mod replacements;
 mod seals;
 
@@ -200,12 +200,6 @@ impl<B: Blocks> Store<B> {
         let Some(kept) = self.objects.get(object) else {
             unreachable!()
         };
-        inode::read(
-            self.alloc,
-            &mut self.table,
-            &kept.value.inode,
-            offset,
-            len,
-        )
+        inode::read(self.alloc, &mut self.table, &kept.value.inode, offset, len)
     }
 }
