@@ -13,10 +13,13 @@ mod cleaning;
 mod entries;
 mod frames;
 pub mod laws;
+mod passes;
+mod places;
 mod rounds;
 mod sight;
 
 pub use cleaner::Cleaner;
 pub use cleaning::clean_object;
 pub use frames::empty_frames;
+pub use passes::{PassReport, full_pass};
 pub use rounds::{Rounds, Turn};
