@@ -10,3 +10,4 @@ pub mod Holding
 pub mod Sweeping
 pub mod Few
 pub mod Passing
+pub mod Rising
