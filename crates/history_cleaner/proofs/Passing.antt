@@ -6,7 +6,7 @@ use Rattle.std.proofs.lemmas.Bool.{cases_lt, ne_eqb, false≢true}
 use Rattle.std.proofs.lemmas.Option.{none-some, same_Some}
 use Rattle.s4_types.specs.Pointer.{Place}
 use Rattle.s4_types.specs.declared.refusals.Refusal.{Refusal}
-use Rattle.s4_types.specs.declared.refusals.Refusal.TheVariants.{NoMemory, NoRoom}
+use Rattle.s4_types.specs.declared.refusals.Refusal.TheVariants.{NoMemory, NoRoom, InUse}
 use Rattle.s4_types.specs.declared.versions.Version.TheVariants.{Absent}
 use Rattle.block_log.specs.declared.kinds.BlockKind.TheVariants.{Journal, Data}
 use Rattle.block_log.specs.Log.{Stored, of_kind}
@@ -26,52 +26,39 @@ use Rattle.version_store.specs.Versions.{inode_in, version_in}
 use Rattle.drive.specs.Fields.{DriveFields, state_in, store_of}
 use Rattle.drive.specs.Keeping.{KeepsVersions}
 use Rattle.history_cleaner.specs.Cleaning.{IsUntouched, OthersStay, IsSeenThroughout, IsClean, IsUnseen, HasNoRoom}
-use Rattle.history_cleaner.specs.Passing.{is_other, is_gone, has_other_row, has_lost_row, IsCount, IsCleaned, StoppedAt}
+use Rattle.history_cleaner.specs.Passing.{is_other, is_gone, has_other_row, has_lost_row, IsCount, IsCleaned, StoppedAt, StoppedAtReader}
+use Rattle.history_cleaner.specs.Emptying.{HasFoundReader, KeepsObjects}
 use Rattle.history_cleaner.specs.Reaching.{IsReached, HoldsWhatIsReached, HeldIsWhatIsReached, RowTellsOfSeenPlaces}
 use Rattle.history_cleaner.specs.private.Counting.{NamesPlaces}
+use Rattle.history_cleaner.proofs.Emptied.{tally, count_alike, count_more}
 use Rattle.history_cleaner.proofs.Few.{HasBlock, few_with_blocks, row_block}
 
 -- ---- counts over a range of numbers
-
-count_more : (p : ℕ → Bool) (a n j : ℕ) → a + n ≡ j → count_by p (range_with_len a (suc n)) ≡ count_by p (range_with_len a n) + cond (p j) 1 0
-count_more p a zero j e =
-    let same : a ≡ j = omega (arith, e) in
-    subst (λ (x : ℕ). cond (p a) 1 0 + 0 ≡ 0 + cond (p x) 1 0) same (omega arith)
-count_more p a (suc n) j e =
-    let later : count_by p (range_with_len (a + 1) (suc n)) ≡ count_by p (range_with_len (a + 1) n) + cond (p j) 1 0 = count_more p (a + 1) n j (omega (arith, e)) in
-    omega (arith, later)
-
-same_count : (p r : ℕ → Bool) (a n : ℕ) → ((q : ℕ) → a ≤ q → q < a + n → p q ≡ r q) → count_by p (range_with_len a n) ≡ count_by r (range_with_len a n)
-same_count p r a zero agree = refl
-same_count p r a (suc n) agree =
-    let here : cond (p a) 1 0 ≡ cond (r a) 1 0 = ap (λ (b : Bool). cond b 1 0) (agree a (omega arith) (omega arith)) in
-    let later : count_by p (range_with_len (a + 1) n) ≡ count_by r (range_with_len (a + 1) n) = same_count p r (a + 1) n (λ q low high. agree q (omega (arith, low)) (omega (arith, high))) in
-    omega (arith, here, later)
 
 none_more : (p : ℕ → Bool) (b n : ℕ) → ((q : ℕ) → b ≤ q → q < b + n → p q ≡ false) → count_by p (range_with_len 0 (b + n)) ≡ count_by p (range_with_len 0 b)
 none_more p b zero none =
     let same : b + zero ≡ b = omega arith in
     ap (λ (x : ℕ). count_by p (range_with_len 0 x)) same
 none_more p b (suc n) none =
-    let same : b + suc n ≡ suc (b + n) = omega arith in
+    let same : b + suc n ≡ (b + n) + 1 = omega arith in
     let before : count_by p (range_with_len 0 (b + n)) ≡ count_by p (range_with_len 0 b) = none_more p b n (λ q low high. none q low (omega (arith, high))) in
-    let more : count_by p (range_with_len 0 (suc (b + n))) ≡ count_by p (range_with_len 0 (b + n)) + cond (p (b + n)) 1 0 = count_more p 0 (b + n) (b + n) (omega arith) in
-    let last : cond (p (b + n)) 1 0 ≡ 0 = ap (λ (x : Bool). cond x 1 0) (none (b + n) (omega arith) (omega arith)) in
-    ap (λ (x : ℕ). count_by p (range_with_len 0 x)) same ∙ omega (arith, before, more, last)
+    let more : count_by p (range_with_len 0 ((b + n) + 1)) ≡ count_by p (range_with_len 0 (b + n)) + tally (p (b + n)) = count_more p p (b + n) (λ k below. refl) in
+    let last : tally (p (b + n)) ≡ 0 = ap tally (none (b + n) (omega arith) (omega arith)) in
+    let sum : count_by p (range_with_len 0 ((b + n) + 1)) ≡ count_by p (range_with_len 0 b) = omega (arith, before, more, last) in
+    ap (λ (x : ℕ). count_by p (range_with_len 0 x)) same ∙ sum
 
 -- up to one number a test holds of as many as another, between it and a next one of none
 count_step : (p later : ℕ → Bool) (o next : ℕ) → o < next → ((q : ℕ) → q ≤ o → later q ≡ p q) → ((q : ℕ) → o < q → q < next → later q ≡ false)
-    → count_by later (range_with_len 0 (next + 1)) ≡ count_by p (range_with_len 0 (o + 1)) + cond (later next) 1 0
+    → count_by later (range_with_len 0 (next + 1)) ≡ count_by p (range_with_len 0 (o + 1)) + tally (later next)
 count_step p later o next above agree none =
-    let behind : next + 1 ≡ suc next = omega arith in
     let here : next ≡ (o + 1) + (next - (o + 1)) = omega (arith, above) in
-    let more : count_by later (range_with_len 0 (suc next)) ≡ count_by later (range_with_len 0 next) + cond (later next) 1 0 = count_more later 0 next next (omega arith) in
+    let more : count_by later (range_with_len 0 (next + 1)) ≡ count_by later (range_with_len 0 next) + tally (later next) = count_more later later next (λ k below. refl) in
     let between : count_by later (range_with_len 0 ((o + 1) + (next - (o + 1)))) ≡ count_by later (range_with_len 0 (o + 1)) = none_more later (o + 1) (next - (o + 1)) (λ q low high. none q (omega (arith, low)) (omega (arith, high, above))) in
     let up : count_by later (range_with_len 0 next) ≡ count_by later (range_with_len 0 (o + 1)) = ap (λ (x : ℕ). count_by later (range_with_len 0 x)) here ∙ between in
-    let before : count_by later (range_with_len 0 (o + 1)) ≡ count_by p (range_with_len 0 (o + 1)) = same_count later p 0 (o + 1) (λ q low high. agree q (omega (arith, high))) in
-    ap (λ (x : ℕ). count_by later (range_with_len 0 x)) behind ∙ omega (arith, more, up, before)
+    let before : count_by later (range_with_len 0 (o + 1)) ≡ count_by p (range_with_len 0 (o + 1)) = count_alike later p 0 (o + 1) (λ q low high. agree q (omega (arith, high))) in
+    omega (arith, more, up, before)
 
-one_more : (b : Bool) (n m : ℕ) → m ≡ cond b (n + 1) n → m ≡ n + cond b 1 0
+one_more : (b : Bool) (n m : ℕ) → m ≡ cond b (n + 1) n → m ≡ n + tally b
 one_more true n m is = is
 one_more false n m is = is ∙ omega arith
 
@@ -136,24 +123,24 @@ bare_cleaned reached s later state o store none = record {
 -- ---- the pass
 
 -- All objects up to one were cleaned, and their rows counted; those above are as they were. Those up to it that had a row had a block.
-pub record HasPassed (d later : DriveFields) (o rewritten removed : ℕ) : Type 0 where
+pub record HasPassed (d later : DriveFields) (o n m : ℕ) : Type 0 where
   pub cleaned : (q : ℕ) → q ≤ o → IsCleaned (store_of d) (store_of later) (state_in d) q
   pub rest : (q : ℕ) → o < q → IsUntouched (store_of d) (store_of later) q
   pub blocks : (q : ℕ) → q ≤ o → IsSome (row_of d.store.rows q) → HasBlock d.store.table q
-  pub rewritten : rewritten ≡ count_by (has_other_row d.store.rows later.store.rows) (range_with_len 0 (o + 1))
-  pub removed : removed ≡ count_by (has_lost_row d.store.rows later.store.rows) (range_with_len 0 (o + 1))
-  pub few_rewritten : rewritten ≤ 1048576
-  pub few_removed : removed ≤ 1048576
+  pub rewritten : n ≡ count_by (has_other_row d.store.rows later.store.rows) (range_with_len 0 (o + 1))
+  pub removed : m ≡ count_by (has_lost_row d.store.rows later.store.rows) (range_with_len 0 (o + 1))
+  pub few_rewritten : n ≤ 1048576
+  pub few_removed : m ≤ 1048576
   pub store : IsStore (store_of later)
   pub ledger : later.ledger ≡ d.ledger
   pub needed : KeepsVersions (state_in d) (store_of d) (store_of later)
 
 -- an object was cleaned, and counted
-pub record HasStepped (d later : DriveFields) (o rewritten removed more lost : ℕ) : Type 0 where
+pub record HasStepped (d later : DriveFields) (o n m more lost : ℕ) : Type 0 where
   pub cleaned : IsCleaned (store_of d) (store_of later) (state_in d) o
   pub others : OthersStay (store_of d) o (store_of later)
-  pub rewritten : more ≡ cond (is_other (row_of d.store.rows o) (row_of later.store.rows o)) (rewritten + 1) rewritten
-  pub removed : lost ≡ cond (is_gone (row_of d.store.rows o) (row_of later.store.rows o)) (removed + 1) removed
+  pub rewritten : more ≡ cond (is_other (row_of d.store.rows o) (row_of later.store.rows o)) (n + 1) n
+  pub removed : lost ≡ cond (is_gone (row_of d.store.rows o) (row_of later.store.rows o)) (m + 1) m
   pub store : IsStore (store_of later)
   pub ledger : later.ledger ≡ d.ledger
   pub needed : KeepsVersions (state_in d) (store_of d) (store_of later)
@@ -175,14 +162,14 @@ pub begun : HeldIsWhatIsReached → (d : DriveFields) → IsStore (store_of d) �
 begun reached d store =
     let rows : List (ℕ × Row) = d.store.rows in
     let none : row_of rows 0 ≡ None = no_row (store_of d) (row_of rows 0) store refl in
-    let other : 0 ≡ cond (has_other_row rows rows 0) 1 0 = sym (ap (λ (r : Option Row). cond (is_other r (row_of rows 0)) 1 0) none) in
-    let lost : 0 ≡ cond (has_lost_row rows rows 0) 1 0 = sym (ap (λ (r : Option Row). cond (is_gone r (row_of rows 0)) 1 0) none) in
+    let other : tally (has_other_row rows rows 0) ≡ 0 = ap (λ (r : Option Row). tally (is_other r (row_of rows 0))) none in
+    let lost : tally (has_lost_row rows rows 0) ≡ 0 = ap (λ (r : Option Row). tally (is_gone r (row_of rows 0))) none in
     record {
       cleaned = λ q le. subst (IsCleaned (store_of d) (store_of d) (state_in d)) (is_zero q le) (bare_cleaned reached (store_of d) (store_of d) (state_in d) 0 store none);
       rest = λ q above. touched_none (store_of d) q;
       blocks = λ q le some. absurd (some_not (row_of rows 0) none (subst (λ (x : ℕ). IsSome (row_of rows x)) (sym (is_zero q le)) some));
-      rewritten = omega (arith, other);
-      removed = omega (arith, lost);
+      rewritten = omega (arith, other, count_more (has_other_row rows rows) (has_other_row rows rows) 0 (λ k below. refl));
+      removed = omega (arith, lost, count_more (has_lost_row rows rows) (has_lost_row rows rows) 0 (λ k below. refl));
       few_rewritten = omega arith;
       few_removed = omega arith;
       store = store;
@@ -220,12 +207,12 @@ counted_on p none d mid later o next n more is others rest so here =
     let old : ℕ → Bool = λ q. p (row_of d.store.rows q) (row_of mid.store.rows q) in
     let new : ℕ → Bool = λ q. p (row_of d.store.rows q) (row_of later.store.rows q) in
     let stays : (q : ℕ) → q < next → row_of later.store.rows q ≡ row_of mid.store.rows q = λ q below. (others q (ne_eqb next q (λ same. absurd (omega (arith, same, below))))).row in
-    let counted : count_by new (range_with_len 0 (next + 1)) ≡ count_by old (range_with_len 0 (o + 1)) + cond (new next) 1 0 =
+    let counted : count_by new (range_with_len 0 (next + 1)) ≡ count_by old (range_with_len 0 (o + 1)) + tally (new next) =
         count_step old new o next above
         (λ q le. ap (λ (r : Option Row). p (row_of d.store.rows q) r) (stays q (omega (arith, le, above))))
         (λ q low high. test_none p none (row_of d.store.rows q) (row_of later.store.rows q) (sym (rest q low).row ∙ is.least q low high)) in
-    let added : more ≡ n + cond (p (row_of mid.store.rows next) (row_of later.store.rows next)) 1 0 = one_more (p (row_of mid.store.rows next) (row_of later.store.rows next)) n more here in
-    let same : cond (p (row_of mid.store.rows next) (row_of later.store.rows next)) 1 0 ≡ cond (new next) 1 0 = ap (λ (r : Option Row). cond (p r (row_of later.store.rows next)) 1 0) (rest next above).row in
+    let added : more ≡ n + tally (p (row_of mid.store.rows next) (row_of later.store.rows next)) = one_more (p (row_of mid.store.rows next) (row_of later.store.rows next)) n more here in
+    let same : tally (p (row_of mid.store.rows next) (row_of later.store.rows next)) ≡ tally (new next) = ap (λ (r : Option Row). tally (p r (row_of later.store.rows next))) (rest next above).row in
     omega (arith, counted, added, same, so)
 
 -- the object itself, by the drive before the pass
@@ -312,4 +299,26 @@ stopped reached d mid later o next n m e so is stays why = subst (λ (x : StoreF
       let above : o < next = is.above in
       so.rest q (omega (arith, le, above));
   why = subst (λ (x : State). (e ≡ NoMemory) ⊎ ((e ≡ NoRoom) × HasNoRoom (store_of mid) x next)) (state_stays d mid so.ledger) why;
+})
+
+-- ---- the frames are emptied
+
+kept_untouched : (s later : StoreFields) (o : ℕ) → KeepsObjects s later → IsUntouched s later o
+kept_untouched s later o kept = record {
+  row = ap (λ (rows : List (ℕ × Row)). row_of rows o) kept.rows;
+  blocks = λ kind. ap (of_kind kind o) kept.held;
+  inodes = λ t. kept.inodes o t;
+}
+
+-- what was cleaned stays cleaned
+pub all_kept : (s mid later : StoreFields) (state : State) → ((o : ℕ) → IsCleaned s mid state o) → KeepsObjects mid later → (o : ℕ) → IsCleaned s later state o
+all_kept s mid later state all kept o = cleaned_stays s mid later state o (kept_untouched mid later o kept) (all o)
+
+pub stopped_at_reader : (d mid later : DriveFields) (e : Refusal) → ((o : ℕ) → IsCleaned (store_of d) (store_of mid) (state_in d) o) → KeepsObjects (store_of mid) (store_of later) → (e ≡ InUse) × HasFoundReader mid.store.table.drive later.store.table.drive
+    → StoppedAt (store_of d) (store_of later) (state_in d) e ⊎ StoppedAtReader d later e
+stopped_at_reader d mid later e all kept found = inr (record {
+  refusal = found.0;
+  all = all_kept (store_of d) (store_of mid) (store_of later) (state_in d) all kept;
+  since = mid.store.table.drive;
+  reader = found.1;
 })
