@@ -23,6 +23,7 @@ mod drive;
 mod flushes;
 mod holdings;
 mod new_drive;
+mod pins;
 mod plans;
 mod reads;
 mod replacements;

@@ -13,3 +13,4 @@ pub mod Owned
 pub mod Vacating
 pub mod Emptying
 pub mod Freeing
+pub mod Listing

@@ -3,4 +3,5 @@ pub mod Table
 pub mod Room
 pub mod Sealing
 pub mod Changes
+pub mod Laws
 pub mod private

@@ -13,6 +13,7 @@
 //! generation, 2^32 - 1, are retired.
 #![tactic(auto)]
 
+pub mod laws;
 mod seals;
 mod segments;
 mod slots;

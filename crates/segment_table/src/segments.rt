@@ -8,7 +8,7 @@ ghost use Rattle.segment_word.specs.Frames.{Pinned, is_sealed, is_emptied};
 ghost use Rattle.segment_word.specs.Frames.Phase.{Open, Sealed, Emptied};
 ghost use Rattle.segment_word.specs.Layout.{frame_at, block_bytes};
 ghost use Rattle.segment_word.specs.Counting.{pins_in};
-ghost use Rattle.segment_word.specs.FrameRule.{AllAgree};
+ghost use Rattle.segment_word.specs.FrameRule.{AllAgree, AllRemembered};
 ghost use Rattle.segment_word.specs.Handles.{fresh_frame, IsAmong, pin_of, HasMissed};
 ghost use Rattle.segment_table.specs.Table.{Table, slots_at, held_at, HoldsWholeBlocks, is_of, part_of};
 ghost use Rattle.segment_table.specs.Room.{is_filling, can_open, numbers, rest_of, places_ahead, places_spent, log_of, pointers_in};
@@ -22,7 +22,7 @@ use block_log::Block;
 use codec::Part;
 use s4_types::limits::PAYLOAD_BLOCKS;
 use s4_types::{ObjectId, Ptr, Refusal};
-use segment_word::{DriveSeat, Pin};
+use segment_word::{DriveSeat, Memory, Pin};
 use std::alloc::Global;
 use std::marker::Model;
 
@@ -323,6 +323,29 @@ impl Segments {
     {
         let number = frame as usize;
         number < self.slots.len() && self.seat.is_emptied(number)
+    }
+
+    /// The generation of a frame, and none where it isn't there.
+    pub fn generation(&mut self, frame: u16) -> Option<u32>
+        ensures inside { IfSome result (λ g. frame < length self.old.drive.frames) }
+        ensures generation { IfSome result (λ g. g ≡ (frame_at self.old.drive.frames frame).generation) }
+        ensures outside { IfNone result (length self.old.drive.frames ≤ frame) }
+        ensures same { self.new ≡ self.old }
+    {
+        let number = frame as usize;
+        if number < self.slots.len() {
+            return Some(self.seat.generation(number));
+        }
+        None
+    }
+
+    /// Shows what is true of what is remembered of these frames.
+    pub fn recall(&mut self, memory: &mut Memory)
+        requires { memory.old.table ≡ self.old.drive.table }
+        ensures remembered { AllRemembered self.old.drive.frames memory.old.remembered }
+        ensures same { (self.new ≡ self.old) × (memory.new ≡ memory.old) }
+    {
+        self.seat.recall(memory);
     }
 
     /// A sealed frame of which no block is held is being emptied from now on.

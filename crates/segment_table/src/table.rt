@@ -1,5 +1,5 @@
 //! The segment table: blocks behind pointers, the sealing of frames, and pins that count on them.
-ghost use Rattle.std.specs.Prelude.{◌≡◌, ◌≢◌, ℕ, ◌+◌, ◌^◌, ◌<◌, ◌≤◌, ◌⊎◌, [], ◌∷◌, ◌++◌, length, map, replicate, Some, None, IsSome, IfSome, IfOk, IfErr, OnOk, OnErr, IsOk, MatchBool, option_map};
+ghost use Rattle.std.specs.Prelude.{◌≡◌, ◌≢◌, ℕ, ◌+◌, ◌^◌, ◌<◌, ◌≤◌, ◌⊎◌, [], ◌∷◌, ◌++◌, length, map, replicate, Some, None, IsSome, IfSome, IfNone, IfOk, IfErr, OnOk, OnErr, IsOk, MatchBool, option_map};
 ghost use Rattle.s4_types.specs.Sizes.{IsFrameCount};
 ghost use Rattle.s4_types.specs.Pointer.{Place};
 ghost use Rattle.s4_types.specs.declared.refusals.Refusal.TheVariants.{NoMemory, Busy, NoSpace, InUse};
@@ -8,10 +8,11 @@ ghost use Rattle.segment_word.specs.Frames.{Pinned, is_emptied};
 ghost use Rattle.segment_word.specs.Frames.Phase.{Open, Sealed, Emptied};
 ghost use Rattle.segment_word.specs.Layout.{frame_at, block_bytes};
 ghost use Rattle.segment_word.specs.Counting.{pins_in};
-ghost use Rattle.segment_word.specs.FrameRule.{AllAgree};
+ghost use Rattle.segment_word.specs.FrameRule.{AllAgree, AllRemembered};
 ghost use Rattle.segment_word.specs.Handles.{fresh_frame, IsAmong, pin_of, HasMissed};
 ghost use Rattle.segment_table.specs.Table.{Table, slots_at, held_at, HoldsWholeBlocks, part_of};
 ghost use Rattle.segment_table.specs.Room.{is_filling, numbers, rest_of, places_ahead, log_of, new_places, pointers_in};
+ghost use Rattle.segment_table.specs.Laws.{ListsAllHeld};
 ghost use Rattle.segment_table.specs.Sealing.{IsFit, IsPartFilled};
 ghost use Rattle.segment_table.specs.Changes.{IsFilling, NoneIsFilling, IsAppended, IsSealedIn, NoneHeld, IsMarked, IsReleased, IsAheadAgain};
 
@@ -19,7 +20,7 @@ use crate::segments::Segments;
 use block_log::{Block, BlockKind, Blocks};
 use codec::Part;
 use s4_types::{ObjectId, Ptr, Refusal};
-use segment_word::{Frames, Pin};
+use segment_word::{Frames, Memory, Pin};
 use std::alloc::Global;
 use std::marker::Model;
 
@@ -87,6 +88,33 @@ impl SegmentTable {
         ensures same { self.new ≡ self.old }
     {
         self.segments.is_emptied(frame)
+    }
+
+    /// Shows that `held_in` lists each held block of an object in a sealed frame.
+    pub fn listings(&self)
+        ensures { ListsAllHeld self.now }
+    {
+        self.segments.rules();
+    }
+
+    /// The generation of a frame, and none where it isn't there.
+    pub fn generation(&mut self, frame: u16) -> Option<u32>
+        ensures inside { IfSome result (λ g. frame < length self.old.drive.frames) }
+        ensures generation { IfSome result (λ g. g ≡ (frame_at self.old.drive.frames frame).generation) }
+        ensures outside { IfNone result (length self.old.drive.frames ≤ frame) }
+        ensures same { self.new ≡ self.old }
+    {
+        self.segments.generation(frame)
+    }
+
+    /// Shows what is true of what a memory of this table has: each of the frames has come to the generation that it had, and
+    /// while it is at that one, it is sealed or being emptied with the contents that it had.
+    pub fn recall(&mut self, memory: &mut Memory)
+        requires { memory.old.table ≡ self.old.drive.table }
+        ensures remembered { AllRemembered self.old.drive.frames memory.old.remembered }
+        ensures same { (self.new ≡ self.old) × (memory.new ≡ memory.old) }
+    {
+        self.segments.recall(memory);
     }
 
     /// Seals the open frame: zeros are stored in its unused blocks, and its summary in block 0. Without effect where none

@@ -1,26 +1,28 @@
 //! The segment table of the drive that a type names.
-ghost use Rattle.std.specs.Prelude.{◌≡◌, ◌≢◌, ℕ, ◌<◌, ◌≤◌, ◌+◌, ◌-◌, ◌^◌, ◌↔◌, ◌⊎◌, ◌++◌, true, false, Some, None, length, min, take, drop, IsSome, IsOk, IfSome, IfOk, IfErr, OnOk, OnErr, MatchResult};
+ghost use Rattle.std.specs.Prelude.{◌≡◌, ◌≢◌, ℕ, ◌<◌, ◌≤◌, ◌+◌, ◌-◌, ◌^◌, ◌↔◌, ◌⊎◌, ◌++◌, true, false, [], ◌∷◌, Some, None, length, min, take, drop, option_map, IsSome, IsOk, IfSome, IfNone, IfOk, IfErr, OnOk, OnErr, MatchResult};
 ghost use Rattle.std.specs.List.{list_any};
 ghost use Rattle.s4_types.specs.declared.limits.TheConstants.{OBJECT_BLOCKS, OBJECT_BYTES};
 ghost use Rattle.s4_types.specs.declared.refusals.Refusal.TheVariants.{NoMemory, Busy, NoSpace, InUse};
 ghost use Rattle.block_log.specs.Log.{appended, dropped};
 ghost use Rattle.inode.specs.Contents.{contents_of, bytes_of};
 ghost use Rattle.inode.specs.Tidiness.{PointersLead};
-ghost use Rattle.segment_word.specs.Frames.{Emptied, is_emptied};
+ghost use Rattle.segment_word.specs.Frames.{Sealed, Emptied, is_emptied};
 ghost use Rattle.segment_word.specs.Layout.{frame_at};
 ghost use Rattle.segment_word.specs.Counting.{pins_in};
-ghost use Rattle.segment_word.specs.Handles.{HasMissed};
-ghost use Rattle.segment_table.specs.Table.{held_at, HoldsWholeBlocks};
+ghost use Rattle.segment_word.specs.FrameRule.{AllRemembered};
+ghost use Rattle.segment_word.specs.Handles.{HasMissed, pin_of};
+ghost use Rattle.segment_table.specs.Laws.{ListsAllHeld};
+ghost use Rattle.segment_table.specs.Table.{held_at, part_of, HoldsWholeBlocks};
 ghost use Rattle.segment_table.specs.Room.{is_filling, numbers, rest_of, places_ahead, log_of, pointers_in};
 ghost use Rattle.segment_table.specs.Changes.{IsFilling, NoneIsFilling, IsSealedIn, IsMarked, IsReleased, IsAheadAgain};
 ghost use Rattle.time_read.specs.Plans.{IsAt, pieces_of, bytes_planned, pins_held, is_pinned, is_pinned_in};
 ghost use Rattle.version_store.specs.Emptying.{CanBeEmptied};
 
 use block_log::{Block, BlockKind, Blocks};
-use codec::Inode;
+use codec::{Inode, Part};
 use s4_types::{ObjectId, Ptr, Refusal};
 use segment_table::SegmentTable;
-use segment_word::Naming;
+use segment_word::{Memory, Naming, Pin};
 use std::alloc::Global;
 use std::marker::{Model, PhantomData};
 use time_read::ReadPlan;
@@ -93,6 +95,63 @@ impl<J: Naming> NamedTable<J> {
         ensures same { self.new ≡ self.old }
     {
         self.table.is_emptied(frame)
+    }
+
+    /// `SegmentTable::listings`.
+    pub(crate) fn listings(&self)
+        ensures { ListsAllHeld self.now }
+    {
+        self.table.listings();
+    }
+
+    /// `SegmentTable::generation`.
+    pub(crate) fn generation(&mut self, frame: u16) -> Option<u32>
+        ensures inside { IfSome result (λ g. frame < length self.old.drive.frames) }
+        ensures generation { IfSome result (λ g. g ≡ (frame_at self.old.drive.frames frame).generation) }
+        ensures outside { IfNone result (length self.old.drive.frames ≤ frame) }
+        ensures same { self.new ≡ self.old }
+    {
+        self.table.generation(frame)
+    }
+
+    /// `SegmentTable::part`.
+    pub(crate) fn part(&mut self, place: Ptr) -> Option<Part>
+        ensures part { result ≡ option_map part_of (held_at self.old place) }
+        ensures same { self.new ≡ self.old }
+    {
+        self.table.part(place)
+    }
+
+    /// The bytes of a held block.
+    pub(crate) fn block(&mut self, place: Ptr) -> Block
+        requires { IsSome (held_at self.old place) }
+        ensures bytes { IfSome (held_at self.old place) (λ block. result ≡ block.bytes) }
+        ensures same { self.new ≡ self.old }
+    {
+        self.table.get(place)
+    }
+
+    /// A new pin that counts on the sealed frame of a held block, and on no other.
+    pub(crate) fn pin(&mut self, place: Ptr) -> Result<Pin, Refusal>
+        requires held { IsSome (held_at self.old place) }
+        requires sealed { (frame_at self.old.drive.frames place.frame).phase ≡ Sealed }
+        ensures table { IfOk result (λ pin. pin.table ≡ J.frames) }
+        ensures pinned { IfOk result (λ pin. pin.pins ≡ pin_of self.old.drive.frames place.frame ∷ []) }
+        ensures refusal { IfErr result (λ e. (e ≡ NoMemory) ⊎ (e ≡ Busy)) }
+        ensures same { self.new ≡ self.old }
+    {
+        let mut pin = self.table.pin()?;
+        self.table.count_on(&mut pin, place)?;
+        Ok(pin)
+    }
+
+    /// `SegmentTable::recall`.
+    pub(crate) fn recall(&mut self, memory: &mut Memory)
+        requires { memory.old.table ≡ J.frames }
+        ensures remembered { AllRemembered self.old.drive.frames memory.old.remembered }
+        ensures same { (self.new ≡ self.old) × (memory.new ≡ memory.old) }
+    {
+        self.table.recall(memory);
     }
 
     /// `SegmentTable::mark`.
