@@ -1,7 +1,7 @@
 use Rattle.std.proofs.Common.{subst}
 use Rattle.segment_word.specs.FrameRule.{AllRemembered}
 use Rattle.drive.specs.Fields.{DriveFields}
-use Rattle.drive.proofs.pins.Drive.recall.Goals as goal
+use Rattle.drive.proofs.drive.Drive.recall.Goals as goal
 
 pub returns-clause-remembered : goal.returns-clause-remembered
 returns-clause-remembered g c =
