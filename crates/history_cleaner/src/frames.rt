@@ -1,7 +1,8 @@
 //! Emptying the frames of a drive that hold nothing more.
-ghost use Rattle.std.specs.Prelude.{◌≡◌, ℕ, ◌^◌, ◌<◌, IfOk, IfErr, OnOk, length, count_by};
+ghost use Rattle.std.specs.Prelude.{◌≡◌, ℕ, ◌^◌, ◌<◌, IfOk, IfErr, OnOk, length, count_by, nat_lt};
 ghost use Rattle.std.specs.List.{range_with_len};
 ghost use Rattle.s4_types.specs.declared.refusals.Refusal.TheVariants.{InUse, NoMemory};
+ghost use Rattle.segment_word.specs.Layout.{frame_at};
 ghost use Rattle.drive.specs.Fields.{store_of};
 ghost use Rattle.history_cleaner.specs.Emptying.{AllVacated, frames_risen, HasFoundReader, KeepsObjects, MarkedBelow};
 ghost use Rattle.history_cleaner.specs.private.Emptying.{ReleasedBelow, generations_in, is_later};
@@ -59,6 +60,14 @@ pub fn empty_frames<J: Naming>(drive: &mut Drive<J>) -> Result<u32, Refusal>
     release_all(drive, count)
 }
 
+/// The generation of a frame, and 0 of one that isn't there.
+fn generation_of<J: Naming>(drive: &mut Drive<J>, frame: u16) -> u32
+    ensures generation { result ≡ (frame_at drive.old.store.table.drive.frames frame).generation }
+    ensures same { drive.new ≡ drive.old }
+{
+    drive.generation(frame).unwrap_or(0)
+}
+
 /// The generations of all frames, the first one's first.
 ///
 /// NoMemory alone, where the memory for them is refused.
@@ -67,15 +76,24 @@ pub(crate) fn note_generations<J: Naming>(
     drive: &mut Drive<J>,
 ) -> Result<Vec<u32>, Refusal>
     ensures noted { IfOk result (λ noted. noted.items ≡ generations_in drive.old.store.table.drive) }
+    ensures few { IfOk result (λ noted. length noted.items < 2 ^ 16) }
     ensures refusal { IfErr result (λ e. e ≡ NoMemory) }
     ensures same { drive.new ≡ drive.old }
 {
     let count = drive.frame_count();
     let mut noted = Vec::with_capacity(alloc, count as usize)?;
     for frame in 0..count {
-        noted.push(drive.generation(frame).unwrap_or(0))?;
+        noted.push(generation_of(drive, frame))?;
     }
     Ok(noted)
+}
+
+/// Whether a frame has a greater generation than one that was noted.
+fn is_later<J: Naming>(drive: &mut Drive<J>, frame: u16, noted: u32) -> bool
+    ensures later { result ≡ nat_lt noted (frame_at drive.old.store.table.drive.frames frame).generation }
+    ensures same { drive.new ≡ drive.old }
+{
+    noted < generation_of(drive, frame)
 }
 
 /// How many frames have a greater generation than was noted.
@@ -86,7 +104,7 @@ pub(crate) fn count_risen<J: Naming>(drive: &mut Drive<J>, noted: &[u32]) -> u32
 {
     let mut risen = 0;
     for frame in 0..noted.len() {
-        if drive.generation(frame as u16).unwrap_or(0) > noted[frame] {
+        if is_later(drive, frame as u16, noted[frame]) {
             risen += 1;
         }
     }
