@@ -1,13 +1,11 @@
 -- What holds of a pass over all objects that has come to one.
-use Rattle.std.proofs.Common.{◌≡◌, ◌⊎◌, ℕ, zero, suc, ◌+◌, ◌-◌, ◌<◌, ◌≤◌, ◌==◌, Bool, true, false, cond, Result, Ok, Err, inl, inr, List, [], Option, Some, None, IsSome, refl, sym, ap, subst, ◌∙◌, arith}
-use Rattle.std.specs.Prelude.{IfSome, IfErr, OnOk, OnErr, IfOk, count_by, unwrap_or}
+use Rattle.std.proofs.Common.{◌≡◌, ◌⊎◌, ℕ, zero, suc, ◌+◌, ◌-◌, ◌<◌, ◌≤◌, ◌==◌, Bool, true, false, cond, inl, inr, List, [], Option, Some, None, IsSome, refl, sym, ap, subst, ◌∙◌, arith}
+use Rattle.std.specs.Prelude.{IfSome, count_by, unwrap_or}
 use Rattle.std.specs.List.{range_with_len}
 use Rattle.std.proofs.lemmas.Bool.{cases_lt, ne_eqb, false≢true}
-use Rattle.std.proofs.lemmas.Option.{none-some, same_Some}
 use Rattle.s4_types.specs.Pointer.{Place}
 use Rattle.s4_types.specs.declared.refusals.Refusal.{Refusal}
 use Rattle.s4_types.specs.declared.refusals.Refusal.TheVariants.{NoMemory, NoRoom, InUse}
-use Rattle.s4_types.specs.declared.versions.Version.TheVariants.{Absent}
 use Rattle.block_log.specs.declared.kinds.BlockKind.TheVariants.{Journal, Data}
 use Rattle.block_log.specs.Log.{Stored, of_kind}
 use Rattle.codec.specs.Entry.{EntryFields}
@@ -22,10 +20,10 @@ use Rattle.s4_model.specs.State.{State, state_of}
 use Rattle.s4_model.specs.Visible.{IsVisible}
 use Rattle.version_store.specs.Store.{StoreFields, IsStore}
 use Rattle.version_store.specs.Laws.{HeldIsWhatRowsName}
-use Rattle.version_store.specs.Versions.{inode_in, version_in}
+use Rattle.version_store.specs.Versions.{inode_in}
 use Rattle.drive.specs.Fields.{DriveFields, state_in, store_of}
 use Rattle.drive.specs.Keeping.{KeepsVersions}
-use Rattle.history_cleaner.specs.Cleaning.{IsUntouched, OthersStay, IsSeenThroughout, IsClean, IsUnseen, HasNoRoom}
+use Rattle.history_cleaner.specs.Cleaning.{IsUntouched, OthersStay, IsSeenThroughout, IsClean, HasNoRoom}
 use Rattle.history_cleaner.specs.Passing.{is_other, is_gone, has_other_row, has_lost_row, IsCount, IsCleaned, StoppedAt, StoppedAtReader}
 use Rattle.history_cleaner.specs.Emptying.{HasFoundReader, KeepsObjects}
 use Rattle.history_cleaner.specs.Reaching.{IsReached, HoldsWhatIsReached, HeldIsWhatIsReached, RowTellsOfSeenPlaces}
@@ -208,9 +206,9 @@ counted_on p none d mid later o next n more is others rest so here =
     let new : ℕ → Bool = λ q. p (row_of d.store.rows q) (row_of later.store.rows q) in
     let stays : (q : ℕ) → q < next → row_of later.store.rows q ≡ row_of mid.store.rows q = λ q below. (others q (ne_eqb next q (λ same. absurd (omega (arith, same, below))))).row in
     let counted : count_by new (range_with_len 0 (next + 1)) ≡ count_by old (range_with_len 0 (o + 1)) + tally (new next) =
-        count_step old new o next above
-        (λ q le. ap (λ (r : Option Row). p (row_of d.store.rows q) r) (stays q (omega (arith, le, above))))
-        (λ q low high. test_none p none (row_of d.store.rows q) (row_of later.store.rows q) (sym (rest q low).row ∙ is.least q low high)) in
+    count_step old new o next above
+    (λ q le. ap (λ (r : Option Row). p (row_of d.store.rows q) r) (stays q (omega (arith, le, above))))
+    (λ q low high. test_none p none (row_of d.store.rows q) (row_of later.store.rows q) (sym (rest q low).row ∙ is.least q low high)) in
     let added : more ≡ n + tally (p (row_of mid.store.rows next) (row_of later.store.rows next)) = one_more (p (row_of mid.store.rows next) (row_of later.store.rows next)) n more here in
     let same : tally (p (row_of mid.store.rows next) (row_of later.store.rows next)) ≡ tally (new next) = ap (λ (r : Option Row). tally (p r (row_of later.store.rows next))) (rest next above).row in
     omega (arith, counted, added, same, so)
@@ -235,22 +233,22 @@ passed exact reached d mid later o next n m more lost store so is places step =
     let apart : (q : ℕ) → q < next → (next == q) ≡ false = λ q below. ne_eqb next q (λ same. absurd (omega (arith, same, below))) in
     let blocks : (q : ℕ) → q ≤ next → IsSome (row_of d.store.rows q) → HasBlock d.store.table q = λ q le some. elim (cases_lt q next) [
       | inr ge ↦ subst (HasBlock d.store.table) (same_number next q le ge)
-        (named_block exact d next (row_of d.store.rows next) store refl (subst (λ (r : Option Row). IfSome r NamesPlaces) (so.rest next above).row places) (subst (λ (x : ℕ). IsSome (row_of d.store.rows x)) (sym (same_number next q le ge)) some))
+          (named_block exact d next (row_of d.store.rows next) store refl (subst (λ (r : Option Row). IfSome r NamesPlaces) (so.rest next above).row places) (subst (λ (x : ℕ). IsSome (row_of d.store.rows x)) (sym (same_number next q le ge)) some))
       | inl below ↦ elim (cases_lt o q) [
-          | inl past ↦ absurd (some_not (row_of d.store.rows q) (sym (so.rest q past).row ∙ is.least q past below) some)
-          | inr old ↦ so.blocks q old some
-        ]
+        | inl past ↦ absurd (some_not (row_of d.store.rows q) (sym (so.rest q past).row ∙ is.least q past below) some)
+        | inr old ↦ so.blocks q old some
+      ]
     ] in
     let rewritten : more ≡ count_by (has_other_row d.store.rows later.store.rows) (range_with_len 0 (next + 1)) = counted_on is_other (λ r. refl) d mid later o next n more is step.others so.rest so.rewritten step.rewritten in
     let removed : lost ≡ count_by (has_lost_row d.store.rows later.store.rows) (range_with_len 0 (next + 1)) = counted_on is_gone (λ r. refl) d mid later o next m lost is step.others so.rest so.removed step.removed in
     record {
       cleaned = λ q le. elim (cases_lt q next) [
         | inr ge ↦ subst (IsCleaned (store_of d) (store_of later) state) (same_number next q le ge)
-          (cleaned_since (store_of d) (store_of mid) (store_of later) state next so.needed (subst (λ (x : State). IsCleaned (store_of mid) (store_of later) x next) same step.cleaned))
+            (cleaned_since (store_of d) (store_of mid) (store_of later) state next so.needed (subst (λ (x : State). IsCleaned (store_of mid) (store_of later) x next) same step.cleaned))
         | inl below ↦ cleaned_stays (store_of d) (store_of mid) (store_of later) state q (step.others q (apart q below)) (elim (cases_lt o q) [
-            | inl past ↦ bare_cleaned reached (store_of d) (store_of mid) state q so.store (is.least q past below)
-            | inr old ↦ so.cleaned q old
-          ])
+          | inl past ↦ bare_cleaned reached (store_of d) (store_of mid) state q so.store (is.least q past below)
+          | inr old ↦ so.cleaned q old
+        ])
       ];
       rest = λ q past. touched_by (store_of d) (store_of mid) (store_of later) q (so.rest q (omega (arith, past, above))) (step.others q (ne_eqb next q (λ same. absurd (omega (arith, same, past)))));
       blocks = blocks;

@@ -31,7 +31,7 @@ risen_since old new noted is =
     let count : length noted ≡ length frames = ap length is ∙ length-map-range_with_len (generation_at frames) 0 (length frames) in
     ap (λ (n : ℕ). count_by (is_later noted new.frames) (range_with_len 0 n)) count
     ∙ count_alike (is_later noted new.frames) (has_risen frames new.frames) 0 (length frames)
-        (λ k low high. ap (λ (g : ℕ). nat_lt g (generation_at new.frames k)) (ap (λ (xs : List ℕ). get_or xs k 0) is ∙ get_or-map-range_with_len (generation_at frames) 0 (length frames) k k 0 (omega (arith, high)) (omega arith)))
+    (λ k low high. ap (λ (g : ℕ). nat_lt g (generation_at new.frames k)) (ap (λ (xs : List ℕ). get_or xs k 0) is ∙ get_or-map-range_with_len (generation_at frames) 0 (length frames) k k 0 (omega (arith, high)) (omega arith)))
 
 -- how far the count has come
 pub record RisenSoFar (noted : List ℕ) (frames : List Frame) (f n : ℕ) : Type 0 where

@@ -6,7 +6,7 @@ use Rattle.version_store.specs.Store.{StoreFields}
 use Rattle.drive.specs.Fields.{state_in, store_of}
 use Rattle.history_cleaner.specs.Cleaning.{Cleans, OthersStay, IsUnseen}
 use Rattle.history_cleaner.specs.Reaching.{HoldsWhatIsReached}
-use Rattle.history_cleaner.proofs.Putting.{moved, others_same}
+use Rattle.history_cleaner.proofs.Putting.{moved}
 use Rattle.history_cleaner.proofs.cleaning.clean_object.Goals as goal
 
 pub returns-clause-cleaned : goal.returns-clause-cleaned

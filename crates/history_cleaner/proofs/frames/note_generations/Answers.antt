@@ -1,5 +1,4 @@
 use Rattle.std.proofs.Common.{rules, ◌≡◌, ◌<◌, ap, ◌∙◌}
-use Rattle.segment_word.specs.Frames.{Frame}
 use Rattle.drive.specs.Fields.{DriveFields}
 use Rattle.history_cleaner.proofs.Rising.{generation_at, noted_more, few_noted}
 use Rattle.history_cleaner.proofs.frames.note_generations.Goals as goal

@@ -1,10 +1,5 @@
-use Rattle.std.proofs.Common.{◌≡◌, ℕ, Option, Some, refl, sym, ap, subst, ◌∙◌}
-use Rattle.std.specs.Prelude.{IfSome}
+use Rattle.std.proofs.Common.{ℕ, sym, subst}
 use Rattle.std.proofs.lemmas.Result.{err_from_is_err_and}
-use Rattle.object_map.specs.declared.map.Row.{Row}
-use Rattle.object_map.specs.Objects.{IsNextAbove}
-use Rattle.object_map.specs.Rows.{row_of}
-use Rattle.drive.specs.Fields.{DriveFields, state_in, store_of}
 use Rattle.history_cleaner.proofs.Passing.{HasPassed, HasStepped, begun, passed, stopped, all_cleaned, others_counted, lost_counted}
 use Rattle.history_cleaner.proofs.passes.clean_all.Goals as goal
 

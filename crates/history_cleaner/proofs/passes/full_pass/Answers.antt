@@ -1,8 +1,8 @@
-use Rattle.std.proofs.Common.{◌≡◌, ◌<◌, ◌^◌, ℕ, List, length, sym, subst, ◌∙◌}
+use Rattle.std.proofs.Common.{◌≡◌, ◌<◌, ℕ, List, length, sym, subst, ◌∙◌}
 use Rattle.std.specs.Prelude.{count_by}
 use Rattle.std.specs.List.{range_with_len}
 use Rattle.std.proofs.lemmas.Result.{err_from_is_err_and}
-use Rattle.drive.specs.Fields.{DriveFields, state_in, store_of}
+use Rattle.drive.specs.Fields.{DriveFields}
 use Rattle.history_cleaner.specs.Emptying.{frames_risen}
 use Rattle.history_cleaner.specs.private.Emptying.{generations_in, is_later}
 use Rattle.history_cleaner.proofs.Rising.{risen_since}
@@ -25,6 +25,6 @@ returns-clause-released g c =
     let old = c.args.drive.now.store.table.drive in
     let noted : c.as_slice.result.now ≡ generations_in old = c.as_slice.ensures.value ∙ c.in_ok-before.ensures.noted in
     let later : count_by (is_later c.as_slice.result.now c.clean_and_empty.new.drive.store.table.drive.frames) (range_with_len 0 (length c.as_slice.result.now)) ≡ frames_risen old c.clean_and_empty.new.drive.store.table.drive =
-        risen_since old c.clean_and_empty.new.drive.store.table.drive c.as_slice.result.now noted in
+    risen_since old c.clean_and_empty.new.drive.store.table.drive c.as_slice.result.now noted in
     let counted : c.count_risen.result ≡ frames_risen old c.clean_and_empty.new.drive.store.table.drive = subst (λ (n : ℕ). c.count_risen.result ≡ n) later c.count_risen.ensures.risen in
     subst (λ (d : DriveFields). c.count_risen.result ≡ frames_risen old d.store.table.drive) (sym c.count_risen.ensures.same) counted
