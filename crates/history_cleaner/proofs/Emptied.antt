@@ -141,10 +141,10 @@ mark_step (Err e) f old d new sofar marked answer refused same ledger = record {
 abbrev pub tally : Bool → ℕ
 tally b = cond b 1 0
 
-count_first : (p : ℕ → Bool) (a n : ℕ) → count_by p (range_with_len a (suc n)) ≡ tally (p a) + count_by p (range_with_len (a + 1) n)
+pub count_first : (p : ℕ → Bool) (a n : ℕ) → count_by p (range_with_len a (suc n)) ≡ tally (p a) + count_by p (range_with_len (a + 1) n)
 count_first p a n = sum_by-cons (λ (x : ℕ). tally (p x)) a (range_with_len (a + 1) n)
 
-count_alike : (p q : ℕ → Bool) (a n : ℕ) → ((k : ℕ) → a ≤ k → k < a + n → p k ≡ q k) → count_by p (range_with_len a n) ≡ count_by q (range_with_len a n)
+pub count_alike : (p q : ℕ → Bool) (a n : ℕ) → ((k : ℕ) → a ≤ k → k < a + n → p k ≡ q k) → count_by p (range_with_len a n) ≡ count_by q (range_with_len a n)
 count_alike p q a zero alike = refl
 count_alike p q a (suc n) alike =
     count_first p a n

@@ -8,3 +8,6 @@ pub mod Emptied
 pub mod Reached
 pub mod Holding
 pub mod Sweeping
+pub mod Few
+pub mod Passing
+pub mod Rising

@@ -1,9 +1,9 @@
 -- What is read of an object before it is cleaned, what may be put in place, and what that leaves.
 use Rattle.std.proofs.Common.{◌≡◌, ◌⊎◌, ℕ, ◌<◌, ◌≤◌, ◌==◌, Bool, Result, Ok, Err, inl, inr, List, length, Option, Some, None, IsSome, refl, sym, ap, subst, ◌∙◌, arith}
-use Rattle.std.specs.Prelude.{IfSome, MatchOption, MatchResult, OnOk, IfErr}
+use Rattle.std.specs.Prelude.{if◌then◌else◌, IfSome, MatchOption, MatchResult, OnOk, IfErr, OnErr}
 use Rattle.s4_types.specs.declared.refusals.Refusal.{Refusal}
 use Rattle.s4_types.specs.declared.refusals.Refusal.TheVariants.{NoMemory, NoRoom}
-use Rattle.std.proofs.lemmas.Bool.{cases_lt, eq-eqb, cond-true}
+use Rattle.std.proofs.lemmas.Bool.{cases_lt, eq-eqb, cond-true, cond-false, false≢true}
 use Rattle.std.proofs.lemmas.Option.{same_Some, none-some}
 use Rattle.s4_types.specs.Pointer.{Place}
 use Rattle.s4_types.specs.declared.versions.Version.TheVariants.{Absent}
@@ -26,7 +26,7 @@ use Rattle.chain_cleaning.specs.Cleaned.{KeptChain, cleaned}
 use Rattle.drive.specs.Keeping.{IsNeeded}
 use Rattle.history_cleaner.specs.Laws.{HasChain, KeepRules, HaveFewTriples, IsSight, IsOf, first_stored, AStoredChainIsAChain, WhatIsLeftCanStand, AnEmptyJournalStaysEmpty, WhatIsLeftShowsTheSame, NothingIsLeftOfTheAbsent, WhatIsLeftIsSeen, WhatIsLeftIsSeenThroughout}
 use Rattle.history_cleaner.specs.Sight.{is_visible, is_seen_between}
-use Rattle.history_cleaner.specs.Cleaning.{left_in, Puts, Cleans, IsSeenThroughout, IsClean, IsUnseen, HasNoRoom}
+use Rattle.history_cleaner.specs.Cleaning.{left_in, Puts, Cleans, OthersStay, IsSeenThroughout, IsClean, IsUnseen, HasNoRoom}
 use Rattle.history_cleaner.specs.private.Reading.{IsLeft}
 use Rattle.history_cleaner.proofs.Seeing.{visible_true, true_visible, fits}
 
@@ -205,6 +205,33 @@ after_none s later state o none stays =
       gone = λ unseen. here;
       room = λ n. none-some n.row (sym gone ∙ n.there);
     }
+
+-- ---- all other objects
+
+pub others_same : (s later : StoreFields) (o : ℕ) → later ≡ s → OthersStay s o later
+others_same s later o stays = subst (OthersStay s o) (sym stays) (λ q other. record { row = refl; blocks = λ kind. refl; inodes = λ t. refl })
+
+pub others_removed : (r : Result (Unit {0}) Refusal) (s later : StoreFields) (o : ℕ) → OnOk r (IsRemoved s o later) → OnOk r ((q t : ℕ) → inode_in later q t ≡ (if o == q then None else inode_in s q t)) → OnErr r (later ≡ s) → OthersStay s o later
+others_removed (Ok u) s later o removed inodes stays = λ q other. record {
+  row = removed.rows q ∙ cond-false (o == q) None (row_of s.rows q) other;
+  blocks = λ kind. removed.others kind q other;
+  inodes = λ t. inodes q t ∙ cond-false (o == q) None (inode_in s q t) other;
+}
+others_removed (Err e) s later o removed inodes stays = others_same s later o stays
+
+put_others : (s later : StoreFields) (o : ℕ) (present : Inode) (entries : List EntryFields) (r : Option Row) → IsSome r → IfSome r (λ row. IsReplaced s o row present entries later) → ((q t : ℕ) → inode_in later q t ≡ (if o == q then Some (inode_led present entries t) else inode_in s q t))
+    → OthersStay s o later
+put_others s later o present entries None there done inodes = absurd (false≢true there)
+put_others s later o present entries (Some row) there done inodes = λ q other. record {
+  row = done.put q ∙ cond-false (o == q) (Some done.next) (row_of s.rows q) other;
+  blocks = λ kind. done.others kind q other;
+  inodes = λ t. inodes q t ∙ cond-false (o == q) (Some (inode_led present entries t)) (inode_in s q t) other;
+}
+
+pub others_replaced : (r : Result (Unit {0}) Refusal) (s later : StoreFields) (o : ℕ) (present : Inode) (entries : List EntryFields) → IsSome (row_of s.rows o) → OnOk r (IfSome (row_of s.rows o) (λ row. IsReplaced s o row present entries later))
+    → OnOk r ((q t : ℕ) → inode_in later q t ≡ (if o == q then Some (inode_led present entries t) else inode_in s q t)) → OnErr r (later ≡ s) → OthersStay s o later
+others_replaced (Ok u) s later o present entries there replaced inodes stays = put_others s later o present entries (row_of s.rows o) there replaced inodes
+others_replaced (Err e) s later o present entries there replaced inodes stays = others_same s later o stays
 
 -- ---- what was answered
 

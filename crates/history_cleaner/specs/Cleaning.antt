@@ -1,8 +1,10 @@
 -- What cleaning an object leaves, and when there is no room for it.
-use Rattle.std.specs.Prelude.{◌≡◌, ◌⊎◌, ℕ, ◌<◌, length, Option, Some, None, Result, IfSome, MatchOption, MatchResult, OnOk}
+use Rattle.std.specs.Prelude.{◌≡◌, ◌⊎◌, ℕ, ◌<◌, ◌==◌, false, length, Option, Some, None, Result, IfSome, MatchOption, MatchResult, OnOk}
 use Rattle.s4_types.specs.declared.refusals.Refusal.{Refusal}
 use Rattle.s4_types.specs.declared.refusals.Refusal.TheVariants.{NoMemory, NoRoom}
 use Rattle.s4_types.specs.declared.versions.Version.TheVariants.{Absent}
+use Rattle.block_log.specs.declared.kinds.BlockKind.{BlockKind}
+use Rattle.block_log.specs.Log.{of_kind}
 use Rattle.undo_redo.specs.Runs.{entries_by}
 use Rattle.object_map.specs.declared.map.Row.{Row}
 use Rattle.object_map.specs.Rows.{row_of}
@@ -11,7 +13,7 @@ use Rattle.row_changes.specs.Rewritten.{rewritten_blocks}
 use Rattle.s4_model.specs.State.{State}
 use Rattle.s4_model.specs.Visible.{IsVisible}
 use Rattle.version_store.specs.Store.{StoreFields}
-use Rattle.version_store.specs.Versions.{version_in}
+use Rattle.version_store.specs.Versions.{inode_in, version_in}
 use Rattle.version_store.specs.Replacing.{IsRemoved, IsReplaced}
 use Rattle.chain_cleaning.specs.Cleaned.{KeptChain}
 use Rattle.drive.specs.Fields.{DriveFields, store_of, state_in}
@@ -32,6 +34,16 @@ Puts s o row later (Some chain) =
 -- What cleaning an object leaves: nothing has changed where it has no row.
 abbrev pub Cleans : StoreFields → State → ℕ → StoreFields → Type 0
 Cleans s state o later = MatchOption (row_of s.rows o) (later ≡ s) (λ row. Puts s o row later (left_in s state o row))
+
+-- An object is as it was, by its row, its blocks, and its inode at each moment.
+pub record IsUntouched (s later : StoreFields) (o : ℕ) : Type 0 where
+  pub row : row_of later.rows o ≡ row_of s.rows o
+  pub blocks : (kind : BlockKind) → of_kind kind o later.log.held ≡ of_kind kind o s.log.held
+  pub inodes : (t : ℕ) → inode_in later o t ≡ inode_in s o t
+
+-- all other objects are
+abbrev pub OthersStay : StoreFields → ℕ → StoreFields → Type 0
+OthersStay s o later = (q : ℕ) → (o == q) ≡ false → IsUntouched s later q
 
 -- At each moment an object stands as at some moment that can be read: so each inode of its chain that doesn't stand between
 -- two entries of one moment is current at such a one.

@@ -5,7 +5,7 @@ ghost use Rattle.object_map.specs.Rows.{row_of};
 ghost use Rattle.version_store.specs.Versions.{entries_of_object, inode_in};
 ghost use Rattle.drive.specs.Fields.{state_in, store_of};
 ghost use Rattle.drive.specs.Keeping.{KeepsVersions};
-ghost use Rattle.history_cleaner.specs.Cleaning.{Cleans, IsClean, IsUnseen, HasNoRoom};
+ghost use Rattle.history_cleaner.specs.Cleaning.{Cleans, OthersStay, IsClean, IsUnseen, HasNoRoom};
 ghost use Rattle.history_cleaner.specs.Reaching.{HoldsWhatIsReached};
 ghost use Rattle.history_cleaner.specs.private.Reading.{IsLeft};
 
@@ -61,6 +61,7 @@ fn put<J: Naming>(
     ensures gone { OnOk result (IsUnseen (store_of drive.old) (state_in drive.old) object → row_of drive.new.store.rows object ≡ None) }
     ensures answer { MatchResult result (λ _. HasNoRoom (store_of drive.old) (state_in drive.old) object → ⊥)
         (λ e. (e ≡ NoMemory) ⊎ ((e ≡ NoRoom) × HasNoRoom (store_of drive.old) (state_in drive.old) object)) }
+    ensures others { OthersStay (store_of drive.old) object (store_of drive.new) }
     ensures unchanged { OnErr result (store_of drive.new ≡ store_of drive.old) }
     ensures ledger { drive.new.ledger ≡ drive.old.ledger }
     ensures needed { KeepsVersions (state_in drive.old) (store_of drive.old) (store_of drive.new) }
@@ -86,8 +87,8 @@ fn put<J: Naming>(
 /// Cleans an object: of its chain those inodes stay that are current at some moment that can be read, with the entries between
 /// them and the present inode as its checkpoint. Where none of them is live, the row goes. Then exactly those of its data blocks are
 /// held to which a live inode points that is current at such a moment. Every version that can be read stays
-/// as it is, and so does the history, whatever is answered. Without effect for an object that has no row, or whose chain
-/// would hold the entries that it holds.
+/// as it is, and so do the history and all other objects, whatever is answered. Without effect for an object that has no row, or
+/// whose chain would hold the entries that it holds.
 ///
 /// NoRoom only where fewer places are ahead than must be written, and then Ok never comes; else NoMemory alone, where the memory
 /// for the entries, or for the lists of data blocks, is refused. That may be before the room is judged, and so also
@@ -103,6 +104,7 @@ pub fn clean_object<J: Naming>(
     ensures gone { OnOk result (IsUnseen (store_of drive.old) (state_in drive.old) object → row_of drive.new.store.rows object ≡ None) }
     ensures answer { MatchResult result (λ _. HasNoRoom (store_of drive.old) (state_in drive.old) object → ⊥)
         (λ e. (e ≡ NoMemory) ⊎ ((e ≡ NoRoom) × HasNoRoom (store_of drive.old) (state_in drive.old) object)) }
+    ensures others { OthersStay (store_of drive.old) object (store_of drive.new) }
     ensures unchanged { OnErr result (store_of drive.new ≡ store_of drive.old) }
     ensures ledger { drive.new.ledger ≡ drive.old.ledger }
     ensures needed { KeepsVersions (state_in drive.old) (store_of drive.old) (store_of drive.new) }

@@ -1,13 +1,16 @@
 //! Emptying the frames of a drive that hold nothing more.
-ghost use Rattle.std.specs.Prelude.{◌≡◌, ℕ, ◌<◌, IfOk, IfErr, OnOk, length};
-ghost use Rattle.s4_types.specs.declared.refusals.Refusal.TheVariants.{InUse};
+ghost use Rattle.std.specs.Prelude.{◌≡◌, ℕ, ◌^◌, ◌<◌, IfOk, IfErr, OnOk, length, count_by, nat_lt};
+ghost use Rattle.std.specs.List.{range_with_len};
+ghost use Rattle.s4_types.specs.declared.refusals.Refusal.TheVariants.{InUse, NoMemory};
+ghost use Rattle.segment_word.specs.Layout.{frame_at};
 ghost use Rattle.drive.specs.Fields.{store_of};
 ghost use Rattle.history_cleaner.specs.Emptying.{AllVacated, frames_risen, HasFoundReader, KeepsObjects, MarkedBelow};
-ghost use Rattle.history_cleaner.specs.private.Emptying.{ReleasedBelow};
+ghost use Rattle.history_cleaner.specs.private.Emptying.{ReleasedBelow, generations_in, is_later};
 
 use drive::Drive;
 use s4_types::Refusal;
 use segment_word::Naming;
+use std::alloc::Global;
 
 /// Marks each of so many frames that is sealed and holds nothing.
 pub(crate) fn mark_all<J: Naming>(drive: &mut Drive<J>, count: u16)
@@ -55,4 +58,55 @@ pub fn empty_frames<J: Naming>(drive: &mut Drive<J>) -> Result<u32, Refusal>
     let count = drive.frame_count();
     mark_all(drive, count);
     release_all(drive, count)
+}
+
+/// The generation of a frame, and 0 of one that isn't there.
+fn generation_of<J: Naming>(drive: &mut Drive<J>, frame: u16) -> u32
+    ensures generation { result ≡ (frame_at drive.old.store.table.drive.frames frame).generation }
+    ensures same { drive.new ≡ drive.old }
+{
+    drive.generation(frame).unwrap_or(0)
+}
+
+/// The generations of all frames, the first one's first.
+///
+/// NoMemory alone, where the memory for them is refused.
+pub(crate) fn note_generations<J: Naming>(
+    alloc: Global,
+    drive: &mut Drive<J>,
+) -> Result<Vec<u32>, Refusal>
+    ensures noted { IfOk result (λ noted. noted.items ≡ generations_in drive.old.store.table.drive) }
+    ensures few { IfOk result (λ noted. length noted.items < 2 ^ 16) }
+    ensures refusal { IfErr result (λ e. e ≡ NoMemory) }
+    ensures same { drive.new ≡ drive.old }
+{
+    let count = drive.frame_count();
+    let mut noted = Vec::with_capacity(alloc, count as usize)?;
+    for frame in 0..count {
+        noted.push(generation_of(drive, frame))?;
+    }
+    Ok(noted)
+}
+
+/// Whether a frame has a greater generation than one that was noted.
+fn is_later<J: Naming>(drive: &mut Drive<J>, frame: u16, noted: u32) -> bool
+    ensures later { result ≡ nat_lt noted (frame_at drive.old.store.table.drive.frames frame).generation }
+    ensures same { drive.new ≡ drive.old }
+{
+    noted < generation_of(drive, frame)
+}
+
+/// How many frames have a greater generation than was noted.
+pub(crate) fn count_risen<J: Naming>(drive: &mut Drive<J>, noted: &[u32]) -> u32
+    requires few { length noted.now < 2 ^ 16 }
+    ensures risen { result ≡ count_by (is_later noted.now drive.old.store.table.drive.frames) (range_with_len 0 (length noted.now)) }
+    ensures same { drive.new ≡ drive.old }
+{
+    let mut risen = 0;
+    for frame in 0..noted.len() {
+        if is_later(drive, frame as u16, noted[frame]) {
+            risen += 1;
+        }
+    }
+    risen
 }

@@ -3,9 +3,10 @@
 //! The layers above may rely on this: whatever [`clean_object`] answers, the history and every version that can be read stay. Once
 //! it answered Ok, each inode of the object's chain that doesn't stand between two entries of one moment is current at some
 //! moment that can be read, and an object that is absent at all of them has no row. Nothing is written where the chain would
-//! hold the entries that it holds. [`empty_frames`] leaves no frame that holds nothing but free ones and the open one. [`Rounds`]
-//! goes over all objects in turns that are short enough to be taken beside sessions. `laws` says what holds of the chains of
-//! stored objects, and that of a cleaned one just that data is held which can be reached.
+//! hold the entries that it holds. [`empty_frames`] leaves no frame that holds nothing but free ones and the open one.
+//! [`full_pass`] cleans all objects and then empties the frames, and counts the rows and frames that have changed since it began.
+//! [`Rounds`] goes over all objects in turns that are short enough to be taken beside sessions. `laws` says what holds of the
+//! chains of stored objects, and that of a cleaned one just that data is held which can be reached.
 #![tactic(auto)]
 
 mod cleaner;
@@ -13,10 +14,13 @@ mod cleaning;
 mod entries;
 mod frames;
 pub mod laws;
+mod passes;
+mod places;
 mod rounds;
 mod sight;
 
 pub use cleaner::Cleaner;
 pub use cleaning::clean_object;
 pub use frames::empty_frames;
+pub use passes::{PassReport, full_pass};
 pub use rounds::{Rounds, Turn};

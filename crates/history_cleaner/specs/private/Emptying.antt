@@ -1,7 +1,8 @@
 -- How far the emptying of frames has come. No public clause cites this file.
-use Rattle.std.specs.Prelude.{◌≡◌, ℕ, ◌<◌, ◌≤◌, length, count_by}
+use Rattle.std.specs.Prelude.{◌≡◌, ℕ, ◌<◌, ◌≤◌, Bool, List, length, map, count_by, nat_lt, slice_index_or}
 use Rattle.std.specs.List.{range_with_len}
-use Rattle.segment_word.specs.Frames.{Sealed, Emptied}
+use Rattle.segment_word.specs.Frames.{Frame, Sealed, Emptied}
+use Rattle.segment_word.specs.Handles.{Drive}
 use Rattle.segment_word.specs.Layout.{frame_at}
 use Rattle.segment_table.specs.Table.{Table}
 use Rattle.history_cleaner.specs.Emptying.{has_risen}
@@ -16,3 +17,11 @@ pub record ReleasedBelow (f released : ℕ) (old new : Table) : Type 0 where
   pub counted : released ≡ count_by (has_risen old.drive.frames new.drive.frames) (range_with_len 0 f)
   pub few : released ≤ f
   pub tried : old.drive.releases.tried ≤ new.drive.releases.tried
+
+-- the generations of a drive's frames, the first one's first
+abbrev pub generations_in : Drive → List ℕ
+generations_in d = map (λ f. (frame_at d.frames f).generation) (range_with_len 0 (length d.frames))
+
+-- whether a frame has a greater generation than was noted
+abbrev pub is_later : List ℕ → List Frame → ℕ → Bool
+is_later noted frames f = nat_lt (slice_index_or noted f 0) (frame_at frames f).generation

@@ -2,7 +2,7 @@ use Rattle.std.proofs.Common.{◌≡◌, Some, Ok, refl}
 use Rattle.s4_model.specs.Visible.{IsVisible}
 use Rattle.chain_cleaning.specs.Cleaned.{KeptChain}
 use Rattle.drive.specs.Fields.{state_in, store_of}
-use Rattle.history_cleaner.proofs.Putting.{Answered, is_of_parts, may_go, may_replace, shows_same, nothing_answered, replacing_answered}
+use Rattle.history_cleaner.proofs.Putting.{Answered, has_row, others_same, others_removed, others_replaced, is_of_parts, may_go, may_replace, shows_same, nothing_answered, replacing_answered}
 use Rattle.history_cleaner.proofs.Holding.{Laws, nothing_holds, replacing_holds}
 use Rattle.history_cleaner.proofs.cleaning.put.Goals as goal
 
@@ -99,3 +99,15 @@ returns-clause-held g c =
       empty = c.what_is_left_can_stand.ensures.empty;
     } in
     replacing_holds laws c.replace.result (store_of d) (store_of c.replace.new.self) (state_in d) c.args.object c.args.entries.now c.args.left chain some now c.requires.left (λ is. c.if-are_same.ensures is) c.replace.ensures.replaced c.replace.ensures.inodes
+
+pub returns-in_default-clause-others : goal.returns-in_default-clause-others
+returns-in_default-clause-others g c = others_removed c.remove.result (store_of c.args.drive.now) (store_of c.remove.new.self) c.args.object c.remove.ensures.removed c.remove.ensures.inodes c.remove.ensures.unchanged
+
+pub returns-then-are_same-clause-others : goal.returns-then-are_same-clause-others
+returns-then-are_same-clause-others g c = others_same (store_of c.args.drive.now) (store_of c.args.drive.now) c.args.object refl
+
+pub returns-clause-others : goal.returns-clause-others
+returns-clause-others g c =
+    let d = c.args.drive.now in
+    others_replaced c.replace.result (store_of d) (store_of c.replace.new.self) c.args.object c.chain.inside.last c.as_slice-kept.result.now (has_row (store_of d) (state_in d) c.args.object c.args.entries.now c.args.left c.requires.left)
+    c.replace.ensures.replaced c.replace.ensures.inodes c.replace.ensures.unchanged

@@ -1,0 +1,166 @@
+//! A pass over all objects, and then over all frames.
+ghost use Rattle.std.specs.Prelude.{◌≡◌, ◌⊎◌, ℕ, ◌+◌, ◌^◌, ◌<◌, if◌then◌else◌, IfSome, IfOk, IfErr, OnOk, OnErr};
+ghost use Rattle.s4_types.specs.declared.refusals.Refusal.TheVariants.{NoMemory, NoRoom};
+ghost use Rattle.object_map.specs.Rows.{row_of};
+ghost use Rattle.drive.specs.Fields.{state_in, store_of};
+ghost use Rattle.drive.specs.Keeping.{KeepsVersions};
+ghost use Rattle.history_cleaner.specs.Cleaning.{OthersStay, HasNoRoom};
+ghost use Rattle.history_cleaner.specs.Emptying.{AllVacated, frames_risen};
+ghost use Rattle.history_cleaner.specs.Passing.{is_other, is_gone, has_other_row, has_lost_row, IsCount, IsCleaned, StoppedAt, StoppedAtReader};
+ghost use Rattle.history_cleaner.specs.private.Counting.{NamesPlaces};
+
+use crate::cleaning::clean_object;
+use crate::frames::{count_risen, empty_frames, note_generations};
+use crate::laws::held_is_what_is_reached;
+use crate::places::names_places;
+use drive::Drive;
+use object_map::Row;
+use s4_types::{ObjectId, Refusal};
+use segment_word::Naming;
+use std::alloc::Global;
+use version_store::laws::what_is_held_is_what_rows_name;
+
+/// What a full pass came to.
+#[derive(Clone, Copy, Debug, PartialEq, Eq)]
+pub struct PassReport {
+    /// How many objects have a row with another stamp than before.
+    pub rewritten: u32,
+    /// How many objects have no row any more.
+    pub removed: u32,
+    /// How many frames have a greater generation than before.
+    pub released: u32,
+}
+
+/// What became of the rows of all objects.
+#[derive(Clone, Copy, Debug, PartialEq, Eq)]
+struct Cleanings {
+    /// How many objects have a row with another stamp.
+    rewritten: u32,
+    /// How many objects have no row any more.
+    removed: u32,
+}
+
+/// Whether a row that stands has another stamp than before.
+fn is_other(row: &Option<Row>, later: &Option<Row>) -> bool
+    ensures { result ≡ is_other row.now later.now }
+{
+    match (row, later) {
+        (Some(row), Some(next)) => row.stamp != next.stamp,
+        _ => false,
+    }
+}
+
+/// Whether a row is gone.
+fn is_gone(row: &Option<Row>, later: &Option<Row>) -> bool
+    ensures { result ≡ is_gone row.now later.now }
+{
+    row.is_some() && later.is_none()
+}
+
+/// Cleans an object, and counts what became of its row.
+fn clean_counted<J: Naming>(
+    alloc: Global,
+    drive: &mut Drive<J>,
+    object: ObjectId,
+    cleanings: &mut Cleanings,
+) -> Result<(), Refusal>
+    requires rewritten { cleanings.old.rewritten + 1 < 2 ^ 32 }
+    requires removed { cleanings.old.removed + 1 < 2 ^ 32 }
+    ensures places { IfSome (row_of drive.old.store.rows object) NamesPlaces }
+    ensures cleaned { OnOk result (IsCleaned (store_of drive.old) (store_of drive.new) (state_in drive.old) object) }
+    ensures rewritten { OnOk result (cleanings.new.rewritten
+        ≡ (if is_other (row_of drive.old.store.rows object) (row_of drive.new.store.rows object) then cleanings.old.rewritten + 1 else cleanings.old.rewritten)) }
+    ensures removed { OnOk result (cleanings.new.removed
+        ≡ (if is_gone (row_of drive.old.store.rows object) (row_of drive.new.store.rows object) then cleanings.old.removed + 1 else cleanings.old.removed)) }
+    ensures refusal { IfErr result (λ e. (e ≡ NoMemory) ⊎ ((e ≡ NoRoom) × HasNoRoom (store_of drive.old) (state_in drive.old) object)) }
+    ensures others { OthersStay (store_of drive.old) object (store_of drive.new) }
+    ensures unchanged { OnErr result (store_of drive.new ≡ store_of drive.old) }
+    ensures ledger { drive.new.ledger ≡ drive.old.ledger }
+    ensures needed { KeepsVersions (state_in drive.old) (store_of drive.old) (store_of drive.new) }
+{
+    let row = drive.row(object);
+    names_places(&row);
+    clean_object(alloc, drive, object)?;
+    let later = drive.row(object);
+    if is_other(&row, &later) {
+        cleanings.rewritten += 1;
+    }
+    if is_gone(&row, &later) {
+        cleanings.removed += 1;
+    }
+    Ok(())
+}
+
+/// Cleans all objects, in ascending order, and counts what became of their rows. At the first refusal it stops.
+fn clean_all<J: Naming>(alloc: Global, drive: &mut Drive<J>) -> Result<Cleanings, Refusal>
+    ensures cleaned { OnOk result ((o : ℕ) → IsCleaned (store_of drive.old) (store_of drive.new) (state_in drive.old) o) }
+    ensures rewritten { IfOk result (λ c. IsCount (has_other_row drive.old.store.rows drive.new.store.rows) c.rewritten) }
+    ensures removed { IfOk result (λ c. IsCount (has_lost_row drive.old.store.rows drive.new.store.rows) c.removed) }
+    ensures refusal { IfErr result (StoppedAt (store_of drive.old) (store_of drive.new) (state_in drive.old)) }
+    ensures ledger { drive.new.ledger ≡ drive.old.ledger }
+    ensures needed { KeepsVersions (state_in drive.old) (store_of drive.old) (store_of drive.new) }
+{
+    held_is_what_is_reached();
+    what_is_held_is_what_rows_name();
+    drive.rules();
+    let mut object = ObjectId::new(0);
+    let mut cleanings = Cleanings {
+        rewritten: 0,
+        removed: 0,
+    };
+    while let Some(next) = drive.next_row(object) {
+        clean_counted(alloc, drive, next, &mut cleanings)?;
+        drive.rules();
+        object = next;
+    }
+    Ok(cleanings)
+}
+
+/// Cleans all objects, and then empties the frames.
+fn clean_and_empty<J: Naming>(alloc: Global, drive: &mut Drive<J>) -> Result<Cleanings, Refusal>
+    ensures cleaned { OnOk result ((o : ℕ) → IsCleaned (store_of drive.old) (store_of drive.new) (state_in drive.old) o) }
+    ensures vacated { OnOk result (AllVacated drive.new.store.table) }
+    ensures rewritten { IfOk result (λ c. IsCount (has_other_row drive.old.store.rows drive.new.store.rows) c.rewritten) }
+    ensures removed { IfOk result (λ c. IsCount (has_lost_row drive.old.store.rows drive.new.store.rows) c.removed) }
+    ensures refusal { IfErr result (λ e. StoppedAt (store_of drive.old) (store_of drive.new) (state_in drive.old) e ⊎ StoppedAtReader drive.old drive.new e) }
+    ensures ledger { drive.new.ledger ≡ drive.old.ledger }
+    ensures needed { KeepsVersions (state_in drive.old) (store_of drive.old) (store_of drive.new) }
+{
+    let cleanings = clean_all(alloc, drive)?;
+    let _released = empty_frames(drive)?;
+    Ok(cleanings)
+}
+
+/// Cleans all objects by ascending number; then each frame that is sealed and holds nothing is marked, and each that is being
+/// emptied is released, also one that was being emptied before. Ok tells how many objects have a row with another stamp than
+/// before the pass, how many have none any more, and how many frames have a greater generation than before it.
+///
+/// Then of every object, one without a row too, exactly those data blocks are held to which a live inode points that is current
+/// at some moment that can be read; each inode of its chain that doesn't stand between two entries of one moment is
+/// current at such a one; and it has no row where it is absent at all of them. Each frame that holds nothing is
+/// free, a retired one among them, or it is the open one.
+///
+/// At its first refusal it stops, and what was cleaned stays cleaned. NoMemory where the memory to note the generations of the
+/// frames is refused, and nothing has changed then; NoMemory and NoRoom as [`clean_object`] answers them for the object
+/// at which it stopped; InUse where a frame that is being emptied has a reader, after all objects were cleaned. The history
+/// and every version that can be read stay as they are, whatever is answered.
+///
+/// It holds no list of all objects, and takes the time of the single cleanings and a few steps for each frame.
+pub fn full_pass<J: Naming>(alloc: Global, drive: &mut Drive<J>) -> Result<PassReport, Refusal>
+    ensures cleaned { OnOk result ((o : ℕ) → IsCleaned (store_of drive.old) (store_of drive.new) (state_in drive.old) o) }
+    ensures vacated { OnOk result (AllVacated drive.new.store.table) }
+    ensures rewritten { IfOk result (λ report. IsCount (has_other_row drive.old.store.rows drive.new.store.rows) report.rewritten) }
+    ensures removed { IfOk result (λ report. IsCount (has_lost_row drive.old.store.rows drive.new.store.rows) report.removed) }
+    ensures released { IfOk result (λ report. report.released ≡ frames_risen drive.old.store.table.drive drive.new.store.table.drive) }
+    ensures refusal { IfErr result (λ e. StoppedAt (store_of drive.old) (store_of drive.new) (state_in drive.old) e ⊎ StoppedAtReader drive.old drive.new e) }
+    ensures ledger { drive.new.ledger ≡ drive.old.ledger }
+    ensures needed { KeepsVersions (state_in drive.old) (store_of drive.old) (store_of drive.new) }
+{
+    let before = note_generations(alloc, drive)?;
+    let cleanings = clean_and_empty(alloc, drive)?;
+    Ok(PassReport {
+        rewritten: cleanings.rewritten,
+        removed: cleanings.removed,
+        released: count_risen(drive, before.as_slice()),
+    })
+}
