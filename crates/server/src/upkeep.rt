@@ -1,5 +1,5 @@
 //! The history cleaner beside sessions: it has the lock for one object at a time.
-ghost use Rattle.std.specs.Prelude.{◌≡◌, ℕ, ◌+◌, ◌^◌, ◌<◌, ◌≤◌, All, length, slice_index_or, true};
+ghost use Rattle.std.specs.Prelude.{◌≡◌, ℕ, ◌+◌, ◌^◌, ◌<◌, ◌≤◌, All, slice_index_or, true, vec_len};
 ghost use Rattle.server.specs.Attending.{IsAttended, PassesOn, failures_in};
 ghost use Rattle.server.specs.Upkeep.{SharedTurn, IsRound, IsLastRound};
 ghost use Rattle.serving.specs.Session.{reading_failures, writing_failures};
@@ -16,7 +16,7 @@ use serving::{Sink, Source};
 use std::alloc::Global;
 use std::sync::atomic::{AtomicBool, Ordering};
 use std::sync::{Mutex, Wait};
-use std::thread::{Threads, join_mut, sleep, yield_now};
+use std::thread::{Threads, join, sleep, yield_now};
 use std::time::{Clock, Duration};
 
 /// How long the cleaner rests between two rounds, in microseconds: for this long sessions have the lock to themselves.
@@ -46,6 +46,7 @@ fn take_turn<J: Naming>(
 }
 
 /// One whole round. Between its turns sessions may have the lock.
+#[tactic(auto, using(crate::proofs::Rounding::underway_first, crate::proofs::Rounding::underway_more, crate::proofs::Rounding::underway_rises, crate::proofs::Rounding::underway_ends))]
 fn go_round<J: Naming>(
     rt: &impl Wait,
     alloc: Global,
@@ -83,16 +84,13 @@ fn keep_up<J: Naming, R: Wait + Clock>(
     unreachable!()
 }
 
-/// Serves sessions of one drive at once, as [`run_sessions`] does, and beside them cleans the drive: one object under one lock, by
-/// ascending number and round again, and behind each round frames that hold nothing are freed. It ends with a whole round that
-/// began when all sessions had ended, which is what is answered. Where the system gives no thread for the cleaner, it goes round
-/// once, behind the sessions.
-pub fn run_with_cleaner<
+/// Serves the sessions, and tells the cleaner once all have ended.
+fn serve_all<
     J: Naming + Send + Sync,
-    R: Threads + Wait + Clock + Sync,
+    R: Threads + Wait + Sync,
     G: Gate + Sync,
-    S: Source + Send,
-    W: Sink + Send,
+    S: Source + Send + Drop,
+    W: Sink + Send + Drop,
 >(
     rt: &R,
     alloc: Global,
@@ -100,43 +98,92 @@ pub fn run_with_cleaner<
     gate: &G,
     start: Moment,
     tick: u64,
-    clients: &mut [Client<S, W>],
-) -> Round
-    requires count { length clients.old ≤ 16 }
-    requires readers { All (λ c. S.failures c.reader + 1 < 2 ^ 64) clients.old }
-    requires writers { All (λ c. W.failures c.writer + 1 < 2 ^ 64) clients.old }
-    ensures round { IsLastRound J.base result }
+    ended: &AtomicBool,
+    clients: Vec<Client<S, W>>,
+) -> Vec<Client<S, W>>
+    requires count { vec_len clients ≤ 16 }
+    requires readers { All (λ c. S.failures c.reader + 1 < 2 ^ 64) clients.items }
+    requires writers { All (λ c. W.failures c.writer + 1 < 2 ^ 64) clients.items }
+    ensures count { vec_len result ≡ vec_len clients }
+    ensures attended { (i : ℕ) (d : _) → i < vec_len clients
+        → IsAttended J.base (record { start = start; tick = tick }) (slice_index_or clients.items i d).role (slice_index_or result.items i d).outcome
+        (S.remaining (slice_index_or clients.items i d).reader) (taken_by W.passed W.held (slice_index_or clients.items i d).writer)
+        (S.remaining (slice_index_or result.items i d).reader) (taken_by W.passed W.held (slice_index_or result.items i d).writer) }
+    ensures passed { (i : ℕ) (d : _) → i < vec_len clients → PassesOn (slice_index_or result.items i d).outcome (W.held (slice_index_or result.items i d).writer) }
+    ensures reading { (i : ℕ) (d : _) → i < vec_len clients
+        → S.failures (slice_index_or result.items i d).reader ≡ S.failures (slice_index_or clients.items i d).reader + failures_in reading_failures (slice_index_or result.items i d).outcome }
+    ensures writing { (i : ℕ) (d : _) → i < vec_len clients
+        → W.failures (slice_index_or result.items i d).writer ≡ W.failures (slice_index_or clients.items i d).writer + failures_in writing_failures (slice_index_or result.items i d).outcome }
+{
+    let mut clients = clients;
+    run_sessions(
+        rt,
+        alloc,
+        drive,
+        gate,
+        start,
+        tick,
+        clients.as_mut_slice(),
+    );
+    ended.store(true, Ordering::SeqCst);
+    clients
+}
+
+/// Serves sessions of one drive at once, as [`run_sessions`] does, and beside them cleans the drive: one object under one lock, by
+/// ascending number and round again, and behind each round the frames that hold nothing are freed. It ends with a whole round that
+/// began when all sessions had ended, and answers the clients and that round. Where the system gives no thread for the cleaner, it
+/// goes round once, behind the sessions.
+pub fn run_with_cleaner<
+    J: Naming + Send + Sync,
+    R: Threads + Wait + Clock + Sync,
+    G: Gate + Sync,
+    S: Source + Send + Drop,
+    W: Sink + Send + Drop,
+>(
+    rt: &R,
+    alloc: Global,
+    drive: &Mutex<Drive<J>>,
+    gate: &G,
+    start: Moment,
+    tick: u64,
+    clients: Vec<Client<S, W>>,
+) -> (Vec<Client<S, W>>, Round)
+    requires count { vec_len clients ≤ 16 }
+    requires readers { All (λ c. S.failures c.reader + 1 < 2 ^ 64) clients.items }
+    requires writers { All (λ c. W.failures c.writer + 1 < 2 ^ 64) clients.items }
+    ensures round { IsLastRound J.base result.1 }
+    ensures count { vec_len result.0 ≡ vec_len clients }
     // Each session was answered by steps of the shared drive, or the drive had no seat for it.
-    ensures attended { (i : ℕ) (d : _) → i < length clients.old
-        → IsAttended J.base (record { start = start; tick = tick }) (slice_index_or clients.old i d).role (slice_index_or clients.new i d).outcome
-        (S.remaining (slice_index_or clients.old i d).reader) (taken_by W.passed W.held (slice_index_or clients.old i d).writer)
-        (S.remaining (slice_index_or clients.new i d).reader) (taken_by W.passed W.held (slice_index_or clients.new i d).writer) }
-    ensures passed { (i : ℕ) (d : _) → i < length clients.old → PassesOn (slice_index_or clients.new i d).outcome (W.held (slice_index_or clients.new i d).writer) }
-    ensures reading { (i : ℕ) (d : _) → i < length clients.old
-        → S.failures (slice_index_or clients.new i d).reader ≡ S.failures (slice_index_or clients.old i d).reader + failures_in reading_failures (slice_index_or clients.new i d).outcome }
-    ensures writing { (i : ℕ) (d : _) → i < length clients.old
-        → W.failures (slice_index_or clients.new i d).writer ≡ W.failures (slice_index_or clients.old i d).writer + failures_in writing_failures (slice_index_or clients.new i d).outcome }
+    ensures attended { (i : ℕ) (d : _) → i < vec_len clients
+        → IsAttended J.base (record { start = start; tick = tick }) (slice_index_or clients.items i d).role (slice_index_or result.0.items i d).outcome
+        (S.remaining (slice_index_or clients.items i d).reader) (taken_by W.passed W.held (slice_index_or clients.items i d).writer)
+        (S.remaining (slice_index_or result.0.items i d).reader) (taken_by W.passed W.held (slice_index_or result.0.items i d).writer) }
+    ensures passed { (i : ℕ) (d : _) → i < vec_len clients → PassesOn (slice_index_or result.0.items i d).outcome (W.held (slice_index_or result.0.items i d).writer) }
+    ensures reading { (i : ℕ) (d : _) → i < vec_len clients
+        → S.failures (slice_index_or result.0.items i d).reader ≡ S.failures (slice_index_or clients.items i d).reader + failures_in reading_failures (slice_index_or result.0.items i d).outcome }
+    ensures writing { (i : ℕ) (d : _) → i < vec_len clients
+        → W.failures (slice_index_or result.0.items i d).writer ≡ W.failures (slice_index_or clients.items i d).writer + failures_in writing_failures (slice_index_or result.0.items i d).outcome }
 {
     let ended = AtomicBool::new(false);
-    let mut clean = || -> Round
+    let clean = || -> Round
         ensures { IsLastRound J.base result }
     { keep_up(rt, alloc, drive, &ended) };
-    let mut attend = || -> ()
-        requires { (length clients.now ≤ 16) × All (λ c. S.failures c.reader + 1 < 2 ^ 64) clients.now × All (λ c. W.failures c.writer + 1 < 2 ^ 64) clients.now }
-        ensures attended { (i : ℕ) (d : _) → i < length clients.entry.now
-            → IsAttended J.base (record { start = start; tick = tick }) (slice_index_or clients.entry.now i d).role (slice_index_or clients.exit.now i d).outcome
-            (S.remaining (slice_index_or clients.entry.now i d).reader) (taken_by W.passed W.held (slice_index_or clients.entry.now i d).writer)
-            (S.remaining (slice_index_or clients.exit.now i d).reader) (taken_by W.passed W.held (slice_index_or clients.exit.now i d).writer) }
-        ensures passed { (i : ℕ) (d : _) → i < length clients.entry.now → PassesOn (slice_index_or clients.exit.now i d).outcome (W.held (slice_index_or clients.exit.now i d).writer) }
-        ensures reading { (i : ℕ) (d : _) → i < length clients.entry.now
-            → S.failures (slice_index_or clients.exit.now i d).reader ≡ S.failures (slice_index_or clients.entry.now i d).reader + failures_in reading_failures (slice_index_or clients.exit.now i d).outcome }
-        ensures writing { (i : ℕ) (d : _) → i < length clients.entry.now
-            → W.failures (slice_index_or clients.exit.now i d).writer ≡ W.failures (slice_index_or clients.entry.now i d).writer + failures_in writing_failures (slice_index_or clients.exit.now i d).outcome }
-    {
-        run_sessions(rt, alloc, drive, gate, start, tick, clients);
-        ended.store(true, Ordering::SeqCst);
-    };
+    let attend = || -> Vec<Client<S, W>>
+        requires count { vec_len clients ≤ 16 }
+        requires readers { All (λ c. S.failures c.reader + 1 < 2 ^ 64) clients.items }
+        requires writers { All (λ c. W.failures c.writer + 1 < 2 ^ 64) clients.items }
+        ensures count { vec_len result ≡ vec_len clients }
+        ensures attended { (i : ℕ) (d : _) → i < vec_len clients
+            → IsAttended J.base (record { start = start; tick = tick }) (slice_index_or clients.items i d).role (slice_index_or result.items i d).outcome
+            (S.remaining (slice_index_or clients.items i d).reader) (taken_by W.passed W.held (slice_index_or clients.items i d).writer)
+            (S.remaining (slice_index_or result.items i d).reader) (taken_by W.passed W.held (slice_index_or result.items i d).writer) }
+        ensures passed { (i : ℕ) (d : _) → i < vec_len clients → PassesOn (slice_index_or result.items i d).outcome (W.held (slice_index_or result.items i d).writer) }
+        ensures reading { (i : ℕ) (d : _) → i < vec_len clients
+            → S.failures (slice_index_or result.items i d).reader ≡ S.failures (slice_index_or clients.items i d).reader + failures_in reading_failures (slice_index_or result.items i d).outcome }
+        ensures writing { (i : ℕ) (d : _) → i < vec_len clients
+            → W.failures (slice_index_or result.items i d).writer ≡ W.failures (slice_index_or clients.items i d).writer + failures_in writing_failures (slice_index_or result.items i d).outcome }
+    { serve_all(rt, alloc, drive, gate, start, tick, &ended, clients) };
     // Where there is no thread for the first, it is called behind the second.
-    let (round, _) = join_mut(rt, &mut clean, &mut attend);
-    round
+    let (round, clients) = join(rt, clean, attend);
+    (clients, round)
 }
