@@ -1,5 +1,5 @@
 -- What the cleaner does to a drive that sessions share.
-use Rattle.std.specs.Prelude.{◌≡◌, ◌≢◌, ℕ, ◌++◌, Bool, true, List, [], ◌∷◌, length, All}
+use Rattle.std.specs.Prelude.{◌≡◌, ℕ, Bool, true, false, List, [], ◌∷◌, length, All}
 use Rattle.s4_types.specs.History.{Base}
 use Rattle.segment_table.specs.Table.{Table}
 use Rattle.drive.specs.Fields.{DriveFields, state_in, store_of}
@@ -20,6 +20,11 @@ pub record SharedTurn (base : Base) (passed : ℕ) (turn : Turn) (next : ℕ) : 
   pub ledger : after.ledger ≡ before.ledger
   pub needed : KeepsVersions (state_in before) (store_of before) (store_of after)
 
+-- whether a turn ended its round
+abbrev pub ends_round : Turn → Bool
+ends_round Ended = true
+ends_round _ = false
+
 -- Turns were taken one behind another, from one object on up to another.
 abbrev pub TakesTurns : Base → ℕ → List Turn → ℕ → Type 0
 TakesTurns base passed [] next = next ≡ passed
@@ -31,7 +36,7 @@ pub record IsRound (base : Base) (round : Round) : Type 0 where
   pub last : ℕ
   pub taken : TakesTurns base 0 turns last
   pub ended : SharedTurn base last Ended 0
-  pub going : All (λ turn. turn ≢ Ended) turns
+  pub going : All (λ turn. ends_round turn ≡ false) turns
   pub counted : length turns ≡ round.turns
 
 -- a whole round that began when all sessions had ended

@@ -1,7 +1,7 @@
 //! The history cleaner beside sessions: it has the lock for one object at a time.
 ghost use Rattle.std.specs.Prelude.{◌≡◌, ℕ, ◌+◌, ◌^◌, ◌<◌, ◌≤◌, All, slice_index_or, true, vec_len};
 ghost use Rattle.server.specs.Attending.{IsAttended, PassesOn, failures_in};
-ghost use Rattle.server.specs.Upkeep.{SharedTurn, IsRound, IsLastRound};
+ghost use Rattle.server.specs.Upkeep.{SharedTurn, IsRound, IsLastRound, ends_round};
 ghost use Rattle.serving.specs.Session.{reading_failures, writing_failures};
 ghost use Rattle.serving.specs.Streams.{taken_by};
 
@@ -45,6 +45,13 @@ fn take_turn<J: Naming>(
     rounds.turn(alloc, &mut drive)
 }
 
+/// Whether a turn ended its round.
+fn is_end(turn: Turn) -> bool
+    ensures { result ≡ ends_round turn }
+{
+    matches!(turn, Turn::Ended)
+}
+
 /// One whole round. Between its turns sessions may have the lock.
 #[tactic(auto, using(crate::proofs::Rounding::underway_first, crate::proofs::Rounding::underway_more, crate::proofs::Rounding::underway_rises, crate::proofs::Rounding::underway_ends))]
 fn go_round<J: Naming>(
@@ -58,7 +65,7 @@ fn go_round<J: Naming>(
 {
     let mut rounds = Rounds::new();
     let mut turns = 0;
-    while take_turn(rt, alloc, drive, &mut rounds) != Turn::Ended {
+    while !is_end(take_turn(rt, alloc, drive, &mut rounds)) {
         turns += 1;
         yield_now();
     }
