@@ -6,6 +6,7 @@ ghost use Rattle.s4_model.specs.State.{new_base};
 mod acts;
 mod cleaned;
 mod passed;
+mod lasting;
 
 use crate::tests::acts::{Act, Cleaned, Party, holds};
 use drive::NewDrive;

@@ -1,3 +1,4 @@
 pub mod Sharing
 pub mod Drawing
 pub mod Attending
+pub mod Upkeep

@@ -9,8 +9,10 @@ mod clocks;
 mod gate;
 mod locked;
 mod running;
+mod upkeep;
 
 pub use clocks::SharedClock;
 pub use gate::{Gate, Open};
 pub use locked::Locked;
 pub use running::{Client, MOST_SESSIONS, Outcome, run_sessions};
+pub use upkeep::{Round, run_with_cleaner};

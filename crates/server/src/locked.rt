@@ -22,7 +22,10 @@ use time_read::ReadPlan;
 const LOOKS: usize = 300;
 
 /// The drive, once the lock is had.
-fn hold<'a, J: Naming>(rt: &impl Wait, drive: &'a Mutex<Drive<J>>) -> MutexGuard<'a, Drive<J>> {
+pub(crate) fn hold<'a, J: Naming>(
+    rt: &impl Wait,
+    drive: &'a Mutex<Drive<J>>,
+) -> MutexGuard<'a, Drive<J>> {
     for _ in 0..LOOKS {
         if let Some(held) = drive.try_lock() {
             return held;

@@ -1,0 +1,188 @@
+//! The history cleaner beside sessions: it has the lock for one object at a time.
+ghost use Rattle.std.specs.Prelude.{◌≡◌, ℕ, ◌+◌, ◌^◌, ◌<◌, ◌≤◌, All, slice_index_or, true, vec_len};
+ghost use Rattle.server.specs.Attending.{IsAttended, PassesOn, failures_in};
+ghost use Rattle.server.specs.Upkeep.{SharedTurn, IsRound, IsLastRound, ends_round};
+ghost use Rattle.serving.specs.Session.{reading_failures, writing_failures};
+ghost use Rattle.serving.specs.Streams.{taken_by};
+
+use crate::gate::Gate;
+use crate::locked::hold;
+use crate::running::{Client, run_sessions};
+use drive::Drive;
+use history_cleaner::{Rounds, Turn};
+use s4_types::Moment;
+use segment_word::Naming;
+use serving::{Sink, Source};
+use std::alloc::Global;
+use std::sync::atomic::{AtomicBool, Ordering};
+use std::sync::{Mutex, Wait};
+use std::thread::{Threads, join, sleep, yield_now};
+use std::time::{Clock, Duration};
+
+/// How long the cleaner rests between two rounds, in microseconds: for this long sessions have the lock to themselves.
+const REST: u64 = 100;
+
+/// A whole round of the cleaner over all objects of a drive, by ascending number.
+#[derive(Clone, Copy, Debug, PartialEq, Eq)]
+pub struct Round {
+    /// All sessions had ended when it began.
+    pub is_behind: bool,
+    /// How many objects had their turn.
+    pub turns: u64,
+}
+
+/// One turn of the cleaner, under the lock.
+fn take_turn<J: Naming>(
+    rt: &impl Wait,
+    alloc: Global,
+    drive: &Mutex<Drive<J>>,
+    rounds: &mut Rounds,
+) -> Turn
+    ensures { SharedTurn J.base rounds.old.passed result rounds.new.passed }
+{
+    let mut drive = hold(rt, drive);
+    drive.rules();
+    rounds.turn(alloc, &mut drive)
+}
+
+/// Whether a turn ended its round.
+fn is_end(turn: Turn) -> bool
+    ensures { result ≡ ends_round turn }
+{
+    matches!(turn, Turn::Ended)
+}
+
+/// One whole round. Between its turns sessions may have the lock.
+#[tactic(auto, using(crate::proofs::Rounding::underway_first, crate::proofs::Rounding::underway_more, crate::proofs::Rounding::underway_rises, crate::proofs::Rounding::underway_ends))]
+fn go_round<J: Naming>(
+    rt: &impl Wait,
+    alloc: Global,
+    drive: &Mutex<Drive<J>>,
+    is_behind: bool,
+) -> Round
+    ensures round { IsRound J.base result }
+    ensures behind { result.is_behind ≡ is_behind }
+{
+    let mut rounds = Rounds::new();
+    let mut turns = 0;
+    while !is_end(take_turn(rt, alloc, drive, &mut rounds)) {
+        turns += 1;
+        yield_now();
+    }
+    Round { is_behind, turns }
+}
+
+/// Goes round again and again, and ends with a whole round that began when all sessions had ended.
+fn keep_up<J: Naming, R: Wait + Clock>(
+    rt: &R,
+    alloc: Global,
+    drive: &Mutex<Drive<J>>,
+    ended: &AtomicBool,
+) -> Round
+    ensures { IsLastRound J.base result }
+{
+    for _ in rt.forever() {
+        let round = go_round(rt, alloc, drive, ended.load(Ordering::SeqCst));
+        if round.is_behind {
+            return round;
+        }
+        sleep(rt, Duration::from_micros(REST));
+    }
+    unreachable!()
+}
+
+/// Serves the sessions, and tells the cleaner once all have ended.
+fn serve_all<
+    J: Naming + Send + Sync,
+    R: Threads + Wait + Sync,
+    G: Gate + Sync,
+    S: Source + Send + Drop,
+    W: Sink + Send + Drop,
+>(
+    rt: &R,
+    alloc: Global,
+    drive: &Mutex<Drive<J>>,
+    gate: &G,
+    start: Moment,
+    tick: u64,
+    ended: &AtomicBool,
+    clients: Vec<Client<S, W>>,
+) -> Vec<Client<S, W>>
+    requires count { vec_len clients ≤ 16 }
+    requires readers { All (λ c. S.failures c.reader + 1 < 2 ^ 64) clients.items }
+    requires writers { All (λ c. W.failures c.writer + 1 < 2 ^ 64) clients.items }
+    ensures count { vec_len result ≡ vec_len clients }
+    ensures attended { (i : ℕ) (d : _) → i < vec_len clients
+        → IsAttended J.base (record { start = start; tick = tick }) (slice_index_or clients.items i d).role (slice_index_or result.items i d).outcome
+        (S.remaining (slice_index_or clients.items i d).reader) (taken_by W.passed W.held (slice_index_or clients.items i d).writer)
+        (S.remaining (slice_index_or result.items i d).reader) (taken_by W.passed W.held (slice_index_or result.items i d).writer) }
+    ensures passed { (i : ℕ) (d : _) → i < vec_len clients → PassesOn (slice_index_or result.items i d).outcome (W.held (slice_index_or result.items i d).writer) }
+    ensures reading { (i : ℕ) (d : _) → i < vec_len clients
+        → S.failures (slice_index_or result.items i d).reader ≡ S.failures (slice_index_or clients.items i d).reader + failures_in reading_failures (slice_index_or result.items i d).outcome }
+    ensures writing { (i : ℕ) (d : _) → i < vec_len clients
+        → W.failures (slice_index_or result.items i d).writer ≡ W.failures (slice_index_or clients.items i d).writer + failures_in writing_failures (slice_index_or result.items i d).outcome }
+{
+    let mut clients = clients;
+    run_sessions(rt, alloc, drive, gate, start, tick, clients.as_mut_slice());
+    ended.store(true, Ordering::SeqCst);
+    clients
+}
+
+/// Serves sessions of one drive at once, as [`run_sessions`] does, and beside them cleans the drive: one object under one lock, by
+/// ascending number and round again, and behind each round the frames that hold nothing are freed. It ends with a whole round that
+/// began when all sessions had ended, and answers the clients and that round. Where the system gives no thread for the cleaner, it
+/// goes round once, behind the sessions.
+pub fn run_with_cleaner<
+    J: Naming + Send + Sync,
+    R: Threads + Wait + Clock + Sync,
+    G: Gate + Sync,
+    S: Source + Send + Drop,
+    W: Sink + Send + Drop,
+>(
+    rt: &R,
+    alloc: Global,
+    drive: &Mutex<Drive<J>>,
+    gate: &G,
+    start: Moment,
+    tick: u64,
+    clients: Vec<Client<S, W>>,
+) -> (Vec<Client<S, W>>, Round)
+    requires count { vec_len clients ≤ 16 }
+    requires readers { All (λ c. S.failures c.reader + 1 < 2 ^ 64) clients.items }
+    requires writers { All (λ c. W.failures c.writer + 1 < 2 ^ 64) clients.items }
+    ensures round { IsLastRound J.base result.1 }
+    ensures count { vec_len result.0 ≡ vec_len clients }
+    // Each session was answered by steps of the shared drive, or the drive had no seat for it.
+    ensures attended { (i : ℕ) (d : _) → i < vec_len clients
+        → IsAttended J.base (record { start = start; tick = tick }) (slice_index_or clients.items i d).role (slice_index_or result.0.items i d).outcome
+        (S.remaining (slice_index_or clients.items i d).reader) (taken_by W.passed W.held (slice_index_or clients.items i d).writer)
+        (S.remaining (slice_index_or result.0.items i d).reader) (taken_by W.passed W.held (slice_index_or result.0.items i d).writer) }
+    ensures passed { (i : ℕ) (d : _) → i < vec_len clients → PassesOn (slice_index_or result.0.items i d).outcome (W.held (slice_index_or result.0.items i d).writer) }
+    ensures reading { (i : ℕ) (d : _) → i < vec_len clients
+        → S.failures (slice_index_or result.0.items i d).reader ≡ S.failures (slice_index_or clients.items i d).reader + failures_in reading_failures (slice_index_or result.0.items i d).outcome }
+    ensures writing { (i : ℕ) (d : _) → i < vec_len clients
+        → W.failures (slice_index_or result.0.items i d).writer ≡ W.failures (slice_index_or clients.items i d).writer + failures_in writing_failures (slice_index_or result.0.items i d).outcome }
+{
+    let ended = AtomicBool::new(false);
+    let clean = || -> Round
+        ensures { IsLastRound J.base result }
+    { keep_up(rt, alloc, drive, &ended) };
+    let attend = || -> Vec<Client<S, W>>
+        requires count { vec_len clients ≤ 16 }
+        requires readers { All (λ c. S.failures c.reader + 1 < 2 ^ 64) clients.items }
+        requires writers { All (λ c. W.failures c.writer + 1 < 2 ^ 64) clients.items }
+        ensures count { vec_len result ≡ vec_len clients }
+        ensures attended { (i : ℕ) (d : _) → i < vec_len clients
+            → IsAttended J.base (record { start = start; tick = tick }) (slice_index_or clients.items i d).role (slice_index_or result.items i d).outcome
+            (S.remaining (slice_index_or clients.items i d).reader) (taken_by W.passed W.held (slice_index_or clients.items i d).writer)
+            (S.remaining (slice_index_or result.items i d).reader) (taken_by W.passed W.held (slice_index_or result.items i d).writer) }
+        ensures passed { (i : ℕ) (d : _) → i < vec_len clients → PassesOn (slice_index_or result.items i d).outcome (W.held (slice_index_or result.items i d).writer) }
+        ensures reading { (i : ℕ) (d : _) → i < vec_len clients
+            → S.failures (slice_index_or result.items i d).reader ≡ S.failures (slice_index_or clients.items i d).reader + failures_in reading_failures (slice_index_or result.items i d).outcome }
+        ensures writing { (i : ℕ) (d : _) → i < vec_len clients
+            → W.failures (slice_index_or result.items i d).writer ≡ W.failures (slice_index_or clients.items i d).writer + failures_in writing_failures (slice_index_or result.items i d).outcome }
+    { serve_all(rt, alloc, drive, gate, start, tick, &ended, clients) };
+    // Where there is no thread for the first, it is called behind the second.
+    let (round, clients) = join(rt, clean, attend);
+    (clients, round)
+}
