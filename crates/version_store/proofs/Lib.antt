@@ -1,3 +1,4 @@
+pub mod RelocatedStore
 pub mod Relocated
 pub mod RelocatedBlocks
 pub mod RenamedHistory

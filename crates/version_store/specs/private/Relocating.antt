@@ -1,5 +1,5 @@
 -- What is appended for copies, and what becomes of an object's blocks. No public clause cites this file.
-use Rattle.std.specs.Prelude.{◌≡◌, ◌⊎◌, ◌↔◌, ℕ, ◌+◌, suc, Bool, true, List, [], length, take, Option, Some, None, IsSome, IfSome, option_map}
+use Rattle.std.specs.Prelude.{◌≡◌, ◌⊎◌, ◌↔◌, ◌==◌, if◌then◌else◌, ℕ, ◌+◌, suc, Bool, true, List, [], length, take, Option, Some, None, IsSome, IfSome, option_map}
 use Rattle.std.specs.List.{Contains, list_any}
 use Rattle.s4_types.specs.Pointer.{Place}
 use Rattle.s4_types.specs.declared.limits.TheConstants.{PAYLOAD_BLOCKS}
@@ -15,8 +15,10 @@ use Rattle.chain_moving.specs.Renaming.{RenamingFields, move_of, new_place, rena
 use Rattle.chain_moving.specs.Apart.{HasDistinctPlaces}
 use Rattle.version_store.specs.declared.copies.CopiedBlock.{CopiedBlock}
 use Rattle.version_store.specs.declared.histories.History.{History}
+use Rattle.version_store.specs.Store.{StoreFields, IsStore}
+use Rattle.version_store.specs.Versions.{inode_in, version_in}
 use Rattle.version_store.specs.Replacing.{OnlyDataChanged, OtherObjectsStay}
-use Rattle.version_store.specs.Relocating.{IsCopied, blocks_relocated, frame_of_copies, with_moves, renaming_by, renamed_checkpoint, blocks_ascend_from}
+use Rattle.version_store.specs.Relocating.{IsCopied, IsRelocated, blocks_relocated, frame_of_copies, with_moves, renaming_by, renamed_checkpoint, blocks_ascend_from}
 
 -- a copy of a block of this number is held at a place
 pub record IsCopyAt (o : ℕ) (copies : List CopiedBlock) (now : Log) (n : ℕ) (q : Place) : Type 0 where
@@ -81,3 +83,10 @@ pub record Relocates (before : Log) (o : ℕ) (row : Row) (copies : List CopiedB
   pub checkpoints : (p : Place) → IsSome (of_kind Checkpoint o later.held p) → Contains (take (blocks_relocated before.held o row copies) before.ahead) p
   pub others : OtherObjectsStay o before.held later.held
   pub takes : TakesPlaces (blocks_relocated before.held o row copies) before later
+
+-- an object of a store was relocated
+pub record RelocatesIn (s : StoreFields) (o : ℕ) (row : Row) (copies : List CopiedBlock) (later : StoreFields) : Type 0 where
+  pub store : IsStore later
+  pub relocated : IsRelocated s o row copies later
+  pub inodes : (q t : ℕ) → inode_in later q t ≡ (if o == q then option_map (renamed_inode (renaming_by copies s.log.ahead)) (inode_in s q t) else inode_in s q t)
+  pub versions : (q t : ℕ) → version_in later q t ≡ version_in s q t
