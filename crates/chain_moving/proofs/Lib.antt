@@ -6,3 +6,5 @@ pub mod Told
 pub mod Listed
 pub mod Meaning
 pub mod Growing
+pub mod Kept
+pub mod InPlace

@@ -70,7 +70,7 @@ behind_renamed r count e (f ∷ entries) =
     ∙ ap (λ b. cond (e.moment == f.moment) ((ltb count 3 && continues e f) && b) (ltb e.moment f.moment && grouped_behind 1 (renamed_entry r f) (renamed_entries r entries))) (behind_renamed r (count + 1) f entries)
     ∙ ap (λ b. cond (e.moment == f.moment) ((ltb count 3 && continues e f) && grouped_behind (count + 1) f entries) (ltb e.moment f.moment && b)) (behind_renamed r 1 f entries)
 
-groups_renamed : (r : RenamingFields) (entries : List EntryFields) → grouped (renamed_entries r entries) ≡ grouped entries
+pub groups_renamed : (r : RenamingFields) (entries : List EntryFields) → grouped (renamed_entries r entries) ≡ grouped entries
 groups_renamed r [] = refl
 groups_renamed r (e ∷ entries) = behind_renamed r 1 e entries
 
@@ -87,7 +87,7 @@ told_alive r first entries n = ap (λ (i : Inode). i.alive) (behind_is r first e
 told_changed : (r : RenamingFields) (first : Inode) (entries : List EntryFields) (n : ℕ) → (inode_behind (renamed_inode r first) (renamed_entries r entries) n).changed ≡ (inode_behind first entries n).changed
 told_changed r first entries n = ap (λ (i : Inode). i.changed) (behind_is r first entries n)
 
-order_renamed : (r : RenamingFields) (created latest : ℕ) (first : Inode) (entries : List EntryFields) → IsOrderlyChain created latest first entries → IsOrderlyChain created latest (renamed_inode r first) (renamed_entries r entries)
+pub order_renamed : (r : RenamingFields) (created latest : ℕ) (first : Inode) (entries : List EntryFields) → IsOrderlyChain created latest first entries → IsOrderlyChain created latest (renamed_inode r first) (renamed_entries r entries)
 order_renamed r created latest first entries h = record {
   moments = all_renamed (λ e. IsFromTo created latest e.moment) (λ e. IsFromTo created latest e.moment) r entries (λ e is. is) h.moments;
   changed = λ n live. subst (λ (t : ℕ). IsFromTo created latest t) (sym (told_changed r first entries n)) (h.changed n (sym (told_alive r first entries n) ∙ live));

@@ -3,11 +3,13 @@ use Rattle.std.specs.Prelude.{◌≡◌, ℕ, Bool, true, List, map}
 use Rattle.std.specs.List.{AllByRecursion, Contains}
 use Rattle.s4_types.specs.Pointer.{Place}
 use Rattle.codec.specs.declared.inodes.Inode.{Inode}
-use Rattle.codec.specs.Checkpoint.{pointer_at}
+use Rattle.codec.specs.Checkpoint.{CheckpointFields, pointer_at, checkpoint_rules}
 use Rattle.codec.specs.Entry.{EntryFields, entry_rules, entry_length, entries_length}
 use Rattle.undo_redo.specs.Linked.{Linked}
 use Rattle.undo_redo.specs.Redone.{redone, undone}
-use Rattle.undo_redo.specs.Runs.{Run, redone_all, undone_all, inode_after, blank}
+use Rattle.undo_redo.specs.Runs.{Run, redone_all, undone_all, inode_after, entries_by, blank}
+use Rattle.undo_redo.specs.Groups.{grouped}
+use Rattle.time_read.specs.Orderly.{IsOrderlyChain}
 use Rattle.inode.specs.Contents.{meaning}
 use Rattle.inode.specs.Tidiness.{Tidy}
 use Rattle.chain_cleaning.specs.Chains.{IsChain}
@@ -70,7 +72,25 @@ ARenamedChainIsAChain =
     (r : RenamingFields) (created latest : ℕ) (first : Inode) (entries : List EntryFields)
     → IsApart r first entries → IsChain created latest first entries → IsChain created latest (renamed_inode r first) (renamed_entries r entries)
 
+-- Entries are in groups exactly where they are so renamed.
+abbrev pub RenamedEntriesStayInGroups : Type 0
+RenamedEntriesStayInGroups = (r : RenamingFields) (entries : List EntryFields) → grouped (renamed_entries r entries) ≡ grouped entries
+
+-- Entries in order stay in order when they are renamed, wherever the new places are.
+abbrev pub RenamedEntriesStayInOrder : Type 0
+RenamedEntriesStayInOrder =
+    (r : RenamingFields) (created latest : ℕ) (first : Inode) (entries : List EntryFields)
+    → IsOrderlyChain created latest first entries → IsOrderlyChain created latest (renamed_inode r first) (renamed_entries r entries)
+
+-- A checkpoint keeps the rules exactly where it keeps them with its pointers renamed.
+abbrev pub ARenamedCheckpointKeepsTheRules : Type 0
+ARenamedCheckpointKeepsTheRules = (r : RenamingFields) (c : CheckpointFields) → checkpoint_rules (record c { inode = renamed_inode r c.inode }) ≡ checkpoint_rules c
+
 -- ---- moments and bytes
+
+-- The renamed entries up to a moment are the entries up to it, renamed.
+abbrev pub RenamedEntriesUpToAMoment : Type 0
+RenamedEntriesUpToAMoment = (r : RenamingFields) (t : ℕ) (entries : List EntryFields) → entries_by t (renamed_entries r entries) ≡ renamed_entries r (entries_by t entries)
 
 -- Renamed entries have the moments that the entries had, in order.
 abbrev pub RenamedEntriesKeepTheirMoments : Type 0

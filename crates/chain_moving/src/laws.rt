@@ -1,5 +1,5 @@
 //! Laws of renamed chains, for the layers above: each function does nothing, and its contract is the law.
-ghost use Rattle.chain_moving.specs.Laws.{RenamingCommutesWithRedo, RenamingCommutesWithUndo, RenamingCommutesWithRedoOfAll, RenamingCommutesWithUndoOfAll, ARenamedChainShowsRenamedInodes, ARenamedLinkIsALink, ARenamedRunIsARun, ABlankInodeStays, APointerIsRenamed, RenamedEntriesKeepTheRules, ARenamedChainIsAChain, RenamedEntriesKeepTheirMoments, RenamedEntriesHaveOldMoments, TheMomentsOfRenamedEntriesAreOld, RenamedEntriesTakeAsManyBytes, ARenamedChainTakesAsManyBytes, ARenamedInodeMeansTheSame, ARenamedChainShowsTheSame};
+ghost use Rattle.chain_moving.specs.Laws.{RenamingCommutesWithRedo, RenamingCommutesWithUndo, RenamingCommutesWithRedoOfAll, RenamingCommutesWithUndoOfAll, ARenamedChainShowsRenamedInodes, ARenamedLinkIsALink, ARenamedRunIsARun, ABlankInodeStays, APointerIsRenamed, RenamedEntriesKeepTheRules, ARenamedChainIsAChain, RenamedEntriesKeepTheirMoments, RenamedEntriesHaveOldMoments, TheMomentsOfRenamedEntriesAreOld, RenamedEntriesTakeAsManyBytes, ARenamedChainTakesAsManyBytes, ARenamedInodeMeansTheSame, ARenamedChainShowsTheSame, RenamedEntriesStayInGroups, RenamedEntriesStayInOrder, RenamedEntriesUpToAMoment, ARenamedCheckpointKeepsTheRules};
 ghost use Rattle.chain_moving.specs.Places.{WhatIsToldIsListed, WhatIsToldPassesToo, AChainIsToldFromEitherEnd, AChainPointsToWhatItTells, RenamingIsOneToOne, ARenamedChainTellsInOrder, ARenamedChainTellsOfRenamedPlaces, EachPlaceIsPointedToRenamed, ARenamedChainIsOutOfTheFrame, NothingMovesYet, NoPlacesAreDistinct, NoPlacesAnswerAlike, OneMoreMoves, PlacesStayDistinct, NewPlacesAnswerAlike, ATestTellsApart, ApartFromEitherEnd};
 
 use inode::laws::{only_its_blocks_matter, ranges_join_and_part};
@@ -50,6 +50,21 @@ pub fn renamed_entries_keep_their_moments()
 pub fn a_renamed_chain_takes_as_many_bytes()
     ensures each { RenamedEntriesTakeAsManyBytes }
     ensures all { ARenamedChainTakesAsManyBytes }
+{}
+
+/// Renamed entries are in groups and in order where the entries were, and those up to a moment are those up to it, renamed.
+/// None of this asks where the new places are.
+#[tactic(auto, using(crate::proofs::Ordered::groups_renamed, crate::proofs::Ordered::order_renamed, crate::proofs::Renamed::entries_by_renamed))]
+pub fn renamed_entries_stay_in_order()
+    ensures groups { RenamedEntriesStayInGroups }
+    ensures order { RenamedEntriesStayInOrder }
+    ensures by { RenamedEntriesUpToAMoment }
+{}
+
+/// A checkpoint whose pointers are renamed keeps the rules of checkpoints exactly where it kept them.
+#[tactic(auto, using(crate::proofs::Kept::rules_renamed))]
+pub fn a_renamed_checkpoint_keeps_the_rules()
+    ensures { ARenamedCheckpointKeepsTheRules }
 {}
 
 /// A renamed inode means over the copied blocks what the inode meant, and is tidy where it was.

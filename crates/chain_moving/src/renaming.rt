@@ -144,6 +144,19 @@ impl Renaming {
         .unwrap()
     }
 
+    /// Renames both pointers of each triple of each entry, in place. The new places must be distinct, and none of them one of
+    /// which the entries tell. It takes no memory. Linear in the triples.
+    #[tactic(auto, using(crate::proofs::InPlace::none_before, crate::proofs::InPlace::all_before))]
+    pub fn rename_in_place(&self, entries: &mut [Entry])
+        requires distinct { HasDistinctPlaces self.now }
+        requires apart { AllByRecursion (TellsWithin (IsNotNew self.now)) entries.old }
+        ensures exact { entries.new ≡ renamed_entries self.now entries.old }
+    {
+        for entry in entries.iter_mut() {
+            *entry = self.rename_entry(entry);
+        }
+    }
+
     /// The entries with both pointers of each triple renamed. The new places must be distinct, and none of them one of
     /// which the entries tell: so the two pointers of a triple, which differ, differ when they are renamed, too.
     ///

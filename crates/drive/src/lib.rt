@@ -26,6 +26,7 @@ mod new_drive;
 mod pins;
 mod plans;
 mod reads;
+mod relocations;
 mod replacements;
 mod requests;
 mod session;

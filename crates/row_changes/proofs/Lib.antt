@@ -1,6 +1,8 @@
 pub mod CheckpointLemmas
 pub mod Fresh
 pub mod OrderKept
+pub mod MovedBlocks
+pub mod MovedRow
 pub mod Places
 pub mod Pushing
 pub mod Recently

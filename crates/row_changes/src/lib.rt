@@ -9,8 +9,10 @@
 mod changes;
 mod checkpoints;
 pub mod laws;
+mod moves;
 mod rewrites;
 
 pub use changes::record_change;
 pub use checkpoints::record_checkpoint;
+pub use moves::{move_row, moved_blocks};
 pub use rewrites::{rewrite_row, rewritten_blocks};

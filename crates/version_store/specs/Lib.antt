@@ -7,5 +7,6 @@ pub mod Taking
 pub mod Laws
 pub mod Checkpointing
 pub mod Replacing
+pub mod Relocating
 pub mod Emptying
 pub mod private

@@ -9,6 +9,7 @@
 //! Which changes may be asked for, and at which moments, is told elsewhere.
 #![tactic(auto)]
 
+mod copies;
 mod costs;
 mod data_blocks;
 pub mod laws;
@@ -16,5 +17,6 @@ mod named_table;
 mod presents;
 mod store;
 
+pub use copies::CopiedBlock;
 pub use named_table::NamedTable;
 pub use store::Store;

@@ -14,6 +14,7 @@ mod checkpoints;
 mod emptying;
 mod frames;
 mod pins;
+mod relocations;
 mod replacements;
 mod seals;
 

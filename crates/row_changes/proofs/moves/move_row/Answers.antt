@@ -1,0 +1,63 @@
+use Rattle.std.proofs.Common.{refl, sym, subst, rules, List, IsSome, option_copied}
+use Rattle.block_log.specs.declared.kinds.BlockKind.TheVariants.{Journal, Checkpoint}
+use Rattle.codec.specs.Entry.{EntryFields}
+use Rattle.time_read.specs.Rows.{chain_of, entries_of}
+use Rattle.journal_chain.specs.Chain.{Holds}
+use Rattle.journal_chain.specs.Push.{whole_blocks}
+use Rattle.row_changes.specs.Moving.{checkpoint_count}
+use Rattle.row_changes.proofs.Recently.{same_entries}
+use Rattle.row_changes.proofs.MovedRow.{Stands, with_moved, holds_told, told_still, moved_row, moved_first, moved_inode, moved_orderly, history_alone, among_first, among_later}
+use Rattle.row_changes.proofs.moves.move_row.Goals as goal
+
+pub move_chain-chain-requires-clause-held : goal.move_chain-chain-requires-clause-held
+move_chain-chain-requires-clause-held g c =
+    let held = (g.B.Blocks.log c.args.table.now).held in
+    let between = (g.B.Blocks.log c.move_checkpoint-checkpoint.new.table).held in
+    let o = c.args.object in
+    let row = c.args.row.now in
+    let same = c.move_checkpoint-checkpoint.ensures.others Journal o refl in
+    subst (λ (es : List EntryFields). Holds between (chain_of o row) es) (sym (same_entries held between o row same))
+    (c.a_chain_is_its_journal_blocks.ensures held between (chain_of o row) (entries_of held o row) same c.requires.row.chain)
+
+pub returns : goal.returns
+returns g c =
+    let log = g.B.Blocks.log c.args.table.now in
+    let between = g.B.Blocks.log c.move_checkpoint-checkpoint.new.table in
+    let after = g.B.Blocks.log c.move_chain-chain.new.table in
+    let o = c.args.object in
+    let row = c.args.row.now in
+    let kept = option_copied c.args.kept in
+    let entries = c.args.entries.now in
+    let place = c.move_checkpoint-checkpoint.result in
+    let head = c.head.result in
+    let bytes = c.bytes.result in
+    let filled = c.filled.result in
+    let first = checkpoint_count row.checkpoint in
+    let then = whole_blocks entries in
+    let same = c.move_chain-chain.ensures.others Checkpoint o refl in
+    let holds = holds_told after.held o row place head bytes filled c.move_chain-chain.result entries c.move_chain-chain.ensures.object c.head.ensures c.bytes.ensures.bytes c.filled.ensures.filled c.move_chain-chain.ensures.holds in
+    let s : Stands log.held after.held o row kept entries place head bytes filled = record {
+      was = c.requires.row;
+      tell = c.requires.tell;
+      some = c.move_checkpoint-checkpoint.ensures.some;
+      told = told_still between.held after.held o row kept place head bytes filled same c.move_checkpoint-checkpoint.ensures.told;
+      only = λ q there. c.move_checkpoint-checkpoint.ensures.only q (subst (λ (v : _). IsSome (v q)) same there);
+      holds = holds;
+      found = c.a_chain_has_its_entries.ensures after.held (chain_of o (with_moved row place head bytes filled)) entries holds;
+    } in
+    record {
+      row = moved_row log.held after.held o row kept entries place head bytes filled s;
+      entries = s.found;
+      checkpoint = s.told;
+      first = moved_first log.held after.held o row kept entries place head bytes filled s;
+      inode = λ t. moved_inode log.held after.held o row kept entries place head bytes filled t s;
+      orderly = λ latest. moved_orderly log.held after.held o row kept entries place head bytes filled latest s;
+      fields = search rules;
+      some = s.some;
+      others = history_alone log.held between.held after.held o c.move_checkpoint-checkpoint.ensures.others c.move_chain-chain.ensures.others;
+      takes = c.places_taken_add_up.ensures first then log between after c.move_checkpoint-checkpoint.ensures.takes c.move_chain-chain.ensures.takes;
+      journal = λ p there. among_later first then log between p c.move_checkpoint-checkpoint.ensures.takes (c.move_chain-chain.ensures.places p there);
+      checkpoints = λ p there. among_first first then log.ahead p (c.move_checkpoint-checkpoint.ensures.places p (subst (λ (v : _). IsSome (v p)) same there));
+      answer = search rules;
+      unchanged = search rules;
+    }

@@ -1,0 +1,46 @@
+-- What an object's row tells where its checkpoint, if it has one, and its whole journal are written anew, each as of its own
+-- moments.
+use Rattle.std.specs.Prelude.{◌≡◌, ℕ, ◌+◌, ◌≤◌, true, List, Option, Some, None, IfSome, is_some, option_map}
+use Rattle.s4_types.specs.Pointer.{Place}
+use Rattle.s4_types.specs.declared.limits.TheConstants.{CHAIN_ENTRY_BYTES}
+use Rattle.codec.specs.declared.inodes.Inode.{Inode}
+use Rattle.codec.specs.Entry.{EntryFields, entries_length}
+use Rattle.codec.specs.Checkpoint.{CheckpointFields, checkpoint_rules}
+use Rattle.undo_redo.specs.Runs.{Run, redone_all, inode_after}
+use Rattle.undo_redo.specs.Groups.{grouped}
+use Rattle.object_map.specs.declared.map.Row.{Row}
+use Rattle.journal_chain.specs.Push.{whole_blocks}
+use Rattle.time_read.specs.Rows.{inode_before}
+
+-- how many checkpoints stand where one is or none
+abbrev pub checkpoint_count : Option Place → ℕ
+checkpoint_count None = 0
+checkpoint_count (Some p) = 1
+
+-- how many blocks the checkpoint of a row, if it has one, and a whole chain of these entries are
+abbrev pub moved_blocks : Row → List EntryFields → ℕ
+moved_blocks row entries = checkpoint_count row.checkpoint + whole_blocks entries
+
+-- the checkpoint of an inode at the moment of an object's checkpoint
+abbrev pub checkpoint_at : ℕ → Row → Inode → CheckpointFields
+checkpoint_at o row i = record { object = o; moment = row.checkpoint_moment; inode = i }
+
+-- the same, where there is an inode
+abbrev pub checkpoint_with : ℕ → Row → Option Inode → Option CheckpointFields
+checkpoint_with o row kept = option_map (checkpoint_at o row) kept
+
+-- the inode before these entries, where this one is kept in the checkpoint, or none is
+abbrev pub first_with : ℕ → Row → Option Inode → List EntryFields → Inode
+first_with o row kept entries = inode_before row.created row.checkpoint_moment entries (checkpoint_with o row kept)
+
+-- An object's row can tell these entries, with this inode in its checkpoint, or none. There is one exactly where the row has
+-- a checkpoint, and it is the one that the entries show at the checkpoint's moment. The entries are a run in groups, and
+-- aren't too long; the object was made when the row tells.
+pub record CanTell (o : ℕ) (row : Row) (kept : Option Inode) (entries : List EntryFields) : Type 0 where
+  pub same : is_some kept ≡ is_some row.checkpoint
+  pub rules : IfSome kept (λ i. checkpoint_rules (checkpoint_at o row i) ≡ true)
+  pub current : IfSome kept (λ i. i ≡ inode_after (first_with o row kept entries) entries row.checkpoint_moment)
+  pub run : Run (first_with o row kept entries) entries (redone_all entries (first_with o row kept entries))
+  pub groups : grouped entries ≡ true
+  pub bytes : entries_length entries ≤ CHAIN_ENTRY_BYTES
+  pub created : (first_with o row kept entries).created ≡ row.created

@@ -1,0 +1,232 @@
+//! An object's checkpoint and journal at other places, as of the moments that they have.
+ghost use Rattle.std.specs.Prelude.{◌≡◌, ℕ, ◌<◌, ◌≤◌, true, [], length, map, None, Some, IsSome, IfSome, IfOk, OnErr, MatchResult, MatchOption, is_some, option_copied, take};
+ghost use Rattle.std.specs.List.{Contains};
+ghost use Rattle.s4_types.specs.Pointer.{Place};
+ghost use Rattle.s4_types.specs.declared.limits.TheConstants.{CHAIN_ENTRY_BYTES, JOURNAL_ENTRY_BYTES};
+ghost use Rattle.s4_types.specs.declared.refusals.Refusal.TheVariants.{NoRoom};
+ghost use Rattle.block_log.specs.declared.kinds.BlockKind.TheVariants.{Journal, Checkpoint};
+ghost use Rattle.block_log.specs.Log.{of_kind};
+ghost use Rattle.block_log.specs.Taken.{TakesPlaces};
+ghost use Rattle.codec.specs.Entry.{entry_length, entries_length};
+ghost use Rattle.codec.specs.Checkpoint.{checkpoint_rules};
+ghost use Rattle.undo_redo.specs.Runs.{inode_after};
+ghost use Rattle.journal_chain.specs.Chain.{Holds, OnlyJournalChanged};
+ghost use Rattle.journal_chain.specs.Push.{whole_blocks};
+ghost use Rattle.checkpoint.specs.Held.{checkpoint_held};
+ghost use Rattle.time_read.specs.Rows.{IsRow, chain_of, entries_of, first_of, checkpoint_of, inode_of};
+ghost use Rattle.time_read.specs.Orderly.{IsFromTo, IsOrderly, IsOrderlyChain, BeginsDead};
+ghost use Rattle.row_changes.specs.Moved.{OnlyCheckpointChanged};
+ghost use Rattle.row_changes.specs.Rewritten.{OnlyHistoryChanged};
+ghost use Rattle.row_changes.specs.Moving.{CanTell, checkpoint_count, checkpoint_at, checkpoint_with, first_with, moved_blocks};
+
+use crate::checkpoints::{drop_older, put};
+use crate::rewrites::rewritten_blocks;
+use arrayvec::ArrayVec;
+use block_log::Blocks;
+use block_log::laws::{no_change_takes_no_place, one_place_has_one_name, places_taken_add_up};
+use codec::{Entry, Inode};
+use journal_chain::Chain;
+use journal_chain::laws::{
+    a_chain_has_its_entries, a_chain_is_its_journal_blocks, changes_add_up,
+};
+use journal_chain::packing::blocks_needed;
+use journal_chain::packing::laws::{chains_are_short, few_blocks_are_needed};
+use object_map::Row;
+use s4_types::limits::{CHAIN_ENTRY_BYTES, SHORTEST_ENTRY_BYTES};
+use s4_types::{ObjectId, Ptr, Refusal};
+use time_read::laws::a_row_tells_a_chain;
+
+// So many of the shortest entries have the most bytes that a chain may have.
+const CHAIN_ENTRIES: usize = CHAIN_ENTRY_BYTES / SHORTEST_ENTRY_BYTES;
+
+/// The bytes of each entry of an object's journal. It is walked from the newest entry back.
+fn sizes_told<B: Blocks>(
+    table: &mut B,
+    object: ObjectId,
+    row: &Row,
+) -> ArrayVec<usize, CHAIN_ENTRIES>
+    requires { IsRow (B.log table.old).held object row.now }
+    ensures sizes { result.items ≡ map entry_length (entries_of (B.log table.old).held object row.now) }
+    ensures same { B.log table.new ≡ B.log table.old }
+{
+    a_row_tells_a_chain();
+    chains_are_short();
+    let chain = Chain::of(object, row.head, row.journal_bytes, row.head_bytes);
+    let mut sizes = ArrayVec::new();
+    let mut back = chain.entries_back();
+    while let Some(entry) = back.next(table) {
+        sizes.push(entry.byte_count());
+    }
+    sizes.reverse();
+    sizes
+}
+
+/// How many checkpoints a row names: one or none.
+fn checkpoint_count(row: &Row) -> usize
+    ensures { result ≡ checkpoint_count row.now.checkpoint }
+{
+    match row.checkpoint {
+        None => 0,
+        Some(_) => 1,
+    }
+}
+
+/// How many places it takes to write an object's checkpoint, if it has one, and its whole journal at other places: what
+/// `move_row` counts before anything is written. Takes no memory.
+pub fn moved_blocks<B: Blocks>(table: &mut B, object: ObjectId, row: &Row) -> usize
+    requires { IsRow (B.log table.old).held object row.now }
+    ensures blocks { result ≡ moved_blocks row.now (entries_of (B.log table.old).held object row.now) }
+    ensures same { B.log table.new ≡ B.log table.old }
+{
+    few_blocks_are_needed();
+    let sizes = sizes_told(table, object, row);
+    checkpoint_count(row) + blocks_needed(0, sizes.as_slice())
+}
+
+/// Puts a checkpoint of this inode in place of the one that an object's row names, if it names one, where a place is ahead.
+fn put_anew<B: Blocks>(table: &mut B, object: ObjectId, row: &Row, inode: &Inode) -> Ptr
+    requires row { IsRow (B.log table.old).held object row.now }
+    requires rules { checkpoint_rules (checkpoint_at object row.now inode.now) ≡ true }
+    requires room { 0 < length (B.log table.old).ahead }
+    ensures told { checkpoint_held (B.log table.new).held object result ≡ Some (checkpoint_at object row.now inode.now) }
+    ensures only { (p : Place) → IsSome (of_kind Checkpoint object (B.log table.new).held p) → Some result ≡ Some p }
+    ensures place { Contains (take 1 (B.log table.old).ahead) result }
+    ensures others { OnlyCheckpointChanged object (B.log table.old).held (B.log table.new).held }
+    ensures takes { TakesPlaces 1 (B.log table.old) (B.log table.new) }
+{
+    one_place_has_one_name();
+    places_taken_add_up();
+    let Ok(place) = put(table, object, inode, row.checkpoint_moment) else {
+        unreachable!()
+    };
+    drop_older(table, object, row.checkpoint);
+    place
+}
+
+/// Puts a checkpoint of this inode, if there is one, in place of the one that an object's row names, where there is room, and
+/// answers where it stands.
+fn move_checkpoint<B: Blocks>(
+    table: &mut B,
+    object: ObjectId,
+    row: &Row,
+    kept: Option<&Inode>,
+) -> Option<Ptr>
+    requires row { IsRow (B.log table.old).held object row.now }
+    requires same { is_some (option_copied kept) ≡ is_some row.now.checkpoint }
+    requires rules { IfSome (option_copied kept) (λ i. checkpoint_rules (checkpoint_at object row.now i) ≡ true) }
+    requires room { checkpoint_count row.now.checkpoint ≤ length (B.log table.old).ahead }
+    ensures told { checkpoint_of (B.log table.new).held object (record row.now { checkpoint = result }) ≡ checkpoint_with object row.now (option_copied kept.entry) }
+    ensures some { is_some result ≡ is_some row.now.checkpoint }
+    ensures only { (p : Place) → IsSome (of_kind Checkpoint object (B.log table.new).held p) → result ≡ Some p }
+    ensures places { (p : Place) → IsSome (of_kind Checkpoint object (B.log table.new).held p) → Contains (take (checkpoint_count row.now.checkpoint) (B.log table.old).ahead) p }
+    ensures others { OnlyCheckpointChanged object (B.log table.old).held (B.log table.new).held }
+    ensures takes { TakesPlaces (checkpoint_count row.now.checkpoint) (B.log table.old) (B.log table.new) }
+{
+    no_change_takes_no_place();
+    let inode = kept?;
+    Some(put_anew(table, object, row, inode))
+}
+
+/// Drops all journal blocks of an object, and answers its chain, of no entries.
+fn drop_chain<B: Blocks>(table: &mut B, object: ObjectId, row: &Row) -> Chain
+    requires object { 1 ≤ object }
+    requires bytes { row.now.journal_bytes ≤ CHAIN_ENTRY_BYTES }
+    requires one_block { row.now.head_bytes ≤ JOURNAL_ENTRY_BYTES }
+    requires held { Holds (B.log table.old).held (chain_of object row.now) (entries_of (B.log table.old).held object row.now) }
+    ensures holds { Holds (B.log table.new).held result [] }
+    ensures object { result.object ≡ object }
+    ensures gone { (p : Place) → of_kind Journal object (B.log table.new).held p ≡ None }
+    ensures others { OnlyJournalChanged object (B.log table.old).held (B.log table.new).held }
+    ensures takes { TakesPlaces 0 (B.log table.old) (B.log table.new) }
+{
+    let mut chain = Chain::of(object, row.head, row.journal_bytes, row.head_bytes);
+    let Ok(()) = chain.rewrite(table, &[]) else {
+        unreachable!()
+    };
+    chain
+}
+
+/// Drops all journal blocks of an object, and then writes its journal afresh where there is room, and answers its chain. So
+/// each journal block of it is at a place that was taken.
+fn move_chain<B: Blocks>(table: &mut B, object: ObjectId, row: &Row, entries: &[Entry]) -> Chain
+    requires object { 1 ≤ object }
+    requires bytes { row.now.journal_bytes ≤ CHAIN_ENTRY_BYTES }
+    requires one_block { row.now.head_bytes ≤ JOURNAL_ENTRY_BYTES }
+    requires held { Holds (B.log table.old).held (chain_of object row.now) (entries_of (B.log table.old).held object row.now) }
+    requires limit { entries_length entries.now ≤ CHAIN_ENTRY_BYTES }
+    requires room { whole_blocks entries.now ≤ length (B.log table.old).ahead }
+    ensures holds { Holds (B.log table.new).held result entries.now }
+    ensures object { result.object ≡ object }
+    ensures places { (p : Place) → IsSome (of_kind Journal object (B.log table.new).held p) → Contains (take (whole_blocks entries.now) (B.log table.old).ahead) p }
+    ensures others { OnlyJournalChanged object (B.log table.old).held (B.log table.new).held }
+    ensures takes { TakesPlaces (whole_blocks entries.now) (B.log table.old) (B.log table.new) }
+{
+    a_chain_has_its_entries();
+    places_taken_add_up();
+    changes_add_up();
+    let mut chain = drop_chain(table, object, row);
+    let Ok(()) = chain.rewrite(table, entries) else {
+        unreachable!()
+    };
+    chain
+}
+
+/// Writes an object's checkpoint, if it has one, with this inode, and then its whole journal afresh with these entries, the
+/// oldest first, in place of what stood; and answers its row after that. The checkpoint keeps its moment, and none appears
+/// where there was none. No block of the old history is held any more, and each of the new one is at a place that was
+/// taken for it.
+///
+/// At each moment the inode is then the one that the entries tell. A row whose new entries are in order is in order.
+///
+/// NoRoom exactly where fewer places are ahead than the checkpoint and the entries take; then nothing has changed.
+pub fn move_row<B: Blocks>(
+    table: &mut B,
+    object: ObjectId,
+    row: &Row,
+    kept: Option<&Inode>,
+    entries: &[Entry],
+) -> Result<Row, Refusal>
+    requires row { IsRow (B.log table.old).held object row.now }
+    requires tell { CanTell object row.now (option_copied kept) entries.now }
+    ensures row { IfOk result (λ later. IsRow (B.log table.new).held object later) }
+    ensures entries { IfOk result (λ later. entries_of (B.log table.new).held object later ≡ entries.now) }
+    ensures checkpoint { IfOk result (λ later. checkpoint_of (B.log table.new).held object later ≡ checkpoint_with object row.now (option_copied kept.entry)) }
+    ensures first { IfOk result (λ later. first_of (B.log table.new).held object later ≡ first_with object row.now (option_copied kept.entry) entries.now) }
+    ensures inode { IfOk result (λ later. (t : ℕ) → inode_of (B.log table.new).held object later t ≡ inode_after (first_with object row.now (option_copied kept.entry) entries.now) entries.now t) }
+    ensures orderly { IfOk result (λ later. (latest : ℕ) → IsOrderlyChain row.now.created latest (first_with object row.now (option_copied kept.entry) entries.now) entries.now
+        → IsFromTo 1 latest row.now.created → MatchOption row.now.checkpoint (BeginsDead entries.now) (λ p. IsFromTo row.now.created latest row.now.checkpoint_moment)
+        → IsOrderly (B.log table.new).held object later latest) }
+    ensures fields { IfOk result (λ later. later ≡ record row.now {
+      checkpoint = later.checkpoint;
+      head = later.head;
+      journal_bytes = entries_length entries.now;
+      head_bytes = later.head_bytes;
+    }) }
+    ensures some { IfOk result (λ later. is_some later.checkpoint ≡ is_some row.now.checkpoint) }
+    ensures others { OnlyHistoryChanged object (B.log table.old).held (B.log table.new).held }
+    ensures takes { IfOk result (λ _. TakesPlaces (moved_blocks row.now entries.now) (B.log table.old) (B.log table.new)) }
+    ensures journal { IfOk result (λ _. (p : Place) → IsSome (of_kind Journal object (B.log table.new).held p) → Contains (take (moved_blocks row.now entries.now) (B.log table.old).ahead) p) }
+    ensures checkpoints { IfOk result (λ _. (p : Place) → IsSome (of_kind Checkpoint object (B.log table.new).held p) → Contains (take (moved_blocks row.now entries.now) (B.log table.old).ahead) p) }
+    ensures answer { MatchResult result
+        (λ _. moved_blocks row.now entries.now ≤ length (B.log table.old).ahead)
+        (λ e. (e ≡ NoRoom) × (length (B.log table.old).ahead < moved_blocks row.now entries.now)) }
+    ensures unchanged { OnErr result (B.log table.new ≡ B.log table.old) }
+{
+    places_taken_add_up();
+    a_chain_has_its_entries();
+    a_chain_is_its_journal_blocks();
+    a_row_tells_a_chain();
+    let journal = rewritten_blocks(entries) - 1;
+    if table.blocks_left() < checkpoint_count(row) + journal {
+        return Err(Refusal::NoRoom);
+    }
+    let checkpoint = move_checkpoint(table, object, row, kept);
+    let chain = move_chain(table, object, row, entries);
+    Ok(Row {
+        checkpoint,
+        head: chain.head(),
+        journal_bytes: chain.bytes() as u16,
+        head_bytes: chain.filled() as u16,
+        ..*row
+    })
+}

@@ -1,0 +1,51 @@
+//! The relocation of an object's blocks: its data blocks out of one frame, its checkpoint and its journal.
+ghost use Rattle.std.specs.Prelude.{◌≡◌, ◌⊎◌, ℕ, ◌<◌, ◌≤◌, ◌==◌, if◌then◌else◌, IsSome, IfSome, OnOk, OnErr, MatchResult, length, option_map};
+ghost use Rattle.s4_types.specs.declared.refusals.Refusal.TheVariants.{NoMemory, NoRoom};
+ghost use Rattle.object_map.specs.Rows.{row_of};
+ghost use Rattle.chain_moving.specs.Renaming.{renamed_inode};
+ghost use Rattle.version_store.specs.Store.{fields_of, IsStore};
+ghost use Rattle.version_store.specs.Versions.{inode_in, version_in};
+ghost use Rattle.version_store.specs.Relocating.{AreCopies, IsRelocated, blocks_relocated, renaming_by};
+
+use crate::copies::CopiedBlock;
+use crate::store::Store;
+use block_log::Blocks;
+use row_changes::moved_blocks;
+use s4_types::{ObjectId, Refusal};
+
+impl<B: Blocks> Store<B> {
+    /// An object's blocks go to new places: these copies of its data blocks in one frame, in their order, then its checkpoint,
+    /// if it has one, and its whole journal, with each pointer to a copied block leading to the copy. The blocks that were
+    /// copied are dropped. With no copies the checkpoint and the journal alone go. Checkpoint and entries keep their moments;
+    /// the row is changed once more. Each version of each object is as it was, at every moment, and the moment of the last
+    /// change stays.
+    ///
+    /// NoRoom exactly where fewer places are ahead than the copies, the checkpoint and the journal take; else NoMemory alone,
+    /// where the memory for the entries is refused. Then nothing has changed. It takes time in proportion to the copies and
+    /// the entries.
+    pub fn relocate(&mut self, object: ObjectId, copies: &[CopiedBlock]) -> Result<(), Refusal>
+        requires store { IsStore (fields_of B.log self.old) }
+        requires some { IsSome (row_of self.old.rows object) }
+        requires copies { AreCopies (B.log self.old.table).held object copies.now }
+        ensures store { IsStore (fields_of B.log self.new) }
+        ensures relocated { OnOk result (IfSome (row_of self.old.rows object) (λ row. IsRelocated (fields_of B.log self.old) object row copies.now (fields_of B.log self.new))) }
+        ensures inodes { OnOk result ((q t : ℕ) → inode_in (fields_of B.log self.new) q t
+            ≡ (if object == q then option_map (renamed_inode (renaming_by copies.now (B.log self.old.table).ahead)) (inode_in (fields_of B.log self.old) q t) else inode_in (fields_of B.log self.old) q t)) }
+        ensures versions { OnOk result ((q t : ℕ) → version_in (fields_of B.log self.new) q t ≡ version_in (fields_of B.log self.old) q t) }
+        ensures answer { IfSome (row_of self.old.rows object) (λ row. MatchResult result
+            (λ _. blocks_relocated (B.log self.old.table).held object row copies.now ≤ length (B.log self.old.table).ahead)
+            (λ e. ((e ≡ NoRoom) × (length (B.log self.old.table).ahead < blocks_relocated (B.log self.old.table).held object row copies.now))
+            ⊎ ((e ≡ NoMemory) × (blocks_relocated (B.log self.old.table).held object row copies.now ≤ length (B.log self.old.table).ahead)))) }
+        ensures unchanged { OnErr result (fields_of B.log self.new ≡ fields_of B.log self.old) }
+    {
+        let Some(row) = self.row(object) else {
+            unreachable!()
+        };
+        let history = moved_blocks(&mut self.table, object, &row);
+        let left = self.table.blocks_left();
+        if left < history || left - history < copies.len() {
+            return Err(Refusal::NoRoom);
+        }
+        Err(Refusal::NoMemory)
+    }
+}
