@@ -1,7 +1,7 @@
 -- What planned and copied moves keep.
 use Rattle.std.proofs.Common.{◌≡◌, inl, inr, ℕ, zero, suc, ◌+◌, ◌<◌, ◌≤◌, ◌==◌, Bool, true, false, cond, if◌then◌else◌, List, [], ◌∷◌, ◌++◌, length, get_or, take, map, refl, sym, ap, subst, ◌∙◌, arith}
 use Rattle.std.specs.List.{AllByRecursion}
-use Rattle.std.proofs.lemmas.Bool.{cases_Bool, eqb-true, cond-true, cond-false}
+use Rattle.std.proofs.lemmas.Bool.{cases_Bool, eqb-true, eq-eqb, cond-true, cond-false}
 use Rattle.s4_types.specs.Pointer.{Place}
 use Rattle.segment_word.specs.Frames.{Pinned}
 use Rattle.segment_word.specs.Handles.{IsAmong}
@@ -47,19 +47,16 @@ read_bytes f b pins bytes counted is =
     let there = is_there f pins counted in
     is there.pin there.among there.frame ∙ ap (λ (c : List ℕ). block_bytes c b) (sym there.contents)
 
-same_number : (n : ℕ) → (n == n) ≡ true
-same_number n = search rules
-
 -- the one pin is of its frame
 one_counted : (q : Pinned) (f : ℕ) → f ≡ q.number → 0 < pins_in f (q ∷ [])
 one_counted q f e =
-    let here : (q.number == f) ≡ true = ap (λ (n : ℕ). q.number == n) e ∙ same_number q.number in
+    let here : (q.number == f) ≡ true = eq-eqb q.number f (sym e) in
     let one : ◌≡◌ {A = ℕ} (cond (q.number == f) 1 0) 1 = cond-true {A = ℕ} (q.number == f) 1 0 here in
     omega (arith, one)
 
 one_contents : (q : Pinned) (f : ℕ) → f ≡ q.number → contents_pinned f (q ∷ []) ≡ q.contents
 one_contents q f e =
-    let here : (q.number == f) ≡ true = ap (λ (n : ℕ). q.number == n) e ∙ same_number q.number in
+    let here : (q.number == f) ≡ true = eq-eqb q.number f (sym e) in
     cond-true (q.number == f) q.contents (contents_pinned f []) here
 
 -- ---- places

@@ -10,7 +10,7 @@ use Rattle.segment_word.specs.Frames.{Phase, Free, Open, Sealed, Emptied, is_sea
 use Rattle.segment_word.specs.Layout.{frame_at}
 use Rattle.segment_word.specs.Handles.{pin_of}
 use Rattle.segment_table.specs.Table.{Table, held_at, is_of}
-use Rattle.segment_table.specs.Room.{pointers_in}
+use Rattle.segment_table.specs.Room.{whole_of, pointers_in}
 use Rattle.segment_table.specs.Laws.{IsListed, WhatIsListedIsHeld}
 use Rattle.segment_copier.specs.Moves.{is_data, data_in, IsPlaceIn}
 
@@ -68,7 +68,7 @@ of_some o (Some block) e = refl
 pub some_sealed : (t : Table) (o f : ℕ) → (pointers_in t o f ≡ [] → ⊥) → is_sealed (frame_at t.drive.frames f).phase ≡ true
 some_sealed t o f some = elim (cases_Bool (is_sealed (frame_at t.drive.frames f).phase)) [
     | inl sealed ↦ sealed
-    | inr other ↦ absurd (some (ap (λ (b : Bool). if b then _ else []) other))
+    | inr other ↦ absurd (some (ap (λ (b : Bool). if b then filter (λ p. is_of o (held_at t p)) (whole_of t f) else []) other))
   ]
 
 -- data blocks are listed, and are data

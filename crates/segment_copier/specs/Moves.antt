@@ -26,13 +26,13 @@ data_in t o f = filter (λ p. is_data (held_at t p)) (pointers_in t o f)
 -- a planned move: what it is of, where the data blocks are that it copies, and the pin of their frame, where there is
 -- something to move
 pub record PlannedMove : Type 0 where
-  pub move : Move
+  pub what : Move
   pub places : List Place
   pub pin : Option Held
 
 -- a copied move: what it is of, the copies, and what its pin counted on
 pub record CopiedMove : Type 0 where
-  pub move : Move
+  pub what : Move
   pub copies : List CopiedBlock
   pub memory : Option Remembered
 
@@ -61,25 +61,25 @@ abbrev pub IsCopyFrom : Pinned → CopiedBlock → Type 0
 IsCopyFrom q c = IsPlaceIn q c.place × (c.bytes ≡ block_bytes q.contents c.place.block)
 
 -- The pin of a planned move is of this table; it counts on one frame, in which the places are.
-pub record IsPinOver (table : TableId) (places : List Place) (held : Held) : Type 0 where
-  pub table : held.table ≡ table
+pub record IsPinOver (frames : TableId) (places : List Place) (held : Held) : Type 0 where
+  pub table : held.table ≡ frames
   pub pinned : Pinned
   pub alone : held.pins ≡ pinned ∷ []
   pub inside : AllByRecursion (IsPlaceIn pinned) places
 
 -- a planned move keeps its places; with no pin it has none
 abbrev pub IsKeptPlan : TableId → List Place → Option Held → Type 0
-IsKeptPlan table places None = places ≡ []
-IsKeptPlan table places (Some held) = IsPinOver table places held
+IsKeptPlan frames places None = places ≡ []
+IsKeptPlan frames places (Some held) = IsPinOver frames places held
 
 -- What a copied move remembers is of this table, and of one frame, from which the copies are.
-pub record IsMemoryOver (table : TableId) (copies : List CopiedBlock) (memory : Remembered) : Type 0 where
-  pub table : memory.table ≡ table
+pub record IsMemoryOver (frames : TableId) (copies : List CopiedBlock) (memory : Remembered) : Type 0 where
+  pub table : memory.table ≡ frames
   pub pinned : Pinned
   pub alone : memory.remembered ≡ pinned ∷ []
   pub inside : AllByRecursion (IsCopyFrom pinned) copies
 
 -- a copied move with nothing to remember has no copies
 abbrev pub IsKeptCopy : TableId → List CopiedBlock → Option Remembered → Type 0
-IsKeptCopy table copies None = copies ≡ []
-IsKeptCopy table copies (Some memory) = IsMemoryOver table copies memory
+IsKeptCopy frames copies None = copies ≡ []
+IsKeptCopy frames copies (Some memory) = IsMemoryOver frames copies memory

@@ -92,11 +92,11 @@ pub fn commit<J: Naming>(
     drive: &mut Drive<J>,
     moved: Moved<J>,
 ) -> Result<(), Refusal>
-    ensures told { MatchResult result (λ _. IsCurrent (store_of drive.old) moved.move) (IsUnmoved drive.old moved.move) }
-    ensures moved { OnOk result (moved.move.is_empty ≡ false → IfSome (row_of drive.old.store.rows moved.move.object) (λ row. IsMovedBy drive.old moved.move.frame moved.move.object moved.copies row drive.new)) }
-    ensures left { OnOk result (moved.move.is_empty ≡ false → HoldsNone drive.new.store.table moved.move.object moved.move.frame) }
-    ensures empty { OnOk result (moved.move.is_empty ≡ true → store_of drive.new ≡ store_of drive.old) }
-    ensures room { result ≡ Err NoRoom → IfSome (row_of drive.old.store.rows moved.move.object) (λ row. length (store_of drive.old).log.ahead < blocks_moved drive.old moved.move.frame moved.move.object row) }
+    ensures told { MatchResult result (λ _. IsCurrent (store_of drive.old) moved.what) (IsUnmoved drive.old moved.what) }
+    ensures moved { OnOk result (moved.what.is_empty ≡ false → IfSome (row_of drive.old.store.rows moved.what.object) (λ row. IsMovedBy drive.old moved.what.frame moved.what.object moved.copies row drive.new)) }
+    ensures left { OnOk result (moved.what.is_empty ≡ false → HoldsNone drive.new.store.table moved.what.object moved.what.frame) }
+    ensures empty { OnOk result (moved.what.is_empty ≡ true → store_of drive.new ≡ store_of drive.old) }
+    ensures room { result ≡ Err NoRoom → IfSome (row_of drive.old.store.rows moved.what.object) (λ row. length (store_of drive.old).log.ahead < blocks_moved drive.old moved.what.frame moved.what.object row) }
     ensures versions { (o t : ℕ) → version_in (store_of drive.new) o t ≡ version_in (store_of drive.old) o t }
     ensures unchanged { OnErr result (store_of drive.new ≡ store_of drive.old) }
     ensures ledger { drive.new.ledger ≡ drive.old.ledger }

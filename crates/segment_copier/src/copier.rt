@@ -16,8 +16,8 @@ impl<J: Naming> Moves<J> for Copier {
     type Plan = MovePlan<J>;
     type Moved = Moved<J>;
 
-    ghost planned = { λ p. p.move };
-    ghost copied = { λ m. m.move };
+    ghost planned = { λ p. p.what };
+    ghost copied = { λ m. m.what };
     ghost commits = { CommitsMove };
 
     fn plan(

@@ -7,11 +7,11 @@
 //! leaves which frame is the caller's choice.
 #![tactic(auto)]
 
-//mod commits;
-//mod copier;
+mod commits;
+mod copier;
 mod held;
 mod plans;
 
-//pub use commits::commit;
-//pub use copier::Copier;
+pub use commits::commit;
+pub use copier::Copier;
 pub use plans::{MovePlan, Moved, plan_move};

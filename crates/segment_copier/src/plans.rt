@@ -39,7 +39,7 @@ impl<J: Naming> Model for MovePlan<J> {
 
     ghost Value = { PlannedMove };
 
-    ghost view = { λ p. record { move = record { frame = p.frame; object = p.object; stamp = p.stamp; is_empty = is_none p.pin }; places = p.places.items; pin = p.pin } };
+    ghost view = { λ p. record { what = record { frame = p.frame; object = p.object; stamp = p.stamp; is_empty = is_none p.pin }; places = p.places.items; pin = p.pin } };
 
     ghost invariant = { λ p. IsKeptPlan J.frames p.places.items p.pin };
 }
@@ -64,7 +64,7 @@ impl<J: Naming> Model for Moved<J> {
 
     ghost Value = { CopiedMove };
 
-    ghost view = { λ m. record { move = record { frame = m.frame; object = m.object; stamp = m.stamp; is_empty = is_none m.memory }; copies = m.copies.items; memory = m.memory } };
+    ghost view = { λ m. record { what = record { frame = m.frame; object = m.object; stamp = m.stamp; is_empty = is_none m.memory }; copies = m.copies.items; memory = m.memory } };
 
     ghost invariant = { λ m. IsKeptCopy J.frames m.copies.items m.memory };
 }
@@ -97,7 +97,7 @@ impl<J: Naming> MovePlan<J> {
     ///
     /// NoMemory alone, where the memory for the copies is refused; it is asked for once.
     pub fn copy(self, alloc: Global) -> Result<Moved<J>, Refusal>
-        ensures move { IfOk result (λ moved. moved.move ≡ self.move) }
+        ensures what { IfOk result (λ moved. moved.what ≡ self.what) }
         ensures copies { IfOk result (λ moved. moved.copies ≡ copies_of (pins_held self.pin) self.places) }
         ensures memory { IfOk result (λ moved. moved.memory ≡ memory_of self.pin) }
         ensures refusal { IfErr result (λ e. e ≡ NoMemory) }
@@ -148,9 +148,9 @@ pub fn plan_move<J: Naming>(
     frame: u16,
     object: ObjectId,
 ) -> Result<MovePlan<J>, Refusal>
-    ensures told { MatchResult result (λ plan. IsMoveOf drive.old frame object plan.move) (IsUnplanned drive.old object) }
+    ensures told { MatchResult result (λ plan. IsMoveOf drive.old frame object plan.what) (IsUnplanned drive.old object) }
     ensures places { IfOk result (λ plan. plan.places ≡ data_in drive.old.store.table object frame) }
-    ensures pinned { IfOk result (λ plan. CountsOnFrame J.frames drive.old.store.table.drive.frames frame plan.move.is_empty plan.pin) }
+    ensures pinned { IfOk result (λ plan. CountsOnFrame J.frames drive.old.store.table.drive.frames frame plan.what.is_empty plan.pin) }
     ensures session { session.new ≡ session.old }
     ensures same { drive.new ≡ drive.old }
 {
