@@ -4,12 +4,17 @@ use Rattle.std.specs.List.{AllByRecursion}
 use Rattle.std.proofs.lemmas.Bool.{cases_Bool, eqb-true, eq-eqb, cond-true, cond-false}
 use Rattle.s4_types.specs.Pointer.{Place}
 use Rattle.segment_word.specs.Frames.{Pinned}
-use Rattle.segment_word.specs.Handles.{IsAmong}
+use Rattle.std.proofs.lemmas.List.{take_more, map-append}
+use Rattle.atomic_table.specs.Seated.{TableId}
+use Rattle.segment_word.specs.Handles.{Held, Remembered, IsAmong, pin_of}
 use Rattle.segment_word.specs.Layout.{block_bytes}
 use Rattle.segment_word.specs.Counting.{pins_in}
 use Rattle.time_read.specs.Plans.{contents_pinned}
 use Rattle.version_store.specs.declared.copies.CopiedBlock.{CopiedBlock}
-use Rattle.segment_copier.specs.Moves.{IsPlaceIn, IsCopyFrom, copies_of}
+use Rattle.segment_table.specs.Table.{Table}
+use Rattle.segment_table.specs.Laws.{WhatIsListedIsHeld}
+use Rattle.segment_copier.specs.Moves.{IsPlaceIn, IsCopyFrom, IsPinOver, IsMemoryOver, copies_of, data_in}
+use Rattle.segment_copier.proofs.Listed.{data_inside}
 
 -- ---- pins
 
@@ -72,3 +77,36 @@ all_copied q pins [] alone inside = tt
 all_copied q pins (p ∷ places) alone inside =
     let is : contents_pinned p.frame pins ≡ q.contents = ap (contents_pinned p.frame) alone ∙ one_contents q p.frame inside.0.0 in
     ((inside.0, ap (λ (c : List ℕ). block_bytes c p.block) is), all_copied q pins places alone inside.1)
+
+-- one more block is copied
+pub one_more : (pins : List Pinned) (places : List Place) (i : ℕ) (p : Place) (bytes : List ℕ) (copies : List CopiedBlock) → i < length places → p ≡ get_or places i p
+    → copies ≡ copies_of pins (take i places) → bytes ≡ block_bytes (contents_pinned p.frame pins) p.block
+    → copies ++ (record { place = p; bytes = bytes }) ∷ [] ≡ copies_of pins (take (i + 1) places)
+one_more pins places i p bytes copies h at so is =
+    let copy : Place → CopiedBlock = λ q. record { place = q; bytes = block_bytes (contents_pinned q.frame pins) q.block } in
+    let this : CopiedBlock = record { place = p; bytes = bytes } in
+    let here : this ≡ copy p = ap (λ (l : List ℕ). (record { place = p; bytes = l })) is in
+    ap (λ (l : List CopiedBlock). l ++ this ∷ []) so
+    ∙ ap (λ (c : CopiedBlock). copies_of pins (take i places) ++ c ∷ []) here
+    ∙ ap (λ (q : Place). copies_of pins (take i places) ++ copy q ∷ []) at
+    ∙ sym (ap (copies_of pins) (take_more places i p h) ∙ map-append copy (take i places) (get_or places i p ∷ []))
+
+-- a plan with a pin on its frame keeps its places
+pub pin_over : (law : WhatIsListedIsHeld) (t : Table) (o f : ℕ) (frames : TableId) (places : List Place) (held : Held) → held.table ≡ frames → held.pins ≡ pin_of t.drive.frames f ∷ [] → places ≡ data_in t o f
+    → IsPinOver frames places held
+pin_over law t o f frames places held table pins is = record {
+    table = table;
+    pinned = pin_of t.drive.frames f;
+    alone = pins;
+    inside = subst (λ (l : List Place). AllByRecursion (IsPlaceIn (pin_of t.drive.frames f)) l) (sym is) (data_inside law t o f);
+  }
+
+-- copies by such a pin are from what is remembered of it
+pub memory_over : (frames : TableId) (places : List Place) (held : Held) (copies : List CopiedBlock) (memory : Remembered) → IsPinOver frames places held
+    → copies ≡ copies_of held.pins places → memory ≡ record { table = held.table; remembered = held.pins } → IsMemoryOver frames copies memory
+memory_over frames places held copies memory over is remembered = record {
+    table = ap (λ (m : Remembered). m.table) remembered ∙ over.table;
+    pinned = over.pinned;
+    alone = ap (λ (m : Remembered). m.remembered) remembered ∙ over.alone;
+    inside = subst (λ (l : List CopiedBlock). AllByRecursion (IsCopyFrom over.pinned) l) (sym is) (all_copied over.pinned held.pins places over.alone over.inside);
+  }

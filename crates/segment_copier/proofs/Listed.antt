@@ -1,6 +1,6 @@
 -- What is held of an object in a sealed frame, and which of it is data.
 use Rattle.std.proofs.Common.{◌≡◌, inl, inr, ℕ, zero, suc, ◌+◌, ◌<◌, ◌≤◌, Bool, true, false, cond, if◌then◌else◌, List, [], ◌∷◌, ◌++◌, length, get_or, refl, sym, ap, subst, ◌∙◌, filter, Option, Some, None, arith}
-use Rattle.std.specs.Prelude.{IsSome}
+use Rattle.std.specs.Prelude.{IsSome, slice_get}
 use Rattle.std.specs.List.{AllByRecursion, Contains}
 use Rattle.std.proofs.lemmas.Bool.{cases_Bool}
 use Rattle.std.proofs.lemmas.List.Elements.{recursion_from_All, Contains-get_or}
@@ -83,3 +83,11 @@ data_inside law t o f = all_of (IsPlaceIn (pin_of t.drive.frames f)) (data_in t 
     (λ p has. (let listed = (data_listed law t o f p has).0 in
     let most : p.block ≤ 15 = listed.payload.1 in
     (listed.frame, (listed.generation, omega arith))))
+
+has_first : (places : List Place) (p : Place) → Some p ≡ slice_get places 0 → Contains places p
+has_first [] p e = absurd (cc)
+has_first (q ∷ places) p e = (0, omega arith, (cc))
+
+-- the first of those that are listed is listed
+pub first_listed : (law : WhatIsListedIsHeld) (t : Table) (o f : ℕ) (places : List Place) (p : Place) → places ≡ pointers_in t o f → Some p ≡ slice_get places 0 → IsListed t o f p
+first_listed law t o f places p is first = law t o f p (subst (λ (l : List Place). Contains l p) is (has_first places p first))

@@ -1,6 +1,10 @@
 -- What holds of copies that are put in place, and of the frame that they left.
 use Rattle.std.proofs.Common.{◌≡◌, ◌⊎◌, inl, inr, ℕ, zero, suc, ◌+◌, ◌<◌, ◌≤◌, ◌==◌, ◌&&◌, nat_le, Bool, true, false, cond, if◌then◌else◌, List, [], ◌∷◌, ◌++◌, length, get_or, take, map, filter, refl, sym, ap, subst, ◌∙◌, Option, Some, None, arith}
-use Rattle.std.specs.Prelude.{IsSome, IfSome}
+use Rattle.std.specs.Prelude.{IsSome, IfSome, IfErr, OnOk, MatchResult, Result, Ok, Err}
+use Rattle.s4_types.specs.declared.refusals.Refusal.{Refusal}
+use Rattle.s4_types.specs.declared.refusals.Refusal.TheVariants.{NoMemory, NoRoom}
+use Rattle.time_read.specs.Rows.{entries_of}
+use Rattle.row_changes.specs.Moving.{moved_blocks}
 use Rattle.std.specs.List.{AllByRecursion, Contains}
 use Rattle.std.proofs.lemmas.Bool.{cases_Bool, and_parts, eq-eqb, le-leb, leb-true}
 use Rattle.std.proofs.lemmas.List.Elements.{All-from_recursion, All-contains}
@@ -25,7 +29,7 @@ use Rattle.version_store.specs.Relocating.{AreCopies, IsCopied, IsRelocated, fra
 use Rattle.drive.specs.Fields.{DriveFields, store_of}
 use Rattle.interleaving.specs.Moving.{HoldsNone}
 use Rattle.segment_copier.specs.Moves.{is_data, data_in, IsMemoryOver, IsCopyFrom}
-use Rattle.segment_copier.specs.Commits.{AreStillThere}
+use Rattle.segment_copier.specs.Commits.{AreStillThere, IsMovedBy, blocks_moved}
 use Rattle.segment_copier.proofs.Listed.{all_of, has_passed, some_sealed, data_listed}
 
 -- ---- lists
@@ -234,7 +238,7 @@ holds_none ahead d later f o row copies lists there moved p at =
       | inl journal ↦ taken_elsewhere ahead t f n p sealed at (moved.written p journal)
       | inr (inl checkpoint) ↦ taken_elsewhere ahead t f n p sealed at (moved.checkpoints p checkpoint)
       | inr (inr contents) ↦ elim (moved.«data» p contents) [
-        | inl same ↦ (let before : IsSome (of_kind Data o (store_of d).log.held p) = subst (λ (held : Option (List ℕ)). IsSome held) same data in
+        | inl same ↦ (let before : IsSome (of_kind Data o (store_of d).log.held p) = subst (λ (held : Option (List ℕ)). IsSome held) same contents in
           let gone : held_at later.store.table p ≡ None = left_data d later f o row copies p lists there sealed moved at before in
           let other : is_of o (held_at later.store.table p) ≡ false = ap (is_of o) gone in
           (cc))
@@ -246,3 +250,47 @@ holds_none ahead d later f o row copies lists there moved p at =
 -- as many copies as data blocks
 pub as_many : (t : Table) (f o : ℕ) (copies : List CopiedBlock) → AreStillThere t f o copies → length copies ≡ length (data_in t o f)
 as_many t f o copies there = sym (length-map copies (λ c. c.place)) ∙ ap length there.places
+
+-- ---- what a relocation tells
+
+-- what it answers, by the row that the object has
+abbrev Answers : DriveFields → ℕ → List CopiedBlock → Option Row → Result (Unit {0}) Refusal → Type 0
+Answers d o copies kept result = IfSome kept (λ row. MatchResult result
+    (λ _. blocks_relocated (store_of d).log.held o row copies ≤ length (store_of d).log.ahead)
+    (λ e. ((e ≡ NoRoom) × (length (store_of d).log.ahead < blocks_relocated (store_of d).log.held o row copies))
+    ⊎ ((e ≡ NoMemory) × (blocks_relocated (store_of d).log.held o row copies ≤ length (store_of d).log.ahead))))
+
+blocks_same : (d : DriveFields) (f o : ℕ) (copies : List CopiedBlock) (row : Row) → AreStillThere d.store.table f o copies → blocks_relocated (store_of d).log.held o row copies ≡ blocks_moved d f o row
+blocks_same d f o copies row there = ap (λ (n : ℕ). n + moved_blocks row (entries_of (store_of d).log.held o row)) (as_many d.store.table f o copies there)
+
+pub moved_by : (d later : DriveFields) (f o : ℕ) (copies : List CopiedBlock) (kept : Option Row) (result : Result (Unit {0}) Refusal) → AreStillThere d.store.table f o copies → AreCopies (store_of d).log.held o copies
+    → OnOk result (IfSome kept (λ row. IsRelocated (store_of d) o row copies (store_of later))) → Answers d o copies kept result
+    → OnOk result (IfSome kept (λ row. IsMovedBy d f o copies row later))
+moved_by d later f o copies kept (Err e) there bytes moved told = tt
+moved_by d later f o copies None (Ok u) there bytes moved told = tt
+moved_by d later f o copies (Some row) (Ok u) there bytes moved told = record {
+    places = there.places;
+    bytes = bytes;
+    room = subst (λ (n : ℕ). n ≤ length (store_of d).log.ahead) (blocks_same d f o copies row there) told;
+    relocated = moved;
+  }
+
+pub left_by : (ahead : PlacesAheadAreInNoSealedFrame) (d later : DriveFields) (f o : ℕ) (copies : List CopiedBlock) (kept : Option Row) (result : Result (Unit {0}) Refusal) → IsSome kept → ListsAllHeld d.store.table
+    → AreStillThere d.store.table f o copies → OnOk result (IfSome kept (λ row. IsRelocated (store_of d) o row copies (store_of later))) → OnOk result (HoldsNone later.store.table o f)
+left_by ahead d later f o copies kept (Err e) some lists there moved = tt
+left_by ahead d later f o copies None (Ok u) some lists there moved = absurd (cc)
+left_by ahead d later f o copies (Some row) (Ok u) some lists there moved = holds_none ahead d later f o row copies lists there moved
+
+pub room_by : (d : DriveFields) (f o : ℕ) (copies : List CopiedBlock) (kept : Option Row) (result : Result (Unit {0}) Refusal) → AreStillThere d.store.table f o copies → Answers d o copies kept result
+    → result ≡ Err NoRoom → IfSome kept (λ row. length (store_of d).log.ahead < blocks_moved d f o row)
+room_by d f o copies None result there told is = tt
+room_by d f o copies (Some row) (Ok u) there told is = absurd (cc)
+room_by d f o copies (Some row) (Err e) there (inl no_room) is = subst (λ (n : ℕ). length (store_of d).log.ahead < n) (blocks_same d f o copies row there) no_room.1
+room_by d f o copies (Some row) (Err e) there (inr no_memory) is = absurd (let other : e ≡ NoMemory = no_memory.0 in let same : e ≡ NoRoom = (cc) in cc)
+
+pub refused_by : (d : DriveFields) (o : ℕ) (copies : List CopiedBlock) (kept : Option Row) (result : Result (Unit {0}) Refusal) → IsSome kept → Answers d o copies kept result
+    → IfErr result (λ e. (e ≡ NoRoom) ⊎ (e ≡ NoMemory))
+refused_by d o copies None result some told = absurd (cc)
+refused_by d o copies (Some row) (Ok u) some told = tt
+refused_by d o copies (Some row) (Err e) some (inl no_room) = inl no_room.0
+refused_by d o copies (Some row) (Err e) some (inr no_memory) = inr no_memory.0

@@ -12,7 +12,7 @@ use std::alloc::Global;
 
 /// Whether a pointer leads to a held data block.
 fn leads_to_data<J: Naming>(drive: &mut Drive<J>, place: Ptr) -> bool
-    ensures data { result ≡ is_data (held_at drive.old.store.table place) }
+    ensures found { result ≡ is_data (held_at drive.old.store.table place) }
     ensures same { drive.new ≡ drive.old }
 {
     match drive.part(place) {
@@ -27,7 +27,7 @@ pub(crate) fn data_among<J: Naming>(
     drive: &mut Drive<J>,
     pointers: &[Ptr],
 ) -> Result<Vec<Ptr>, Refusal>
-    ensures data { IfOk result (λ places. places.items ≡ filter (λ p. is_data (held_at drive.old.store.table p)) pointers.now) }
+    ensures found { IfOk result (λ places. places.items ≡ filter (λ p. is_data (held_at drive.old.store.table p)) pointers.now) }
     ensures refusal { IfErr result (λ e. e ≡ NoMemory) }
     ensures same { drive.new ≡ drive.old }
 {
