@@ -166,7 +166,7 @@ still_copies listed t f o copies table m there memory recalled =
     record {
       frame = all_in f (frame_at t.drive.frames f).generation copies (λ c has. (let here = (still_listed listed t f o copies c there has).0 in (here.frame, here.generation)));
       ascending = still_ascending t f o copies there;
-      held = all_of (λ c. of_kind Data o (held_at t) c.place ≡ Some c.bytes) copies
+      bytes = all_of (λ c. of_kind Data o (held_at t) c.place ≡ Some c.bytes) copies
       (λ c has. (let both = still_listed listed t f o copies c there has in
         let from : IsCopyFrom q c = among (IsCopyFrom q) copies c memory.inside has in
         let number : f ≡ q.number = sym both.0.frame ∙ from.0.0 in
@@ -235,9 +235,9 @@ holds_none ahead d later f o row copies lists there moved p at =
     elim (cases_Bool (is_of o (held_at later.store.table p))) [
     | inr none ↦ none
     | inl mine ↦ absurd (elim (seen_of o (held_at later.store.table p) mine) [
-      | inl journal ↦ taken_elsewhere ahead t f n p sealed at (moved.written p journal)
+      | inl journal ↦ taken_elsewhere ahead t f n p sealed at (moved.chains p journal)
       | inr (inl checkpoint) ↦ taken_elsewhere ahead t f n p sealed at (moved.checkpoints p checkpoint)
-      | inr (inr contents) ↦ elim (moved.«data» p contents) [
+      | inr (inr contents) ↦ elim (moved.blocks p contents) [
         | inl same ↦ (let before : IsSome (of_kind Data o (store_of d).log.held p) = subst (λ (held : Option (List ℕ)). IsSome held) same contents in
           let gone : held_at later.store.table p ≡ None = left_data d later f o row copies p lists there sealed moved at before in
           let other : is_of o (held_at later.store.table p) ≡ false = ap (is_of o) gone in
@@ -254,7 +254,7 @@ as_many t f o copies there = sym (length-map copies (λ c. c.place)) ∙ ap leng
 -- ---- what a relocation tells
 
 -- what it answers, by the row that the object has
-abbrev Answers : DriveFields → ℕ → List CopiedBlock → Option Row → Result (Unit {0}) Refusal → Type 0
+abbrev pub Answers : DriveFields → ℕ → List CopiedBlock → Option Row → Result (Unit {0}) Refusal → Type 0
 Answers d o copies kept result = IfSome kept (λ row. MatchResult result
     (λ _. blocks_relocated (store_of d).log.held o row copies ≤ length (store_of d).log.ahead)
     (λ e. ((e ≡ NoRoom) × (length (store_of d).log.ahead < blocks_relocated (store_of d).log.held o row copies))
