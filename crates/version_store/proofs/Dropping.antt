@@ -25,7 +25,7 @@ use Rattle.version_store.proofs.Naming.{checkpoint_there}
 
 -- ---- pointers that lead to a place
 
-same_place-self : (p : Place) → same_place p p ≡ true
+pub same_place-self : (p : Place) → same_place p p ≡ true
 same_place-self p = and_from (p.frame == p.frame) (p.block == p.block && p.generation == p.generation) (eq-eqb p.frame p.frame refl) (and_from (p.block == p.block) (p.generation == p.generation) (eq-eqb p.block p.block refl) (eq-eqb p.generation p.generation refl))
 
 pub contained_leads : (p : Place) (pointers : List (Option Place)) → Contains pointers (Some p) → leads_to p pointers ≡ true
@@ -53,7 +53,7 @@ alone Data Journal n o other is beside = refl
 alone Data Checkpoint n o other is beside = refl
 alone Data Data n o other is beside = subst (λ (m : ℕ). (m == other) ≡ false) (sym (eqb-true n o is)) beside
 
-seen_alone : (kind : BlockKind) (o other : ℕ) (there : Option Stored) → IsSome (seen_as Data o there) → (same_kind Data kind && o == other) ≡ false → seen_as kind other there ≡ None
+pub seen_alone : (kind : BlockKind) (o other : ℕ) (there : Option Stored) → IsSome (seen_as Data o there) → (same_kind Data kind && o == other) ≡ false → seen_as kind other there ≡ None
 seen_alone kind o other None some beside = refl
 seen_alone kind o other (Some block) some beside = elim (cases_Bool (same_kind Data block.kind && block.object == o)) [
   | inl is ↦ cond-false (same_kind kind block.kind && block.object == other) (Some block.bytes) None (alone block.kind kind block.object o other is beside)
@@ -61,7 +61,7 @@ seen_alone kind o other (Some block) some beside = elim (cases_Bool (same_kind D
 ]
 
 -- what is seen where some places are emptied
-seen_cond : (kind : BlockKind) (o : ℕ) (gone : Bool) (there : Option Stored) → seen_as kind o (cond gone None there) ≡ cond gone None (seen_as kind o there)
+pub seen_cond : (kind : BlockKind) (o : ℕ) (gone : Bool) (there : Option Stored) → seen_as kind o (cond gone None there) ≡ cond gone None (seen_as kind o there)
 seen_cond kind o true there = refl
 seen_cond kind o false there = refl
 
@@ -69,7 +69,7 @@ none_both : (gone : Bool) (seen : Option (List ℕ)) → seen ≡ None → cond 
 none_both true seen none = refl
 none_both false seen none = none
 
-none_either : (gone : Bool) (seen : Option (List ℕ)) → (gone ≡ true → seen ≡ None) → cond gone None seen ≡ seen
+pub none_either : (gone : Bool) (seen : Option (List ℕ)) → (gone ≡ true → seen ≡ None) → cond gone None seen ≡ seen
 none_either true seen none = sym (none refl)
 none_either false seen none = refl
 

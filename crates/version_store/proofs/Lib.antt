@@ -1,3 +1,8 @@
+pub mod RelocatedStore
+pub mod Relocated
+pub mod RelocatedBlocks
+pub mod RenamedHistory
+pub mod Appending
 pub mod Frames
 pub mod Counting
 pub mod Telling

@@ -112,7 +112,7 @@ slot_there [] n p at = absurd (none-some p at)
 slot_there (q ∷ pointers) zero p at = (0, omega arith, at)
 slot_there (q ∷ pointers) (suc n) p at = Contains-append_right (q ∷ []) pointers (Some p) (slot_there pointers n p at)
 
-first_told : (created moment : ℕ) (entries : List EntryFields) (c : Option CheckpointFields) (n : ℕ) (p : Place) → pointer_at (inode_before created moment entries c) n ≡ Some p → Contains (pointers_kept c ++ sides_told entries) (Some p)
+pub first_told : (created moment : ℕ) (entries : List EntryFields) (c : Option CheckpointFields) (n : ℕ) (p : Place) → pointer_at (inode_before created moment entries c) n ≡ Some p → Contains (pointers_kept c ++ sides_told entries) (Some p)
 unfolding inode_before
 first_told created moment entries None n p at = absurd (blank_points created n p at)
 first_told created moment entries (Some c) n p at = elim (undone_cases (entries_by moment entries) c.inode n p at) [

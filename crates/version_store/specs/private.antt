@@ -4,3 +4,4 @@ pub mod Below
 pub mod Dropping
 pub mod Replacing
 pub mod Beside
+pub mod Relocating

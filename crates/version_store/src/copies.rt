@@ -1,10 +1,99 @@
-//! Copies of data blocks, which go to new places.
-use block_log::Block;
-use s4_types::Ptr;
+//! Copies of data blocks: appended to new places, and what was copied dropped.
+ghost use Rattle.std.specs.Prelude.{◌≡◌, ℕ, ◌+◌, ◌<◌, ◌≤◌, [], ◌∷◌, length, if◌then◌else◌, List, None};
+ghost use Rattle.std.specs.List.{Contains};
+ghost use Rattle.s4_types.specs.Pointer.{Place};
+ghost use Rattle.block_log.specs.Log.{Log};
+ghost use Rattle.block_log.specs.Taken.{TakesPlaces};
+ghost use Rattle.version_store.specs.Relocating.{AreCopies, frame_of_copies};
+ghost use Rattle.version_store.specs.private.Relocating.{Appending, stood_at};
+
+use block_log::laws::{
+    a_drop_takes_no_place, an_append_puts_one_block, an_append_takes_one_place,
+    no_change_takes_no_place, one_place_has_one_name, places_taken_add_up,
+};
+use block_log::{Block, BlockKind, Blocks};
+use chain_moving::Renaming;
+use chain_moving::laws::moves_are_put_in_one_by_one;
+use s4_types::{ObjectId, Ptr};
 
 /// A copy of a block: where the block is held, and its bytes.
 #[derive(Clone, Copy)]
 pub struct CopiedBlock {
     pub place: Ptr,
     pub bytes: Block,
+}
+
+/// A renaming of the frame of these copies, which are of one. No block of it moves yet.
+fn frame_of(copies: &[CopiedBlock]) -> Renaming
+    ensures { result ≡ frame_of_copies copies.now }
+{
+    match copies {
+        [] => Renaming::new(0, 0),
+        [first, ..] => Renaming::new(first.place.frame(), first.place.generation()),
+    }
+}
+
+/// Appends a copy of a data block of an object where a place is ahead, and puts its new place into the renaming.
+fn append_copy<B: Blocks>(
+    table: &mut B,
+    object: ObjectId,
+    renaming: &mut Renaming,
+    copy: &CopiedBlock,
+)
+    requires object { 1 ≤ object }
+    requires room { 0 < length (B.log table.old).ahead }
+    ensures { (copies rest : List _) (count : ℕ) (before : Log) → Contains copies copy.now
+        → Appending object copies before (B.log table.old) renaming.old (copy.now ∷ rest) count
+        → Appending object copies before (B.log table.new) renaming.new rest (count + 1) }
+{
+    one_place_has_one_name();
+    an_append_puts_one_block();
+    an_append_takes_one_place();
+    places_taken_add_up();
+    moves_are_put_in_one_by_one();
+    let Ok(place) = table.append(BlockKind::Data, object, &copy.bytes) else {
+        unreachable!()
+    };
+    renaming.insert(copy.place.block(), place);
+}
+
+/// Appends copies of data blocks of an object in their order where there is room, and answers where each stands now.
+pub(crate) fn append_copies<B: Blocks>(
+    table: &mut B,
+    object: ObjectId,
+    copies: &[CopiedBlock],
+) -> Renaming
+    requires object { 1 ≤ object }
+    requires copies { AreCopies (B.log table.old).held object copies.now }
+    requires room { length copies.now ≤ length (B.log table.old).ahead }
+    ensures { Appending object copies.now (B.log table.old) (B.log table.new) result [] (length copies.now) }
+{
+    no_change_takes_no_place();
+    moves_are_put_in_one_by_one();
+    let mut renaming = frame_of(copies);
+    for copy in copies {
+        append_copy(table, object, &mut renaming, copy);
+    }
+    renaming
+}
+
+/// Drops the block that was copied.
+fn drop_copied<B: Blocks>(table: &mut B, copy: &CopiedBlock)
+    ensures held { (q : Place) → (B.log table.new).held q ≡ (if stood_at q (copy.now ∷ []) then None else (B.log table.old).held q) }
+    ensures takes { TakesPlaces 0 (B.log table.old) (B.log table.new) }
+{
+    a_drop_takes_no_place();
+    table.drop_block(copy.place);
+}
+
+/// Drops each block that was copied.
+pub(crate) fn drop_copies<B: Blocks>(table: &mut B, copies: &[CopiedBlock])
+    ensures held { (q : Place) → (B.log table.new).held q ≡ (if stood_at q copies.now then None else (B.log table.old).held q) }
+    ensures takes { TakesPlaces 0 (B.log table.old) (B.log table.new) }
+{
+    no_change_takes_no_place();
+    places_taken_add_up();
+    for copy in copies {
+        drop_copied(table, copy);
+    }
 }

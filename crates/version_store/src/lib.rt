@@ -12,6 +12,7 @@
 mod copies;
 mod costs;
 mod data_blocks;
+mod histories;
 pub mod laws;
 mod named_table;
 mod presents;

@@ -1,19 +1,60 @@
 //! The relocation of an object's blocks: its data blocks out of one frame, its checkpoint and its journal.
-ghost use Rattle.std.specs.Prelude.{◌≡◌, ◌⊎◌, ℕ, ◌<◌, ◌≤◌, ◌==◌, if◌then◌else◌, IsSome, IfSome, OnOk, OnErr, MatchResult, length, option_map};
+ghost use Rattle.std.specs.Prelude.{◌≡◌, ◌⊎◌, ℕ, ◌<◌, ◌≤◌, ◌==◌, if◌then◌else◌, Some, IsSome, IfSome, OnOk, OnErr, MatchResult, length, option_map};
 ghost use Rattle.s4_types.specs.declared.refusals.Refusal.TheVariants.{NoMemory, NoRoom};
 ghost use Rattle.object_map.specs.Rows.{row_of};
 ghost use Rattle.chain_moving.specs.Renaming.{renamed_inode};
 ghost use Rattle.version_store.specs.Store.{fields_of, IsStore};
 ghost use Rattle.version_store.specs.Versions.{inode_in, version_in};
 ghost use Rattle.version_store.specs.Relocating.{AreCopies, IsRelocated, blocks_relocated, renaming_by};
+ghost use Rattle.version_store.specs.private.Relocating.{Tells, RelocatesIn};
 
 use crate::copies::CopiedBlock;
+use crate::histories::{History, read_history, relocate_blocks};
+use crate::laws::what_changes_rest_on;
+use crate::presents::{Present, index_of};
 use crate::store::Store;
 use block_log::Blocks;
+use chain_moving::laws::{
+    a_renamed_chain_tells_of_renamed_places, a_renamed_inode_means_the_same,
+    a_renamed_run_is_a_run, renamed_entries_keep_their_moments,
+};
+use object_map::Row;
 use row_changes::moved_blocks;
 use s4_types::{ObjectId, Refusal};
 
 impl<B: Blocks> Store<B> {
+    /// An object's blocks, whose history this is, go to new places where there is room.
+    fn put_relocation(
+        &mut self,
+        object: ObjectId,
+        row: &Row,
+        mut history: History,
+        copies: &[CopiedBlock],
+    )
+        requires store { IsStore (fields_of B.log self.old) }
+        requires row { row_of self.old.rows object ≡ Some row.now }
+        requires told { Tells (B.log self.old.table).held object row.now history }
+        requires copies { AreCopies (B.log self.old.table).held object copies.now }
+        requires room { blocks_relocated (B.log self.old.table).held object row.now copies.now ≤ length (B.log self.old.table).ahead }
+        ensures { RelocatesIn (fields_of B.log self.old) object row.now copies.now (fields_of B.log self.new) }
+    {
+        what_changes_rest_on();
+        a_renamed_inode_means_the_same();
+        a_renamed_run_is_a_run();
+        a_renamed_chain_tells_of_renamed_places();
+        renamed_entries_keep_their_moments();
+        let Some(mut inode) = self.present(object).copied() else {
+            unreachable!()
+        };
+        let moved = relocate_blocks(&mut self.table, object, row, &mut history, copies);
+        moved.renaming.rename_inode(&mut inode);
+        let beside = Present {
+            inode,
+            index: index_of(self.alloc, history.entries.as_slice()),
+        };
+        self.objects.change(object, &moved.row, beside);
+    }
+
     /// An object's blocks go to new places: these copies of its data blocks in one frame, in their order, then its checkpoint,
     /// if it has one, and its whole journal, with each pointer to a copied block leading to the copy. The blocks that were
     /// copied are dropped. With no copies the checkpoint and the journal alone go. Checkpoint and entries keep their moments;
@@ -41,11 +82,13 @@ impl<B: Blocks> Store<B> {
         let Some(row) = self.row(object) else {
             unreachable!()
         };
-        let history = moved_blocks(&mut self.table, object, &row);
+        let blocks = moved_blocks(&mut self.table, object, &row);
         let left = self.table.blocks_left();
-        if left < history || left - history < copies.len() {
+        if left < blocks || left - blocks < copies.len() {
             return Err(Refusal::NoRoom);
         }
-        Err(Refusal::NoMemory)
+        let history = read_history(self.alloc, &mut self.table, object, &row)?;
+        self.put_relocation(object, &row, history, copies);
+        Ok(())
     }
 }

@@ -1,0 +1,285 @@
+-- What the relocation of an object's blocks leaves of a whole store.
+use Rattle.std.proofs.Common.{◌≡◌, ◌⊎◌, inl, inr, ℕ, zero, suc, ◌+◌, ◌<◌, ◌≤◌, ◌==◌, leb, true, false, cond, Bool, List, [], ◌∷◌, ◌++◌, length, map, take, Option, Some, None, IsSome, IfSome, is_some, MatchOption, option_map, unwrap_or, refl, sym, ap, subst, ◌∙◌, arith}
+use Rattle.std.specs.List.{All, Contains, AllByRecursion}
+use Rattle.std.proofs.lemmas.Bool.{cases_Bool, cond-true, cond-false, eqb-true}
+use Rattle.std.proofs.lemmas.List.Elements.{All-map, All-weaker, Contains-append_right}
+use Rattle.std.proofs.lemmas.Option.{none-some, same_Some}
+use Rattle.s4_types.specs.Pointer.{Place}
+use Rattle.block_log.specs.Log.{Log, Stored, of_kind, seen_as}
+use Rattle.block_log.specs.Taken.{TakesPlaces}
+use Rattle.block_log.specs.declared.kinds.BlockKind.TheVariants.{Journal, Checkpoint, Data}
+use Rattle.codec.specs.Checkpoint.{CheckpointFields, pointer_at}
+use Rattle.codec.specs.Entry.{EntryFields, entry_length}
+use Rattle.codec.specs.declared.inodes.Inode.{Inode}
+use Rattle.undo_redo.specs.Runs.{AllBy}
+use Rattle.inode.specs.Contents.{contents_of, meaning}
+use Rattle.inode.specs.Tidiness.{Tidy, PointersHeld}
+use Rattle.inode.specs.Laws.{OnlyItsBlocksMatter}
+use Rattle.object_map.specs.declared.map.Row.{Row}
+use Rattle.object_map.specs.Rows.{row_of, with_row}
+use Rattle.time_read.specs.Rows.{entries_of, checkpoint_of, inode_of}
+use Rattle.time_read.specs.Orderly.{IsOrderly, IsFromTo, BeginsDead}
+use Rattle.journal_chain.specs.Push.{whole_blocks}
+use Rattle.row_changes.specs.Moving.{checkpoint_count}
+use Rattle.chain_cleaning.specs.Laws.{PointsWithin}
+use Rattle.chain_moving.specs.Renaming.{RenamingFields, new_place, renamed, renamed_slot, renamed_entries, renamed_inode}
+use Rattle.chain_moving.specs.Apart.{Passes, HasCopies}
+use Rattle.chain_moving.specs.Places.{ARenamedChainTellsInOrder}
+use Rattle.chain_moving.specs.Laws.{APointerIsRenamed, ARenamedInodeMeansTheSame, RenamedEntriesHaveOldMoments, TheMomentsOfRenamedEntriesAreOld}
+use Rattle.version_store.specs.declared.copies.CopiedBlock.{CopiedBlock}
+use Rattle.version_store.specs.Store.{StoreFields, IsStore, IsObject, DataIsNamed, IsLed, sides_told, pointers_kept, pointers_of}
+use Rattle.version_store.specs.Versions.{inode_by, inode_in, version_by, version_in}
+use Rattle.version_store.specs.Relocating.{IsRelocated, blocks_relocated, renaming_by, renamed_checkpoint}
+use Rattle.version_store.specs.private.Below.{OrderlyStays, RowStays, RowInodeStays, IsByStays, SomeBlocksAreNeeded}
+use Rattle.version_store.specs.private.Relocating.{Relocates, RelocatesIn, IsNewPlace, IsOldOrNew}
+use Rattle.version_store.proofs.Frames.{same_bytes, stays_object, inode_in_stays, version_in_stays}
+use Rattle.version_store.proofs.Telling.{Leads, same_entries}
+use Rattle.version_store.proofs.Steps.{row_here, row_beside, row_cases, none_cases, stamped_row, stamped_inode}
+use Rattle.version_store.proofs.Spending.{sum_stays}
+use Rattle.version_store.proofs.Across.{IsAcross, renewed_across}
+use Rattle.version_store.proofs.CheckpointSteps.{next_store}
+use Rattle.version_store.proofs.Replaced.{IsPut, put_row}
+use Rattle.version_store.proofs.Replacing.{other_stays, other_named}
+use Rattle.version_store.proofs.RenamedHistory.{of_pointers}
+
+-- the laws that this rests on
+pub record Laws : Type 0 where
+  pub orderly : OrderlyStays
+  pub stands : RowStays
+  pub same : RowInodeStays
+  pub by : IsByStays
+  pub matter : OnlyItsBlocksMatter
+  pub means : ARenamedInodeMeansTheSame
+  pub points : APointerIsRenamed
+  pub tells : ARenamedChainTellsInOrder
+  pub within : RenamedEntriesHaveOldMoments
+  pub old : TheMomentsOfRenamedEntriesAreOld
+  pub needed : SomeBlocksAreNeeded
+
+-- ---- pointers
+
+contains_map : {X Y : Type 0} (f : X → Y) (xs : List X) (x : X) → Contains xs x → Contains (map f xs) (f x)
+contains_map f [] x (n, below, at) = absurd (omega (arith, below))
+contains_map f (y ∷ xs) x (zero, below, at) = (0, omega arith, ap f at)
+contains_map f (y ∷ xs) x (suc n, below, at) = Contains-append_right (f y ∷ []) (map f xs) (f x) (contains_map f xs x (n, omega (arith, below), at))
+
+kept_renamed : (r : RenamingFields) (c : Option CheckpointFields) → pointers_kept (option_map (renamed_checkpoint r) c) ≡ map (renamed_slot r) (pointers_kept c)
+kept_renamed r None = refl
+kept_renamed r (Some c) = refl
+
+-- the row leads where it led, renamed
+pub pointers_renamed : Laws → (before later : Log) (o : ℕ) (row next : Row) (copies : List CopiedBlock) (r : RenamingFields) → Relocates before o row copies next later r → pointers_of later.held o next ≡ map (renamed_slot r) (pointers_of before.held o row)
+pointers_renamed laws before later o row next copies r w =
+    ap (λ (c : Option CheckpointFields). pointers_kept c ++ sides_told (entries_of later.held o next)) w.kept
+    ∙ ap (λ (es : List EntryFields). pointers_kept (option_map (renamed_checkpoint r) (checkpoint_of before.held o row)) ++ sides_told es) w.journal
+    ∙ ap (λ (slots : List (Option Place)). slots ++ sides_told (renamed_entries r (entries_of before.held o row))) (kept_renamed r (checkpoint_of before.held o row))
+    ∙ laws.tells r (of_pointers (pointers_kept (checkpoint_of before.held o row))) (entries_of before.held o row)
+
+renamed_stays : (r : RenamingFields) (p : Place) → new_place r p ≡ None → renamed r p ≡ p
+renamed_stays r p none = ap (λ (x : Option Place). unwrap_or x p) none
+
+renamed_goes : (r : RenamingFields) (p q : Place) → new_place r p ≡ Some q → renamed r p ≡ q
+renamed_goes r p q some = ap (λ (x : Option Place). unwrap_or x p) some
+
+-- where a block of the object was, one is at the renamed place, with the same bytes
+pub renamed_there : (before later : Log) (o : ℕ) (row next : Row) (copies : List CopiedBlock) (r : RenamingFields) → Relocates before o row copies next later r → (p : Place) (new : Option Place) → new_place r p ≡ new → IsSome (of_kind Data o before.held p)
+    → of_kind Data o later.held (renamed r p) ≡ of_kind Data o before.held p
+renamed_there before later o row next copies r w p None is some = ap (λ (q : Place). of_kind Data o later.held q) (renamed_stays r p is) ∙ w.stayed p some is
+renamed_there before later o row next copies r w p (Some q) is some = ap (λ (x : Place). of_kind Data o later.held x) (renamed_goes r p q is) ∙ (w.copied p q is).1
+
+renamed_some : (before later : Log) (o : ℕ) (row next : Row) (copies : List CopiedBlock) (r : RenamingFields) → Relocates before o row copies next later r → (p : Place) → IsSome (of_kind Data o before.held p) → IsSome (of_kind Data o later.held (renamed r p))
+renamed_some before later o row next copies r w p some = ap is_some (renamed_there before later o row next copies r w p (new_place r p) refl some) ∙ some
+
+slot_led : (before later : Log) (o : ℕ) (row next : Row) (copies : List CopiedBlock) (r : RenamingFields) → Relocates before o row copies next later r → (slot : Option Place) → IsLed before.held o slot → IsLed later.held o (renamed_slot r slot)
+slot_led before later o row next copies r w None led = tt
+slot_led before later o row next copies r w (Some p) led = renamed_some before later o row next copies r w p led
+
+slot_goes : (before later : Log) (o : ℕ) (row next : Row) (copies : List CopiedBlock) (r : RenamingFields) → Relocates before o row copies next later r → (slot : Option Place) (q : Place) → ((p : Place) → slot ≡ Some p → IsSome (of_kind Data o before.held p)) → renamed_slot r slot ≡ Some q → IsSome (of_kind Data o later.held q)
+slot_goes before later o row next copies r w None q leads at = absurd (none-some q at)
+slot_goes before later o row next copies r w (Some p) q leads at = subst (λ (x : Place). IsSome (of_kind Data o later.held x)) (same_Some (renamed r p) q at) (renamed_some before later o row next copies r w p (leads p refl))
+
+-- ---- what inodes mean
+
+-- a data block of the object was there
+abbrev pub was_there : ℕ → (Place → Option Stored) → Place → Bool
+was_there o held p = is_some (of_kind Data o held p)
+
+has_copies : (before later : Log) (o : ℕ) (row next : Row) (copies : List CopiedBlock) (r : RenamingFields) → Relocates before o row copies next later r → HasCopies (Passes (was_there o before.held)) r (contents_of before.held) (contents_of later.held)
+has_copies before later o row next copies r w = record {
+  copied = λ p q some is. same_bytes Data o (before.held p) (later.held q) (of_kind Data o before.held p) refl some (w.copied p q is).1;
+  stayed = λ p some is. same_bytes Data o (before.held p) (later.held p) (of_kind Data o before.held p) refl some (w.stayed p some is);
+}
+
+slot_was : (held : Place → Option Stored) (o : ℕ) (slot : Option Place) → ((p : Place) → slot ≡ Some p → IsSome (of_kind Data o held p)) → IfSome slot (Passes (was_there o held))
+slot_was held o None leads = tt
+slot_was held o (Some p) leads = leads p refl
+
+pub means_renamed : Laws → (before later : Log) (o : ℕ) (row next : Row) (copies : List CopiedBlock) (r : RenamingFields) → Relocates before o row copies next later r → (i : Inode) → PointersHeld before.held o i
+    → (meaning (contents_of later.held) (renamed_inode r i) ≡ meaning (contents_of before.held) i) × (Tidy (contents_of before.held) i → Tidy (contents_of later.held) (renamed_inode r i))
+means_renamed laws before later o row next copies r w i leads =
+    laws.means (was_there o before.held) r (contents_of before.held) (contents_of later.held) i (has_copies before later o row next copies r w) (λ k. slot_was before.held o (pointer_at i k) (leads k))
+
+-- ---- the object
+
+relocated_object : Laws → (before later : Log) (o latest : ℕ) (row next : Row) (copies : List CopiedBlock) (r : RenamingFields) → Relocates before o row copies next later r → IsObject before.held o row latest → IsObject later.held o (put_row row next) latest
+relocated_object laws before later o latest row next copies r w object =
+    let is : (t : ℕ) → inode_of later.held o (put_row row next) t ≡ renamed_inode r (inode_of before.held o row t) = λ t. stamped_inode later.held o next (row.stamp + 1) t ∙ w.inode t in
+    let moment : next.checkpoint_moment ≡ row.checkpoint_moment = ap (λ (x : Row). x.checkpoint_moment) w.fields in
+    record {
+      stands = stamped_row later.held o next (row.stamp + 1) w.stands;
+      by = record {
+        entries = subst (λ (es : List EntryFields). AllBy latest es) (sym w.journal) (laws.within r (λ m. leb m latest) (entries_of before.held o row) object.by.entries);
+        checkpoint = subst (λ m. m ≤ latest) (sym moment) object.by.checkpoint;
+      };
+      led = subst (Leads later.held o) (sym (pointers_renamed laws before later o row next copies r w))
+          (All-map (IsLed later.held o) (renamed_slot r) (pointers_of before.held o row) (All-weaker (IsLed before.held o) (λ slot. IsLed later.held o (renamed_slot r slot)) (slot_led before later o row next copies r w) (pointers_of before.held o row) object.led));
+      tidy = λ t. subst (Tidy (contents_of later.held)) (sym (is t)) ((means_renamed laws before later o row next copies r w (inode_of before.held o row t) (object.pointers t)).1 (object.tidy t));
+      pointers = λ t. subst (PointersHeld later.held o) (sym (is t))
+          (λ k q at. slot_goes before later o row next copies r w (pointer_at (inode_of before.held o row t) k) q (object.pointers t k) (sym (laws.points r (inode_of before.held o row t) k) ∙ at));
+    }
+
+relocated_named : Laws → (before later : Log) (o : ℕ) (row next : Row) (copies : List CopiedBlock) (r : RenamingFields) → Relocates before o row copies next later r → DataIsNamed before.held o row → DataIsNamed later.held o (put_row row next)
+relocated_named laws before later o row next copies r w named p some =
+    subst (λ (pointers : List (Option Place)). Contains pointers (Some p)) (sym (pointers_renamed laws before later o row next copies r w)) (elim (w.blocks p some) [
+      | inl old ↦ subst (λ (q : Place). Contains (map (renamed_slot r) (pointers_of before.held o row)) (Some q)) (renamed_stays r p old.1)
+          (contains_map (renamed_slot r) (pointers_of before.held o row) (Some p) (named p (subst (λ (x : Option (List ℕ)). IsSome x) old.0 some)))
+      | inr new ↦
+          let (q, goes) = w.from p new.1 in
+          subst (λ (x : Place). Contains (map (renamed_slot r) (pointers_of before.held o row)) (Some x)) (renamed_goes r q p goes)
+          (contains_map (renamed_slot r) (pointers_of before.held o row) (Some q) (named q (w.copied q p goes).0))
+    ])
+
+-- ---- the store
+
+-- a row that is in order has a checkpoint, or else entries; so it takes a block to write what it tells
+none_and_some : (n : ℕ) → 0 < n → 0 < 0 + n
+none_and_some n some = omega (arith, some)
+
+one_and_some : (n : ℕ) → 0 < 1 + n
+one_and_some n = omega arith
+
+suc_and_some : (n : ℕ) → 0 < suc n
+suc_and_some n = omega arith
+
+some_moved : SomeBlocksAreNeeded → (place : Option Place) (entries : List EntryFields) (A : Type 0) → MatchOption place (BeginsDead entries) (λ p. A) → 0 < checkpoint_count place + whole_blocks entries
+some_moved law None [] A dead = absurd dead
+some_moved law None (e ∷ entries) A dead = none_and_some (whole_blocks (e ∷ entries)) (law 0 (map entry_length (e ∷ entries)) (suc_and_some (length (map entry_length entries))))
+some_moved law (Some p) entries A h = one_and_some (whole_blocks entries)
+
+relocated_store : Laws → (s : StoreFields) (rows : List (ℕ × Row)) (log : Log) (o : ℕ) (row next : Row) (copies : List CopiedBlock) (r : RenamingFields) → IsStore s → row_of s.rows o ≡ Some row
+    → Relocates s.log o row copies next log r → blocks_relocated s.log.held o row copies ≤ length s.log.ahead → IsPut s rows o row next → IsStore (next_store s rows log)
+relocated_store laws s rows log o row next copies r store there w room put =
+    let sum = sum_stays (blocks_relocated s.log.held o row copies) s.log log w.takes room in
+    let more : log.spent ≡ blocks_relocated s.log.held o row copies + s.log.spent = w.takes.spent in
+    let orderly = store.orderly o row there in
+    let across : IsAcross log.held rows = renewed_across s.rows rows s.log.held log.held o row (put_row row next) there put (ap (λ (x : Row). x.created) w.fields)
+    (λ e among. laws.old r (entries_of s.log.held o row) e (subst (λ (es : List EntryFields). Contains es e) w.journal among))
+    (λ q x beside e. same_entries s.log.held log.held q x (w.others Journal q beside))
+    (record { ascending = store.ascending; apart = store.apart }) in
+    record {
+      objects = row_cases (row_of s.rows) (row_of rows) o (put_row row next) put (λ q x. IsObject log.held q x s.latest)
+          (relocated_object laws s.log log o s.latest row next copies r w (store.objects o row there))
+          (λ q x beside e. stays_object laws.stands laws.same laws.by laws.matter q s.log.held log.held x s.latest (other_stays o q s.log.held log.held w.others beside) (store.objects q x e));
+      orderly = row_cases (row_of s.rows) (row_of rows) o (put_row row next) put (λ q x. IsOrderly log.held q x s.latest)
+          (laws.orderly.stamp log.held o s.latest (row.stamp + 1) next (w.orderly s.latest orderly))
+          (λ q x beside e. laws.orderly.blocks s.log.held log.held q s.latest x (w.others Journal q beside) (w.others Checkpoint q beside) (store.orderly q x e));
+      named = row_cases (row_of s.rows) (row_of rows) o (put_row row next) put (λ q x. DataIsNamed log.held q x)
+          (relocated_named laws s.log log o row next copies r w (store.named o row there))
+          (λ q x beside e. other_named s.log.held log.held o q x w.others beside (store.named q x e));
+      nothing = λ q none kind p.
+          let gone = none_cases (row_of s.rows) (row_of rows) o (put_row row next) put q none in
+          ap (λ (view : Place → Option (List ℕ)). view p) (w.others kind q gone.0) ∙ store.nothing q gone.1 kind p;
+      stamps = row_cases (row_of s.rows) (row_of rows) o (put_row row next) put (λ q x. x.stamp ≤ log.spent)
+          (let bound = store.stamps o row there in
+          let some = some_moved laws.needed row.checkpoint (entries_of s.log.held o row) (IsFromTo row.created s.latest row.checkpoint_moment) orderly.checkpoint in
+          omega (arith, bound, more, some))
+          (λ q x beside e. let bound = store.stamps q x e in omega (arith, bound, more));
+      bounded = let bound = store.bounded in omega (arith, bound, sum);
+      ascending = across.ascending;
+      apart = across.apart;
+    }
+
+relocated_inodes : Laws → (s : StoreFields) (rows : List (ℕ × Row)) (log : Log) (o : ℕ) (row next : Row) (copies : List CopiedBlock) (r : RenamingFields) → row_of s.rows o ≡ Some row → Relocates s.log o row copies next log r → IsPut s rows o row next
+    → (q t : ℕ) → inode_in (next_store s rows log) q t ≡ cond (o == q) (option_map (renamed_inode r) (inode_in s q t)) (inode_in s q t)
+relocated_inodes laws s rows log o row next copies r there w put q t = elim (cases_Bool (o == q)) [
+  | inl is ↦
+      let found : row_of rows o ≡ Some (put_row row next) = put o ∙ row_here (row_of s.rows) o (put_row row next) in
+      let here : inode_in (next_store s rows log) o t ≡ option_map (renamed_inode r) (inode_in s o t) =
+      ap (inode_by log.held o t) found ∙ ap (λ (i : Inode). Some i) (stamped_inode log.held o next (row.stamp + 1) t ∙ w.inode t) ∙ sym (ap (λ (x : Option Row). option_map (renamed_inode r) (inode_by s.log.held o t x)) there) in
+      subst (λ (k : ℕ). inode_in (next_store s rows log) k t ≡ option_map (renamed_inode r) (inode_in s k t)) (eqb-true o q is) here ∙ sym (cond-true (o == q) (option_map (renamed_inode r) (inode_in s q t)) (inode_in s q t) is)
+  | inr beside ↦ inode_in_stays laws.same s (next_store s rows log) q t (put q ∙ row_beside (row_of s.rows) o q (put_row row next) beside) (other_stays o q s.log.held log.held w.others beside)
+      ∙ sym (cond-false (o == q) (option_map (renamed_inode r) (inode_in s q t)) (inode_in s q t) beside)
+]
+
+relocated_versions : Laws → (s : StoreFields) (rows : List (ℕ × Row)) (log : Log) (o : ℕ) (row next : Row) (copies : List CopiedBlock) (r : RenamingFields) → IsStore s → row_of s.rows o ≡ Some row → Relocates s.log o row copies next log r → IsPut s rows o row next
+    → (q t : ℕ) → version_in (next_store s rows log) q t ≡ version_in s q t
+relocated_versions laws s rows log o row next copies r store there w put q t = elim (cases_Bool (o == q)) [
+  | inl is ↦
+      let was : inode_in s o t ≡ Some (inode_of s.log.held o row t) = ap (inode_by s.log.held o t) there in
+      let now : inode_in (next_store s rows log) o t ≡ Some (renamed_inode r (inode_of s.log.held o row t)) =
+      ap (inode_by log.held o t) (put o ∙ row_here (row_of s.rows) o (put_row row next)) ∙ ap (λ (i : Inode). Some i) (stamped_inode log.held o next (row.stamp + 1) t ∙ w.inode t) in
+      let here : version_in (next_store s rows log) o t ≡ version_in s o t =
+      ap (version_by log.held) now ∙ (means_renamed laws s.log log o row next copies r w (inode_of s.log.held o row t) ((store.objects o row there).pointers t)).0 ∙ sym (ap (version_by s.log.held) was) in
+      subst (λ (k : ℕ). version_in (next_store s rows log) k t ≡ version_in s k t) (eqb-true o q is) here
+  | inr beside ↦ version_in_stays laws.same laws.matter s (next_store s rows log) q t store (put q ∙ row_beside (row_of s.rows) o q (put_row row next) beside) (other_stays o q s.log.held log.held w.others beside)
+]
+
+-- a data block that is there stood there, or was put at a place that was taken
+data_taken : (before later : Log) (o n : ℕ) (r : RenamingFields) (p : Place) → TakesPlaces n before later → IsSome (of_kind Data o later.held p) → IsOldOrNew o r before.held later.held p
+    → (of_kind Data o later.held p ≡ of_kind Data o before.held p) ⊎ Contains (take n before.ahead) p
+data_taken before later o n r p takes some (inl old) = inl old.0
+data_taken before later o n r p takes some (inr new) = inr (takes.among p new.0 (held (later.held p) some))
+  where
+    held : (x : Option Stored) → IsSome (seen_as Data o x) → IsSome x
+    held None h = h
+    held (Some block) h = refl
+
+relocated_made : Laws → (s : StoreFields) (rows : List (ℕ × Row)) (log : Log) (o : ℕ) (row next : Row) (copies : List CopiedBlock) → Relocates s.log o row copies next log (renaming_by copies s.log.ahead) → IsPut s rows o row next
+    → IsRelocated s o row copies (next_store s rows log)
+relocated_made laws s rows log o row next copies w put =
+    let r : RenamingFields = renaming_by copies s.log.ahead in
+    record {
+      next = put_row row next;
+      rest = ap (λ (x : Row). record x { stamp = row.stamp + 1 }) w.fields;
+      put = put;
+      journal = w.journal;
+      kept = w.kept;
+      pointers = pointers_renamed laws s.log log o row next copies r w;
+      moved = w.moved;
+      copied = λ p q is. (w.copied p q is).1;
+      gone = w.gone;
+      stayed = w.stayed;
+      blocks = λ p some. data_taken s.log log o (blocks_relocated s.log.held o row copies) r p w.takes some (w.blocks p some);
+      chains = w.chains;
+      checkpoints = w.checkpoints;
+      others = w.others;
+      takes = w.takes;
+      latest = refl;
+    }
+
+pub relocated : Laws → (s : StoreFields) (rows : List (ℕ × Row)) (log : Log) (o : ℕ) (row next : Row) (copies : List CopiedBlock) (r : RenamingFields) → IsStore s → row_of s.rows o ≡ Some row
+    → Relocates s.log o row copies next log r → blocks_relocated s.log.held o row copies ≤ length s.log.ahead → IsPut s rows o row next → RelocatesIn s o row copies (next_store s rows log)
+relocated laws s rows log o row next copies r store there w room put =
+    let by : Relocates s.log o row copies next log (renaming_by copies s.log.ahead) = subst (λ (x : RenamingFields). Relocates s.log o row copies next log x) w.exact w in
+    record {
+      store = relocated_store laws s rows log o row next copies r store there w room put;
+      relocated = relocated_made laws s rows log o row next copies by put;
+      inodes = relocated_inodes laws s rows log o row next copies (renaming_by copies s.log.ahead) there by put;
+      versions = relocated_versions laws s rows log o row next copies r store there w put;
+    }
+
+-- ---- the inode beside the row
+
+abbrev pub with_inode : (ℕ → Option Inode) → ℕ → Inode → ℕ → Option Inode
+with_inode values o i q = cond (o == q) (Some i) (values q)
+
+pub renamed_beside : (o latest : ℕ) (r : RenamingFields) (present : Inode) (values after : ℕ → Option Inode) (s later : StoreFields) → Some present ≡ inode_in s o latest
+    → ((q : ℕ) → after q ≡ with_inode values o (renamed_inode r present) q) → ((q : ℕ) → values q ≡ inode_in s q latest)
+    → ((q t : ℕ) → inode_in later q t ≡ cond (o == q) (option_map (renamed_inode r) (inode_in s q t)) (inode_in s q t)) → (q : ℕ) → after q ≡ inode_in later q latest
+renamed_beside o latest r present values after s later is put keeps inodes q = elim (cases_Bool (o == q)) [
+  | inl same ↦
+      let now : Some (renamed_inode r present) ≡ option_map (renamed_inode r) (inode_in s q latest) = subst (λ (k : ℕ). Some (renamed_inode r present) ≡ option_map (renamed_inode r) (inode_in s k latest)) (eqb-true o q same) (ap (option_map (renamed_inode r)) is) in
+      put q ∙ cond-true (o == q) (Some (renamed_inode r present)) (values q) same ∙ now ∙ sym (cond-true (o == q) (option_map (renamed_inode r) (inode_in s q latest)) (inode_in s q latest) same) ∙ sym (inodes q latest)
+  | inr beside ↦
+      put q ∙ cond-false (o == q) (Some (renamed_inode r present)) (values q) beside ∙ keeps q ∙ sym (cond-false (o == q) (option_map (renamed_inode r) (inode_in s q latest)) (inode_in s q latest) beside) ∙ sym (inodes q latest)
+]

@@ -1,0 +1,17 @@
+use Rattle.std.proofs.Common.{ℕ, ◌+◌, ◌∷◌, List, drop, subst, sym, ap, ◌∙◌}
+use Rattle.std.proofs.lemmas.List.{drop_more}
+use Rattle.version_store.specs.declared.copies.CopiedBlock.{CopiedBlock}
+use Rattle.version_store.specs.private.Relocating.{Appending}
+use Rattle.version_store.proofs.copies.append_copies.Goals as goal
+
+pub loop-copy-preserved : goal.loop-copy-preserved
+loop-copy-preserved g c =
+    let log = g.B.Blocks.log in
+    let o = c.args.object in
+    let copies = c.args.copies.now in
+    let i = c.loop-copy.copy-index in
+    let copy = c.copy-item.result in
+    let rest = drop (i + 1) copies in
+    let split = drop_more copies i copy c.loop-copy-test.true ∙ ap (λ (x : CopiedBlock). x ∷ rest) (sym c.copy-item.is) in
+    c.append_copy.ensures copies rest i (log c.args.table.now) (i, c.loop-copy-test.true, sym c.copy-item.is)
+    (subst (λ (left : List CopiedBlock). Appending o copies (log c.args.table.now) (log c.loop-copy.table) c.loop-copy.renaming left i) split c.loop-copy.invariant)

@@ -1,0 +1,101 @@
+use Rattle.version_store.proofs.Relocated.{Moved, relocates}
+use Rattle.version_store.proofs.RelocatedBlocks.{Dropped}
+use Rattle.std.proofs.Common.{List, Option, IsSome, IfSome, ◌≡◌, ◌≤◌, ℕ, ◌+◌, length, option_map, option_copied, refl, sym, subst, ap, ◌∙◌, rules, arith}
+use Rattle.block_log.specs.declared.kinds.BlockKind.TheVariants.{Journal, Checkpoint}
+use Rattle.codec.specs.Entry.{EntryFields, entries_length}
+use Rattle.codec.specs.declared.inodes.Inode.{Inode}
+use Rattle.block_log.specs.Taken.{TakesPlaces}
+use Rattle.chain_cleaning.specs.Laws.{TellsWithin}
+use Rattle.chain_moving.specs.Renaming.{renamed_entries, renamed_inode}
+use Rattle.chain_moving.specs.Apart.{IsNotNew}
+use Rattle.object_map.specs.declared.map.Row.{Row}
+use Rattle.row_changes.specs.Moving.{CanTell, checkpoint_with, moved_blocks}
+use Rattle.std.specs.List.{AllByRecursion, Contains}
+use Rattle.time_read.specs.Rows.{entries_of, first_of, checkpoint_of, inode_of}
+use Rattle.version_store.proofs.RenamedHistory.{RenamingStands, kept_renamed, told_apart, can_tell}
+use Rattle.version_store.proofs.histories.relocate_blocks.Goals as goal
+
+pub rename-requires-clause-apart : goal.rename-requires-clause-apart
+rename-requires-clause-apart g c =
+    let held = (g.B.Blocks.log c.args.table.now).held in
+    let r = c.append_copies-renaming.result in
+    let a = c.append_copies-renaming.ensures in
+    let apart = told_apart c.what_a_chain_tells.ensures.listed c.a_test_tells_a_renaming_apart.ensures.test held c.args.object c.args.row.now r a.distinct a.fresh c.requires.led in
+    subst (λ (es : List EntryFields). AllByRecursion (TellsWithin (IsNotNew r)) es) (sym c.requires.told.journal) apart.told.sides
+
+pub move_row-requires-clause-row : goal.move_row-requires-clause-row
+move_row-requires-clause-row g c =
+    let a = c.append_copies-renaming.ensures in
+    c.a_row_is_its_own_blocks.ensures.row (g.B.Blocks.log c.args.table.now).held (g.B.Blocks.log c.append_copies-renaming.new.table).held c.args.object c.args.row.now (a.others Journal c.args.object refl) (a.others Checkpoint c.args.object refl) c.requires.row
+
+pub move_row-requires-clause-tell : goal.move_row-requires-clause-tell
+move_row-requires-clause-tell g c =
+    let held = (g.B.Blocks.log c.args.table.now).held in
+    let o = c.args.object in
+    let row = c.args.row.now in
+    let r = c.append_copies-renaming.result in
+    let laws : RenamingStands = record {
+      blank = c.a_renamed_run_is_a_run.ensures.blank;
+      undo = c.renaming_commutes_with_undo_and_redo.ensures.undo_all;
+      redo = c.renaming_commutes_with_undo_and_redo.ensures.redo_all;
+      by = c.renamed_entries_stay_in_order.ensures.by;
+      shown = c.a_renamed_run_is_a_run.ensures.shown;
+      run = c.a_renamed_run_is_a_run.ensures.run;
+      groups = c.renamed_entries_stay_in_order.ensures.groups;
+      bytes = c.a_renamed_chain_takes_as_many_bytes.ensures.all;
+      rules = c.a_renamed_checkpoint_keeps_the_rules.ensures;
+      end = c.a_run_has_one_end_and_one_beginning.ensures.end;
+    } in
+    let kept : option_copied c.as_ref-kept.result ≡ kept_renamed r (checkpoint_of held o row) = c.as_ref-kept.ensures.value ∙ c.rename.ensures.kept ∙ ap (option_map (renamed_inode r)) c.requires.told.inode in
+    let entries : c.as_slice.result.now ≡ renamed_entries r (entries_of held o row) = c.as_slice.ensures.value ∙ c.rename.ensures.entries ∙ ap (renamed_entries r) c.requires.told.journal in
+    subst (λ (i : Option Inode). CanTell o row i c.as_slice.result.now) (sym kept)
+    (subst (λ (es : List EntryFields). CanTell o row (kept_renamed r (checkpoint_of held o row)) es) (sym entries) (can_tell laws held o row r c.requires.row c.requires.told.rules))
+
+pub returns-clause-moved : goal.returns-clause-moved
+returns-clause-moved g c =
+    let before = g.B.Blocks.log c.args.table.now in
+    let between = g.B.Blocks.log c.append_copies-renaming.new.table in
+    let moved = g.B.Blocks.log c.move_row.new.table in
+    let later = g.B.Blocks.log c.drop_copies.new.table in
+    let o = c.args.object in
+    let row = c.args.row.now in
+    let next = c.in-Ok.row in
+    let copies = c.args.copies.now in
+    let r = c.append_copies-renaming.result in
+    let laws : RenamingStands = record {
+      blank = c.a_renamed_run_is_a_run.ensures.blank;
+      undo = c.renaming_commutes_with_undo_and_redo.ensures.undo_all;
+      redo = c.renaming_commutes_with_undo_and_redo.ensures.redo_all;
+      by = c.renamed_entries_stay_in_order.ensures.by;
+      shown = c.a_renamed_run_is_a_run.ensures.shown;
+      run = c.a_renamed_run_is_a_run.ensures.run;
+      groups = c.renamed_entries_stay_in_order.ensures.groups;
+      bytes = c.a_renamed_chain_takes_as_many_bytes.ensures.all;
+      rules = c.a_renamed_checkpoint_keeps_the_rules.ensures;
+      end = c.a_run_has_one_end_and_one_beginning.ensures.end;
+    } in
+    let kept : option_copied c.as_ref-kept.result ≡ kept_renamed r (checkpoint_of before.held o row) = c.as_ref-kept.ensures.value ∙ c.rename.ensures.kept ∙ ap (option_map (renamed_inode r)) c.requires.told.inode in
+    let entries : c.as_slice.result.now ≡ renamed_entries r (entries_of before.held o row) = c.as_slice.ensures.value ∙ c.rename.ensures.entries ∙ ap (renamed_entries r) c.requires.told.journal in
+    let given : Moved between moved o row next (option_copied c.as_ref-kept.result) c.as_slice.result.now = record {
+      stands = c.in-Ok.ensures.row;
+      journal = c.in-Ok.ensures.entries;
+      checkpoint = c.in-Ok.ensures.checkpoint;
+      inode = c.in-Ok.ensures.inode;
+      orderly = c.in-Ok.ensures.orderly;
+      fields = c.in-Ok.ensures.fields;
+      history = c.in-Ok.ensures.others;
+      takes = c.in-Ok.ensures.takes;
+      chains = c.in-Ok.ensures.journal;
+      checkpoints = c.in-Ok.ensures.checkpoints;
+    } in
+    let m : Moved between moved o row next (kept_renamed r (checkpoint_of before.held o row)) (renamed_entries r (entries_of before.held o row)) =
+    subst (λ (es : List EntryFields). Moved between moved o row next (kept_renamed r (checkpoint_of before.held o row)) es) entries (subst (λ (i : Option Inode). Moved between moved o row next i c.as_slice.result.now) kept given) in
+    let d : Dropped before between moved later o copies r = record {
+      one = c.one_place_has_one_name.ensures;
+      are = c.requires.copies;
+      appended = c.append_copies-renaming.ensures;
+      history = c.in-Ok.ensures.others;
+      dropped = c.drop_copies.ensures.held;
+    } in
+    relocates laws c.renamed_entries_stay_in_order.ensures.order c.a_renamed_chain_takes_as_many_bytes.ensures.each c.a_row_is_its_own_blocks.ensures.row c.a_row_is_its_own_blocks.ensures.inode c.an_orderly_row_stays.ensures.blocks c.places_taken_add_up.ensures
+    before between moved later o row next copies r c.requires.row m d c.drop_copies.ensures.takes

@@ -1,0 +1,89 @@
+use Rattle.std.proofs.Common.{◌≡◌, ◌≤◌, ◌+◌, ℕ, List, length, Option, Some, IfSome, sym, ap, subst, ◌∙◌, rules}
+use Rattle.codec.specs.declared.inodes.Inode.{Inode}
+use Rattle.object_map.specs.declared.map.Row.{Row}
+use Rattle.object_map.specs.Objects.{Puts, with_value}
+use Rattle.object_map.specs.Rows.{row_of}
+use Rattle.chain_moving.specs.Renaming.{RenamingFields, renamed_entries, renamed_inode}
+use Rattle.time_read.specs.Rows.{entries_of}
+use Rattle.version_store.specs.declared.presents.Present.{Present}
+use Rattle.version_store.specs.Store.{StoreOf, StoreFields, IsStore, fields_of}
+use Rattle.version_store.specs.Versions.{inode_in}
+use Rattle.version_store.specs.Relocating.{blocks_relocated, renaming_by}
+use Rattle.version_store.specs.private.Beside.{Tells, inode_beside}
+use Rattle.version_store.specs.private.Relocating.{Relocates, RelocatesIn}
+use Rattle.version_store.proofs.Beside.{inode_put, replaced_indexed}
+use Rattle.version_store.proofs.CheckpointSteps.{next_store}
+use Rattle.version_store.proofs.RelocatedStore.{Laws, relocated, renamed_beside}
+use Rattle.version_store.proofs.store.Store.put_relocation.Goals as goal
+
+pub returns : goal.returns
+returns g c =
+    let o = c.args.object in
+    let row = c.args.row.now in
+    let copies = c.args.copies.now in
+    let s : StoreFields = record { rows = c.self.inside.objects.rows; log = g.B.Blocks.log c.self.inside.table; latest = c.self.inside.latest } in
+    let store = subst (λ (v : StoreOf _). IsStore (fields_of g.B.Blocks.log v)) (sym c.self.view_is) c.requires.store in
+    let there = subst (λ (v : StoreOf _). row_of v.rows o ≡ Some row) (sym c.self.view_is) c.requires.row in
+    let room = subst (λ (v : StoreOf _). blocks_relocated (g.B.Blocks.log v.table).held o row copies ≤ length (g.B.Blocks.log v.table).ahead) (sym c.self.view_is) c.requires.room in
+    let log = g.B.Blocks.log c.relocate_blocks-moved.new.table in
+    let next = c.relocate_blocks-moved.result.row in
+    let r = c.relocate_blocks-moved.result.renaming in
+    let beside : Present = record { inode = c.rename_inode.new.inode; index = c.index_of.result } in
+    let put = subst (λ (x : Option Row). IfSome x (λ old. Puts c.self.inside.objects o (record next { stamp = old.stamp + 1 }) beside c.change.new.self)) there c.change.ensures.changed in
+    let rest = c.what_changes_rest_on.ensures in
+    let laws : Laws = record {
+      orderly = rest.orderly;
+      stands = rest.row;
+      same = rest.inode;
+      by = rest.journal;
+      matter = rest.meaning;
+      means = c.a_renamed_inode_means_the_same.ensures;
+      points = c.a_renamed_run_is_a_run.ensures.pointers;
+      tells = c.a_renamed_chain_tells_of_renamed_places.ensures.order;
+      within = c.renamed_entries_keep_their_moments.ensures.within;
+      old = c.renamed_entries_keep_their_moments.ensures.old;
+      needed = rest.blocks_are_needed;
+    } in
+    let made = relocated laws s c.change.new.self.rows log o row next copies r store there c.relocate_blocks-moved.ensures.moved room put.rows in
+    subst (λ (v : StoreOf _). RelocatesIn (fields_of g.B.Blocks.log v) o row copies (next_store s c.change.new.self.rows log)) c.self.view_is made
+
+pub invariant_of-self : goal.invariant_of-self
+invariant_of-self g c =
+    let o = c.args.object in
+    let row = c.args.row.now in
+    let copies = c.args.copies.now in
+    let s : StoreFields = record { rows = c.self.inside.objects.rows; log = g.B.Blocks.log c.self.inside.table; latest = c.self.inside.latest } in
+    let store = subst (λ (v : StoreOf _). IsStore (fields_of g.B.Blocks.log v)) (sym c.self.view_is) c.requires.store in
+    let there = subst (λ (v : StoreOf _). row_of v.rows o ≡ Some row) (sym c.self.view_is) c.requires.row in
+    let room = subst (λ (v : StoreOf _). blocks_relocated (g.B.Blocks.log v.table).held o row copies ≤ length (g.B.Blocks.log v.table).ahead) (sym c.self.view_is) c.requires.room in
+    let log = g.B.Blocks.log c.relocate_blocks-moved.new.table in
+    let next = c.relocate_blocks-moved.result.row in
+    let r = c.relocate_blocks-moved.result.renaming in
+    let beside : Present = record { inode = c.rename_inode.new.inode; index = c.index_of.result } in
+    let put = subst (λ (x : Option Row). IfSome x (λ old. Puts c.self.inside.objects o (record next { stamp = old.stamp + 1 }) beside c.change.new.self)) there c.change.ensures.changed in
+    let rest = c.what_changes_rest_on.ensures in
+    let laws : Laws = record {
+      orderly = rest.orderly;
+      stands = rest.row;
+      same = rest.inode;
+      by = rest.journal;
+      matter = rest.meaning;
+      means = c.a_renamed_inode_means_the_same.ensures;
+      points = c.a_renamed_run_is_a_run.ensures.pointers;
+      tells = c.a_renamed_chain_tells_of_renamed_places.ensures.order;
+      within = c.renamed_entries_keep_their_moments.ensures.within;
+      old = c.renamed_entries_keep_their_moments.ensures.old;
+      needed = rest.blocks_are_needed;
+    } in
+    let made = relocated laws s c.change.new.self.rows log o row next copies r store there c.relocate_blocks-moved.ensures.moved room put.rows in
+    let by = renaming_by copies s.log.ahead in
+    let exact : r ≡ by = c.relocate_blocks-moved.ensures.moved.exact in
+    let present = c.in-Some.inode in
+    let is : Some present ≡ inode_in s o s.latest = subst (λ (v : StoreOf _). Some present ≡ inode_in (fields_of g.B.Blocks.log v) o v.latest) (sym c.self.view_is) (sym c.in-Some.is ∙ c.copied.ensures ∙ c.present.ensures) in
+    let renamed : c.rename_inode.new.inode ≡ renamed_inode by present = c.rename_inode.ensures.exact ∙ ap (λ (x : RenamingFields). renamed_inode x present) exact in
+    let after = subst (λ (i : Inode). (q : ℕ) → inode_beside c.change.new.self.values q ≡ with_value (inode_beside c.self.inside.objects.values) o i q) renamed (inode_put c.self.inside.objects.values c.change.new.self.values o beside put.values) in
+    record {
+      inodes = renamed_beside o s.latest by present (inode_beside c.self.inside.objects.values) (inode_beside c.change.new.self.values) s (next_store s c.change.new.self.rows log) is after c.self.invariant.inodes made.inodes;
+      indexes = replaced_indexed s (next_store s c.change.new.self.rows log) o (record next { stamp = row.stamp + 1 }) (renamed_entries r (entries_of s.log.held o row)) beside c.self.inside.objects.values c.change.new.self.values
+          put.rows made.relocated.others c.relocate_blocks-moved.ensures.moved.journal (subst (λ (es : List _). Tells c.index_of.result es) (c.as_slice.ensures.value ∙ c.relocate_blocks-moved.ensures.entries) c.index_of.ensures) put.values c.self.invariant.indexes;
+    }

@@ -1,0 +1,92 @@
+-- What is appended for copies, and what becomes of an object's blocks. No public clause cites this file.
+use Rattle.std.specs.Prelude.{◌≡◌, ◌⊎◌, ◌↔◌, ◌==◌, if◌then◌else◌, ℕ, ◌+◌, suc, Bool, true, List, [], length, take, Option, Some, None, IsSome, IfSome, option_map}
+use Rattle.std.specs.List.{Contains, list_any}
+use Rattle.s4_types.specs.Pointer.{Place}
+use Rattle.s4_types.specs.declared.limits.TheConstants.{PAYLOAD_BLOCKS}
+use Rattle.block_log.specs.declared.kinds.BlockKind.TheVariants.{Journal, Checkpoint, Data}
+use Rattle.block_log.specs.Log.{Log, Stored, of_kind, same_place}
+use Rattle.block_log.specs.Taken.{TakesPlaces}
+use Rattle.codec.specs.Checkpoint.{checkpoint_rules}
+use Rattle.object_map.specs.declared.map.Row.{Row}
+use Rattle.time_read.specs.Rows.{IsRow, entries_of, checkpoint_of, inode_of}
+use Rattle.time_read.specs.Orderly.{IsOrderly}
+use Rattle.inode.specs.Growth.{data_block}
+use Rattle.chain_moving.specs.Renaming.{RenamingFields, move_of, new_place, renamed_entries, renamed_inode}
+use Rattle.chain_moving.specs.Apart.{HasDistinctPlaces}
+use Rattle.version_store.specs.declared.copies.CopiedBlock.{CopiedBlock}
+use Rattle.version_store.specs.declared.histories.History.{History}
+use Rattle.version_store.specs.Store.{StoreFields, IsStore}
+use Rattle.version_store.specs.Versions.{inode_in, version_in}
+use Rattle.version_store.specs.Replacing.{OnlyDataChanged, OtherObjectsStay}
+use Rattle.version_store.specs.Relocating.{IsCopied, IsRelocated, blocks_relocated, frame_of_copies, with_moves, renaming_by, renamed_checkpoint, blocks_ascend_from}
+
+-- a copy of a block of this number is held at a place
+pub record IsCopyAt (o : ℕ) (copies : List CopiedBlock) (now : Log) (n : ℕ) (q : Place) : Type 0 where
+  pub copy : CopiedBlock
+  pub among : Contains copies copy
+  pub number : copy.place.block ≡ n
+  pub there : now.held q ≡ Some (data_block o copy.bytes)
+
+-- a block moves to the place
+pub record IsNewPlace (r : RenamingFields) (q : Place) : Type 0 where
+  pub number : ℕ
+  pub moves : move_of r number ≡ Some q
+
+-- The first of an object's copies were appended, and a renaming has their new places; these are the rest of them.
+pub record Appending (o : ℕ) (copies : List CopiedBlock) (before now : Log) (r : RenamingFields) (rest : List CopiedBlock) (count : ℕ) : Type 0 where
+  pub exact : with_moves r rest now.ahead ≡ renaming_by copies before.ahead
+  pub takes : TakesPlaces count before now
+  pub stays : (p : Place) → IsSome (before.held p) → now.held p ≡ before.held p
+  pub others : OnlyDataChanged o before.held now.held
+  pub frame : r.frame ≡ (frame_of_copies copies).frame
+  pub generation : r.generation ≡ (frame_of_copies copies).generation
+  pub size : length r.moves ≡ PAYLOAD_BLOCKS
+  pub distinct : HasDistinctPlaces r
+  pub fresh : (n : ℕ) (q : Place) → move_of r n ≡ Some q → before.held q ≡ None
+  pub there : (n : ℕ) (q : Place) → move_of r n ≡ Some q → IsCopyAt o copies now n q
+  pub each : (c : CopiedBlock) → Contains copies c → IsSome (move_of r c.place.block) ⊎ Contains rest c
+  pub new : (q : Place) → before.held q ≡ None → IsSome (now.held q) → IsNewPlace r q
+  pub below : (n : ℕ) (q : Place) → move_of r n ≡ Some q → blocks_ascend_from (suc n) rest ≡ true
+  pub low : ℕ
+  pub ascending : blocks_ascend_from low rest ≡ true
+
+-- whether one of these blocks stood at the place
+abbrev pub stood_at : Place → List CopiedBlock → Bool
+stood_at p copies = list_any (λ c. same_place c.place p) copies
+
+-- a history is what an object's row tells
+pub record Tells (held : Place → Option Stored) (o : ℕ) (row : Row) (history : History) : Type 0 where
+  pub inode : history.kept ≡ option_map (λ c. c.inode) (checkpoint_of held o row)
+  pub rules : IfSome (checkpoint_of held o row) (λ c. checkpoint_rules c ≡ true)
+  pub journal : history.entries.items ≡ entries_of held o row
+
+-- a data block is what it was before, where no block moves away; or it is at a new place, where nothing was
+abbrev pub IsOldOrNew : ℕ → RenamingFields → (Place → Option Stored) → (Place → Option Stored) → Place → Type 0
+IsOldOrNew o r held later p = ((of_kind Data o later p ≡ of_kind Data o held p) × (new_place r p ≡ None)) ⊎ ((held p ≡ None) × IsNewPlace r p)
+
+-- An object's copied blocks went to the first places ahead, and its history was renamed and written behind them.
+pub record Relocates (before : Log) (o : ℕ) (row : Row) (copies : List CopiedBlock) (next : Row) (later : Log) (r : RenamingFields) : Type 0 where
+  pub exact : r ≡ renaming_by copies before.ahead
+  pub stands : IsRow later.held o next
+  pub journal : entries_of later.held o next ≡ renamed_entries r (entries_of before.held o row)
+  pub kept : checkpoint_of later.held o next ≡ option_map (renamed_checkpoint r) (checkpoint_of before.held o row)
+  pub inode : (t : ℕ) → inode_of later.held o next t ≡ renamed_inode r (inode_of before.held o row t)
+  pub orderly : (latest : ℕ) → IsOrderly before.held o row latest → IsOrderly later.held o next latest
+  pub fields : next ≡ record row { checkpoint = next.checkpoint; head = next.head; head_bytes = next.head_bytes }
+  pub moved : (p : Place) → IsSome (new_place r p) ↔ IsCopied copies p
+  pub copied : (p q : Place) → new_place r p ≡ Some q → IsSome (of_kind Data o before.held p) × (of_kind Data o later.held q ≡ of_kind Data o before.held p)
+  pub gone : (p : Place) → IsCopied copies p → later.held p ≡ None
+  pub stayed : (p : Place) → IsSome (of_kind Data o before.held p) → new_place r p ≡ None → of_kind Data o later.held p ≡ of_kind Data o before.held p
+  pub blocks : (p : Place) → IsSome (of_kind Data o later.held p) → IsOldOrNew o r before.held later.held p
+  pub from : (p : Place) → IsNewPlace r p → (q : Place) × (new_place r q ≡ Some p)
+  pub chains : (p : Place) → IsSome (of_kind Journal o later.held p) → Contains (take (blocks_relocated before.held o row copies) before.ahead) p
+  pub checkpoints : (p : Place) → IsSome (of_kind Checkpoint o later.held p) → Contains (take (blocks_relocated before.held o row copies) before.ahead) p
+  pub others : OtherObjectsStay o before.held later.held
+  pub takes : TakesPlaces (blocks_relocated before.held o row copies) before later
+
+-- an object of a store was relocated
+pub record RelocatesIn (s : StoreFields) (o : ℕ) (row : Row) (copies : List CopiedBlock) (later : StoreFields) : Type 0 where
+  pub store : IsStore later
+  pub relocated : IsRelocated s o row copies later
+  pub inodes : (q t : ℕ) → inode_in later q t ≡ (if o == q then option_map (renamed_inode (renaming_by copies s.log.ahead)) (inode_in s q t) else inode_in s q t)
+  pub versions : (q t : ℕ) → version_in later q t ≡ version_in s q t
