@@ -1,0 +1,296 @@
+-- What holds of copies that are put in place, and of the frame that they left.
+use Rattle.std.proofs.Common.{◌≡◌, ◌⊎◌, inl, inr, ℕ, zero, suc, ◌+◌, ◌<◌, ◌≤◌, ◌==◌, ◌&&◌, nat_le, Bool, true, false, cond, if◌then◌else◌, List, [], ◌∷◌, ◌++◌, length, get_or, take, map, filter, refl, sym, ap, subst, ◌∙◌, Option, Some, None, arith}
+use Rattle.std.specs.Prelude.{IsSome, IfSome, IfErr, OnOk, MatchResult, Result, Ok, Err}
+use Rattle.s4_types.specs.declared.refusals.Refusal.{Refusal}
+use Rattle.s4_types.specs.declared.refusals.Refusal.TheVariants.{NoMemory, NoRoom}
+use Rattle.time_read.specs.Rows.{entries_of}
+use Rattle.row_changes.specs.Moving.{moved_blocks}
+use Rattle.std.specs.List.{AllByRecursion, Contains}
+use Rattle.std.proofs.lemmas.Bool.{cases_Bool, and_parts, eq-eqb, le-leb, leb-true}
+use Rattle.std.proofs.lemmas.List.Elements.{All-from_recursion, All-contains}
+use Rattle.std.proofs.lemmas.List.{length-map}
+use Rattle.s4_types.specs.Pointer.{Place}
+use Rattle.block_log.specs.declared.kinds.BlockKind.{BlockKind}
+use Rattle.block_log.specs.declared.kinds.BlockKind.TheVariants.{Journal, Checkpoint, Data}
+use Rattle.block_log.specs.Log.{Stored, same_kind, seen_as, of_kind}
+use Rattle.object_map.specs.declared.map.Row.{Row}
+use Rattle.atomic_table.specs.Seated.{TableId}
+use Rattle.segment_word.specs.Handles.{Remembered}
+use Rattle.segment_word.specs.Frames.{Frame, Pinned, is_sealed}
+use Rattle.segment_word.specs.FrameRule.{AllRemembered, IsRemembered}
+use Rattle.segment_word.specs.Layout.{frame_at, block_bytes}
+use Rattle.segment_table.specs.declared.slots.Slot.{Slot}
+use Rattle.segment_table.specs.Table.{Table, slots_at, block_slot, stored, held_at, is_of}
+use Rattle.segment_table.specs.Room.{places, whole_of, places_ahead, pointers_in}
+use Rattle.segment_table.specs.Laws.{IsListed, WhatIsListedIsHeld, ListsAllHeld, PlacesAheadAreInNoSealedFrame}
+use Rattle.chain_moving.specs.Renaming.{is_in, renaming_of}
+use Rattle.version_store.specs.declared.copies.CopiedBlock.{CopiedBlock}
+use Rattle.version_store.specs.Relocating.{AreCopies, IsCopied, IsRelocated, frame_of_copies, blocks_ascend_from, blocks_relocated}
+use Rattle.drive.specs.Fields.{DriveFields, store_of}
+use Rattle.interleaving.specs.Moving.{HoldsNone}
+use Rattle.segment_copier.specs.Moves.{is_data, data_in, IsMemoryOver, IsCopyFrom}
+use Rattle.segment_copier.specs.Commits.{AreStillThere, IsMovedBy, blocks_moved}
+use Rattle.segment_copier.proofs.Listed.{all_of, has_passed, some_sealed, data_listed}
+
+-- ---- lists
+
+has_mapped : {X Y : Type 0} (h : X → Y) (x : X) (xs : List X) → Contains xs x → Contains (map h xs) (h x)
+has_mapped h x [] (k, at, e) = absurd (omega arith)
+has_mapped h x (y ∷ ys) (zero, at, e) = (0, omega arith, ap h e)
+has_mapped h x (y ∷ ys) (suc k, at, e) =
+    let rest = has_mapped h x ys (k, omega arith, e) in
+    let inside : rest.0 < length (map h ys) = rest.1 in
+    (suc rest.0, omega arith, rest.2)
+
+-- what is among the images is the image of something
+record IsImage (X : Type 0) (Y : Type 0) (h : X → Y) (xs : List X) (y : Y) : Type 0 where
+  pub from : X
+  pub has : Contains xs from
+  pub is : h from ≡ y
+
+image : {X Y : Type 0} (h : X → Y) (xs : List X) (y : Y) → Contains (map h xs) y → IsImage X Y h xs y
+image h [] y (k, at, e) = absurd (omega arith)
+image h (x ∷ xs) y (zero, at, e) = record { from = x; has = (0, omega arith, refl); is = e }
+image h (x ∷ xs) y (suc k, at, e) =
+    let rest = image h xs y (k, omega arith, e) in
+    let has = rest.has in
+    let inside : has.0 < length xs = has.1 in
+    record { from = rest.from; has = (suc has.0, omega arith, has.2); is = rest.is }
+
+taken_has : {X : Type 0} (n : ℕ) (x : X) (xs : List X) → Contains (take n xs) x → Contains xs x
+taken_has zero x xs (k, at, e) = absurd (omega arith)
+taken_has (suc n) x [] (k, at, e) = absurd (omega arith)
+taken_has (suc n) x (y ∷ ys) (zero, at, e) = (0, omega arith, e)
+taken_has (suc n) x (y ∷ ys) (suc k, at, e) =
+    let rest = taken_has n x ys (k, omega arith, e) in
+    let inside : rest.0 < length ys = rest.1 in
+    (suc rest.0, omega arith, rest.2)
+
+-- ---- copies
+
+both_true : (a b : Bool) → a ≡ true → b ≡ true → (a && b) ≡ true
+both_true a b x y = ap (λ (c : Bool). c && b) x ∙ y
+
+in_one_frame : (c d : CopiedBlock) (copies : List CopiedBlock) → d.place.frame ≡ c.place.frame → d.place.generation ≡ c.place.generation → is_in (frame_of_copies (c ∷ copies)) d.place ≡ true
+in_one_frame c d copies frame generation = both_true _ _ (eq-eqb _ _ frame) (eq-eqb _ _ generation)
+
+-- the places of copies, where all are of one frame at one generation
+all_in : (f g : ℕ) (copies : List CopiedBlock) → ((c : CopiedBlock) → Contains copies c → (c.place.frame ≡ f) × (c.place.generation ≡ g)) → AllByRecursion (λ c. is_in (frame_of_copies copies) c.place ≡ true) copies
+all_in f g [] each = tt
+all_in f g (c ∷ copies) each = all_of (λ d. is_in (frame_of_copies (c ∷ copies)) d.place ≡ true) (c ∷ copies)
+    (λ d has. (let first = each c (0, omega arith, refl) in
+    let this = each d has in
+    in_one_frame c d copies (this.0 ∙ sym first.0) (this.1 ∙ sym first.1)))
+
+from_lower : (low high : ℕ) (copies : List CopiedBlock) → low ≤ high → blocks_ascend_from high copies ≡ true → blocks_ascend_from low copies ≡ true
+from_lower low high [] h e = refl
+from_lower low high (c ∷ copies) h e =
+    let parts = and_parts (nat_le high c.place.block) (blocks_ascend_from (suc c.place.block) copies) e in
+    let above : high ≤ c.place.block = leb-true _ _ parts.0 in
+    both_true _ _ (le-leb low c.place.block (omega arith)) parts.1
+
+-- one more place, and those behind it
+one_first : (p : Place) (copies : List CopiedBlock) (behind : List Place) (b : ℕ) → p.block ≡ b
+    → ((later : List CopiedBlock) → map (λ c. c.place) later ≡ behind → blocks_ascend_from (b + 1) later ≡ true)
+    → map (λ c. c.place) copies ≡ p ∷ behind → blocks_ascend_from b copies ≡ true
+one_first p [] behind b at rest e = refl
+one_first p (c ∷ copies) behind b at rest e =
+    let first : c.place ≡ p = (cc) in
+    let later : map (λ (d : CopiedBlock). d.place) copies ≡ behind = (cc) in
+    let block : c.place.block ≡ b = ap (λ (q : Place). q.block) first ∙ at in
+    let next : b + 1 ≡ suc c.place.block = omega arith in
+    both_true _ _ (le-leb b c.place.block (omega arith)) (subst (λ (n : ℕ). blocks_ascend_from n copies ≡ true) next (rest copies later))
+
+ascending : (one two : Place → Bool) (f g b n : ℕ) (copies : List CopiedBlock) → map (λ c. c.place) copies ≡ filter two (filter one (places f g b n)) → blocks_ascend_from b copies ≡ true
+unfolding places
+ascending one two f g b zero [] e = refl
+ascending one two f g b zero (c ∷ copies) e = absurd (cc)
+ascending one two f g b (suc n) copies e =
+    let p : Place = record { frame = f; block = b; generation = g } in
+    let behind : List Place = filter one (places f g (b + 1) n) in
+    let rest : (later : List CopiedBlock) → map (λ (c : CopiedBlock). c.place) later ≡ filter two behind → blocks_ascend_from (b + 1) later ≡ true = ascending one two f g (b + 1) n in
+    elim (cases_Bool (one p)) [
+    | inl passes ↦ (let here : map (λ (c : CopiedBlock). c.place) copies ≡ filter two (p ∷ behind) = e ∙ ap (λ (x : Bool). filter two (cond x (p ∷ behind) behind)) passes in
+        elim (cases_Bool (two p)) [
+        | inl is ↦ one_first p copies (filter two behind) b refl rest (here ∙ ap (λ (x : Bool). cond x (p ∷ filter two behind) (filter two behind)) is)
+        | inr other ↦ from_lower b (b + 1) copies (omega arith) (rest copies (here ∙ ap (λ (x : Bool). cond x (p ∷ filter two behind) (filter two behind)) other))
+      ])
+    | inr fails ↦ from_lower b (b + 1) copies (omega arith) (rest copies (e ∙ ap (λ (x : Bool). filter two (cond x (p ∷ behind) behind)) fails))
+  ]
+
+still_ascending : (t : Table) (f o : ℕ) (copies : List CopiedBlock) → AreStillThere t f o copies → blocks_ascend_from 1 copies ≡ true
+still_ascending t f o copies there =
+    let one : Place → Bool = λ p. is_of o (held_at t p) in
+    let two : Place → Bool = λ p. is_data (held_at t p) in
+    let sealed : is_sealed (frame_at t.drive.frames f).phase ≡ true = some_sealed t o f there.some in
+    let is : map (λ (c : CopiedBlock). c.place) copies ≡ filter two (filter one (whole_of t f)) = there.places ∙ ap (λ (b : Bool). filter two (if b then filter one (whole_of t f) else [])) sealed in
+    ascending one two f (frame_at t.drive.frames f).generation 1 15 copies is
+
+-- ---- bytes
+
+-- the bytes of a held block are those of its frame
+held_bytes : (t : Table) (p : Place) → IfSome (held_at t p) (λ block. block.bytes ≡ block_bytes (frame_at t.drive.frames p.frame).contents p.block)
+held_bytes t p =
+    let k : Frame = frame_at t.drive.frames p.frame in
+    let slot : Slot = block_slot (slots_at t.slots p.frame) p.block in
+    let bytes : List ℕ = block_bytes k.contents p.block in
+    let IsIts : Option Stored → Type 0 = λ held. IfSome held (λ block. block.bytes ≡ bytes) in
+    elim (cases_Bool (k.generation == p.generation)) [
+    | inl current ↦ subst (λ (b : Bool). IsIts (if b then stored slot bytes else None)) (sym current)
+      (elim (cases_Bool slot.held) [
+        | inl held ↦ subst (λ (b : Bool). IsIts (if b then Some (record { kind = slot.part.kind; object = slot.part.object; bytes = bytes }) else None)) (sym held) refl
+        | inr gone ↦ subst (λ (b : Bool). IsIts (if b then Some (record { kind = slot.part.kind; object = slot.part.object; bytes = bytes }) else None)) (sym gone) tt
+      ])
+    | inr older ↦ subst (λ (b : Bool). IsIts (if b then stored slot bytes else None)) (sym older) tt
+  ]
+
+seen_data : (o : ℕ) (held : Option Stored) (bytes : List ℕ) → is_of o held ≡ true → is_data held ≡ true → IfSome held (λ block. block.bytes ≡ bytes) → seen_as Data o held ≡ Some bytes
+seen_data o None bytes mine kind is = absurd (cc)
+seen_data o (Some block) bytes mine kind is =
+    ap (λ (b : Bool). if b then Some block.bytes else None) (both_true (same_kind Data block.kind) (block.object == o) kind mine) ∙ ap (λ (l : List ℕ). Some l) is
+
+among : (P : CopiedBlock → Type 0) (copies : List CopiedBlock) (c : CopiedBlock) → AllByRecursion P copies → Contains copies c → P c
+among P copies c all has = All-contains P copies c (All-from_recursion P copies all) has
+
+still_listed : (listed : WhatIsListedIsHeld) (t : Table) (f o : ℕ) (copies : List CopiedBlock) (c : CopiedBlock) → AreStillThere t f o copies → Contains copies c
+    → IsListed t o f c.place × (is_data (held_at t c.place) ≡ true)
+still_listed listed t f o copies c there has =
+    data_listed listed t o f c.place (subst (λ (l : List Place). Contains l c.place) there.places (has_mapped (λ (d : CopiedBlock). d.place) c copies has))
+
+-- copies that are remembered at the generation that their frame has are of what it holds
+pub still_copies : (listed : WhatIsListedIsHeld) (t : Table) (f o : ℕ) (copies : List CopiedBlock) (table : TableId) (m : Remembered) → AreStillThere t f o copies → IsMemoryOver table copies m → AllRemembered t.drive.frames m.remembered
+    → AreCopies (held_at t) o copies
+still_copies listed t f o copies table m there memory recalled =
+    let q : Pinned = memory.pinned in
+    let true_of : IsRemembered t.drive.frames q = subst (λ (l : List Pinned). AllRemembered t.drive.frames l) memory.alone recalled 0 q refl in
+    record {
+      frame = all_in f (frame_at t.drive.frames f).generation copies (λ c has. (let here = (still_listed listed t f o copies c there has).0 in (here.frame, here.generation)));
+      ascending = still_ascending t f o copies there;
+      bytes = all_of (λ c. of_kind Data o (held_at t) c.place ≡ Some c.bytes) copies
+      (λ c has. (let both = still_listed listed t f o copies c there has in
+        let from : IsCopyFrom q c = among (IsCopyFrom q) copies c memory.inside has in
+        let number : f ≡ q.number = sym both.0.frame ∙ from.0.0 in
+        let generation : q.generation ≡ (frame_at t.drive.frames q.number).generation = sym from.0.1.0 ∙ both.0.generation ∙ ap (λ (n : ℕ). (frame_at t.drive.frames n).generation) number in
+        let contents : q.contents ≡ (frame_at t.drive.frames q.number).contents = (true_of.same generation).contents in
+        let bytes : block_bytes (frame_at t.drive.frames c.place.frame).contents c.place.block ≡ c.bytes =
+        ap (λ (n : ℕ). block_bytes (frame_at t.drive.frames n).contents c.place.block) from.0.0 ∙ sym (ap (λ (l : List ℕ). block_bytes l c.place.block) contents) ∙ sym from.1 in
+        seen_data o (held_at t c.place) c.bytes both.0.held both.1
+        (subst (λ (l : List ℕ). IfSome (held_at t c.place) (λ block. block.bytes ≡ l)) bytes (held_bytes t c.place))));
+    }
+
+-- ---- the frame that is left
+
+kind_is : (kind : BlockKind) → (same_kind Journal kind ≡ true) ⊎ ((same_kind Checkpoint kind ≡ true) ⊎ (same_kind Data kind ≡ true))
+kind_is Journal = inl refl
+kind_is Checkpoint = inr (inl refl)
+kind_is Data = inr (inr refl)
+
+seen : (kind : BlockKind) (o : ℕ) (block : Stored) → same_kind kind block.kind ≡ true → (block.object == o) ≡ true → IsSome (seen_as kind o (Some block))
+seen kind o block is mine = subst (λ (b : Bool). IsSome (if b then Some block.bytes else None)) (sym (both_true _ _ is mine)) refl
+
+seen_of : (o : ℕ) (held : Option Stored) → is_of o held ≡ true → IsSome (seen_as Journal o held) ⊎ (IsSome (seen_as Checkpoint o held) ⊎ IsSome (seen_as Data o held))
+seen_of o None mine = absurd (cc)
+seen_of o (Some block) mine = elim (kind_is block.kind) [
+    | inl is ↦ inl (seen Journal o block is mine)
+    | inr (inl is) ↦ inr (inl (seen Checkpoint o block is mine))
+    | inr (inr is) ↦ inr (inr (seen Data o block is mine))
+  ]
+
+abbrev none_of : Stored → Option (List ℕ)
+none_of block = None
+
+data_seen : (o : ℕ) (held : Option Stored) → IsSome (seen_as Data o held) → (is_of o held ≡ true) × (is_data held ≡ true)
+data_seen o None some = absurd (cc)
+data_seen o (Some block) some = elim (cases_Bool (same_kind Data block.kind && block.object == o)) [
+    | inl both ↦ (let parts = and_parts (same_kind Data block.kind) (block.object == o) both in (parts.1, parts.0))
+    | inr other ↦ (let none : IsSome (none_of block) = subst (λ (b : Bool). IsSome (if b then Some block.bytes else None)) other some in absurd (cc))
+  ]
+
+-- a place that is taken is in no sealed frame
+taken_elsewhere : (ahead : PlacesAheadAreInNoSealedFrame) (t : Table) (f n : ℕ) (p : Place) → is_sealed (frame_at t.drive.frames f).phase ≡ true → p.frame ≡ f → Contains (take n (places_ahead t)) p → ⊥
+taken_elsewhere ahead t f n p sealed at has =
+    let other : is_sealed (frame_at t.drive.frames p.frame).phase ≡ false = ahead t p (taken_has n p (places_ahead t) has) in
+    let same : is_sealed (frame_at t.drive.frames p.frame).phase ≡ true = ap (λ (m : ℕ). is_sealed (frame_at t.drive.frames m).phase) at ∙ sealed in
+    cc
+
+-- a data block in the frame was copied, and so it isn't held any more
+left_data : (d later : DriveFields) (f o : ℕ) (row : Row) (copies : List CopiedBlock) (p : Place) → ListsAllHeld d.store.table → AreStillThere d.store.table f o copies
+    → is_sealed (frame_at d.store.table.drive.frames f).phase ≡ true → IsRelocated (store_of d) o row copies (store_of later) → p.frame ≡ f
+    → IsSome (of_kind Data o (store_of d).log.held p) → held_at later.store.table p ≡ None
+left_data d later f o row copies p lists there sealed moved at some =
+    let t : Table = d.store.table in
+    let both = data_seen o (held_at t p) some in
+    let has : Contains (pointers_in t o p.frame) p = lists o p (ap (λ (m : ℕ). is_sealed (frame_at t.drive.frames m).phase) at ∙ sealed) both.0 in
+    let here : Contains (pointers_in t o f) p = subst (λ (m : ℕ). Contains (pointers_in t o m) p) at has in
+    let among_data : Contains (data_in t o f) p = has_passed (λ q. is_data (held_at t q)) p both.1 (pointers_in t o f) here in
+    let from = image (λ (c : CopiedBlock). c.place) copies p (subst (λ (l : List Place). Contains l p) (sym there.places) among_data) in
+    moved.gone p (from.from, (from.has, from.is))
+
+pub holds_none : (ahead : PlacesAheadAreInNoSealedFrame) (d later : DriveFields) (f o : ℕ) (row : Row) (copies : List CopiedBlock) → ListsAllHeld d.store.table → AreStillThere d.store.table f o copies
+    → IsRelocated (store_of d) o row copies (store_of later) → HoldsNone later.store.table o f
+holds_none ahead d later f o row copies lists there moved p at =
+    let t : Table = d.store.table in
+    let sealed : is_sealed (frame_at t.drive.frames f).phase ≡ true = some_sealed t o f there.some in
+    let n : ℕ = blocks_relocated (store_of d).log.held o row copies in
+    elim (cases_Bool (is_of o (held_at later.store.table p))) [
+    | inr none ↦ none
+    | inl mine ↦ absurd (elim (seen_of o (held_at later.store.table p) mine) [
+      | inl journal ↦ taken_elsewhere ahead t f n p sealed at (moved.chains p journal)
+      | inr (inl checkpoint) ↦ taken_elsewhere ahead t f n p sealed at (moved.checkpoints p checkpoint)
+      | inr (inr contents) ↦ elim (moved.blocks p contents) [
+        | inl same ↦ (let before : IsSome (of_kind Data o (store_of d).log.held p) = subst (λ (held : Option (List ℕ)). IsSome held) same contents in
+          let gone : held_at later.store.table p ≡ None = left_data d later f o row copies p lists there sealed moved at before in
+          let other : is_of o (held_at later.store.table p) ≡ false = ap (is_of o) gone in
+          (cc))
+        | inr taken ↦ taken_elsewhere ahead t f n p sealed at taken
+      ]
+    ])
+  ]
+
+-- as many copies as data blocks
+pub as_many : (t : Table) (f o : ℕ) (copies : List CopiedBlock) → AreStillThere t f o copies → length copies ≡ length (data_in t o f)
+as_many t f o copies there = sym (length-map copies (λ c. c.place)) ∙ ap length there.places
+
+-- ---- what a relocation tells
+
+-- what it answers, by the row that the object has
+abbrev pub Answers : DriveFields → ℕ → List CopiedBlock → Option Row → Result (Unit {0}) Refusal → Type 0
+Answers d o copies kept result = IfSome kept (λ row. MatchResult result
+    (λ _. blocks_relocated (store_of d).log.held o row copies ≤ length (store_of d).log.ahead)
+    (λ e. ((e ≡ NoRoom) × (length (store_of d).log.ahead < blocks_relocated (store_of d).log.held o row copies))
+    ⊎ ((e ≡ NoMemory) × (blocks_relocated (store_of d).log.held o row copies ≤ length (store_of d).log.ahead))))
+
+blocks_same : (d : DriveFields) (f o : ℕ) (copies : List CopiedBlock) (row : Row) → AreStillThere d.store.table f o copies → blocks_relocated (store_of d).log.held o row copies ≡ blocks_moved d f o row
+blocks_same d f o copies row there = ap (λ (n : ℕ). n + moved_blocks row (entries_of (store_of d).log.held o row)) (as_many d.store.table f o copies there)
+
+pub moved_by : (d later : DriveFields) (f o : ℕ) (copies : List CopiedBlock) (kept : Option Row) (result : Result (Unit {0}) Refusal) → AreStillThere d.store.table f o copies → AreCopies (store_of d).log.held o copies
+    → OnOk result (IfSome kept (λ row. IsRelocated (store_of d) o row copies (store_of later))) → Answers d o copies kept result
+    → OnOk result (IfSome kept (λ row. IsMovedBy d f o copies row later))
+moved_by d later f o copies kept (Err e) there bytes moved told = tt
+moved_by d later f o copies None (Ok u) there bytes moved told = tt
+moved_by d later f o copies (Some row) (Ok u) there bytes moved told = record {
+    places = there.places;
+    bytes = bytes;
+    room = subst (λ (n : ℕ). n ≤ length (store_of d).log.ahead) (blocks_same d f o copies row there) told;
+    relocated = moved;
+  }
+
+pub left_by : (ahead : PlacesAheadAreInNoSealedFrame) (d later : DriveFields) (f o : ℕ) (copies : List CopiedBlock) (kept : Option Row) (result : Result (Unit {0}) Refusal) → IsSome kept → ListsAllHeld d.store.table
+    → AreStillThere d.store.table f o copies → OnOk result (IfSome kept (λ row. IsRelocated (store_of d) o row copies (store_of later))) → OnOk result (HoldsNone later.store.table o f)
+left_by ahead d later f o copies kept (Err e) some lists there moved = tt
+left_by ahead d later f o copies None (Ok u) some lists there moved = absurd (cc)
+left_by ahead d later f o copies (Some row) (Ok u) some lists there moved = holds_none ahead d later f o row copies lists there moved
+
+pub room_by : (d : DriveFields) (f o : ℕ) (copies : List CopiedBlock) (kept : Option Row) (result : Result (Unit {0}) Refusal) → AreStillThere d.store.table f o copies → Answers d o copies kept result
+    → result ≡ Err NoRoom → IfSome kept (λ row. length (store_of d).log.ahead < blocks_moved d f o row)
+room_by d f o copies None result there told is = tt
+room_by d f o copies (Some row) (Ok u) there told is = absurd (cc)
+room_by d f o copies (Some row) (Err e) there (inl no_room) is = subst (λ (n : ℕ). length (store_of d).log.ahead < n) (blocks_same d f o copies row there) no_room.1
+room_by d f o copies (Some row) (Err e) there (inr no_memory) is = absurd (let other : e ≡ NoMemory = no_memory.0 in let same : e ≡ NoRoom = (cc) in cc)
+
+pub refused_by : (d : DriveFields) (o : ℕ) (copies : List CopiedBlock) (kept : Option Row) (result : Result (Unit {0}) Refusal) → IsSome kept → Answers d o copies kept result
+    → IfErr result (λ e. (e ≡ NoRoom) ⊎ (e ≡ NoMemory))
+refused_by d o copies None result some told = absurd (cc)
+refused_by d o copies (Some row) (Ok u) some told = tt
+refused_by d o copies (Some row) (Err e) some (inl no_room) = inl no_room.0
+refused_by d o copies (Some row) (Err e) some (inr no_memory) = inr no_memory.0

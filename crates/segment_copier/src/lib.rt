@@ -1,0 +1,17 @@
+//! The segment copier: the held blocks of one object leave one sealed frame, in three steps.
+//!
+//! The layers above may rely on this: [`plan_move`] notes what there is to move and pins the frame, [`MovePlan::copy`] reads
+//! the object's data blocks there without the drive, whatever other threads do meanwhile, and [`commit`] puts the copies in place,
+//! where the object wasn't changed since. History and every version stay at every moment, whatever they answer; after Ok of a move
+//! that isn't empty the object holds no block in the frame. [`Copier`] is these three for a run of interleaved steps. Which object
+//! leaves which frame is the caller's choice.
+#![tactic(auto)]
+
+mod commits;
+mod copier;
+mod held;
+mod plans;
+
+pub use commits::commit;
+pub use copier::Copier;
+pub use plans::{MovePlan, Moved, plan_move};
