@@ -26,9 +26,7 @@ use block_log::Blocks;
 use block_log::laws::{no_change_takes_no_place, one_place_has_one_name, places_taken_add_up};
 use codec::{Entry, Inode};
 use journal_chain::Chain;
-use journal_chain::laws::{
-    a_chain_has_its_entries, a_chain_is_its_journal_blocks, changes_add_up,
-};
+use journal_chain::laws::{a_chain_has_its_entries, a_chain_is_its_journal_blocks, changes_add_up};
 use journal_chain::packing::blocks_needed;
 use journal_chain::packing::laws::{chains_are_short, few_blocks_are_needed};
 use object_map::Row;
