@@ -3,7 +3,7 @@ use Rattle.std.proofs.Common.{◌≡◌, ℕ, ◌-◌, Bool, ◌&&◌, ◌||◌,
 use Rattle.std.specs.Prelude.{is_none}
 use Rattle.s4_types.specs.Pointer.{Place}
 use Rattle.s4_types.specs.declared.limits.TheConstants.{OBJECT_BYTES}
-use Rattle.codec.specs.Checkpoint.{CheckpointFields, holes_past, checkpoint_rules}
+use Rattle.codec.specs.Checkpoint.{holes_past, checkpoint_rules}
 use Rattle.chain_moving.specs.Renaming.{RenamingFields, renamed_slot}
 use Rattle.chain_moving.specs.Laws.{ARenamedCheckpointKeepsTheRules}
 

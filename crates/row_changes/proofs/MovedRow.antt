@@ -1,5 +1,5 @@
 -- What a row tells once its checkpoint and its journal were written anew, each as of its own moments.
-use Rattle.std.proofs.Common.{◌≡◌, inl, inr, ℕ, ◌+◌, ◌≤◌, Bool, true, false, ◌==◌, ◌&&◌, ◌||◌, List, [], ◌∷◌, take, drop, Option, Some, None, IsSome, IfSome, is_some, MatchOption, refl, sym, ap, subst, ◌∙◌, arith}
+use Rattle.std.proofs.Common.{◌≡◌, ℕ, ◌+◌, Bool, true, false, ◌==◌, ◌&&◌, ◌||◌, List, take, drop, Option, Some, None, IsSome, IfSome, is_some, MatchOption, refl, sym, ap, subst, ◌∙◌}
 use Rattle.std.specs.List.{Contains}
 use Rattle.std.proofs.lemmas.Bool.{false≢true}
 use Rattle.std.proofs.lemmas.List.Elements.{Contains-append_left, Contains-append_right}
@@ -10,19 +10,18 @@ use Rattle.block_log.specs.Taken.{TakesPlaces}
 use Rattle.block_log.specs.declared.kinds.BlockKind.{BlockKind}
 use Rattle.block_log.specs.declared.kinds.BlockKind.TheVariants.{Journal, Checkpoint, Data}
 use Rattle.codec.specs.declared.inodes.Inode.{Inode}
-use Rattle.codec.specs.Entry.{EntryFields, entries_length}
+use Rattle.codec.specs.Entry.{EntryFields}
 use Rattle.codec.specs.Checkpoint.{CheckpointFields}
 use Rattle.undo_redo.specs.Runs.{Run, inode_after, redone_all}
 use Rattle.undo_redo.specs.Groups.{grouped}
 use Rattle.checkpoint.specs.Held.{checkpoint_held, spelled_checkpoint}
 use Rattle.object_map.specs.declared.map.Row.{Row}
-use Rattle.journal_chain.specs.Chain.{BlockView, ChainFields, IsChain, Holds, OnlyJournalChanged}
-use Rattle.journal_chain.specs.Push.{whole_blocks}
+use Rattle.journal_chain.specs.Chain.{BlockView, ChainFields, Holds, OnlyJournalChanged}
 use Rattle.time_read.specs.Rows.{chain_of, entries_of, inode_before, first_of, inode_of, checkpoint_of, IsRow}
 use Rattle.time_read.specs.Orderly.{IsFromTo, IsOrderlyChain, IsOrderly, BeginsDead}
 use Rattle.row_changes.specs.Moved.{OnlyCheckpointChanged}
 use Rattle.row_changes.specs.Rewritten.{OnlyHistoryChanged}
-use Rattle.row_changes.specs.Moving.{CanTell, checkpoint_at, checkpoint_with, checkpoint_count, first_with, moved_blocks}
+use Rattle.row_changes.specs.Moving.{CanTell, checkpoint_at, checkpoint_with, first_with}
 
 -- the row with another checkpoint, of the same moment, and another chain
 abbrev pub with_moved : Row → Option Place → Option Place → ℕ → ℕ → Row
