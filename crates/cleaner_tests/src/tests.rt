@@ -5,16 +5,54 @@ ghost use Rattle.s4_model.specs.State.{new_base};
 
 mod acts;
 mod cleaned;
-mod passed;
 mod lasting;
+mod passed;
 
-use crate::tests::acts::{Act, Cleaned, Party, holds};
+use crate::report_of;
+use crate::tests::acts::{Act, Cleaned, Party};
 use drive::NewDrive;
+use history_cleaner::Turn;
+use s4_types::{Moment, ObjectId, Reply};
 use segment_word::Naming;
 use std::alloc::Global;
 use std::marker::Brand;
 use std::process::Abort;
 use std::test::Fail;
+
+/// Whether what is done comes to what is told.
+fn holds<D: Cleaned>(drive: &mut D, act: Act) -> Result<bool, Fail> {
+    Ok(match act {
+        Act::Asks(now, asked, told) => drive.ask(1, now, asked)? == drive.told(1, told)?,
+        Act::AsksOf(object, now, asked, told) => {
+            drive.ask(object, now, asked)? == drive.told(object, told)?
+        }
+        Act::Fills(now, byte, count, moment) => {
+            drive.fill(now, byte, count)? == Reply::Changed(Moment::new(moment))
+        }
+        Act::Cleans(told) => drive.clean() == told,
+        Act::Passes(rewritten, removed, released) => {
+            drive.pass() == Ok(report_of(rewritten, removed, released))
+        }
+        Act::PassStops(refusal) => drive.pass() == Err(refusal),
+        Act::Empties(told) => drive.empty() == told,
+        Act::TurnCleans => drive.turn() == Turn::Cleaned(ObjectId::new(1)),
+        Act::TurnEnds => drive.turn() == Turn::Ended,
+        Act::Entries(moments) => drive.moments()?.as_slice() == moments,
+        Act::Count(count) => drive.moments()?.len() == count,
+        Act::Holds(frame, count) => drive.held(frame)? == count,
+        Act::Checkpoints => drive.checkpoint().is_ok(),
+        Act::Seals => {
+            drive.seal();
+            true
+        }
+        Act::Room(room) => drive.room() == room,
+        Act::HasRow(told) => drive.has_row() == told,
+        Act::Plans(length, at) => drive.plan(length, at).is_ok(),
+        Act::Gives(byte, count) => drive.gives(byte, count)?,
+        Act::Marks(frame, told) => drive.mark(frame) == told,
+        Act::Releases(frame, told) => drive.release(frame) == told,
+    })
+}
 
 /// A drive does all of a list.
 fn play_all<D: Cleaned, R: Abort>(rt: &R, drive: &mut D, acts: &[Act]) -> Result<(), Fail> {

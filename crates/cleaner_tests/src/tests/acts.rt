@@ -1,4 +1,7 @@
 //! A drive with its cleaner as the tests call it. No call here has a clause, so that what calls them is proved without their contracts.
+ghost use Rattle.std.specs.Prelude.{◌≡◌, IfOk};
+ghost use Rattle.s4_types.specs.declared.requests.Role.TheVariants.{Admin};
+
 use drive::{Drive, Session};
 use history_cleaner::{PassReport, Rounds, Turn, clean_object, empty_frames, full_pass};
 use s4_types::{Bytes, Moment, ObjectId, Refusal, Reply, Request, Role};
@@ -126,7 +129,10 @@ pub(super) struct Party<J: Naming> {
 }
 
 impl<J: Naming> Party<J> {
-    pub(super) fn new(alloc: Global, drive: Drive<J>) -> Result<Self, Fail> {
+    pub(super) fn new(alloc: Global, drive: Drive<J>) -> Result<Self, Fail>
+        ensures role { IfOk result (λ party. party.session.role ≡ Admin) }
+        ensures rounds { IfOk result (λ party. party.rounds.passed ≡ 0) }
+    {
         let mut drive = drive;
         let session = drive.session(Role::Admin)?;
         Ok(Party {
@@ -290,44 +296,4 @@ impl<J: Naming> Cleaned for Party<J> {
     fn release(&mut self, frame: u16) -> Result<(), Refusal> {
         self.drive.release(frame)
     }
-}
-
-/// Whether what is done comes to what is told.
-pub(super) fn holds<D: Cleaned>(drive: &mut D, act: Act) -> Result<bool, Fail> {
-    Ok(match act {
-        Act::Asks(now, asked, told) => drive.ask(1, now, asked)? == drive.told(1, told)?,
-        Act::AsksOf(object, now, asked, told) => {
-            drive.ask(object, now, asked)? == drive.told(object, told)?
-        }
-        Act::Fills(now, byte, count, moment) => {
-            drive.fill(now, byte, count)? == Reply::Changed(Moment::new(moment))
-        }
-        Act::Cleans(told) => drive.clean() == told,
-        Act::Passes(rewritten, removed, released) => {
-            drive.pass()
-                == Ok(PassReport {
-                    rewritten,
-                    removed,
-                    released,
-                })
-        }
-        Act::PassStops(refusal) => drive.pass() == Err(refusal),
-        Act::Empties(told) => drive.empty() == told,
-        Act::TurnCleans => drive.turn() == Turn::Cleaned(ObjectId::new(1)),
-        Act::TurnEnds => drive.turn() == Turn::Ended,
-        Act::Entries(moments) => drive.moments()?.as_slice() == moments,
-        Act::Count(count) => drive.moments()?.len() == count,
-        Act::Holds(frame, count) => drive.held(frame)? == count,
-        Act::Checkpoints => drive.checkpoint().is_ok(),
-        Act::Seals => {
-            drive.seal();
-            true
-        }
-        Act::Room(room) => drive.room() == room,
-        Act::HasRow(told) => drive.has_row() == told,
-        Act::Plans(length, at) => drive.plan(length, at).is_ok(),
-        Act::Gives(byte, count) => drive.gives(byte, count)?,
-        Act::Marks(frame, told) => drive.mark(frame) == told,
-        Act::Releases(frame, told) => drive.release(frame) == told,
-    })
 }

@@ -2,7 +2,6 @@
 ghost use Rattle.std.specs.Prelude.{◌≡◌};
 ghost use Rattle.s4_model.specs.State.{new_base};
 
-mod cleaned;
 mod held;
 
 use crate::tests::ask_rows;

@@ -2,6 +2,8 @@
 ghost use Rattle.std.specs.Prelude.{◌≡◌, ◌≤◌, IfOk, length};
 ghost use Rattle.std.specs.List.{All};
 
+mod cleaned;
+
 use crate::tests::ask_rows;
 use crate::tests::asking::{Ask, Row, Told};
 use crate::tests::drives::Seat;
@@ -47,7 +49,7 @@ static CHANGED: [u8; 13] = *b"\0\0\0\x09\x01\0\0\0\0\0\0\0\x05";
 const TURNS: usize = 10_000_000;
 
 /// Waits until a flag is set, or gives up.
-pub(super) fn await_flag(flag: &AtomicBool, given_up: &AtomicBool) {
+fn await_flag(flag: &AtomicBool, given_up: &AtomicBool) {
     for _ in 0..TURNS {
         if flag.load(Ordering::SeqCst) {
             return;
@@ -122,7 +124,7 @@ fn fill<J: Naming, R: Abort + Wait>(
 pub(super) type Streams<'a> = Client<MemorySource<'a>, MemorySink>;
 
 /// Clients that read these bytes, one each.
-pub(super) fn clients<'a>(alloc: Global, inputs: &[&'a [u8]]) -> Result<Vec<Streams<'a>>, Fail>
+fn clients<'a>(alloc: Global, inputs: &[&'a [u8]]) -> Result<Vec<Streams<'a>>, Fail>
     ensures count { IfOk result (λ clients. length clients.items ≡ length inputs.now) }
     ensures failures { IfOk result (λ clients. All (λ c. (c.reader.failures ≡ 0) × (c.writer.failures ≡ 0)) clients.items) }
 {
@@ -174,7 +176,7 @@ fn is_joined(bytes: &[u8], parts: &[&[u8]]) -> bool {
 }
 
 /// Whether a session ended well and wrote these parts.
-pub(super) fn has_written(client: &Streams<'_>, parts: &[&[u8]]) -> bool {
+fn has_written(client: &Streams<'_>, parts: &[&[u8]]) -> bool {
     client.outcome == Outcome::Served(ServeEnd::Ended) && is_joined(client.writer.as_slice(), parts)
 }
 

@@ -2,7 +2,7 @@
 ghost use Rattle.std.specs.Prelude.{◌≡◌, ◌≤◌, ◌↔◌, IfOk, IsSome, length, true};
 ghost use Rattle.s4_model.specs.State.{new_base};
 
-use crate::tests::sharing::held::{Streams, await_flag, clients, has_written};
+use super::{Streams, await_flag, clients, has_written};
 use drive::{Drive, NewDrive};
 use s4_types::{Moment, ObjectId};
 use segment_word::Naming;

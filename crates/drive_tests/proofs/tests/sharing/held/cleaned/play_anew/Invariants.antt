@@ -1,5 +1,5 @@
 use Rattle.s4_model.specs.State.{new_base}
-use Rattle.drive_tests.proofs.tests.sharing.cleaned.play_anew.Given as goal
+use Rattle.drive_tests.proofs.tests.sharing.held.cleaned.play_anew.Given as goal
 
 -- the drive that was just made
 abbrev pub ghosts-play_both_named : goal.ghosts-play_both_named
