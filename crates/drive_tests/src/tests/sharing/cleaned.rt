@@ -129,7 +129,10 @@ fn play_both<J: Naming + Send + Sync, R: Abort + Threads + Wait + Clock + Sync>(
     last.extend_from_slice(&CREATE)?;
     let inputs = [asked.as_slice(), last.as_slice()];
     let (clients, round) = served_both(rt, alloc, &drive, &behind, &inputs, cleans)?;
-    assert!(rt; !behind.given_up.load(Ordering::SeqCst), "the first was told all");
+    assert!(rt;
+        !behind.given_up.load(Ordering::SeqCst),
+        "the first was told all"
+    );
     let [first, second] = clients.as_slice() else {
         return Err(Fail::from("two clients"));
     };
@@ -137,9 +140,16 @@ fn play_both<J: Naming + Send + Sync, R: Abort + Threads + Wait + Clock + Sync>(
     assert!(rt; has_written(second, &OF_THE_LAST), "the last one");
     let drive = drive.into_inner();
     assert!(rt; is_cleaned(&drive) == cleans, "rows");
-    assert!(rt; (165 <= drive.room()) == cleans, "room for {} blocks", drive.room());
+    assert!(rt;
+        (165 <= drive.room()) == cleans,
+        "room for {} blocks",
+        drive.room()
+    );
     if let Some(round) = round {
-        assert!(rt; round.is_behind && 1 <= round.turns, "the last round: {round:?}");
+        assert!(rt;
+            round.is_behind && 1 <= round.turns,
+            "the last round: {round:?}"
+        );
     }
     Ok(())
 }
