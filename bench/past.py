@@ -77,6 +77,11 @@ class Table:
         old = self.last("data", (o, self.clock))
         self.put(o, old[:offset].ljust(offset, b"\0") + data + old[offset + len(data):])
 
+    def forget(self, o, floor):
+        """Deletes an object's versions that ended by the floor: the one that is current there stays."""
+        last = "(select max(moment) from version where object = ? and moment <= ?)"
+        self.base.execute("delete from version where object = ? and moment < " + last, (o, o, floor))
+
     def read(self, o, count, at):
         return self.last("substr(data, 1, ?)", (count, o, at))
 

@@ -30,6 +30,8 @@ SMALL_WRITES = 200  # of each object
 WHOLE_WRITES = 8
 STEP, STEPS = 128, 192  # how far small Writes of an object are apart, and how many places that gives
 HIDDEN = 60  # moments of each object
+CLEANED_WRITES, CLEANED_WINDOW = 100_000, 8  # small Writes of one object, whose old versions go in step, and moments that stay
+WRITES_A_ROUND = 6  # a round of drive_bench's cleaner over its one object is two turns, with three Writes between
 BYTES = b"a" * WHOLE
 
 
@@ -77,6 +79,22 @@ def small_writes():
     return best((filled().write, asked) for _ in range(2))
 
 
+def cleaned_writes():
+    """Old versions are deleted as often as drive_bench cleans its object."""
+
+    def writer():
+        table = filled()
+
+        def write(k):
+            table.write(1, 0, BYTES[:SMALL])
+            if k % WRITES_A_ROUND == 0:
+                table.forget(1, table.clock - CLEANED_WINDOW)
+
+        return write
+
+    return best((writer(), [(k,) for k in range(CLEANED_WRITES)]) for _ in range(2))
+
+
 def whole_writes():
     asked = [(o + 1, 0, BYTES) for _ in range(WHOLE_WRITES) for o in range(OBJECTS)]
     return best((filled().write, asked) for _ in range(TRIALS))
@@ -118,6 +136,7 @@ def theirs():
         "a start with 16 frames": start,
         "a start with 1024 frames": start,
         "Writes of 100 bytes": small_writes,
+        "Writes of 100 bytes, cleaned in step": cleaned_writes,
         "Writes of 24,576 bytes": whole_writes,
         "Reads of 100 bytes, now": lambda: reads(SMALL),
         "Reads of 24,576 bytes, now": lambda: reads(WHOLE),

@@ -9,6 +9,7 @@ ghost use Rattle.s4_types.specs.Sizes.{IsFrameCount};
 ghost use Rattle.s4_model.specs.State.{new_base};
 
 use drive::{Drive, NewDrive, Session};
+use history_cleaner::Rounds;
 use s4_types::limits::{FEWEST_FRAMES, MOST_FRAMES};
 use s4_types::{Bytes, Moment, ObjectId, Refusal, Reply, Request, Role};
 use segment_word::Naming;
@@ -52,6 +53,18 @@ const PAST_READS: usize = 3_000;
 /// Moments of each object that are hidden, none beside another one.
 const HIDDEN: usize = 60;
 
+/// Small Writes of one object with the history cleaner in step, in a drive of the fewest frames.
+const CLEANED_WRITES: usize = 100_000;
+
+/// How many of them are made between two turns of the cleaner: with more the drive gets full.
+const WRITES_A_TURN: usize = 3;
+
+/// How many moments that drive keeps.
+const CLEANED_WINDOW: u64 = 8;
+
+/// How many moments a drive keeps that is not cleaned.
+const WINDOW: u64 = 1_000_000;
+
 /// How often each measure is made.
 const TRIALS: usize = 5;
 
@@ -71,6 +84,8 @@ enum BenchError {
 #[derive(Clone, Copy)]
 enum Load {
     SmallWrites,
+    /// Small Writes of one object, with the history cleaner in step.
+    CleanedWrites,
     WholeWrites,
     SmallReads,
     WholeReads,
@@ -163,6 +178,18 @@ impl<J: Naming> Asked<J> {
         Ok(())
     }
 
+    /// Writes 100 bytes of the first object again and again. The cleaner has a turn behind every so many Writes.
+    fn write_cleaned(&mut self) -> Result<(), BenchError> {
+        let mut rounds = Rounds::new();
+        for write in 0..CLEANED_WRITES {
+            self.write(1, 0, &WHOLE[..SMALL])?;
+            if write % WRITES_A_TURN == 0 {
+                rounds.turn(self.alloc, &mut self.drive);
+            }
+        }
+        Ok(())
+    }
+
     /// Writes all bytes of each object in turn, again and again.
     fn write_whole(&mut self, times: usize) -> Result<(), BenchError> {
         for _ in 0..times {
@@ -228,6 +255,7 @@ impl<J: Naming> Asked<J> {
 fn requests(load: Load) -> usize {
     match load {
         Load::SmallWrites => OBJECTS * SMALL_WRITES,
+        Load::CleanedWrites => CLEANED_WRITES,
         Load::WholeWrites => OBJECTS * WHOLE_WRITES,
         Load::SmallReads => OBJECTS * SMALL_READS,
         Load::WholeReads => OBJECTS * WHOLE_READS,
@@ -257,6 +285,7 @@ fn prepare<J: Naming>(asked: &mut Asked<J>, load: Load) -> Result<Moment, BenchE
             asked.create_all()?;
             Ok(Moment::new(1))
         }
+        Load::CleanedWrites => asked.create(),
     }
 }
 
@@ -272,6 +301,7 @@ fn moment_in_turn(made: Moment, changes: usize, turn: usize) -> Moment
 fn ask_all<J: Naming>(asked: &mut Asked<J>, made: Moment, load: Load) -> Result<(), BenchError> {
     match load {
         Load::SmallWrites => asked.write_parts(SMALL_WRITES),
+        Load::CleanedWrites => asked.write_cleaned(),
         Load::WholeWrites => asked.write_whole(WHOLE_WRITES),
         Load::SmallReads => asked.read_all(SMALL_READS, 100),
         Load::WholeReads => asked.read_all(WHOLE_READS, 24_576),
@@ -319,9 +349,20 @@ fn measure_named<J: Naming, R: Clock>(
     measure(rt, alloc, made.named::<J>(), load)
 }
 
-/// The same over a new drive of the most frames.
+/// How many frames the drive of a load has, and how many moments it keeps.
+fn extent(load: Load) -> (usize, u64)
+    ensures { IsFrameCount result.0 }
+{
+    match load {
+        Load::CleanedWrites => (FEWEST_FRAMES, CLEANED_WINDOW),
+        _ => (MOST_FRAMES, WINDOW),
+    }
+}
+
+/// The same over a new drive.
 fn measure_new<R: Clock>(rt: &R, alloc: Global, load: Load) -> Result<Duration, BenchError> {
-    let made = NewDrive::new(alloc, MOST_FRAMES, 1_000_000)?;
+    let (frames, window) = extent(load);
+    let made = NewDrive::new(alloc, frames, window)?;
     measure_named::<Brand, R>(rt, alloc, made, load)
 }
 
@@ -384,6 +425,7 @@ fn main(rt: HostRuntime) -> Result<(), BenchError> {
     print_start(&rt, alloc, MOST_FRAMES)?;
     for (name, load) in [
         ("Writes of 100 bytes", Load::SmallWrites),
+        ("Writes of 100 bytes, cleaned in step", Load::CleanedWrites),
         ("Writes of 24,576 bytes", Load::WholeWrites),
         ("Reads of 100 bytes, now", Load::SmallReads),
         ("Reads of 24,576 bytes, now", Load::WholeReads),

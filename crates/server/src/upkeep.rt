@@ -77,43 +77,6 @@ fn keep_up<J: Naming, R: Wait + Clock>(
     unreachable!()
 }
 
-/// Serves the sessions, and tells the cleaner once all have ended.
-fn serve_all<
-    J: Naming + Send + Sync,
-    R: Threads + Wait + Sync,
-    G: Gate + Sync,
-    S: Source + Send + Drop,
-    W: Sink + Send + Drop,
->(
-    rt: &R,
-    alloc: Global,
-    drive: &Mutex<Drive<J>>,
-    gate: &G,
-    start: Moment,
-    tick: u64,
-    ended: &AtomicBool,
-    clients: Vec<Client<S, W>>,
-) -> Vec<Client<S, W>>
-    requires count { vec_len clients ≤ 16 }
-    requires readers { All (λ c. S.failures c.reader + 1 < 2 ^ 64) clients.items }
-    requires writers { All (λ c. W.failures c.writer + 1 < 2 ^ 64) clients.items }
-    ensures count { vec_len result ≡ vec_len clients }
-    ensures attended { (i : ℕ) (d : _) → i < vec_len clients
-        → IsAttended J.base (record { start = start; tick = tick }) (slice_index_or clients.items i d).role (slice_index_or result.items i d).outcome
-        (S.remaining (slice_index_or clients.items i d).reader) (taken_by W.passed W.held (slice_index_or clients.items i d).writer)
-        (S.remaining (slice_index_or result.items i d).reader) (taken_by W.passed W.held (slice_index_or result.items i d).writer) }
-    ensures passed { (i : ℕ) (d : _) → i < vec_len clients → PassesOn (slice_index_or result.items i d).outcome (W.held (slice_index_or result.items i d).writer) }
-    ensures reading { (i : ℕ) (d : _) → i < vec_len clients
-        → S.failures (slice_index_or result.items i d).reader ≡ S.failures (slice_index_or clients.items i d).reader + failures_in reading_failures (slice_index_or result.items i d).outcome }
-    ensures writing { (i : ℕ) (d : _) → i < vec_len clients
-        → W.failures (slice_index_or result.items i d).writer ≡ W.failures (slice_index_or clients.items i d).writer + failures_in writing_failures (slice_index_or result.items i d).outcome }
-{
-    let mut clients = clients;
-    run_sessions(rt, alloc, drive, gate, start, tick, clients.as_mut_slice());
-    ended.store(true, Ordering::SeqCst);
-    clients
-}
-
 /// Serves sessions of one drive at once, as [`run_sessions`] does, and beside them cleans the drive: one object under one lock, by
 /// ascending number and round again, and behind each round the frames that hold nothing are freed. It ends with a whole round that
 /// began when all sessions had ended, and answers the clients and that round. Where the system gives no thread for the cleaner, it
@@ -167,7 +130,12 @@ pub fn run_with_cleaner<
             → S.failures (slice_index_or result.items i d).reader ≡ S.failures (slice_index_or clients.items i d).reader + failures_in reading_failures (slice_index_or result.items i d).outcome }
         ensures writing { (i : ℕ) (d : _) → i < vec_len clients
             → W.failures (slice_index_or result.items i d).writer ≡ W.failures (slice_index_or clients.items i d).writer + failures_in writing_failures (slice_index_or result.items i d).outcome }
-    { serve_all(rt, alloc, drive, gate, start, tick, &ended, clients) };
+    {
+        let mut clients = clients;
+        run_sessions(rt, alloc, drive, gate, start, tick, clients.as_mut_slice());
+        ended.store(true, Ordering::SeqCst);
+        clients
+    };
     // Where there is no thread for the first, it is called behind the second.
     let (round, clients) = join(rt, clean, attend);
     (clients, round)

@@ -13,19 +13,19 @@ use std::process::Abort;
 use std::test::Fail;
 
 /// How many moments can be read.
-const WINDOW: u64 = 8;
+const WINDOW: u64 = 4;
 
 /// How many objects are written in turn. They are made at the first moments, one each.
 const OBJECTS: u64 = 2;
 
 /// How many Writes there are. Each is made at a moment of its own.
-const WRITES: u64 = 5_000;
+const WRITES: u64 = 100_000;
 
 /// How many Writes are made between two turns of the cleaner.
-const BETWEEN: u64 = 1;
+const BETWEEN: u64 = 2;
 
 /// How many moments ago it is that a Write is read again.
-const AGO: u64 = 7;
+const AGO: u64 = 3;
 
 /// The object of a Write.
 fn object_of(write: u64) -> ObjectId
@@ -145,6 +145,6 @@ fn a_small_drive_takes_writes_for_long(rt: HostRuntime) -> Result<(), Fail> {
 #[test]
 fn without_its_cleaner_it_fills(rt: HostRuntime) -> Result<(), Fail> {
     let made = write_anew(&rt, rt.alloc(), false)?;
-    assert!(rt; made < 120, "{made} Writes");
+    assert!(rt; made < 60, "{made} Writes");
     Ok(())
 }
