@@ -1,5 +1,5 @@
 -- What stands beside the rows follows them: the present inode of each object, and the index of its entries.
-use Rattle.std.proofs.Common.{◌≡◌, ℕ, ◌+◌, ◌<◌, ◌^◌, ◌==◌, ◌++◌, true, false, cond, List, [], map, Option, Some, None, IsSome, IfSome, refl, sym, ap, subst, ◌∙◌, inl, inr}
+use Rattle.std.proofs.Common.{◌≡◌, ℕ, ◌+◌, ◌==◌, ◌++◌, true, false, cond, List, [], map, Option, Some, None, refl, sym, ap, subst, ◌∙◌, inl, inr}
 use Rattle.std.specs.Prelude.{option_map}
 use Rattle.std.proofs.lemmas.Bool.{cases_Bool, cond-true, cond-false, eqb-true}
 use Rattle.std.proofs.lemmas.Option.{same_Some}
@@ -8,17 +8,17 @@ use Rattle.block_log.specs.Log.{Log, Stored, of_kind}
 use Rattle.block_log.specs.declared.kinds.BlockKind.TheVariants.{Journal}
 use Rattle.codec.specs.declared.inodes.Inode.{Inode}
 use Rattle.codec.specs.Entry.{EntryFields}
-use Rattle.undo_redo.specs.Runs.{AllBy, Run, redone_all, inode_after}
+use Rattle.undo_redo.specs.Runs.{AllBy, Run, inode_after}
 use Rattle.undo_redo.specs.Groups.{grouped}
 use Rattle.journal_chain.specs.Chain.{OnlyJournalChanged}
 use Rattle.inode.specs.Growth.{GrowsBy}
 use Rattle.undo_index.specs.Undoings.{Undoing, undoing_of}
 use Rattle.object_map.specs.declared.map.Row.{Row}
-use Rattle.object_map.specs.Objects.{MapOf, value_of, with_value, without_value, PutsAt, Puts}
+use Rattle.object_map.specs.Objects.{value_of, with_value, without_value, PutsAt}
 use Rattle.object_map.specs.Rows.{row_of, with_row, fresh_row}
 use Rattle.time_read.specs.Rows.{entries_of, first_of, inode_of, last_inode}
 use Rattle.version_store.specs.declared.presents.Present.{Present}
-use Rattle.version_store.specs.Store.{StoreFields, IsStore, IsObject}
+use Rattle.version_store.specs.Store.{StoreFields, IsStore}
 use Rattle.version_store.specs.Versions.{entries_of_row, entries_of_object, inode_by, inode_in}
 use Rattle.version_store.specs.private.Beside.{Tells, TellsOf, inode_beside, IsBeside}
 use Rattle.version_store.specs.private.Replacing.{RunsEnd}

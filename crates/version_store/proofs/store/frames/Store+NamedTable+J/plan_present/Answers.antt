@@ -1,4 +1,4 @@
-use Rattle.std.proofs.Common.{IfOk, IfErr, IfSome, sym, subst, ◌∙◌}
+use Rattle.std.proofs.Common.{IfOk, IfErr, IfSome, sym, subst}
 use Rattle.segment_table.specs.Table.{Table}
 use Rattle.segment_table.specs.Room.{log_of}
 use Rattle.version_store.specs.Planning.{IsReadPlan, IsPlanRefusal}
