@@ -199,9 +199,10 @@ impl<J: Naming> Cleaned for Party<J> {
             offset: 0,
             bytes: Bytes::from_slice(self.alloc, bytes.as_slice())?,
         };
-        Ok(self
-            .drive
-            .request(&mut self.session, request, Moment::new(now)))
+        Ok(
+            self.drive
+                .request(&mut self.session, request, Moment::new(now)),
+        )
     }
 
     fn told(&self, object: u64, told: Told) -> Result<Reply, Fail> {
@@ -260,9 +261,14 @@ impl<J: Naming> Cleaned for Party<J> {
 
     fn plan(&mut self, length: u32, at: u64) -> Result<(), Refusal> {
         let at = Moment::new(at);
-        let plan =
-            self.drive
-                .resolve(&mut self.session, ObjectId::new(1), 0, length, Some(at), at)?;
+        let plan = self.drive.resolve(
+            &mut self.session,
+            ObjectId::new(1),
+            0,
+            length,
+            Some(at),
+            at,
+        )?;
         drop(self.plan.replace(plan));
         Ok(())
     }
