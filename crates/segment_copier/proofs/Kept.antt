@@ -95,18 +95,18 @@ one_more pins places i p bytes copies h at so is =
 pub pin_over : (law : WhatIsListedIsHeld) (t : Table) (o f : ℕ) (frames : TableId) (places : List Place) (held : Held) → held.table ≡ frames → held.pins ≡ pin_of t.drive.frames f ∷ [] → places ≡ data_in t o f
     → IsPinOver frames places held
 pin_over law t o f frames places held table pins is = record {
-    table = table;
-    pinned = pin_of t.drive.frames f;
-    alone = pins;
-    inside = subst (λ (l : List Place). AllByRecursion (IsPlaceIn (pin_of t.drive.frames f)) l) (sym is) (data_inside law t o f);
-  }
+  table = table;
+  pinned = pin_of t.drive.frames f;
+  alone = pins;
+  inside = subst (λ (l : List Place). AllByRecursion (IsPlaceIn (pin_of t.drive.frames f)) l) (sym is) (data_inside law t o f);
+}
 
 -- copies by such a pin are from what is remembered of it
 pub memory_over : (frames : TableId) (places : List Place) (held : Held) (copies : List CopiedBlock) (memory : Remembered) → IsPinOver frames places held
     → copies ≡ copies_of held.pins places → memory ≡ record { table = held.table; remembered = held.pins } → IsMemoryOver frames copies memory
 memory_over frames places held copies memory over is remembered = record {
-    table = ap (λ (m : Remembered). m.table) remembered ∙ over.table;
-    pinned = over.pinned;
-    alone = ap (λ (m : Remembered). m.remembered) remembered ∙ over.alone;
-    inside = subst (λ (l : List CopiedBlock). AllByRecursion (IsCopyFrom over.pinned) l) (sym is) (all_copied over.pinned held.pins places over.alone over.inside);
-  }
+  table = ap (λ (m : Remembered). m.table) remembered ∙ over.table;
+  pinned = over.pinned;
+  alone = ap (λ (m : Remembered). m.remembered) remembered ∙ over.alone;
+  inside = subst (λ (l : List CopiedBlock). AllByRecursion (IsCopyFrom over.pinned) l) (sym is) (all_copied over.pinned held.pins places over.alone over.inside);
+}

@@ -29,12 +29,12 @@ first_or_later test x y ys here (suc k, h, e) rest =
 pub passed : {X : Type 0} (test : X → Bool) (x : X) (xs : List X) → Contains (filter test xs) x → Contains xs x × (test x ≡ true)
 passed test x [] has = absurd (let h : has.0 < 0 = has.1 in omega arith)
 passed {X} test x (y ∷ ys) has = elim (cases_Bool (test y)) [
-    | inl here ↦ (let at : Contains (y ∷ filter test ys) x = subst (λ (b : Bool). Contains (cond b (y ∷ filter test ys) (filter test ys)) x) here has in
-        first_or_later test x y ys here at (λ later. passed test x ys later))
-    | inr other ↦ (let at : Contains (filter test ys) x = subst (λ (b : Bool). Contains (cond b (y ∷ filter test ys) (filter test ys)) x) other has in
-        let rest = passed test x ys at in
-        (later_has y x ys rest.0, rest.1))
-  ]
+  | inl here ↦ (let at : Contains (y ∷ filter test ys) x = subst (λ (b : Bool). Contains (cond b (y ∷ filter test ys) (filter test ys)) x) here has in
+      first_or_later test x y ys here at (λ later. passed test x ys later))
+  | inr other ↦ (let at : Contains (filter test ys) x = subst (λ (b : Bool). Contains (cond b (y ∷ filter test ys) (filter test ys)) x) other has in
+      let rest = passed test x ys at in
+      (later_has y x ys rest.0, rest.1))
+]
 
 pub has_passed : {X : Type 0} (test : X → Bool) (x : X) → test x ≡ true → (xs : List X) → Contains xs x → Contains (filter test xs) x
 has_passed test x passes [] (k, h, e) = absurd (omega arith)
@@ -45,9 +45,9 @@ has_passed {X} test x passes (y ∷ ys) (zero, h, e) =
 has_passed {X} test x passes (y ∷ ys) (suc k, h, e) =
     let rest : Contains (filter test ys) x = has_passed test x passes ys (k, omega arith, e) in
     elim (cases_Bool (test y)) [
-    | inl is ↦ subst (λ (b : Bool). Contains (cond b (y ∷ filter test ys) (filter test ys)) x) (sym is) (later_has y x (filter test ys) rest)
-    | inr is ↦ subst (λ (b : Bool). Contains (cond b (y ∷ filter test ys) (filter test ys)) x) (sym is) rest
-  ]
+      | inl is ↦ subst (λ (b : Bool). Contains (cond b (y ∷ filter test ys) (filter test ys)) x) (sym is) (later_has y x (filter test ys) rest)
+      | inr is ↦ subst (λ (b : Bool). Contains (cond b (y ∷ filter test ys) (filter test ys)) x) (sym is) rest
+    ]
 
 pub all_of : {X : Type 0} (P : X → Type 0) (xs : List X) → ((x : X) → Contains xs x → P x) → AllByRecursion P xs
 all_of P xs each = recursion_from_All P xs (λ k d h. each (get_or xs k d) (Contains-get_or xs k d h))
@@ -67,9 +67,9 @@ of_some o (Some block) e = refl
 -- where something is listed as held in a frame, the frame is sealed
 pub some_sealed : (t : Table) (o f : ℕ) → (pointers_in t o f ≡ [] → ⊥) → is_sealed (frame_at t.drive.frames f).phase ≡ true
 some_sealed t o f some = elim (cases_Bool (is_sealed (frame_at t.drive.frames f).phase)) [
-    | inl sealed ↦ sealed
-    | inr other ↦ absurd (some (ap (λ (b : Bool). if b then filter (λ p. is_of o (held_at t p)) (whole_of t f) else []) other))
-  ]
+  | inl sealed ↦ sealed
+  | inr other ↦ absurd (some (ap (λ (b : Bool). if b then filter (λ p. is_of o (held_at t p)) (whole_of t f) else []) other))
+]
 
 -- data blocks are listed, and are data
 pub data_listed : (law : WhatIsListedIsHeld) (t : Table) (o f : ℕ) (p : Place) → Contains (data_in t o f) p → IsListed t o f p × (is_data (held_at t p) ≡ true)

@@ -110,13 +110,13 @@ ascending one two f g b (suc n) copies e =
     let behind : List Place = filter one (places f g (b + 1) n) in
     let rest : (later : List CopiedBlock) → map (λ (c : CopiedBlock). c.place) later ≡ filter two behind → blocks_ascend_from (b + 1) later ≡ true = ascending one two f g (b + 1) n in
     elim (cases_Bool (one p)) [
-    | inl passes ↦ (let here : map (λ (c : CopiedBlock). c.place) copies ≡ filter two (p ∷ behind) = e ∙ ap (λ (x : Bool). filter two (cond x (p ∷ behind) behind)) passes in
-        elim (cases_Bool (two p)) [
-        | inl is ↦ one_first p copies (filter two behind) b refl rest (here ∙ ap (λ (x : Bool). cond x (p ∷ filter two behind) (filter two behind)) is)
-        | inr other ↦ from_lower b (b + 1) copies (omega arith) (rest copies (here ∙ ap (λ (x : Bool). cond x (p ∷ filter two behind) (filter two behind)) other))
-      ])
-    | inr fails ↦ from_lower b (b + 1) copies (omega arith) (rest copies (e ∙ ap (λ (x : Bool). filter two (cond x (p ∷ behind) behind)) fails))
-  ]
+      | inl passes ↦ (let here : map (λ (c : CopiedBlock). c.place) copies ≡ filter two (p ∷ behind) = e ∙ ap (λ (x : Bool). filter two (cond x (p ∷ behind) behind)) passes in
+          elim (cases_Bool (two p)) [
+            | inl is ↦ one_first p copies (filter two behind) b refl rest (here ∙ ap (λ (x : Bool). cond x (p ∷ filter two behind) (filter two behind)) is)
+            | inr other ↦ from_lower b (b + 1) copies (omega arith) (rest copies (here ∙ ap (λ (x : Bool). cond x (p ∷ filter two behind) (filter two behind)) other))
+          ])
+      | inr fails ↦ from_lower b (b + 1) copies (omega arith) (rest copies (e ∙ ap (λ (x : Bool). filter two (cond x (p ∷ behind) behind)) fails))
+    ]
 
 still_ascending : (t : Table) (f o : ℕ) (copies : List CopiedBlock) → AreStillThere t f o copies → blocks_ascend_from 1 copies ≡ true
 still_ascending t f o copies there =
@@ -136,13 +136,13 @@ held_bytes t p =
     let bytes : List ℕ = block_bytes k.contents p.block in
     let IsIts : Option Stored → Type 0 = λ held. IfSome held (λ block. block.bytes ≡ bytes) in
     elim (cases_Bool (k.generation == p.generation)) [
-    | inl current ↦ subst (λ (b : Bool). IsIts (if b then stored slot bytes else None)) (sym current)
-      (elim (cases_Bool slot.held) [
-        | inl held ↦ subst (λ (b : Bool). IsIts (if b then Some (record { kind = slot.part.kind; object = slot.part.object; bytes = bytes }) else None)) (sym held) refl
-        | inr gone ↦ subst (λ (b : Bool). IsIts (if b then Some (record { kind = slot.part.kind; object = slot.part.object; bytes = bytes }) else None)) (sym gone) tt
-      ])
-    | inr older ↦ subst (λ (b : Bool). IsIts (if b then stored slot bytes else None)) (sym older) tt
-  ]
+      | inl current ↦ subst (λ (b : Bool). IsIts (if b then stored slot bytes else None)) (sym current)
+          (elim (cases_Bool slot.held) [
+            | inl held ↦ subst (λ (b : Bool). IsIts (if b then Some (record { kind = slot.part.kind; object = slot.part.object; bytes = bytes }) else None)) (sym held) refl
+            | inr gone ↦ subst (λ (b : Bool). IsIts (if b then Some (record { kind = slot.part.kind; object = slot.part.object; bytes = bytes }) else None)) (sym gone) tt
+          ])
+      | inr older ↦ subst (λ (b : Bool). IsIts (if b then stored slot bytes else None)) (sym older) tt
+    ]
 
 seen_data : (o : ℕ) (held : Option Stored) (bytes : List ℕ) → is_of o held ≡ true → is_data held ≡ true → IfSome held (λ block. block.bytes ≡ bytes) → seen_as Data o held ≡ Some bytes
 seen_data o None bytes mine kind is = absurd (cc)
@@ -167,15 +167,15 @@ still_copies listed t f o copies table m there memory recalled =
       frame = all_in f (frame_at t.drive.frames f).generation copies (λ c has. (let here = (still_listed listed t f o copies c there has).0 in (here.frame, here.generation)));
       ascending = still_ascending t f o copies there;
       bytes = all_of (λ c. of_kind Data o (held_at t) c.place ≡ Some c.bytes) copies
-      (λ c has. (let both = still_listed listed t f o copies c there has in
-        let from : IsCopyFrom q c = among (IsCopyFrom q) copies c memory.inside has in
-        let number : f ≡ q.number = sym both.0.frame ∙ from.0.0 in
-        let generation : q.generation ≡ (frame_at t.drive.frames q.number).generation = sym from.0.1.0 ∙ both.0.generation ∙ ap (λ (n : ℕ). (frame_at t.drive.frames n).generation) number in
-        let contents : q.contents ≡ (frame_at t.drive.frames q.number).contents = (true_of.same generation).contents in
-        let bytes : block_bytes (frame_at t.drive.frames c.place.frame).contents c.place.block ≡ c.bytes =
-        ap (λ (n : ℕ). block_bytes (frame_at t.drive.frames n).contents c.place.block) from.0.0 ∙ sym (ap (λ (l : List ℕ). block_bytes l c.place.block) contents) ∙ sym from.1 in
-        seen_data o (held_at t c.place) c.bytes both.0.held both.1
-        (subst (λ (l : List ℕ). IfSome (held_at t c.place) (λ block. block.bytes ≡ l)) bytes (held_bytes t c.place))));
+          (λ c has. (let both = still_listed listed t f o copies c there has in
+          let from : IsCopyFrom q c = among (IsCopyFrom q) copies c memory.inside has in
+          let number : f ≡ q.number = sym both.0.frame ∙ from.0.0 in
+          let generation : q.generation ≡ (frame_at t.drive.frames q.number).generation = sym from.0.1.0 ∙ both.0.generation ∙ ap (λ (n : ℕ). (frame_at t.drive.frames n).generation) number in
+          let contents : q.contents ≡ (frame_at t.drive.frames q.number).contents = (true_of.same generation).contents in
+          let bytes : block_bytes (frame_at t.drive.frames c.place.frame).contents c.place.block ≡ c.bytes =
+          ap (λ (n : ℕ). block_bytes (frame_at t.drive.frames n).contents c.place.block) from.0.0 ∙ sym (ap (λ (l : List ℕ). block_bytes l c.place.block) contents) ∙ sym from.1 in
+          seen_data o (held_at t c.place) c.bytes both.0.held both.1
+          (subst (λ (l : List ℕ). IfSome (held_at t c.place) (λ block. block.bytes ≡ l)) bytes (held_bytes t c.place))));
     }
 
 -- ---- the frame that is left
@@ -191,10 +191,10 @@ seen kind o block is mine = subst (λ (b : Bool). IsSome (if b then Some block.b
 seen_of : (o : ℕ) (held : Option Stored) → is_of o held ≡ true → IsSome (seen_as Journal o held) ⊎ (IsSome (seen_as Checkpoint o held) ⊎ IsSome (seen_as Data o held))
 seen_of o None mine = absurd (cc)
 seen_of o (Some block) mine = elim (kind_is block.kind) [
-    | inl is ↦ inl (seen Journal o block is mine)
-    | inr (inl is) ↦ inr (inl (seen Checkpoint o block is mine))
-    | inr (inr is) ↦ inr (inr (seen Data o block is mine))
-  ]
+  | inl is ↦ inl (seen Journal o block is mine)
+  | inr (inl is) ↦ inr (inl (seen Checkpoint o block is mine))
+  | inr (inr is) ↦ inr (inr (seen Data o block is mine))
+]
 
 abbrev none_of : Stored → Option (List ℕ)
 none_of block = None
@@ -202,9 +202,9 @@ none_of block = None
 data_seen : (o : ℕ) (held : Option Stored) → IsSome (seen_as Data o held) → (is_of o held ≡ true) × (is_data held ≡ true)
 data_seen o None some = absurd (cc)
 data_seen o (Some block) some = elim (cases_Bool (same_kind Data block.kind && block.object == o)) [
-    | inl both ↦ (let parts = and_parts (same_kind Data block.kind) (block.object == o) both in (parts.1, parts.0))
-    | inr other ↦ (let none : IsSome (none_of block) = subst (λ (b : Bool). IsSome (if b then Some block.bytes else None)) other some in absurd (cc))
-  ]
+  | inl both ↦ (let parts = and_parts (same_kind Data block.kind) (block.object == o) both in (parts.1, parts.0))
+  | inr other ↦ (let none : IsSome (none_of block) = subst (λ (b : Bool). IsSome (if b then Some block.bytes else None)) other some in absurd (cc))
+]
 
 -- a place that is taken is in no sealed frame
 taken_elsewhere : (ahead : PlacesAheadAreInNoSealedFrame) (t : Table) (f n : ℕ) (p : Place) → is_sealed (frame_at t.drive.frames f).phase ≡ true → p.frame ≡ f → Contains (take n (places_ahead t)) p → ⊥
@@ -233,19 +233,19 @@ holds_none ahead d later f o row copies lists there moved p at =
     let sealed : is_sealed (frame_at t.drive.frames f).phase ≡ true = some_sealed t o f there.some in
     let n : ℕ = blocks_relocated (store_of d).log.held o row copies in
     elim (cases_Bool (is_of o (held_at later.store.table p))) [
-    | inr none ↦ none
-    | inl mine ↦ absurd (elim (seen_of o (held_at later.store.table p) mine) [
-      | inl journal ↦ taken_elsewhere ahead t f n p sealed at (moved.chains p journal)
-      | inr (inl checkpoint) ↦ taken_elsewhere ahead t f n p sealed at (moved.checkpoints p checkpoint)
-      | inr (inr contents) ↦ elim (moved.blocks p contents) [
-        | inl same ↦ (let before : IsSome (of_kind Data o (store_of d).log.held p) = subst (λ (held : Option (List ℕ)). IsSome held) same contents in
-          let gone : held_at later.store.table p ≡ None = left_data d later f o row copies p lists there sealed moved at before in
-          let other : is_of o (held_at later.store.table p) ≡ false = ap (is_of o) gone in
-          (cc))
-        | inr taken ↦ taken_elsewhere ahead t f n p sealed at taken
-      ]
-    ])
-  ]
+      | inr none ↦ none
+      | inl mine ↦ absurd (elim (seen_of o (held_at later.store.table p) mine) [
+        | inl journal ↦ taken_elsewhere ahead t f n p sealed at (moved.chains p journal)
+        | inr (inl checkpoint) ↦ taken_elsewhere ahead t f n p sealed at (moved.checkpoints p checkpoint)
+        | inr (inr contents) ↦ elim (moved.blocks p contents) [
+          | inl same ↦ (let before : IsSome (of_kind Data o (store_of d).log.held p) = subst (λ (held : Option (List ℕ)). IsSome held) same contents in
+              let gone : held_at later.store.table p ≡ None = left_data d later f o row copies p lists there sealed moved at before in
+              let other : is_of o (held_at later.store.table p) ≡ false = ap (is_of o) gone in
+              (cc))
+          | inr taken ↦ taken_elsewhere ahead t f n p sealed at taken
+        ]
+      ])
+    ]
 
 -- as many copies as data blocks
 pub as_many : (t : Table) (f o : ℕ) (copies : List CopiedBlock) → AreStillThere t f o copies → length copies ≡ length (data_in t o f)
@@ -269,11 +269,11 @@ pub moved_by : (d later : DriveFields) (f o : ℕ) (copies : List CopiedBlock) (
 moved_by d later f o copies kept (Err e) there bytes moved told = tt
 moved_by d later f o copies None (Ok u) there bytes moved told = tt
 moved_by d later f o copies (Some row) (Ok u) there bytes moved told = record {
-    places = there.places;
-    bytes = bytes;
-    room = subst (λ (n : ℕ). n ≤ length (store_of d).log.ahead) (blocks_same d f o copies row there) told;
-    relocated = moved;
-  }
+  places = there.places;
+  bytes = bytes;
+  room = subst (λ (n : ℕ). n ≤ length (store_of d).log.ahead) (blocks_same d f o copies row there) told;
+  relocated = moved;
+}
 
 pub left_by : (ahead : PlacesAheadAreInNoSealedFrame) (d later : DriveFields) (f o : ℕ) (copies : List CopiedBlock) (kept : Option Row) (result : Result (Unit {0}) Refusal) → IsSome kept → ListsAllHeld d.store.table
     → AreStillThere d.store.table f o copies → OnOk result (IfSome kept (λ row. IsRelocated (store_of d) o row copies (store_of later))) → OnOk result (HoldsNone later.store.table o f)

@@ -14,10 +14,13 @@ impl<J: Naming> Moves<J> for Copier {
     ghost use Rattle.segment_copier.specs.Commits.{CommitsMove};
 
     type Plan = MovePlan<J>;
+
     type Moved = Moved<J>;
 
     ghost planned = { λ p. p.what };
+
     ghost copied = { λ m. m.what };
+
     ghost commits = { CommitsMove };
 
     fn plan(

@@ -70,11 +70,7 @@ impl<J: Naming> Model for Moved<J> {
 }
 
 // Copies the blocks at these places of a frame that the pin counts on.
-fn copies_by(
-    alloc: Global,
-    pin: &mut Pin,
-    places: &[Ptr],
-) -> Result<Vec<CopiedBlock>, Refusal>
+fn copies_by(alloc: Global, pin: &mut Pin, places: &[Ptr]) -> Result<Vec<CopiedBlock>, Refusal>
     requires inside { AllByRecursion (λ p. (0 < pins_in p.frame pin.old.pins) × (p.block < 16)) places.now }
     ensures copies { IfOk result (λ copies. copies.items ≡ copies_of pin.old.pins places.now) }
     ensures refusal { IfErr result (λ e. e ≡ NoMemory) }
