@@ -1,25 +1,24 @@
 -- Copies are appended one by one, and a renaming gets their new places.
-use Rattle.std.proofs.Common.{◌≡◌, ◌≢◌, ◌⊎◌, inl, inr, ℕ, zero, suc, ◌+◌, ◌<◌, ◌≤◌, ◌==◌, ◌&&◌, leb, Bool, true, false, List, [], ◌∷◌, length, drop, get_or, Option, Some, None, IsSome, is_some, refl, sym, ap, subst, ◌∙◌, ◌-◌, arith}
+use Rattle.std.proofs.Common.{◌≡◌, ◌≢◌, ◌⊎◌, inl, inr, ℕ, zero, suc, ◌+◌, ◌≤◌, ◌==◌, ◌&&◌, leb, Bool, true, List, [], ◌∷◌, length, Option, Some, None, IsSome, is_some, refl, sym, ap, subst, ◌∙◌, ◌-◌, arith}
 use Rattle.std.specs.List.{Contains}
-use Rattle.std.proofs.lemmas.Bool.{cases_Bool, cases_eq, and_parts, and_from, leb-true, le-leb, false≢true}
+use Rattle.std.proofs.lemmas.Bool.{cases_Bool, cases_eq, and_parts, and_from, leb-true, le-leb}
 use Rattle.std.proofs.lemmas.List.Elements.{Contains-append_cases}
 use Rattle.std.proofs.Math.ListN.{length-set}
 use Rattle.std.proofs.lemmas.Option.{none-some, same_Some}
 use Rattle.s4_types.specs.Pointer.{Place, IsPlace}
-use Rattle.block_log.specs.Log.{Log, Stored, of_kind, same_kind, same_place}
+use Rattle.block_log.specs.Log.{Log, Stored, same_kind, same_place}
 use Rattle.block_log.specs.Growth.{Puts}
 use Rattle.block_log.specs.Taken.{TakesPlaces}
 use Rattle.block_log.specs.declared.kinds.BlockKind.{BlockKind}
 use Rattle.block_log.specs.declared.kinds.BlockKind.TheVariants.{Journal, Checkpoint, Data}
 use Rattle.inode.specs.Growth.{data_block}
-use Rattle.chain_moving.specs.Renaming.{RenamingFields, renaming_of, with_move, move_of}
+use Rattle.chain_moving.specs.Renaming.{RenamingFields, with_move, move_of}
 use Rattle.chain_moving.specs.Apart.{HasDistinctPlaces}
 use Rattle.chain_moving.specs.Places.{OneMoreMoves, PlacesStayDistinct, NothingMovesYet, NoPlacesAreDistinct}
 use Rattle.version_store.specs.declared.copies.CopiedBlock.{CopiedBlock}
-use Rattle.version_store.specs.Replacing.{OnlyDataChanged}
-use Rattle.version_store.specs.Relocating.{AreCopies, frame_of_copies, with_moves, renaming_by, blocks_ascend_from}
+use Rattle.version_store.specs.Relocating.{AreCopies, frame_of_copies, with_moves, blocks_ascend_from}
 use Rattle.version_store.specs.private.Below.{OnePlace, PlacesAddUp}
-use Rattle.version_store.specs.private.Relocating.{Appending, IsCopyAt, IsNewPlace}
+use Rattle.version_store.specs.private.Relocating.{Appending}
 use Rattle.version_store.proofs.Spending.{not_both, none_taken}
 
 -- ---- nothing is appended yet

@@ -1,10 +1,10 @@
 -- An object's blocks were relocated in a table: what its row tells then, and where its blocks are.
-use Rattle.std.proofs.Common.{◌≡◌, ℕ, ◌+◌, ◌≤◌, true, List, [], ◌∷◌, length, take, Option, Some, None, IsSome, MatchOption, refl, sym, ap, subst, ◌∙◌}
+use Rattle.std.proofs.Common.{◌≡◌, ℕ, List, [], ◌∷◌, length, take, Option, Some, None, IsSome, MatchOption, refl, sym, ap, subst, ◌∙◌}
 use Rattle.std.specs.List.{Contains}
 use Rattle.s4_types.specs.Pointer.{Place}
 use Rattle.block_log.specs.Log.{Log, Stored, of_kind}
 use Rattle.block_log.specs.Taken.{TakesPlaces}
-use Rattle.block_log.specs.declared.kinds.BlockKind.TheVariants.{Journal, Checkpoint, Data}
+use Rattle.block_log.specs.declared.kinds.BlockKind.TheVariants.{Journal, Checkpoint}
 use Rattle.codec.specs.Entry.{EntryFields, entries_length}
 use Rattle.codec.specs.declared.inodes.Inode.{Inode}
 use Rattle.undo_redo.specs.Runs.{inode_after}
@@ -13,10 +13,9 @@ use Rattle.time_read.specs.Rows.{IsRow, entries_of, checkpoint_of, first_of, ino
 use Rattle.time_read.specs.Orderly.{IsFromTo, IsOrderly, IsOrderlyChain, BeginsDead}
 use Rattle.row_changes.specs.Moving.{checkpoint_with, first_with, moved_blocks}
 use Rattle.row_changes.specs.Rewritten.{OnlyHistoryChanged}
-use Rattle.chain_moving.specs.Renaming.{RenamingFields, renamed_entries, renamed_inode}
+use Rattle.chain_moving.specs.Renaming.{RenamingFields, renamed_entries}
 use Rattle.chain_moving.specs.Laws.{RenamedEntriesStayInOrder, RenamedEntriesTakeAsManyBytes}
 use Rattle.version_store.specs.declared.copies.CopiedBlock.{CopiedBlock}
-use Rattle.version_store.specs.Relocating.{blocks_relocated}
 use Rattle.version_store.specs.private.Below.{RowStays, RowInodeStays, PlacesAddUp}
 use Rattle.version_store.specs.private.Relocating.{Relocates}
 use Rattle.version_store.proofs.Telling.{same_entries, same_checkpoint}
@@ -30,7 +29,7 @@ pub record Moved (between moved : Log) (o : ℕ) (row next : Row) (kept : Option
   pub checkpoint : checkpoint_of moved.held o next ≡ checkpoint_with o row kept
   pub inode : (t : ℕ) → inode_of moved.held o next t ≡ inode_after (first_with o row kept entries) entries t
   pub orderly : (latest : ℕ) → IsOrderlyChain row.created latest (first_with o row kept entries) entries → IsFromTo 1 latest row.created
-    → MatchOption row.checkpoint (BeginsDead entries) (λ p. IsFromTo row.created latest row.checkpoint_moment) → IsOrderly moved.held o next latest
+      → MatchOption row.checkpoint (BeginsDead entries) (λ p. IsFromTo row.created latest row.checkpoint_moment) → IsOrderly moved.held o next latest
   pub fields : next ≡ record row { checkpoint = next.checkpoint; head = next.head; journal_bytes = entries_length entries; head_bytes = next.head_bytes }
   pub history : OnlyHistoryChanged o between.held moved.held
   pub takes : TakesPlaces (moved_blocks row entries) between moved

@@ -1,18 +1,17 @@
 -- What became of an object's blocks where copies were appended, its history was written anew, and what was copied was dropped.
-use Rattle.std.proofs.Common.{◌≡◌, ◌⊎◌, ◌↔◌, inl, inr, ℕ, zero, suc, ◌+◌, ◌≤◌, ◌==◌, ◌&&◌, ◌||◌, Bool, true, false, cond, List, [], ◌∷◌, length, map, take, drop, Option, Some, None, IsSome, is_some, option_map, refl, sym, ap, subst, ◌∙◌, arith}
-use Rattle.std.specs.List.{AllByRecursion, Contains, list_any}
+use Rattle.std.proofs.Common.{◌≡◌, ◌↔◌, inl, inr, ℕ, zero, suc, ◌+◌, ◌==◌, ◌&&◌, ◌||◌, Bool, true, false, cond, List, [], ◌∷◌, length, take, drop, Option, Some, None, IsSome, is_some, refl, sym, ap, subst, ◌∙◌, arith}
+use Rattle.std.specs.List.{AllByRecursion, Contains}
 use Rattle.std.proofs.lemmas.Bool.{cases_Bool, cond-true, cond-false, and_parts, and_right, eqb-true, eq-eqb, false≢true}
 use Rattle.std.proofs.lemmas.List.Folds.{list_any_at}
-use Rattle.std.proofs.lemmas.List.Elements.{Contains-append_left, Contains-append_right}
+use Rattle.std.proofs.lemmas.List.Elements.{Contains-append_right}
 use Rattle.std.proofs.lemmas.Option.{none-some}
 use Rattle.std.proofs.Math.Seq.{take-add}
 use std.Path.{fun_ext}
 use Rattle.s4_types.specs.Pointer.{Place}
 use Rattle.block_log.specs.Log.{Log, Stored, of_kind, seen_as, same_kind, same_place}
 use Rattle.block_log.specs.Taken.{TakesPlaces}
-use Rattle.block_log.specs.declared.kinds.BlockKind.{BlockKind}
 use Rattle.block_log.specs.declared.kinds.BlockKind.TheVariants.{Journal, Checkpoint, Data}
-use Rattle.codec.specs.Entry.{EntryFields, entry_length, entries_length}
+use Rattle.codec.specs.Entry.{EntryFields}
 use Rattle.inode.specs.Growth.{data_block}
 use Rattle.journal_chain.specs.Sizes.{blocks_needed}
 use Rattle.object_map.specs.declared.map.Row.{Row}
@@ -114,6 +113,7 @@ moved_are before between moved later o copies r d p = (there, back)
         let (q, new) = some_place (new_place r p) some in
         let of = copy_of before between moved later o copies r d p q new in
         (of.copy, (of.among, of.place))
+
     back : IsCopied copies p → IsSome (new_place r p)
     back (c, (among, is)) = subst (λ (x : Place). IsSome (new_place r x)) is (ap is_some (new_at before between moved later o copies r d c among) ∙ elim (d.appended.each c among) [
       | inl some ↦ some

@@ -1,6 +1,6 @@
 -- What the relocation of an object's blocks leaves of a whole store.
-use Rattle.std.proofs.Common.{◌≡◌, ◌⊎◌, inl, inr, ℕ, zero, suc, ◌+◌, ◌<◌, ◌≤◌, ◌==◌, leb, true, false, cond, Bool, List, [], ◌∷◌, ◌++◌, length, map, take, Option, Some, None, IsSome, IfSome, is_some, MatchOption, option_map, unwrap_or, refl, sym, ap, subst, ◌∙◌, arith}
-use Rattle.std.specs.List.{All, Contains, AllByRecursion}
+use Rattle.std.proofs.Common.{◌≡◌, ◌⊎◌, inl, inr, ℕ, zero, suc, ◌+◌, ◌<◌, ◌≤◌, ◌==◌, leb, cond, Bool, List, [], ◌∷◌, ◌++◌, length, map, take, Option, Some, None, IsSome, IfSome, is_some, MatchOption, option_map, unwrap_or, refl, sym, ap, subst, ◌∙◌, arith}
+use Rattle.std.specs.List.{Contains}
 use Rattle.std.proofs.lemmas.Bool.{cases_Bool, cond-true, cond-false, eqb-true}
 use Rattle.std.proofs.lemmas.List.Elements.{All-map, All-weaker, Contains-append_right}
 use Rattle.std.proofs.lemmas.Option.{none-some, same_Some}
@@ -16,12 +16,11 @@ use Rattle.inode.specs.Contents.{contents_of, meaning}
 use Rattle.inode.specs.Tidiness.{Tidy, PointersHeld}
 use Rattle.inode.specs.Laws.{OnlyItsBlocksMatter}
 use Rattle.object_map.specs.declared.map.Row.{Row}
-use Rattle.object_map.specs.Rows.{row_of, with_row}
+use Rattle.object_map.specs.Rows.{row_of}
 use Rattle.time_read.specs.Rows.{entries_of, checkpoint_of, inode_of}
 use Rattle.time_read.specs.Orderly.{IsOrderly, IsFromTo, BeginsDead}
 use Rattle.journal_chain.specs.Push.{whole_blocks}
 use Rattle.row_changes.specs.Moving.{checkpoint_count}
-use Rattle.chain_cleaning.specs.Laws.{PointsWithin}
 use Rattle.chain_moving.specs.Renaming.{RenamingFields, new_place, renamed, renamed_slot, renamed_entries, renamed_inode}
 use Rattle.chain_moving.specs.Apart.{Passes, HasCopies}
 use Rattle.chain_moving.specs.Places.{ARenamedChainTellsInOrder}
@@ -31,7 +30,7 @@ use Rattle.version_store.specs.Store.{StoreFields, IsStore, IsObject, DataIsName
 use Rattle.version_store.specs.Versions.{inode_by, inode_in, version_by, version_in}
 use Rattle.version_store.specs.Relocating.{IsRelocated, blocks_relocated, renaming_by, renamed_checkpoint}
 use Rattle.version_store.specs.private.Below.{OrderlyStays, RowStays, RowInodeStays, IsByStays, SomeBlocksAreNeeded}
-use Rattle.version_store.specs.private.Relocating.{Relocates, RelocatesIn, IsNewPlace, IsOldOrNew}
+use Rattle.version_store.specs.private.Relocating.{Relocates, RelocatesIn, IsOldOrNew}
 use Rattle.version_store.proofs.Frames.{same_bytes, stays_object, inode_in_stays, version_in_stays}
 use Rattle.version_store.proofs.Telling.{Leads, same_entries}
 use Rattle.version_store.proofs.Steps.{row_here, row_beside, row_cases, none_cases, stamped_row, stamped_inode}

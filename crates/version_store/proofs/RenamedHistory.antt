@@ -1,26 +1,23 @@
 -- A renaming whose new places held nothing is apart from what an object's row tells, and the row can tell the renamed history.
-use Rattle.std.proofs.Common.{◌≡◌, ℕ, ◌≤◌, Bool, true, false, List, [], ◌∷◌, ◌++◌, map, Option, Some, None, IsSome, IfSome, MatchOption, is_some, option_map, refl, sym, ap, subst, ◌∙◌}
-use Rattle.std.specs.List.{All, AllByRecursion, Contains}
-use Rattle.std.proofs.lemmas.Bool.{false≢true}
+use Rattle.std.proofs.Common.{◌≡◌, ℕ, ◌≤◌, Bool, true, List, Option, Some, None, IsSome, IfSome, MatchOption, is_some, option_map, refl, sym, ap, subst, ◌∙◌}
 use Rattle.std.proofs.lemmas.List.Elements.{All-weaker}
 use Rattle.s4_types.specs.Pointer.{Place}
-use Rattle.block_log.specs.Log.{Log, Stored, of_kind, seen_as}
+use Rattle.block_log.specs.Log.{Stored, seen_as}
 use Rattle.block_log.specs.declared.kinds.BlockKind.TheVariants.{Data}
 use Rattle.codec.specs.Fields.{◌>>=◌}
 use Rattle.codec.specs.Checkpoint.{CheckpointFields, pointer_at, checkpoint_rules}
-use Rattle.codec.specs.Entry.{EntryFields, entries_length}
+use Rattle.codec.specs.Entry.{EntryFields}
 use Rattle.codec.specs.declared.inodes.Inode.{Inode}
 use Rattle.undo_redo.specs.Runs.{Run, blank, redone_all, inode_after, entries_by, undone_all}
-use Rattle.undo_redo.specs.Groups.{grouped}
 use Rattle.checkpoint.specs.Held.{checkpoint_held}
 use Rattle.object_map.specs.declared.map.Row.{Row}
 use Rattle.time_read.specs.Rows.{IsRow, entries_of, checkpoint_of, first_of, inode_before, inode_of}
 use Rattle.row_changes.specs.Moving.{CanTell, checkpoint_at, checkpoint_with, first_with}
 use Rattle.chain_moving.specs.Renaming.{RenamingFields, move_of, renamed_entries, renamed_inode}
-use Rattle.chain_moving.specs.Apart.{Passes, ToldWithin, HasDistinctPlaces, IsNotNew, IsApart}
+use Rattle.chain_moving.specs.Apart.{Passes, ToldWithin, HasDistinctPlaces, IsApart}
 use Rattle.chain_moving.specs.Places.{WhatIsToldIsListed, ATestTellsApart}
 use Rattle.chain_moving.specs.Laws.{RenamingCommutesWithRedoOfAll, RenamingCommutesWithUndoOfAll, ARenamedChainShowsRenamedInodes, ARenamedRunIsARun, ABlankInodeStays, ARenamedChainTakesAsManyBytes, RenamedEntriesStayInGroups, RenamedEntriesUpToAMoment, ARenamedCheckpointKeepsTheRules}
-use Rattle.version_store.specs.Store.{IsLed, sides_told, pointers_kept, pointers_of}
+use Rattle.version_store.specs.Store.{IsLed, pointers_kept, pointers_of}
 use Rattle.version_store.specs.Relocating.{renamed_checkpoint}
 use Rattle.version_store.specs.private.Replacing.{RunsEnd}
 use Rattle.version_store.proofs.Telling.{Leads, first_told, led_there}
@@ -145,7 +142,7 @@ can_tell laws held o row r stands rules =
       same = same_kept r (checkpoint_of held o row) ∙ told_same (row.checkpoint_moment ≡ 0) row.checkpoint (checkpoint_held held o) (checkpoint_now held o row) stands.checkpoint;
       rules = rules_kept laws.rules o row r (checkpoint_of held o row) (checkpoint_now held o row) refl refl is rules;
       current = current_kept r (checkpoint_of held o row) (checkpoint_now held o row) (inode_after (first_with o row kept (renamed_entries r entries)) (renamed_entries r entries) row.checkpoint_moment) is
-      (sym (shown_renamed laws.blank laws.undo laws.by laws.shown held o row r row.checkpoint_moment));
+          (sym (shown_renamed laws.blank laws.undo laws.by laws.shown held o row r row.checkpoint_moment));
       run = subst (λ (i : Inode). Run i (renamed_entries r entries) (redone_all (renamed_entries r entries) i)) (sym start) run;
       groups = laws.groups r entries ∙ stands.groups;
       bytes = subst (λ n. n ≤ 11712) (sym (laws.bytes r entries)) stands.chain.limit;

@@ -76,7 +76,7 @@ pub record IsRelocated (s : StoreFields) (o : ℕ) (row : Row) (copies : List Co
   pub gone : (p : Place) → IsCopied copies p → later.log.held p ≡ None
   pub stayed : (p : Place) → IsSome (of_kind Data o s.log.held p) → new_place (renaming_by copies s.log.ahead) p ≡ None → of_kind Data o later.log.held p ≡ of_kind Data o s.log.held p
   pub blocks : (p : Place) → IsSome (of_kind Data o later.log.held p)
-    → (of_kind Data o later.log.held p ≡ of_kind Data o s.log.held p) ⊎ Contains (take (blocks_relocated s.log.held o row copies) s.log.ahead) p
+      → (of_kind Data o later.log.held p ≡ of_kind Data o s.log.held p) ⊎ Contains (take (blocks_relocated s.log.held o row copies) s.log.ahead) p
   pub chains : (p : Place) → IsSome (of_kind Journal o later.log.held p) → Contains (take (blocks_relocated s.log.held o row copies) s.log.ahead) p
   pub checkpoints : (p : Place) → IsSome (of_kind Checkpoint o later.log.held p) → Contains (take (blocks_relocated s.log.held o row copies) s.log.ahead) p
   pub others : OtherObjectsStay o s.log.held later.log.held

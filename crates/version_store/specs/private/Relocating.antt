@@ -1,5 +1,5 @@
 -- What is appended for copies, and what becomes of an object's blocks. No public clause cites this file.
-use Rattle.std.specs.Prelude.{◌≡◌, ◌⊎◌, ◌↔◌, ◌==◌, if◌then◌else◌, ℕ, ◌+◌, suc, Bool, true, List, [], length, take, Option, Some, None, IsSome, IfSome, option_map}
+use Rattle.std.specs.Prelude.{◌≡◌, ◌⊎◌, ◌↔◌, ◌==◌, if◌then◌else◌, ℕ, suc, Bool, true, List, length, take, Option, Some, None, IsSome, IfSome, option_map}
 use Rattle.std.specs.List.{Contains, list_any}
 use Rattle.s4_types.specs.Pointer.{Place}
 use Rattle.s4_types.specs.declared.limits.TheConstants.{PAYLOAD_BLOCKS}

@@ -1,4 +1,4 @@
-use Rattle.std.proofs.Common.{ℕ, ◌+◌, ◌∷◌, List, drop, subst, sym, ap, ◌∙◌}
+use Rattle.std.proofs.Common.{◌+◌, ◌∷◌, List, drop, subst, sym, ap, ◌∙◌}
 use Rattle.std.proofs.lemmas.List.{drop_more}
 use Rattle.version_store.specs.declared.copies.CopiedBlock.{CopiedBlock}
 use Rattle.version_store.specs.private.Relocating.{Appending}

@@ -1,9 +1,6 @@
-use Rattle.std.proofs.Common.{ℕ, ◌+◌, List, subst, sym}
-use Rattle.s4_types.specs.Pointer.{Place}
-use Rattle.block_log.specs.Log.{Log}
+use Rattle.std.proofs.Common.{ℕ, ◌+◌, subst, sym}
 use Rattle.inode.specs.Growth.{data_block}
 use Rattle.chain_moving.specs.Renaming.{RenamingFields, with_move}
-use Rattle.version_store.specs.declared.copies.CopiedBlock.{CopiedBlock}
 use Rattle.version_store.specs.private.Relocating.{Appending}
 use Rattle.version_store.proofs.Appending.{one_copied}
 use Rattle.version_store.proofs.copies.append_copy.Goals as goal

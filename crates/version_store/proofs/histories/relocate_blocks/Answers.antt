@@ -1,17 +1,15 @@
 use Rattle.version_store.proofs.Relocated.{Moved, relocates}
 use Rattle.version_store.proofs.RelocatedBlocks.{Dropped}
-use Rattle.std.proofs.Common.{List, Option, IsSome, IfSome, ◌≡◌, ◌≤◌, ℕ, ◌+◌, length, option_map, option_copied, refl, sym, subst, ap, ◌∙◌, rules, arith}
+use Rattle.std.proofs.Common.{List, Option, ◌≡◌, option_map, option_copied, refl, sym, subst, ap, ◌∙◌}
 use Rattle.block_log.specs.declared.kinds.BlockKind.TheVariants.{Journal, Checkpoint}
-use Rattle.codec.specs.Entry.{EntryFields, entries_length}
+use Rattle.codec.specs.Entry.{EntryFields}
 use Rattle.codec.specs.declared.inodes.Inode.{Inode}
-use Rattle.block_log.specs.Taken.{TakesPlaces}
 use Rattle.chain_cleaning.specs.Laws.{TellsWithin}
 use Rattle.chain_moving.specs.Renaming.{renamed_entries, renamed_inode}
 use Rattle.chain_moving.specs.Apart.{IsNotNew}
-use Rattle.object_map.specs.declared.map.Row.{Row}
-use Rattle.row_changes.specs.Moving.{CanTell, checkpoint_with, moved_blocks}
-use Rattle.std.specs.List.{AllByRecursion, Contains}
-use Rattle.time_read.specs.Rows.{entries_of, first_of, checkpoint_of, inode_of}
+use Rattle.row_changes.specs.Moving.{CanTell}
+use Rattle.std.specs.List.{AllByRecursion}
+use Rattle.time_read.specs.Rows.{entries_of, checkpoint_of}
 use Rattle.version_store.proofs.RenamedHistory.{RenamingStands, kept_renamed, told_apart, can_tell}
 use Rattle.version_store.proofs.histories.relocate_blocks.Goals as goal
 

@@ -1,4 +1,4 @@
-use Rattle.std.proofs.Common.{◌≡◌, ◌≤◌, ◌+◌, ℕ, List, length, Option, Some, IfSome, sym, ap, subst, ◌∙◌, rules}
+use Rattle.std.proofs.Common.{◌≡◌, ◌≤◌, ◌+◌, ℕ, List, length, Option, Some, IfSome, sym, ap, subst, ◌∙◌}
 use Rattle.codec.specs.declared.inodes.Inode.{Inode}
 use Rattle.object_map.specs.declared.map.Row.{Row}
 use Rattle.object_map.specs.Objects.{Puts, with_value}
@@ -10,7 +10,7 @@ use Rattle.version_store.specs.Store.{StoreOf, StoreFields, IsStore, fields_of}
 use Rattle.version_store.specs.Versions.{inode_in}
 use Rattle.version_store.specs.Relocating.{blocks_relocated, renaming_by}
 use Rattle.version_store.specs.private.Beside.{Tells, inode_beside}
-use Rattle.version_store.specs.private.Relocating.{Relocates, RelocatesIn}
+use Rattle.version_store.specs.private.Relocating.{RelocatesIn}
 use Rattle.version_store.proofs.Beside.{inode_put, replaced_indexed}
 use Rattle.version_store.proofs.CheckpointSteps.{next_store}
 use Rattle.version_store.proofs.RelocatedStore.{Laws, relocated, renamed_beside}
