@@ -5,9 +5,11 @@ ghost use Rattle.s4_types.specs.Sizes.{ReplyFits};
 ghost use Rattle.s4_types.specs.declared.requests.Request.TheVariants.{Read};
 ghost use Rattle.drive.specs.Answering.{reply_planned};
 ghost use Rattle.server.specs.Sharing.{SharedStep, HasMet, IsFresh, IsFetched};
+ghost use Rattle.server.specs.Upkeep.{SharedTurn};
 
 use crate::gate::Gate;
 use drive::{Drive, Session};
+use history_cleaner::{Rounds, Turn};
 use s4_types::{Bytes, Moment, ObjectId, Refusal, Reply, Request, Role};
 use segment_word::Naming;
 use serving::Backend;
@@ -22,10 +24,7 @@ use time_read::ReadPlan;
 const LOOKS: usize = 300;
 
 /// The drive, once the lock is had.
-pub(crate) fn hold<'a, J: Naming>(
-    rt: &impl Wait,
-    drive: &'a Mutex<Drive<J>>,
-) -> MutexGuard<'a, Drive<J>> {
+fn hold<'a, J: Naming>(rt: &impl Wait, drive: &'a Mutex<Drive<J>>) -> MutexGuard<'a, Drive<J>> {
     for _ in 0..LOOKS {
         if let Some(held) = drive.try_lock() {
             return held;
@@ -91,6 +90,20 @@ fn meet<J: Naming>(rt: &impl Wait, drive: &Mutex<Drive<J>>, session: &mut Sessio
     let mut drive = hold(rt, drive);
     drive.rules();
     drive.meet(session);
+}
+
+/// One turn of the cleaner, under the lock.
+pub(crate) fn take_turn<J: Naming>(
+    rt: &impl Wait,
+    alloc: Global,
+    drive: &Mutex<Drive<J>>,
+    rounds: &mut Rounds,
+) -> Turn
+    ensures { SharedTurn J.base rounds.old.passed result rounds.new.passed }
+{
+    let mut drive = hold(rt, drive);
+    drive.rules();
+    rounds.turn(alloc, &mut drive)
 }
 
 /// The reply to a Read that was planned so: the bytes that the plan names, where there is memory for them.

@@ -1,12 +1,12 @@
 //! The history cleaner beside sessions: it has the lock for one object at a time.
 ghost use Rattle.std.specs.Prelude.{◌≡◌, ℕ, ◌+◌, ◌^◌, ◌<◌, ◌≤◌, All, slice_index_or, true, vec_len};
 ghost use Rattle.server.specs.Attending.{IsAttended, PassesOn, failures_in};
-ghost use Rattle.server.specs.Upkeep.{SharedTurn, IsRound, IsLastRound, ends_round};
+ghost use Rattle.server.specs.Upkeep.{IsRound, IsLastRound, ends_round};
 ghost use Rattle.serving.specs.Session.{reading_failures, writing_failures};
 ghost use Rattle.serving.specs.Streams.{taken_by};
 
 use crate::gate::Gate;
-use crate::locked::hold;
+use crate::locked::take_turn;
 use crate::running::{Client, run_sessions};
 use drive::Drive;
 use history_cleaner::{Rounds, Turn};
@@ -29,20 +29,6 @@ pub struct Round {
     pub is_behind: bool,
     /// How many objects had their turn.
     pub turns: u64,
-}
-
-/// One turn of the cleaner, under the lock.
-fn take_turn<J: Naming>(
-    rt: &impl Wait,
-    alloc: Global,
-    drive: &Mutex<Drive<J>>,
-    rounds: &mut Rounds,
-) -> Turn
-    ensures { SharedTurn J.base rounds.old.passed result rounds.new.passed }
-{
-    let mut drive = hold(rt, drive);
-    drive.rules();
-    rounds.turn(alloc, &mut drive)
 }
 
 /// Whether a turn ended its round.
