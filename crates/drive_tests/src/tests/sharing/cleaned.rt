@@ -113,7 +113,8 @@ fn is_cleaned<J: Naming>(drive: &Drive<J>) -> bool {
     !is_there(1) && !is_there(2) && is_there(3)
 }
 
-/// Both sessions are told the same, with the cleaner or without it. With it the dead objects' rows are gone once all have ended, and all frames are free but one.
+/// Both sessions are told the same, with the cleaner or without it. With it the dead objects' rows are gone once all have ended, and
+/// all frames are free but one.
 fn play_both<J: Naming + Send + Sync, R: Abort + Threads + Wait + Clock + Sync>(
     rt: &R,
     alloc: Global,
