@@ -1,7 +1,6 @@
 -- What the cleaner does to a drive that sessions share.
 use Rattle.std.specs.Prelude.{◌≡◌, ℕ, Bool, true, false, List, [], ◌∷◌, length, All}
 use Rattle.s4_types.specs.History.{Base}
-use Rattle.segment_table.specs.Table.{Table}
 use Rattle.drive.specs.Fields.{DriveFields, state_in, store_of}
 use Rattle.drive.specs.Keeping.{KeepsVersions}
 use Rattle.history_cleaner.specs.Rounds.{Turns, IsSwept}

@@ -76,7 +76,8 @@ impl<J: Naming> Written<J> {
     }
 }
 
-/// Makes all Writes, with the cleaner between or without it, and reads those within the window again. Answers how many were made before the first that was refused.
+/// Makes all Writes, with the cleaner between or without it, and reads those within the window again. Answers how many were made
+/// before the first that was refused.
 fn write_all<J: Naming, R: Abort>(
     rt: &R,
     alloc: Global,

@@ -1,4 +1,4 @@
-use Rattle.std.proofs.Common.{ℕ, ◌-◌, ◌^◌}
+use Rattle.std.proofs.Common.{◌-◌, ◌^◌}
 use Rattle.server.proofs.Rounding.{IsUnderway}
 use Rattle.server.proofs.upkeep.go_round.Given as goal
 

@@ -98,12 +98,11 @@ fn served_both<'a, J: Naming + Send + Sync, R: Threads + Wait + Clock + Sync>(
 {
     let mut clients = clients(alloc, inputs)?;
     let start = Moment::new(0);
-    let served = clients.as_mut_slice();
     if cleans {
-        let round = run_with_cleaner(rt, alloc, drive, gate, start, 0, served);
+        let (clients, round) = run_with_cleaner(rt, alloc, drive, gate, start, 0, clients);
         return Ok((clients, Some(round)));
     }
-    run_sessions(rt, alloc, drive, gate, start, 0, served);
+    run_sessions(rt, alloc, drive, gate, start, 0, clients.as_mut_slice());
     Ok((clients, None))
 }
 
@@ -113,7 +112,8 @@ fn is_cleaned<J: Naming>(drive: &Drive<J>) -> bool {
     !is_there(1) && !is_there(2) && is_there(3)
 }
 
-/// Both sessions are told the same, with the cleaner or without it. With it the dead objects' rows are gone once all have ended, and all frames are free but one.
+/// Both sessions are told the same, with the cleaner or without it. With it the dead objects' rows are gone once all have ended, and
+/// all frames are free but one.
 fn play_both<J: Naming + Send + Sync, R: Abort + Threads + Wait + Clock + Sync>(
     rt: &R,
     alloc: Global,
