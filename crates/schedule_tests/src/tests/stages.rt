@@ -1,6 +1,6 @@
 //! A drive with two actors, as tests run lists of steps over it. No call of the trait has a clause, so that what calls them is proved
 //! without their contracts.
-ghost use Rattle.std.specs.Prelude.{◌≡◌, IfOk};
+ghost use Rattle.std.specs.Prelude.{◌≡◌, IfOk, vec_len};
 
 use crate::tests::turns::{Turn, step_of};
 use drive::{Drive, Session};
