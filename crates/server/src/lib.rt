@@ -16,3 +16,6 @@ pub use gate::{Gate, Open};
 pub use locked::Locked;
 pub use running::{Client, MOST_SESSIONS, Outcome, run_sessions};
 pub use upkeep::{Round, run_with_cleaner};
+
+#[cfg(test)]
+mod tests;
