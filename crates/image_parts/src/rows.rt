@@ -1,4 +1,12 @@
+ghost use Rattle.std.specs.Prelude.{◌≡◌, ℕ, ◌+◌, ◌*◌, ◌<◌, ◌≤◌, [], ◌∷◌, List, MatchOption, length, drop, slice_index_or};
+ghost use Rattle.image_parts.specs.Rows.{row_in, rows_in};
+
+use crate::numbers::long_at;
 use s4_types::{Moment, ObjectId};
+use std::marker::Model;
+
+/// Bytes of a row.
+pub(crate) const ROW_BYTES: usize = 40;
 
 /// A row of an image: an object, and where its checkpoint and its chain begin. The eight bytes of each pointer stand as a
 /// number: 0 is a hole, and not every other number spells a pointer.
@@ -11,4 +19,69 @@ pub struct RowPart {
     pub checkpoint_moment: Moment,
     /// The bytes of the pointer to the newest journal block.
     pub head: u64,
+}
+
+/// The row that the bytes begin with.
+#[tactic(auto, unfolding(crate::specs::Rows::row_in))]
+fn first_row(bytes: &[u8]) -> RowPart
+    requires { 40 ≤ length bytes.now }
+    ensures { result ≡ row_in bytes.now }
+{
+    RowPart {
+        object: ObjectId::new(long_at(bytes, 0)),
+        created: Moment::new(long_at(bytes, 8)),
+        checkpoint: long_at(bytes, 16),
+        checkpoint_moment: Moment::new(long_at(bytes, 24)),
+        head: long_at(bytes, 32),
+    }
+}
+
+/// Rows that are given one by one, in their order.
+#[derive(Debug, Drop)]
+pub struct Rows<'a> {
+    count: u32,
+    bytes: &'a [u8],
+}
+
+impl<'a> Model for Rows<'a> {
+    ghost use Rattle.std.specs.Prelude.{List, ◌*◌, ◌≤◌, length};
+    ghost use Rattle.image_parts.specs.Rows.{rows_in};
+    ghost use Rattle.image_parts.specs.declared.rows.RowPart.{RowPart as Saved};
+
+    ghost Value = { List Saved };
+
+    ghost view = { λ r. rows_in r.count r.bytes.now };
+
+    ghost invariant = { λ r. 40 * r.count ≤ length r.bytes.now };
+}
+
+impl<'a> Rows<'a> {
+    /// The first rows of these bytes.
+    pub(crate) fn new(count: u32, bytes: &'a [u8]) -> Self
+        requires { 40 * count ≤ length bytes.now }
+        ensures { result ≡ rows_in count bytes.entry.now }
+    {
+        Rows { count, bytes }
+    }
+
+    /// How many rows were not given.
+    pub fn len(&self) -> u32
+        ensures { result ≡ length self.now }
+    {
+        self.count
+    }
+
+    /// The next row. None where all were given.
+    pub fn next(&mut self) -> Option<RowPart>
+        ensures { MatchOption result ((self.old ≡ []) × (self.new ≡ [])) (λ row. self.old ≡ row ∷ self.new) }
+    {
+        if self.count == 0 {
+            return None;
+        }
+        let row = first_row(self.bytes);
+        let (_, rest) = self.bytes.split_at(ROW_BYTES);
+        self.count -= 1;
+        self.bytes = rest;
+        Some(row)
+    }
 }
