@@ -42,6 +42,32 @@ same_tested P cause later same a b (inl (bad, x)) (inr (holds, l)) = absurd (bad
 same_tested P cause later same a b (inr (holds, l)) (inl (bad, y)) = absurd (bad holds)
 same_tested P cause later same a b (inr (holds, l)) (inr (holds', l')) = same a b l l'
 
+-- the tests from one of them on
+abbrev from_row : List ℕ → Option Cause → Type 0
+from_row bytes = Tested (KeepRowRules (header_in bytes) (image_in bytes).rows) Row (λ f. f ≡ None)
+
+abbrev from_span : List ℕ → Option Cause → Type 0
+from_span bytes = Tested (KeepSpanRules (header_in bytes) (image_in bytes).spans) SpanCause (from_row bytes)
+
+abbrev from_frame : List ℕ → Option Cause → Type 0
+from_frame bytes = Tested (KeepFrameRules (image_in bytes).frames) Frame (from_span bytes)
+
+abbrev from_digest : List ℕ → Option Cause → Type 0
+from_digest bytes = Tested (HasDigest bytes) Digest (from_frame bytes)
+
+abbrev from_filled : List ℕ → Option Cause → Type 0
+from_filled bytes = Tested (IsFilled bytes) Length (from_digest bytes)
+
+abbrev from_header : List ℕ → Option Cause → Type 0
+from_header bytes = Tested (HasHeader bytes) HeaderCause (from_filled bytes)
+
 pub one_cause : (bytes : List ℕ) (a b : Option Cause) → FirstCause bytes a → FirstCause bytes b → a ≡ b
 one_cause bytes =
-    same_tested _ _ _ (same_tested _ _ _ (same_tested _ _ _ (same_tested _ _ _ (same_tested _ _ _ (same_tested _ _ _ (same_tested _ _ _ (λ a b x y. x ∙ sym y)))))))
+    let none : (a b : Option Cause) → (a ≡ None) → (b ≡ None) → a ≡ b = λ a b x y. x ∙ sym y in
+    let row = same_tested (KeepRowRules (header_in bytes) (image_in bytes).rows) Row (λ f. f ≡ None) none in
+    let span = same_tested (KeepSpanRules (header_in bytes) (image_in bytes).spans) SpanCause (from_row bytes) row in
+    let frame = same_tested (KeepFrameRules (image_in bytes).frames) Frame (from_span bytes) span in
+    let digest = same_tested (HasDigest bytes) Digest (from_frame bytes) frame in
+    let filled = same_tested (IsFilled bytes) Length (from_digest bytes) digest in
+    let header = same_tested (HasHeader bytes) HeaderCause (from_filled bytes) filled in
+    same_tested (IsLong bytes) Length (from_header bytes) header

@@ -1,2 +1,11 @@
 pub mod FrameLists
 pub mod RowLists
+pub mod FrameRules
+pub mod RowRules
+pub mod SpanRules
+pub mod CauseLaws
+pub mod NumberLaws
+pub mod HeaderLaws
+pub mod RowLaws
+pub mod FrameLaws
+pub mod ImageLaws

@@ -22,13 +22,13 @@ module _ {X : Type 0} (width : ℕ) (spell : X → List ℕ) (first : List ℕ �
   -- what is read is spelled
   module _ (back : (bytes : List ℕ) → IsBytes bytes → width ≤ length bytes → spell (first bytes) ≡ take width bytes) where
     pub all_back : (n : ℕ) (bytes : List ℕ) → IsBytes bytes → width * n ≤ length bytes → flat_map spell (firsts n bytes) ≡ take (width * n) bytes
-    all_back zero bytes h le = let k : width * 0 ≡ 0 = omega arith in rw (none bytes, k) refl
+    all_back zero bytes h le = let k : width * 0 ≡ 0 = omega arith in ap (flat_map spell) (none bytes) ∙ ap (λ (m : ℕ). take m bytes) (sym k)
     all_back (suc n) bytes h le =
         let k : width * suc n ≡ width + width * n = omega arith in
         let here = back bytes h (omega (arith, le, k)) in
         let later = all_back n (drop width bytes) (bytes_after width bytes h) (omega (arith, le, k, length-drop width bytes)) in
         let joined : flat_map spell (first bytes ∷ firsts n (drop width bytes)) ≡ take width bytes ++ take (width * n) (drop width bytes) = flat_map-cons spell (first bytes) (firsts n (drop width bytes)) ∙ rw (here, later) refl in
-        ap (flat_map spell) (more n bytes) ∙ joined ∙ rw k (sym (take-add width (width * n) bytes))
+        ap (flat_map spell) (more n bytes) ∙ joined ∙ sym (take-add width (width * n) bytes) ∙ ap (λ (m : ℕ). take m bytes) (sym k)
 
   -- what is spelled is read
   module _ (Fits : X → Type 0) (again : (x : X) (rest : List ℕ) → Fits x → first (spell x ++ rest) ≡ x) (behind : (x : X) (rest : List ℕ) → drop width (spell x ++ rest) ≡ rest) where

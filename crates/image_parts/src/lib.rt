@@ -5,6 +5,7 @@ mod digests;
 mod frame_rules;
 mod frames;
 mod headers;
+pub mod laws;
 mod numbers;
 mod parts;
 mod reading;
@@ -12,6 +13,8 @@ mod row_rules;
 mod rows;
 mod span_rules;
 mod spans;
+#[cfg(test)]
+mod tests;
 mod writing;
 
 pub use frames::{FramePart, Frames};
