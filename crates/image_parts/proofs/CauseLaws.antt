@@ -1,5 +1,5 @@
 -- Which cause the tests come to, where they fail and where all hold.
-use Rattle.std.proofs.Common.{◌≡◌, List, ℕ, Option, Some, None, refl, sym, ◌∙◌, inl, inr}
+use Rattle.std.proofs.Common.{◌≡◌, List, ℕ, Option, None, refl, sym, ◌∙◌, inl, inr}
 use Rattle.s4_types.specs.declared.refusals.Cause.{Cause}
 use Rattle.s4_types.specs.declared.refusals.Cause.TheVariants.{Header as HeaderCause, Length, Digest, Frame, Span as SpanCause, Row}
 use Rattle.image_parts.specs.Header.{header_in, HasHeader}
@@ -7,32 +7,11 @@ use Rattle.image_parts.specs.Frames.{KeepFrameRules}
 use Rattle.image_parts.specs.Rows.{KeepRowRules}
 use Rattle.image_parts.specs.Spans.{KeepSpanRules}
 use Rattle.image_parts.specs.Image.{image_in}
-use Rattle.image_parts.specs.Causes.{IsLong, IsFilled, HasDigest, Tested, TestedParts, FirstCause}
+use Rattle.image_parts.specs.Causes.{IsLong, IsFilled, HasDigest, Tested, FirstCause}
 
-module _ (bytes : List ℕ) where
-  pub too_short : (IsLong bytes → ⊥) → FirstCause bytes (Some Length)
-  too_short bad = inl (bad, refl)
-
-  pub no_header : IsLong bytes → (HasHeader bytes → ⊥) → FirstCause bytes (Some HeaderCause)
-  no_header long bad = inr (long, inl (bad, refl))
-
-  pub not_filled : IsLong bytes → HasHeader bytes → (IsFilled bytes → ⊥) → FirstCause bytes (Some Length)
-  not_filled long header bad = inr (long, inr (header, inl (bad, refl)))
-
-  pub no_digest : IsLong bytes → HasHeader bytes → IsFilled bytes → (HasDigest bytes → ⊥) → FirstCause bytes (Some Digest)
-  no_digest long header filled bad = inr (long, inr (header, inr (filled, inl (bad, refl))))
-
-  pub bad_frames : IsLong bytes → HasHeader bytes → IsFilled bytes → HasDigest bytes → (KeepFrameRules (image_in bytes).frames → ⊥) → FirstCause bytes (Some Frame)
-  bad_frames long header filled digest bad = inr (long, inr (header, inr (filled, inr (digest, inl (bad, refl)))))
-
-  pub bad_spans : IsLong bytes → HasHeader bytes → IsFilled bytes → HasDigest bytes → KeepFrameRules (image_in bytes).frames → (KeepSpanRules (header_in bytes) (image_in bytes).spans → ⊥) → FirstCause bytes (Some SpanCause)
-  bad_spans long header filled digest frames bad = inr (long, inr (header, inr (filled, inr (digest, inr (frames, inl (bad, refl))))))
-
-  pub bad_rows : IsLong bytes → HasHeader bytes → IsFilled bytes → HasDigest bytes → KeepFrameRules (image_in bytes).frames → KeepSpanRules (header_in bytes) (image_in bytes).spans → (KeepRowRules (header_in bytes) (image_in bytes).rows → ⊥) → FirstCause bytes (Some Row)
-  bad_rows long header filled digest frames spans bad = inr (long, inr (header, inr (filled, inr (digest, inr (frames, inr (spans, inl (bad, refl)))))))
-
-  pub all_hold : IsLong bytes → HasHeader bytes → IsFilled bytes → HasDigest bytes → KeepFrameRules (image_in bytes).frames → KeepSpanRules (header_in bytes) (image_in bytes).spans → KeepRowRules (header_in bytes) (image_in bytes).rows → FirstCause bytes None
-  all_hold long header filled digest frames spans rows = inr (long, inr (header, inr (filled, inr (digest, inr (frames, inr (spans, inr (rows, refl)))))))
+-- all tests hold
+pub all_hold : (bytes : List ℕ) → IsLong bytes → HasHeader bytes → IsFilled bytes → HasDigest bytes → KeepFrameRules (image_in bytes).frames → KeepSpanRules (header_in bytes) (image_in bytes).spans → KeepRowRules (header_in bytes) (image_in bytes).rows → FirstCause bytes None
+all_hold bytes long header filled digest frames spans rows = inr (long, inr (header, inr (filled, inr (digest, inr (frames, inr (spans, inr (rows, refl)))))))
 
 -- ---- one cause
 

@@ -1,6 +1,6 @@
 -- Frames one behind the other, as loops go over them.
-use Rattle.std.proofs.Common.{◌≡◌, ◌≢◌, ℕ, zero, suc, ◌+◌, ◌-◌, ◌<◌, ◌≤◌, List, [], ◌∷◌, length, take, drop, refl, sym, ap, subst, ◌∙◌, arith, length-drop, drop-drop}
-use Rattle.image_parts.specs.Frames.{FrameFields, frame_in, frame_length, frames_in, frames_length}
+use Rattle.std.proofs.Common.{◌≡◌, ◌≢◌, ℕ, zero, suc, ◌+◌, ◌-◌, ◌<◌, ◌≤◌, List, ◌∷◌, length, drop, refl, sym, ap, ◌∙◌, arith, length-drop, drop-drop}
+use Rattle.image_parts.specs.Frames.{frame_in, frame_length, frames_in, frames_length}
 
 pub frames_more : (count : ℕ) (bytes : List ℕ) → count ≢ 0 → frames_in count bytes ≡ frame_in bytes ∷ frames_in (count - 1) (drop (frame_length bytes) bytes)
 frames_more zero bytes some = absurd (some refl)

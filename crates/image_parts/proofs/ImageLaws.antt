@@ -1,5 +1,5 @@
 -- Bytes that no test refuses spell the image that is read from them, and what spells an image is read as that image.
-use Rattle.std.proofs.Common.{◌≡◌, ℕ, zero, suc, ◌+◌, ◌-◌, ◌*◌, ◌^◌, ◌<◌, ◌≤◌, List, [], ◌∷◌, ◌++◌, length, take, drop, Option, Some, None, refl, sym, ap, subst, ◌∙◌, arith, inl, inr, append_assoc, length-append, length-drop}
+use Rattle.std.proofs.Common.{◌≡◌, ℕ, zero, suc, ◌+◌, ◌-◌, ◌*◌, ◌≤◌, List, ◌++◌, length, take, drop, None, refl, sym, ap, subst, ◌∙◌, arith, inl, inr, append_assoc, length-append, length-drop}
 use Rattle.std.specs.Prelude.{slice_index}
 use Rattle.std.specs.Int.{w32, to_be_bytes}
 use Rattle.std.specs.List.{flat_map}
@@ -8,11 +8,11 @@ use Rattle.std.proofs.lemmas.List.{take-append-drop, take_at, drop_at}
 use Rattle.sha2.specs.Sha256.{sha256, digest_bytes, final_hash, initial_hash_256}
 use Rattle.s4_types.specs.declared.spans.Span.{Span}
 use Rattle.codec.proofs.Exact.{IsBytes}
-use Rattle.image_parts.specs.Header.{number_in, header_bytes, header_in, KeepsHeaderRules, HasHeader}
-use Rattle.image_parts.specs.Frames.{FrameFields, IsFrame, frame_bytes, frames_in, frames_length, KeepFrameRules}
+use Rattle.image_parts.specs.Header.{header_bytes, header_in, KeepsHeaderRules, HasHeader}
+use Rattle.image_parts.specs.Frames.{FrameFields, frame_bytes, frames_in, frames_length, KeepFrameRules}
 use Rattle.image_parts.specs.Rows.{row_bytes, rows_in, KeepRowRules}
 use Rattle.image_parts.specs.Spans.{span_bytes, spans_in, KeepSpanRules}
-use Rattle.image_parts.specs.Image.{Image, IsImage, KeepsRules, SpellsImage, header_of, front_bytes, image_bytes, image_in, behind_header, behind_frames, behind_rows, parts_length}
+use Rattle.image_parts.specs.Image.{Image, IsImage, KeepsRules, SpellsImage, header_of, front_bytes, image_bytes, image_in, behind_header, behind_frames, behind_rows}
 use Rattle.image_parts.specs.Causes.{IsLong, IsFilled, HasDigest, FirstCause}
 use Rattle.image_parts.specs.declared.headers.Header.{Header}
 use Rattle.image_parts.specs.declared.rows.RowPart.{RowPart}
@@ -152,6 +152,15 @@ found bytes h none =
       };
       spelled = spelled_by bytes (front_bytes (image_in bytes)) all.digest (front_is bytes h all.header fit);
     }
+
+-- what a reader has found, of the bytes whose parts these are
+pub found_by : (bytes : List ℕ) (image : Image) (h : Header) → IsBytes bytes → image ≡ image_in bytes → h ≡ header_in bytes → IsLong bytes → HasHeader bytes → IsFilled bytes → HasDigest bytes
+    → KeepFrameRules image.frames → KeepSpanRules h image.spans → KeepRowRules h image.rows → SpellsImage bytes image
+found_by bytes image h b is head long header filled digest frames spans rows =
+    let all_frames = subst (λ (i : Image). KeepFrameRules i.frames) is frames in
+    let all_spans = subst (λ (k : Header). KeepSpanRules k (image_in bytes).spans) head (subst (λ (i : Image). KeepSpanRules h i.spans) is spans) in
+    let all_rows = subst (λ (k : Header). KeepRowRules k (image_in bytes).rows) head (subst (λ (i : Image). KeepRowRules h i.rows) is rows) in
+    subst (SpellsImage bytes) (sym is) (found bytes b (all_hold bytes long header filled digest all_frames all_spans all_rows))
 
 -- ---- bytes that spell an image
 

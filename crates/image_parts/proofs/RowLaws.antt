@@ -1,5 +1,5 @@
 -- Rows and spans that are spelled are read, and what is read of them is spelled.
-use Rattle.std.proofs.Common.{◌≡◌, ℕ, zero, suc, ◌+◌, ◌*◌, ◌^◌, ◌<◌, ◌≤◌, List, [], ◌∷◌, ◌++◌, length, take, drop, refl, sym, ap, ◌∙◌, arith, append_assoc, length-append, length-drop}
+use Rattle.std.proofs.Common.{◌≡◌, ℕ, zero, suc, ◌+◌, ◌*◌, ◌≤◌, List, [], ◌∷◌, ◌++◌, length, take, drop, refl, sym, ap, ◌∙◌, arith, append_assoc, length-append, length-drop}
 use Rattle.std.specs.Int.{w64}
 use Rattle.std.specs.List.{flat_map, AllByRecursion}
 use Rattle.std.proofs.Math.Seq.{take-add}
@@ -18,7 +18,7 @@ use Rattle.image_parts.proofs.NumberLaws.{bytes_after, long_back, long_below}
 -- ---- parts of one width, one behind the other
 
 module _ {X : Type 0} (width : ℕ) (spell : X → List ℕ) (first : List ℕ → X) (firsts : ℕ → List ℕ → List X)
-         (none : (bytes : List ℕ) → firsts 0 bytes ≡ []) (more : (n : ℕ) (bytes : List ℕ) → firsts (suc n) bytes ≡ first bytes ∷ firsts n (drop width bytes)) where
+    (none : (bytes : List ℕ) → firsts 0 bytes ≡ []) (more : (n : ℕ) (bytes : List ℕ) → firsts (suc n) bytes ≡ first bytes ∷ firsts n (drop width bytes)) where
   -- what is read is spelled
   module _ (back : (bytes : List ℕ) → IsBytes bytes → width ≤ length bytes → spell (first bytes) ≡ take width bytes) where
     pub all_back : (n : ℕ) (bytes : List ℕ) → IsBytes bytes → width * n ≤ length bytes → flat_map spell (firsts n bytes) ≡ take (width * n) bytes

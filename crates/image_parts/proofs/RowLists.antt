@@ -1,5 +1,5 @@
 -- Rows and spans one behind the other, as loops go over them.
-use Rattle.std.proofs.Common.{◌≡◌, ◌≢◌, ℕ, zero, suc, ◌+◌, ◌-◌, ◌*◌, ◌<◌, ◌≤◌, List, [], ◌∷◌, length, drop, refl, sym, ap, ◌∙◌, arith}
+use Rattle.std.proofs.Common.{◌≡◌, ◌≢◌, ℕ, zero, suc, ◌-◌, List, ◌∷◌, length, drop, refl, sym, ◌∙◌, arith}
 use Rattle.s4_types.specs.declared.spans.Span.{Span}
 use Rattle.image_parts.specs.Rows.{row_in, rows_in}
 use Rattle.image_parts.specs.Spans.{span_in, spans_in}

@@ -1,5 +1,5 @@
 -- The frames of an image: how each is spelled and read, and their rules.
-use Rattle.std.specs.Prelude.{◌≡◌, ◌≢◌, ℕ, zero, suc, ◌+◌, ◌*◌, ◌/◌, ◌%◌, ◌^◌, ◌<◌, ◌≤◌, ◌==◌, Bool, List, [], ◌∷◌, ◌++◌, length, take, drop, slice_index_or, count_by, if◌then◌else◌}
+use Rattle.std.specs.Prelude.{◌≡◌, ◌≢◌, ℕ, zero, suc, ◌+◌, ◌/◌, ◌%◌, ◌^◌, ◌<◌, ◌≤◌, ◌==◌, Bool, List, [], ◌∷◌, ◌++◌, length, take, drop, slice_index_or, count_by, if◌then◌else◌}
 use Rattle.std.specs.Int.{w64}
 use Rattle.std.specs.Simd.{first_chunks}
 use Rattle.codec.specs.Fields.{number}

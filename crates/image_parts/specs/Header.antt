@@ -1,5 +1,5 @@
 -- The header of an image: how it is spelled in 512 bytes, how it is read from them, and its rules.
-use Rattle.std.specs.Prelude.{◌≡◌, ℕ, ◌+◌, ◌-◌, ◌≤◌, List, [], ◌∷◌, ◌++◌, take, drop}
+use Rattle.std.specs.Prelude.{◌≡◌, ℕ, ◌-◌, ◌≤◌, List, ◌∷◌, ◌++◌, take, drop}
 use Rattle.std.specs.Int.{Width, w16, w32, w64, byte_len, from_be_bytes}
 use Rattle.s4_types.specs.Sizes.{IsFrameCount}
 use Rattle.codec.specs.Fields.{number, zeros}

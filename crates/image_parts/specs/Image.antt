@@ -1,5 +1,5 @@
 -- An image: its parts, the one list of bytes that they give, and the parts that bytes give.
-use Rattle.std.specs.Prelude.{◌≡◌, ℕ, ◌+◌, ◌-◌, ◌*◌, ◌^◌, ◌<◌, ◌≤◌, List, [], ◌∷◌, ◌++◌, length, take, drop, slice_index}
+use Rattle.std.specs.Prelude.{◌≡◌, ℕ, ◌+◌, ◌*◌, ◌^◌, ◌<◌, List, ◌++◌, length, drop, slice_index}
 use Rattle.std.specs.List.{flat_map, AllByRecursion}
 use Rattle.sha2.specs.Sha256.{sha256}
 use Rattle.s4_types.specs.declared.spans.Span.{Span}

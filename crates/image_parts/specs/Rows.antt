@@ -1,5 +1,5 @@
 -- The rows of an image: how each is spelled and read, and those of their rules that look at no chain.
-use Rattle.std.specs.Prelude.{◌≡◌, ℕ, zero, suc, ◌*◌, ◌^◌, ◌<◌, ◌≤◌, List, [], ◌∷◌, ◌++◌, drop}
+use Rattle.std.specs.Prelude.{◌≡◌, ℕ, zero, suc, ◌^◌, ◌<◌, ◌≤◌, List, [], ◌∷◌, ◌++◌, drop}
 use Rattle.std.specs.Int.{w64}
 use Rattle.codec.specs.Fields.{number}
 use Rattle.image_parts.specs.Header.{number_in}

@@ -16,6 +16,7 @@ pub fn read_parts(bytes: &[u8]) -> Result<Parts<'_>, Cause>
     ensures damaged { IfErr result (λ cause. FirstCause bytes.now (Some cause)) }
     ensures whole { IfOk result (λ parts. FirstCause bytes.now None) }
     ensures read { IfOk result (λ parts. parts ≡ image_in bytes.now) }
+    ensures spelled { IfOk result (λ parts. SpellsImage bytes.now parts) }
 {
     if bytes.len() < HEADER_BYTES + DIGEST_BYTES {
         return Err(Cause::Length);

@@ -66,24 +66,27 @@ fn other_lengths(rt: HostRuntime) {
 #[test]
 fn damaged_bytes(rt: HostRuntime) {
     let cases = [
-        (0, 0x54, Cause::Header),  // the mark
-        (9, 7, Cause::Header),     // too few frames
-        (8, 4, Cause::Header),     // too many
-        (10, 1, Cause::Header),    // no zero
-        (39, 1, Cause::Header),    // the floor above the clock
-        (47, 0, Cause::Header),    // no next number
-        (47, 2, Cause::Header),    // an object that the clock has no moment for
-        (511, 1, Cause::Header),   // no zero
-        (9, 17, Cause::Length),    // a frame more
-        (51, 1, Cause::Length),    // a row more
-        (48, 255, Cause::Length),  // 2^32 - 2^24 rows more
-        (55, 1, Cause::Length),    // a span more
-        (519, 1, Cause::Length),   // the first frame is open
-        (515, 0, Cause::Frame),    // its generation is 0
-        (519, 4, Cause::Frame),    // it has a reader
+        (0, 0x54, Cause::Header), // the mark
+        (9, 7, Cause::Header), // too few frames
+        (8, 4, Cause::Header), // too many
+        (10, 1, Cause::Header), // no zero
+        (39, 1, Cause::Header), // the floor above the clock
+        (47, 0, Cause::Header), // no next number
+        (47, 2, Cause::Header), // an object that the clock has no moment for
+        (511, 1, Cause::Header), // no zero
+        (9, 17, Cause::Length), // a frame more
+        (51, 1, Cause::Length), // a row more
+        (48, 255, Cause::Length), // 2^32 - 2^24 rows more
+        (55, 1, Cause::Length), // a span more
+        (519, 1, Cause::Length), // the first frame is open
+        (515, 0, Cause::Frame), // its generation is 0
+        (519, 4, Cause::Frame), // it has a reader
     ];
     for (place, byte, cause) in cases {
-        assert!(rt; cause_of(&image_with(place, byte)) == Some(cause), "at {place}");
+        assert!(rt;
+            cause_of(&image_with(place, byte)) == Some(cause),
+            "at {place}"
+        );
     }
     let mut bytes = empty_image();
     bytes[671] ^= 1;

@@ -1,4 +1,4 @@
-use Rattle.image_parts.proofs.FrameLists.{frames_more, rest_fits}
+use Rattle.image_parts.proofs.FrameLists.{rest_fits}
 use Rattle.image_parts.proofs.frames.Frames.next.Goals as goal
 
 pub invariant_of-self : goal.invariant_of-self

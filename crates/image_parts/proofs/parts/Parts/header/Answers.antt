@@ -1,4 +1,4 @@
-use Rattle.std.proofs.Common.{◌≡◌, ℕ, List, length, refl, sym, ap, ◌∙◌}
+use Rattle.std.proofs.Common.{◌≡◌, ℕ, List, refl, sym, ap, ◌∙◌}
 use Rattle.image_parts.specs.Frames.{frames_in}
 use Rattle.image_parts.specs.Rows.{rows_in}
 use Rattle.image_parts.specs.Spans.{spans_in}
