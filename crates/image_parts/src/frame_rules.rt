@@ -91,11 +91,11 @@ fn open_count(frame: &FramePart<'_>) -> u16
 pub(crate) fn frames_keep_rules(parts: &Parts<'_>) -> bool
     ensures { MatchBool result (KeepFrameRules parts.now.frames) (KeepFrameRules parts.now.frames → ⊥) }
 {
-    let mut frames = parts.frames();
+    let frames = parts.frames();
     let count = frames.len();
     let mut number = 0;
     let mut open = 0;
-    while let Some(frame) = frames.next() {
+    for frame in frames {
         if !keeps_rules(number, &frame) {
             return false;
         }

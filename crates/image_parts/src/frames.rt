@@ -1,3 +1,4 @@
+ghost use Rattle.std.specs.Iterator.{YieldsFirst, item_count};
 ghost use Rattle.std.specs.Prelude.{◌≡◌, ℕ, ◌+◌, ◌^◌, ◌<◌, ◌≤◌, ◌≢◌, [], ◌∷◌, List, MatchOption, length, drop};
 ghost use Rattle.image_parts.specs.Frames.{FrameFields, state_of, contents_length, blocks_of, frame_in, frame_length, frames_in, frames_length};
 
@@ -122,11 +123,16 @@ impl<'a> Frames<'a> {
     {
         self.count
     }
+}
 
-    /// The next frame. None where all were given.
-    pub fn next(&mut self) -> Option<FramePart<'a>>
-        ensures { MatchOption result ((self.old ≡ []) × (self.new ≡ [])) (λ frame. self.old ≡ frame ∷ self.new) }
-    {
+impl<'a> Iterator for Frames<'a> {
+    type Item = FramePart<'a>;
+
+    ghost next_gives = { YieldsFirst (λ f. f) };
+
+    ghost remaining = { item_count (λ f. f) };
+
+    fn next(&mut self) -> Option<FramePart<'a>> {
         if self.count == 0 {
             return None;
         }

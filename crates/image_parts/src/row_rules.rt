@@ -21,10 +21,9 @@ fn keeps_rules(header: &Header, object: ObjectId, created: Moment, row: &RowPart
 pub(crate) fn rows_keep_rules(header: &Header, parts: &Parts<'_>) -> bool
     ensures { MatchBool result (KeepRowRules header.now parts.now.rows) (KeepRowRules header.now parts.now.rows → ⊥) }
 {
-    let mut rows = parts.rows();
     let mut object = ObjectId::new(0);
     let mut created = Moment::new(0);
-    while let Some(row) = rows.next() {
+    for row in parts.rows() {
         if !keeps_rules(header, object, created, &row) {
             return false;
         }

@@ -1,3 +1,4 @@
+ghost use Rattle.std.specs.Iterator.{YieldsFirst, item_count};
 ghost use Rattle.std.specs.Prelude.{◌≡◌, ℕ, ◌+◌, ◌*◌, ◌<◌, ◌≤◌, [], ◌∷◌, List, MatchOption, length, drop, slice_index_or};
 ghost use Rattle.image_parts.specs.Rows.{row_in, rows_in};
 
@@ -70,11 +71,16 @@ impl<'a> Rows<'a> {
     {
         self.count
     }
+}
 
-    /// The next row. None where all were given.
-    pub fn next(&mut self) -> Option<RowPart>
-        ensures { MatchOption result ((self.old ≡ []) × (self.new ≡ [])) (λ row. self.old ≡ row ∷ self.new) }
-    {
+impl<'a> Iterator for Rows<'a> {
+    type Item = RowPart;
+
+    ghost next_gives = { YieldsFirst (λ r. r) };
+
+    ghost remaining = { item_count (λ r. r) };
+
+    fn next(&mut self) -> Option<RowPart> {
         if self.count == 0 {
             return None;
         }

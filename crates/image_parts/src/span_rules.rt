@@ -46,7 +46,7 @@ fn follow(header: &Header, parts: &Parts<'_>) -> bool
     }
     let mut before = first;
     let mut nth = 1;
-    while let Some(span) = spans.next() {
+    for span in spans {
         if !keeps_rules(header, &span) {
             return false;
         }

@@ -1,3 +1,4 @@
+ghost use Rattle.std.specs.Iterator.{YieldsFirst, item_count};
 ghost use Rattle.std.specs.Prelude.{◌≡◌, ℕ, ◌*◌, ◌≤◌, [], ◌∷◌, List, MatchOption, length, drop};
 ghost use Rattle.image_parts.specs.Spans.{span_in, spans_in};
 
@@ -55,11 +56,16 @@ impl<'a> Spans<'a> {
     {
         self.count
     }
+}
 
-    /// The next span. None where all were given.
-    pub fn next(&mut self) -> Option<Span>
-        ensures { MatchOption result ((self.old ≡ []) × (self.new ≡ [])) (λ span. self.old ≡ span ∷ self.new) }
-    {
+impl<'a> Iterator for Spans<'a> {
+    type Item = Span;
+
+    ghost next_gives = { YieldsFirst (λ s. s) };
+
+    ghost remaining = { item_count (λ s. s) };
+
+    fn next(&mut self) -> Option<Span> {
         if self.count == 0 {
             return None;
         }

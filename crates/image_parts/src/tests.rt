@@ -40,16 +40,11 @@ fn a_new_drive_is_read(rt: HostRuntime) {
     let header = parts.header();
     assert!(rt; header.frames == 16 && header.window == 100 && header.next.number() == 1);
     assert!(rt; header.clock.number() == 0 && header.rows == 0 && header.spans == 0);
-    let mut frames = parts.frames();
-    let mut count = 0u32;
-    for _ in 0..17 {
-        if let Some(frame) = frames.next() {
-            assert!(rt; frame.word() == 1 << 32 && frame.blocks().is_empty());
-            count += 1;
-        }
+    assert!(rt; parts.frames().count() == 16);
+    for frame in parts.frames() {
+        assert!(rt; frame.word() == 1 << 32 && frame.blocks().is_empty());
     }
-    assert!(rt; count == 16);
-    assert!(rt; parts.rows().next().is_none() && parts.spans().next().is_none());
+    assert!(rt; parts.rows().count() == 0 && parts.spans().count() == 0);
 }
 
 #[test]

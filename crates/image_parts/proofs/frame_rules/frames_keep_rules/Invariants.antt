@@ -4,10 +4,7 @@ use Rattle.image_parts.proofs.frame_rules.frames_keep_rules.Given as goal
 
 abbrev pub invariant-loop-frame : goal.invariant-loop-frame
 invariant-loop-frame l = record {
-  judged : Judged l.parts.frames l.number l.open l.frames;
-  place : l.number + length l.frames ≡ l.count;
+  judged : Judged l.parts.frames l.number l.open l.frame-iterator;
+  place : l.number + length l.frame-iterator ≡ l.count;
   few : l.open ≤ 1;
 }
-
-abbrev pub decreases-loop-frame : goal.decreases-loop-frame
-decreases-loop-frame l = length l.frames
