@@ -6,7 +6,7 @@ use Rattle.std.proofs.Math.Seq.{take-add}
 use Rattle.std.proofs.lemmas.List.{take_at, drop_at, drop-drop, length-take}
 use Rattle.std.proofs.lemmas.List.Concat.{flat_map-cons}
 use Rattle.codec.specs.Fields.{number}
-use Rattle.codec.proofs.Exact.{IsBytes}
+use Rattle.codec.proofs.Exact.{IsBytes, bytes_before}
 use Rattle.image_parts.specs.Header.{number_in}
 use Rattle.image_parts.specs.Frames.{FrameFields, IsFrame, contents_length, frame_bytes, frame_in, frame_length, frames_in, frames_length}
 use Rattle.image_parts.proofs.NumberLaws.{bytes_after, long_again, long_behind, long_length, long_back, long_below}
@@ -30,7 +30,7 @@ frames_back (suc n) bytes h le =
 frame_is : (bytes : List ℕ) → IsBytes bytes → frame_length bytes ≤ length bytes → IsFrame (frame_in bytes)
 frame_is bytes h le =
     let c = contents_length (number_in w64 bytes) in
-    record { word = long_below bytes h; contents = omega (arith, le, length-take c (drop 8 bytes), length-drop 8 bytes) }
+    record { word = long_below bytes h; contents = omega (arith, le, length-take c (drop 8 bytes), length-drop 8 bytes); bytes = bytes_before c (drop 8 bytes) (bytes_after 8 bytes h) }
 
 pub frames_are : (n : ℕ) (bytes : List ℕ) → IsBytes bytes → frames_length n bytes ≤ length bytes → AllByRecursion IsFrame (frames_in n bytes)
 frames_are zero bytes h le = tt

@@ -9,3 +9,4 @@ pub mod HeaderLaws
 pub mod RowLaws
 pub mod FrameLaws
 pub mod ImageLaws
+pub mod SpanCounts

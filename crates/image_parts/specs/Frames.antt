@@ -4,7 +4,7 @@ use Rattle.std.specs.Int.{w64}
 use Rattle.std.specs.Simd.{first_chunks}
 use Rattle.codec.specs.Fields.{number}
 use Rattle.codec.specs.Summary.{SummaryFields, SpellsSummary}
-use Rattle.image_parts.specs.Header.{number_in}
+use Rattle.image_parts.specs.Header.{AreBytes, number_in}
 
 -- a frame: its word, and the bytes of its 16 blocks, or none where it is free
 pub record FrameFields : Type 0 where
@@ -39,6 +39,7 @@ frame_bytes f = number w64 f.word ++ f.contents
 pub record IsFrame (f : FrameFields) : Type 0 where
   pub word : f.word < 2 ^ 64
   pub contents : length f.contents ≡ contents_length f.word
+  pub bytes : AreBytes f.contents
 
 -- ---- reading
 

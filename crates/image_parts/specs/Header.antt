@@ -1,9 +1,13 @@
 -- The header of an image: how it is spelled in 512 bytes, how it is read from them, and its rules.
-use Rattle.std.specs.Prelude.{◌≡◌, ℕ, ◌-◌, ◌≤◌, List, ◌∷◌, ◌++◌, take, drop}
+use Rattle.std.specs.Prelude.{◌≡◌, ℕ, ◌-◌, ◌<◌, ◌≤◌, List, ◌∷◌, ◌++◌, take, drop, slice_index}
 use Rattle.std.specs.Int.{Width, w16, w32, w64, byte_len, from_be_bytes}
 use Rattle.s4_types.specs.Sizes.{IsFrameCount}
 use Rattle.codec.specs.Fields.{number, zeros}
 use Rattle.image_parts.specs.declared.headers.Header.{Header}
+
+-- the numbers of a list are bytes
+abbrev pub AreBytes : List ℕ → Type 0
+AreBytes bytes = (i : ℕ) → slice_index bytes i < 256
 
 -- the number that bytes begin with; what is beyond their end counts as zeros
 unfoldable pub number_in : Width → List ℕ → ℕ

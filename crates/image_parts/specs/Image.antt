@@ -1,5 +1,5 @@
 -- An image: its parts, the one list of bytes that they give, and the parts that bytes give.
-use Rattle.std.specs.Prelude.{◌≡◌, ℕ, ◌+◌, ◌*◌, ◌^◌, ◌<◌, List, ◌++◌, length, drop, slice_index}
+use Rattle.std.specs.Prelude.{◌≡◌, ℕ, ◌+◌, ◌*◌, ◌^◌, ◌<◌, List, ◌++◌, length, drop}
 use Rattle.std.specs.List.{flat_map, AllByRecursion}
 use Rattle.sha2.specs.Sha256.{sha256}
 use Rattle.s4_types.specs.declared.spans.Span.{Span}
@@ -58,10 +58,6 @@ pub record KeepsRules (image : Image) : Type 0 where
   pub frames : KeepFrameRules image.frames
   pub spans : KeepSpanRules (header_of image) image.spans
   pub rows : KeepRowRules (header_of image) image.rows
-
--- the numbers of a list are bytes
-abbrev pub AreBytes : List ℕ → Type 0
-AreBytes bytes = (i : ℕ) → slice_index bytes i < 256
 
 -- the bytes spell this image, which keeps the rules
 pub record SpellsImage (bytes : List ℕ) (image : Image) : Type 0 where

@@ -1,5 +1,5 @@
 -- The spans of an image: how each is spelled and read, and their rules.
-use Rattle.std.specs.Prelude.{◌≡◌, ◌⊎◌, ℕ, zero, suc, ◌+◌, ◌^◌, ◌<◌, ◌≤◌, List, [], ◌∷◌, ◌++◌, length, drop}
+use Rattle.std.specs.Prelude.{◌≡◌, ◌⊎◌, ℕ, zero, suc, ◌+◌, ◌^◌, ◌<◌, ◌≤◌, List, [], ◌∷◌, ◌++◌, length, drop, count_by, ◌==◌}
 use Rattle.std.specs.Int.{w64}
 use Rattle.s4_types.specs.declared.limits.TheConstants.{RUNS_IN_A_LIST, RUNS_IN_ALL}
 use Rattle.s4_types.specs.declared.spans.Span.{Span}
@@ -62,3 +62,7 @@ SpansKeep h (s ∷ spans) = KeepsSpanRules h s × SpansFollow h s 1 spans
 pub record KeepSpanRules (h : Header) (spans : List Span) : Type 0 where
   pub each : SpansKeep h spans
   pub few : length spans ≤ RUNS_IN_ALL
+
+-- how many spans an object's list has; number 0 is that of all objects
+abbrev pub span_count : ℕ → List Span → ℕ
+span_count object spans = count_by (λ s. s.object == object) spans

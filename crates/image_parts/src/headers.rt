@@ -41,7 +41,7 @@ fn numbers_in(bytes: &[u8]) -> Header
 
 /// The one spelling of a header.
 #[tactic(auto, unfolding(crate::specs::Header::header_bytes))]
-fn spelling_of(header: &Header) -> Writing
+pub(crate) fn spelling_of(header: &Header) -> Writing
     ensures { result.items ≡ header_bytes header.now }
 {
     let mut out = Writing::new();

@@ -5,6 +5,7 @@ mod digests;
 mod frame_rules;
 mod frames;
 mod headers;
+mod image_writing;
 pub mod laws;
 mod numbers;
 mod parts;
@@ -19,6 +20,7 @@ mod writing;
 
 pub use frames::{FramePart, Frames};
 pub use headers::Header;
+pub use image_writing::{push_digest, push_frame, push_header, push_row, push_span};
 pub use parts::Parts;
 pub use reading::read_parts;
 pub use rows::{RowPart, Rows};

@@ -1,9 +1,13 @@
 ghost use Rattle.std.specs.Iterator.{YieldsFirst, item_count};
-ghost use Rattle.std.specs.Prelude.{◌≡◌, ℕ, ◌+◌, ◌*◌, ◌<◌, ◌≤◌, [], ◌∷◌, List, MatchOption, length, drop, slice_index_or};
+ghost use Rattle.std.specs.Prelude.{◌≡◌, ℕ, ◌+◌, ◌*◌, ◌<◌, ◌≤◌, [], ◌∷◌, List, MatchOption, length, drop, slice_get, Option, Some, IfSome};
+ghost use Rattle.std.specs.Int.{w64};
+ghost use Rattle.s4_types.specs.Pointer.{Place};
+ghost use Rattle.codec.specs.Fields.{SpellsSlot, number};
 ghost use Rattle.image_parts.specs.Rows.{row_in, rows_in};
 
 use crate::numbers::long_at;
-use s4_types::{Moment, ObjectId};
+use codec::decode_ptr;
+use s4_types::{Moment, ObjectId, Ptr};
 use std::marker::Model;
 
 /// Bytes of a row.
@@ -20,6 +24,33 @@ pub struct RowPart {
     pub checkpoint_moment: Moment,
     /// The bytes of the pointer to the newest journal block.
     pub head: u64,
+}
+
+/// The pointer, or the hole, that a number's bytes spell. None where they spell neither.
+#[tactic(auto, unfolding(codec::specs::Fields::number))]
+fn slot_of(bytes: u64) -> Option<Option<Ptr>>
+    ensures found { IfSome result (λ ptr. SpellsSlot (number w64 bytes) ptr) }
+    ensures only { (ptr : Option Place) → SpellsSlot (number w64 bytes) ptr → result ≡ Some ptr }
+{
+    decode_ptr(&bytes.to_be_bytes())
+}
+
+impl RowPart {
+    /// The pointer to the checkpoint, or none where it is a hole. None where the bytes spell neither.
+    pub fn checkpoint_slot(&self) -> Option<Option<Ptr>>
+        ensures found { IfSome result (λ ptr. SpellsSlot (number w64 self.now.checkpoint) ptr) }
+        ensures only { (ptr : Option Place) → SpellsSlot (number w64 self.now.checkpoint) ptr → result ≡ Some ptr }
+    {
+        slot_of(self.checkpoint)
+    }
+
+    /// The pointer to the newest journal block, or none where it is a hole. None where the bytes spell neither.
+    pub fn head_slot(&self) -> Option<Option<Ptr>>
+        ensures found { IfSome result (λ ptr. SpellsSlot (number w64 self.now.head) ptr) }
+        ensures only { (ptr : Option Place) → SpellsSlot (number w64 self.now.head) ptr → result ≡ Some ptr }
+    {
+        slot_of(self.head)
+    }
 }
 
 /// The row that the bytes begin with.
@@ -70,6 +101,17 @@ impl<'a> Rows<'a> {
         ensures { result ≡ length self.now }
     {
         self.count
+    }
+
+    /// The row of an index among those that were not given. None behind the last.
+    pub fn get(&self, index: u32) -> Option<RowPart>
+        ensures { result ≡ slice_get self.now index }
+    {
+        if index >= self.count {
+            return None;
+        }
+        let (_, rest) = self.bytes.split_at(ROW_BYTES * index as usize);
+        Some(first_row(rest))
     }
 }
 

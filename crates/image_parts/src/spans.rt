@@ -1,5 +1,5 @@
 ghost use Rattle.std.specs.Iterator.{YieldsFirst, item_count};
-ghost use Rattle.std.specs.Prelude.{◌≡◌, ℕ, ◌*◌, ◌≤◌, [], ◌∷◌, List, MatchOption, length, drop};
+ghost use Rattle.std.specs.Prelude.{◌≡◌, ℕ, ◌*◌, ◌≤◌, [], ◌∷◌, List, length, slice_get};
 ghost use Rattle.image_parts.specs.Spans.{span_in, spans_in};
 
 use crate::numbers::long_at;
@@ -55,6 +55,17 @@ impl<'a> Spans<'a> {
         ensures { result ≡ length self.now }
     {
         self.count
+    }
+
+    /// The span of an index among those that were not given. None behind the last.
+    pub fn get(&self, index: u32) -> Option<Span>
+        ensures { result ≡ slice_get self.now index }
+    {
+        if index >= self.count {
+            return None;
+        }
+        let (_, rest) = self.bytes.split_at(SPAN_BYTES * index as usize);
+        Some(first_span(rest))
     }
 }
 
