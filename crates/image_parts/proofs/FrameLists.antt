@@ -1,12 +1,8 @@
 -- Frames one behind the other, as loops go over them.
-use Rattle.std.proofs.Common.{◌≡◌, ◌≢◌, ℕ, zero, suc, ◌+◌, ◌-◌, ◌<◌, ◌≤◌, List, ◌∷◌, length, drop, refl, sym, ap, ◌∙◌, arith, length-drop, drop-drop}
-use Rattle.image_parts.specs.Frames.{frame_in, frame_length, frames_in, frames_length}
+use Rattle.std.proofs.Common.{◌≡◌, ◌≢◌, ℕ, zero, suc, ◌+◌, ◌-◌, ◌<◌, ◌≤◌, List, length, drop, refl, sym, ap, ◌∙◌, arith, length-drop, drop-drop}
+use Rattle.image_parts.specs.Frames.{frame_length, frames_in, frames_length}
 
-pub frames_more : (count : ℕ) (bytes : List ℕ) → count ≢ 0 → frames_in count bytes ≡ frame_in bytes ∷ frames_in (count - 1) (drop (frame_length bytes) bytes)
-frames_more zero bytes some = absurd (some refl)
-frames_more (suc n) bytes some = let k : suc n - 1 ≡ n = omega arith in rw k refl
-
-pub length_more : (count : ℕ) (bytes : List ℕ) → count ≢ 0 → frames_length count bytes ≡ frame_length bytes + frames_length (count - 1) (drop (frame_length bytes) bytes)
+length_more : (count : ℕ) (bytes : List ℕ) → count ≢ 0 → frames_length count bytes ≡ frame_length bytes + frames_length (count - 1) (drop (frame_length bytes) bytes)
 length_more zero bytes some = absurd (some refl)
 length_more (suc n) bytes some = let k : suc n - 1 ≡ n = omega arith in rw k refl
 
@@ -15,10 +11,6 @@ pub rest_fits : (count : ℕ) (bytes rest : List ℕ) → count ≢ 0 → frames
 rest_fits count bytes rest some fits is =
     let more = length_more count bytes some in
     rw is (omega (arith, fits, more, length-drop (frame_length bytes) bytes))
-
--- where frames fit, so does the first
-pub first_fits : (count : ℕ) (bytes : List ℕ) → count ≢ 0 → frames_length count bytes ≤ length bytes → frame_length bytes ≤ length bytes
-first_fits count bytes some fits = let more = length_more count bytes some in omega (arith, fits, more)
 
 -- so many of the frames were passed, and the others stand here
 pub record Passed (count i : ℕ) (bytes rest : List ℕ) : Type 0 where

@@ -1,5 +1,5 @@
 -- Rows and spans one behind the other, as loops go over them.
-use Rattle.std.proofs.Common.{◌≡◌, ◌≢◌, ℕ, zero, suc, ◌+◌, ◌-◌, ◌*◌, ◌<◌, ◌≤◌, List, [], ◌∷◌, length, drop, Option, Some, None, refl, sym, ap, ◌∙◌, arith}
+use Rattle.std.proofs.Common.{◌≡◌, ◌≢◌, ℕ, zero, suc, ◌+◌, ◌-◌, ◌*◌, ◌<◌, ◌≤◌, List, [], ◌∷◌, length, drop, Some, None, refl, sym, ap, ◌∙◌, arith}
 use Rattle.s4_types.specs.declared.spans.Span.{Span}
 use Rattle.std.specs.List.{slice_get}
 use Rattle.std.proofs.lemmas.List.{drop-drop}
@@ -26,7 +26,7 @@ spans_count (suc n) bytes = omega (arith, spans_count n (drop 24 bytes))
 -- ---- by index
 
 module _ {X : Type 0} (width : ℕ) (first : List ℕ → X) (firsts : ℕ → List ℕ → List X)
-         (none : (bytes : List ℕ) → firsts 0 bytes ≡ []) (more : (n : ℕ) (bytes : List ℕ) → firsts (suc n) bytes ≡ first bytes ∷ firsts n (drop width bytes)) where
+    (none : (bytes : List ℕ) → firsts 0 bytes ≡ []) (more : (n : ℕ) (bytes : List ℕ) → firsts (suc n) bytes ≡ first bytes ∷ firsts n (drop width bytes)) where
   got : (count index : ℕ) (bytes : List ℕ) → index < count → slice_get (firsts count bytes) index ≡ Some (first (drop (width * index) bytes))
   got zero index bytes lt = absurd (omega (arith, lt))
   got (suc n) zero bytes lt =

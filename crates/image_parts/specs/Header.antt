@@ -16,7 +16,9 @@ number_in w bytes = from_be_bytes w (take (byte_len w) bytes)
 -- the 512 bytes of a header: "S4IMAGE1", the numbers, and zeros
 unfoldable pub header_bytes : Header → List ℕ
 header_bytes h =
-    0x53 ∷ 0x34 ∷ 0x49 ∷ 0x4d ∷ 0x41 ∷ 0x47 ∷ 0x45 ∷ 0x31 ∷ (number w16 h.frames ++ (zeros 6 ++ (number w64 h.clock ++ (number w64 h.window ++ (number w64 h.floor ++ (number w64 h.next ++ (number w32 h.rows ++ (number w32 h.spans ++ zeros 456))))))))
+    0x53 ∷ 0x34 ∷ 0x49 ∷ 0x4d ∷ 0x41 ∷ 0x47 ∷ 0x45 ∷ 0x31 ∷
+    (number w16 h.frames ++ (zeros 6 ++ (number w64 h.clock ++ (number w64 h.window ++ (number w64 h.floor ++
+    (number w64 h.next ++ (number w32 h.rows ++ (number w32 h.spans ++ zeros 456))))))))
 
 -- the numbers that stand in the places of a header's, whatever the bytes are
 unfoldable pub header_in : List ℕ → Header

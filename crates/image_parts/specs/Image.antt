@@ -36,7 +36,9 @@ header_of image = record {
 
 -- all bytes in front of the digest
 unfoldable pub front_bytes : Image → List ℕ
-front_bytes image = header_bytes (header_of image) ++ (flat_map frame_bytes image.frames ++ (flat_map row_bytes image.rows ++ flat_map span_bytes image.spans))
+front_bytes image =
+    header_bytes (header_of image) ++ (flat_map frame_bytes image.frames ++
+    (flat_map row_bytes image.rows ++ flat_map span_bytes image.spans))
 
 -- the bytes of an image: its parts, and SHA-256 of all of them
 unfoldable pub image_bytes : Image → List ℕ
@@ -93,4 +95,6 @@ image_in bytes = record {
 
 -- how many bytes the parts have with the digest, as the header and the words of the frames tell
 abbrev pub parts_length : List ℕ → ℕ
-parts_length bytes = 512 + frames_length (header_in bytes).frames (behind_header bytes) + 40 * (header_in bytes).rows + 24 * (header_in bytes).spans + 32
+parts_length bytes =
+    512 + frames_length (header_in bytes).frames (behind_header bytes)
+    + 40 * (header_in bytes).rows + 24 * (header_in bytes).spans + 32

@@ -8,7 +8,9 @@ use Rattle.image_parts.specs.declared.rows.RowPart.{RowPart}
 
 -- the 40 bytes of a row
 unfoldable pub row_bytes : RowPart → List ℕ
-row_bytes r = number w64 r.object ++ (number w64 r.created ++ (number w64 r.checkpoint ++ (number w64 r.checkpoint_moment ++ number w64 r.head)))
+row_bytes r =
+    number w64 r.object ++ (number w64 r.created ++ (number w64 r.checkpoint ++
+    (number w64 r.checkpoint_moment ++ number w64 r.head)))
 
 -- a row has a spelling: its numbers are in their ranges
 pub record IsRow (r : RowPart) : Type 0 where
