@@ -3,7 +3,7 @@ use Rattle.std.proofs.Common.{◌≡◌, ℕ, ◌^◌, ◌<◌, List, ◌++◌, 
 use Rattle.std.specs.Int.{w32, w64}
 use Rattle.std.proofs.lemmas.Nat.{from_be_bytes-to_be_bytes_2, from_be_bytes-to_be_bytes_4, from_be_bytes-to_be_bytes_8}
 use Rattle.codec.specs.Fields.{number, zeros}
-use Rattle.codec.proofs.Zeros.{zeros_length}
+use Rattle.image_parts.proofs.Zeros.{zeros_length}
 use Rattle.image_parts.specs.Header.{number_in, header_bytes, header_in}
 use Rattle.image_parts.specs.declared.headers.Header.{Header}
 

@@ -7,7 +7,7 @@ use Rattle.std.proofs.Math.Seq.{take-add}
 use Rattle.std.proofs.lemmas.List.{take-append-drop, take_at, drop_at}
 use Rattle.sha2.specs.Sha256.{sha256, digest_bytes, final_hash, initial_hash_256}
 use Rattle.s4_types.specs.declared.spans.Span.{Span}
-use Rattle.codec.proofs.Exact.{IsBytes}
+use Rattle.image_parts.proofs.Bytes.{IsBytes, bytes_after}
 use Rattle.image_parts.specs.Header.{header_bytes, header_in, KeepsHeaderRules, HasHeader}
 use Rattle.image_parts.specs.Frames.{FrameFields, frame_bytes, frames_in, frames_length, KeepFrameRules}
 use Rattle.image_parts.specs.Rows.{row_bytes, rows_in, KeepRowRules}
@@ -17,7 +17,7 @@ use Rattle.image_parts.specs.Causes.{IsLong, IsFilled, HasDigest, FirstCause}
 use Rattle.image_parts.specs.declared.headers.Header.{Header}
 use Rattle.image_parts.specs.declared.rows.RowPart.{RowPart}
 use Rattle.image_parts.proofs.CauseLaws.{all_hold}
-use Rattle.image_parts.proofs.NumberLaws.{bytes_after, long_below, word_below}
+use Rattle.image_parts.proofs.NumberLaws.{long_below, word_below}
 use Rattle.image_parts.proofs.HeaderLaws.{IsHeader, header_again, header_length}
 use Rattle.image_parts.proofs.FrameLists.{frames_count}
 use Rattle.image_parts.proofs.FrameLaws.{AllRead, frames_back, frames_are, frames_again}

@@ -1,3 +1,5 @@
+pub mod Bytes
+pub mod Zeros
 pub mod FrameLists
 pub mod RowLists
 pub mod FrameRules

@@ -1,16 +1,11 @@
 -- Numbers that are spelled are read, and numbers that are read are spelled.
-use Rattle.std.proofs.Common.{◌≡◌, ℕ, ◌^◌, ◌<◌, ◌≤◌, List, ◌++◌, length, take, drop, refl, sym, arith}
+use Rattle.std.proofs.Common.{◌≡◌, ℕ, ◌^◌, ◌<◌, ◌≤◌, List, ◌++◌, length, take, drop, refl, arith}
 use Rattle.std.specs.Int.{w32, w64}
-use Rattle.std.proofs.lemmas.List.{take-append-drop, length-take}
+use Rattle.std.proofs.lemmas.List.{length-take}
 use Rattle.std.proofs.lemmas.Nat.{be_bytes_8, from_be_bytes-to_be_bytes_8}
 use Rattle.codec.specs.Fields.{number}
-use Rattle.codec.proofs.Exact.{IsBytes, bytes_before, bytes_behind}
+use Rattle.image_parts.proofs.Bytes.{IsBytes, bytes_before}
 use Rattle.image_parts.specs.Header.{number_in}
-
-pub bytes_after : (n : ℕ) (bytes : List ℕ) → IsBytes bytes → IsBytes (drop n bytes)
-bytes_after n bytes h = bytes_behind (take n bytes) (drop n bytes) bytes (sym (take-append-drop n bytes)) h
-
--- ---- eight bytes
 
 pub long_again : (n : ℕ) (rest : List ℕ) → n < 2 ^ 64 → number_in w64 (number w64 n ++ rest) ≡ n
 unfolding number number_in

@@ -8,12 +8,12 @@ use Rattle.std.proofs.lemmas.List.Concat.{flat_map-cons}
 use Rattle.std.proofs.lemmas.Nat.{from_be_bytes-to_be_bytes_8}
 use Rattle.s4_types.specs.declared.spans.Span.{Span}
 use Rattle.codec.specs.Fields.{number}
-use Rattle.codec.proofs.Exact.{IsBytes}
+use Rattle.image_parts.proofs.Bytes.{IsBytes, bytes_after}
 use Rattle.image_parts.specs.Header.{number_in}
 use Rattle.image_parts.specs.Rows.{IsRow, row_bytes, row_in, rows_in}
 use Rattle.image_parts.specs.Spans.{IsSpan, span_bytes, span_in, spans_in}
 use Rattle.image_parts.specs.declared.rows.RowPart.{RowPart}
-use Rattle.image_parts.proofs.NumberLaws.{bytes_after, long_back, long_below}
+use Rattle.image_parts.proofs.NumberLaws.{long_back, long_below}
 
 -- ---- parts of one width, one behind the other
 
