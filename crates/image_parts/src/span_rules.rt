@@ -33,7 +33,7 @@ fn place_behind(before: &Span, nth: usize, span: &Span) -> Option<usize>
     Some(nth + 1)
 }
 
-/// Whether all spans that are left keep the rules behind a first one.
+/// Whether each span keeps the rules, by itself and behind the one before it.
 fn follow(header: &Header, parts: &Parts<'_>) -> bool
     ensures { MatchBool result (SpansKeep header.now parts.now.spans) (SpansKeep header.now parts.now.spans → ⊥) }
 {
@@ -59,7 +59,7 @@ fn follow(header: &Header, parts: &Parts<'_>) -> bool
     true
 }
 
-/// Whether the spans keep the rules, each by itself and behind the one before it.
+/// Whether the spans keep the rules, and are no more than an image may have.
 pub(crate) fn spans_keep_rules(header: &Header, parts: &Parts<'_>) -> bool
     ensures { MatchBool result (KeepSpanRules header.now parts.now.spans) (KeepSpanRules header.now parts.now.spans → ⊥) }
 {
