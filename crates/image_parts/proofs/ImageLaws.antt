@@ -1,0 +1,290 @@
+-- Bytes that no test refuses spell the image that is read from them, and what spells an image is read as that image.
+use Rattle.std.proofs.Common.{◌≡◌, ℕ, zero, suc, ◌+◌, ◌-◌, ◌*◌, ◌≤◌, List, ◌++◌, length, take, drop, None, refl, sym, ap, subst, ◌∙◌, arith, inl, inr, append_assoc, length-append, length-drop}
+use Rattle.std.specs.Prelude.{slice_index}
+use Rattle.std.specs.Int.{w32, to_be_bytes}
+use Rattle.std.specs.List.{flat_map}
+use Rattle.std.proofs.Math.Seq.{take-add}
+use Rattle.std.proofs.lemmas.List.{take-append-drop, take_at, drop_at}
+use Rattle.sha2.specs.Sha256.{sha256, digest_bytes, final_hash, initial_hash_256}
+use Rattle.s4_types.specs.declared.spans.Span.{Span}
+use Rattle.image_parts.proofs.Bytes.{IsBytes, bytes_after}
+use Rattle.image_parts.specs.Header.{header_bytes, header_in, KeepsHeaderRules, HasHeader}
+use Rattle.image_parts.specs.Frames.{FrameFields, frame_bytes, frames_in, frames_length, KeepFrameRules}
+use Rattle.image_parts.specs.Rows.{row_bytes, rows_in, KeepRowRules}
+use Rattle.image_parts.specs.Spans.{span_bytes, spans_in, KeepSpanRules}
+use Rattle.image_parts.specs.Image.{Image, IsImage, KeepsRules, SpellsImage, header_of, front_bytes, image_bytes, image_in, behind_header, behind_frames, behind_rows}
+use Rattle.image_parts.specs.Causes.{IsLong, IsFilled, HasDigest, FirstCause}
+use Rattle.image_parts.specs.declared.headers.Header.{Header}
+use Rattle.image_parts.specs.declared.rows.RowPart.{RowPart}
+use Rattle.image_parts.proofs.CauseLaws.{all_hold}
+use Rattle.image_parts.proofs.NumberLaws.{long_below, word_below}
+use Rattle.image_parts.proofs.HeaderLaws.{IsHeader, header_again, header_length}
+use Rattle.image_parts.proofs.FrameLists.{frames_count}
+use Rattle.image_parts.proofs.FrameLaws.{AllRead, frames_back, frames_are, frames_again}
+use Rattle.image_parts.proofs.RowLists.{rows_count, spans_count}
+use Rattle.image_parts.proofs.RowLaws.{rows_back, rows_are, rows_again, rows_length, spans_back, spans_are, spans_again, spans_length}
+
+words_length : (h : List ℕ) (n : ℕ) → length (digest_bytes h n) ≡ 4 * n
+unfolding digest_bytes
+words_length h zero = refl
+words_length h (suc n) = omega (arith, length-append (digest_bytes h n) (to_be_bytes w32 (slice_index h n)), words_length h n)
+
+digest_length : (m : List ℕ) → length (sha256 m) ≡ 32
+unfolding sha256
+digest_length m = words_length (final_hash initial_hash_256 m) 8
+
+-- ---- bytes that no test refuses
+
+-- what all tests say
+pub record AllHold (bytes : List ℕ) : Type 0 where
+  pub long : IsLong bytes
+  pub header : HasHeader bytes
+  pub filled : IsFilled bytes
+  pub digest : HasDigest bytes
+  pub frames : KeepFrameRules (image_in bytes).frames
+  pub spans : KeepSpanRules (header_in bytes) (image_in bytes).spans
+  pub rows : KeepRowRules (header_in bytes) (image_in bytes).rows
+
+pub they_hold : (bytes : List ℕ) → FirstCause bytes None → AllHold bytes
+they_hold bytes (inl (bad, e)) = absurd cc
+they_hold bytes (inr (long, inl (bad, e))) = absurd cc
+they_hold bytes (inr (long, inr (header, inl (bad, e)))) = absurd cc
+they_hold bytes (inr (long, inr (header, inr (filled, inl (bad, e))))) = absurd cc
+they_hold bytes (inr (long, inr (header, inr (filled, inr (digest, inl (bad, e)))))) = absurd cc
+they_hold bytes (inr (long, inr (header, inr (filled, inr (digest, inr (frames, inl (bad, e))))))) = absurd cc
+they_hold bytes (inr (long, inr (header, inr (filled, inr (digest, inr (frames, inr (spans, inl (bad, e)))))))) = absurd cc
+they_hold bytes (inr (long, inr (header, inr (filled, inr (digest, inr (frames, inr (spans, inr (rows, e)))))))) =
+    record { long = long; header = header; filled = filled; digest = digest; frames = frames; spans = spans; rows = rows }
+
+-- four parts one behind the other
+four : (a b c d : ℕ) (bytes : List ℕ) → take a bytes ++ (take b (drop a bytes) ++ (take c (drop b (drop a bytes)) ++ take d (drop c (drop b (drop a bytes))))) ≡ take (a + (b + (c + d))) bytes
+four a b c d bytes =
+    let one = drop a bytes in
+    let two = drop b one in
+    let last : take c two ++ take d (drop c two) ≡ take (c + d) two = sym (take-add c d two) in
+    let middle : take b one ++ take (c + d) two ≡ take (b + (c + d)) one = sym (take-add b (c + d) one) in
+    rw (last, middle) (sym (take-add a (b + (c + d)) bytes))
+
+-- the parts fit the bytes
+record PartsFit (bytes : List ℕ) : Type 0 where
+  frames : frames_length (header_in bytes).frames (behind_header bytes) ≤ length (behind_header bytes)
+  rows : 40 * (header_in bytes).rows ≤ length (behind_frames bytes)
+  spans : 24 * (header_in bytes).spans ≤ length (behind_rows bytes)
+  whole : length bytes - 32 ≡ 512 + (frames_length (header_in bytes).frames (behind_header bytes) + (40 * (header_in bytes).rows + 24 * (header_in bytes).spans))
+
+parts_fit : (bytes : List ℕ) → IsFilled bytes → PartsFit bytes
+parts_fit bytes filled =
+    let size = frames_length (header_in bytes).frames (behind_header bytes) in
+    let rows = 40 * (header_in bytes).rows in
+    let spans = 24 * (header_in bytes).spans in
+    let first : length (behind_header bytes) ≡ length bytes - 512 = length-drop 512 bytes in
+    let second : length (behind_frames bytes) ≡ length (behind_header bytes) - size = length-drop size (behind_header bytes) in
+    let third : length (behind_rows bytes) ≡ length (behind_frames bytes) - rows = length-drop rows (behind_frames bytes) in
+    let all : length bytes ≡ 512 + size + rows + spans + 32 = filled in
+    record {
+      frames = omega (arith, first, all);
+      rows = omega (arith, first, second, all);
+      spans = omega (arith, first, second, third, all);
+      whole = omega (arith, all);
+    }
+
+counted : (bytes : List ℕ) → header_of (image_in bytes) ≡ header_in bytes
+unfolding image_in
+counted bytes =
+    rw (
+      frames_count (header_in bytes).frames (behind_header bytes),
+      rows_count (header_in bytes).rows (behind_frames bytes),
+      spans_count (header_in bytes).spans (behind_rows bytes),
+    ) refl
+
+module _ (bytes : List ℕ) (h : IsBytes bytes) (header : HasHeader bytes) (fit : PartsFit bytes) where
+  front_is : front_bytes (image_in bytes) ≡ take (length bytes - 32) bytes
+  unfolding front_bytes image_in
+  front_is =
+      let size = frames_length (header_in bytes).frames (behind_header bytes) in
+      let rows = 40 * (header_in bytes).rows in
+      let spans = 24 * (header_in bytes).spans in
+      let b1 = bytes_after 512 bytes h in
+      let b2 = bytes_after size (behind_header bytes) b1 in
+      let b3 = bytes_after rows (behind_frames bytes) b2 in
+      let head : header_bytes (header_of (image_in bytes)) ≡ take 512 bytes = ap header_bytes (counted bytes) ∙ sym header.spelled in
+      let first = frames_back (header_in bytes).frames (behind_header bytes) b1 fit.frames in
+      let second = rows_back (header_in bytes).rows (behind_frames bytes) b2 fit.rows in
+      let third = spans_back (header_in bytes).spans (behind_rows bytes) b3 fit.spans in
+      rw (head, first, second, third, fit.whole) (four 512 size rows spans bytes)
+
+  image_is : IsImage (image_in bytes)
+  unfolding image_in header_in
+  image_is =
+      let size = frames_length (header_in bytes).frames (behind_header bytes) in
+      let rows = 40 * (header_in bytes).rows in
+      let b1 = bytes_after 512 bytes h in
+      let b2 = bytes_after size (behind_header bytes) b1 in
+      let b3 = bytes_after rows (behind_frames bytes) b2 in
+      record {
+        clock = long_below (drop 16 bytes) (bytes_after 16 bytes h);
+        window = long_below (drop 24 bytes) (bytes_after 24 bytes h);
+        next = long_below (drop 40 bytes) (bytes_after 40 bytes h);
+        frames = frames_are (header_in bytes).frames (behind_header bytes) b1 fit.frames;
+        rows = rows_are (header_in bytes).rows (behind_frames bytes) b2;
+        spans = spans_are (header_in bytes).spans (behind_rows bytes) b3;
+        row_count = omega (arith, word_below (drop 48 bytes) (bytes_after 48 bytes h), rows_count (header_in bytes).rows (behind_frames bytes));
+      }
+
+spelled_by : (bytes front : List ℕ) → HasDigest bytes → front ≡ take (length bytes - 32) bytes → bytes ≡ front ++ sha256 front
+spelled_by bytes front digest is =
+    let n = length bytes - 32 in
+    sym (take-append-drop n bytes) ∙ ap (λ (d : List ℕ). take n bytes ++ d) digest ∙ ap (λ (f : List ℕ). f ++ sha256 f) (sym is)
+
+pub found : (bytes : List ℕ) → IsBytes bytes → FirstCause bytes None → SpellsImage bytes (image_in bytes)
+unfolding image_bytes
+found bytes h none =
+    let all = they_hold bytes none in
+    let fit = parts_fit bytes all.filled in
+    let same = sym (counted bytes) in
+    record {
+      is = image_is bytes h all.header fit;
+      rules = record {
+        header = subst KeepsHeaderRules same all.header.rules;
+        frames = all.frames;
+        spans = subst (λ (k : Header). KeepSpanRules k (image_in bytes).spans) same all.spans;
+        rows = subst (λ (k : Header). KeepRowRules k (image_in bytes).rows) same all.rows;
+      };
+      spelled = spelled_by bytes (front_bytes (image_in bytes)) all.digest (front_is bytes h all.header fit);
+    }
+
+-- what a reader has found, of the bytes whose parts these are
+pub found_by : (bytes : List ℕ) (image : Image) (h : Header) → IsBytes bytes → image ≡ image_in bytes → h ≡ header_in bytes → IsLong bytes → HasHeader bytes → IsFilled bytes → HasDigest bytes
+    → KeepFrameRules image.frames → KeepSpanRules h image.spans → KeepRowRules h image.rows → SpellsImage bytes image
+found_by bytes image h b is head long header filled digest frames spans rows =
+    let all_frames = subst (λ (i : Image). KeepFrameRules i.frames) is frames in
+    let all_spans = subst (λ (k : Header). KeepSpanRules k (image_in bytes).spans) head (subst (λ (i : Image). KeepSpanRules h i.spans) is spans) in
+    let all_rows = subst (λ (k : Header). KeepRowRules k (image_in bytes).rows) head (subst (λ (i : Image). KeepRowRules h i.rows) is rows) in
+    subst (SpellsImage bytes) (sym is) (found bytes b (all_hold bytes long header filled digest all_frames all_spans all_rows))
+
+-- ---- bytes that spell an image
+
+abbrev behind_spans : Image → List ℕ
+behind_spans image = sha256 (front_bytes image)
+
+abbrev from_spans : Image → List ℕ
+from_spans image = flat_map span_bytes image.spans ++ behind_spans image
+
+abbrev from_rows : Image → List ℕ
+from_rows image = flat_map row_bytes image.rows ++ from_spans image
+
+abbrev from_frames : Image → List ℕ
+from_frames image = flat_map frame_bytes image.frames ++ from_rows image
+
+regrouped : (image : Image) → image_bytes image ≡ header_bytes (header_of image) ++ from_frames image
+unfolding image_bytes front_bytes
+regrouped image =
+    let a = flat_map frame_bytes image.frames in
+    let b = flat_map row_bytes image.rows in
+    let c = flat_map span_bytes image.spans in
+    let d = sha256 (front_bytes image) in
+    append_assoc (header_bytes (header_of image)) (a ++ (b ++ c)) d
+    ∙ ap (λ (t : List ℕ). header_bytes (header_of image) ++ t) (append_assoc a (b ++ c) d ∙ ap (λ (t : List ℕ). a ++ t) (append_assoc b c d))
+
+made : ℕ → ℕ → ℕ → ℕ → List FrameFields → List RowPart → List Span → Image
+made clock window floor next frames rows spans = record { clock = clock; window = window; floor = floor; next = next; frames = frames; rows = rows; spans = spans }
+
+same : (a b c d a' b' c' d' : ℕ) (f f' : List FrameFields) (r r' : List RowPart) (s s' : List Span) → a ≡ a' → b ≡ b' → c ≡ c' → d ≡ d' → f ≡ f' → r ≡ r' → s ≡ s' → made a b c d f r s ≡ made a' b' c' d' f' r' s'
+same a b c d a' b' c' d' f f' r r' s s' p q t u v w x = cc
+
+header_numbers : (image : Image) → IsImage image → KeepsRules image → IsHeader (header_of image)
+header_numbers image is rules = record {
+  frames = omega (arith, rules.header.frames.1);
+  clock = is.clock;
+  window = is.window;
+  floor = omega (arith, rules.header.floor, is.clock);
+  next = is.next;
+  rows = is.row_count;
+  spans = omega (arith, rules.spans.few);
+}
+
+module _ (bytes : List ℕ) (image : Image) (is : IsImage image) (rules : KeepsRules image) (e : bytes ≡ header_bytes (header_of image) ++ from_frames image) where
+  header_is : header_in bytes ≡ header_of image
+  header_is = ap header_in e ∙ header_again (header_of image) (from_frames image) (header_numbers image is rules)
+
+  first_is : behind_header bytes ≡ from_frames image
+  first_is = ap (λ (b : List ℕ). drop 512 b) e ∙ drop_at (header_bytes (header_of image)) (from_frames image) 512 (header_length (header_of image))
+
+  read : AllRead image.frames (from_frames image)
+  read = frames_again image.frames (from_rows image) is.frames
+
+  size_is : frames_length (header_in bytes).frames (behind_header bytes) ≡ length (flat_map frame_bytes image.frames)
+  size_is = rw (header_is, first_is) read.size
+
+  second_is : behind_frames bytes ≡ from_rows image
+  second_is = rw (size_is, first_is) (drop_at (flat_map frame_bytes image.frames) (from_rows image) (length (flat_map frame_bytes image.frames)) refl)
+
+  third_is : behind_rows bytes ≡ from_spans image
+  third_is = rw (second_is, header_is) (drop_at (flat_map row_bytes image.rows) (from_spans image) (40 * length image.rows) (rows_length image.rows))
+
+  frames_same : frames_in (header_in bytes).frames (behind_header bytes) ≡ image.frames
+  frames_same = rw (header_is, first_is) read.are
+
+  rows_same : rows_in (header_in bytes).rows (behind_frames bytes) ≡ image.rows
+  rows_same = rw (second_is, header_is) (rows_again image.rows (from_spans image) is.rows)
+
+  spans_same : spans_in (header_in bytes).spans (behind_rows bytes) ≡ image.spans
+  spans_same = rw (third_is, header_is) (spans_again image.spans (behind_spans image) is.spans)
+
+  image_same : image_in bytes ≡ image
+  unfolding image_in made
+  image_same =
+      same _ _ _ _ image.clock image.window image.floor image.next _ image.frames _ image.rows _ image.spans
+      (ap (λ (h : Header). h.clock) header_is) (ap (λ (h : Header). h.window) header_is) (ap (λ (h : Header). h.floor) header_is) (ap (λ (h : Header). h.next) header_is)
+      frames_same rows_same spans_same
+
+  length_is : length bytes ≡ 512 + length (flat_map frame_bytes image.frames) + 40 * length image.rows + 24 * length image.spans + 32
+  length_is =
+      let head = header_bytes (header_of image) in
+      let all : length bytes ≡ length (head ++ from_frames image) = ap length e in
+      omega (
+        arith,
+        all,
+        length-append head (from_frames image),
+        header_length (header_of image),
+        length-append (flat_map frame_bytes image.frames) (from_rows image),
+        length-append (flat_map row_bytes image.rows) (from_spans image),
+        length-append (flat_map span_bytes image.spans) (behind_spans image),
+        rows_length image.rows,
+        spans_length image.spans,
+        digest_length (front_bytes image),
+      )
+
+  filled : IsFilled bytes
+  filled =
+      let rows : (header_in bytes).rows ≡ length image.rows = ap (λ (h : Header). h.rows) header_is in
+      let spans : (header_in bytes).spans ≡ length image.spans = ap (λ (h : Header). h.spans) header_is in
+      omega (arith, length_is, size_is, rows, spans)
+
+  has_header : HasHeader bytes
+  has_header = record {
+    spelled = ap (λ (b : List ℕ). take 512 b) e ∙ take_at (header_bytes (header_of image)) (from_frames image) 512 (header_length (header_of image)) ∙ ap header_bytes (sym header_is);
+    rules = subst KeepsHeaderRules (sym header_is) rules.header;
+  }
+
+digest_of : (bytes front : List ℕ) → bytes ≡ front ++ sha256 front → HasDigest bytes
+digest_of bytes front e =
+    let len : length bytes - 32 ≡ length front = omega (arith, ap length e, length-append front (sha256 front), digest_length front) in
+    let head : take (length bytes - 32) bytes ≡ front = rw len (ap (λ (b : List ℕ). take (length front) b) e ∙ take_at front (sha256 front) (length front) refl) in
+    let tail : drop (length bytes - 32) bytes ≡ sha256 front = rw len (ap (λ (b : List ℕ). drop (length front) b) e ∙ drop_at front (sha256 front) (length front) refl) in
+    tail ∙ ap sha256 (sym head)
+
+pub again : (bytes : List ℕ) (image : Image) → SpellsImage bytes image → FirstCause bytes None × (image_in bytes ≡ image)
+unfolding image_bytes
+again bytes image s =
+    let e = s.spelled ∙ regrouped image in
+    let here = image_same bytes image s.is s.rules e in
+    let header = header_is bytes image s.is s.rules e in
+    let frames = subst KeepFrameRules (sym (ap (λ (i : Image). i.frames) here)) s.rules.frames in
+    let spans = subst (λ (h : Header). KeepSpanRules h (image_in bytes).spans) (sym header) (subst (KeepSpanRules (header_of image)) (sym (ap (λ (i : Image). i.spans) here)) s.rules.spans) in
+    let rows = subst (λ (h : Header). KeepRowRules h (image_in bytes).rows) (sym header) (subst (KeepRowRules (header_of image)) (sym (ap (λ (i : Image). i.rows) here)) s.rules.rows) in
+    let len = length_is bytes image s.is s.rules e in
+    (all_hold bytes (omega (arith, len)) (has_header bytes image s.is s.rules e) (filled bytes image s.is s.rules e) (digest_of bytes (front_bytes image) s.spelled) frames spans rows, here)
+
+pub one_image : (bytes : List ℕ) (a b : Image) → SpellsImage bytes a → SpellsImage bytes b → a ≡ b
+one_image bytes a b p q = sym (again bytes a p).1 ∙ (again bytes b q).1

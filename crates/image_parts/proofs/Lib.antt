@@ -1,0 +1,14 @@
+pub mod Bytes
+pub mod Zeros
+pub mod FrameLists
+pub mod RowLists
+pub mod FrameRules
+pub mod RowRules
+pub mod SpanRules
+pub mod CauseLaws
+pub mod NumberLaws
+pub mod HeaderLaws
+pub mod RowLaws
+pub mod FrameLaws
+pub mod ImageLaws
+pub mod SpanCounts

@@ -1,0 +1,5 @@
+use Rattle.image_parts.proofs.ImageLaws.{one_image}
+use Rattle.image_parts.proofs.laws.one_image_a_spelling.Goals as goal
+
+pub returns : goal.returns
+returns c = one_image

@@ -1,0 +1,5 @@
+use Rattle.image_parts.proofs.ImageLaws.{found}
+use Rattle.image_parts.proofs.laws.what_no_test_refuses_is_an_image.Goals as goal
+
+pub returns : goal.returns
+returns c = found

@@ -1,0 +1,100 @@
+-- An image: its parts, the one list of bytes that they give, and the parts that bytes give.
+use Rattle.std.specs.Prelude.{◌≡◌, ℕ, ◌+◌, ◌*◌, ◌^◌, ◌<◌, List, ◌++◌, length, drop}
+use Rattle.std.specs.List.{flat_map, AllByRecursion}
+use Rattle.sha2.specs.Sha256.{sha256}
+use Rattle.s4_types.specs.declared.spans.Span.{Span}
+use Rattle.image_parts.specs.Header.{header_bytes, header_in, KeepsHeaderRules}
+use Rattle.image_parts.specs.Frames.{FrameFields, IsFrame, frame_bytes, frames_in, frames_length, KeepFrameRules}
+use Rattle.image_parts.specs.Rows.{IsRow, row_bytes, rows_in, KeepRowRules}
+use Rattle.image_parts.specs.Spans.{IsSpan, span_bytes, spans_in, KeepSpanRules}
+use Rattle.image_parts.specs.declared.headers.Header.{Header}
+use Rattle.image_parts.specs.declared.rows.RowPart.{RowPart}
+
+-- the parts of an image
+pub record Image : Type 0 where
+  pub clock : ℕ
+  pub window : ℕ
+  pub floor : ℕ
+  pub next : ℕ
+  pub frames : List FrameFields
+  pub rows : List RowPart
+  pub spans : List Span
+
+-- the header of an image counts its parts
+abbrev pub header_of : Image → Header
+header_of image = record {
+  frames = length image.frames;
+  clock = image.clock;
+  window = image.window;
+  floor = image.floor;
+  next = image.next;
+  rows = length image.rows;
+  spans = length image.spans;
+}
+
+-- ---- spelling
+
+-- all bytes in front of the digest
+unfoldable pub front_bytes : Image → List ℕ
+front_bytes image =
+    header_bytes (header_of image) ++ (flat_map frame_bytes image.frames ++
+    (flat_map row_bytes image.rows ++ flat_map span_bytes image.spans))
+
+-- the bytes of an image: its parts, and SHA-256 of all of them
+unfoldable pub image_bytes : Image → List ℕ
+image_bytes image = front_bytes image ++ sha256 (front_bytes image)
+
+-- an image has a spelling: its numbers are in their ranges
+pub record IsImage (image : Image) : Type 0 where
+  pub clock : image.clock < 2 ^ 64
+  pub window : image.window < 2 ^ 64
+  pub next : image.next < 2 ^ 64
+  pub frames : AllByRecursion IsFrame image.frames
+  pub rows : AllByRecursion IsRow image.rows
+  pub spans : AllByRecursion IsSpan image.spans
+  pub row_count : length image.rows < 2 ^ 32
+
+-- the rules of an image's parts, but for those of chains
+pub record KeepsRules (image : Image) : Type 0 where
+  pub header : KeepsHeaderRules (header_of image)
+  pub frames : KeepFrameRules image.frames
+  pub spans : KeepSpanRules (header_of image) image.spans
+  pub rows : KeepRowRules (header_of image) image.rows
+
+-- the bytes spell this image, which keeps the rules
+pub record SpellsImage (bytes : List ℕ) (image : Image) : Type 0 where
+  pub is : IsImage image
+  pub rules : KeepsRules image
+  pub spelled : bytes ≡ image_bytes image
+
+-- ---- reading
+
+-- what stands behind the header
+abbrev pub behind_header : List ℕ → List ℕ
+behind_header bytes = drop 512 bytes
+
+-- what stands behind the frames
+abbrev pub behind_frames : List ℕ → List ℕ
+behind_frames bytes = drop (frames_length (header_in bytes).frames (behind_header bytes)) (behind_header bytes)
+
+-- what stands behind the rows
+abbrev pub behind_rows : List ℕ → List ℕ
+behind_rows bytes = drop (40 * (header_in bytes).rows) (behind_frames bytes)
+
+-- the parts that are read from bytes, whatever these are
+unfoldable pub image_in : List ℕ → Image
+image_in bytes = record {
+  clock = (header_in bytes).clock;
+  window = (header_in bytes).window;
+  floor = (header_in bytes).floor;
+  next = (header_in bytes).next;
+  frames = frames_in (header_in bytes).frames (behind_header bytes);
+  rows = rows_in (header_in bytes).rows (behind_frames bytes);
+  spans = spans_in (header_in bytes).spans (behind_rows bytes);
+}
+
+-- how many bytes the parts have with the digest, as the header and the words of the frames tell
+abbrev pub parts_length : List ℕ → ℕ
+parts_length bytes =
+    512 + frames_length (header_in bytes).frames (behind_header bytes)
+    + 40 * (header_in bytes).rows + 24 * (header_in bytes).spans + 32

@@ -1,0 +1,6 @@
+pub mod Header
+pub mod Frames
+pub mod Rows
+pub mod Spans
+pub mod Image
+pub mod Causes

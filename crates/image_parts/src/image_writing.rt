@@ -1,0 +1,80 @@
+ghost use Rattle.std.specs.Prelude.{◌≡◌, ◌++◌, OnOk, IfErr};
+ghost use Rattle.std.specs.Int.{w64};
+ghost use Rattle.std.specs.List.{concat};
+ghost use Rattle.sha2.specs.Sha256.{sha256};
+ghost use Rattle.s4_types.specs.declared.refusals.Refusal.TheVariants.{NoMemory};
+ghost use Rattle.codec.specs.Fields.{number};
+ghost use Rattle.image_parts.specs.Header.{header_bytes};
+ghost use Rattle.image_parts.specs.Rows.{row_bytes};
+ghost use Rattle.image_parts.specs.Spans.{span_bytes};
+
+use crate::headers::{Header, spelling_of};
+use crate::rows::RowPart;
+use block_log::Block;
+use s4_types::{Refusal, Span};
+use sha2::{Digest, Sha256};
+
+#[tactic(auto, unfolding(codec::specs::Fields::number))]
+fn push_long(out: &mut Vec<u8>, n: u64) -> Result<(), Refusal>
+    ensures items { OnOk result (out.new.items ≡ out.old.items ++ number w64 n) }
+    ensures memory { IfErr result (λ refusal. refusal ≡ NoMemory) }
+{
+    out.extend_from_slice(&n.to_be_bytes())?;
+    Ok(())
+}
+
+/// Adds a header. The only error is NoMemory.
+pub fn push_header(out: &mut Vec<u8>, header: &Header) -> Result<(), Refusal>
+    ensures items { OnOk result (out.new.items ≡ out.old.items ++ header_bytes header.now) }
+    ensures memory { IfErr result (λ refusal. refusal ≡ NoMemory) }
+{
+    out.extend_from_slice(spelling_of(header).as_slice())?;
+    Ok(())
+}
+
+/// Adds a frame: its word, and its blocks, which are none where it is free. The only error is NoMemory, after which some of
+/// them may have been added.
+pub fn push_frame(out: &mut Vec<u8>, word: u64, blocks: &[Block]) -> Result<(), Refusal>
+    ensures items { OnOk result (out.new.items ≡ out.old.items ++ (number w64 word ++ concat blocks.now)) }
+    ensures memory { IfErr result (λ refusal. refusal ≡ NoMemory) }
+{
+    push_long(out, word)?;
+    for block in blocks {
+        out.extend_from_slice(block)?;
+    }
+    Ok(())
+}
+
+/// Adds a row. The only error is NoMemory, after which a part of it may have been added.
+#[tactic(auto, unfolding(crate::specs::Rows::row_bytes))]
+pub fn push_row(out: &mut Vec<u8>, row: &RowPart) -> Result<(), Refusal>
+    ensures items { OnOk result (out.new.items ≡ out.old.items ++ row_bytes row.now) }
+    ensures memory { IfErr result (λ refusal. refusal ≡ NoMemory) }
+{
+    push_long(out, row.object.number())?;
+    push_long(out, row.created.number())?;
+    push_long(out, row.checkpoint)?;
+    push_long(out, row.checkpoint_moment.number())?;
+    push_long(out, row.head)
+}
+
+/// Adds a span. The only error is NoMemory, after which a part of it may have been added.
+#[tactic(auto, unfolding(crate::specs::Spans::span_bytes))]
+pub fn push_span(out: &mut Vec<u8>, span: &Span) -> Result<(), Refusal>
+    ensures items { OnOk result (out.new.items ≡ out.old.items ++ span_bytes span.now) }
+    ensures memory { IfErr result (λ refusal. refusal ≡ NoMemory) }
+{
+    push_long(out, span.object.number())?;
+    push_long(out, span.first.number())?;
+    push_long(out, span.last.number())
+}
+
+/// Adds the digest of all that was added. The only error is NoMemory.
+pub fn push_digest(out: &mut Vec<u8>) -> Result<(), Refusal>
+    ensures items { OnOk result (out.new.items ≡ out.old.items ++ sha256 out.old.items) }
+    ensures memory { IfErr result (λ refusal. refusal ≡ NoMemory) }
+{
+    let digest = Sha256::digest(out.as_slice());
+    out.extend_from_slice(&digest)?;
+    Ok(())
+}

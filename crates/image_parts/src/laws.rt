@@ -1,0 +1,37 @@
+//! Laws of images, for the layers above: each function does nothing, and its contract is the law.
+
+ghost use Rattle.std.specs.Prelude.{◌≡◌, ◌≤◌, ℕ, List, Option, None};
+ghost use Rattle.s4_types.specs.declared.limits.TheConstants.{RUNS_IN_A_LIST};
+ghost use Rattle.s4_types.specs.declared.refusals.Cause.{Cause as Found};
+ghost use Rattle.s4_types.specs.declared.spans.Span.{Span as Hidden};
+ghost use Rattle.image_parts.specs.Header.{AreBytes};
+ghost use Rattle.image_parts.specs.Image.{Image, SpellsImage, image_in};
+ghost use Rattle.image_parts.specs.Spans.{KeepSpanRules, span_count};
+ghost use Rattle.image_parts.specs.Causes.{FirstCause};
+ghost use Rattle.image_parts.specs.declared.headers.Header.{Header as Head};
+
+/// Bytes that no test refuses spell the image that is read from them.
+pub fn what_no_test_refuses_is_an_image()
+    ensures { (bytes : List ℕ) → AreBytes bytes → FirstCause bytes None → SpellsImage bytes (image_in bytes) }
+{}
+
+/// What spells an image is refused by no test, and read as that image.
+pub fn an_image_is_read()
+    ensures tests { (bytes : List ℕ) (image : Image) → SpellsImage bytes image → FirstCause bytes None }
+    ensures read { (bytes : List ℕ) (image : Image) → SpellsImage bytes image → image_in bytes ≡ image }
+{}
+
+/// No two images share a spelling.
+pub fn one_image_a_spelling()
+    ensures { (bytes : List ℕ) (image other : Image) → SpellsImage bytes image → SpellsImage bytes other → image ≡ other }
+{}
+
+/// The tests come to one cause.
+pub fn one_first_cause()
+    ensures { (bytes : List ℕ) (found other : Option Found) → FirstCause bytes found → FirstCause bytes other → found ≡ other }
+{}
+
+/// A list has at most 64 spans, whether of one object or of all.
+pub fn a_list_has_few_spans()
+    ensures { (header : Head) (spans : List Hidden) (object : ℕ) → KeepSpanRules header spans → span_count object spans ≤ RUNS_IN_A_LIST }
+{}

@@ -1,0 +1,34 @@
+ghost use Rattle.std.specs.Prelude.{◌≡◌, ℕ, MatchBool};
+ghost use Rattle.image_parts.specs.Rows.{KeepsRowRules, KeepRowRules};
+
+use crate::headers::Header;
+use crate::parts::Parts;
+use crate::rows::RowPart;
+use s4_types::{Moment, ObjectId};
+
+/// Whether a row keeps the rules behind one of this object and creation.
+fn keeps_rules(header: &Header, object: ObjectId, created: Moment, row: &RowPart) -> bool
+    ensures { MatchBool result (KeepsRowRules header.now object created row.now) (KeepsRowRules header.now object created row.now → ⊥) }
+{
+    object.number() < row.object.number()
+        && created.number() < row.created.number()
+        && row.object.number() < header.next.number()
+        && row.created.number() <= header.clock.number()
+        && (row.checkpoint != 0 || row.checkpoint_moment.number() == 0)
+}
+
+/// Whether each row keeps the rules behind the one before it.
+pub(crate) fn rows_keep_rules(header: &Header, parts: &Parts<'_>) -> bool
+    ensures { MatchBool result (KeepRowRules header.now parts.now.rows) (KeepRowRules header.now parts.now.rows → ⊥) }
+{
+    let mut object = ObjectId::new(0);
+    let mut created = Moment::new(0);
+    for row in parts.rows() {
+        if !keeps_rules(header, object, created, &row) {
+            return false;
+        }
+        object = row.object;
+        created = row.created;
+    }
+    true
+}
