@@ -1,1 +1,5 @@
+pub mod Bytes
 pub mod Firsts
+pub mod Walking
+pub mod Judging
+pub mod Holding

@@ -13,7 +13,6 @@ use crate::rows::ImageRow;
 use crate::used_blocks::UsedBlocks;
 use crate::walk::entries_from;
 use codec::Entry;
-use codec::journal_laws::entry_bytes_add_up;
 use journal_chain::packing::fits;
 use journal_chain::packing::laws::{filled_bytes_after, one_packing_keeps_the_rule};
 use s4_types::limits::CHAIN_ENTRY_BYTES;
@@ -31,11 +30,11 @@ pub struct ImageChain {
     pub head_bytes: u16,
 }
 
-/// How many bytes the entries have. None where they are more than a chain's may be.
+/// How many bytes entries have. None where they are more than a chain's may be.
+#[tactic(auto, using(crate::proofs::Bytes::bytes_none, crate::proofs::Bytes::bytes_next))]
 fn bytes_of(entries: &[Entry]) -> Option<usize>
     ensures { result ≡ kept (nat_le (entries_length entries.now) CHAIN_ENTRY_BYTES) (entries_length entries.now) }
 {
-    entry_bytes_add_up();
     let mut bytes = 0;
     for entry in entries {
         bytes += entry.byte_count();
@@ -83,13 +82,17 @@ pub fn read_chain<U: UsedBlocks>(
     let Some(entries) = entries_from(alloc, used, row.object, row.head)? else {
         return Ok(None);
     };
-    let Some(bytes) = bytes_of(entries.as_slice()) else {
+    let listed = entries.as_slice();
+    let Some(bytes) = bytes_of(listed) else {
         return Ok(None);
     };
-    if !lie_from_to(entries.as_slice(), row.created, clock) || !are_grouped(entries.as_slice()) {
+    if !lie_from_to(listed, row.created, clock) {
         return Ok(None);
     }
-    let head_bytes = head_bytes_of(entries.as_slice()) as u16;
+    if !are_grouped(listed) {
+        return Ok(None);
+    }
+    let head_bytes = head_bytes_of(listed) as u16;
     Ok(Some(ImageChain {
         entries,
         journal_bytes: bytes as u16,

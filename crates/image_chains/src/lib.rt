@@ -7,6 +7,7 @@
 
 mod chains;
 mod groups;
+pub mod laws;
 mod reading;
 mod rows;
 mod used_blocks;

@@ -9,7 +9,6 @@ ghost use Rattle.journal_chain.specs.Packing.{first_length};
 
 use crate::used_blocks::{UsedBlocks, bytes_at};
 use block_log::{Block, BlockKind};
-use codec::journal_laws::entry_bytes_add_up;
 use codec::{Entry, EntryReader, decode_journal};
 use s4_types::{ObjectId, Ptr, Refusal};
 
@@ -60,7 +59,6 @@ pub(crate) fn take_entries(
     ensures first { IfOk result (λ bytes. bytes.first ≡ first_length block.entries) }
     ensures refusal { IfErr result (λ e. e ≡ NoMemory) }
 {
-    entry_bytes_add_up();
     let mut rest = block;
     let mut all = 0;
     let mut first = 0;

@@ -1,0 +1,3 @@
+//! Chains that stand and chains that don't.
+mod groups;
+mod blocks;

@@ -1,0 +1,21 @@
+//! Laws of chains that stand in an image, for the layers above: each function does nothing, and its contract is the law.
+ghost use Rattle.std.specs.Prelude.{◌≡◌, ℕ, Option};
+ghost use Rattle.s4_types.specs.Pointer.{Place};
+ghost use Rattle.block_log.specs.Log.{Stored, of_kind};
+ghost use Rattle.block_log.specs.declared.kinds.BlockKind.TheVariants.{Journal};
+ghost use Rattle.journal_chain.specs.Chain.{Holds};
+ghost use Rattle.image_chains.specs.Chains.{ChainStands, entries_used, chain_fields, chain_view};
+ghost use Rattle.image_chains.specs.declared.rows.ImageRow.{ImageRow};
+
+use block_log::laws::one_place_has_one_name;
+use journal_chain::packing::laws::one_packing_keeps_the_rule;
+
+/// A chain that stands in an image is held, with its entries, wherever of the object's journal blocks those of the chain
+/// alone are: none of them is in the chain twice.
+pub fn a_chain_that_stands_is_held()
+    ensures { (used held : Place → Option Stored) (row : ImageRow) (clock : ℕ) → ChainStands used row clock → ((p : Place) → of_kind Journal row.object held p ≡ chain_view used row p)
+        → Holds held (chain_fields used row) (entries_used used row) }
+{
+    one_place_has_one_name();
+    one_packing_keeps_the_rule();
+}
