@@ -60,7 +60,9 @@ unfolding times
 counted_none p = refl
 
 longer : (n : ℕ) (blocks : Place → Option JournalFields) (q : Place) (links : List Link) (s : Step n blocks q links) → length links ≡ 1 + length s.older
-longer n blocks q links s = ap (λ (l : List Link). length l) (sym s.made)
+longer n blocks q links s =
+    let one : length links ≡ suc (length s.older) = ap (λ (l : List Link). length l) (sym s.made) in
+    omega (arith, one)
 
 -- ---- no place comes twice
 

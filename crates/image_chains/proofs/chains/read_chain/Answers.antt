@@ -52,4 +52,4 @@ returns-clause-head g c =
     let used = g.U.UsedBlocks.used c.args.used.now in
     let listed = c.as_slice-listed.result.now in
     let walk : WalkOf used c.args.row.now ≡ Some listed = some_is _ _ _ _ c.in-Some.is c.in_ok-entries.ensures.exact ∙ ap Some (sym c.as_slice-listed.ensures.value) in
-    head_is c.filled_bytes_after.ensures _ listed _ c.head_bytes_of.ensures.exact (items_are used c.args.row.now listed walk)
+    head_is c.filled_bytes_after.ensures _ listed _ c.head_bytes_of-head_bytes.ensures.exact (items_are used c.args.row.now listed walk)
