@@ -47,7 +47,8 @@ fn does_continue(before: &Entry, entry: &Entry) -> bool
 
 /// How many entries of its moment an entry ends, behind one that ends so many. None where it can't stand there.
 fn count_behind(count: usize, before: &Entry, entry: &Entry) -> Option<usize>
-    ensures { (later : List EntryFields) → grouped_behind count before.now (entry.now ∷ later) ≡ option_map_or (λ n. grouped_behind n entry.now later) result false }
+    ensures { (later : List EntryFields)
+        → grouped_behind count before.now (entry.now ∷ later) ≡ option_map_or (λ n. grouped_behind n entry.now later) result false }
 {
     if before.moment() < entry.moment() {
         return Some(1);

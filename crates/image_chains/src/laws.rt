@@ -13,7 +13,8 @@ use journal_chain::packing::laws::one_packing_keeps_the_rule;
 /// A chain that stands in an image is held, with its entries, wherever of the object's journal blocks those of the chain
 /// alone are: none of them is in the chain twice.
 pub fn a_chain_that_stands_is_held()
-    ensures { (used held : Place → Option Stored) (row : ImageRow) (clock : ℕ) → ChainStands used row clock → ((p : Place) → of_kind Journal row.object held p ≡ chain_view used row p)
+    ensures { (used held : Place → Option Stored) (row : ImageRow) (clock : ℕ) → ChainStands used row clock
+        → ((p : Place) → of_kind Journal row.object held p ≡ chain_view used row p)
         → Holds held (chain_fields used row) (entries_used used row) }
 {
     one_place_has_one_name();

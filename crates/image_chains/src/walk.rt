@@ -29,7 +29,8 @@ impl Walk {
     /// Goes on by one block. False where its entries leave room for the first one of the block behind it.
     fn take(&mut self, block: EntryReader) -> Result<bool, Refusal>
         requires { journal_rules block ≡ true }
-        ensures goes { IfOk result (λ good. (left : ℕ) (blocks : Place → Option JournalFields) (p : Place) → self.old.previous ≡ Some p → blocks p ≡ Some block
+        ensures goes { IfOk result (λ good. (left : ℕ) (blocks : Place → Option JournalFields) (p : Place)
+            → self.old.previous ≡ Some p → blocks p ≡ Some block
             → reached (left + 1) blocks self.old.first_bytes self.old.previous self.old.entries.items
             ≡ (if good then reached left blocks self.new.first_bytes self.new.previous self.new.entries.items else None)) }
         ensures refusal { IfErr result (λ e. e ≡ NoMemory) }
@@ -54,7 +55,8 @@ pub(crate) fn entries_from<U: UsedBlocks>(
     object: ObjectId,
     head: Option<Ptr>,
 ) -> Result<Option<Vec<Entry>>, Refusal>
-    ensures exact { IfOk result (λ found. option_map (λ v. v.items) found ≡ walked CHAIN_BLOCKS (journal_held (U.used used.now) object) (JOURNAL_ENTRY_BYTES + 1) head) }
+    ensures exact { IfOk result (λ found. option_map (λ v. v.items) found
+        ≡ walked CHAIN_BLOCKS (journal_held (U.used used.now) object) (JOURNAL_ENTRY_BYTES + 1) head) }
     ensures refusal { IfErr result (λ e. e ≡ NoMemory) }
 {
     let mut walk = Walk {

@@ -11,7 +11,8 @@ use Rattle.journal_chain.specs.Packing.{first_length}
 -- These are the entries of a block, and an entry of so many bytes doesn't fit behind them.
 unfoldable pub stands_before : ℕ → List EntryFields → Bool
 stands_before size entries =
-    nat_lt 0 (length entries) && (nat_le (entries_length entries) JOURNAL_ENTRY_BYTES && nat_lt JOURNAL_ENTRY_BYTES (entries_length entries + size))
+    nat_lt 0 (length entries)
+    && (nat_le (entries_length entries) JOURNAL_ENTRY_BYTES && nat_lt JOURNAL_ENTRY_BYTES (entries_length entries + size))
 
 -- The entries of the blocks from a place on, oldest first, where an entry of so many bytes doesn't fit behind the first of
 -- these blocks, and no block's first entry behind the block before it. None where a place has no block, where entries would
