@@ -15,10 +15,11 @@ impl UsedBlocks for PlainImage {
 
     fn block(&self, place: Ptr) -> Option<UsedBlock> {
         let kept = self.table.part(place)?;
+        let bytes = kept.block;
         Some(UsedBlock {
             kind: kept.kind,
             object: kept.object,
-            bytes: kept.block,
+            bytes,
         })
     }
 }

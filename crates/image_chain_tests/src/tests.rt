@@ -64,9 +64,11 @@ fn put(
     }
     let object = ObjectId::new(SEVEN);
     let block = JournalBlock::new(object, previous, entries).ok_or("a block")?;
-    Ok(image
-        .table
-        .append(BlockKind::Journal, object, &encode_journal(&block))?)
+    Ok(
+        image
+            .table
+            .append(BlockKind::Journal, object, &encode_journal(&block))?,
+    )
 }
 
 fn empty_image() -> PlainImage {
@@ -160,7 +162,10 @@ fn moments_lie_from_the_making_to_the_clock(rt: HostRuntime) -> Result<(), Fail>
     ] {
         let row = row(object, created, head);
         let chain = read_chain(rt.alloc(), &image, &row, Moment::new(clock))?;
-        assert!(rt; chain.is_some() == stands, "object {object}, {created} to {clock}");
+        assert!(rt;
+            chain.is_some() == stands,
+            "object {object}, {created} to {clock}"
+        );
     }
     Ok(())
 }
@@ -228,7 +233,10 @@ fn moments_ascend(rt: HostRuntime) -> Result<(), Fail> {
         let entry = making(10).ok_or("10")?;
         let head = put(&mut image, None, entry, changing(second, earlier, 0, 1))?;
         let chain = chain_at(rt.alloc(), &image, Some(head))?;
-        assert!(rt; chain.is_some() == stands, "moment {second} behind {earlier}");
+        assert!(rt;
+            chain.is_some() == stands,
+            "moment {second} behind {earlier}"
+        );
     }
     Ok(())
 }
@@ -268,7 +276,12 @@ fn indices_of_a_change_ascend(rt: HostRuntime) -> Result<(), Fail> {
         let mut image = empty_image();
         let first = changing(20, 10, 0, 16).ok_or("0")?;
         let mut head = put(&mut image, None, first, changing(20, 20, index, 1))?;
-        head = put(&mut image, Some(head), changing(21, 20, 0, 16).ok_or("21")?, None)?;
+        head = put(
+            &mut image,
+            Some(head),
+            changing(21, 20, 0, 16).ok_or("21")?,
+            None,
+        )?;
         let chain = chain_at(rt.alloc(), &image, Some(head))?;
         assert!(rt; chain.is_some() == stands, "index {index}");
     }

@@ -1,5 +1,5 @@
 -- A chain that stands is held where its blocks alone are.
-use Rattle.std.proofs.Common.{◌≡◌, ℕ, zero, suc, ◌+◌, ◌<◌, ◌≤◌, ◌==◌, ◌&&◌, Bool, true, false, leb, ltb, cond, inl, inr, List, [], ◌∷◌, ◌++◌, length, Option, Some, None, IsSome, is_some, unwrap_or, refl, sym, ap, ◌∙◌, subst, arith}
+use Rattle.std.proofs.Common.{◌≡◌, ℕ, zero, suc, ◌+◌, ◌<◌, ◌≤◌, ◌==◌, ◌&&◌, true, leb, ltb, cond, inl, inr, List, [], ◌∷◌, ◌++◌, length, Option, Some, None, IsSome, is_some, unwrap_or, refl, sym, ap, ◌∙◌, subst, arith}
 use Rattle.std.proofs.lemmas.Bool.{cases_Bool, false≢true, and_from, leb-true, leb-false, lt-ltb, ltb-true, ltb-false, eq-eqb}
 use Rattle.std.proofs.lemmas.Option.{none-some, same_Some}
 use Rattle.s4_types.specs.Pointer.{Place}
@@ -7,12 +7,12 @@ use Rattle.s4_types.specs.declared.limits.TheConstants.{CHAIN_BLOCKS, JOURNAL_EN
 use Rattle.block_log.specs.Log.{Stored, of_kind, same_place}
 use Rattle.block_log.specs.declared.kinds.BlockKind.TheVariants.{Journal}
 use Rattle.codec.specs.Fields.{◌>>=◌, bit}
-use Rattle.codec.specs.Entry.{EntryFields, entry_length, entries_length}
+use Rattle.codec.specs.Entry.{EntryFields, entries_length}
 use Rattle.codec.specs.Journal.{JournalFields}
 use Rattle.journal_chain.specs.Packing.{joined, packed, AllFit, KeepsTheRule}
 use Rattle.journal_chain.specs.Chain.{BlockView, Link, linked, links_from, chain_links, chain_places, journal_in, journal_of, places_of, blocks_of, times, Holds}
 use Rattle.image_chains.specs.declared.rows.ImageRow.{ImageRow}
-use Rattle.image_chains.specs.Chains.{ChainStands, blocks_used, entries_used, chain_fields, chain_view}
+use Rattle.image_chains.specs.Chains.{ChainStands, entries_used, chain_fields, chain_view}
 use Rattle.image_chains.proofs.Walking.{bind_some, bind_is}
 use Rattle.image_chains.proofs.Judging.{Told, told, some_links}
 

@@ -1,8 +1,8 @@
 -- What a walk and the tests of its entries say of a row's chain.
-use Rattle.std.proofs.Common.{◌≡◌, ℕ, ◌+◌, ◌<◌, ◌≤◌, ◌&&◌, Bool, true, false, leb, List, [], ◌∷◌, ◌++◌, Option, Some, None, map, IsSome, is_some, unwrap_or, option_map, refl, sym, ap, ◌∙◌, subst, rules, arith}
+use Rattle.std.proofs.Common.{◌≡◌, ℕ, ◌≤◌, ◌&&◌, true, false, leb, List, [], ◌∷◌, Option, Some, None, map, IsSome, is_some, unwrap_or, option_map, refl, sym, ap, ◌∙◌, subst, arith}
 use Rattle.std.specs.List.{AllByRecursion, list_all}
 use Rattle.std.proofs.lemmas.Bool.{both_ways, false≢true, and_parts, and_from, leb-true, le-leb}
-use Rattle.std.proofs.lemmas.Option.{none-some, same_Some, cond_some}
+use Rattle.std.proofs.lemmas.Option.{none-some, cond_some}
 use Rattle.s4_types.specs.Pointer.{Place}
 use Rattle.s4_types.specs.declared.limits.TheConstants.{CHAIN_BLOCKS, CHAIN_ENTRY_BYTES}
 use Rattle.block_log.specs.Log.{Stored, of_kind}
@@ -12,12 +12,12 @@ use Rattle.codec.specs.Entry.{EntryFields, entry_length, entries_length}
 use Rattle.undo_redo.specs.Groups.{grouped}
 use Rattle.journal_chain.specs.Packing.{joined, packed, added, filled_bytes, KeepsTheRule}
 use Rattle.journal_chain.specs.Sizes.{filled_after}
-use Rattle.journal_chain.specs.Chain.{Link, journal_held, chain_links, chain_blocks, chain_entries, blocks_of}
+use Rattle.journal_chain.specs.Chain.{Link, journal_held, chain_links, chain_entries, blocks_of}
 use Rattle.time_read.specs.Orderly.{IsFromTo}
 use Rattle.image_chains.specs.declared.rows.ImageRow.{ImageRow}
 use Rattle.image_chains.specs.Chains.{blocks_used, entries_used, ChainStands}
 use Rattle.image_chains.specs.private.Walked.{walked}
-use Rattle.image_chains.proofs.Walking.{Found, NoRoom, bind_is, found, walked_since}
+use Rattle.image_chains.proofs.Walking.{Found, NoRoom, found, walked_since}
 
 -- the walk of a row's whole chain
 abbrev pub WalkOf : (Place → Option Stored) → ImageRow → Option (List EntryFields)

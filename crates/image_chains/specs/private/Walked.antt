@@ -1,6 +1,5 @@
 -- A chain as it is walked back from its head, block by block.
 use Rattle.std.specs.Prelude.{ℕ, zero, suc, ◌+◌, ◌&&◌, nat_lt, nat_le, Bool, List, [], ◌++◌, length, reverse, Option, Some, None}
-use Rattle.std.specs.List.{list_all}
 use Rattle.s4_types.specs.declared.limits.TheConstants.{JOURNAL_ENTRY_BYTES}
 use Rattle.s4_types.specs.Pointer.{Place}
 use Rattle.codec.specs.Fields.{◌>>=◌, kept}

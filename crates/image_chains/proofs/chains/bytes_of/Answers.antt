@@ -1,6 +1,4 @@
-use Rattle.std.proofs.Common.{◌≡◌, ◌+◌, ◌<◌, take, sym, arith}
-use Rattle.s4_types.specs.declared.limits.TheConstants.{CHAIN_ENTRY_BYTES}
-use Rattle.codec.specs.Entry.{entries_length}
+use Rattle.std.proofs.Common.{◌+◌, arith}
 use Rattle.image_chains.proofs.Bytes.{bytes_next, too_many}
 use Rattle.image_chains.proofs.chains.bytes_of.Goals as goal
 

@@ -1,6 +1,6 @@
 use Rattle.std.proofs.Common.{◌≡◌, ◌+◌, ◌≤◌, ◌++◌, length, reverse}
 use Rattle.s4_types.specs.declared.limits.TheConstants.{JOURNAL_ENTRY_BYTES}
-use Rattle.codec.specs.Entry.{EntryFields, entries_length}
+use Rattle.codec.specs.Entry.{entries_length}
 use Rattle.journal_chain.specs.Packing.{first_length}
 use Rattle.image_chains.proofs.Firsts.{first_or}
 use Rattle.image_chains.proofs.reading.take_entries.Given as goal

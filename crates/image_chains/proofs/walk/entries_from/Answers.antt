@@ -1,5 +1,4 @@
-use Rattle.std.proofs.Common.{◌≡◌, ℕ, ◌+◌, ◌-◌, Option, Some, None, sym, ap, ◌∙◌, rules, arith}
-use Rattle.s4_types.specs.Pointer.{Place}
+use Rattle.std.proofs.Common.{◌≡◌, ◌-◌, Some, None, sym, ap, ◌∙◌, rules, arith}
 use Rattle.journal_chain.specs.Chain.{journal_held}
 use Rattle.image_chains.specs.private.Walked.{reached}
 use Rattle.image_chains.proofs.Walking.{begins, arrives, too_long, breaks, on_good, on_bad}

@@ -1,4 +1,4 @@
-use Rattle.std.proofs.Common.{◌≡◌, ◌≤◌, arith}
+use Rattle.std.proofs.Common.{◌≤◌, arith}
 use Rattle.codec.specs.Entry.{entries_length}
 use Rattle.image_chains.proofs.Walking.{rules_fit, goes}
 use Rattle.image_chains.proofs.walk.Walk.take.Goals as goal
