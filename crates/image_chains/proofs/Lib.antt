@@ -3,3 +3,5 @@ pub mod Firsts
 pub mod Walking
 pub mod Judging
 pub mod Holding
+pub mod Earlier
+pub mod Running

@@ -8,6 +8,7 @@
 mod chains;
 mod groups;
 pub mod laws;
+mod links;
 mod reading;
 mod rows;
 mod used_blocks;
