@@ -5,3 +5,7 @@ pub mod Judging
 pub mod Holding
 pub mod Earlier
 pub mod Running
+pub mod Undoing
+pub mod Beginning
+pub mod Ordering
+pub mod Leading

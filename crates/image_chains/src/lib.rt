@@ -7,13 +7,17 @@
 
 mod chains;
 mod groups;
+mod histories;
+mod inodes;
 pub mod laws;
 mod links;
+mod order;
 mod reading;
 mod rows;
 mod used_blocks;
 mod walk;
 
 pub use chains::{ImageChain, read_chain};
+pub use histories::{ImageHistory, read_history};
 pub use rows::ImageRow;
 pub use used_blocks::{UsedBlock, UsedBlocks};

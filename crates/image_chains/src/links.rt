@@ -15,7 +15,7 @@ use undo_redo::laws::{
 };
 use undo_redo::redo;
 
-fn is_same_slot(one: Option<Ptr>, other: Option<Ptr>) -> bool
+pub(crate) fn is_same_slot(one: Option<Ptr>, other: Option<Ptr>) -> bool
     ensures { result ≡ same_slot one other }
 {
     match (one, other) {
@@ -50,7 +50,7 @@ fn are_earlier(inode: &Inode, triples: &[Triple]) -> bool
     true
 }
 
-fn has_status(inode: &Inode, status: Status) -> bool
+pub(crate) fn has_status(inode: &Inode, status: Status) -> bool
     ensures is { result ≡ true → status_of inode.now ≡ status }
     ensures only { status_of inode.now ≡ status → result ≡ true }
 {
