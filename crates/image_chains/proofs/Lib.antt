@@ -9,3 +9,4 @@ pub mod Undoing
 pub mod Beginning
 pub mod Ordering
 pub mod Leading
+pub mod Keeping
