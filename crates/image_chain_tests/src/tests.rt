@@ -1,8 +1,11 @@
 //! Chains that stand, and chains that don't: how their blocks lead back and are packed, and entries of one moment.
 use crate::images::PlainImage;
 use block_log::{BlockKind, Blocks};
-use codec::{Entries, Entry, JournalBlock, Status, Triple, Triples, encode_journal};
-use image_chains::{ImageChain, ImageRow, read_chain};
+use codec::{
+    Attribute, Checkpoint, Entries, Entry, Inode, JournalBlock, Status, Triple, Triples,
+    encode_checkpoint, encode_journal,
+};
+use image_chains::{ImageChain, ImageHistory, ImageRow, read_chain, read_history};
 use plain_log::PlainLog;
 use s4_types::{Moment, ObjectId, Ptr, Refusal};
 use std::alloc::Global;
@@ -284,6 +287,159 @@ fn indices_of_a_change_ascend(rt: HostRuntime) -> Result<(), Fail> {
         )?;
         let chain = chain_at(rt.alloc(), &image, Some(head))?;
         assert!(rt; chain.is_some() == stands, "index {index}");
+    }
+    Ok(())
+}
+
+/// The history of object 7, made at moment 10, at a clock of 100.
+fn history_at(
+    alloc: Global,
+    image: &PlainImage,
+    head: Option<Ptr>,
+) -> Result<Option<ImageHistory>, Refusal> {
+    read_history(alloc, image, &row(SEVEN, 10, head), Moment::new(100))
+}
+
+/// Whether a present inode was changed at a moment, and has so many pointers, those of the lowest indices.
+fn is_present(history: &Option<ImageHistory>, changed: u64, count: usize) -> bool {
+    let Some(history) = history else {
+        return false;
+    };
+    let mut pointers = 0;
+    for slot in history.present.pointers.as_slice() {
+        if slot.is_some() && pointers < 48usize {
+            pointers += 1;
+        }
+    }
+    history.present.changed.number() == changed && pointers == count
+}
+
+#[test]
+fn entries_lead_from_the_making_to_the_present(rt: HostRuntime) -> Result<(), Fail> {
+    for (first, present) in [(16, true), (0, false), (15, false)] {
+        let mut image = empty_image();
+        let entry = making(10).ok_or("10")?;
+        let older = put(&mut image, None, entry, changing(11, 10, 0, 16))?;
+        let entry = changing(12, 11, first, 16).ok_or("12")?;
+        let head = put(&mut image, Some(older), entry, None)?;
+        assert!(rt; chain_at(rt.alloc(), &image, Some(head))?.is_some());
+        let history = history_at(rt.alloc(), &image, Some(head))?;
+        assert!(rt; history.is_some() == present, "from index {first}");
+        assert!(rt;
+            is_present(&history, 12, 32) == present,
+            "from index {first}"
+        );
+    }
+    Ok(())
+}
+
+#[test]
+fn a_row_tells_its_making(rt: HostRuntime) -> Result<(), Fail> {
+    let mut image = empty_image();
+    assert!(rt; history_at(rt.alloc(), &image, None)?.is_none());
+    let head = put(&mut image, None, changing(11, 10, 0, 1).ok_or("11")?, None)?;
+    assert!(rt; chain_at(rt.alloc(), &image, Some(head))?.is_some());
+    assert!(rt; history_at(rt.alloc(), &image, Some(head))?.is_none());
+    Ok(())
+}
+
+/// The entry of a deletion of an object that was changed at an earlier moment.
+fn deleting(moment: u64, earlier: u64) -> Option<Entry> {
+    Entry::new(
+        Moment::new(moment),
+        status(true, earlier),
+        status(false, earlier),
+        None,
+        Triples::new(),
+    )
+}
+
+#[test]
+fn a_deletion_is_the_last_entry(rt: HostRuntime) -> Result<(), Fail> {
+    let mut image = empty_image();
+    let first = put(&mut image, None, making(10).ok_or("10")?, deleting(11, 10))?;
+    let history = history_at(rt.alloc(), &image, Some(first))?;
+    assert!(rt; is_present(&history, 10, 0));
+    let mut image = empty_image();
+    let entry = making(10).ok_or("10")?;
+    let older = put(&mut image, None, entry, changing(11, 10, 0, 16))?;
+    let head = put(
+        &mut image,
+        Some(older),
+        changing(12, 11, 16, 16).ok_or("12")?,
+        deleting(13, 12),
+    )?;
+    let history = history_at(rt.alloc(), &image, Some(head))?;
+    assert!(rt; is_present(&history, 12, 32));
+    Ok(())
+}
+
+/// The inode of object 7, made at moment 10 and changed at 11, with this first pointer.
+fn inode_of(first: Option<Ptr>) -> Result<Inode, Fail> {
+    let mut pointers = [None; 48];
+    pointers[0] = first;
+    Ok(Inode {
+        alive: true,
+        size: 512,
+        created: Moment::new(10),
+        changed: Moment::new(11),
+        attribute: Attribute::new(b"k").ok_or("an attribute")?,
+        pointers,
+    })
+}
+
+fn put_checkpoint(image: &mut PlainImage, moment: u64, inode: Inode) -> Result<Ptr, Fail> {
+    let object = ObjectId::new(SEVEN);
+    let checkpoint = Checkpoint::new(object, Moment::new(moment), inode).ok_or("a checkpoint")?;
+    Ok(
+        image.table.append(
+            BlockKind::Checkpoint,
+            object,
+            &encode_checkpoint(&checkpoint),
+        )?,
+    )
+}
+
+/// The entry that gives the inode another size at moment 12.
+fn growing() -> Option<Entry> {
+    let mut before = status(true, 11);
+    let mut after = status(true, 12);
+    before.size = 512;
+    after.size = 600;
+    Entry::new(Moment::new(12), before, after, None, Triples::new())
+}
+
+#[test]
+fn a_checkpoint_has_its_place(rt: HostRuntime) -> Result<(), Fail> {
+    let data = Ptr::new(100, 1, 1);
+    let mut grown = inode_of(data)?;
+    grown.size = 600;
+    grown.changed = Moment::new(12);
+    for (inode, told, kept, stands) in [
+        // In front of the entry, and behind it.
+        (inode_of(data)?, 11, 11, true),
+        (grown, 12, 12, true),
+        (grown, 20, 20, true),
+        // Of another moment than the row tells, or on the other side of the entry.
+        (inode_of(data)?, 11, 12, false),
+        (inode_of(data)?, 12, 12, false),
+        (grown, 11, 11, false),
+        // Later than the clock, and earlier than the making.
+        (grown, 101, 101, false),
+        (inode_of(data)?, 9, 9, false),
+    ] {
+        let mut image = empty_image();
+        let checkpoint = put_checkpoint(&mut image, told, inode)?;
+        let head = put(&mut image, None, growing().ok_or("12")?, None)?;
+        let mut row = row(SEVEN, 10, Some(head));
+        row.checkpoint = Some(checkpoint);
+        row.checkpoint_moment = Moment::new(kept);
+        let history = read_history(rt.alloc(), &image, &row, Moment::new(100))?;
+        assert!(rt;
+            history.is_some() == stands,
+            "{told} in the block, {kept} in the row"
+        );
+        assert!(rt; is_present(&history, 12, 1) == stands);
     }
     Ok(())
 }

@@ -1,5 +1,5 @@
 -- An entry's values before are those of an inode where each of its tests says so.
-use Rattle.std.proofs.Common.{◌≡◌, ℕ, zero, suc, ◌+◌, ◌<◌, ◌≤◌, ◌==◌, ◌&&◌, Bool, true, false, leb, ltb, cond, inl, inr, List, [], ◌∷◌, length, take, get_or, Option, Some, None, refl, sym, ap, ◌∙◌, subst, arith}
+use Rattle.std.proofs.Common.{◌≡◌, ℕ, ◌+◌, ◌<◌, ◌≤◌, ◌==◌, ◌&&◌, Bool, true, false, leb, ltb, cond, inl, inr, List, [], ◌∷◌, length, take, get_or, Option, Some, None, refl, sym, ap, ◌∙◌, arith}
 use Rattle.std.specs.Prelude.{not, ◌||◌}
 use Rattle.std.specs.List.{All, AllByRecursion, list_all}
 use Rattle.std.proofs.lemmas.List.Elements.{All-from_recursion}
@@ -101,13 +101,13 @@ are_told i low (t ∷ triples) h all =
     let tests = and_parts (leb low t.index) (ltb t.index 48 && not (same_slot t.before t.after)) parts.0 in
     let below : t.index < 48 = ltb-true t.index 48 (and_parts (ltb t.index 48) (not (same_slot t.before t.after)) tests.1).0 in
     let here : pointer_at i t.index ≡ t.before =
-        all t.index below
-        ∙ ap (λ b. pointer_before triples t.index (cond b t.before (pointer_at i t.index))) (eq-eqb t.index t.index refl)
-        ∙ untold (t.index + 1) t.index triples t.before parts.1 (omega arith) in
+    all t.index below
+    ∙ ap (λ b. pointer_before triples t.index (cond b t.before (pointer_at i t.index))) (eq-eqb t.index t.index refl)
+    ∙ untold (t.index + 1) t.index triples t.before parts.1 (omega arith) in
     let others : (n : ℕ) → n < 48 → pointer_at i n ≡ pointer_before triples n (pointer_at i n) = λ n lt. elim (cases_Bool (t.index == n)) [
-          | inl is ↦ (let same : t.index ≡ n = eqb-true t.index n is in sym (untold (t.index + 1) n triples (pointer_at i n) parts.1 (omega (arith, same))))
-          | inr ne ↦ all n lt ∙ ap (λ b. pointer_before triples n (cond b t.before (pointer_at i n))) ne
-        ] in
+      | inl is ↦ (let same : t.index ≡ n = eqb-true t.index n is in sym (untold (t.index + 1) n triples (pointer_at i n) parts.1 (omega (arith, same))))
+      | inr ne ↦ all n lt ∙ ap (λ b. pointer_before triples n (cond b t.before (pointer_at i n))) ne
+    ] in
     and_from (is_earlier i t) (list_all (is_earlier i) triples) (ap (λ (p : Option Place). same_slot p t.before) here ∙ slot_itself t.before) (are_told i (t.index + 1) triples parts.1 others)
 
 -- ---- a test of each triple, one after another

@@ -1,5 +1,5 @@
 -- A row whose history stands is a row where its blocks alone are held.
-use Rattle.std.proofs.Common.{◌≡◌, ℕ, ◌≤◌, ◌++◌, Bool, true, false, cond, inl, inr, List, [], ◌∷◌, Option, Some, None, IsSome, is_some, refl, sym, ap, ◌∙◌, subst}
+use Rattle.std.proofs.Common.{◌≡◌, ℕ, ◌≤◌, cond, inl, inr, List, [], ◌∷◌, Option, Some, None, IsSome, is_some, refl, sym, ap, ◌∙◌, subst}
 use Rattle.std.specs.Prelude.{MatchOption}
 use Rattle.std.proofs.lemmas.Bool.{cases_Bool, false≢true}
 use Rattle.s4_types.specs.Pointer.{Place}
@@ -10,7 +10,7 @@ use Rattle.codec.specs.declared.inodes.Inode.{Inode}
 use Rattle.codec.specs.Entry.{EntryFields}
 use Rattle.codec.specs.Checkpoint.{CheckpointFields}
 use Rattle.undo_redo.specs.Redone.{undone}
-use Rattle.undo_redo.specs.Runs.{Run, blank, redone_all, undone_all, entries_by, inode_after}
+use Rattle.undo_redo.specs.Runs.{Run, blank, undone_all, entries_by, inode_after}
 use Rattle.undo_redo.specs.Groups.{grouped}
 use Rattle.checkpoint.specs.Held.{checkpoint_held, spelled_checkpoint}
 use Rattle.journal_chain.specs.Packing.{joined, packed, KeepsTheRule}
@@ -20,7 +20,7 @@ use Rattle.time_read.specs.Rows.{IsRow, inode_before, entries_of, checkpoint_of,
 use Rattle.time_read.specs.Orderly.{IsFromTo, BeginsDead, IsOrderlyChain, IsOrderly}
 use Rattle.image_chains.specs.declared.rows.ImageRow.{ImageRow}
 use Rattle.image_chains.specs.Chains.{entries_used, chain_fields, chain_view}
-use Rattle.image_chains.specs.Inodes.{BeginningStands, CheckpointStands, checkpoint_used, first_before, first_used}
+use Rattle.image_chains.specs.Inodes.{CheckpointStands, first_before, first_used}
 use Rattle.image_chains.specs.History.{HistoryStands, named_at, checkpoint_view, kept_row, present_used}
 use Rattle.image_chains.proofs.Holding.{OneName, holds, place_itself}
 use Rattle.image_chains.proofs.Beginning.{first_with}
@@ -128,7 +128,7 @@ is_row names again its used held row clock stamp object h journal checkpoints =
     let kept = kept_row used row stamp in
     let es = entries_of held row.object kept in
     let now : inode_of held row.object kept row.checkpoint_moment ≡ inode_after (first_used used row) (entries_used used row) row.checkpoint_moment =
-        current held row.object kept row.checkpoint_moment ∙ ap (λ (i : Inode). inode_after i es row.checkpoint_moment) s.first ∙ ap (λ (l : List EntryFields). inode_after (first_used used row) l row.checkpoint_moment) s.entries in
+    current held row.object kept row.checkpoint_moment ∙ ap (λ (i : Inode). inode_after i es row.checkpoint_moment) s.first ∙ ap (λ (l : List EntryFields). inode_after (first_used used row) l row.checkpoint_moment) s.entries in
     record {
       object = object;
       chain = subst (λ (l : List EntryFields). Holds held (chain_fields used row) l) (sym s.entries) s.chain;

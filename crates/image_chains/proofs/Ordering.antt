@@ -1,5 +1,5 @@
 -- The inodes of a chain, one after another: what is known of those that were looked at.
-use Rattle.std.proofs.Common.{◌≡◌, ℕ, zero, ◌+◌, ◌<◌, ◌≤◌, Bool, true, false, ◌||◌, leb, ltb, inl, inr, List, [], ◌∷◌, ◌++◌, length, take, get_or, refl, sym, ap, ◌∙◌, subst, arith}
+use Rattle.std.proofs.Common.{◌≡◌, ℕ, ◌+◌, ◌<◌, ◌≤◌, Bool, true, false, ◌||◌, leb, ltb, inl, inr, List, [], ◌∷◌, ◌++◌, length, take, get_or, refl, sym, ap, ◌∙◌, subst, arith}
 use Rattle.std.specs.Prelude.{◌⊎◌}
 use Rattle.std.specs.List.{AllByRecursion}
 use Rattle.std.proofs.lemmas.Bool.{cases_Bool, both_ways, leb-true, leb-false, ltb-true, ltb-false}
@@ -58,7 +58,7 @@ pub seen_more : (created clock : ℕ) (first : Inode) (entries : List EntryField
 seen_more created clock first entries i left inode next live now e s lt is left_is made timely stands now_is =
     let at : next ≡ inode_behind first entries (i + 1) = made ∙ ap (redone e) s.is ∙ sym (behind_next first entries i e lt is) in
     let at_next : (n : ℕ) → n ≤ i + 1 → ltb n (i + 1) ≡ false → next ≡ inode_behind first entries n =
-        λ n le past. let high : i + 1 ≤ n = ltb-false n (i + 1) past in at ∙ ap (inode_behind first entries) (let same : i + 1 ≡ n = omega (arith, le, high) in same) in
+    λ n le past. let high : i + 1 ≤ n = ltb-false n (i + 1) past in at ∙ ap (inode_behind first entries) (let same : i + 1 ≡ n = omega (arith, le, high) in same) in
     record {
       is = at;
       changed = λ n le. elim (cases_Bool (ltb n (i + 1))) [
@@ -74,11 +74,11 @@ seen_more created clock first entries i left inode next live now e s lt is left_
         | inr here ↦ (i + 1, ap (λ (j : Inode). j.alive) (sym at) ∙ here)
       ];
       none = λ dead n le alive. (
-        let parts = neither_live live next.alive (sym now_is ∙ dead) in
-        elim (cases_Bool (ltb n (i + 1))) [
-          | inl low ↦ (let less : n < i + 1 = ltb-true n (i + 1) low in s.none parts.0 n (omega (arith, less)) alive)
-          | inr past ↦ both_ways next.alive parts.1 (ap (λ (j : Inode). j.alive) (at_next n le past) ∙ alive)
-        ]);
+          let parts = neither_live live next.alive (sym now_is ∙ dead) in
+          elim (cases_Bool (ltb n (i + 1))) [
+            | inl low ↦ (let less : n < i + 1 = ltb-true n (i + 1) low in s.none parts.0 n (omega (arith, less)) alive)
+            | inr past ↦ both_ways next.alive parts.1 (ap (λ (j : Inode). j.alive) (at_next n le past) ∙ alive)
+          ]);
     }
 
 -- behind more entries than there are stands the last inode

@@ -1,8 +1,10 @@
-//! The journal chains of an image's rows, read and judged before a drive is opened from them.
+//! The journal chains and inodes of an image's rows, read and judged before a drive is opened from them.
 //!
-//! An image is seen through its used blocks: what each pointer names in it. The layers above may rely on this: a chain is
-//! read exactly where it stands, with all its entries and the two counts of bytes that a row keeps of it. What the bytes of
-//! an image are, and what holds across rows, is told elsewhere.
+//! An image is seen through its used blocks: what each pointer names in it. The layers above may rely on this: a row's chain,
+//! and its whole history, is read exactly where it stands, with all entries, the two counts of bytes that a drive's row keeps,
+//! and the present inode. `laws` says that a history which stands is a row of a drive, in order up to the clock, where of the
+//! object's journal blocks and checkpoints those alone are held that it names. What the bytes of an image are, whether inodes
+//! are tidy and their pointers lead to data blocks, and what holds across rows, is not told here.
 #![tactic(auto)]
 
 mod chains;

@@ -52,12 +52,7 @@ fn is_live_by(before: bool, inode: &Inode) -> bool
 
 /// Whether the inodes that entries lead to from a first one are in order up to a clock: the last change of each live one is
 /// from the making to the clock, a dead one is the first or the last, the first is blank where it is dead, and one is live.
-pub(crate) fn is_orderly(
-    first: &Inode,
-    entries: &[Entry],
-    created: Moment,
-    clock: Moment,
-) -> bool
+pub(crate) fn is_orderly(first: &Inode, entries: &[Entry], created: Moment, clock: Moment) -> bool
     requires count { length first.now.pointers ≡ OBJECT_BLOCKS }
     requires moments { AllByRecursion (λ e. IsFromTo created clock e.moment) entries.now }
     ensures is { result ≡ true → IsOrderlyChain created clock first.now entries.now }

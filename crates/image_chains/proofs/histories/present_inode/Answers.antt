@@ -1,4 +1,3 @@
-use Rattle.std.proofs.Common.{◌≡◌, None, sym, ◌∙◌, rules}
 use Rattle.std.proofs.lemmas.Bool.{both_ways}
 use Rattle.image_chains.proofs.Leading.{moments_of, history_stands, present_is, no_beginning, run_of, order_of}
 use Rattle.image_chains.specs.History.{present_used}

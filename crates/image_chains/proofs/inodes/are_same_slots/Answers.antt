@@ -1,4 +1,4 @@
-use Rattle.std.proofs.Common.{◌<◌, None, arith}
+use Rattle.std.proofs.Common.{None, arith}
 use Rattle.std.proofs.lemmas.List.{ext_get_or}
 use Rattle.image_chains.proofs.inodes.are_same_slots.Goals as goal
 

@@ -1,4 +1,4 @@
-use Rattle.std.proofs.Common.{◌≡◌, ℕ, ◌<◌, None, length, get_or}
+use Rattle.std.proofs.Common.{◌≡◌, ℕ, ◌<◌, None, get_or}
 use Rattle.image_chains.proofs.inodes.are_same_slots.Given as goal
 
 abbrev pub invariant-loop-index : goal.invariant-loop-index

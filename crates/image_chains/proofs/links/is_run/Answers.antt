@@ -1,5 +1,4 @@
-use Rattle.std.proofs.Common.{◌+◌, take, refl, sym, ◌∙◌}
-use Rattle.codec.specs.declared.inodes.Inode.{Inode}
+use Rattle.std.proofs.Common.{◌+◌, take, sym, ◌∙◌}
 use Rattle.undo_redo.specs.Linked.{Linked}
 use Rattle.undo_redo.specs.Runs.{Run}
 use Rattle.image_chains.proofs.Running.{run_more, run_whole, stands_there}
