@@ -34,7 +34,12 @@ pub record ChainStands (used : Place → Option Stored) (row : ImageRow) (clock 
 -- What a row keeps of its chain: the two counts of bytes are those of all entries, and of the newest block's.
 abbrev pub chain_fields : (Place → Option Stored) → ImageRow → ChainFields
 chain_fields used row =
-    record { object = row.object; head = row.head; bytes = entries_length (entries_used used row); filled = filled_bytes (packed (entries_used used row)) }
+    record {
+      object = row.object;
+      head = row.head;
+      bytes = entries_length (entries_used used row);
+      filled = filled_bytes (packed (entries_used used row));
+    }
 
 -- of an object's used journal blocks, those of its row's chain alone
 abbrev pub chain_view : (Place → Option Stored) → ImageRow → BlockView

@@ -39,5 +39,12 @@ checkpoint_view used row = λ p. named_at row.checkpoint (of_kind Checkpoint row
 
 -- the row that a drive keeps of a row of an image, with this stamp
 abbrev pub kept_row : (Place → Option Stored) → ImageRow → ℕ → Row
-kept_row used row stamp =
-    record { created = row.created; checkpoint = row.checkpoint; checkpoint_moment = row.checkpoint_moment; head = row.head; journal_bytes = entries_length (entries_used used row); head_bytes = filled_bytes (packed (entries_used used row)); stamp = stamp }
+kept_row used row stamp = record {
+  created = row.created;
+  checkpoint = row.checkpoint;
+  checkpoint_moment = row.checkpoint_moment;
+  head = row.head;
+  journal_bytes = entries_length (entries_used used row);
+  head_bytes = filled_bytes (packed (entries_used used row));
+  stamp = stamp;
+}
