@@ -1,0 +1,12 @@
+pub mod Bytes
+pub mod Firsts
+pub mod Walking
+pub mod Judging
+pub mod Holding
+pub mod Earlier
+pub mod Running
+pub mod Undoing
+pub mod Beginning
+pub mod Ordering
+pub mod Leading
+pub mod Keeping

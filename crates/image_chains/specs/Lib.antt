@@ -1,0 +1,4 @@
+pub mod Chains
+pub mod Inodes
+pub mod History
+pub mod private
