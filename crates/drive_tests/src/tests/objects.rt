@@ -1,6 +1,6 @@
 //! What writes, truncations and attributes leave, now and at earlier moments.
 use crate::tests::asking::{Ask, Row, Told};
-use crate::tests::both_answer;
+use crate::tests::both_answer_each;
 use s4_types::Refusal::{Future, NoObject};
 use s4_types::Role::Client;
 use std::test::Fail;
@@ -62,13 +62,14 @@ static DEATHS: [Row; 9] = [
 
 #[test]
 fn objects(rt: HostRuntime) -> Result<(), Fail> {
-    for rows in [
-        BEFORE_ANY.as_slice(),
-        WRITES.as_slice(),
-        SIZES_AND_ATTRIBUTES.as_slice(),
-        DEATHS.as_slice(),
-    ] {
-        both_answer(&rt, rt.alloc(), 100, rows)?;
-    }
-    Ok(())
+    both_answer_each(
+        &rt,
+        rt.alloc(),
+        &[
+            BEFORE_ANY.as_slice(),
+            WRITES.as_slice(),
+            SIZES_AND_ATTRIBUTES.as_slice(),
+            DEATHS.as_slice(),
+        ],
+    )
 }

@@ -1,7 +1,7 @@
 //! Requests that meet two refusals answer the earlier one.
-use crate::tests::asking::{Ask, LONG_ATTRIBUTE, ONE_ABOVE, Row, Told, append};
+use crate::tests::asking::{Ask, LONG_ATTRIBUTE, ONE_ABOVE, Part, Row, Told};
 use crate::tests::both_answer;
-use crate::tests::spans::sixty_four_runs;
+use crate::tests::spans::BEGUN;
 use s4_types::Refusal::{
     BadAttr, BadSpan, ClockEnd, Expired, Flushed, Future, NoObject, NotAdmin, TooLarge,
     TooManySpans,
@@ -134,20 +134,24 @@ static FULL_OF_ONE_AT_THE_END: [Row; 3] = [
 
 #[test]
 fn order_of_refusals(rt: HostRuntime) -> Result<(), Fail> {
-    let mut rows = Vec::new(rt.alloc());
-    append(&mut rows, BEGINNING.as_slice())?;
-    append(&mut rows, ORDER.as_slice())?;
-    both_answer(&rt, rt.alloc(), 100, rows.as_slice())
+    let parts = [Part::Rows(&BEGINNING), Part::Rows(&ORDER)];
+    both_answer(&rt, rt.alloc(), 100, &parts)
 }
 
 #[test]
 fn order_at_the_clock_end(rt: HostRuntime) -> Result<(), Fail> {
-    let mut rows = sixty_four_runs(rt.alloc(), false)?;
-    append(&mut rows, FULL.as_slice())?;
-    append(&mut rows, AT_THE_END.as_slice())?;
-    append(&mut rows, FULL_AT_THE_END.as_slice())?;
-    both_answer(&rt, rt.alloc(), u64::MAX, rows.as_slice())?;
-    let mut rows = sixty_four_runs(rt.alloc(), true)?;
-    append(&mut rows, FULL_OF_ONE_AT_THE_END.as_slice())?;
-    both_answer(&rt, rt.alloc(), u64::MAX, rows.as_slice())
+    let parts = [
+        Part::Rows(&BEGUN),
+        Part::Runs(false),
+        Part::Rows(&FULL),
+        Part::Rows(&AT_THE_END),
+        Part::Rows(&FULL_AT_THE_END),
+    ];
+    both_answer(&rt, rt.alloc(), u64::MAX, &parts)?;
+    let parts = [
+        Part::Rows(&BEGUN),
+        Part::Runs(true),
+        Part::Rows(&FULL_OF_ONE_AT_THE_END),
+    ];
+    both_answer(&rt, rt.alloc(), u64::MAX, &parts)
 }

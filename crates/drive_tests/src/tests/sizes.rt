@@ -1,6 +1,6 @@
 //! Sizes at the limit and one above it.
 use crate::tests::asking::{Ask, LONG_ATTRIBUTE, ONE_ABOVE, Row, Told};
-use crate::tests::both_answer;
+use crate::tests::both_answer_each;
 use s4_types::Refusal::{BadAttr, NoObject, TooLarge};
 use s4_types::Role::Client;
 use std::test::Fail;
@@ -95,13 +95,14 @@ static PAST_THE_END: [Row; 6] = [
 
 #[test]
 fn sizes(rt: HostRuntime) -> Result<(), Fail> {
-    for rows in [
-        ENDS.as_slice(),
-        LONG.as_slice(),
-        READS.as_slice(),
-        PAST_THE_END.as_slice(),
-    ] {
-        both_answer(&rt, rt.alloc(), 100, rows)?;
-    }
-    Ok(())
+    both_answer_each(
+        &rt,
+        rt.alloc(),
+        &[
+            ENDS.as_slice(),
+            LONG.as_slice(),
+            READS.as_slice(),
+            PAST_THE_END.as_slice(),
+        ],
+    )
 }

@@ -1,6 +1,6 @@
 //! Hidden spans: what they hide, where they may lie, and how many there may be.
-use crate::tests::asking::{Ask, Row, Told, append};
-use crate::tests::both_answer;
+use crate::tests::asking::{Ask, Part, Row, Told};
+use crate::tests::{both_answer, both_answer_each};
 use s4_types::Refusal::{BadSpan, Expired, Flushed, NoObject, NotAdmin, TooManySpans};
 use s4_types::Role::{Admin, Client};
 use std::alloc::Global;
@@ -90,31 +90,19 @@ static FALLEN: [Row; 4] = [
 
 #[test]
 fn spans(rt: HostRuntime) -> Result<(), Fail> {
-    for rows in [
-        HIDDEN.as_slice(),
-        HIDDEN_BEFORE_DEATH.as_slice(),
-        ENDS.as_slice(),
-    ] {
-        both_answer(&rt, rt.alloc(), 100, rows)?;
-    }
-    Ok(())
+    both_answer_each(
+        &rt,
+        rt.alloc(),
+        &[
+            HIDDEN.as_slice(),
+            HIDDEN_BEFORE_DEATH.as_slice(),
+            ENDS.as_slice(),
+        ],
+    )
 }
 
-/// An object, and sixty-four runs of hidden moments, of all objects or of that one.
-pub(super) fn sixty_four_runs(alloc: Global, of_one: bool) -> Result<Vec<Row>, Fail> {
-    let mut rows = Vec::new(alloc);
-    rows.push((Client, 500, Ask::Create(b""), Told::Created(1, 500)))?;
-    for k in 1..65u64 {
-        let moment = 2 * k;
-        let asked = if of_one {
-            Ask::FlushO(1, moment, moment)
-        } else {
-            Ask::Flush(moment, moment)
-        };
-        rows.push((Admin, 0, asked, Told::Changed(500 + k)))?;
-    }
-    Ok(rows)
-}
+/// An object, before sixty-four runs of hidden moments.
+pub(super) static BEGUN: [Row; 1] = [(Client, 500, Ask::Create(b""), Told::Created(1, 500))];
 
 #[test]
 fn full_lists(rt: HostRuntime) -> Result<(), Fail> {
@@ -123,9 +111,8 @@ fn full_lists(rt: HostRuntime) -> Result<(), Fail> {
         (true, FULL_OF_ONE.as_slice()),
         (false, FALLEN.as_slice()),
     ] {
-        let mut all = sixty_four_runs(rt.alloc(), of_one)?;
-        append(&mut all, rows)?;
-        both_answer(&rt, rt.alloc(), 1000, all.as_slice())?;
+        let parts = [Part::Rows(&BEGUN), Part::Runs(of_one), Part::Rows(rows)];
+        both_answer(&rt, rt.alloc(), 1000, &parts)?;
     }
     Ok(())
 }

@@ -1,6 +1,6 @@
 //! How far back can be read, and the clock's end.
 use crate::tests::asking::{Ask, Row, Told};
-use crate::tests::both_answer;
+use crate::tests::both_answer_each;
 use s4_types::Refusal::{ClockEnd, Expired, Future};
 use s4_types::Role::{Admin, Client};
 use std::test::Fail;
@@ -79,13 +79,14 @@ static LAST_MOMENT: [Row; 3] = [
 
 #[test]
 fn windows(rt: HostRuntime) -> Result<(), Fail> {
-    for rows in [
-        WINDOWS.as_slice(),
-        A_READ_MOVES_ON.as_slice(),
-        CLOCK_END.as_slice(),
-        LAST_MOMENT.as_slice(),
-    ] {
-        both_answer(&rt, rt.alloc(), 100, rows)?;
-    }
-    Ok(())
+    both_answer_each(
+        &rt,
+        rt.alloc(),
+        &[
+            WINDOWS.as_slice(),
+            A_READ_MOVES_ON.as_slice(),
+            CLOCK_END.as_slice(),
+            LAST_MOMENT.as_slice(),
+        ],
+    )
 }
