@@ -27,6 +27,7 @@ use crate::tests::asking::{Ask, Part, Row, Told};
 use crate::tests::drives::{Answering, LogDrive, Party, Plain};
 use drive::NewDrive;
 use s4_types::Refusal;
+use s4_types::Refusal::{Busy, NoMemory};
 use s4_types::Role::{Admin, Client};
 use segment_word::Naming;
 use std::alloc::Global;
@@ -108,10 +109,45 @@ fn plan_of<D: LogDrive>(
     party.drive.plan(&mut party.client, object, length, at)
 }
 
+/// Memory for so many values, asked for a second time where it was refused once.
+fn room_for<T>(alloc: Global, count: usize) -> Result<Vec<T>, Fail> {
+    match Vec::with_capacity(alloc, count) {
+        Ok(made) => Ok(made),
+        Err(_) => Ok(Vec::with_capacity(alloc, count)?),
+    }
+}
+
+/// A plan of object 1's first bytes at the clock, made once more where memory was refused.
+fn plan_again<D: LogDrive>(party: &mut Party<D>, length: u32) -> Result<ReadPlan, Refusal> {
+    let at = party.drive.clock();
+    match plan_of(party, 1, length, at) {
+        Err(NoMemory) => plan_of(party, 1, length, at),
+        planned => planned,
+    }
+}
+
+/// Such plans, all kept, until no seat is left or 65 were had.
+fn all_plans<D: LogDrive>(
+    alloc: Global,
+    party: &mut Party<D>,
+    length: u32,
+) -> Result<Vec<ReadPlan>, Fail> {
+    let mut plans = room_for(alloc, 65)?;
+    for _ in 0..65 {
+        match plan_again(party, length) {
+            Ok(plan) => plans.push(plan)?,
+            Err(Busy) => return Ok(plans),
+            Err(refusal) => return Err(Fail::from(refusal)),
+        }
+    }
+    Ok(plans)
+}
+
 /// Asks the rows one after another.
 fn ask_rows<D: Answering>(rt: &impl Abort, drive: &mut D, rows: &[Row]) -> Result<(), Fail> {
     for (number, row) in rows.iter().enumerate() {
-        assert!(rt; drive.answers(*row)?, "row {number}");
+        let (_, now, _, _) = *row;
+        assert!(rt; drive.answers(*row)?, "row {number}, at {now}");
     }
     Ok(())
 }

@@ -243,3 +243,18 @@ pub(super) fn play_acts<R: Abort>(
 {
     play(rt, alloc, frames, 100, Acts { acts })
 }
+
+/// New drives do all of each list.
+pub(super) fn play_each<R: Abort>(
+    rt: &R,
+    alloc: Global,
+    frames: usize,
+    lists: &[&[Act]],
+) -> Result<(), Fail>
+    requires { IsFrameCount frames }
+{
+    for acts in lists {
+        play_acts(rt, alloc, frames, acts)?;
+    }
+    Ok(())
+}

@@ -113,10 +113,13 @@ fn request_of(alloc: Global, ask: Ask) -> Result<Request, Fail> {
     Ok(request_with(ask, bytes_of(alloc, ask)?))
 }
 
+/// As many zeros as a reply is told to begin with, or more.
+static ZEROS: [u8; 1_024] = [0; 1_024];
+
 /// Whether data are so many zeros and the bytes behind them.
 fn is_behind_zeros(data: &[u8], zeros: usize, behind: &[u8]) -> bool {
-    match data.split_at_checked(zeros) {
-        Some((front, back)) => front.iter().all(|byte| *byte == 0) && back == behind,
+    match ZEROS.get(..zeros) {
+        Some(front) => data.strip_prefix(front) == Some(behind),
         None => false,
     }
 }

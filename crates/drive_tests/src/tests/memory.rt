@@ -2,14 +2,13 @@
 //! it is for runs in which one allocation after another is refused.
 use crate::tests::asking::{Ask, Row, Told};
 use crate::tests::drives::{Answering, LogDrive, Party, Plain};
-use crate::tests::{Scene, plan_of, play};
-use s4_types::Refusal::{Busy, Flushed, NoMemory, NoObject, NoSpace, TooLarge};
+use crate::tests::{Scene, all_plans, play, room_for};
+use s4_types::Refusal::{Flushed, NoMemory, NoObject, NoSpace, TooLarge};
 use s4_types::Role::{Admin, Client};
 use s4_types::{Refusal, Reply, Role};
 use std::alloc::Global;
 use std::process::Abort;
 use std::test::Fail;
-use time_read::ReadPlan;
 
 /// Who asks, the server's clock, and what is asked.
 type Asked = (Role, u64, Ask);
@@ -69,21 +68,13 @@ fn is_want(reply: &Reply) -> bool {
     matches!(reply, Reply::Refused(NoMemory))
 }
 
-/// Memory for so many exchanges, asked for a second time where it was refused once.
-fn exchanges(alloc: Global, count: usize) -> Result<Vec<Exchange>, Fail> {
-    match Vec::with_capacity(alloc, count) {
-        Ok(made) => Ok(made),
-        Err(_) => Ok(Vec::with_capacity(alloc, count)?),
-    }
-}
-
 /// Asks the rows one after another, and a row that wants memory once more.
 fn ask_all<D: Answering>(
     alloc: Global,
     drive: &mut D,
     rows: &[Asked],
 ) -> Result<Vec<Exchange>, Fail> {
-    let mut made = exchanges(alloc, rows.len().saturating_add(1))?;
+    let mut made = room_for(alloc, rows.len().saturating_add(1))?;
     for row in rows {
         let (role, now, asked) = *row;
         let reply = drive.reply_to(role, now, asked)?;
@@ -257,36 +248,6 @@ static SEALED: [Asked; 2] = [
     (Client, 20, Ask::Fill(1, 0, 15_360, 7)),
 ];
 
-/// A plan of all its bytes, made once more where memory was refused.
-fn plan_again<D: LogDrive>(party: &mut Party<D>) -> Result<ReadPlan, Refusal> {
-    let at = party.drive.clock();
-    match plan_of(party, 1, 15_360, at) {
-        Err(NoMemory) => plan_of(party, 1, 15_360, at),
-        planned => planned,
-    }
-}
-
-/// Memory for so many plans, asked for a second time where it was refused once.
-fn room_for_plans(alloc: Global, count: usize) -> Result<Vec<ReadPlan>, Fail> {
-    match Vec::with_capacity(alloc, count) {
-        Ok(made) => Ok(made),
-        Err(_) => Ok(Vec::with_capacity(alloc, count)?),
-    }
-}
-
-/// Plans of all its bytes, all kept, until no seat is left or 65 were had.
-fn all_plans<D: LogDrive>(alloc: Global, party: &mut Party<D>) -> Result<Vec<ReadPlan>, Fail> {
-    let mut plans = room_for_plans(alloc, 65)?;
-    for _ in 0..65 {
-        match plan_again(party) {
-            Ok(plan) => plans.push(plan)?,
-            Err(Busy) => return Ok(plans),
-            Err(refusal) => return Err(Fail::from(refusal)),
-        }
-    }
-    Ok(plans)
-}
-
 /// No pin stays of a plan that memory was refused for, when it was made or fetched: each time all 64 seats are to be had.
 #[derive(Drop)]
 struct Unpinned;
@@ -301,7 +262,7 @@ impl Scene for Unpinned {
         let mut party = party;
         ask_all(alloc, &mut party, &SEALED)?;
         for _ in 0..2 {
-            let plans = all_plans(alloc, &mut party)?;
+            let plans = all_plans(alloc, &mut party, 15_360)?;
             assert!(rt; plans.len() == 64);
             for plan in plans {
                 drop(plan.fetch(alloc));

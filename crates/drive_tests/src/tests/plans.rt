@@ -2,13 +2,12 @@
 use crate::tests::acts::{Act, play_acts};
 use crate::tests::asking::{Ask, Row, Told};
 use crate::tests::drives::{LogDrive, Party};
-use crate::tests::{Scene, ask_rows, plan_of, play};
-use s4_types::Refusal::{Busy, Future, NoObject, TooLarge};
+use crate::tests::{Scene, all_plans, ask_rows, plan_of, play};
+use s4_types::Refusal::{Future, NoObject, TooLarge};
 use s4_types::Role::Client;
 use std::alloc::Global;
 use std::process::Abort;
 use std::test::Fail;
-use time_read::ReadPlan;
 
 /// The bytes of 13 blocks.
 const FIRST_BYTES: [u8; 6656] = [b'a'; 6656];
@@ -69,19 +68,6 @@ fn a_plan_is_refused_as_its_read(rt: HostRuntime) -> Result<(), Fail> {
     play_acts(&rt, rt.alloc(), 16, REFUSED.as_slice())
 }
 
-/// Plans of a byte of a sealed block, all kept, until no seat is left or 65 were had.
-fn all_plans<D: LogDrive>(alloc: Global, party: &mut Party<D>) -> Result<Vec<ReadPlan>, Fail> {
-    let mut plans = Vec::new(alloc);
-    for _ in 0..65 {
-        match plan_of(party, 1, 1, 20) {
-            Ok(plan) => plans.push(plan)?,
-            Err(Busy) => return Ok(plans),
-            Err(refusal) => return Err(Fail::from(refusal)),
-        }
-    }
-    Ok(plans)
-}
-
 /// Plans take the seats of pins, and give them back.
 #[derive(Drop)]
 struct Seats;
@@ -95,7 +81,7 @@ impl Scene for Seats {
     ) -> Result<(), Fail> {
         let mut party = party;
         ask_rows(rt, &mut party, &SEALED)?;
-        let mut plans = all_plans(alloc, &mut party)?;
+        let mut plans = all_plans(alloc, &mut party, 1)?;
         assert!(rt;
             32 <= plans.len() && plans.len() < 65,
             "some are had, and not all"

@@ -59,13 +59,13 @@ fn eight_frames(rt: HostRuntime) -> Result<(), Fail> {
 }
 
 /// The beginning of a chain: a Create now 1.
-static BEGUN: [Row; 1] = [(Client, 1, Ask::Create(b""), Told::Created(1, 1))];
+const BEGUN: [Row; 1] = [(Client, 1, Ask::Create(b""), Told::Created(1, 1))];
 
 /// Behind the Create 342 of these now 0, at the moments 2 to 343, and one more change: entries of 34 bytes each.
 const EMPTY: Ask = Ask::Write(1, 0, b"");
 
 /// 16 bytes of the chain are left: no entry is shorter than 34.
-static FULL: [Row; 12] = [
+const FULL: [Row; 12] = [
     (Client, 0, Ask::Write(1, 0, b""), Told::Refused(ChainFull)),
     (Client, 0, Ask::ReadAt(1, 0, 1, 344), Told::Data(b"")),
     (Client, 0, Ask::AttrAt(1, 345), Told::Refused(Future)),
@@ -81,35 +81,37 @@ static FULL: [Row; 12] = [
 ];
 
 /// The same of an object that was deleted last.
-static DEAD: [Row; 4] = [
+const DEAD: [Row; 4] = [
     (Client, 0, Ask::Write(1, 0, b""), Told::Refused(NoObject)),
     (Client, 0, Ask::Delete(1), Told::Refused(NoObject)),
     (Client, 0, Ask::AttrAt(1, 343), Told::Attr(0, 1, 343, b"")),
     (Client, 0, Ask::Append(1, b"a"), Told::Refused(NoObject)),
 ];
 
+static FULL_CHAIN: [Part; 3] = [
+    Part::Rows(&BEGUN),
+    Part::Again(EMPTY, 2, 345),
+    Part::Rows(&FULL),
+];
+
+static DEAD_CHAIN: [Part; 4] = [
+    Part::Rows(&BEGUN),
+    Part::Again(EMPTY, 2, 344),
+    Part::Again(Ask::Delete(1), 344, 345),
+    Part::Rows(&DEAD),
+];
+
 #[test]
 fn a_full_chain(rt: HostRuntime) -> Result<(), Fail> {
-    let parts = [
-        Part::Rows(&BEGUN),
-        Part::Again(EMPTY, 2, 345),
-        Part::Rows(&FULL),
-    ];
-    answers(&rt, rt.alloc(), 64, 100, &parts)?;
-    let parts = [
-        Part::Rows(&BEGUN),
-        Part::Again(EMPTY, 2, 344),
-        Part::Again(Ask::Delete(1), 344, 345),
-        Part::Rows(&DEAD),
-    ];
-    answers(&rt, rt.alloc(), 64, 100, &parts)
+    answers(&rt, rt.alloc(), 64, 100, &FULL_CHAIN)?;
+    answers(&rt, rt.alloc(), 64, 100, &DEAD_CHAIN)
 }
 
 /// Object 2 is made.
-static SECOND: [Row; 1] = [(Client, 0, Ask::Create(b""), Told::Created(2, 345))];
+const SECOND: [Row; 1] = [(Client, 0, Ask::Create(b""), Told::Created(2, 345))];
 
 /// No room, object 1's chain full, and then the clock at its end: the earlier refusal is answered.
-static ORDER: [Row; 24] = [
+const ORDER: [Row; 24] = [
     (Client, 0, Ask::Write(2, 0, b""), Told::Refused(NoSpace)),
     (Client, 0, Ask::Write(1, 0, b"a"), Told::Refused(ChainFull)),
     (Client, 0, Ask::Delete(1), Told::Refused(ChainFull)),
@@ -147,16 +149,17 @@ static ORDER: [Row; 24] = [
 ];
 
 /// Behind a full chain of 344 blocks, of the 900 of 64 frames: object 2 and Writes of it take all that are left.
+static NO_ROOM: [Part; 7] = [
+    Part::Rows(&BEGUN),
+    Part::Again(EMPTY, 2, 345),
+    Part::Rows(&SECOND),
+    Part::Again(Ask::Fill(2, 0, 24_576, 1), 346, 356),
+    Part::Again(Ask::Write(2, 0, b"a"), 356, 378),
+    Part::Again(Ask::Write(2, 0, b""), 378, 379),
+    Part::Rows(&ORDER),
+];
+
 #[test]
 fn order_with_no_room(rt: HostRuntime) -> Result<(), Fail> {
-    let parts = [
-        Part::Rows(&BEGUN),
-        Part::Again(EMPTY, 2, 345),
-        Part::Rows(&SECOND),
-        Part::Again(Ask::Fill(2, 0, 24_576, 1), 346, 356),
-        Part::Again(Ask::Write(2, 0, b"a"), 356, 378),
-        Part::Again(Ask::Write(2, 0, b""), 378, 379),
-        Part::Rows(&ORDER),
-    ];
-    answers(&rt, rt.alloc(), 64, 1000, &parts)
+    answers(&rt, rt.alloc(), 64, 1000, &NO_ROOM)
 }
