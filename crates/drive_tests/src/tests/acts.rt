@@ -3,13 +3,13 @@ ghost use Rattle.std.specs.Prelude.{◌≤◌};
 ghost use Rattle.s4_types.specs.Sizes.{IsFrameCount};
 
 use crate::tests::asking::Row;
-use crate::tests::drives::{LogDrive, Party, is_answered};
-use crate::tests::rewriting::Answered;
-use crate::tests::{Scene, play};
+use crate::tests::drives::{Answered, Answering, LogDrive, Party};
+use crate::tests::{Scene, plan_of, play};
 use s4_types::{ObjectId, Refusal};
 use std::alloc::Global;
 use std::process::Abort;
 use std::test::Fail;
+use time_read::ReadPlan;
 
 /// Of an object's row: its creation, the bytes of its journal, and whether it has a checkpoint and a head.
 type RowTold = (u64, u16, bool, bool);
@@ -18,7 +18,7 @@ type RowTold = (u64, u16, bool, bool);
 type InodeTold = (bool, u32, [bool; 3]);
 
 /// What is done, or what is told then.
-#[derive(Clone, Copy, Debug)]
+#[derive(Clone, Copy)]
 pub(super) enum Act {
     /// A request, and its reply.
     Asks(Row),
@@ -51,6 +51,10 @@ pub(super) enum Act {
     Inode(u64, u64, Option<InodeTold>),
     /// Whether some moment of an object from a first to a last can be read.
     Sees(u64, u64, u64, bool),
+    /// A plan of reading so many bytes of an object at a moment is made and kept, or why it is refused.
+    Plans(u64, u32, u64, Option<Refusal>),
+    /// The plan that is kept is fetched, and gives so many bytes that are all the same.
+    Gives(u8, usize),
 }
 
 /// Whether the blocks of a frame that an object holds are these.
@@ -115,25 +119,65 @@ fn is_written<D: LogDrive>(drive: &mut D, object: u64, moment: u64) -> bool {
     answer.is_ok() && written && before == after
 }
 
-/// The answer to a removal, or the second one where memory was refused.
-fn removed<D: LogDrive>(drive: &mut D, object: u64, from: u64) -> Result<Answered, Fail> {
+/// Whether a removal is answered so, asked for a second time where memory was refused.
+fn is_removed<D: LogDrive>(
+    drive: &mut D,
+    object: u64,
+    from: u64,
+    told: Answered,
+) -> Result<bool, Fail> {
     match drive.remove(object, from)? {
-        Some(Err(Refusal::NoMemory)) => drive.remove(object, from),
-        told => Ok(told),
+        Some(Err(Refusal::NoMemory)) => Ok(drive.remove(object, from)? == told),
+        answered => Ok(answered == told),
     }
 }
 
-/// The answer to a cut, or the second one where memory was refused.
-fn cut<D: LogDrive>(drive: &mut D, object: u64, at: u64) -> Result<Answered, Fail> {
+/// Whether a cut is answered so, asked for a second time where memory was refused.
+fn is_cut<D: LogDrive>(drive: &mut D, object: u64, at: u64, told: Answered) -> Result<bool, Fail> {
     match drive.cut(object, at)? {
-        Some(Err(Refusal::NoMemory)) => drive.cut(object, at),
-        told => Ok(told),
+        Some(Err(Refusal::NoMemory)) => Ok(drive.cut(object, at)? == told),
+        answered => Ok(answered == told),
     }
 }
 
-fn holds<D: LogDrive>(party: &mut Party<D>, act: Act) -> Result<bool, Fail> {
+/// Whether a plan is made, which is kept then, or refused so.
+fn is_planned(
+    planned: Result<ReadPlan, Refusal>,
+    plan: &mut Option<ReadPlan>,
+    told: Option<Refusal>,
+) -> bool {
+    match planned {
+        Ok(made) => {
+            drop(plan.replace(made));
+            told.is_none()
+        }
+        Err(refusal) => told == Some(refusal),
+    }
+}
+
+/// Whether the plan that is kept gives one byte, so often.
+fn gives(
+    alloc: Global,
+    plan: &mut Option<ReadPlan>,
+    byte: u8,
+    count: usize,
+) -> Result<bool, Refusal> {
+    match plan.take() {
+        Some(plan) => {
+            let bytes = plan.fetch(alloc)?;
+            Ok(bytes.len() == count && bytes.iter().all(|given| *given == byte))
+        }
+        None => Ok(false),
+    }
+}
+
+fn holds<D: LogDrive>(
+    party: &mut Party<D>,
+    plan: &mut Option<ReadPlan>,
+    act: Act,
+) -> Result<bool, Fail> {
     match act {
-        Act::Asks(row) => is_answered(party, row),
+        Act::Asks(row) => party.answers(row),
         Act::Seals => {
             party.drive.seal();
             Ok(true)
@@ -142,8 +186,8 @@ fn holds<D: LogDrive>(party: &mut Party<D>, act: Act) -> Result<bool, Fail> {
         Act::Writes(object, moment) => Ok(is_written(&mut party.drive, object, moment)),
         Act::Marks(frame, told) => Ok(party.drive.mark(frame) == told),
         Act::Releases(frame, told) => Ok(party.drive.release(frame) == told),
-        Act::Removes(object, from, told) => Ok(removed(&mut party.drive, object, from)? == told),
-        Act::Cuts(object, at, told) => Ok(cut(&mut party.drive, object, at)? == told),
+        Act::Removes(object, from, told) => is_removed(&mut party.drive, object, from, told),
+        Act::Cuts(object, at, told) => is_cut(&mut party.drive, object, at, told),
         Act::Rules => {
             party.drive.rules();
             Ok(true)
@@ -158,6 +202,11 @@ fn holds<D: LogDrive>(party: &mut Party<D>, act: Act) -> Result<bool, Fail> {
         Act::Sees(object, first, last, told) => {
             Ok(party.drive.sees(object, first, last) == told)
         }
+        Act::Plans(object, length, at, told) => {
+            let planned = plan_of(party, object, length, at);
+            Ok(is_planned(planned, plan, told))
+        }
+        Act::Gives(byte, count) => Ok(gives(party.alloc, plan, byte, count)?),
     }
 }
 
@@ -168,10 +217,16 @@ struct Acts<'a> {
 }
 
 impl Scene for Acts<'_> {
-    fn play<D: LogDrive, R: Abort>(self, rt: &R, alloc: Global, drive: D) -> Result<(), Fail> {
-        let mut party = Party::new(alloc, drive)?;
-        for act in self.acts {
-            assert!(rt; holds(&mut party, *act)?, "{act:?}");
+    fn play<D: LogDrive, R: Abort>(
+        self,
+        rt: &R,
+        _alloc: Global,
+        party: Party<D>,
+    ) -> Result<(), Fail> {
+        let mut party = party;
+        let mut plan = None;
+        for (number, act) in self.acts.iter().enumerate() {
+            assert!(rt; holds(&mut party, &mut plan, *act)?, "act {number}");
         }
         Ok(())
     }
@@ -187,4 +242,19 @@ pub(super) fn play_acts<R: Abort>(
     requires { IsFrameCount frames }
 {
     play(rt, alloc, frames, 100, Acts { acts })
+}
+
+/// New drives do all of each list.
+pub(super) fn play_each<R: Abort>(
+    rt: &R,
+    alloc: Global,
+    frames: usize,
+    lists: &[&[Act]],
+) -> Result<(), Fail>
+    requires { IsFrameCount frames }
+{
+    for acts in lists {
+        play_acts(rt, alloc, frames, acts)?;
+    }
+    Ok(())
 }

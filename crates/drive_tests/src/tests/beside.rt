@@ -1,6 +1,7 @@
 //! A drive beside the plain one, which answers by the list of all changes.
+ghost use Rattle.std.specs.Prelude.{◌<◌, ◌≤◌};
+
 use crate::tests::asking::Ask;
-use crate::tests::dice::Dice;
 use crate::tests::drives::{Answering, LogDrive, Party, Plain};
 use crate::tests::{Scene, play};
 use s4_types::Refusal::{Busy, ChainFull, NoSpace};
@@ -9,10 +10,124 @@ use std::alloc::Global;
 use std::process::Abort;
 use std::test::Fail;
 
-/// Moves a drive's clock to a moment, by a read that finds nothing.
-pub(super) fn pass_moment(drive: &mut impl Answering, now: u64) -> Result<(), Fail> {
-    drive.reply_to(Role::Client, now, Ask::Read(0, 0, 0))?;
-    Ok(())
+/// The bytes of writes.
+static LETTERS: [u8; 1_500] = [b'x'; 1_500];
+
+/// The bytes of attributes.
+static NAME: [u8; 65] = [b'n'; 65];
+
+/// A fixed list of requests, the same at each run, by a generator of fixed steps: numbers that look thrown, the server's clock,
+/// and how many objects were asked for.
+#[derive(Drop)]
+struct Dice {
+    state: u64,
+    now: u64,
+    made: u64,
+}
+
+impl Dice {
+    /// A number below `sides`.
+    fn roll(&mut self, sides: u64) -> u64
+        requires { 0 < sides }
+        ensures { result < sides }
+    {
+        self.state = self
+            .state
+            .wrapping_mul(6_364_136_223_846_793_005)
+            .wrapping_add(1_442_695_040_888_963_407);
+        (self.state >> 33) % sides
+    }
+
+    /// The number of an object: mostly one of the last that were made.
+    fn object(&mut self) -> u64 {
+        let back = self.roll(7);
+        self.made.saturating_add(1).saturating_sub(back)
+    }
+
+    /// An offset in bytes, more often near the beginning.
+    fn offset(&mut self) -> u64 {
+        let reach = 1 + self.roll(24_700);
+        self.roll(reach)
+    }
+
+    /// A moment, mostly one that can be read.
+    fn moment(&mut self) -> u64 {
+        let back = self.roll(110);
+        self.now.saturating_add(3).saturating_sub(back)
+    }
+
+    fn letters(&mut self) -> &'static [u8] {
+        let length = self.roll(1_500) as usize;
+        LETTERS.get(..length).unwrap_or(b"x")
+    }
+
+    fn name(&mut self) -> &'static [u8] {
+        let length = self.roll(66) as usize;
+        NAME.get(..length).unwrap_or(b"n")
+    }
+
+    /// The next request: who asks, and when.
+    fn request(&mut self) -> (Role, u64, Ask) {
+        let step = self.roll(3);
+        self.now = self.now.saturating_add(step);
+        let role = if self.roll(4) == 0 {
+            Role::Admin
+        } else {
+            Role::Client
+        };
+        let asked = match self.roll(25) {
+            0 => {
+                self.made = self.made.saturating_add(1);
+                Ask::Create(self.name())
+            }
+            1 => Ask::Delete(self.object()),
+            2 => self.hiding(),
+            3..=14 => self.writing(),
+            _ => self.reading(),
+        };
+        (role, self.now, asked)
+    }
+
+    fn hiding(&mut self) -> Ask {
+        let first = self.moment();
+        let length = self.roll(8);
+        let last = first.saturating_add(length);
+        match self.roll(4) {
+            0 => Ask::SetWindow(80 + length * 5),
+            1 => Ask::Flush(first, last),
+            _ => Ask::FlushO(self.object(), first, last),
+        }
+    }
+
+    fn writing(&mut self) -> Ask {
+        let object = self.object();
+        let offset = self.offset();
+        match self.roll(9) {
+            0 => Ask::SetAttr(object, self.name()),
+            1 => Ask::Truncate(object, offset),
+            2 => Ask::Truncate(object, offset / 512 * 512),
+            3 => Ask::Append(object, self.letters()),
+            4 => Ask::Write(object, offset, b""),
+            5 => Ask::Write(object, offset, self.letters()),
+            6 => Ask::Fill(object, offset, 512, 1),
+            _ => {
+                let count = self.roll(9_000);
+                Ask::Fill(object, offset, count, (count % 251) as u8)
+            }
+        }
+    }
+
+    fn reading(&mut self) -> Ask {
+        let object = self.object();
+        let offset = self.offset();
+        let length = self.roll(24_600) as u32;
+        match self.roll(4) {
+            0 => Ask::Attr(object),
+            1 => Ask::AttrAt(object, self.moment()),
+            2 => Ask::Read(object, offset, length),
+            _ => Ask::ReadAt(object, offset, length, self.moment()),
+        }
+    }
 }
 
 /// Asked for requests of a fixed list, two drives answer alike, but where one is full.
@@ -32,19 +147,23 @@ impl Beside {
         drive: &mut D,
         plain: &mut Plain,
     ) -> Result<u32, Fail> {
-        let mut dice = Dice::new(self.seed);
+        let mut dice = Dice {
+            state: self.seed,
+            now: 0,
+            made: 0,
+        };
         let mut full = 0u32;
-        for _ in 0..self.requests {
+        for number in 0..self.requests {
             let (role, now, asked) = dice.request();
             let reply = drive.reply_to(role, now, asked)?;
             match &reply {
                 Reply::Refused(NoSpace | ChainFull | Busy) => {
                     full = full.saturating_add(1);
-                    pass_moment(plain, now)?;
+                    plain.pass_moment(now)?;
                 }
                 _ => {
                     let expected = plain.reply_to(role, now, asked)?;
-                    assert!(rt; reply == expected, "{asked:?} at {now}");
+                    assert!(rt; reply == expected, "request {number} at {now}");
                 }
             }
         }
@@ -52,18 +171,20 @@ impl Beside {
     }
 }
 
-/// Both answer alike, and what they answer.
-fn alike<D: Answering>(
-    rt: &impl Abort,
+/// What both answer, where they answer alike.
+fn common_reply<D: Answering>(
     drive: &mut D,
     plain: &mut Plain,
     role: Role,
     asked: Ask,
-) -> Result<Reply, Fail> {
+) -> Result<Option<Reply>, Fail> {
     let reply = drive.reply_to(role, 0, asked)?;
     let expected = plain.reply_to(role, 0, asked)?;
-    assert!(rt; reply == expected, "{asked:?} at the end");
-    Ok(reply)
+    if reply == expected {
+        Ok(Some(reply))
+    } else {
+        Ok(None)
+    }
 }
 
 /// Both answer alike about an object at the moments from `first` on, some of them.
@@ -76,14 +197,10 @@ fn read_object<D: Answering>(
 ) -> Result<(), Fail> {
     for k in 0..20 {
         let at = first.saturating_add(6 * k);
-        alike(
-            rt,
-            drive,
-            plain,
-            Role::Client,
-            Ask::ReadAt(object, 0, 24_576, at),
-        )?;
-        alike(rt, drive, plain, Role::Client, Ask::AttrAt(object, at))?;
+        for asked in [Ask::ReadAt(object, 0, 24_576, at), Ask::AttrAt(object, at)] {
+            let reply = common_reply(drive, plain, Role::Client, asked)?;
+            assert!(rt; reply.is_some(), "object {object} at {at}");
+        }
     }
     Ok(())
 }
@@ -102,8 +219,13 @@ fn read_all<D: Answering>(
 }
 
 impl Scene for Beside {
-    fn play<D: LogDrive, R: Abort>(self, rt: &R, alloc: Global, drive: D) -> Result<(), Fail> {
-        let mut party = Party::new(alloc, drive)?;
+    fn play<D: LogDrive, R: Abort>(
+        self,
+        rt: &R,
+        alloc: Global,
+        party: Party<D>,
+    ) -> Result<(), Fail> {
+        let mut party = party;
         let mut plain = Plain::new(alloc, self.window);
         let full = self.ask_both(rt, &mut party, &mut plain)?;
         assert!(rt; full < self.requests / 2, "the drive was full {full} times");
@@ -112,7 +234,10 @@ impl Scene for Beside {
             "the drive was full {full} times"
         );
         let change = Ask::SetWindow(self.window);
-        let Reply::Changed(last) = alike(rt, &mut party, &mut plain, Role::Admin, change)? else {
+        let Some(reply) = common_reply(&mut party, &mut plain, Role::Admin, change)? else {
+            return Err(Fail::from("the last change is answered otherwise"));
+        };
+        let Reply::Changed(last) = reply else {
             return Err(Fail::from("the last change was refused"));
         };
         let first = last.number().saturating_sub(110);

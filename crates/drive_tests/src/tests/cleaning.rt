@@ -1,17 +1,13 @@
 //! Removals, cuts and the emptying of frames, which leave what every request is answered.
-use crate::tests::acts::{Act, play_acts};
-use crate::tests::asking::{Ask, Row, Told};
-use crate::tests::drives::{LogDrive, Party, ask_rows};
-use crate::tests::{Scene, play};
+use crate::tests::acts::{Act, play_acts, play_each};
+use crate::tests::asking::{Ask, Told};
 use s4_types::Refusal::{Expired, InUse, NoObject, NoRoom};
 use s4_types::Role::Client;
-use std::alloc::Global;
-use std::process::Abort;
 use std::test::Fail;
 
 /// An object is deleted; a frame that is sealed holds its data and its journal. Once the floor has passed its death its row
 /// goes, and the frame can be emptied: its 15 blocks are room again, and the next write takes the first of them.
-static REMOVED: [Act; 43] = [
+const REMOVED: [Act; 43] = [
     Act::Asks((Client, 10, Ask::Create(b""), Told::Created(1, 10))),
     Act::Asks((Client, 20, Ask::Write(1, 0, b"a"), Told::Changed(20))),
     Act::Removes(1, 20, None),
@@ -64,7 +60,7 @@ static REMOVED: [Act; 43] = [
 
 /// Of four entries the one behind the floor is left, and a checkpoint: two blocks. Before the cut and after it the versions
 /// that can be read are the same.
-static CUT: [Act; 22] = [
+const CUT: [Act; 22] = [
     Act::Cuts(1, 0, None),
     Act::Asks((Client, 10, Ask::Create(b"k"), Told::Created(1, 10))),
     Act::Asks((Client, 20, Ask::Write(1, 0, b"a"), Told::Changed(20))),
@@ -101,7 +97,7 @@ static CUT: [Act; 22] = [
 
 /// Two of the 120 blocks are taken by each cut, and all but two of a frame are lost by each seal. The last frame has place for
 /// seven cuts and no more. A frame that an earlier cut wrote holds nothing: it can be emptied, and there is place again.
-static NO_ROOM: [Act; 44] = [
+const NO_ROOM: [Act; 44] = [
     Act::Asks((Client, 10, Ask::Create(b""), Told::Created(1, 10))),
     Act::Asks((Client, 20, Ask::Write(1, 0, b"a"), Told::Changed(20))),
     Act::Asks((Client, 130, Ask::Write(1, 0, b"b"), Told::Changed(130))),
@@ -148,45 +144,30 @@ static NO_ROOM: [Act; 44] = [
     Act::Rules,
 ];
 
+static LISTS: [&[Act]; 3] = [&REMOVED, &CUT, &NO_ROOM];
+
 #[test]
 fn cleaning_of_8_frames(rt: HostRuntime) -> Result<(), Fail> {
-    for acts in [REMOVED.as_slice(), CUT.as_slice(), NO_ROOM.as_slice()] {
-        play_acts(&rt, rt.alloc(), 8, acts)?;
-    }
-    Ok(())
+    play_each(&rt, rt.alloc(), 8, &LISTS)
 }
 
-/// An object of one block is deleted.
-static DELETED: [Row; 3] = [
-    (Client, 10, Ask::Create(b""), Told::Created(1, 10)),
-    (Client, 20, Ask::Write(1, 0, b"a"), Told::Changed(20)),
-    (Client, 30, Ask::Delete(1), Told::Changed(30)),
+/// An object of one block is deleted, and the floor comes to its death. A frame that a plan counts on isn't released, and the
+/// plan gives what was there.
+static COUNTED: [Act; 11] = [
+    Act::Asks((Client, 10, Ask::Create(b""), Told::Created(1, 10))),
+    Act::Asks((Client, 20, Ask::Write(1, 0, b"a"), Told::Changed(20))),
+    Act::Asks((Client, 30, Ask::Delete(1), Told::Changed(30))),
+    Act::Seals,
+    Act::Plans(1, 1, 29, None),
+    Act::Asks((Client, 130, Ask::Create(b""), Told::Created(2, 130))),
+    Act::Removes(1, 30, Some(Ok(()))),
+    Act::Marks(0, Ok(())),
+    Act::Releases(0, Err(InUse)),
+    Act::Gives(b'a', 1),
+    Act::Releases(0, Ok(())),
 ];
-
-/// Another is made, and the floor comes to the first one's death.
-static LATER: [Row; 1] = [(Client, 130, Ask::Create(b""), Told::Created(2, 130))];
-
-/// A frame that a plan counts on isn't released, and the plan gives what was there.
-#[derive(Drop)]
-struct Counted;
-
-impl Scene for Counted {
-    fn play<D: LogDrive, R: Abort>(self, rt: &R, alloc: Global, drive: D) -> Result<(), Fail> {
-        let mut party = Party::new(alloc, drive)?;
-        ask_rows(rt, &mut party, &DELETED)?;
-        party.drive.seal();
-        let plan = party.plan(1, 1, 29)?;
-        ask_rows(rt, &mut party, &LATER)?;
-        assert!(rt; party.drive.remove(1, 30)? == Some(Ok(())));
-        assert!(rt; party.drive.mark(0).is_ok());
-        assert!(rt; party.drive.release(0) == Err(InUse));
-        assert!(rt; plan.fetch(alloc)?.as_slice() == b"a".as_slice());
-        assert!(rt; party.drive.release(0).is_ok());
-        Ok(())
-    }
-}
 
 #[test]
 fn a_frame_that_a_plan_counts_on_stays(rt: HostRuntime) -> Result<(), Fail> {
-    play(&rt, rt.alloc(), 8, 100, Counted)
+    play_acts(&rt, rt.alloc(), 8, COUNTED.as_slice())
 }

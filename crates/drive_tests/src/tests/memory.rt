@@ -1,16 +1,14 @@
 //! Each answer is the step's, or want of memory, which leaves all but the clock as it was. With ample memory this says little:
 //! it is for runs in which one allocation after another is refused.
-use crate::tests::asking::{Ask, Row, Told, reply_of};
-use crate::tests::beside::pass_moment;
+use crate::tests::asking::{Ask, Row, Told};
 use crate::tests::drives::{Answering, LogDrive, Party, Plain};
-use crate::tests::{Scene, play};
-use s4_types::Refusal::{Busy, Flushed, NoMemory, NoObject, NoSpace, TooLarge};
+use crate::tests::{Scene, all_plans, play, room_for};
+use s4_types::Refusal::{Flushed, NoMemory, NoObject, NoSpace, TooLarge};
 use s4_types::Role::{Admin, Client};
 use s4_types::{Refusal, Reply, Role};
 use std::alloc::Global;
 use std::process::Abort;
 use std::test::Fail;
-use time_read::ReadPlan;
 
 /// Who asks, the server's clock, and what is asked.
 type Asked = (Role, u64, Ask);
@@ -70,17 +68,13 @@ fn is_want(reply: &Reply) -> bool {
     matches!(reply, Reply::Refused(NoMemory))
 }
 
-/// Memory for so many exchanges, asked for a second time where it was refused once.
-fn exchanges(alloc: Global, count: usize) -> Result<Vec<Exchange>, Fail> {
-    match Vec::with_capacity(alloc, count) {
-        Ok(made) => Ok(made),
-        Err(_) => Ok(Vec::with_capacity(alloc, count)?),
-    }
-}
-
 /// Asks the rows one after another, and a row that wants memory once more.
-fn ask_all<D: Answering>(drive: &mut D, rows: &[Asked]) -> Result<Vec<Exchange>, Fail> {
-    let mut made = exchanges(drive.alloc(), rows.len().saturating_add(1))?;
+fn ask_all<D: Answering>(
+    alloc: Global,
+    drive: &mut D,
+    rows: &[Asked],
+) -> Result<Vec<Exchange>, Fail> {
+    let mut made = room_for(alloc, rows.len().saturating_add(1))?;
     for row in rows {
         let (role, now, asked) = *row;
         let reply = drive.reply_to(role, now, asked)?;
@@ -100,30 +94,16 @@ fn had_memory(rt: &impl Abort, plain: &mut Plain, exchanges: &[Exchange]) -> Res
     for Exchange { asked, reply } in exchanges {
         let (role, now, asked) = *asked;
         if is_want(reply) || matches!(reply, Reply::Refused(NoSpace)) {
-            pass_moment(plain, now)?;
+            plain.pass_moment(now)?;
             continue;
         }
         let expected = plain.reply_to(role, now, asked)?;
         if is_want(&expected) {
             return Ok(false);
         }
-        assert!(rt; *reply == expected, "{asked:?} at {now}");
+        assert!(rt; *reply == expected, "at {now}");
     }
     Ok(true)
-}
-
-/// What a drive answers, or its second reply where the first wants memory.
-fn reply_again<D: Answering>(
-    drive: &mut D,
-    role: Role,
-    now: u64,
-    asked: Ask,
-) -> Result<Reply, Fail> {
-    let reply = drive.reply_to(role, now, asked)?;
-    if is_want(&reply) {
-        return drive.reply_to(role, now, asked);
-    }
-    Ok(reply)
 }
 
 /// The plain drive, once it has answered the exchanges alike. It is asked again where it wanted memory itself.
@@ -142,11 +122,12 @@ fn read_both<D: Answering>(
     rt: &impl Abort,
     drive: &mut D,
     plain: &mut Plain,
+    (object, at): (u64, u64),
     asked: Ask,
 ) -> Result<(), Fail> {
-    let reply = reply_again(drive, Client, 0, asked)?;
-    let expected = reply_again(plain, Client, 0, asked)?;
-    assert!(rt; reply == expected, "{asked:?} at the end");
+    let reply = drive.reply_again(Client, 0, asked)?;
+    let expected = plain.reply_again(Client, 0, asked)?;
+    assert!(rt; reply == expected, "object {object} at {at}");
     Ok(())
 }
 
@@ -158,8 +139,9 @@ fn read_object<D: Answering>(
     object: u64,
 ) -> Result<(), Fail> {
     for at in 0..60 {
-        read_both(rt, drive, plain, Ask::ReadAt(object, 0, 24_576, at))?;
-        read_both(rt, drive, plain, Ask::AttrAt(object, at))?;
+        for asked in [Ask::ReadAt(object, 0, 24_576, at), Ask::AttrAt(object, at)] {
+            read_both(rt, drive, plain, (object, at), asked)?;
+        }
     }
     Ok(())
 }
@@ -172,9 +154,14 @@ struct Short<'a> {
 }
 
 impl Scene for Short<'_> {
-    fn play<D: LogDrive, R: Abort>(self, rt: &R, alloc: Global, drive: D) -> Result<(), Fail> {
-        let mut party = Party::new(alloc, drive)?;
-        let made = ask_all(&mut party, self.rows)?;
+    fn play<D: LogDrive, R: Abort>(
+        self,
+        rt: &R,
+        alloc: Global,
+        party: Party<D>,
+    ) -> Result<(), Fail> {
+        let mut party = party;
+        let made = ask_all(alloc, &mut party, self.rows)?;
         let mut plain = plain_after(rt, alloc, made.as_slice())?;
         for object in 0..4 {
             read_object(rt, &mut party, &mut plain, object)?;
@@ -228,9 +215,8 @@ static ROWS: [Row; 16] = [
 
 /// A drive answers the rows, each asked once more where it wants memory.
 fn answers_again<D: Answering>(rt: &impl Abort, drive: &mut D) -> Result<(), Fail> {
-    for (role, now, asked, told) in &ROWS {
-        let reply = reply_again(drive, *role, *now, *asked)?;
-        assert!(rt; reply == reply_of(drive.alloc(), *told)?, "{asked:?}");
+    for (number, row) in ROWS.iter().enumerate() {
+        assert!(rt; drive.answers_again(*row)?, "row {number}");
     }
     Ok(())
 }
@@ -239,8 +225,14 @@ fn answers_again<D: Answering>(rt: &impl Abort, drive: &mut D) -> Result<(), Fai
 struct Again;
 
 impl Scene for Again {
-    fn play<D: LogDrive, R: Abort>(self, rt: &R, alloc: Global, drive: D) -> Result<(), Fail> {
-        answers_again(rt, &mut Party::new(alloc, drive)?)
+    fn play<D: LogDrive, R: Abort>(
+        self,
+        rt: &R,
+        _alloc: Global,
+        party: Party<D>,
+    ) -> Result<(), Fail> {
+        let mut party = party;
+        answers_again(rt, &mut party)
     }
 }
 
@@ -256,46 +248,21 @@ static SEALED: [Asked; 2] = [
     (Client, 20, Ask::Fill(1, 0, 15_360, 7)),
 ];
 
-/// A plan of all its bytes, made once more where memory was refused.
-fn plan_again<D: LogDrive>(party: &mut Party<D>) -> Result<ReadPlan, Refusal> {
-    let at = party.drive.clock();
-    match party.plan(1, 15_360, at) {
-        Err(NoMemory) => party.plan(1, 15_360, at),
-        planned => planned,
-    }
-}
-
-/// Memory for so many plans, asked for a second time where it was refused once.
-fn room_for_plans(alloc: Global, count: usize) -> Result<Vec<ReadPlan>, Fail> {
-    match Vec::with_capacity(alloc, count) {
-        Ok(made) => Ok(made),
-        Err(_) => Ok(Vec::with_capacity(alloc, count)?),
-    }
-}
-
-/// Plans of all its bytes, all kept, until no seat is left or 65 were had.
-fn all_plans<D: LogDrive>(alloc: Global, party: &mut Party<D>) -> Result<Vec<ReadPlan>, Fail> {
-    let mut plans = room_for_plans(alloc, 65)?;
-    for _ in 0..65 {
-        match plan_again(party) {
-            Ok(plan) => plans.push(plan)?,
-            Err(Busy) => return Ok(plans),
-            Err(refusal) => return Err(Fail::from(refusal)),
-        }
-    }
-    Ok(plans)
-}
-
 /// No pin stays of a plan that memory was refused for, when it was made or fetched: each time all 64 seats are to be had.
 #[derive(Drop)]
 struct Unpinned;
 
 impl Scene for Unpinned {
-    fn play<D: LogDrive, R: Abort>(self, rt: &R, alloc: Global, drive: D) -> Result<(), Fail> {
-        let mut party = Party::new(alloc, drive)?;
-        ask_all(&mut party, &SEALED)?;
+    fn play<D: LogDrive, R: Abort>(
+        self,
+        rt: &R,
+        alloc: Global,
+        party: Party<D>,
+    ) -> Result<(), Fail> {
+        let mut party = party;
+        ask_all(alloc, &mut party, &SEALED)?;
         for _ in 0..2 {
-            let plans = all_plans(alloc, &mut party)?;
+            let plans = all_plans(alloc, &mut party, 15_360)?;
             assert!(rt; plans.len() == 64);
             for plan in plans {
                 drop(plan.fetch(alloc));

@@ -1,17 +1,17 @@
 //! What writes, truncations and attributes leave, now and at earlier moments.
 use crate::tests::asking::{Ask, Row, Told};
-use crate::tests::both_answer;
+use crate::tests::both_answer_each;
 use s4_types::Refusal::{Future, NoObject};
 use s4_types::Role::Client;
 use std::test::Fail;
 
 /// A read before any object moves the clock alone.
-static BEFORE_ANY: [Row; 2] = [
+const BEFORE_ANY: [Row; 2] = [
     (Client, 5, Ask::Read(1, 0, 3), Told::Refused(NoObject)),
     (Client, 0, Ask::Create(b""), Told::Created(1, 6)),
 ];
 
-static WRITES: [Row; 13] = [
+const WRITES: [Row; 13] = [
     (Client, 10, Ask::Create(b""), Told::Created(1, 10)),
     (Client, 10, Ask::Write(1, 0, b"abc"), Told::Changed(11)),
     (Client, 4, Ask::Write(1, 1, b"Z"), Told::Changed(12)),
@@ -27,7 +27,7 @@ static WRITES: [Row; 13] = [
     (Client, 4, Ask::Attr(1), Told::Attr(3, 10, 13, b"")),
 ];
 
-static SIZES_AND_ATTRIBUTES: [Row; 12] = [
+const SIZES_AND_ATTRIBUTES: [Row; 12] = [
     (Client, 10, Ask::Create(b""), Told::Created(1, 10)),
     (Client, 11, Ask::Write(1, 0, b"abc"), Told::Changed(11)),
     (Client, 12, Ask::Truncate(1, 2), Told::Changed(12)),
@@ -48,7 +48,7 @@ static SIZES_AND_ATTRIBUTES: [Row; 12] = [
 ];
 
 /// An object's number isn't given again, and each object has its own versions.
-static DEATHS: [Row; 9] = [
+const DEATHS: [Row; 9] = [
     (Client, 0, Ask::Create(b"a"), Told::Created(1, 1)),
     (Client, 0, Ask::Create(b"b"), Told::Created(2, 2)),
     (Client, 0, Ask::Delete(1), Told::Changed(3)),
@@ -60,15 +60,9 @@ static DEATHS: [Row; 9] = [
     (Client, 0, Ask::Delete(4), Told::Refused(NoObject)),
 ];
 
+static LISTS: [&[Row]; 4] = [&BEFORE_ANY, &WRITES, &SIZES_AND_ATTRIBUTES, &DEATHS];
+
 #[test]
 fn objects(rt: HostRuntime) -> Result<(), Fail> {
-    for rows in [
-        BEFORE_ANY.as_slice(),
-        WRITES.as_slice(),
-        SIZES_AND_ATTRIBUTES.as_slice(),
-        DEATHS.as_slice(),
-    ] {
-        both_answer(&rt, rt.alloc(), 100, rows)?;
-    }
-    Ok(())
+    both_answer_each(&rt, rt.alloc(), &LISTS)
 }

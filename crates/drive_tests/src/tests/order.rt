@@ -1,7 +1,7 @@
 //! Requests that meet two refusals answer the earlier one.
-use crate::tests::asking::{Ask, LONG_ATTRIBUTE, ONE_ABOVE, Row, Told, append};
+use crate::tests::asking::{Ask, LONG_ATTRIBUTE, ONE_ABOVE, Part, Row, Told};
 use crate::tests::both_answer;
-use crate::tests::spans::sixty_four_runs;
+use crate::tests::spans::BEGUN;
 use s4_types::Refusal::{
     BadAttr, BadSpan, ClockEnd, Expired, Flushed, Future, NoObject, NotAdmin, TooLarge,
     TooManySpans,
@@ -10,7 +10,7 @@ use s4_types::Role::{Admin, Client};
 use std::test::Fail;
 
 /// With a floor of 20, object 1 from 10 to 60, moments 15 to 30 hidden, and none of object 2.
-static BEGINNING: [Row; 5] = [
+const BEGINNING: [Row; 5] = [
     (Client, 10, Ask::Create(b""), Told::Created(1, 10)),
     (Client, 40, Ask::Write(1, 0, b"a"), Told::Changed(40)),
     (Admin, 50, Ask::Flush(15, 30), Told::Changed(50)),
@@ -18,7 +18,7 @@ static BEGINNING: [Row; 5] = [
     (Admin, 70, Ask::SetWindow(50), Told::Changed(70)),
 ];
 
-static ORDER: [Row; 19] = [
+const ORDER: [Row; 19] = [
     (Client, 0, Ask::Flush(6, 5), Told::Refused(NotAdmin)),
     (Client, 0, Ask::FlushO(1, 6, 5), Told::Refused(NotAdmin)),
     (Client, 0, Ask::FlushO(9, 5, 6), Told::Refused(NotAdmin)),
@@ -71,7 +71,7 @@ static ORDER: [Row; 19] = [
 ];
 
 /// With a full list of all objects, the clock before its end.
-static FULL: [Row; 4] = [
+const FULL: [Row; 4] = [
     (Admin, 0, Ask::Flush(130, 565), Told::Refused(BadSpan)),
     (Client, 0, Ask::Flush(130, 130), Told::Refused(NotAdmin)),
     (Admin, 0, Ask::FlushO(0, 130, 130), Told::Refused(NoObject)),
@@ -79,7 +79,7 @@ static FULL: [Row; 4] = [
 ];
 
 /// At the clock's end, object 1 there and object 2 not.
-static AT_THE_END: [Row; 13] = [
+const AT_THE_END: [Row; 13] = [
     (
         Client,
         0,
@@ -116,12 +116,12 @@ static AT_THE_END: [Row; 13] = [
 ];
 
 /// At the clock's end with the list of all objects full, or with object 1's.
-static FULL_AT_THE_END: [Row; 2] = [
+const FULL_AT_THE_END: [Row; 2] = [
     (Admin, 0, Ask::Flush(130, 130), Told::Refused(TooManySpans)),
     (Admin, 0, Ask::Flush(3, 3), Told::Refused(ClockEnd)),
 ];
 
-static FULL_OF_ONE_AT_THE_END: [Row; 3] = [
+const FULL_OF_ONE_AT_THE_END: [Row; 3] = [
     (Client, u64::MAX, Ask::Read(1, 0, 1), Told::Data(b"")),
     (
         Admin,
@@ -132,22 +132,29 @@ static FULL_OF_ONE_AT_THE_END: [Row; 3] = [
     (Admin, 0, Ask::FlushO(1, 3, 3), Told::Refused(ClockEnd)),
 ];
 
+static REFUSALS: [Part; 2] = [Part::Rows(&BEGINNING), Part::Rows(&ORDER)];
+
 #[test]
 fn order_of_refusals(rt: HostRuntime) -> Result<(), Fail> {
-    let mut rows = Vec::new(rt.alloc());
-    append(&mut rows, BEGINNING.as_slice())?;
-    append(&mut rows, ORDER.as_slice())?;
-    both_answer(&rt, rt.alloc(), 100, rows.as_slice())
+    both_answer(&rt, rt.alloc(), 100, &REFUSALS)
 }
+
+static CLOCK_END: [Part; 5] = [
+    Part::Rows(&BEGUN),
+    Part::Runs(false),
+    Part::Rows(&FULL),
+    Part::Rows(&AT_THE_END),
+    Part::Rows(&FULL_AT_THE_END),
+];
+
+static CLOCK_END_OF_ONE: [Part; 3] = [
+    Part::Rows(&BEGUN),
+    Part::Runs(true),
+    Part::Rows(&FULL_OF_ONE_AT_THE_END),
+];
 
 #[test]
 fn order_at_the_clock_end(rt: HostRuntime) -> Result<(), Fail> {
-    let mut rows = sixty_four_runs(rt.alloc(), false)?;
-    append(&mut rows, FULL.as_slice())?;
-    append(&mut rows, AT_THE_END.as_slice())?;
-    append(&mut rows, FULL_AT_THE_END.as_slice())?;
-    both_answer(&rt, rt.alloc(), u64::MAX, rows.as_slice())?;
-    let mut rows = sixty_four_runs(rt.alloc(), true)?;
-    append(&mut rows, FULL_OF_ONE_AT_THE_END.as_slice())?;
-    both_answer(&rt, rt.alloc(), u64::MAX, rows.as_slice())
+    both_answer(&rt, rt.alloc(), u64::MAX, &CLOCK_END)?;
+    both_answer(&rt, rt.alloc(), u64::MAX, &CLOCK_END_OF_ONE)
 }

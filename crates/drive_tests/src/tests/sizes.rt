@@ -1,6 +1,6 @@
 //! Sizes at the limit and one above it.
 use crate::tests::asking::{Ask, LONG_ATTRIBUTE, ONE_ABOVE, Row, Told};
-use crate::tests::both_answer;
+use crate::tests::both_answer_each;
 use s4_types::Refusal::{BadAttr, NoObject, TooLarge};
 use s4_types::Role::Client;
 use std::test::Fail;
@@ -9,7 +9,7 @@ const LONGEST: [u8; 24_576] = [b'a'; 24_576];
 
 const ATTRIBUTE: [u8; 64] = [b'k'; 64];
 
-static ENDS: [Row; 12] = [
+const ENDS: [Row; 12] = [
     (Client, 10, Ask::Create(b""), Told::Created(1, 10)),
     (Client, 11, Ask::Write(1, 24_575, b"x"), Told::Changed(11)),
     (Client, 11, Ask::Attr(1), Told::Attr(24_576, 10, 11, b"")),
@@ -39,7 +39,7 @@ static ENDS: [Row; 12] = [
     (Client, 0, Ask::Truncate(1, 24_576), Told::Changed(15)),
 ];
 
-static LONG: [Row; 8] = [
+const LONG: [Row; 8] = [
     (Client, 0, Ask::Create(&ATTRIBUTE), Told::Created(1, 1)),
     (
         Client,
@@ -70,7 +70,7 @@ static LONG: [Row; 8] = [
     (Client, 0, Ask::Append(2, &LONGEST), Told::Refused(NoObject)),
 ];
 
-static READS: [Row; 5] = [
+const READS: [Row; 5] = [
     (Client, 0, Ask::Create(b""), Told::Created(1, 1)),
     (Client, 0, Ask::Read(1, 0, 24_576), Told::Data(b"")),
     (Client, 0, Ask::Read(1, 0, 24_577), Told::Refused(TooLarge)),
@@ -84,7 +84,7 @@ static READS: [Row; 5] = [
 ];
 
 /// A write past the end leaves zeros between, which a read finds from any offset on.
-static PAST_THE_END: [Row; 6] = [
+const PAST_THE_END: [Row; 6] = [
     (Client, 0, Ask::Create(b""), Told::Created(1, 1)),
     (Client, 0, Ask::Write(1, 1024, b"x"), Told::Changed(2)),
     (Client, 0, Ask::Attr(1), Told::Attr(1025, 1, 2, b"")),
@@ -93,15 +93,9 @@ static PAST_THE_END: [Row; 6] = [
     (Client, 0, Ask::Read(1, 500, 2000), Told::Zeros(524, b"x")),
 ];
 
+static LISTS: [&[Row]; 4] = [&ENDS, &LONG, &READS, &PAST_THE_END];
+
 #[test]
 fn sizes(rt: HostRuntime) -> Result<(), Fail> {
-    for rows in [
-        ENDS.as_slice(),
-        LONG.as_slice(),
-        READS.as_slice(),
-        PAST_THE_END.as_slice(),
-    ] {
-        both_answer(&rt, rt.alloc(), 100, rows)?;
-    }
-    Ok(())
+    both_answer_each(&rt, rt.alloc(), &LISTS)
 }

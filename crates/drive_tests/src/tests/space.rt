@@ -1,11 +1,10 @@
 //! Want of space, and chains that are full.
 use crate::tests::answers;
-use crate::tests::asking::{Ask, LONG_ATTRIBUTE, Row, Told, append};
+use crate::tests::asking::{Ask, LONG_ATTRIBUTE, Part, Row, Told};
 use s4_types::Refusal::{
     BadAttr, ChainFull, ClockEnd, Expired, Future, NoObject, NoSpace, NotAdmin, TooLarge,
 };
 use s4_types::Role::{Admin, Client};
-use std::alloc::Global;
 use std::test::Fail;
 
 /// Of 8 frames: 60 blocks of room, one less after the Create. The largest Write takes 48 data and 3 journal blocks, one byte
@@ -55,25 +54,18 @@ static THE_LAST_BLOCK: [Row; 12] = [
 
 #[test]
 fn eight_frames(rt: HostRuntime) -> Result<(), Fail> {
-    for rows in [EIGHT_FRAMES.as_slice(), THE_LAST_BLOCK.as_slice()] {
-        answers(&rt, rt.alloc(), 8, 100, rows)?;
-    }
-    Ok(())
+    answers(&rt, rt.alloc(), 8, 100, &[Part::Rows(&EIGHT_FRAMES)])?;
+    answers(&rt, rt.alloc(), 8, 100, &[Part::Rows(&THE_LAST_BLOCK)])
 }
 
-/// A Create now 1, 342 empty Writes and one more change now 0: entries of 34 bytes each.
-fn full_chain(alloc: Global, last: Ask) -> Result<Vec<Row>, Fail> {
-    let mut rows = Vec::new(alloc);
-    rows.push((Client, 1, Ask::Create(b""), Told::Created(1, 1)))?;
-    for k in 2..344 {
-        rows.push((Client, 0, Ask::Write(1, 0, b""), Told::Changed(k)))?;
-    }
-    rows.push((Client, 0, last, Told::Changed(344)))?;
-    Ok(rows)
-}
+/// The beginning of a chain: a Create now 1.
+const BEGUN: [Row; 1] = [(Client, 1, Ask::Create(b""), Told::Created(1, 1))];
+
+/// Behind the Create 342 of these now 0, at the moments 2 to 343, and one more change: entries of 34 bytes each.
+const EMPTY: Ask = Ask::Write(1, 0, b"");
 
 /// 16 bytes of the chain are left: no entry is shorter than 34.
-static FULL: [Row; 12] = [
+const FULL: [Row; 12] = [
     (Client, 0, Ask::Write(1, 0, b""), Told::Refused(ChainFull)),
     (Client, 0, Ask::ReadAt(1, 0, 1, 344), Told::Data(b"")),
     (Client, 0, Ask::AttrAt(1, 345), Told::Refused(Future)),
@@ -89,39 +81,37 @@ static FULL: [Row; 12] = [
 ];
 
 /// The same of an object that was deleted last.
-static DEAD: [Row; 4] = [
+const DEAD: [Row; 4] = [
     (Client, 0, Ask::Write(1, 0, b""), Told::Refused(NoObject)),
     (Client, 0, Ask::Delete(1), Told::Refused(NoObject)),
     (Client, 0, Ask::AttrAt(1, 343), Told::Attr(0, 1, 343, b"")),
     (Client, 0, Ask::Append(1, b"a"), Told::Refused(NoObject)),
 ];
 
+static FULL_CHAIN: [Part; 3] = [
+    Part::Rows(&BEGUN),
+    Part::Again(EMPTY, 2, 345),
+    Part::Rows(&FULL),
+];
+
+static DEAD_CHAIN: [Part; 4] = [
+    Part::Rows(&BEGUN),
+    Part::Again(EMPTY, 2, 344),
+    Part::Again(Ask::Delete(1), 344, 345),
+    Part::Rows(&DEAD),
+];
+
 #[test]
 fn a_full_chain(rt: HostRuntime) -> Result<(), Fail> {
-    let mut rows = full_chain(rt.alloc(), Ask::Write(1, 0, b""))?;
-    append(&mut rows, FULL.as_slice())?;
-    answers(&rt, rt.alloc(), 64, 100, rows.as_slice())?;
-    let mut rows = full_chain(rt.alloc(), Ask::Delete(1))?;
-    append(&mut rows, DEAD.as_slice())?;
-    answers(&rt, rt.alloc(), 64, 100, rows.as_slice())
+    answers(&rt, rt.alloc(), 64, 100, &FULL_CHAIN)?;
+    answers(&rt, rt.alloc(), 64, 100, &DEAD_CHAIN)
 }
 
-/// Behind a full chain of 344 blocks, of the 900 of 64 frames: object 2 and Writes of it take all that are left.
-fn no_room(alloc: Global) -> Result<Vec<Row>, Fail> {
-    let mut rows = full_chain(alloc, Ask::Write(1, 0, b""))?;
-    rows.push((Client, 0, Ask::Create(b""), Told::Created(2, 345)))?;
-    for k in 346..356 {
-        rows.push((Client, 0, Ask::Fill(2, 0, 24_576, 1), Told::Changed(k)))?;
-    }
-    for k in 356..378 {
-        rows.push((Client, 0, Ask::Write(2, 0, b"a"), Told::Changed(k)))?;
-    }
-    rows.push((Client, 0, Ask::Write(2, 0, b""), Told::Changed(378)))?;
-    Ok(rows)
-}
+/// Object 2 is made.
+const SECOND: [Row; 1] = [(Client, 0, Ask::Create(b""), Told::Created(2, 345))];
 
 /// No room, object 1's chain full, and then the clock at its end: the earlier refusal is answered.
-static ORDER: [Row; 24] = [
+const ORDER: [Row; 24] = [
     (Client, 0, Ask::Write(2, 0, b""), Told::Refused(NoSpace)),
     (Client, 0, Ask::Write(1, 0, b"a"), Told::Refused(ChainFull)),
     (Client, 0, Ask::Delete(1), Told::Refused(ChainFull)),
@@ -158,9 +148,18 @@ static ORDER: [Row; 24] = [
     (Admin, 0, Ask::SetWindow(1), Told::Refused(ClockEnd)),
 ];
 
+/// Behind a full chain of 344 blocks, of the 900 of 64 frames: object 2 and Writes of it take all that are left.
+static NO_ROOM: [Part; 7] = [
+    Part::Rows(&BEGUN),
+    Part::Again(EMPTY, 2, 345),
+    Part::Rows(&SECOND),
+    Part::Again(Ask::Fill(2, 0, 24_576, 1), 346, 356),
+    Part::Again(Ask::Write(2, 0, b"a"), 356, 378),
+    Part::Again(Ask::Write(2, 0, b""), 378, 379),
+    Part::Rows(&ORDER),
+];
+
 #[test]
 fn order_with_no_room(rt: HostRuntime) -> Result<(), Fail> {
-    let mut rows = no_room(rt.alloc())?;
-    append(&mut rows, ORDER.as_slice())?;
-    answers(&rt, rt.alloc(), 64, 1000, rows.as_slice())
+    answers(&rt, rt.alloc(), 64, 1000, &NO_ROOM)
 }

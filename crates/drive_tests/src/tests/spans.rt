@@ -1,13 +1,12 @@
 //! Hidden spans: what they hide, where they may lie, and how many there may be.
-use crate::tests::asking::{Ask, Row, Told, append};
-use crate::tests::both_answer;
+use crate::tests::asking::{Ask, Part, Row, Told};
+use crate::tests::{both_answer, both_answer_each};
 use s4_types::Refusal::{BadSpan, Expired, Flushed, NoObject, NotAdmin, TooManySpans};
 use s4_types::Role::{Admin, Client};
-use std::alloc::Global;
 use std::test::Fail;
 
 /// A span hides its moments, both ends with it, of its object and not of another.
-static HIDDEN: [Row; 14] = [
+const HIDDEN: [Row; 14] = [
     (Client, 10, Ask::Create(b""), Told::Created(1, 10)),
     (Client, 20, Ask::Write(1, 0, b"a"), Told::Changed(20)),
     (Client, 30, Ask::Write(1, 0, b"b"), Told::Changed(30)),
@@ -24,7 +23,7 @@ static HIDDEN: [Row; 14] = [
     (Client, 51, Ask::ReadAt(2, 0, 1, 36), Told::Refused(Flushed)),
 ];
 
-static HIDDEN_BEFORE_DEATH: [Row; 8] = [
+const HIDDEN_BEFORE_DEATH: [Row; 8] = [
     (Client, 10, Ask::Create(b""), Told::Created(1, 10)),
     (Client, 20, Ask::Write(1, 0, b"a"), Told::Changed(20)),
     (Client, 30, Ask::Write(1, 0, b"b"), Told::Changed(30)),
@@ -41,7 +40,7 @@ static HIDDEN_BEFORE_DEATH: [Row; 8] = [
 ];
 
 /// A span ends at or after its beginning and at or before the clock, and is of an object that ever was.
-static ENDS: [Row; 11] = [
+const ENDS: [Row; 11] = [
     (Client, 10, Ask::Create(b""), Told::Created(1, 10)),
     (Admin, 0, Ask::Flush(5, 10), Told::Changed(11)),
     (Admin, 0, Ask::Flush(5, 12), Told::Refused(BadSpan)),
@@ -56,7 +55,7 @@ static ENDS: [Row; 11] = [
 ];
 
 /// The 65th run is refused; a span that joins two makes room for it.
-static FULL: [Row; 5] = [
+const FULL: [Row; 5] = [
     (Admin, 0, Ask::Flush(130, 130), Told::Refused(TooManySpans)),
     (Admin, 0, Ask::Flush(3, 3), Told::Changed(565)),
     (Admin, 0, Ask::Flush(130, 130), Told::Changed(566)),
@@ -65,7 +64,7 @@ static FULL: [Row; 5] = [
 ];
 
 /// An object's list is full by itself: the list of all objects, and another object's, are not.
-static FULL_OF_ONE: [Row; 7] = [
+const FULL_OF_ONE: [Row; 7] = [
     (
         Admin,
         0,
@@ -81,51 +80,37 @@ static FULL_OF_ONE: [Row; 7] = [
 ];
 
 /// What falls below the floor makes room.
-static FALLEN: [Row; 4] = [
+const FALLEN: [Row; 4] = [
     (Admin, 0, Ask::Flush(130, 130), Told::Refused(TooManySpans)),
     (Admin, 0, Ask::SetWindow(562), Told::Changed(565)),
     (Admin, 0, Ask::Flush(130, 130), Told::Changed(566)),
     (Client, 0, Ask::ReadAt(1, 0, 1, 3), Told::Refused(Expired)),
 ];
 
+static LISTS: [&[Row]; 3] = [&HIDDEN, &HIDDEN_BEFORE_DEATH, &ENDS];
+
 #[test]
 fn spans(rt: HostRuntime) -> Result<(), Fail> {
-    for rows in [
-        HIDDEN.as_slice(),
-        HIDDEN_BEFORE_DEATH.as_slice(),
-        ENDS.as_slice(),
-    ] {
-        both_answer(&rt, rt.alloc(), 100, rows)?;
-    }
-    Ok(())
+    both_answer_each(&rt, rt.alloc(), &LISTS)
 }
 
-/// An object, and sixty-four runs of hidden moments, of all objects or of that one.
-pub(super) fn sixty_four_runs(alloc: Global, of_one: bool) -> Result<Vec<Row>, Fail> {
-    let mut rows = Vec::new(alloc);
-    rows.push((Client, 500, Ask::Create(b""), Told::Created(1, 500)))?;
-    for k in 1..65u64 {
-        let moment = 2 * k;
-        let asked = if of_one {
-            Ask::FlushO(1, moment, moment)
-        } else {
-            Ask::Flush(moment, moment)
-        };
-        rows.push((Admin, 0, asked, Told::Changed(500 + k)))?;
-    }
-    Ok(rows)
-}
+/// An object, before sixty-four runs of hidden moments.
+pub(super) const BEGUN: [Row; 1] = [(Client, 500, Ask::Create(b""), Told::Created(1, 500))];
+
+static FULL_LISTS: [[Part; 3]; 3] = [
+    [Part::Rows(&BEGUN), Part::Runs(false), Part::Rows(&FULL)],
+    [
+        Part::Rows(&BEGUN),
+        Part::Runs(true),
+        Part::Rows(&FULL_OF_ONE),
+    ],
+    [Part::Rows(&BEGUN), Part::Runs(false), Part::Rows(&FALLEN)],
+];
 
 #[test]
 fn full_lists(rt: HostRuntime) -> Result<(), Fail> {
-    for (of_one, rows) in [
-        (false, FULL.as_slice()),
-        (true, FULL_OF_ONE.as_slice()),
-        (false, FALLEN.as_slice()),
-    ] {
-        let mut all = sixty_four_runs(rt.alloc(), of_one)?;
-        append(&mut all, rows)?;
-        both_answer(&rt, rt.alloc(), 1000, all.as_slice())?;
+    for parts in &FULL_LISTS {
+        both_answer(&rt, rt.alloc(), 1000, parts)?;
     }
     Ok(())
 }

@@ -1,12 +1,12 @@
 //! Sealing and checkpoints, which leave what every request is answered.
-use crate::tests::acts::{Act, play_acts};
+use crate::tests::acts::{Act, play_each};
 use crate::tests::asking::{Ask, Told};
 use s4_types::Refusal::{Future, NoObject, NoSpace};
 use s4_types::Role::Client;
 use std::test::Fail;
 
 /// The largest Write takes 48 data and 3 journal blocks, and the same again finds no space: the clock is 3 then.
-static EIGHT_FRAMES: [Act; 12] = [
+const EIGHT_FRAMES: [Act; 12] = [
     Act::Asks((Client, 1, Ask::Create(b""), Told::Created(1, 1))),
     Act::Room(59),
     Act::Asks((Client, 2, Ask::Fill(1, 0, 24_576, 7), Told::Changed(2))),
@@ -27,7 +27,7 @@ static EIGHT_FRAMES: [Act; 12] = [
 ];
 
 /// A frame that is sealed with one block in it: its other 14 are lost.
-static SEALED: [Act; 18] = [
+const SEALED: [Act; 18] = [
     Act::Seals,
     Act::Room(60),
     Act::Asks((Client, 10, Ask::Create(b"k"), Told::Created(1, 10))),
@@ -49,7 +49,7 @@ static SEALED: [Act; 18] = [
 ];
 
 /// A checkpoint takes one block where it is older than the last entry. An object that was deleted has one, too.
-static CHECKPOINTS: [Act; 28] = [
+const CHECKPOINTS: [Act; 28] = [
     Act::Checkpoints(1, Err(NoObject)),
     Act::Room(60),
     Act::Asks((Client, 10, Ask::Create(b""), Told::Created(1, 10))),
@@ -86,7 +86,7 @@ static CHECKPOINTS: [Act; 28] = [
 ];
 
 /// With no room left: NoSpace where one must be written, and Ok where it stands.
-static NO_ROOM: [Act; 20] = [
+const NO_ROOM: [Act; 20] = [
     Act::Asks((Client, 1, Ask::Create(b""), Told::Created(1, 1))),
     Act::Room(59),
     Act::Asks((Client, 2, Ask::Fill(1, 0, 24_576, 7), Told::Changed(2))),
@@ -110,7 +110,7 @@ static NO_ROOM: [Act; 20] = [
 ];
 
 /// A row tells the checkpoint's moment, and the inode at it stays.
-static WRITTEN: [Act; 6] = [
+const WRITTEN: [Act; 6] = [
     Act::Asks((Client, 10, Ask::Create(b""), Told::Created(1, 10))),
     Act::Writes(1, 10),
     Act::Asks((Client, 20, Ask::Write(1, 0, b"a"), Told::Changed(20))),
@@ -119,16 +119,9 @@ static WRITTEN: [Act; 6] = [
     Act::Writes(1, 30),
 ];
 
+static LISTS: [&[Act]; 5] = [&EIGHT_FRAMES, &SEALED, &CHECKPOINTS, &NO_ROOM, &WRITTEN];
+
 #[test]
 fn upkeep_of_8_frames(rt: HostRuntime) -> Result<(), Fail> {
-    for acts in [
-        EIGHT_FRAMES.as_slice(),
-        SEALED.as_slice(),
-        CHECKPOINTS.as_slice(),
-        NO_ROOM.as_slice(),
-        WRITTEN.as_slice(),
-    ] {
-        play_acts(&rt, rt.alloc(), 8, acts)?;
-    }
-    Ok(())
+    play_each(&rt, rt.alloc(), 8, &LISTS)
 }

@@ -1,12 +1,12 @@
 //! How far back can be read, and the clock's end.
 use crate::tests::asking::{Ask, Row, Told};
-use crate::tests::both_answer;
+use crate::tests::both_answer_each;
 use s4_types::Refusal::{ClockEnd, Expired, Future};
 use s4_types::Role::{Admin, Client};
 use std::test::Fail;
 
 /// A smaller window raises the floor, a larger one doesn't lower it.
-static WINDOWS: [Row; 9] = [
+const WINDOWS: [Row; 9] = [
     (Client, 10, Ask::Create(b""), Told::Created(1, 10)),
     (Client, 20, Ask::Write(1, 0, b"abc"), Told::Changed(20)),
     (Admin, 100, Ask::SetWindow(10), Told::Changed(100)),
@@ -29,7 +29,7 @@ static WINDOWS: [Row; 9] = [
 ];
 
 /// A read looks at the window that has moved on to its own moment.
-static A_READ_MOVES_ON: [Row; 6] = [
+const A_READ_MOVES_ON: [Row; 6] = [
     (Client, 10, Ask::Create(b""), Told::Created(1, 10)),
     (Client, 20, Ask::Write(1, 0, b"a"), Told::Changed(20)),
     (Client, 40, Ask::Write(1, 0, b"b"), Told::Changed(40)),
@@ -39,7 +39,7 @@ static A_READ_MOVES_ON: [Row; 6] = [
 ];
 
 /// At the clock's end all can be read and nothing changed.
-static CLOCK_END: [Row; 8] = [
+const CLOCK_END: [Row; 8] = [
     (Client, 10, Ask::Create(b"k"), Told::Created(1, 10)),
     (
         Client,
@@ -66,7 +66,7 @@ static CLOCK_END: [Row; 8] = [
 ];
 
 /// The last moment can be given to a change.
-static LAST_MOMENT: [Row; 3] = [
+const LAST_MOMENT: [Row; 3] = [
     (
         Client,
         u64::MAX,
@@ -77,15 +77,9 @@ static LAST_MOMENT: [Row; 3] = [
     (Client, 0, Ask::Read(1, 0, 1), Told::Data(b"")),
 ];
 
+static LISTS: [&[Row]; 4] = [&WINDOWS, &A_READ_MOVES_ON, &CLOCK_END, &LAST_MOMENT];
+
 #[test]
 fn windows(rt: HostRuntime) -> Result<(), Fail> {
-    for rows in [
-        WINDOWS.as_slice(),
-        A_READ_MOVES_ON.as_slice(),
-        CLOCK_END.as_slice(),
-        LAST_MOMENT.as_slice(),
-    ] {
-        both_answer(&rt, rt.alloc(), 100, rows)?;
-    }
-    Ok(())
+    both_answer_each(&rt, rt.alloc(), &LISTS)
 }

@@ -9,7 +9,7 @@ use Rattle.version_store.specs.Store.{StoreFields}
 use Rattle.version_store.specs.Versions.{entries_of_object, inode_in, version_by}
 use Rattle.drive.specs.Fields.{state_in, store_of}
 use Rattle.drive_tests.proofs.Rewriting.{absent_since}
-use Rattle.drive_tests.proofs.tests.rewriting.remove_from.Goals as goal
+use Rattle.drive_tests.proofs.tests.log_drive.remove_from.Goals as goal
 
 pub remove-requires : goal.remove-requires
 remove-requires g c =

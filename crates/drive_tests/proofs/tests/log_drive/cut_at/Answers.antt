@@ -8,7 +8,7 @@ use Rattle.version_store.specs.Store.{StoreFields}
 use Rattle.version_store.specs.Versions.{entries_of_object, inode_in}
 use Rattle.drive.specs.Fields.{state_in, store_of}
 use Rattle.drive_tests.proofs.Rewriting.{cut_can, cut_stays}
-use Rattle.drive_tests.proofs.tests.rewriting.cut_at.Goals as goal
+use Rattle.drive_tests.proofs.tests.log_drive.cut_at.Goals as goal
 
 pub replace-requires-clause-can : goal.replace-requires-clause-can
 replace-requires-clause-can g c =
