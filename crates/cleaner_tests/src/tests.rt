@@ -29,7 +29,12 @@ fn times(asked: Ask) -> u32 {
 }
 
 /// The last reply to a request that is made as often as it says.
-fn last_reply<D: Cleaned>(drive: &mut D, object: u64, now: u64, asked: Ask) -> Result<Reply, Refusal> {
+fn last_reply<D: Cleaned>(
+    drive: &mut D,
+    object: u64,
+    now: u64,
+    asked: Ask,
+) -> Result<Reply, Refusal> {
     let mut reply = Reply::Refused(Refusal::BadFrame);
     for _ in 0..times(asked) {
         reply = drive.ask(object, now, asked)?;

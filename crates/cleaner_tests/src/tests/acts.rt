@@ -193,11 +193,7 @@ fn read_of(object: ObjectId, length: u32, at: u64) -> Request {
 }
 
 /// One request of an object.
-pub(super) fn request_of(
-    alloc: Global,
-    object: ObjectId,
-    asked: Ask,
-) -> Result<Request, Refusal>
+pub(super) fn request_of(alloc: Global, object: ObjectId, asked: Ask) -> Result<Request, Refusal>
     ensures { IfErr result (λ e. e ≡ NoMemory) }
 {
     Ok(match asked {

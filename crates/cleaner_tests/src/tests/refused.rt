@@ -18,6 +18,19 @@ use std::marker::Brand;
 use std::process::Abort;
 use std::test::Fail;
 
+/// What did not stand where memory was wanted.
+#[derive(Clone, Copy, Debug)]
+enum Lost {
+    /// A row, a place or the clock.
+    Standing,
+    /// A version that can be read.
+    Version,
+    /// The order of a round.
+    Round,
+    /// A reply is not the plain drive's.
+    Reply,
+}
+
 /// What a refused call leaves: the rows of objects 1 to 3, the blocks of room and the clock.
 #[derive(Clone, Copy, PartialEq, Eq)]
 struct Standing {
@@ -67,7 +80,7 @@ struct Again<D: Cleaned> {
     /// How often the drive wanted memory.
     wants: u32,
     /// What did not stand, if there was something.
-    lost: Option<&'static str>,
+    lost: Option<Lost>,
 }
 
 impl<D: Cleaned> Again<D> {
@@ -135,14 +148,14 @@ impl<D: Cleaned> Again<D> {
     fn wants_beside_plain(&mut self) {
         self.wants = self.wants.saturating_add(1);
         if self.are_alike() != Ok(true) {
-            self.lost = Some("a version");
+            self.lost = Some(Lost::Version);
         }
     }
 
     /// The drive wanted memory, and all is as it stood before.
     fn wants_after(&mut self, before: &Standing) {
         if self.standing() != *before {
-            self.lost = Some("a row, a place or the clock");
+            self.lost = Some(Lost::Standing);
         }
         self.wants_beside_plain();
     }
@@ -171,7 +184,7 @@ impl<D: Cleaned> Cleaned for Again<D> {
         let reply = reply?;
         let is_full = matches!(reply, Reply::Refused(ChainFull | NoSpace));
         if !is_full && self.plainly(object, asked)? != reply {
-            self.lost = Some("the plain drive's answer");
+            self.lost = Some(Lost::Reply);
         }
         Ok(reply)
     }
@@ -218,7 +231,7 @@ impl<D: Cleaned> Cleaned for Again<D> {
             Turn::PassedOver(_, NoMemory) => {
                 self.wants_after(&before);
                 if self.drive.turn() != Turn::Ended {
-                    self.lost = Some("the round");
+                    self.lost = Some(Lost::Round);
                 }
                 self.drive.turn()
             }
@@ -347,12 +360,7 @@ fn play_refused_named<J: Naming, R: Abort>(
 }
 
 /// Plays a list with a new drive, which is asked for a second time where memory was refused once.
-fn play_refused<R: Abort>(
-    rt: &R,
-    alloc: Global,
-    frames: usize,
-    acts: &[Act],
-) -> Result<(), Fail>
+fn play_refused<R: Abort>(rt: &R, alloc: Global, frames: usize, acts: &[Act]) -> Result<(), Fail>
     requires { IsFrameCount frames }
 {
     let made = match NewDrive::new(alloc, frames, 100) {
