@@ -7,27 +7,62 @@ mod acts;
 mod cleaned;
 mod lasting;
 mod passed;
+mod refused;
 
 use crate::report_of;
-use crate::tests::acts::{Act, Cleaned, Party};
+use crate::tests::acts::{Act, Ask, Cleaned, Party, Told};
 use drive::NewDrive;
 use history_cleaner::Turn;
-use s4_types::{Moment, ObjectId, Reply};
+use s4_types::{ObjectId, Refusal, Reply};
 use segment_word::Naming;
 use std::alloc::Global;
 use std::marker::Brand;
 use std::process::Abort;
 use std::test::Fail;
 
+/// How often a request is made.
+fn times(asked: Ask) -> u32 {
+    match asked {
+        Ask::Touch(count) | Ask::Creates(count) => count,
+        _ => 1,
+    }
+}
+
+/// The last reply to a request that is made as often as it says.
+fn last_reply<D: Cleaned>(
+    drive: &mut D,
+    object: u64,
+    now: u64,
+    asked: Ask,
+) -> Result<Reply, Refusal> {
+    let mut reply = Reply::Refused(Refusal::BadFrame);
+    for _ in 0..times(asked) {
+        reply = drive.ask(object, now, asked)?;
+    }
+    Ok(reply)
+}
+
+/// Whether these are all moments from the one to the other, in order.
+fn are_all_between(moments: &[u64], first: u64, last: u64) -> bool {
+    let mut next = first;
+    for moment in moments {
+        if *moment != next {
+            return false;
+        }
+        next = next.saturating_add(1);
+    }
+    next == last.saturating_add(1)
+}
+
 /// Whether what is done comes to what is told.
 fn holds<D: Cleaned>(drive: &mut D, act: Act) -> Result<bool, Fail> {
     Ok(match act {
-        Act::Asks(now, asked, told) => drive.ask(1, now, asked)? == drive.told(1, told)?,
+        Act::Asks(now, asked, told) => last_reply(drive, 1, now, asked)? == drive.told(1, told)?,
         Act::AsksOf(object, now, asked, told) => {
-            drive.ask(object, now, asked)? == drive.told(object, told)?
+            last_reply(drive, object, now, asked)? == drive.told(object, told)?
         }
         Act::Fills(now, byte, count, moment) => {
-            drive.fill(now, byte, count)? == Reply::Changed(Moment::new(moment))
+            drive.ask(1, now, Ask::Fill(byte, count))? == drive.told(1, Told::Changed(moment))?
         }
         Act::Cleans(told) => drive.clean() == told,
         Act::Passes(rewritten, removed, released) => {
@@ -38,15 +73,21 @@ fn holds<D: Cleaned>(drive: &mut D, act: Act) -> Result<bool, Fail> {
         Act::TurnCleans => drive.turn() == Turn::Cleaned(ObjectId::new(1)),
         Act::TurnEnds => drive.turn() == Turn::Ended,
         Act::Entries(moments) => drive.moments()?.as_slice() == moments,
+        Act::EntriesOfAll(first, last) => are_all_between(drive.moments()?.as_slice(), first, last),
         Act::Count(count) => drive.moments()?.len() == count,
-        Act::Holds(frame, count) => drive.held(frame)? == count,
+        Act::Joins(before, after) => drive.joined()? == Some((before, after)),
+        Act::Holds(frame, blocks) => drive.held(frame)?.as_slice() == blocks,
+        Act::Frame(frame, generation, is_emptied) => {
+            drive.frame(frame) == (Some(generation), is_emptied)
+        }
+        Act::Clock(clock) => drive.clock() == clock,
         Act::Checkpoints => drive.checkpoint().is_ok(),
         Act::Seals => {
             drive.seal();
             true
         }
         Act::Room(room) => drive.room() == room,
-        Act::HasRow(told) => drive.has_row() == told,
+        Act::HasRow(told) => drive.row(1).is_some() == told,
         Act::Plans(length, at) => drive.plan(length, at).is_ok(),
         Act::Gives(byte, count) => drive.gives(byte, count)?,
         Act::Marks(frame, told) => drive.mark(frame) == told,

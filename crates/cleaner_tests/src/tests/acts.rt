@@ -1,12 +1,15 @@
 //! A drive with its cleaner as the tests call it. No call here has a clause, so that what calls them is proved without their contracts.
-ghost use Rattle.std.specs.Prelude.{◌≡◌, IfOk};
+ghost use Rattle.std.specs.Prelude.{◌≡◌, IfOk, IfErr};
+ghost use Rattle.s4_types.specs.declared.refusals.Refusal.TheVariants.{NoMemory};
 ghost use Rattle.s4_types.specs.declared.requests.Role.TheVariants.{Admin};
 
+use codec::Status;
 use drive::{Drive, Session};
 use history_cleaner::{PassReport, Rounds, Turn, clean_object, empty_frames, full_pass};
-use s4_types::{Bytes, Moment, ObjectId, Refusal, Reply, Request, Role};
+use object_map::Row;
+use s4_types::{Bytes, Moment, ObjectId, Ptr, Refusal, Reply, Request, Role};
 use segment_word::Naming;
-use std::alloc::Global;
+use std::alloc::{AllocError, Global};
 use std::test::Fail;
 use time_read::ReadPlan;
 
@@ -20,8 +23,13 @@ pub(super) enum Ask {
     Write(&'static [u8]),
     /// A write of no bytes, so many times.
     Touch(u32),
+    /// A write of one byte, so often.
+    Fill(u8, usize),
     /// The first nine bytes at a moment.
     ReadAt(u64),
+    /// All bytes at a moment.
+    WholeAt(u64),
+    AttrAt(u64),
     FlushO(u64, u64),
 }
 
@@ -33,6 +41,9 @@ pub(super) enum Told {
     Data(&'static [u8]),
     Refused(Refusal),
 }
+
+/// One side of an entry with one pointer: the moment of the last change, and the frame and the block to which the pointer leads.
+pub(super) type Side = (u64, Option<(u16, u8)>);
 
 /// What is done, or what is told then.
 #[derive(Clone, Copy, Debug)]
@@ -57,10 +68,17 @@ pub(super) enum Act {
     TurnEnds,
     /// The moments of object 1's entries.
     Entries(&'static [u64]),
+    /// Object 1 has an entry of each moment from the one to the other.
+    EntriesOfAll(u64, u64),
     /// How many entries object 1 has.
     Count(usize),
-    /// How many blocks object 1 holds in a sealed frame.
-    Holds(u16, usize),
+    /// The last entry of object 1 has one pointer, and these two sides.
+    Joins(Side, Side),
+    /// The numbers of the blocks that object 1 holds in a sealed frame.
+    Holds(u16, &'static [u8]),
+    /// The generation of a frame, and whether it is being emptied.
+    Frame(u16, u32, bool),
+    Clock(u64),
     Checkpoints,
     Seals,
     Room(usize),
@@ -77,13 +95,11 @@ pub(super) enum Act {
 
 /// A drive with its cleaner, under any name.
 pub(super) trait Cleaned: Drop {
-    fn ask(&mut self, object: u64, now: u64, asked: Ask) -> Result<Reply, Fail>;
-
-    /// Object 1 is written over with one byte, so often.
-    fn fill(&mut self, now: u64, byte: u8, count: usize) -> Result<Reply, Fail>;
+    /// The reply to one request.
+    fn ask(&mut self, object: u64, now: u64, asked: Ask) -> Result<Reply, Refusal>;
 
     /// The reply that is told of an object.
-    fn told(&self, object: u64, told: Told) -> Result<Reply, Fail>;
+    fn told(&self, object: u64, told: Told) -> Result<Reply, Refusal>;
 
     fn clean(&mut self) -> Result<(), Refusal>;
 
@@ -94,10 +110,16 @@ pub(super) trait Cleaned: Drop {
     fn turn(&mut self) -> Turn;
 
     /// The moments of object 1's entries.
-    fn moments(&mut self) -> Result<Vec<u64>, Fail>;
+    fn moments(&mut self) -> Result<Vec<u64>, Refusal>;
 
-    /// How many blocks object 1 holds in a frame.
-    fn held(&mut self, frame: u16) -> Result<usize, Fail>;
+    /// Both sides of object 1's last entry, if it has one pointer.
+    fn joined(&mut self) -> Result<Option<(Side, Side)>, Refusal>;
+
+    /// The numbers of the blocks that object 1 holds in a frame.
+    fn held(&mut self, frame: u16) -> Result<Vec<u8>, Refusal>;
+
+    /// The generation of a frame, if it is there, and whether it is being emptied.
+    fn frame(&mut self, frame: u16) -> (Option<u32>, bool);
 
     fn checkpoint(&mut self) -> Result<(), Refusal>;
 
@@ -105,13 +127,15 @@ pub(super) trait Cleaned: Drop {
 
     fn room(&self) -> usize;
 
-    fn has_row(&self) -> bool;
+    fn row(&self, object: u64) -> Option<Row>;
+
+    fn clock(&self) -> u64;
 
     /// A plan of reading object 1 at a moment that is the clock's, which is kept.
     fn plan(&mut self, length: u32, at: u64) -> Result<(), Refusal>;
 
     /// Whether the plan that is kept gives one byte, so often.
-    fn gives(&mut self, byte: u8, count: usize) -> Result<bool, Fail>;
+    fn gives(&mut self, byte: u8, count: usize) -> Result<bool, Refusal>;
 
     fn mark(&mut self, frame: u16) -> Result<(), Refusal>;
 
@@ -145,26 +169,45 @@ impl<J: Naming> Party<J> {
     }
 }
 
-fn request_of(alloc: Global, object: ObjectId, asked: Ask) -> Result<Request, Fail> {
+/// A write to an object from its first byte on.
+fn write_of(object: ObjectId, bytes: Bytes) -> Request {
+    Request::Write {
+        object,
+        offset: 0,
+        bytes,
+    }
+}
+
+/// One byte, so often.
+fn filling(alloc: Global, byte: u8, count: usize) -> Result<Bytes, AllocError> {
+    Ok(Bytes::from_vec(Vec::from_elem(alloc, byte, count)?))
+}
+
+fn read_of(object: ObjectId, length: u32, at: u64) -> Request {
+    Request::Read {
+        object,
+        offset: 0,
+        length,
+        at: Some(Moment::new(at)),
+    }
+}
+
+/// One request of an object.
+pub(super) fn request_of(alloc: Global, object: ObjectId, asked: Ask) -> Result<Request, Refusal>
+    ensures { IfErr result (λ e. e ≡ NoMemory) }
+{
     Ok(match asked {
         Ask::Create | Ask::Creates(_) => Request::Create {
             attribute: Bytes::from_slice(alloc, b"")?,
         },
         Ask::Delete => Request::Delete { object },
-        Ask::Write(bytes) => Request::Write {
+        Ask::Write(bytes) => write_of(object, Bytes::from_slice(alloc, bytes)?),
+        Ask::Touch(_) => write_of(object, Bytes::from_slice(alloc, b"")?),
+        Ask::Fill(byte, count) => write_of(object, filling(alloc, byte, count)?),
+        Ask::ReadAt(at) => read_of(object, 9, at),
+        Ask::WholeAt(at) => read_of(object, 24_576, at),
+        Ask::AttrAt(at) => Request::GetAttr {
             object,
-            offset: 0,
-            bytes: Bytes::from_slice(alloc, bytes)?,
-        },
-        Ask::Touch(_) => Request::Write {
-            object,
-            offset: 0,
-            bytes: Bytes::from_slice(alloc, b"")?,
-        },
-        Ask::ReadAt(at) => Request::Read {
-            object,
-            offset: 0,
-            length: 9,
             at: Some(Moment::new(at)),
         },
         Ask::FlushO(first, last) => Request::FlushO {
@@ -175,43 +218,21 @@ fn request_of(alloc: Global, object: ObjectId, asked: Ask) -> Result<Request, Fa
     })
 }
 
-/// How often a request is made.
-fn times(asked: Ask) -> u32 {
-    match asked {
-        Ask::Touch(count) | Ask::Creates(count) => count,
-        _ => 1,
-    }
+fn side_of(status: Status, pointer: Option<Ptr>) -> Side {
+    let place = pointer.map(|place| (place.frame(), place.block()));
+    (status.changed.number(), place)
 }
 
 impl<J: Naming> Cleaned for Party<J> {
-    fn ask(&mut self, object: u64, now: u64, asked: Ask) -> Result<Reply, Fail> {
-        let mut reply = Reply::Refused(Refusal::BadFrame);
-        for _ in 0..times(asked) {
-            let request = request_of(self.alloc, ObjectId::new(object), asked)?;
-            reply = self
-                .drive
-                .request(&mut self.session, request, Moment::new(now));
-        }
-        Ok(reply)
-    }
-
-    fn fill(&mut self, now: u64, byte: u8, count: usize) -> Result<Reply, Fail> {
-        let mut bytes = Vec::with_capacity(self.alloc, count)?;
-        for _ in 0..count {
-            bytes.push(byte)?;
-        }
-        let request = Request::Write {
-            object: ObjectId::new(1),
-            offset: 0,
-            bytes: Bytes::from_slice(self.alloc, bytes.as_slice())?,
-        };
+    fn ask(&mut self, object: u64, now: u64, asked: Ask) -> Result<Reply, Refusal> {
+        let request = request_of(self.alloc, ObjectId::new(object), asked)?;
         Ok(
             self.drive
                 .request(&mut self.session, request, Moment::new(now)),
         )
     }
 
-    fn told(&self, object: u64, told: Told) -> Result<Reply, Fail> {
+    fn told(&self, object: u64, told: Told) -> Result<Reply, Refusal> {
         Ok(match told {
             Told::Created(moment) => Reply::Created(ObjectId::new(object), Moment::new(moment)),
             Told::Changed(moment) => Reply::Changed(Moment::new(moment)),
@@ -236,7 +257,7 @@ impl<J: Naming> Cleaned for Party<J> {
         self.rounds.turn(self.alloc, &mut self.drive)
     }
 
-    fn moments(&mut self) -> Result<Vec<u64>, Fail> {
+    fn moments(&mut self) -> Result<Vec<u64>, Refusal> {
         let entries = self.drive.entries(ObjectId::new(1))?;
         let mut moments = Vec::new(self.alloc);
         for entry in entries.as_slice() {
@@ -245,8 +266,32 @@ impl<J: Naming> Cleaned for Party<J> {
         Ok(moments)
     }
 
-    fn held(&mut self, frame: u16) -> Result<usize, Fail> {
-        Ok(self.drive.held_in(ObjectId::new(1), frame)?.len())
+    fn joined(&mut self) -> Result<Option<(Side, Side)>, Refusal> {
+        let entries = self.drive.entries(ObjectId::new(1))?;
+        let Some(entry) = entries.last() else {
+            return Ok(None);
+        };
+        let [triple] = entry.triples() else {
+            return Ok(None);
+        };
+        Ok(Some((
+            side_of(entry.before(), triple.before),
+            side_of(entry.after(), triple.after),
+        )))
+    }
+
+    fn held(&mut self, frame: u16) -> Result<Vec<u8>, Refusal> {
+        let places = self.drive.held_in(ObjectId::new(1), frame)?;
+        let mut blocks = Vec::new(self.alloc);
+        for place in places.as_slice() {
+            blocks.push(place.block())?;
+        }
+        Ok(blocks)
+    }
+
+    fn frame(&mut self, frame: u16) -> (Option<u32>, bool) {
+        let generation = self.drive.generation(frame);
+        (generation, self.drive.is_emptied(frame))
     }
 
     fn checkpoint(&mut self) -> Result<(), Refusal> {
@@ -261,8 +306,12 @@ impl<J: Naming> Cleaned for Party<J> {
         self.drive.room()
     }
 
-    fn has_row(&self) -> bool {
-        self.drive.row(ObjectId::new(1)).is_some()
+    fn row(&self, object: u64) -> Option<Row> {
+        self.drive.row(ObjectId::new(object))
+    }
+
+    fn clock(&self) -> u64 {
+        self.drive.clock().number()
     }
 
     fn plan(&mut self, length: u32, at: u64) -> Result<(), Refusal> {
@@ -279,7 +328,7 @@ impl<J: Naming> Cleaned for Party<J> {
         Ok(())
     }
 
-    fn gives(&mut self, byte: u8, count: usize) -> Result<bool, Fail> {
+    fn gives(&mut self, byte: u8, count: usize) -> Result<bool, Refusal> {
         match self.plan.take() {
             Some(plan) => {
                 let bytes = plan.fetch(self.alloc)?;

@@ -6,7 +6,7 @@ use std::test::Fail;
 
 /// A version is hidden: the entries that made it and ended it become one, and its data block goes. A second cleaning changes
 /// nothing.
-static HIDDEN: [Act; 17] = [
+pub(super) static HIDDEN: [Act; 18] = [
     Act::Asks(10, Ask::Create, Told::Created(10)),
     Act::Asks(20, Ask::Write(b"a"), Told::Changed(20)),
     Act::Asks(30, Ask::Write(b"b"), Told::Changed(30)),
@@ -15,6 +15,7 @@ static HIDDEN: [Act; 17] = [
     Act::Entries(&[10, 20, 30, 40]),
     Act::Cleans(Ok(())),
     Act::Entries(&[10, 20, 40]),
+    Act::Joins((20, Some((0, 2))), (40, Some((0, 6)))),
     Act::Room(171),
     Act::Cleans(Ok(())),
     Act::Room(171),
@@ -23,12 +24,12 @@ static HIDDEN: [Act; 17] = [
     Act::Asks(50, Ask::ReadAt(39), Told::Refused(Flushed)),
     Act::Asks(50, Ask::ReadAt(40), Told::Data(b"c")),
     Act::Seals,
-    // the two versions' data, a checkpoint and a journal block
-    Act::Holds(0, 4),
+    // the data of "a" and of "c", a checkpoint and a journal block
+    Act::Holds(0, &[2, 6, 8, 9]),
 ];
 
 /// The same with a deletion in place of the last write: the data of the one version is left.
-static DELETED: [Act; 11] = [
+pub(super) static DELETED: [Act; 11] = [
     Act::Asks(10, Ask::Create, Told::Created(10)),
     Act::Asks(20, Ask::Write(b"a"), Told::Changed(20)),
     Act::Asks(30, Ask::Write(b"b"), Told::Changed(30)),
@@ -39,11 +40,12 @@ static DELETED: [Act; 11] = [
     Act::Asks(50, Ask::ReadAt(35), Told::Refused(Flushed)),
     Act::Asks(50, Ask::ReadAt(40), Told::Refused(NoObject)),
     Act::Seals,
-    Act::Holds(0, 3),
+    // the data of "a", a checkpoint and a journal block
+    Act::Holds(0, &[2, 7, 8]),
 ];
 
 /// The floor passes a checkpoint: one entry is left, and the versions from the floor on.
-static AGED: [Act; 9] = [
+pub(super) static AGED: [Act; 10] = [
     Act::Asks(10, Ask::Create, Told::Created(10)),
     Act::Asks(20, Ask::Write(b"a"), Told::Changed(20)),
     Act::Checkpoints,
@@ -52,22 +54,26 @@ static AGED: [Act; 9] = [
     Act::Cleans(Ok(())),
     Act::Entries(&[40]),
     Act::Asks(135, Ask::ReadAt(35), Told::Data(b"a")),
+    Act::Asks(135, Ask::ReadAt(40), Told::Data(b"b")),
     Act::Asks(135, Ask::ReadAt(34), Told::Refused(Expired)),
 ];
 
 /// A chain that is full takes a further entry once it was cleaned.
-static FULL: [Act; 7] = [
+pub(super) static FULL: [Act; 10] = [
     Act::Asks(1, Ask::Create, Told::Created(1)),
     Act::Asks(0, Ask::Touch(343), Told::Changed(344)),
     Act::Asks(0, Ask::Touch(1), Told::Refused(ChainFull)),
-    Act::Count(344),
+    Act::Clock(344),
+    Act::EntriesOfAll(1, 344),
     Act::Cleans(Ok(())),
-    Act::Count(100),
+    Act::EntriesOfAll(245, 344),
+    Act::Asks(0, Ask::ReadAt(244), Told::Data(b"")),
+    Act::Asks(0, Ask::ReadAt(243), Told::Refused(Expired)),
     Act::Asks(0, Ask::Touch(1), Told::Changed(345)),
 ];
 
 /// A deleted object's row goes once its death is at the floor, in a turn of the rounds; behind the round its frame is free.
-static GONE: [Act; 13] = [
+pub(super) static GONE: [Act; 13] = [
     Act::Asks(10, Ask::Create, Told::Created(10)),
     Act::Asks(20, Ask::Write(b"a"), Told::Changed(20)),
     Act::Asks(30, Ask::Delete, Told::Changed(30)),

@@ -1,11 +1,11 @@
 //! Full passes: what goes of all objects, what is counted, and where a pass stops.
 use crate::tests::acts::{Act, Ask, Told};
 use crate::tests::play;
-use s4_types::Refusal::{ChainFull, Flushed, InUse, NoObject, NoRoom};
+use s4_types::Refusal::{ChainFull, Expired, Flushed, InUse, NoObject, NoRoom};
 use std::test::Fail;
 
 /// A version is hidden: its entries become one, and of three data blocks two are held. A second pass finds nothing to do.
-static HIDDEN: [Act; 16] = [
+pub(super) static HIDDEN: [Act; 17] = [
     Act::Asks(10, Ask::Create, Told::Created(10)),
     Act::Asks(20, Ask::Write(b"a"), Told::Changed(20)),
     Act::Asks(30, Ask::Write(b"b"), Told::Changed(30)),
@@ -13,6 +13,7 @@ static HIDDEN: [Act; 16] = [
     Act::Asks(50, Ask::FlushO(30, 39), Told::Changed(50)),
     Act::Passes(1, 0, 0),
     Act::Entries(&[10, 20, 40]),
+    Act::Joins((20, Some((0, 2))), (40, Some((0, 6)))),
     Act::Asks(50, Ask::ReadAt(29), Told::Data(b"a")),
     Act::Asks(50, Ask::ReadAt(30), Told::Refused(Flushed)),
     Act::Asks(50, Ask::ReadAt(39), Told::Refused(Flushed)),
@@ -20,13 +21,13 @@ static HIDDEN: [Act; 16] = [
     Act::Passes(0, 0, 0),
     Act::Room(171),
     Act::Seals,
-    // two data blocks, a checkpoint and a journal block
-    Act::Holds(0, 4),
+    // the data of "a" and of "c", a checkpoint and a journal block
+    Act::Holds(0, &[2, 6, 8, 9]),
     Act::Entries(&[10, 20, 40]),
 ];
 
 /// The same with a deletion in place of the last write: one data block is held.
-static DELETED: [Act; 12] = [
+pub(super) static DELETED: [Act; 12] = [
     Act::Asks(10, Ask::Create, Told::Created(10)),
     Act::Asks(20, Ask::Write(b"a"), Told::Changed(20)),
     Act::Asks(30, Ask::Write(b"b"), Told::Changed(30)),
@@ -38,34 +39,43 @@ static DELETED: [Act; 12] = [
     Act::Asks(50, Ask::ReadAt(40), Told::Refused(NoObject)),
     Act::Passes(0, 0, 0),
     Act::Seals,
-    Act::Holds(0, 3),
+    // the data of "a", a checkpoint and a journal block
+    Act::Holds(0, &[2, 7, 8]),
 ];
 
 /// Frame 0 is full with an object's first bytes, which are replaced, and the floor passes them. While a plan counts on the frame
 /// it isn't released: the pass stops there, and the plan gives what was there.
-static COUNTED: [Act; 16] = [
+pub(super) static COUNTED: [Act; 24] = [
     Act::Asks(10, Ask::Create, Told::Created(10)),
+    Act::Holds(0, &[]),
     Act::Fills(20, b'a', 6_656, 20),
+    Act::Holds(0, &[2, 3, 4, 5, 6, 7, 8, 9, 10, 11, 12, 13, 14, 15]),
+    Act::Marks(0, Err(InUse)),
     Act::Plans(6_656, 20),
     Act::Fills(30, b'b', 6_656, 30),
     Act::Asks(200, Ask::ReadAt(100), Told::Data(b"bbbbbbbbb")),
+    Act::Asks(200, Ask::ReadAt(99), Told::Refused(Expired)),
     Act::Cleans(Ok(())),
+    Act::Frame(0, 1, false),
     Act::Marks(0, Ok(())),
+    Act::Frame(0, 1, true),
     Act::Releases(0, Err(InUse)),
+    Act::Frame(0, 1, true),
     Act::PassStops(InUse),
     Act::Entries(&[]),
     Act::Room(150),
     Act::Gives(b'a', 6_656),
     Act::Releases(0, Ok(())),
+    Act::Frame(0, 2, false),
     Act::Room(165),
     Act::Passes(0, 0, 0),
     // the bytes that are left, and a checkpoint
-    Act::Holds(1, 14),
+    Act::Holds(1, &[1, 2, 3, 4, 5, 6, 7, 8, 9, 10, 11, 12, 13, 15]),
 ];
 
 /// A full chain, and beside it an object that was deleted before the floor: the one's row is rewritten, the other's goes, and the
 /// 23 frames that they filled are free.
-static FULL: [Act; 9] = [
+pub(super) static FULL: [Act; 9] = [
     Act::Asks(1, Ask::Create, Told::Created(1)),
     Act::AsksOf(2, 0, Ask::Create, Told::Created(2)),
     Act::AsksOf(2, 0, Ask::Delete, Told::Changed(3)),
@@ -73,7 +83,7 @@ static FULL: [Act; 9] = [
     Act::Asks(0, Ask::Touch(1), Told::Refused(ChainFull)),
     Act::Count(344),
     Act::Passes(1, 1, 23),
-    Act::Count(100),
+    Act::EntriesOfAll(247, 346),
     Act::Passes(0, 0, 0),
 ];
 
