@@ -76,28 +76,17 @@ impl Reference {
             _ => false,
         }
     }
-}
 
-impl Tells for Reference {
-    fn reply(&mut self, request: Request, now: Moment) -> Reply {
-        self.plain.request(Role::Admin, request, now)
-    }
-
-    fn is_told(&mut self, step: Step, answer: &Answer) -> bool {
-        match step {
-            Step::By {
-                act: Act::Request { request, now },
-                ..
-            } => self.is_replied(request, now, answer),
-            Step::By {
-                actor,
-                act: Act::Resolve {
-                    object,
-                    offset,
-                    length,
-                    at,
-                    now,
-                },
+    /// Whether an act is answered so.
+    fn is_act_told(&mut self, actor: usize, act: Act, answer: &Answer) -> bool {
+        match act {
+            Act::Request { request, now } => self.is_replied(request, now, answer),
+            Act::Resolve {
+                object,
+                offset,
+                length,
+                at,
+                now,
             } => {
                 let read = Request::Read {
                     object,
@@ -108,12 +97,28 @@ impl Tells for Reference {
                 let told = self.reply(read, now);
                 self.is_planned(actor, told, answer)
             }
-            Step::By {
-                actor,
-                act: Act::Fetch,
-            } => self.is_fetched(actor, answer),
-            Step::By { act: Act::Meet, .. } | Step::Seal => *answer == Answer::Done,
-            _ => !matches!(answer, Answer::Reply(_) | Answer::Bytes(_)),
+            Act::Fetch => self.is_fetched(actor, answer),
+            Act::Meet => *answer == Answer::Done,
+            Act::Plan { .. } | Act::Copy | Act::Commit => is_done_or_not(answer),
+        }
+    }
+}
+
+/// Whether this answers a step that asks for nothing.
+fn is_done_or_not(answer: &Answer) -> bool {
+    !matches!(answer, Answer::Reply(_) | Answer::Bytes(_))
+}
+
+impl Tells for Reference {
+    fn reply(&mut self, request: Request, now: Moment) -> Reply {
+        self.plain.request(Role::Admin, request, now)
+    }
+
+    fn is_told(&mut self, step: Step, answer: &Answer) -> bool {
+        match step {
+            Step::By { actor, act } => self.is_act_told(actor, act, answer),
+            Step::Seal => *answer == Answer::Done,
+            _ => is_done_or_not(answer),
         }
     }
 }
