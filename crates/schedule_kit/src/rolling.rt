@@ -10,7 +10,7 @@ use std::alloc::Global;
 pub(crate) const OBJECTS: u64 = 4;
 
 /// The longest window that a list sets, in moments.
-pub(crate) const LONGEST_WINDOW: u64 = 60;
+pub(crate) const LONGEST_WINDOW: u64 = 30;
 
 /// How many frames are named: those that are written first, and again once they are free.
 const FRAMES: u64 = 3;

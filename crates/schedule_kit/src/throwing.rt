@@ -5,11 +5,9 @@ use crate::counting::Tally;
 use crate::rolling::{Dice, LONGEST_WINDOW, OBJECTS};
 use crate::staging::{Scene, Staged, play};
 use interleaving::{Answer, Step};
+use s4_types::limits::FEWEST_FRAMES;
 use s4_types::{Refusal, Reply};
 use std::alloc::Global;
-
-/// How many frames the drive of a list has.
-const FRAMES: usize = 16;
 
 /// Where a list went wrong: behind the step of this number, from 1 on, this object isn't what the plain drive tells at some
 /// moment; or, with no object, that step wasn't answered as the plain drive tells.
@@ -114,7 +112,7 @@ impl Scene for Thrown {
     }
 }
 
-/// Plays the list of a seed, of so many steps, over a new drive of 16 frames, counts what was done, and gives where it first went
+/// Plays the list of a seed, of so many steps, over a new drive of 8 frames, counts what was done, and gives where it first went
 /// wrong. NoMemory where memory is refused.
 pub fn play_thrown(
     alloc: Global,
@@ -129,7 +127,7 @@ pub fn play_thrown(
         steps,
         tally: *tally,
     };
-    let (counted, fault) = play(alloc, FRAMES, LONGEST_WINDOW, thrown)?;
+    let (counted, fault) = play(alloc, FEWEST_FRAMES, LONGEST_WINDOW, thrown)?;
     *tally = counted;
     Ok(fault)
 }

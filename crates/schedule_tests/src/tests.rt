@@ -59,9 +59,11 @@ fn is_free_again<D: Staged>(alloc: Global, stage: &mut D) -> Result<bool, Refusa
     let mut steps = Vec::with_capacity(alloc, 1)?;
     steps.push(Step::Mark { frame: 0 })?;
     let (answers, _) = stage.run(steps)?;
-    Ok(answers
-        .iter()
-        .all(|answer| *answer == Answer::Refused(InUse)))
+    Ok(
+        answers
+            .iter()
+            .all(|answer| *answer == Answer::Refused(InUse)),
+    )
 }
 
 impl Scene for Beginning {
@@ -87,7 +89,11 @@ impl Scene for Beginning {
 fn end_of<R: Abort>(rt: &R, alloc: Global, lines: &[Line]) -> Result<Ending, Fail> {
     let steps = steps_of(alloc, lines)?;
     let ending = play(alloc, 16, 100, Beginning { steps })?;
-    assert!(rt; are_told(ending.answers.as_slice(), lines), "{:?}", ending.answers);
+    assert!(rt;
+        are_told(ending.answers.as_slice(), lines),
+        "{:?}",
+        ending.answers
+    );
     assert!(rt; ending.are_told, "{:?}", ending.answers);
     let unlike = ending.unlike;
     assert!(rt; unlike.is_none(), "{unlike:?}");

@@ -1,8 +1,8 @@
 //! Named lists of steps: each answer is told, and after each beginning of a list every version is the plain drive's, at every moment
 //! from 0 to the one behind the clock.
 use crate::Told;
-use crate::tests::{end_of, play_beginnings};
 use crate::tests::turns::{Line, Turn};
+use crate::tests::{end_of, play_beginnings};
 use s4_types::Refusal::{Expired, InUse, Stale};
 use std::test::Fail;
 
