@@ -1,8 +1,8 @@
 //! What lists of steps tell of answers.
 ghost use Rattle.std.specs.Prelude.{◌≡◌, true};
 ghost use Rattle.s4_types.specs.declared.refusals.Refusal.{Refusal};
-ghost use Rattle.interleaving.specs.declared.answers.Answer.TheVariants as answer;
-ghost use Rattle.schedule_tests.specs.declared.answers.Told.TheVariants as told;
+ghost use Rattle.interleaving.specs.declared.answers.Answer.TheVariants as given;
+ghost use Rattle.schedule_tests.specs.declared.answers.Told.TheVariants as named;
 
 use interleaving::Answer;
 use s4_types::{Refusal, Reply};
@@ -34,22 +34,22 @@ fn is_reply(reply: &Reply, told: Told) -> bool {
         }
         (Reply::Changed(at), Told::Changed(moment)) => at.number() == moment,
         (Reply::Data(data), Told::Data(bytes)) => data.as_slice() == bytes,
-        (Reply::Refused(refusal), Told::Denied(named)) => *refusal == named,
+        (Reply::Refused(refusal), Told::Denied(expected)) => *refusal == expected,
         _ => false,
     }
 }
 
 /// Whether an answer is what is told of it.
 pub fn is_told(answer: &Answer, told: Told) -> bool
-    ensures done { result ≡ true → told ≡ told.Done → answer.now ≡ answer.Done }
-    ensures idle { result ≡ true → told ≡ told.Idle → answer.now ≡ answer.Idle }
-    ensures refused { (refusal : Refusal) → result ≡ true → told ≡ told.Refused refusal → answer.now ≡ answer.Refused refusal }
+    ensures done { result ≡ true → told ≡ named.Done → answer.now ≡ given.Done }
+    ensures idle { result ≡ true → told ≡ named.Idle → answer.now ≡ given.Idle }
+    ensures refused { (refusal : Refusal) → result ≡ true → told ≡ named.Refused refusal → answer.now ≡ given.Refused refusal }
 {
     match (answer, told) {
         (Answer::Reply(reply), _) => is_reply(reply, told),
         (Answer::Bytes(data), Told::Bytes(bytes)) => data.as_slice() == bytes,
         (Answer::Done, Told::Done) | (Answer::Idle, Told::Idle) => true,
-        (Answer::Refused(refusal), Told::Refused(named)) => *refusal == named,
+        (Answer::Refused(refusal), Told::Refused(expected)) => *refusal == expected,
         _ => false,
     }
 }
