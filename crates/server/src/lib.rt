@@ -5,17 +5,20 @@
 //! while its bytes are fetched. In which order sessions that told each other nothing come is not said here.
 #![tactic(auto)]
 
+mod choices_stub;
 mod clocks;
 mod gate;
 mod locked;
+mod moving;
 mod running;
 mod upkeep;
 
 pub use clocks::SharedClock;
 pub use gate::{Gate, Open};
 pub use locked::Locked;
+pub use moving::{MoveStep, Moves};
 pub use running::{Client, MOST_SESSIONS, Outcome, run_sessions};
-pub use upkeep::{Round, run_with_cleaner};
+pub use upkeep::{Round, Upkeep, run_with_upkeep};
 
 #[cfg(test)]
 mod tests;
