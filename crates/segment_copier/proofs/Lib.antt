@@ -1,3 +1,4 @@
 pub mod Listed
 pub mod Kept
 pub mod Placed
+pub mod Surveyed
