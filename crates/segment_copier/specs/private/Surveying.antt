@@ -21,9 +21,14 @@ pub record Tells (t : Table) (f n : ℕ) (s : Survey) : Type 0 where
   pub holds : is_of s.lowest (held_at t (block_at t f block)) ≡ true
   pub lowest : (b q : ℕ) → 1 ≤ b → b ≤ n → is_of q (held_at t (block_at t f b)) ≡ true → s.lowest ≤ q
 
+-- none of the first n blocks of frame f is held
+pub record HoldsNothing (t : Table) (f n : ℕ) : Type 0 where
+  pub count : count_by (λ p. is_some (held_at t p)) (take n (whole_of t f)) ≡ 0
+  pub none : (b : ℕ) → 1 ≤ b → b ≤ n → held_at t (block_at t f b) ≡ None
+
 -- what is found in the first n blocks of frame f: nothing where none is held
 abbrev pub IsFound : Table → ℕ → ℕ → Option Survey → Type 0
-IsFound t f n None = count_by (λ p. is_some (held_at t p)) (take n (whole_of t f)) ≡ 0
+IsFound t f n None = HoldsNothing t f n
 IsFound t f n (Some s) = Tells t f n s
 
 -- the survey of frame f, which is at a generation that pointers have
