@@ -1,4 +1,4 @@
-//! What the copier chooses to move next, over a new drive of 16 frames.
+//! What the copier chooses to move next.
 ghost use Rattle.std.specs.Prelude.{◌≡◌};
 ghost use Rattle.s4_model.specs.State.{new_base};
 
@@ -214,9 +214,9 @@ fn play<R: Abort>(rt: &R, alloc: Global, acts: &[Act]) -> Result<(), Fail> {
     play_named::<Brand, R>(rt, alloc, made, acts)
 }
 
-/// Frame 1 is full with 14 data blocks and their journal block, of which 8 and the journal are written anew. Before the cleaning
-/// 14 are held, behind it 6; these are moved, beside 8 others in frame 2.
-static FEW_LEFT: [Act; 17] = [
+/// Frame 1 is full with 14 data blocks and their journal block. 8 of them and the journal are written anew: 14 blocks are held
+/// there before the cleaning, and 6 behind it. These leave it.
+static FEW_LEFT: [Act; 21] = [
     Act::ChoosesNone,
     Act::Creates(1),
     // frame 0 is open
@@ -232,7 +232,81 @@ static FEW_LEFT: [Act; 17] = [
     Act::ChoosesNone,
     Act::Reads(1, 200),
     Act::Cleans(1),
+    Act::Holds(1, 1, 6),
+    Act::Room(140),
     Act::Chooses(1, 1),
     Act::Moves,
+    Act::Holds(1, 1, 0),
+    // six copies and a checkpoint
+    Act::Room(133),
     Act::ChoosesNone,
 ];
+
+/// Of two frames that hold one block each the one with the lower number is chosen, though the other's object is lower. Of two
+/// objects that have a block each in one frame the lower one leaves it, also where its block comes behind.
+static TIE: [Act; 17] = [
+    Act::Creates(2),
+    Act::Seals,
+    Act::Chooses(0, 1),
+    Act::Writes(1, b'a', 0),
+    Act::Seals,
+    Act::Holds(2, 0, 1),
+    Act::Holds(1, 1, 1),
+    Act::Chooses(0, 2),
+    Act::Creates(1),
+    Act::Writes(2, b'a', 0),
+    Act::Seals,
+    Act::Holds(2, 0, 0),
+    Act::Holds(3, 2, 1),
+    Act::Holds(2, 2, 1),
+    Act::Chooses(1, 1),
+    Act::Writes(1, b'a', 0),
+    // object 3 has the first block of frame 2, object 2 the next
+    Act::Chooses(2, 2),
+];
+
+/// A frame of which one block is held comes before one of two, which has the lower number.
+static FEWEST: [Act; 6] = [
+    Act::Creates(3),
+    Act::Seals,
+    Act::Chooses(0, 1),
+    Act::Writes(1, b'a', 0),
+    Act::Seals,
+    Act::Chooses(1, 1),
+];
+
+/// A frame of which 8 blocks are held isn't left, and one of 7 is.
+static EIGHT: [Act; 5] = [
+    Act::Creates(8),
+    Act::Seals,
+    Act::ChoosesNone,
+    Act::Writes(1, b'a', 0),
+    Act::Chooses(0, 2),
+];
+
+/// The frames that 102 objects fill leave room for 63 blocks, and one more for 62.
+static ROOM: [Act; 9] = [
+    Act::Creates(1),
+    Act::Seals,
+    Act::Room(165),
+    Act::Creates(102),
+    Act::Room(63),
+    Act::Chooses(0, 1),
+    Act::Creates(1),
+    Act::Room(62),
+    Act::ChoosesNone,
+];
+
+#[test]
+fn what_is_chosen_of_16_frames(rt: HostRuntime) -> Result<(), Fail> {
+    for acts in [
+        FEW_LEFT.as_slice(),
+        TIE.as_slice(),
+        FEWEST.as_slice(),
+        EIGHT.as_slice(),
+        ROOM.as_slice(),
+    ] {
+        play(&rt, rt.alloc(), acts)?;
+    }
+    Ok(())
+}
