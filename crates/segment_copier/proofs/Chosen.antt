@@ -24,15 +24,6 @@ phase_sealed p e = ap is_sealed e
 not_sealed : (p : Phase) → is_sealed p ≡ false → p ≡ Sealed → ⊥
 not_sealed p e is = absurd (let sealed = phase_sealed p is in cc)
 
--- a sealed frame is there
-inside : (t : Table) (f : ℕ) → (frame_at t.drive.frames f).phase ≡ Sealed → f < length t.drive.frames
-inside t f sealed = elim (cases_lt f (length t.drive.frames)) [
-  | inl there ↦ there
-  | inr past ↦ absurd (let none : frame_at t.drive.frames f ≡ no_frame = get_or-eq_default t.drive.frames no_frame past in
-      let free : Free ≡ Sealed = sym (ap (λ (k : Frame). k.phase) none) ∙ sealed in
-      cc)
-]
-
 -- a list that has something isn't empty
 some_there : (places : List Place) (p : Place) → Contains places p → places ≡ [] → ⊥
 some_there [] p (k, h, e) none = absurd (omega arith)
@@ -152,14 +143,3 @@ best_goes t f best s before survey sealed first fewer = record {
   goes : (b : Option Survey) → IsBestBelow t f b → IfSome b (λ b. true ≡ nat_lt s.count b.count) → (g : ℕ) → g < f → IsSparse t g → held_count t f < held_count t g
   goes None known two g low other = absurd (known g low other)
   goes (Some b) known two g low other = least b g (counted t b.frame b known.survey) (known.first g low other) (ltb-true s.count b.count (sym two))
-
--- ---- all frames
-
-pub no_frame_sparse : (t : Table) (n : ℕ) → length t.drive.frames ≤ n → IsBestBelow t n None → NoneIsSparse t
-no_frame_sparse t n all none f sparse = none f (omega (arith, all, inside t f sparse.sealed)) sparse
-
-pub first_frame : (t : Table) (n : ℕ) (s : Survey) → length t.drive.frames ≤ n → GoesFirst t n s → IsFirstFrame t s.frame
-first_frame t n s all goes = record {
-  sparse = goes.sparse;
-  first = λ g sparse. goes.first g (omega (arith, all, inside t g sparse.sealed)) sparse;
-}

@@ -4,7 +4,7 @@
 //! the object's data blocks there without the drive, whatever other threads do meanwhile, and [`commit`] puts the copies in place,
 //! where the object wasn't changed since. History and every version stay at every moment, whatever they answer; after Ok of a move
 //! that isn't empty the object holds no block in the frame. [`Copier`] is these three for a run of interleaved steps. Which object
-//! leaves which frame is the caller's choice; [`candidate`] is the one that makes most of a move.
+//! leaves which frame is the caller's choice, and [`candidate`] makes it.
 #![tactic(auto)]
 
 mod candidates;
