@@ -1,19 +1,18 @@
 -- Which frame goes first, and which object leaves it.
-use Rattle.std.proofs.Common.{◌≡◌, ◌⊎◌, inl, inr, ℕ, zero, suc, ◌+◌, ◌<◌, ◌≤◌, Bool, true, false, List, [], ◌∷◌, length, get_or, filter, if◌then◌else◌, Option, Some, None, refl, sym, ap, subst, ◌∙◌, arith}
+use Rattle.std.proofs.Common.{◌≡◌, inl, inr, ℕ, suc, ◌+◌, ◌<◌, ◌≤◌, Bool, true, false, List, [], ◌∷◌, length, filter, if◌then◌else◌, Option, Some, None, refl, sym, ap, subst, ◌∙◌, arith}
 use Rattle.std.specs.Prelude.{IfSome, IfNone, nat_eq, nat_lt, nat_le, not}
 use Rattle.std.specs.List.{Contains}
-use Rattle.std.proofs.Math.ListN.{get_or-eq_default}
 use Rattle.std.proofs.lemmas.Bool.{cases_Bool, cases_eq, cases_lt, ne_eqb, ltb-true, ltb-false, leb-true, leb-false}
 use Rattle.s4_types.specs.Pointer.{Place}
-use Rattle.segment_word.specs.Frames.{Frame, Phase, Free, Sealed, is_sealed, no_frame}
+use Rattle.segment_word.specs.Frames.{Phase, Sealed, is_sealed}
 use Rattle.segment_word.specs.Layout.{frame_at}
 use Rattle.segment_table.specs.Table.{Table, held_at, is_of}
 use Rattle.segment_table.specs.Room.{whole_of, pointers_in}
 use Rattle.segment_table.specs.Laws.{IsListed, ListsAllHeld, WhatIsListedIsHeld}
 use Rattle.segment_copier.specs.declared.choices.Survey.{Survey}
-use Rattle.segment_copier.specs.Choosing.{held_count, IsSparse, NoneIsSparse, GoesBefore, IsFirstFrame, HoldsIn, IsLowestObject}
-use Rattle.segment_copier.specs.private.Surveying.{block_at, Tells, IsSurvey, GoesFirst, IsBestBelow}
-use Rattle.segment_copier.proofs.Listed.{sealed_phase, some_sealed}
+use Rattle.segment_copier.specs.Choosing.{held_count, IsSparse, GoesBefore, HoldsIn, IsLowestObject}
+use Rattle.segment_copier.specs.private.Surveying.{block_at, IsSurvey, GoesFirst, IsBestBelow}
+use Rattle.segment_copier.proofs.Listed.{sealed_phase}
 use Rattle.segment_copier.proofs.Surveyed.{count_all}
 
 -- ---- sealed frames
@@ -55,6 +54,7 @@ lowest_object law t f s lists survey sealed = record {
   same_place : (p : Place) (q : ℕ) → IsListed t q f p → is_of q (held_at t (block_at t f p.block)) ≡ true
   same_place p q listed = subst (λ (x : Place). is_of q (held_at t x) ≡ true)
       (ap (λ (n : ℕ). record { frame = n; block = p.block; generation = p.generation }) listed.frame ∙ ap (λ (n : ℕ). record { frame = f; block = p.block; generation = n }) listed.generation) listed.held
+
   least : (q : ℕ) (places : List Place) → places ≡ pointers_in t q f → (places ≡ [] → ⊥) → s.lowest ≤ q
   least q [] is some = absurd (some refl)
   least q (p ∷ places) is some =
@@ -102,9 +102,9 @@ best_stays t f (Some b) s before survey first fewer =
       below = omega (arith, low);
       first = λ g lower sparse. elim (cases_eq g f) [
         | inl same ↦ subst (GoesBefore t b.frame) (sym same) (elim (cases_lt b.count s.count) [
-            | inl less ↦ inl (omega (arith, less, mine, its))
-            | inr other ↦ inr (omega (arith, other, more, mine, its), omega (arith, low))
-          ])
+          | inl less ↦ inl (omega (arith, less, mine, its))
+          | inr other ↦ inr (omega (arith, other, more, mine, its), omega (arith, low))
+        ])
         | inr other ↦ before.first g (omega (arith, lower, other)) sparse
       ];
     }
@@ -123,13 +123,16 @@ best_goes t f best s before survey sealed first fewer = record {
 } where
   at : s.frame ≡ f
   at = survey.tells.frame
+
   its : s.count ≡ held_count t f
   its = counted t f s survey
+
   at_most : (b : Option Survey) → IsBestBelow t f b → IfNone b (true ≡ nat_le s.count 7) → IfSome b (λ b. true ≡ nat_lt s.count b.count) → s.count ≤ 7
   at_most None known one two = leb-true s.count 7 (sym one)
   at_most (Some b) known one two =
       let most : held_count t b.frame ≤ 7 = known.sparse.few in
       omega (arith, most, counted t b.frame b known.survey, ltb-true s.count b.count (sym two))
+
   is_sparse : IsSparse t f
   is_sparse = (let one : 1 ≤ s.count = survey.tells.some in record {
     sealed = sealed_phase (frame_at t.drive.frames f).phase sealed;
@@ -137,9 +140,11 @@ best_goes t f best s before survey sealed first fewer = record {
     some = omega (arith, its, one);
     few = omega (arith, its, at_most best before first fewer);
   })
+
   least : (b : Survey) (g : ℕ) → b.count ≡ held_count t b.frame → GoesBefore t b.frame g → s.count < b.count → held_count t f < held_count t g
   least b g mine (inl less) lower = omega (arith, less, mine, its, lower)
   least b g mine (inr same) lower = (let equal : held_count t b.frame ≡ held_count t g = same.0 in omega (arith, equal, mine, its, lower))
+
   goes : (b : Option Survey) → IsBestBelow t f b → IfSome b (λ b. true ≡ nat_lt s.count b.count) → (g : ℕ) → g < f → IsSparse t g → held_count t f < held_count t g
   goes None known two g low other = absurd (known g low other)
   goes (Some b) known two g low other = least b g (counted t b.frame b known.survey) (known.first g low other) (ltb-true s.count b.count (sym two))

@@ -1,5 +1,5 @@
 -- What is found in a frame, block by block.
-use Rattle.std.proofs.Common.{◌≡◌, inl, inr, ℕ, zero, suc, ◌+◌, ◌<◌, ◌≤◌, ◌^◌, min, Bool, true, false, List, [], ◌∷◌, length, get_or, take, count_by, Option, Some, None, refl, sym, ap, subst, ◌∙◌, arith}
+use Rattle.std.proofs.Common.{◌≡◌, inl, inr, ℕ, zero, suc, ◌+◌, ◌<◌, ◌≤◌, min, Bool, true, List, length, get_or, take, count_by, Option, Some, None, refl, sym, ap, subst, ◌∙◌, arith}
 use Rattle.std.specs.Prelude.{is_some, IfSome, IfNone, option_map}
 use Rattle.std.proofs.lemmas.Bool.{cases_eq, cases_lt, eq-eqb, eqb-true}
 use Rattle.std.proofs.lemmas.List.{take_all}
@@ -108,7 +108,7 @@ first_held t f n block s h is before new =
       payload = (omega arith, omega arith);
       holds = is_block s.lowest (held_at t (block_at t f (n + 1))) block is (sym object);
       lowest = λ b q. up_to (λ c. is_of q (held_at t (block_at t f c)) ≡ true → s.lowest ≤ q) n (λ c low high e. absurd (of_none q (held_at t (block_at t f c)) (before.none c low high) e))
-        (λ e. omega (arith, object, of_block q (held_at t (block_at t f (n + 1))) block is e)) b;
+          (λ e. omega (arith, object, of_block q (held_at t (block_at t f (n + 1))) block is e)) b;
     }
 
 -- one that is held has the least object so far, or a greater one
@@ -120,7 +120,7 @@ next_held t f n block old s h is before new =
     let within : before.block ≤ n = before.payload.1 in
     let least : (b q : ℕ) → 1 ≤ b → b ≤ n + 1 → is_of q (held_at t (block_at t f b)) ≡ true → s.lowest ≤ q =
     λ b q. up_to (λ c. is_of q (held_at t (block_at t f c)) ≡ true → s.lowest ≤ q) n (λ c low high e. omega (arith, lowest, before.lowest c q low high e))
-      (λ e. omega (arith, lowest, of_block q (held_at t (block_at t f (n + 1))) block is e)) b in
+    (λ e. omega (arith, lowest, of_block q (held_at t (block_at t f (n + 1))) block is e)) b in
     elim (cases_lt block.object old.lowest) [
       | inl lower ↦ record {
         frame = ap (λ (x : Survey). x.frame) new;
@@ -153,9 +153,9 @@ pub step_without : (t : Table) (f n m g : ℕ) (found : Option Survey) (p : Plac
     → None ≡ option_map part_of (held_at t p) → IsFound t f n found → IsFound t f (n + 1) found
 step_without t f n m g found p h place block generation part before = step_none t f n found h
     (none_held (held_at t (block_at t f (n + 1))) (part ∙ ap (λ (q : Place). option_map part_of (held_at t q)) (place_is t f (n + 1) m g p place block generation))) before where
-  none_held : (held : Option Stored) → None ≡ option_map part_of held → held ≡ None
-  none_held None e = refl
-  none_held (Some block) e = absurd (cc)
+      none_held : (held : Option Stored) → None ≡ option_map part_of held → held ≡ None
+      none_held None e = refl
+      none_held (Some block) e = absurd (cc)
 
 some_held : (t : Table) (f n : ℕ) (found : Option Survey) (held : Option Stored) (part : Part) (s : Survey) → n < 15 → held_at t (block_at t f (n + 1)) ≡ held → Some part ≡ option_map part_of held → IsFound t f n found
     → IfNone found (s ≡ record { frame = f; count = 1; lowest = part.object }) → IfSome found (λ old. s ≡ record { frame = f; count = old.count + 1; lowest = min old.lowest part.object }) → Tells t f (n + 1) s

@@ -1,7 +1,6 @@
-use Rattle.std.proofs.Common.{◌≡◌, Bool, true, false, sym, ap, subst, ◌∙◌, ℕ}
+use Rattle.std.proofs.Common.{◌≡◌, Bool, true, false, sym, ap, ◌∙◌, ℕ}
 use Rattle.segment_word.specs.Frames.{is_sealed}
 use Rattle.segment_word.specs.Layout.{frame_at}
-use Rattle.segment_table.specs.Table.{Table}
 use Rattle.drive.specs.Fields.{DriveFields}
 use Rattle.segment_copier.proofs.Chosen.{best_goes, best_stays, best_unsealed}
 use Rattle.segment_copier.proofs.choices.best_with.Goals as goal

@@ -1,8 +1,7 @@
-use Rattle.std.proofs.Common.{sym, ap, subst, Option}
+use Rattle.std.proofs.Common.{subst}
 use Rattle.segment_table.specs.Table.{Table}
 use Rattle.segment_table.specs.Laws.{ListsAllHeld}
 use Rattle.drive.specs.Fields.{DriveFields}
-use Rattle.segment_copier.specs.declared.choices.Survey.{Survey}
 use Rattle.segment_copier.specs.private.Surveying.{GoesFirst, IsBestBelow}
 use Rattle.segment_copier.proofs.Chosen.{lowest_object}
 use Rattle.segment_copier.proofs.choices.candidate.Goals as goal

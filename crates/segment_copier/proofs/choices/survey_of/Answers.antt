@@ -1,4 +1,4 @@
-use Rattle.std.proofs.Common.{◌≡◌, ◌+◌, Some, None, refl, sym, ap, subst, ◌∙◌, arith}
+use Rattle.std.proofs.Common.{◌≡◌, ◌+◌, refl, sym, ap, subst, ◌∙◌, arith}
 use Rattle.std.specs.Prelude.{option_map, IfNone}
 use Rattle.segment_word.specs.Layout.{frame_at}
 use Rattle.segment_table.specs.Table.{Table, held_at, part_of}
@@ -22,10 +22,10 @@ loop-index-preserved g c =
       found = elim c.match-part.branch [
         | in-Some w ↦ subst (IsFound t c.args.frame (c.loop-index.index + 1)) (sym w.found-is)
             (step_with t c.args.frame c.loop-index.index (c.loop-index.index + 1) c.in_ok-generation.generation c.loop-index.found c.in_ok-place.place w.in-Some.part w.with_block.result
-              c.loop-index-test.true c.in_ok-place.ensures.value refl generation (sym w.in-Some.is ∙ part) c.loop-index.invariant.found w.with_block.ensures.first w.with_block.ensures.more)
+            c.loop-index-test.true c.in_ok-place.ensures.value refl generation (sym w.in-Some.is ∙ part) c.loop-index.invariant.found w.with_block.ensures.first w.with_block.ensures.more)
         | in_default w ↦ subst (IsFound t c.args.frame (c.loop-index.index + 1)) (sym w.found-is)
             (step_without t c.args.frame c.loop-index.index (c.loop-index.index + 1) c.in_ok-generation.generation c.loop-index.found c.in_ok-place.place
-              c.loop-index-test.true c.in_ok-place.ensures.value refl generation (sym w.in_default.is ∙ part) c.loop-index.invariant.found)
+            c.loop-index-test.true c.in_ok-place.ensures.value refl generation (sym w.in_default.is ∙ part) c.loop-index.invariant.found)
       ];
     }
 
