@@ -1,5 +1,5 @@
 -- What holds of copies that are put in place, and of the frame that they left.
-use Rattle.std.proofs.Common.{◌≡◌, ◌⊎◌, inl, inr, ℕ, zero, suc, ◌+◌, ◌<◌, ◌≤◌, ◌==◌, ◌&&◌, nat_le, Bool, true, false, cond, if◌then◌else◌, List, [], ◌∷◌, ◌++◌, length, get_or, take, map, filter, refl, sym, ap, subst, ◌∙◌, Option, Some, None, arith}
+use Rattle.std.proofs.Common.{◌≡◌, ◌⊎◌, inl, inr, ℕ, zero, suc, ◌+◌, ◌<◌, ◌≤◌, ◌==◌, ◌&&◌, nat_le, Bool, true, false, cond, if◌then◌else◌, List, [], ◌∷◌, length, take, map, filter, refl, sym, ap, subst, ◌∙◌, Option, Some, None, arith}
 use Rattle.std.specs.Prelude.{IsSome, IfSome, IfErr, OnOk, MatchResult, Result, Ok, Err}
 use Rattle.s4_types.specs.declared.refusals.Refusal.{Refusal}
 use Rattle.s4_types.specs.declared.refusals.Refusal.TheVariants.{NoMemory, NoRoom}
@@ -23,9 +23,9 @@ use Rattle.segment_table.specs.declared.slots.Slot.{Slot}
 use Rattle.segment_table.specs.Table.{Table, slots_at, block_slot, stored, held_at, is_of}
 use Rattle.segment_table.specs.Room.{places, whole_of, places_ahead, pointers_in}
 use Rattle.segment_table.specs.Laws.{IsListed, WhatIsListedIsHeld, ListsAllHeld, PlacesAheadAreInNoSealedFrame}
-use Rattle.chain_moving.specs.Renaming.{is_in, renaming_of}
+use Rattle.chain_moving.specs.Renaming.{is_in}
 use Rattle.version_store.specs.declared.copies.CopiedBlock.{CopiedBlock}
-use Rattle.version_store.specs.Relocating.{AreCopies, IsCopied, IsRelocated, frame_of_copies, blocks_ascend_from, blocks_relocated}
+use Rattle.version_store.specs.Relocating.{AreCopies, IsRelocated, frame_of_copies, blocks_ascend_from, blocks_relocated}
 use Rattle.drive.specs.Fields.{DriveFields, store_of}
 use Rattle.interleaving.specs.Moving.{HoldsNone}
 use Rattle.segment_copier.specs.Moves.{is_data, data_in, IsMemoryOver, IsCopyFrom}

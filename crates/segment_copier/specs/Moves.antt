@@ -10,7 +10,7 @@ use Rattle.segment_word.specs.Handles.{Held, Remembered, pin_of}
 use Rattle.segment_word.specs.Layout.{block_bytes}
 use Rattle.segment_table.specs.Table.{Table, held_at}
 use Rattle.segment_table.specs.Room.{pointers_in}
-use Rattle.time_read.specs.Plans.{contents_pinned, pins_held}
+use Rattle.time_read.specs.Plans.{contents_pinned}
 use Rattle.version_store.specs.declared.copies.CopiedBlock.{CopiedBlock}
 use Rattle.interleaving.specs.Moving.{Move}
 

@@ -4,14 +4,18 @@
 //! the object's data blocks there without the drive, whatever other threads do meanwhile, and [`commit`] puts the copies in place,
 //! where the object wasn't changed since. History and every version stay at every moment, whatever they answer; after Ok of a move
 //! that isn't empty the object holds no block in the frame. [`Copier`] is these three for a run of interleaved steps. Which object
-//! leaves which frame is the caller's choice.
+//! leaves which frame is the caller's choice, and [`candidate`] makes it.
 #![tactic(auto)]
 
+mod candidates;
+mod choices;
 mod commits;
 mod copier;
 mod held;
 mod plans;
 
+pub use candidates::Candidate;
+pub use choices::{MOST_HELD, MOVE_BLOCKS, candidate};
 pub use commits::commit;
 pub use copier::Copier;
 pub use plans::{MovePlan, Moved, plan_move};

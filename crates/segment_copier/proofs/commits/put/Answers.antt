@@ -1,6 +1,5 @@
-use Rattle.std.proofs.Common.{◌≡◌, List, Result, OnOk, IfSome, sym, ap, subst, ◌∙◌}
+use Rattle.std.proofs.Common.{OnOk, IfSome, sym, subst}
 use Rattle.object_map.specs.Rows.{row_of}
-use Rattle.segment_table.specs.Laws.{ListsAllHeld}
 use Rattle.segment_table.specs.Table.{held_at}
 use Rattle.version_store.specs.Relocating.{AreCopies, IsRelocated}
 use Rattle.drive.specs.Fields.{DriveFields, store_of}

@@ -1,5 +1,4 @@
-use Rattle.std.proofs.Common.{◌≡◌, ◌∷◌, [], sym, ap, subst, ◌∙◌, ℕ, List, filter, IsSome}
-use Rattle.s4_types.specs.Pointer.{Place}
+use Rattle.std.proofs.Common.{◌≡◌, ◌∷◌, [], sym, ap, subst, ◌∙◌, ℕ, filter, IsSome}
 use Rattle.segment_word.specs.Frames.{Sealed}
 use Rattle.segment_word.specs.Handles.{pin_of}
 use Rattle.segment_word.specs.Layout.{frame_at}

@@ -1,4 +1,4 @@
-use Rattle.std.proofs.Common.{◌≡◌, Option, Some, subst, ap, ◌∙◌}
+use Rattle.std.proofs.Common.{Option, subst, ap, ◌∙◌}
 use Rattle.segment_word.specs.Handles.{Held, Remembered}
 use Rattle.segment_copier.specs.Moves.{IsPinOver, IsKeptPlan, copies_of}
 use Rattle.segment_copier.proofs.Kept.{memory_over}

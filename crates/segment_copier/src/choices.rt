@@ -1,0 +1,143 @@
+//! The copier's choice of its next move.
+ghost use Rattle.std.specs.Prelude.{◌≡◌, ◌⊎◌, ◌+◌, ◌<◌, min, nat_lt, nat_le, IfSome, IfNone, IfOk, IfErr};
+ghost use Rattle.s4_types.specs.declared.refusals.Refusal.TheVariants.{NoMemory};
+ghost use Rattle.segment_word.specs.Frames.{is_sealed};
+ghost use Rattle.segment_word.specs.Layout.{frame_at};
+ghost use Rattle.version_store.specs.Costs.{room};
+ghost use Rattle.drive.specs.Fields.{store_of};
+ghost use Rattle.segment_copier.specs.declared.choices.TheConstants.{MOVE_BLOCKS, MOST_HELD};
+ghost use Rattle.segment_copier.specs.Choosing.{HasRoom, IsSparse, IsFirstFrame, IsLowestObject, NoneIsSparse};
+ghost use Rattle.segment_copier.specs.private.Surveying.{IsSurvey, IsBestBelow};
+
+use crate::candidates::Candidate;
+use drive::Drive;
+use s4_types::limits::{CHAIN_BLOCKS, PAYLOAD_BLOCKS};
+use s4_types::{ObjectId, Ptr, Refusal};
+use segment_table::laws::what_is_listed_is_held;
+use segment_word::Naming;
+
+/// Blocks that a move takes at most: the 15 payload blocks of a frame, a checkpoint, and the 47 journal blocks of a full chain.
+pub const MOVE_BLOCKS: usize = PAYLOAD_BLOCKS + 1 + CHAIN_BLOCKS;
+
+/// Held blocks of a frame that a move is made out of, at most: fewer than half of its payload blocks. Chosen.
+pub const MOST_HELD: usize = 7;
+
+/// How many blocks of a frame are held, at least one, and the least object that one of them is of.
+#[derive(Clone, Copy, Debug)]
+pub(crate) struct Survey {
+    frame: u16,
+    count: usize,
+    lowest: ObjectId,
+}
+
+// With one block more of the frame, which is of this object.
+fn with_block(found: Option<Survey>, frame: u16, object: ObjectId) -> Survey
+    requires few { IfSome found (λ s. s.count < 15) }
+    ensures first { IfNone found (result ≡ record { frame = frame; count = 1; lowest = object }) }
+    ensures more { IfSome found (λ s. result ≡ record { frame = frame; count = s.count + 1; lowest = min s.lowest object }) }
+{
+    match found {
+        Some(survey) => Survey {
+            frame,
+            count: survey.count + 1,
+            lowest: survey.lowest.min(object),
+        },
+        None => Survey {
+            frame,
+            count: 1,
+            lowest: object,
+        },
+    }
+}
+
+// What is held in a frame, whatever its phase. None where nothing is, or the frame isn't there or is used no more.
+fn survey_of<J: Naming>(drive: &mut Drive<J>, frame: u16) -> Option<Survey>
+    ensures some { IfSome result (IsSurvey drive.old.store.table frame) }
+    ensures none { IfNone result (IsSparse drive.old.store.table frame → ⊥) }
+    ensures same { drive.new ≡ drive.old }
+{
+    let generation = drive.generation(frame)?;
+    let mut found = None;
+    for index in 0..PAYLOAD_BLOCKS {
+        let place = Ptr::new(frame, index as u8 + 1, generation)?;
+        if let Some(part) = drive.part(place) {
+            found = Some(with_block(found, frame, part.object));
+        }
+    }
+    found
+}
+
+// Whether the frame of a survey comes before the best of the frames with lower numbers, if it is sealed.
+fn is_better(survey: &Survey, best: &Option<Survey>) -> bool
+    ensures first { IfNone best.now (result ≡ nat_le survey.now.count MOST_HELD) }
+    ensures fewer { IfSome best.now (λ b. result ≡ nat_lt survey.now.count b.count) }
+{
+    match best {
+        Some(best) => survey.count < best.count,
+        None => survey.count <= MOST_HELD,
+    }
+}
+
+// Whether the frame of a survey is sealed.
+fn is_of_sealed<J: Naming>(drive: &mut Drive<J>, survey: &Survey) -> Result<bool, Refusal>
+    requires { IsSurvey drive.old.store.table survey.now.frame survey.now }
+    ensures sealed { IfOk result (λ sealed. sealed ≡ is_sealed (frame_at drive.old.store.table.drive.frames survey.now.frame).phase) }
+    ensures refusal { IfErr result (λ e. e ≡ NoMemory) }
+    ensures same { drive.new ≡ drive.old }
+{
+    drive.listings();
+    let held = drive.held_in(survey.lowest, survey.frame)?;
+    Ok(!held.is_empty())
+}
+
+// The best of the frames up to this one, where the best below it is known.
+fn best_with<J: Naming>(
+    drive: &mut Drive<J>,
+    best: Option<Survey>,
+    frame: u16,
+) -> Result<Option<Survey>, Refusal>
+    requires below { IsBestBelow drive.old.store.table frame best }
+    ensures best { IfOk result (IsBestBelow drive.old.store.table (frame + 1)) }
+    ensures refusal { IfErr result (λ e. e ≡ NoMemory) }
+    ensures same { drive.new ≡ drive.old }
+{
+    let Some(survey) = survey_of(drive, frame) else {
+        return Ok(best);
+    };
+    if is_better(&survey, &best) && is_of_sealed(drive, &survey)? {
+        return Ok(Some(survey));
+    }
+    Ok(best)
+}
+
+/// The copier's choice of its next move: out of the sealed frame with the fewest held blocks, from 1 to 7, and with the lowest
+/// number on a tie, goes the least object that holds a block there. None exactly where there is room for fewer than 63 blocks
+/// beside the reserve, or no such frame. The drive is as before, whatever is answered. It looks at the 15 blocks of each frame
+/// once, and keeps no list of objects.
+///
+/// NoMemory alone, where the memory for the pointers into one frame is refused.
+pub fn candidate<J: Naming>(drive: &mut Drive<J>) -> Result<Option<Candidate>, Refusal>
+    ensures room { IfOk result (λ found. IfSome found (λ _. HasRoom drive.old)) }
+    ensures frame { IfOk result (λ found. IfSome found (λ c. IsFirstFrame drive.old.store.table c.frame)) }
+    ensures object { IfOk result (λ found. IfSome found (λ c. IsLowestObject drive.old.store.table c.frame c.object)) }
+    ensures none { IfOk result (λ found. IfNone found ((room (store_of drive.old) < MOVE_BLOCKS) ⊎ NoneIsSparse drive.old.store.table)) }
+    ensures refusal { IfErr result (λ e. e ≡ NoMemory) }
+    ensures same { drive.new ≡ drive.old }
+{
+    if drive.room() < MOVE_BLOCKS {
+        return Ok(None);
+    }
+    let mut best = None;
+    for frame in 0..drive.frame_count() {
+        best = best_with(drive, best, frame)?;
+    }
+    what_is_listed_is_held();
+    drive.listings();
+    let Some(survey) = best else {
+        return Ok(None);
+    };
+    Ok(Some(Candidate {
+        frame: survey.frame,
+        object: survey.lowest,
+    }))
+}
