@@ -3,4 +3,3 @@ pub mod Drawing
 pub mod Attending
 pub mod Upkeep
 pub mod Moving
-pub mod ChoosingStub

@@ -1,5 +1,5 @@
 -- What the segment copier does to a drive that sessions share.
-use Rattle.std.specs.Prelude.{◌≡◌, ◌⊎◌, ℕ, ◌<◌, Bool, true, false, List, [], ◌∷◌, count_by, Option, None, Some, Result, Ok, Err}
+use Rattle.std.specs.Prelude.{◌≡◌, ◌⊎◌, ◌<◌, Bool, true, false, List, [], ◌∷◌, count_by, Option, None, Some, Result, Ok, Err}
 use Rattle.s4_types.specs.History.{Base}
 use Rattle.s4_types.specs.declared.refusals.Refusal.{Refusal}
 use Rattle.s4_types.specs.declared.refusals.Refusal.TheVariants.{NoMemory}
@@ -12,8 +12,9 @@ use Rattle.interleaving.specs.Moving.{Move, IsMoveOf}
 use Rattle.interleaving.specs.Acting.{IsUnplanned, Commits}
 use Rattle.segment_copier.specs.Commits.{CommitsMove}
 use Rattle.segment_copier.specs.Moves.{PlannedMove}
-use Rattle.server.specs.ChoosingStub.{MOVE_BLOCKS, HasRoom, IsFirstFrame, IsLowestObject, NoneIsSparse}
-use Rattle.server.specs.declared.choices_stub.Candidate.{Candidate}
+use Rattle.segment_copier.specs.Choosing.{HasRoom, IsFirstFrame, IsLowestObject, NoneIsSparse}
+use Rattle.segment_copier.specs.declared.choices.TheConstants.{MOVE_BLOCKS}
+use Rattle.segment_copier.specs.declared.candidates.Candidate.{Candidate}
 use Rattle.server.specs.Sharing.{IsFresh}
 use Rattle.server.specs.declared.moving.MoveStep.{MoveStep}
 use Rattle.server.specs.declared.moving.MoveStep.TheVariants.{Idle, Unplanned, Unmoved, Moved}

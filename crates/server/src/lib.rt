@@ -2,10 +2,10 @@
 //!
 //! The layer above may rely on this: each reply is that of a step of the model, on a history of the drive that begins with all that
 //! the session had seen before, and that is what the session has seen afterwards. A read holds the lock while it is planned, and not
-//! while its bytes are fetched. In which order sessions that told each other nothing come is not said here.
+//! while its bytes are fetched. [`run_with_upkeep`] has the history cleaner and the segment copier beside the sessions; the history
+//! and every version that can be read stay, whatever the two do. In which order sessions that told each other nothing come is not said here.
 #![tactic(auto)]
 
-mod choices_stub;
 mod clocks;
 mod gate;
 mod locked;

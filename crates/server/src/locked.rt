@@ -8,12 +8,11 @@ ghost use Rattle.server.specs.Sharing.{SharedStep, HasMet, IsFresh, IsFetched};
 ghost use Rattle.server.specs.Upkeep.{SharedTurn};
 ghost use Rattle.server.specs.Moving.{SharedPlan, SharedCommit};
 
-use crate::choices_stub::{Candidate, next_candidate};
 use crate::gate::Gate;
 use drive::{Drive, Session};
 use history_cleaner::{Rounds, Turn};
 use s4_types::{Bytes, Moment, ObjectId, Refusal, Reply, Request, Role};
-use segment_copier::{MovePlan, Moved, commit, plan_move};
+use segment_copier::{Candidate, MovePlan, Moved, candidate, commit, plan_move};
 use segment_word::Naming;
 use serving::Backend;
 use std::alloc::Global;
@@ -122,7 +121,7 @@ pub(crate) fn plan_next<J: Naming>(
     let mut drive = hold(rt, drive);
     drive.rules();
     drive.meet(session);
-    let Some(next) = next_candidate(&mut drive)? else {
+    let Some(next) = candidate(&mut drive)? else {
         return Ok(None);
     };
     let plan = plan_move(alloc, &mut drive, session, next.frame, next.object)?;

@@ -3,10 +3,10 @@ ghost use Rattle.std.specs.Prelude.{◌≡◌, ◌+◌, ◌^◌, ◌<◌, MatchR
 ghost use Rattle.s4_types.specs.declared.refusals.Refusal.TheVariants.{Busy};
 ghost use Rattle.server.specs.Moving.{SharedMove, IsMoving, is_planned, is_moved};
 
-use crate::choices_stub::Candidate;
 use crate::locked::{enter, plan_next, put_in_place};
 use drive::{Drive, Session};
 use s4_types::{Refusal, Role};
+use segment_copier::Candidate;
 use segment_word::Naming;
 use std::alloc::Global;
 use std::sync::atomic::{AtomicBool, Ordering};

@@ -1,8 +1,7 @@
-use Rattle.std.proofs.Common.{◌≡◌, Result, Ok, Err, sym, ap, subst, ◌∙◌, rules}
+use Rattle.std.proofs.Common.{◌≡◌, sym, ap, subst, ◌∙◌, rules}
 use Rattle.drive.specs.Fields.{DriveFields, history_of}
 use Rattle.segment_word.specs.AcceptRule.{FitsLedger}
-use Rattle.segment_word.specs.AcceptViews.{Ledger, caught_up}
-use Rattle.server.specs.Moving.{SharedCommit}
+use Rattle.segment_word.specs.AcceptViews.{caught_up}
 use Rattle.server.proofs.locked.put_in_place.Goals as goal
 
 pub returns : goal.returns
