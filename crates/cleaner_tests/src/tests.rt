@@ -4,6 +4,7 @@ ghost use Rattle.s4_types.specs.Sizes.{IsFrameCount};
 ghost use Rattle.s4_model.specs.State.{new_base};
 
 mod acts;
+mod chosen;
 mod cleaned;
 mod lasting;
 mod passed;

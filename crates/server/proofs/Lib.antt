@@ -1,2 +1,3 @@
 pub mod Sharing
 pub mod Rounding
+pub mod Stepping

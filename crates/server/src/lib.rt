@@ -2,20 +2,23 @@
 //!
 //! The layer above may rely on this: each reply is that of a step of the model, on a history of the drive that begins with all that
 //! the session had seen before, and that is what the session has seen afterwards. A read holds the lock while it is planned, and not
-//! while its bytes are fetched. In which order sessions that told each other nothing come is not said here.
+//! while its bytes are fetched. [`run_with_upkeep`] has the history cleaner and the segment copier beside the sessions; the history
+//! and every version that can be read stay, whatever the two do. In which order sessions that told each other nothing come is not said here.
 #![tactic(auto)]
 
 mod clocks;
 mod gate;
 mod locked;
+mod moving;
 mod running;
 mod upkeep;
 
 pub use clocks::SharedClock;
 pub use gate::{Gate, Open};
 pub use locked::Locked;
+pub use moving::{MoveStep, Moves};
 pub use running::{Client, MOST_SESSIONS, Outcome, run_sessions};
-pub use upkeep::{Round, run_with_cleaner};
+pub use upkeep::{Round, Upkeep, run_with_upkeep};
 
 #[cfg(test)]
 mod tests;

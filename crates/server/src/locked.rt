@@ -6,11 +6,13 @@ ghost use Rattle.s4_types.specs.declared.requests.Request.TheVariants.{Read};
 ghost use Rattle.drive.specs.Answering.{reply_planned};
 ghost use Rattle.server.specs.Sharing.{SharedStep, HasMet, IsFresh, IsFetched};
 ghost use Rattle.server.specs.Upkeep.{SharedTurn};
+ghost use Rattle.server.specs.Moving.{SharedPlan, SharedCommit};
 
 use crate::gate::Gate;
 use drive::{Drive, Session};
 use history_cleaner::{Rounds, Turn};
 use s4_types::{Bytes, Moment, ObjectId, Refusal, Reply, Request, Role};
+use segment_copier::{Candidate, MovePlan, Moved, candidate, commit, plan_move};
 use segment_word::Naming;
 use serving::Backend;
 use std::alloc::Global;
@@ -35,7 +37,7 @@ fn hold<'a, J: Naming>(rt: &impl Wait, drive: &'a Mutex<Drive<J>>) -> MutexGuard
 }
 
 /// A session of a role.
-fn enter<J: Naming>(
+pub(crate) fn enter<J: Naming>(
     rt: &impl Wait,
     drive: &Mutex<Drive<J>>,
     role: Role,
@@ -104,6 +106,42 @@ pub(crate) fn take_turn<J: Naming>(
     let mut drive = hold(rt, drive);
     drive.rules();
     rounds.turn(alloc, &mut drive)
+}
+
+/// What the copier is to move next, and a plan of that, made under the lock, where there is something to be moved. Its session
+/// has met the drive before.
+pub(crate) fn plan_next<J: Naming>(
+    rt: &impl Wait,
+    alloc: Global,
+    drive: &Mutex<Drive<J>>,
+    session: &mut Session<J>,
+) -> Result<Option<(Candidate, MovePlan<J>)>, Refusal>
+    ensures { SharedPlan J.base session.old result session.new }
+{
+    let mut drive = hold(rt, drive);
+    drive.rules();
+    drive.meet(session);
+    let Some(next) = candidate(&mut drive)? else {
+        return Ok(None);
+    };
+    let plan = plan_move(alloc, &mut drive, session, next.frame, next.object)?;
+    Ok(Some((next, plan)))
+}
+
+/// Puts a copied move in place, under the lock. The copier's session has met the drive before.
+pub(crate) fn put_in_place<J: Naming>(
+    rt: &impl Wait,
+    alloc: Global,
+    drive: &Mutex<Drive<J>>,
+    session: &mut Session<J>,
+    moved: Moved<J>,
+) -> Result<(), Refusal>
+    ensures { SharedCommit J.base session.old moved.what result session.new }
+{
+    let mut drive = hold(rt, drive);
+    drive.rules();
+    drive.meet(session);
+    commit(alloc, &mut drive, moved)
 }
 
 /// The reply to a Read that was planned so: the bytes that the plan names, where there is memory for them.

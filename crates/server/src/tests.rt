@@ -2,53 +2,60 @@
 ghost use Rattle.std.specs.Prelude.{◌≡◌};
 ghost use Rattle.s4_model.specs.State.{new_base};
 
-mod held;
+/// A client that reads these bytes.
+macro_rules! client {
+    ($alloc:expr, $input:expr) => {
+        Client {
+            role: Role::Client,
+            reader: MemorySource::new($input, 65_536),
+            writer: MemorySink::new($alloc),
+            outcome: Outcome::Waiting,
+        }
+    };
+}
 
-use crate::{Locked, Open, SharedClock};
-use drive::{Drive, NewDrive};
+mod held;
+mod kept_up;
+
+use crate::{Client, Locked, Open, Outcome, SharedClock};
+use drive::NewDrive;
 use s4_types::{Bytes, Moment, ObjectId, Refusal, Reply, Request, Role};
 use segment_word::Naming;
-use serving::{Backend, Clock};
+use serving::{Backend, Clock, MemorySink, MemorySource, ServeEnd};
 use std::alloc::Global;
 use std::marker::Brand;
 use std::process::Abort;
-use std::sync::atomic::AtomicU64;
+use std::sync::atomic::{AtomicBool, AtomicU64, Ordering};
 use std::sync::{Mutex, Wait};
 use std::test::Fail;
-use std::thread::Threads;
+use std::thread::yield_now;
 
-/// What a test does with a drive, whatever its name.
-#[derive(Drop)]
-enum Scene {
-    Shared,
-    Held,
-    Sixteen,
-    Crowded,
-}
-
-fn play_named<J: Naming + Send + Sync, R: Abort + Threads + Wait + Sync>(
-    rt: &R,
-    alloc: Global,
-    made: NewDrive,
-    scene: Scene,
-) -> Result<(), Fail>
-    requires frames { made.store.table.drive.table ≡ J.frames }
-    requires accepts { made.accepts ≡ J.accepts }
-    requires base { new_base made.window ≡ J.base }
-{
-    let drive = made.named::<J>();
-    match scene {
-        Scene::Shared => share(rt, alloc, drive),
-        Scene::Held => held::hold(rt, alloc, drive),
-        Scene::Sixteen => held::gather(rt, alloc, drive),
-        Scene::Crowded => held::crowd_out(rt, alloc, drive),
+/// These parts, one behind the other.
+fn joined(alloc: Global, parts: &[&[u8]]) -> Result<Vec<u8>, Fail> {
+    let mut all = Vec::new(alloc);
+    for part in parts {
+        all.extend_from_slice(part)?;
     }
+    Ok(all)
 }
 
-/// Plays a scene with a new drive of 16 frames.
-fn play<R: Abort + Threads + Wait + Sync>(rt: &R, alloc: Global, scene: Scene) -> Result<(), Fail> {
-    let made = NewDrive::new(alloc, 16, 100)?;
-    play_named::<Brand, R>(rt, alloc, made, scene)
+/// Whether a session ended well and wrote these bytes.
+fn has_written(client: &Client<MemorySource<'_>, MemorySink>, bytes: &[u8]) -> bool {
+    client.outcome == Outcome::Served(ServeEnd::Ended) && client.writer.as_slice() == bytes
+}
+
+/// How often a session looks whether it may go on, before the test is given up.
+const TURNS: usize = 10_000_000;
+
+/// Waits until a flag is set, or gives up.
+fn await_flag(flag: &AtomicBool, given_up: &AtomicBool) {
+    for _ in 0..TURNS {
+        if flag.load(Ordering::SeqCst) {
+            return;
+        }
+        yield_now();
+    }
+    given_up.store(true, Ordering::SeqCst);
 }
 
 /// A Read of one byte of object 1.
@@ -75,8 +82,12 @@ fn write_one<B: Backend>(alloc: Global, session: &mut B, byte: u8) -> Result<(),
 }
 
 /// Two sessions share the drive: what one has written the other reads, once it has met the drive.
-fn share<J: Naming, R: Abort + Wait>(rt: &R, alloc: Global, drive: Drive<J>) -> Result<(), Fail> {
-    let drive = Mutex::new(drive);
+fn share<J: Naming, R: Abort + Wait>(rt: &R, alloc: Global, made: NewDrive) -> Result<(), Fail>
+    requires frames { made.store.table.drive.table ≡ J.frames }
+    requires accepts { made.accepts ≡ J.accepts }
+    requires base { new_base made.window ≡ J.base }
+{
+    let drive = Mutex::new(made.named::<J>());
     let mut one = Locked::new(rt, alloc, &drive, Role::Client, &Open, 1)?;
     let mut two = Locked::new(rt, alloc, &drive, Role::Client, &Open, 2)?;
     write_one(alloc, &mut one, b'q')?;
@@ -91,9 +102,14 @@ fn share<J: Naming, R: Abort + Wait>(rt: &R, alloc: Global, drive: Drive<J>) -> 
     Ok(())
 }
 
+fn share_anew<R: Abort + Wait>(rt: &R, alloc: Global) -> Result<(), Fail> {
+    let made = NewDrive::new(alloc, 16, 100)?;
+    share::<Brand, R>(rt, alloc, made)
+}
+
 #[test]
 fn one_reads_what_the_other_wrote(rt: HostRuntime) -> Result<(), Fail> {
-    play(&rt, rt.alloc(), Scene::Shared)
+    share_anew(&rt, rt.alloc())
 }
 
 #[test]

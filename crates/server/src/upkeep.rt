@@ -1,16 +1,19 @@
-//! The history cleaner beside sessions: it has the lock for one object at a time.
-ghost use Rattle.std.specs.Prelude.{◌≡◌, ℕ, ◌+◌, ◌^◌, ◌<◌, ◌≤◌, All, slice_index_or, true, vec_len};
+//! Sessions with the history cleaner and the segment copier beside them. The cleaner has the lock for one object at a time.
+ghost use Rattle.std.specs.Prelude.{◌≡◌, ℕ, ◌+◌, ◌^◌, ◌<◌, ◌≤◌, All, MatchResult, slice_index_or, true, vec_len};
+ghost use Rattle.s4_types.specs.declared.refusals.Refusal.TheVariants.{Busy};
 ghost use Rattle.server.specs.Attending.{IsAttended, PassesOn, failures_in};
+ghost use Rattle.server.specs.Moving.{IsMoving};
 ghost use Rattle.server.specs.Upkeep.{IsRound, IsLastRound, ends_round};
 ghost use Rattle.serving.specs.Session.{reading_failures, writing_failures};
 ghost use Rattle.serving.specs.Streams.{taken_by};
 
 use crate::gate::Gate;
 use crate::locked::take_turn;
+use crate::moving::{Moves, keep_moving};
 use crate::running::{Client, run_sessions};
 use drive::Drive;
 use history_cleaner::{Rounds, Turn};
-use s4_types::Moment;
+use s4_types::{Moment, Refusal};
 use segment_word::Naming;
 use serving::{Sink, Source};
 use std::alloc::Global;
@@ -25,10 +28,19 @@ const REST: u64 = 100;
 /// A whole round of the cleaner over all objects of a drive, by ascending number.
 #[derive(Clone, Copy, Debug, PartialEq, Eq)]
 pub struct Round {
-    /// All sessions had ended when it began.
+    /// All sessions had ended when it began, and the copier too.
     pub is_behind: bool,
     /// How many objects had their turn.
     pub turns: u64,
+}
+
+/// What was done for a drive beside its sessions.
+#[derive(Clone, Copy, Debug, PartialEq, Eq)]
+pub struct Upkeep {
+    /// The cleaner's last round.
+    pub round: Round,
+    /// What the copier did; Busy where the drive had no seat for its session.
+    pub moves: Result<Moves, Refusal>,
 }
 
 /// Whether a turn ended its round.
@@ -58,7 +70,7 @@ fn go_round<J: Naming>(
     Round { is_behind, turns }
 }
 
-/// Goes round again and again, and ends with a whole round that began when all sessions had ended.
+/// Goes round again and again, and ends with a whole round that began when all others had ended.
 fn keep_up<J: Naming, R: Wait + Clock>(
     rt: &R,
     alloc: Global,
@@ -77,11 +89,8 @@ fn keep_up<J: Naming, R: Wait + Clock>(
     unreachable!()
 }
 
-/// Serves sessions of one drive at once, as [`run_sessions`] does, and beside them cleans the drive: one object under one lock, by
-/// ascending number and round again, and behind each round the frames that hold nothing are freed. It ends with a whole round that
-/// began when all sessions had ended, and answers the clients and that round. Where the system gives no thread for the cleaner, it
-/// goes round once, behind the sessions.
-pub fn run_with_cleaner<
+/// Serves sessions with the copier beside them, until both have ended.
+fn attend_with_copier<
     J: Naming + Send + Sync,
     R: Threads + Wait + Clock + Sync,
     G: Gate + Sync,
@@ -95,11 +104,11 @@ pub fn run_with_cleaner<
     start: Moment,
     tick: u64,
     clients: Vec<Client<S, W>>,
-) -> (Vec<Client<S, W>>, Round)
+) -> (Vec<Client<S, W>>, Result<Moves, Refusal>)
     requires count { vec_len clients ≤ 16 }
     requires readers { All (λ c. S.failures c.reader + 1 < 2 ^ 64) clients.items }
     requires writers { All (λ c. W.failures c.writer + 1 < 2 ^ 64) clients.items }
-    ensures round { IsLastRound J.base result.1 }
+    ensures moves { MatchResult result.1 (IsMoving J.base) (λ e. e ≡ Busy) }
     ensures count { vec_len result.0 ≡ vec_len clients }
     // Each session was answered by steps of the shared drive, or the drive had no seat for it.
     ensures attended { (i : ℕ) (d : _) → i < vec_len clients
@@ -112,10 +121,10 @@ pub fn run_with_cleaner<
     ensures writing { (i : ℕ) (d : _) → i < vec_len clients
         → W.failures (slice_index_or result.0.items i d).writer ≡ W.failures (slice_index_or clients.items i d).writer + failures_in writing_failures (slice_index_or result.0.items i d).outcome }
 {
-    let ended = AtomicBool::new(false);
-    let clean = || -> Round
-        ensures { IsLastRound J.base result }
-    { keep_up(rt, alloc, drive, &ended) };
+    let attended = AtomicBool::new(false);
+    let copy = || -> Result<Moves, Refusal>
+        ensures moves { MatchResult result (IsMoving J.base) (λ e. e ≡ Busy) }
+    { keep_moving(rt, alloc, drive, &attended) };
     let attend = || -> Vec<Client<S, W>>
         requires count { vec_len clients ≤ 16 }
         requires readers { All (λ c. S.failures c.reader + 1 < 2 ^ 64) clients.items }
@@ -133,10 +142,80 @@ pub fn run_with_cleaner<
     {
         let mut clients = clients;
         run_sessions(rt, alloc, drive, gate, start, tick, clients.as_mut_slice());
-        ended.store(true, Ordering::SeqCst);
+        attended.store(true, Ordering::SeqCst);
         clients
     };
     // Where there is no thread for the first, it is called behind the second.
-    let (round, clients) = join(rt, clean, attend);
-    (clients, round)
+    let (moves, clients) = join(rt, copy, attend);
+    (clients, moves)
+}
+
+/// Serves sessions of one drive at once, as [`run_sessions`] does, and beside them keeps the drive up, on two threads more: one cleans,
+/// the other moves blocks.
+///
+/// The cleaner has the lock for one object at a time, by ascending number and round again, and behind each round the frames that hold
+/// nothing are freed. The copier takes step after step: it has the lock while it plans the next move and while it puts it in place,
+/// and copies without it. It takes one step at least, and ends once all sessions have ended. Then the cleaner goes round a
+/// last time. Where the system gives no thread for one of the two, it goes round once, or takes one step, behind the sessions.
+///
+/// Answers the clients, the cleaner's last round, and what the copier did.
+pub fn run_with_upkeep<
+    J: Naming + Send + Sync,
+    R: Threads + Wait + Clock + Sync,
+    G: Gate + Sync,
+    S: Source + Send + Drop,
+    W: Sink + Send + Drop,
+>(
+    rt: &R,
+    alloc: Global,
+    drive: &Mutex<Drive<J>>,
+    gate: &G,
+    start: Moment,
+    tick: u64,
+    clients: Vec<Client<S, W>>,
+) -> (Vec<Client<S, W>>, Upkeep)
+    requires count { vec_len clients ≤ 16 }
+    requires readers { All (λ c. S.failures c.reader + 1 < 2 ^ 64) clients.items }
+    requires writers { All (λ c. W.failures c.writer + 1 < 2 ^ 64) clients.items }
+    ensures round { IsLastRound J.base result.1.round }
+    ensures moves { MatchResult result.1.moves (IsMoving J.base) (λ e. e ≡ Busy) }
+    ensures count { vec_len result.0 ≡ vec_len clients }
+    // Each session was answered by steps of the shared drive, or the drive had no seat for it.
+    ensures attended { (i : ℕ) (d : _) → i < vec_len clients
+        → IsAttended J.base (record { start = start; tick = tick }) (slice_index_or clients.items i d).role (slice_index_or result.0.items i d).outcome
+        (S.remaining (slice_index_or clients.items i d).reader) (taken_by W.passed W.held (slice_index_or clients.items i d).writer)
+        (S.remaining (slice_index_or result.0.items i d).reader) (taken_by W.passed W.held (slice_index_or result.0.items i d).writer) }
+    ensures passed { (i : ℕ) (d : _) → i < vec_len clients → PassesOn (slice_index_or result.0.items i d).outcome (W.held (slice_index_or result.0.items i d).writer) }
+    ensures reading { (i : ℕ) (d : _) → i < vec_len clients
+        → S.failures (slice_index_or result.0.items i d).reader ≡ S.failures (slice_index_or clients.items i d).reader + failures_in reading_failures (slice_index_or result.0.items i d).outcome }
+    ensures writing { (i : ℕ) (d : _) → i < vec_len clients
+        → W.failures (slice_index_or result.0.items i d).writer ≡ W.failures (slice_index_or clients.items i d).writer + failures_in writing_failures (slice_index_or result.0.items i d).outcome }
+{
+    let ended = AtomicBool::new(false);
+    let clean = || -> Round
+        ensures { IsLastRound J.base result }
+    { keep_up(rt, alloc, drive, &ended) };
+    let attend = || -> (Vec<Client<S, W>>, Result<Moves, Refusal>)
+        requires count { vec_len clients ≤ 16 }
+        requires readers { All (λ c. S.failures c.reader + 1 < 2 ^ 64) clients.items }
+        requires writers { All (λ c. W.failures c.writer + 1 < 2 ^ 64) clients.items }
+        ensures moves { MatchResult result.1 (IsMoving J.base) (λ e. e ≡ Busy) }
+        ensures count { vec_len result.0 ≡ vec_len clients }
+        ensures attended { (i : ℕ) (d : _) → i < vec_len clients
+            → IsAttended J.base (record { start = start; tick = tick }) (slice_index_or clients.items i d).role (slice_index_or result.0.items i d).outcome
+            (S.remaining (slice_index_or clients.items i d).reader) (taken_by W.passed W.held (slice_index_or clients.items i d).writer)
+            (S.remaining (slice_index_or result.0.items i d).reader) (taken_by W.passed W.held (slice_index_or result.0.items i d).writer) }
+        ensures passed { (i : ℕ) (d : _) → i < vec_len clients → PassesOn (slice_index_or result.0.items i d).outcome (W.held (slice_index_or result.0.items i d).writer) }
+        ensures reading { (i : ℕ) (d : _) → i < vec_len clients
+            → S.failures (slice_index_or result.0.items i d).reader ≡ S.failures (slice_index_or clients.items i d).reader + failures_in reading_failures (slice_index_or result.0.items i d).outcome }
+        ensures writing { (i : ℕ) (d : _) → i < vec_len clients
+            → W.failures (slice_index_or result.0.items i d).writer ≡ W.failures (slice_index_or clients.items i d).writer + failures_in writing_failures (slice_index_or result.0.items i d).outcome }
+    {
+        let both = attend_with_copier(rt, alloc, drive, gate, start, tick, clients);
+        ended.store(true, Ordering::SeqCst);
+        both
+    };
+    // Where there is no thread for the first, it is called behind the second.
+    let (round, (clients, moves)) = join(rt, clean, attend);
+    (clients, Upkeep { round, moves })
 }

@@ -1,12 +1,16 @@
 //! Sessions on threads, held at a gate until others have come so far.
-use crate::tests::{Scene, play};
+ghost use Rattle.std.specs.Prelude.{◌≡◌};
+ghost use Rattle.s4_model.specs.State.{new_base};
+
+use crate::tests::{TURNS, await_flag, has_written, joined};
 use crate::{Client, Gate, Locked, Open, Outcome, run_sessions};
-use drive::Drive;
+use drive::{Drive, NewDrive};
 use s4_types::Refusal::Busy;
 use s4_types::{Bytes, Moment, ObjectId, Request, Role};
 use segment_word::Naming;
 use serving::{Backend, MemorySink, MemorySource, ServeEnd};
 use std::alloc::Global;
+use std::marker::Brand;
 use std::process::Abort;
 use std::sync::atomic::{AtomicBool, AtomicUsize, Ordering};
 use std::sync::{Mutex, Wait};
@@ -31,18 +35,35 @@ static DATA: [u8; 5] = *b"\0\0\x1a\x01\x03";
 /// The frame of the reply to the Write, at moment 5.
 static CHANGED: [u8; 13] = *b"\0\0\0\x09\x01\0\0\0\0\0\0\0\x05";
 
-/// How often a session looks whether it may go on, before the test is given up.
-const TURNS: usize = 10_000_000;
+/// What a test does with a new drive of 16 frames.
+#[derive(Drop)]
+enum Scene {
+    Held,
+    Sixteen,
+    Crowded,
+}
 
-/// Waits until a flag is set, or gives up.
-fn await_flag(flag: &AtomicBool, given_up: &AtomicBool) {
-    for _ in 0..TURNS {
-        if flag.load(Ordering::SeqCst) {
-            return;
-        }
-        yield_now();
+fn play_named<J: Naming + Send + Sync, R: Abort + Threads + Wait + Sync>(
+    rt: &R,
+    alloc: Global,
+    made: NewDrive,
+    scene: Scene,
+) -> Result<(), Fail>
+    requires frames { made.store.table.drive.table ≡ J.frames }
+    requires accepts { made.accepts ≡ J.accepts }
+    requires base { new_base made.window ≡ J.base }
+{
+    let drive = made.named::<J>();
+    match scene {
+        Scene::Held => hold(rt, alloc, drive),
+        Scene::Sixteen => gather(rt, alloc, drive),
+        Scene::Crowded => crowd_out(rt, alloc, drive),
     }
-    given_up.store(true, Ordering::SeqCst);
+}
+
+fn play<R: Abort + Threads + Wait + Sync>(rt: &R, alloc: Global, scene: Scene) -> Result<(), Fail> {
+    let made = NewDrive::new(alloc, 16, 100)?;
+    play_named::<Brand, R>(rt, alloc, made, scene)
 }
 
 /// The first session's read is held once it is planned, until the second's change is answered; the second session's first read is
@@ -110,34 +131,8 @@ fn fill<J: Naming, R: Wait>(rt: &R, alloc: Global, drive: &Mutex<Drive<J>>) -> R
     Ok(())
 }
 
-/// These parts, one behind the other.
-fn joined(alloc: Global, parts: &[&[u8]]) -> Result<Vec<u8>, Fail> {
-    let mut all = Vec::new(alloc);
-    for part in parts {
-        all.extend_from_slice(part)?;
-    }
-    Ok(all)
-}
-
-/// A client that reads these bytes.
-macro_rules! client {
-    ($alloc:expr, $input:expr) => {
-        Client {
-            role: Role::Client,
-            reader: MemorySource::new($input, 65_536),
-            writer: MemorySink::new($alloc),
-            outcome: Outcome::Waiting,
-        }
-    };
-}
-
-/// Whether a session ended well and wrote these bytes.
-fn has_written(client: &Client<MemorySource<'_>, MemorySink>, bytes: &[u8]) -> bool {
-    client.outcome == Outcome::Served(ServeEnd::Ended) && client.writer.as_slice() == bytes
-}
-
 /// A read of sealed bytes is held until another session has changed them, and gives what was there.
-pub fn hold<J: Naming + Send + Sync, R: Abort + Threads + Wait + Sync>(
+fn hold<J: Naming + Send + Sync, R: Abort + Threads + Wait + Sync>(
     rt: &R,
     alloc: Global,
     drive: Drive<J>,
@@ -169,7 +164,7 @@ fn a_read_is_fetched_after_its_bytes_were_changed(rt: HostRuntime) -> Result<(),
 }
 
 /// 16 sessions at once, each held in its first read until all are there. Each is asked once.
-pub fn gather<J: Naming + Send + Sync, R: Abort + Threads + Wait + Sync>(
+fn gather<J: Naming + Send + Sync, R: Abort + Threads + Wait + Sync>(
     rt: &R,
     alloc: Global,
     drive: Drive<J>,
@@ -233,7 +228,7 @@ fn all_seats<'a, J: Naming, R: Wait>(
 }
 
 /// A session that the drive refuses is told so, and nothing of it is read or written.
-pub fn crowd_out<J: Naming + Send + Sync, R: Abort + Threads + Wait + Sync>(
+fn crowd_out<J: Naming + Send + Sync, R: Abort + Threads + Wait + Sync>(
     rt: &R,
     alloc: Global,
     drive: Drive<J>,

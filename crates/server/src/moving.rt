@@ -1,0 +1,119 @@
+//! The segment copier beside sessions: it has the lock while a move is planned and while it is put in place, and copies without it.
+ghost use Rattle.std.specs.Prelude.{◌≡◌, ◌+◌, ◌^◌, ◌<◌, MatchResult, cond};
+ghost use Rattle.s4_types.specs.declared.refusals.Refusal.TheVariants.{Busy};
+ghost use Rattle.server.specs.Moving.{SharedMove, IsMoving, is_planned, is_moved};
+
+use crate::locked::{enter, plan_next, put_in_place};
+use drive::{Drive, Session};
+use s4_types::{Refusal, Role};
+use segment_copier::Candidate;
+use segment_word::Naming;
+use std::alloc::Global;
+use std::sync::atomic::{AtomicBool, Ordering};
+use std::sync::{Mutex, Wait};
+use std::thread::{sleep, yield_now};
+use std::time::{Clock, Duration};
+
+/// How long the copier rests where it moved nothing, in microseconds.
+const REST: u64 = 1000;
+
+/// What a step of the copier came to.
+#[derive(Clone, Copy, Debug, PartialEq, Eq)]
+pub enum MoveStep {
+    /// No object was to leave a frame.
+    Idle,
+    /// What was to be moved was not found, or its move not planned, for this reason.
+    Unplanned(Refusal),
+    /// A move was planned and not put in place, for this reason.
+    Unmoved(Candidate, Refusal),
+    /// A move was put in place.
+    Moved(Candidate),
+}
+
+/// How many moves the copier made.
+#[derive(Clone, Copy, Debug, PartialEq, Eq)]
+pub struct Moves {
+    /// How many were planned.
+    pub planned: u64,
+    /// How many of these were put in place.
+    pub moved: u64,
+}
+
+impl Moves {
+    /// One step more was taken.
+    fn count(&mut self, step: &MoveStep)
+        requires { (self.old.planned + 1 < 2 ^ 64) × (self.old.moved + 1 < 2 ^ 64) }
+        ensures planned { self.new.planned ≡ self.old.planned + cond (is_planned step.now) 1 0 }
+        ensures moved { self.new.moved ≡ self.old.moved + cond (is_moved step.now) 1 0 }
+    {
+        match step {
+            MoveStep::Idle | MoveStep::Unplanned(_) => {}
+            MoveStep::Unmoved(..) => self.planned += 1,
+            MoveStep::Moved(_) => {
+                self.planned += 1;
+                self.moved += 1;
+            }
+        }
+    }
+}
+
+/// The move that is to be made next: planned under the lock, copied without it, which the plan's pin allows, and put in place
+/// under the lock. A refusal ends the step.
+fn move_next<J: Naming>(
+    rt: &impl Wait,
+    alloc: Global,
+    drive: &Mutex<Drive<J>>,
+    session: &mut Session<J>,
+) -> MoveStep
+    ensures { SharedMove J.base session.old result session.new }
+{
+    let (next, plan) = match plan_next(rt, alloc, drive, session) {
+        Ok(Some(found)) => found,
+        Ok(None) => return MoveStep::Idle,
+        Err(refusal) => return MoveStep::Unplanned(refusal),
+    };
+    let moved = match plan.copy(alloc) {
+        Ok(moved) => moved,
+        Err(refusal) => return MoveStep::Unmoved(next, refusal),
+    };
+    match put_in_place(rt, alloc, drive, session, moved) {
+        Ok(()) => MoveStep::Moved(next),
+        Err(refusal) => MoveStep::Unmoved(next, refusal),
+    }
+}
+
+/// Rests behind a step: for long where it moved nothing.
+fn rest<R: Wait + Clock>(rt: &R, step: &MoveStep) {
+    if matches!(step, MoveStep::Moved(_)) {
+        yield_now();
+    } else {
+        sleep(rt, Duration::from_micros(REST));
+    }
+}
+
+/// Moves what is to be moved, step after step and at least one, until all sessions have ended. The step that is under way then is
+/// taken to its end. Busy where the drive has no seat for the copier's session: nothing is moved then.
+#[tactic(auto, using(crate::proofs::Stepping::moved_first, crate::proofs::Stepping::moved_more, crate::proofs::Stepping::moved_ends))]
+pub(crate) fn keep_moving<J: Naming, R: Wait + Clock>(
+    rt: &R,
+    alloc: Global,
+    drive: &Mutex<Drive<J>>,
+    ended: &AtomicBool,
+) -> Result<Moves, Refusal>
+    ensures { MatchResult result (IsMoving J.base) (λ e. e ≡ Busy) }
+{
+    let mut session = enter(rt, drive, Role::Client)?;
+    let mut moves = Moves {
+        planned: 0,
+        moved: 0,
+    };
+    for _turn in rt.forever() {
+        let step = move_next(rt, alloc, drive, &mut session);
+        moves.count(&step);
+        if ended.load(Ordering::SeqCst) {
+            return Ok(moves);
+        }
+        rest(rt, &step);
+    }
+    unreachable!()
+}
