@@ -1,5 +1,5 @@
 //! What lists of steps tell of answers.
-ghost use Rattle.std.specs.Prelude.{◌≡◌, true};
+ghost use Rattle.std.specs.Prelude.{◌≡◌, false, true};
 ghost use Rattle.s4_types.specs.declared.refusals.Refusal.{Refusal};
 ghost use Rattle.interleaving.specs.declared.answers.Answer.TheVariants as given;
 ghost use Rattle.schedule_tests.specs.declared.answers.Told.TheVariants as named;
@@ -27,7 +27,11 @@ pub enum Told {
 }
 
 /// Whether a reply is what is told of it.
-fn is_reply(reply: &Reply, told: Told) -> bool {
+fn is_reply(reply: &Reply, told: Told) -> bool
+    ensures done { told ≡ named.Done → result ≡ false }
+    ensures idle { told ≡ named.Idle → result ≡ false }
+    ensures refused { (refusal : Refusal) → told ≡ named.Refused refusal → result ≡ false }
+{
     match (reply, told) {
         (Reply::Created(object, at), Told::Created(number, moment)) => {
             object.number() == number && at.number() == moment
