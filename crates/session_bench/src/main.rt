@@ -46,8 +46,11 @@ type Frame = [&'static [u8]; 2];
 
 /// The frames of a round's requests.
 static READ: Frame = [b"\0\0\0\x16\x03", b"\0\0\0\0\0\0\0\0\0\0\0\x40\0"];
+
 static WRITE_FIRST: Frame = [b"\0\0\0\x16\x04", b"\0\0\0\0\0\0\0\0first"];
+
 static WRITE_SECOND: Frame = [b"\0\0\0\x17\x04", b"\0\0\0\0\0\0\0\0second"];
+
 static GET_ATTRIBUTE: Frame = [b"\0\0\0\x0a\x07", b"\0"];
 
 /// Bytes of the replies to a round where none is refused: seven times 64 bytes read, two moments, and one attribute, in their frames.
