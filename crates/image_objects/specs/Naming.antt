@@ -1,0 +1,30 @@
+-- Which used blocks of an image its rows name, and what is held of it where just these are.
+use Rattle.std.specs.Prelude.{◌≡◌, ℕ, ◌<◌, List, Option, Some}
+use Rattle.std.specs.List.{Contains}
+use Rattle.s4_types.specs.Pointer.{Place}
+use Rattle.block_log.specs.Log.{Stored, of_kind}
+use Rattle.block_log.specs.declared.kinds.BlockKind.{BlockKind}
+use Rattle.block_log.specs.declared.kinds.BlockKind.TheVariants.{Journal, Checkpoint, Data}
+use Rattle.journal_chain.specs.Chain.{times, chain_places}
+use Rattle.image_chains.specs.declared.rows.ImageRow.{ImageRow}
+use Rattle.image_objects.specs.Objects.{pointers_used}
+
+-- A row of an image names its object's block of this kind at a place: it stands in the row's chain; or it is the row's
+-- checkpoint; or a pointer that the row leads to is this place.
+abbrev pub NamesUsed : (Place → Option Stored) → ImageRow → BlockKind → Place → Type 0
+NamesUsed used row Journal p = 0 < times p (chain_places (of_kind Journal row.object used) row.object row.head)
+NamesUsed used row Checkpoint p = row.checkpoint ≡ Some p
+NamesUsed used row Data p = Contains (pointers_used used row) (Some p)
+
+-- a block is one that some row of its object names as what it is
+pub record IsNamedBy (used : Place → Option Stored) (rows : List ImageRow) (p : Place) (block : Stored) : Type 0 where
+  pub row : ImageRow
+  pub listed : Contains rows row
+  pub object : row.object ≡ block.object
+  pub names : NamesUsed used row block.kind p
+
+-- Of the used blocks of an image those are held that its rows name, and no others.
+pub record HoldsWhatIsNamed (used held : Place → Option Stored) (rows : List ImageRow) : Type 0 where
+  pub kept : (p : Place) (block : Stored) → held p ≡ Some block → used p ≡ Some block
+  pub named : (p : Place) (block : Stored) → held p ≡ Some block → IsNamedBy used rows p block
+  pub all : (p : Place) (block : Stored) → used p ≡ Some block → IsNamedBy used rows p block → held p ≡ Some block

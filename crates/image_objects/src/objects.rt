@@ -1,0 +1,32 @@
+//! A whole object.
+ghost use Rattle.std.specs.Prelude.{◌≡◌, IfSome, IfNone, IfOk, IfErr};
+ghost use Rattle.s4_types.specs.declared.refusals.Refusal.TheVariants.{NoMemory};
+ghost use Rattle.codec.specs.Entry.{entries_length};
+ghost use Rattle.journal_chain.specs.Packing.{packed, filled_bytes};
+ghost use Rattle.image_chains.specs.Chains.{entries_used};
+ghost use Rattle.image_chains.specs.History.{present_used};
+ghost use Rattle.image_objects.specs.Objects.{ObjectStands};
+
+use image_chains::{ImageHistory, ImageRow, UsedBlocks, read_history};
+use s4_types::{Moment, Refusal};
+use std::alloc::Global;
+
+/// What a drive keeps of an object of an image whose clock stands at a moment. None exactly where the object doesn't stand.
+///
+/// NoMemory alone, where the memory for the entries is refused. Linear in the chain's blocks.
+pub fn read_object<U: UsedBlocks>(
+    alloc: Global,
+    used: &U,
+    row: &ImageRow,
+    clock: Moment,
+) -> Result<Option<ImageHistory>, Refusal>
+    ensures stands { IfOk result (λ found. IfSome found (λ history. ObjectStands (U.used used.now) row.now clock)) }
+    ensures only { IfOk result (λ found. IfNone found (ObjectStands (U.used used.now) row.now clock → ⊥)) }
+    ensures entries { IfOk result (λ found. IfSome found (λ history. history.chain.entries.items ≡ entries_used (U.used used.now) row.now)) }
+    ensures bytes { IfOk result (λ found. IfSome found (λ history. history.chain.journal_bytes ≡ entries_length (entries_used (U.used used.now) row.now))) }
+    ensures head { IfOk result (λ found. IfSome found (λ history. history.chain.head_bytes ≡ filled_bytes (packed (entries_used (U.used used.now) row.now)))) }
+    ensures present { IfOk result (λ found. IfSome found (λ history. history.present ≡ present_used (U.used used.now) row.now)) }
+    ensures refusal { IfErr result (λ e. e ≡ NoMemory) }
+{
+    read_history(alloc, used, row, clock)
+}
