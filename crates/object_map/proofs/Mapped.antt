@@ -1,17 +1,32 @@
 -- The rows of what is kept, and the values beside them, are found as what is kept is.
-use Rattle.std.proofs.Common.{◌≡◌, ℕ, ◌==◌, ◌<◌, ◌+◌, ◌^◌, if◌then◌else◌, Bool, true, false, List, Option, Some, None, IsSome, IfSome, option_map, Result, Ok, Err, OnOk, refl, sym, ap, subst, ◌∙◌, inl, inr}
+use Rattle.std.proofs.Common.{◌≡◌, ℕ, ◌==◌, ◌<◌, ◌+◌, ◌^◌, if◌then◌else◌, Bool, true, false, List, [], ◌∷◌, ◌++◌, map, Option, Some, None, IsSome, IfSome, option_map, Result, Ok, Err, OnOk, refl, sym, ap, subst, ◌∙◌, inl, inr, arith}
+use Rattle.std.proofs.lemmas.Bool.Decides.{nat_tests}
 use Rattle.std.proofs.lemmas.Bool.{cases_Bool, cond-true, cond-false, eqb-true}
 use Rattle.std.proofs.lemmas.Option.{none-some}
+use Rattle.std.proofs.lemmas.List.{map-append}
+use Rattle.std.proofs.lemmas.List.Elements.{All-nil, All-cons, All-head, All-tail}
 use Rattle.std.proofs.lemmas.Map.Made.{lookup-map_values}
-use Rattle.std.specs.BTreeMap.{is_at}
-use Rattle.std.specs.Ordering.{nat_cmp}
+use Rattle.std.specs.BTreeMap.{is_at, insert_entry}
+use Rattle.std.specs.Ordering.{nat_cmp, match_ordering}
+use Rattle.std.specs.declared.cmp.Ordering.TheVariants.{Greater}
 use Rattle.object_map.specs.declared.map.Row.{Row}
 use Rattle.object_map.specs.declared.map.Kept.{Kept}
-use Rattle.object_map.specs.Objects.{value_of, with_value, without_value, IsNextAbove, MapOf, parts_of, IsKeptOf, Puts, PutsRow, PutsValue, Removes}
+use Rattle.object_map.specs.Objects.{value_of, with_value, without_value, IsNextAbove, MapOf, parts_of, IsKeptOf, AreBelow, Puts, PutsBehind, PutsRow, PutsValue, Removes}
 
 pub on_ok : {T E : Type 0} {P Q : Type 0} → (P → Q) → (result : Result T E) → OnOk result P → OnOk result Q
 on_ok f (Ok x) is = f is
 on_ok f (Err e) is = is
+
+greater : (k e : ℕ) → e < k → nat_cmp k e ≡ Greater
+greater k e above = grind (arith, nat_tests)
+
+-- an entry whose key is above all others goes to the end
+pub inserted_behind : {X : Type 0} (es : List (ℕ × X)) (k : ℕ) (x : X) → AreBelow es k → insert_entry nat_cmp es k x ≡ es ++ (k, x) ∷ []
+inserted_behind [] k x below = refl
+inserted_behind {X} (e ∷ es) k x below =
+    let P : ℕ × X → Type 0 = λ f. f.0 < k in
+    ap (λ o. match_ordering o ((k, x) ∷ e ∷ es) ((e.0, x) ∷ es) (e ∷ insert_entry nat_cmp es k x)) (greater k e.0 (All-head P e es below))
+    ∙ ap (λ fs. e ∷ fs) (inserted_behind es k x (All-tail P e es below))
 
 module _ {X Y : Type 0} (g : X → Y) where
   mapped_if : (b : Bool) (x : X) (found : Option X) → option_map g (if b then Some x else found) ≡ (if b then Some (g x) else option_map g found)
@@ -54,6 +69,26 @@ module _ {V : Type 0} where
     rows = λ q. row_at fs q ∙ ap (option_map (λ k. k.row)) (put q) ∙ mapped_if (λ (k : Kept V). k.row) (o == q) kept (value_of es q) ∙ ap (λ v. if o == q then Some kept.row else v) (sym (row_at es q));
     values = λ q. value_at fs q ∙ ap (option_map (λ k. k.value)) (put q) ∙ mapped_if (λ (k : Kept V). k.value) (o == q) kept (value_of es q) ∙ ap (λ v. if o == q then Some kept.value else v) (sym (value_at es q));
   }
+
+  keys_below : (es : List (ℕ × Kept V)) (o : ℕ) → AreBelow (parts_of es).rows o → AreBelow es o
+  keys_below [] o below = All-nil (λ (e : ℕ × Kept V). e.0 < o)
+  keys_below (e ∷ es) o below =
+      let P : ℕ × Row → Type 0 = λ r. r.0 < o in
+      All-cons (λ (k : ℕ × Kept V). k.0 < o) e es (All-head P (e.0, e.1.row) (parts_of es).rows below) (keys_below es o (All-tail P (e.0, e.1.row) (parts_of es).rows below))
+
+  -- where all rows are of objects below, so is all that is kept
+  pub kept_below : (es : List (ℕ × Kept V)) (m : MapOf V) (o n : ℕ) → parts_of es ≡ m → n ≡ o → AreBelow m.rows o → AreBelow es n
+  kept_below es m o n view number below =
+      subst (AreBelow es) (sym number) (keys_below es o (subst (λ (v : MapOf V). AreBelow v.rows o) (sym view) below))
+
+  -- where something is kept behind all else, its row and its value stand behind
+  pub puts_behind : (es fs : List (ℕ × Kept V)) (o n : ℕ) (kept : Kept V) → n ≡ o → fs ≡ es ++ (n, kept) ∷ [] → PutsBehind (parts_of es) o kept.row kept.value (parts_of fs)
+  puts_behind es fs o n kept number is =
+      let same : fs ≡ es ++ (o, kept) ∷ [] = is ∙ ap (λ (k : ℕ). es ++ (k, kept) ∷ []) number in
+      record {
+        rows = ap (map (λ (e : ℕ × Kept V). (e.0, e.1.row))) same ∙ map-append (λ (e : ℕ × Kept V). (e.0, e.1.row)) es ((o, kept) ∷ []);
+        values = ap (map (λ (e : ℕ × Kept V). (e.0, e.1.value))) same ∙ map-append (λ (e : ℕ × Kept V). (e.0, e.1.value)) es ((o, kept) ∷ []);
+      }
 
   changed_by : (es fs : List (ℕ × Kept V)) (o : ℕ) (row : Row) (value : V) (found : Option (Kept V))
       → IfSome found (λ old. (q : ℕ) → value_of fs q ≡ with_value (value_of es) o (record { row = record row { stamp = old.row.stamp + 1 }; value = value }) q)

@@ -1,5 +1,6 @@
 -- A map of objects, seen as the list of its rows and the list of the values beside them, each by ascending object.
-use Rattle.std.specs.Prelude.{◌≡◌, ℕ, ◌==◌, ◌<◌, if◌then◌else◌, List, map, Option, Some, None, IsSome, option_map}
+use Rattle.std.specs.Prelude.{◌≡◌, ℕ, ◌==◌, ◌<◌, if◌then◌else◌, List, [], ◌∷◌, ◌++◌, map, Option, Some, None, IsSome, option_map}
+use Rattle.std.specs.List.{All}
 use Rattle.std.specs.Map.{lookup}
 use Rattle.std.specs.BTreeMap.{is_at}
 use Rattle.std.specs.Ordering.{nat_cmp}
@@ -21,6 +22,10 @@ without_value values o = λ q. if o == q then None else values q
 -- an object has this value, and all others have what they had
 abbrev pub PutsAt : {V : Type 0} → List (ℕ × V) → ℕ → V → List (ℕ × V) → Type 0
 PutsAt values o value later = (q : ℕ) → value_of later q ≡ with_value (value_of values) o value q
+
+-- all objects that have values are below this one
+abbrev pub AreBelow : {V : Type 0} → List (ℕ × V) → ℕ → Type 0
+AreBelow values o = All (λ e. e.0 < o) values
 
 -- there is a value of an object above another, and none between
 pub record IsNextAbove {V : Type 0} (values : List (ℕ × V)) (o next : ℕ) : Type 0 where
@@ -46,6 +51,11 @@ pub record IsKeptOf {V : Type 0} (m : MapOf V) (o : ℕ) (found : Option (Kept V
 pub record Puts {V : Type 0} (m : MapOf V) (o : ℕ) (row : Row) (value : V) (n : MapOf V) : Type 0 where
   pub rows : PutsAt m.rows o row n.rows
   pub values : PutsAt m.values o value n.values
+
+-- an object's row stands behind all other rows, and its value behind all other values
+pub record PutsBehind {V : Type 0} (m : MapOf V) (o : ℕ) (row : Row) (value : V) (n : MapOf V) : Type 0 where
+  pub rows : n.rows ≡ m.rows ++ (o, row) ∷ []
+  pub values : n.values ≡ m.values ++ (o, value) ∷ []
 
 -- an object has this row; all other rows, and all values, are as they were
 pub record PutsRow {V : Type 0} (m : MapOf V) (o : ℕ) (row : Row) (n : MapOf V) : Type 0 where

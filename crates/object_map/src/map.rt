@@ -1,5 +1,5 @@
-ghost use Rattle.std.specs.Prelude.{◌≡◌, ℕ, ◌+◌, ◌<◌, ◌^◌, Some, None, IsSome, IfSome, IfNone, IfOk, IfErr, OnOk, OnErr, [], length, option_copied, option_map};
-ghost use Rattle.object_map.specs.Objects.{value_of, without_value, PutsAt, IsNextAbove, IsKeptOf, Puts, PutsRow, PutsValue, Removes};
+ghost use Rattle.std.specs.Prelude.{◌≡◌, ℕ, ◌+◌, ◌<◌, ◌^◌, Some, None, IsSome, IfSome, IfNone, IfOk, IfErr, OnOk, OnErr, [], ◌∷◌, ◌++◌, length, option_copied, option_map};
+ghost use Rattle.object_map.specs.Objects.{value_of, without_value, PutsAt, IsNextAbove, IsKeptOf, AreBelow, Puts, PutsBehind, PutsRow, PutsValue, Removes};
 ghost use Rattle.object_map.specs.Rows.{row_of, fresh_row};
 ghost use Rattle.s4_types.specs.declared.refusals.Refusal.TheVariants.{NoMemory};
 
@@ -73,6 +73,7 @@ impl<V: Drop> Model for ObjectMap<V> {
 fn put<V: Drop>(map: &mut BTreeMap<u64, V>, key: u64, value: V) -> Result<(), Refusal>
     requires fresh { value_of map.old.entries key ≡ None }
     ensures put { OnOk result (PutsAt map.old.entries key value map.new.entries) }
+    ensures behind { AreBelow map.old.entries key → OnOk result (map.new.entries ≡ map.old.entries ++ (key, value) ∷ []) }
     ensures refusal { IfErr result (λ e. e ≡ NoMemory) }
     ensures unchanged { OnErr result (map.new.entries ≡ map.old.entries) }
 {
@@ -158,6 +159,19 @@ impl<V: Drop> ObjectMap<V> {
         self.objects.get(&object.number())
     }
 
+    /// This row, with its own stamp, for an object that has none, and a value beside it. NoMemory, and nothing has changed, where
+    /// the map couldn't grow.
+    pub fn insert(&mut self, object: ObjectId, row: &Row, value: V) -> Result<(), Refusal>
+        requires fresh { row_of self.old.rows object ≡ None }
+        ensures added { OnOk result (Puts self.old object row.now value self.new) }
+        ensures behind { AreBelow self.old.rows object → OnOk result (PutsBehind self.old object row.now value self.new) }
+        ensures refusal { IfErr result (λ e. e ≡ NoMemory) }
+        ensures unchanged { OnErr result (self.new ≡ self.old) }
+    {
+        let kept = Kept { row: *row, value };
+        put(&mut self.objects, object.number(), kept)
+    }
+
     /// A row for an object that has none, without journal and checkpoint and with stamp 0, and a value beside it. NoMemory, and
     /// nothing has changed, where the map couldn't grow.
     pub fn add(&mut self, object: ObjectId, created: Moment, value: V) -> Result<(), Refusal>
@@ -167,7 +181,7 @@ impl<V: Drop> ObjectMap<V> {
         ensures unchanged { OnErr result (self.new ≡ self.old) }
     {
         let row = Row::fresh(created);
-        put(&mut self.objects, object.number(), Kept { row, value })
+        self.insert(object, &row, value)
     }
 
     /// An object's row becomes this one, but for the stamp, which is one above the old row's; and the value beside it this.

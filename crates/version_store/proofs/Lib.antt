@@ -26,3 +26,4 @@ pub mod Dropping
 pub mod Replacing
 pub mod Replaced
 pub mod Cutting
+pub mod Opening

@@ -9,4 +9,5 @@ pub mod Checkpointing
 pub mod Replacing
 pub mod Relocating
 pub mod Emptying
+pub mod Opening
 pub mod private

@@ -5,3 +5,4 @@ pub mod Dropping
 pub mod Replacing
 pub mod Beside
 pub mod Relocating
+pub mod Opening

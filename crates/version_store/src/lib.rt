@@ -6,7 +6,8 @@
 //! emptying of frames that hold nothing leave each version as it was. An object can be removed, and its journal replaced by a
 //! shorter one: all other objects stay, and no block that nothing names any more is held. What the table holds is exactly what
 //! the rows name. Of two objects the one with the greater number was made later, and no moment stands in the journals of both.
-//! Which changes may be asked for, and at which moments, is told elsewhere.
+//! A store is made without objects, or of objects whose blocks its table holds already: then it has exactly their rows. Which
+//! changes may be asked for, and at which moments, is told elsewhere.
 #![tactic(auto)]
 
 mod copies;
@@ -15,9 +16,11 @@ mod data_blocks;
 mod histories;
 pub mod laws;
 mod named_table;
+mod opened;
 mod presents;
 mod store;
 
 pub use copies::CopiedBlock;
 pub use named_table::NamedTable;
+pub use opened::OpenedObject;
 pub use store::Store;

@@ -13,6 +13,7 @@ mod changes;
 mod checkpoints;
 mod emptying;
 mod frames;
+mod opening;
 mod pins;
 mod relocations;
 mod replacements;

@@ -1,0 +1,43 @@
+//! A store of objects that stand in a table already.
+ghost use Rattle.std.specs.Prelude.{◌≡◌, IfOk, IfErr};
+ghost use Rattle.std.specs.List.{All};
+ghost use Rattle.s4_types.specs.declared.refusals.Refusal.TheVariants.{NoMemory};
+ghost use Rattle.version_store.specs.Opening.{numbers_opened, rows_opened, NumbersAscend, FitsItsRow};
+ghost use Rattle.version_store.specs.Store.{fields_of, IsStore};
+
+use crate::opened::{OpenedObject, map_of};
+use crate::store::Store;
+use block_log::Blocks;
+use s4_types::{Moment, Refusal};
+use std::alloc::Global;
+
+impl<B: Blocks> Store<B> {
+    /// A store of the objects whose blocks a table holds, as they were up to the moment of the last change.
+    ///
+    /// NoMemory alone, where memory for the rows is refused; the table is let go then.
+    pub fn from_parts(
+        alloc: Global,
+        table: B,
+        objects: Vec<OpenedObject>,
+        latest: Moment,
+    ) -> Result<Self, Refusal>
+    where
+        B: Drop,
+        requires ascending { NumbersAscend (numbers_opened objects.items) }
+        requires beside { All (FitsItsRow (B.log table).held latest) objects.items }
+        requires store { IsStore (record { rows = rows_opened objects.items; log = B.log table; latest = latest }) }
+        ensures rows { IfOk result (λ s. s.rows ≡ rows_opened objects.items) }
+        ensures table { IfOk result (λ s. s.table ≡ table) }
+        ensures latest { IfOk result (λ s. s.latest ≡ latest) }
+        ensures store { IfOk result (λ s. IsStore (fields_of B.log s)) }
+        ensures refusal { IfErr result (λ e. e ≡ NoMemory) }
+    {
+        let objects = map_of(alloc, objects)?;
+        Ok(Store {
+            alloc,
+            objects,
+            table,
+            latest,
+        })
+    }
+}
