@@ -6,6 +6,7 @@ use Rattle.std.proofs.lemmas.Bool.{leb-true, leb-false, le-leb, cases_lt, both_w
 use Rattle.s4_types.specs.declared.spans.Span.{Span}
 use Rattle.window.specs.declared.chunks.Chunk.{Chunk}
 use Rattle.window.specs.Runs.{Ascend, AllEndFrom}
+use Rattle.window.proofs.Ordering.{before_parts}
 use Rattle.window.specs.Chunks.{flat, AreWithin, Parted, AllNumbered, AllDated, IsCutOff}
 
 take_and_drop : (i : ℕ) (runs : List Span) → runs ≡ take i runs ++ drop i runs
@@ -161,4 +162,20 @@ divides_last runs chunks rest c divides up is from_end =
       flat_push chunks c ∙ ap (λ xs. flat chunks ++ xs) is ∙ divides.is,
       parted_at_last 0 (chunks ++ c ∷ []) (c.up_to + 1) (parted_push 0 chunks divides.next c divides.parted (omega arith) front to),
       dated_push chunks c divides.dated from_end,
+    )
+
+-- runs in order are of numbers up to that of the last
+pub numbered_to_last : (runs : List Span) (k : ℕ) (d : Span) → Ascend runs → suc k ≡ length runs → (get_or runs k d).object < 2 ^ 64 → AllNumbered runs
+numbered_to_last [] k d h is below = tt
+numbered_to_last (run ∷ []) zero d h is below = (below, tt)
+numbered_to_last (run ∷ []) (suc k) d h is below = absurd (omega arith)
+numbered_to_last (run ∷ next ∷ runs) zero d h is below = absurd (omega arith)
+numbered_to_last (run ∷ next ∷ runs) (suc k) d h is below =
+    let rest : AllNumbered (next ∷ runs) = numbered_to_last (next ∷ runs) k d h.2 (omega arith) below in
+    let lt : next.object < 2 ^ 64 = rest.0 in (
+      elim (before_parts run next h.1.0) as (λ _. run.object < 2 ^ 64) [
+        | inl less ↦ omega arith
+        | inr apart ↦ (let same : run.object ≡ next.object = apart.0 in omega arith)
+      ],
+      rest,
     )

@@ -1,17 +1,18 @@
 -- What forgetting the runs below the floor leaves of chunks.
 use Rattle.std.proofs.Common.{◌≡◌, ℕ, zero, suc, ◌+◌, ◌-◌, ◌^◌, ◌<◌, ◌≤◌, min, List, [], ◌∷◌, ◌++◌, length, get_or, set, take, drop, count_by, filter, refl, sym, ap, subst, ◌∙◌, arith}
-use Rattle.std.specs.List.{AllByRecursion}
 use Rattle.std.proofs.lemmas.List.{take_all, take-append-le}
 use Rattle.std.proofs.lemmas.List.Elements.{filter-append}
 use Rattle.s4_types.specs.declared.spans.Span.{Span}
 use Rattle.window.specs.declared.chunks.Chunk.{Chunk}
-use Rattle.window.specs.Runs.{Ascend, AllEndFrom, is_live}
+use Rattle.window.specs.Runs.{Ascend, AllEndFrom, AllEndBefore, AreFewInEachList, is_live}
 use Rattle.s4_types.specs.declared.limits.TheConstants.{RUNS_IN_ALL}
 use Rattle.std.proofs.lemmas.List.Sums.{length-filter, count_by-le-length}
 use Rattle.window.specs.Chunks.{flat, AreWithin, Parted, AllNumbered, AllDated, told, IsSifted, AllSifted, AreSoundChunks}
 use Rattle.window.proofs.Ordering.{Ascend-filter, all_filter}
 use Rattle.window.proofs.Chunked.{all_append}
-use Rattle.window.proofs.Live.{from_later, all_live, live_from}
+use Rattle.s4_model.specs.Sound.{EndsBefore}
+use Rattle.window.proofs.Live.{from_later, all_live, live_from, ends_later}
+use Rattle.window.proofs.OwnCounts.{few_in_some}
 
 pub told_bound : (cs : List Chunk) → told cs ≤ 2 ^ 64 - 1
 told_bound [] = omega arith
@@ -112,12 +113,13 @@ few_left floor clock old end count cs ds xs all same sound =
 -- what a window keeps when runs are forgotten
 pub sound_forgotten : (floor clock old end count later left : ℕ) (cs ds xs ys : List Chunk) → AllSifted floor cs ds → AreSoundChunks clock old end count cs → xs ≡ ds → left ≡ length (flat xs) → ys ≡ ds → later ≡ told ys → AreSoundChunks clock floor later left ds
 sound_forgotten floor clock old end count later left cs ds xs ys all sound same counted again is =
-    let P : List Span → Type 0 = λ runs. Ascend runs × AllByRecursion (λ run. run.last ≤ clock) runs × AllNumbered runs × AllEndFrom floor runs in
+    let P : List Span → Type 0 = λ runs. Ascend runs × AllEndBefore clock runs × AllNumbered runs × AllEndFrom floor runs × AreFewInEachList runs in
     let facts : P (flat ds) = subst P (sym (sifted_flat floor cs ds all)) (
       Ascend-filter (is_live floor) (flat cs) sound.0,
-      all_filter (λ run. run.last ≤ clock) (is_live floor) (flat cs) sound.1,
+      all_filter (EndsBefore clock) (is_live floor) (flat cs) sound.1,
       all_filter (λ run. run.object < 2 ^ 64) (is_live floor) (flat cs) sound.2,
       live_from floor (flat cs),
+      few_in_some (is_live floor) (flat cs) sound.9,
     ) in
     let dated : AllDated ds = sifted_dated floor cs ds all in
     let few : length (flat xs) ≤ RUNS_IN_ALL = few_left floor clock old end count cs ds xs all same sound in (
@@ -130,9 +132,15 @@ sound_forgotten floor clock old end count later left cs ds xs ys all sound same 
       subst (λ n. AllEndFrom n (flat ds)) (sym (is ∙ ap told again)) (from_told ds dated),
       counted ∙ ap (λ zs. length (flat zs)) same,
       omega arith,
+      facts.4,
     )
 
 -- and when none ends below the floor
 pub sound_left : (floor clock old end count : ℕ) (cs : List Chunk) → floor ≤ end → AreSoundChunks clock old end count cs → AreSoundChunks clock floor end count cs
 sound_left floor clock old end count cs le sound =
-    (sound.0, sound.1, sound.2, sound.3, sound.4, from_later floor end (flat cs) le sound.6, sound.6, sound.7, sound.8)
+    (sound.0, sound.1, sound.2, sound.3, sound.4, from_later floor end (flat cs) le sound.6, sound.6, sound.7, sound.8, sound.9)
+
+-- and when the clock moves on
+pub sound_later : (clock later floor end count : ℕ) (cs : List Chunk) → clock ≤ later → AreSoundChunks clock floor end count cs → AreSoundChunks later floor end count cs
+sound_later clock later floor end count cs le sound =
+    (sound.0, ends_later clock later (flat cs) le sound.1, sound.2, sound.3, sound.4, sound.5, sound.6, sound.7, sound.8, sound.9)

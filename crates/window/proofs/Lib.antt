@@ -11,3 +11,7 @@ pub mod Standing
 pub mod Seeing
 pub mod Forgetting
 pub mod Planning
+pub mod OwnCounts
+pub mod Cutting
+pub mod Opening
+pub mod Saving

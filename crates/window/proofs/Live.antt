@@ -2,12 +2,27 @@
 use Rattle.std.proofs.Common.{◌≡◌, inl, inr, ℕ, ◌+◌, ◌-◌, ◌^◌, ◌<◌, ◌≤◌, ◌==◌, nat_le, min, List, [], ◌∷◌, count_by, filter, refl, sym, ap, ◌∙◌, arith}
 use Rattle.std.proofs.lemmas.Bool.{cond_both, cond-true, cond-false, cases_Bool, leb-true, leb-false, le-leb, lt-leb, and_right}
 use Rattle.s4_types.specs.declared.spans.Span.{Span}
-use Rattle.window.specs.Runs.{AllEndFrom, earliest, is_live, is_live_in}
+use Rattle.window.specs.Runs.{AllEndFrom, AllEndBefore, earliest, is_live, is_live_in}
+use Rattle.s4_model.specs.RunCounting.{AllEndBy}
 use Rattle.window.proofs.Counting.{count_cons, tally}
 
 pub from_later : (a b : ℕ) (runs : List Span) → a ≤ b → AllEndFrom b runs → AllEndFrom a runs
 from_later a b [] le all = tt
 from_later a b (run ∷ runs) le all = let end : b ≤ run.last = all.0 in (omega arith, from_later a b runs le all.1)
+
+-- what ends before a moment ends by it
+pub ends_by : (clock : ℕ) (runs : List Span) → AllEndBefore clock runs → AllEndBy clock runs
+ends_by clock [] all = tt
+ends_by clock (run ∷ runs) all = let end : run.last < clock = all.0 in (omega arith, ends_by clock runs all.1)
+
+-- and what ends by it ends before each later one
+pub ends_before : (clock later : ℕ) (runs : List Span) → clock < later → AllEndBy clock runs → AllEndBefore later runs
+ends_before clock later [] lt all = tt
+ends_before clock later (run ∷ runs) lt all = let end : run.last ≤ clock = all.0 in (omega arith, ends_before clock later runs lt all.1)
+
+pub ends_later : (clock later : ℕ) (runs : List Span) → clock ≤ later → AllEndBefore clock runs → AllEndBefore later runs
+ends_later clock later [] le all = tt
+ends_later clock later (run ∷ runs) le all = let end : run.last < clock = all.0 in (omega arith, ends_later clock later runs le all.1)
 
 pub from_earliest : (runs : List Span) → AllEndFrom (earliest runs) runs
 from_earliest [] = tt

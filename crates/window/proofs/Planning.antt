@@ -1,16 +1,18 @@
 -- What a planned span makes of a window's chunks.
-use Rattle.std.proofs.Common.{◌≡◌, ℕ, ◌+◌, ◌-◌, ◌<◌, ◌≤◌, ◌^◌, min, max, List, [], ◌∷◌, length, count_by, filter, Some, sym, ap, subst, ◌∙◌, arith}
-use Rattle.std.specs.List.{AllByRecursion}
+use Rattle.std.proofs.Common.{◌≡◌, ℕ, ◌+◌, ◌-◌, ◌<◌, ◌≤◌, ◌^◌, min, max, List, [], ◌∷◌, length, count_by, filter, Some, Result, Ok, Err, IfOk, sym, ap, subst, ◌∙◌, arith}
 use Rattle.std.specs.Global.{Vec}
 use Rattle.s4_types.specs.declared.spans.Span.{Span}
+use Rattle.s4_types.specs.declared.refusals.Refusal.{Refusal}
 use Rattle.window.specs.declared.chunks.Chunk.{Chunk}
 use Rattle.window.specs.declared.chunks.Fresh.TheVariants.{One, All}
-use Rattle.window.specs.Runs.{Ascend, AllEndFrom, with_span, is_live, is_live_in}
+use Rattle.window.specs.Runs.{Ascend, AllEndFrom, AllEndBefore, AreFewInEachList, with_span, is_live, is_live_in}
 use Rattle.window.specs.Chunks.{flat, Parted, AllDated, AllNumbered, holder, put, AreSoundChunks}
 use Rattle.window.specs.Timeline.{Timeline, Plan, chunks_by, IsMade, IsPlanned}
 use Rattle.window.proofs.Ordering.{Ascend-with_span, Ascend-filter, all_with_span, all_filter}
-use Rattle.window.proofs.Live.{from_later, live_from}
+use Rattle.window.proofs.Live.{from_later, live_from, ends_by, ends_before}
 use Rattle.window.proofs.Chunked.{put_is, put_parted, put_sifted, put_within, put_dated, put_length, held_length, count_in_put}
+use Rattle.s4_types.specs.declared.limits.TheConstants.{RUNS_IN_A_LIST, RUNS_IN_ALL}
+use Rattle.window.proofs.OwnCounts.{few_with_span}
 use Rattle.window.proofs.Standing.{AreKept, runs_by, planned_kept}
 
 -- a plan of one chunk: whole is the chunk with the span, and fresh is it without the runs below the floor
@@ -62,6 +64,23 @@ pub made_alike : (w : Timeline) (p q : Plan) → p.span ≡ q.span → IsMade w 
 made_alike w p q same a b =
     b.count ∙ ap (λ (xs : List Span). length xs) (b.runs ∙ ap (λ (span : Span). filter (is_live w.floor) (with_span span w.runs)) (sym same) ∙ sym a.runs) ∙ sym a.count
 
+-- and as many of the span's list
+pub made_alike_in_list : (w : Timeline) (p q : Plan) → p.span ≡ q.span → IsMade w p → IsMade w q → q.own ≡ p.own
+made_alike_in_list w p q same a b =
+    let runs : flat (chunks_by w q) ≡ flat (chunks_by w p) = b.runs ∙ ap (λ (span : Span). filter (is_live w.floor) (with_span span w.runs)) (sym same) ∙ sym a.runs in
+    b.own ∙ ap (count_by (is_live_in w.floor q.span.object)) runs ∙ ap (λ (span : Span). count_by (is_live_in w.floor span.object) (flat (chunks_by w p))) (sym same) ∙ sym a.own
+
+-- so what comes of a plan made once more is a plan
+pub planned_again : (w : Timeline) (plan : Plan) (r : Result Plan Refusal) → IsPlanned w plan → IfOk r (λ p. (p.span ≡ plan.span) × IsMade w p) → IfOk r (λ p. (p.span ≡ plan.span) × IsPlanned w p)
+planned_again w plan (Ok p) planned made =
+    let same : plan.span ≡ p.span = sym made.0 in
+    let few : plan.count ≤ RUNS_IN_ALL = planned.few in
+    let few_in_list : plan.own ≤ RUNS_IN_A_LIST = planned.few_in_list in
+    let count : p.count ≡ plan.count = made_alike w plan p same planned.made made.1 in
+    let own : p.own ≡ plan.own = made_alike_in_list w plan p same planned.made made.1 in
+    (made.0, record { made = made.1; few = omega arith; few_in_list = omega arith })
+planned_again w plan (Err refusal) planned made = tt
+
 from_either : (floor end last : ℕ) (runs : List Span) → AllEndFrom floor runs → AllEndFrom (min end last) runs → AllEndFrom (min end (max floor last)) runs
 from_either floor end last [] a b = tt
 from_either floor end last (run ∷ runs) a b =
@@ -69,15 +88,15 @@ from_either floor end last (run ∷ runs) a b =
     let by : min end last ≤ run.last = b.0 in
     (omega arith, from_either floor end last runs a.1 b.1)
 
--- what a window keeps when a plan is carried out
-pub sound_by : (w : Timeline) (plan : Plan) (chunks : List Chunk) (end before later : ℕ) → chunks ≡ chunks_by w plan → later ≡ min end (max w.floor plan.span.last) → IsPlanned w plan → w.runs ≡ flat w.chunks → AreSoundChunks w.clock w.floor end before w.chunks
-    → AreSoundChunks w.clock w.floor later plan.count chunks
-sound_by w plan chunks end before later is sooner planned runs sound =
+-- what a window keeps when a plan is carried out, at a later clock
+pub sound_by : (w : Timeline) (plan : Plan) (chunks : List Chunk) (end before later moment : ℕ) → chunks ≡ chunks_by w plan → later ≡ min end (max w.floor plan.span.last) → w.clock < moment → IsPlanned w plan → w.runs ≡ flat w.chunks → AreSoundChunks w.clock w.floor end before w.chunks
+    → AreSoundChunks moment w.floor later plan.count chunks
+sound_by w plan chunks end before later moment is sooner moves planned runs sound =
     let made : IsMade w plan = planned.made in
-    let P : List Chunk → Type 0 = λ xs. AreSoundChunks w.clock w.floor later plan.count xs in
-    let Q : List Span → Type 0 = λ xs. Ascend xs × AllByRecursion (λ run. run.last ≤ w.clock) xs × AllNumbered xs × AllEndFrom end xs in
-    let facts : Q w.runs = subst Q (sym runs) (sound.0, sound.1, sound.2, sound.6) in
-    let kept = planned_kept w plan made (facts.0, facts.1) facts.2 in
+    let P : List Chunk → Type 0 = λ xs. AreSoundChunks moment w.floor later plan.count xs in
+    let Q : List Span → Type 0 = λ xs. Ascend xs × AllEndBefore w.clock xs × AllNumbered xs × AllEndFrom end xs × AreFewInEachList xs in
+    let facts : Q w.runs = subst Q (sym runs) (sound.0, sound.1, sound.2, sound.6, sound.9) in
+    let kept = planned_kept w plan made (facts.0, ends_by w.clock w.runs facts.1) facts.2 in
     let all : List Span = with_span plan.span w.runs in
     let first : AllEndFrom (min end plan.span.last) all =
     all_with_span (λ run. min end plan.span.last ≤ run.last) plan.span w.runs (λ x y p q. omega arith) (omega arith) (from_later (min end plan.span.last) end w.runs (omega arith) facts.3) in
@@ -86,4 +105,6 @@ sound_by w plan chunks end before later is sooner planned runs sound =
     from_either w.floor end plan.span.last (filter (is_live w.floor) all) live (all_filter (λ run. min end plan.span.last ≤ run.last) (is_live w.floor) all first) in
     let A : List Span → Type 0 = λ xs. AllEndFrom w.floor xs × AllEndFrom later xs in
     let ends : A (runs_by w plan) = subst A (sym made.runs) (live, subst (λ n. AllEndFrom n (filter (is_live w.floor) all)) (sym sooner) both) in
-    subst P (sym is) (kept.0, kept.1, kept.2, made.parted, made.dated, ends.0, ends.1, made.count, planned.few)
+    let own : count_by (is_live_in w.floor plan.span.object) (runs_by w plan) ≤ RUNS_IN_A_LIST = subst (λ n. n ≤ RUNS_IN_A_LIST) made.own planned.few_in_list in
+    let few : AreFewInEachList (runs_by w plan) = few_with_span w.floor plan.span w.runs (runs_by w plan) made.runs ends.0 own facts.4 in
+    subst P (sym is) (kept.0, ends_before w.clock moment (runs_by w plan) moves kept.1, kept.2, made.parted, made.dated, ends.0, ends.1, made.count, planned.few, few)

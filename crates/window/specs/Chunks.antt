@@ -2,9 +2,8 @@
 use Rattle.std.specs.Prelude.{◌≡◌, ℕ, ◌+◌, ◌-◌, ◌<◌, ◌≤◌, ◌^◌, nat_lt, false, Bool, min, filter, if◌then◌else◌, List, [], ◌∷◌, ◌++◌, length, Option, None, Some}
 use Rattle.std.specs.List.{AllByRecursion}
 use Rattle.s4_types.specs.declared.spans.Span.{Span}
-use Rattle.window.specs.Runs.{Ascend, AllEndFrom, is_live}
+use Rattle.window.specs.Runs.{Ascend, AllEndFrom, AllEndBefore, AreFewInEachList, is_live}
 use Rattle.s4_types.specs.declared.limits.TheConstants.{RUNS_IN_ALL}
-use Rattle.s4_model.specs.RunCounting.{AllEndBy}
 use Rattle.window.specs.declared.chunks.Chunk.{Chunk}
 use Rattle.window.specs.declared.chunks.Fresh.{Fresh}
 use Rattle.window.specs.declared.chunks.Fresh.TheVariants.{One, All}
@@ -68,11 +67,12 @@ is_longer most (One chunk) = nat_lt most (length chunk.runs.items)
 is_longer most (All all) = false
 
 -- The runs of chunks are in order, past, numbered and live, each in the chunk of its list, and those of none ends
--- before what its chunk tells or before an earliest end of all; a count says how many there are, which is not too many.
+-- before what its chunk tells or before an earliest end of all; a count says how many there are, which is not too many,
+-- and no list has too many of them.
 abbrev pub AreSoundChunks : ℕ → ℕ → ℕ → ℕ → List Chunk → Type 0
 AreSoundChunks clock floor end count chunks =
-    Ascend (flat chunks) × AllEndBy clock (flat chunks) × AllNumbered (flat chunks) × Parted 0 chunks × AllDated chunks × AllEndFrom floor (flat chunks) × AllEndFrom end (flat chunks)
-    × (count ≡ length (flat chunks)) × (count ≤ RUNS_IN_ALL)
+    Ascend (flat chunks) × AllEndBefore clock (flat chunks) × AllNumbered (flat chunks) × Parted 0 chunks × AllDated chunks × AllEndFrom floor (flat chunks) × AllEndFrom end (flat chunks)
+    × (count ≡ length (flat chunks)) × (count ≤ RUNS_IN_ALL) × AreFewInEachList (flat chunks)
 
 -- Runs in order fall in two parts: those of the lists up to a number, which one of them has, and those behind.
 pub record IsCutOff (runs : List Span) (list : ℕ) (part rest : List Span) : Type 0 where

@@ -1,8 +1,10 @@
 -- Runs of hidden moments in one list: each is a span, of all objects under number 0 or of one object.
-use Rattle.std.specs.Prelude.{◌≡◌, ℕ, Bool, true, false, ◌==◌, ◌&&◌, ◌||◌, ◌-◌, ◌^◌, ◌≤◌, nat_le, nat_lt, min, max, if◌then◌else◌, List, [], ◌∷◌}
+use Rattle.std.specs.Prelude.{◌≡◌, ℕ, Bool, true, false, ◌==◌, ◌&&◌, ◌||◌, ◌-◌, ◌^◌, ◌≤◌, nat_le, nat_lt, min, max, count_by, if◌then◌else◌, List, [], ◌∷◌}
 use Rattle.std.specs.List.{list_any, AllByRecursion}
 use Rattle.s4_types.specs.declared.spans.Span.{Span}
+use Rattle.s4_types.specs.declared.limits.TheConstants.{RUNS_IN_A_LIST}
 use Rattle.s4_model.specs.Visible.{is_within}
+use Rattle.s4_model.specs.Sound.{EndsBefore}
 
 -- whether a run is of this list and has the moment in it
 abbrev pub covers : ℕ → ℕ → Span → Bool
@@ -24,6 +26,14 @@ Ascend (x ∷ runs) = (x.first ≤ x.last) × IsBeforeAll x runs × Ascend runs
 -- no run ends before a moment
 abbrev pub AllEndFrom : ℕ → List Span → Type 0
 AllEndFrom from runs = AllByRecursion (λ run. from ≤ run.last) runs
+
+-- no run begins before a moment
+abbrev pub AllBeginFrom : ℕ → List Span → Type 0
+AllBeginFrom from runs = AllByRecursion (λ run. from ≤ run.first) runs
+
+-- all runs end before a moment
+abbrev pub AllEndBefore : ℕ → List Span → Type 0
+AllEndBefore clock runs = AllByRecursion (EndsBefore clock) runs
 
 -- the earliest end of these runs, or the last moment where there is none
 abbrev pub earliest : List Span → ℕ
@@ -51,6 +61,14 @@ is_live_in floor list run = run.object == list && nat_le floor run.last
 -- whether a run is of this list
 abbrev pub span_is_of : ℕ → Span → Bool
 span_is_of list run = run.object == list
+
+-- no list has more runs than a list may have
+abbrev pub AreFewInEachList : List Span → Type 0
+AreFewInEachList runs = (list : ℕ) → count_by (span_is_of list) runs ≤ RUNS_IN_A_LIST
+
+-- a run that reaches a floor, without its moments below it
+abbrev pub cut : ℕ → Span → Span
+cut floor run = record { object = run.object; first = max run.first floor; last = run.last }
 
 -- whether some of these runs, of whatever list, has the moment in it
 abbrev pub cover : List Span → ℕ → Bool

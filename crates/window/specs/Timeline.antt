@@ -1,14 +1,14 @@
 -- What contracts see of a window, and which states of a history it stands for.
-use Rattle.std.specs.Prelude.{◌≡◌, ℕ, ◌-◌, ◌<◌, ◌≤◌, ◌^◌, max, List, length, filter, count_by}
+use Rattle.std.specs.Prelude.{◌≡◌, ℕ, ◌-◌, ◌<◌, ◌≤◌, ◌^◌, max, List, length, filter, map, count_by}
 use Rattle.std.specs.List.{list_any, AllByRecursion}
 use Rattle.s4_types.specs.declared.spans.Span.{Span}
-use Rattle.s4_types.specs.declared.limits.TheConstants.{RUNS_IN_ALL}
+use Rattle.s4_types.specs.declared.limits.TheConstants.{RUNS_IN_A_LIST, RUNS_IN_ALL}
 use Rattle.s4_model.specs.State.{State}
 use Rattle.s4_model.specs.Visible.{spans_of}
 use Rattle.s4_model.specs.Sound.{IsOfGiven}
 use Rattle.window.specs.declared.chunks.Chunk.{Chunk}
 use Rattle.window.specs.declared.chunks.Fresh.{Fresh}
-use Rattle.window.specs.Runs.{covers, with_span, is_live, is_live_in}
+use Rattle.window.specs.Runs.{covers, with_span, cut, is_live, is_live_in}
 use Rattle.window.specs.Chunks.{flat, Parted, AllDated, renewed}
 
 -- the clock, the window, the floor, and the runs of hidden moments of all lists, which stand in chunks
@@ -18,6 +18,10 @@ pub record Timeline : Type 0 where
   pub floor : ℕ
   pub runs : List Span
   pub chunks : List Chunk
+
+-- what is kept of a window when it is saved: its runs without their moments below the floor
+abbrev pub spans_kept : Timeline → List Span
+spans_kept w = map (cut w.floor) w.runs
 
 -- from the floor on, runs cover on each list what the spans do
 abbrev pub CoverAlike : ℕ → List Span → List Span → Type 0
@@ -56,10 +60,11 @@ pub record IsMade (w : Timeline) (plan : Plan) : Type 0 where
   pub count : plan.count ≡ length (flat (chunks_by w plan))
   pub own : plan.own ≡ count_by (is_live_in w.floor plan.span.object) (flat (chunks_by w plan))
 
--- The plan is this window's, and all lists together don't have too many runs by it.
+-- The plan is this window's, and neither the span's list nor all lists together have too many runs by it.
 pub record IsPlanned (w : Timeline) (plan : Plan) : Type 0 where
   pub made : IsMade w plan
   pub few : plan.count ≤ RUNS_IN_ALL
+  pub few_in_list : plan.own ≤ RUNS_IN_A_LIST
 
 -- The clock moved on, the floor with it, and the runs that end below the floor are forgotten.
 pub record HasMoved (w later : Timeline) (moment : ℕ) : Type 0 where

@@ -1,8 +1,8 @@
 //! Runs of hidden moments in chunks, so that one more span makes one chunk anew and leaves the others.
-ghost use Rattle.std.specs.Prelude.{◌≡◌, ℕ, ◌==◌, ◌≤◌, None, Some, nat_lt, nat_le, true, false, filter, IfOk, IfErr, IfSome, MatchOption, length};
+ghost use Rattle.std.specs.Prelude.{◌≡◌, ℕ, ◌==◌, ◌≤◌, None, Some, nat_lt, nat_le, true, false, filter, map, IfOk, IfErr, IfSome, MatchOption, length};
 ghost use Rattle.std.specs.List.{list_any};
 ghost use Rattle.std.specs.List.Sorted.{IsPartitionPoint};
-ghost use Rattle.window.specs.Runs.{Ascend, AllEndFrom, span_is_of, covers};
+ghost use Rattle.window.specs.Runs.{Ascend, AllEndFrom, span_is_of, covers, cut};
 ghost use Rattle.s4_types.specs.declared.limits.TheConstants.{RUNS_IN_ALL};
 ghost use Rattle.window.specs.Chunks.{flat, Parted, AllNumbered, AllDated, told, IsSifted, AllSifted, is_longer, IsCutOff, holder, put, renewed};
 ghost use Rattle.s4_types.specs.declared.refusals.Refusal.TheVariants.{NoMemory};
@@ -165,6 +165,18 @@ pub fn all_runs(alloc: Global, chunks: &[Chunk]) -> Result<Vec<Span>, Refusal>
     Ok(all)
 }
 
+/// The runs of all chunks, each without its moments below a floor that it reaches. Linear in all runs.
+pub fn cut_runs(alloc: Global, chunks: &[Chunk], floor: Moment) -> Result<Vec<Span>, Refusal>
+    ensures ok { IfOk result (λ all. all.items ≡ map (cut floor) (flat chunks.now)) }
+    ensures err { IfErr result (λ refusal. refusal ≡ NoMemory) }
+{
+    let mut all = Vec::new(alloc);
+    for chunk in chunks {
+        runs::push_cut(&mut all, chunk.runs.as_slice(), floor)?;
+    }
+    Ok(all)
+}
+
 /// A chunk of runs.
 #[tactic(auto, using(crate::proofs::Live::from_earliest))]
 pub fn new_chunk(up_to: ObjectId, runs: Vec<Span>) -> Chunk
@@ -207,6 +219,15 @@ fn first_part(runs: &[Span]) -> Option<(ObjectId, &[Span], &[Span])>
     // Reading the number shows that one follows the list's.
     let _next = rest.get(0)?.object.number();
     Some((list, part, rest))
+}
+
+/// The number of the last list that has a run. Those of all lists are at most that.
+pub fn last_list(runs: &[Span]) -> Option<u64>
+    requires { Ascend runs.now }
+    ensures { AllNumbered runs.now }
+{
+    // Reading the number shows that it has 64 bits.
+    Some(runs.last()?.object.number())
 }
 
 /// Runs in chunks. Linear in the runs.

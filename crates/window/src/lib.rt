@@ -6,10 +6,16 @@
 //! for want of memory; and `visible` and `sees` answer exactly what can be read. A span is hidden in two
 //! calls, so that all that may be refused comes before anything changes: `plan_flush` judges and takes the
 //! memory, `flush` can't fail.
+//!
+//! A window that is saved tells its spans: in order, from the floor on and before the clock, at most 64 of a
+//! list and 65,536 in all, and hiding from the floor on what the window hides. Such spans and the three numbers
+//! make a window again, which stands for every state that has them and tells the same spans.
+//!
 //! Nothing here says which objects there are, who may ask, or how long a call takes.
 #![tactic(auto)]
 
 mod chunks;
+pub mod laws;
 mod runs;
 mod window;
 

@@ -1,7 +1,7 @@
 //! Runs of hidden moments in order, of all lists in one slice.
-ghost use Rattle.std.specs.Prelude.{◌≡◌, ℕ, ◌==◌, ◌≤◌, ◌||◌, nat_le, nat_lt, count_by, false, ◌∷◌, filter, IfOk, IfErr, MatchBool, MatchOption};
+ghost use Rattle.std.specs.Prelude.{◌≡◌, ℕ, ◌==◌, ◌≤◌, ◌||◌, nat_le, nat_lt, count_by, false, ◌∷◌, ◌++◌, filter, map, IfOk, IfErr, MatchBool, MatchOption};
 ghost use Rattle.s4_model.specs.Visible.{is_within};
-ghost use Rattle.window.specs.Runs.{is_before, Ascend, joined_span, with_span, is_live, is_live_in, earliest, span_is_of, cover, BeginInOrder, IsLeft};
+ghost use Rattle.window.specs.Runs.{is_before, Ascend, cut, joined_span, with_span, is_live, is_live_in, earliest, span_is_of, cover, BeginInOrder, IsLeft};
 ghost use Rattle.s4_types.specs.declared.refusals.Refusal.TheVariants.{NoMemory};
 
 use s4_types::{Moment, ObjectId, Refusal, Span};
@@ -66,6 +66,28 @@ pub fn sift(runs: &mut Vec<Span>, floor: Moment)
 {
     let lowest = floor.number();
     runs.retain(|run| lowest <= run.last.number());
+}
+
+/// What is left of a run that reaches a floor without its moments below it.
+fn cut(run: &Span, floor: Moment) -> Span
+    ensures { result ≡ cut floor run.now }
+{
+    Span {
+        object: run.object,
+        first: Moment::new(run.first.number().max(floor.number())),
+        last: run.last,
+    }
+}
+
+/// Puts runs behind others, each without its moments below a floor that it reaches. Linear in the runs.
+pub fn push_cut(all: &mut Vec<Span>, runs: &[Span], floor: Moment) -> Result<(), Refusal>
+    ensures ok { IfOk result (λ _. all.new.items ≡ all.old.items ++ map (cut floor) runs.now) }
+    ensures err { IfErr result (λ refusal. refusal ≡ NoMemory) }
+{
+    for run in runs {
+        all.push(cut(run, floor))?;
+    }
+    Ok(())
 }
 
 /// The earliest end of these runs, or the last moment where there is none.

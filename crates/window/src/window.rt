@@ -1,15 +1,18 @@
 //! The window of a drive: what can be read, and each step of clock, floor and hidden runs.
-ghost use Rattle.std.specs.Prelude.{◌≡◌, ◌⊎◌, ℕ, true, false, ◌+◌, ◌-◌, ◌<◌, ◌≤◌, max, Some, MatchBool, MatchResult, IfOk, IfErr, filter};
+ghost use Rattle.std.specs.Prelude.{◌≡◌, ◌⊎◌, ℕ, true, false, ◌+◌, ◌-◌, ◌<◌, ◌≤◌, max, Some, MatchBool, MatchResult, IfOk, IfErr, filter, length, List};
+ghost use Rattle.std.specs.List.{AllByRecursion};
+ghost use Rattle.s4_types.specs.declared.limits.TheConstants.{RUNS_IN_ALL};
 ghost use Rattle.s4_types.specs.declared.changes.Accepted.{Accepted};
 ghost use Rattle.s4_types.specs.declared.changes.Change.TheVariants.{SetWindow};
 ghost use Rattle.s4_types.specs.declared.requests.Request.TheVariants.{Flush, FlushO};
 ghost use Rattle.s4_types.specs.declared.refusals.Refusal.TheVariants.{NoMemory, BadSpan, TooManySpans};
 ghost use Rattle.s4_model.specs.State.{State, state_of, new_history, seen, took};
 ghost use Rattle.s4_model.specs.Refusals.{last_number, is_bad_span, is_one_span_too_many, moment_refusal};
-ghost use Rattle.s4_model.specs.Visible.{span_of, IsVisible, IsSeenBetween, is_hidden};
-ghost use Rattle.window.specs.Chunks.{holder, is_longer};
-ghost use Rattle.window.specs.Timeline.{StandsFor, IsMade, IsPlanned, HasMoved};
-ghost use Rattle.window.specs.Runs.{is_live};
+ghost use Rattle.s4_model.specs.Visible.{span_of, spans_of, IsVisible, IsSeenBetween, is_hidden};
+ghost use Rattle.s4_model.specs.Sound.{IsOfGiven};
+ghost use Rattle.window.specs.Chunks.{holder, is_longer, AllNumbered};
+ghost use Rattle.window.specs.Timeline.{StandsFor, CoverAlike, spans_kept, IsMade, IsPlanned, HasMoved};
+ghost use Rattle.window.specs.Runs.{is_live, Ascend, AllBeginFrom, AllEndBefore, AreFewInEachList};
 ghost use Rattle.s4_model.specs.Effect.{is_of_versions};
 
 use crate::chunks::{self, Chunk, Fresh};
@@ -28,7 +31,7 @@ pub struct Window {
     clock: Moment,
     window: u64,
     floor: Moment,
-    /// All runs reach the floor.
+    /// All runs reach the floor and end before the clock, and no list has more than 64 of them.
     chunks: Vec<Chunk>,
     /// How many runs there are.
     count: usize,
@@ -90,6 +93,61 @@ impl Window {
             count: 0,
             earliest: Moment::new(u64::MAX),
         }
+    }
+
+    /// The window of a drive that was saved: its clock, how many moments it reaches back, its floor, and the runs
+    /// that were hidden from the floor on, as [`Window::spans`] gives them. `NoMemory` where a growth was refused,
+    /// and no other error. Linear in the runs.
+    pub fn from_parts(
+        alloc: Global,
+        clock: Moment,
+        window: u64,
+        floor: Moment,
+        spans: &[Span],
+    ) -> Result<Window, Refusal>
+        requires ordered { Ascend spans.now }
+        requires from_floor { AllBeginFrom floor spans.now }
+        requires past { AllEndBefore clock spans.now }
+        requires few { length spans.now ≤ RUNS_IN_ALL }
+        requires few_in_each_list { AreFewInEachList spans.now }
+        ensures numbers { IfOk result (λ w. (w.clock ≡ clock) × (w.window ≡ window) × (w.floor ≡ floor)) }
+        ensures runs { IfOk result (λ w. w.runs ≡ spans.now) }
+        ensures saved_again { IfOk result (λ w. spans_kept w ≡ spans.now) }
+        ensures stands { IfOk result (λ w. (s : State) → s.clock ≡ clock → s.window ≡ window → s.floor ≡ floor → spans_of s ≡ spans.now
+            → AllByRecursion (IsOfGiven s.next) spans.now → StandsFor w s) }
+        ensures refusal { IfErr result (λ e. e ≡ NoMemory) }
+    {
+        // Looking at the last list shows that the numbers of all have 64 bits.
+        let _last = chunks::last_list(spans);
+        let chunks = chunks::divide(alloc, spans)?;
+        let earliest = chunks::earliest(chunks.as_slice());
+        Ok(Window {
+            alloc,
+            clock,
+            window,
+            floor,
+            chunks,
+            count: spans.len(),
+            earliest,
+        })
+    }
+
+    /// What is saved of the hidden runs: those of all lists without their moments below the floor, by list and first
+    /// moment. [`Window::from_parts`] makes this window of them again. `NoMemory` where a growth was refused, and no
+    /// other error. Linear in the runs.
+    pub fn spans(&self, alloc: Global) -> Result<Vec<Span>, Refusal>
+        ensures exact { IfOk result (λ v. v.items ≡ spans_kept self.now) }
+        ensures ordered { IfOk result (λ v. Ascend v.items) }
+        ensures from_floor { IfOk result (λ v. AllBeginFrom self.now.floor v.items) }
+        ensures past { IfOk result (λ v. AllEndBefore self.now.clock v.items) }
+        ensures numbered { IfOk result (λ v. AllNumbered v.items) }
+        ensures few { IfOk result (λ v. length v.items ≤ RUNS_IN_ALL) }
+        ensures few_in_each_list { IfOk result (λ v. AreFewInEachList v.items) }
+        ensures alike { IfOk result (λ v. CoverAlike self.now.floor v.items self.now.runs) }
+        ensures given { IfOk result (λ v. (s : State) → StandsFor self.now s → AllByRecursion (IsOfGiven s.next) v.items) }
+        ensures refusal { IfErr result (λ e. e ≡ NoMemory) }
+    {
+        chunks::cut_runs(alloc, self.chunks.as_slice(), self.floor)
     }
 
     /// The clock: the last moment given or seen.
@@ -253,10 +311,14 @@ impl Window {
         ensures taken { (s : State) (a : Accepted) → StandsFor self.old s → plan.span.object < s.next → a.moment ≡ result → span_of a ≡ Some plan.span → StandsFor self.new (took s a) }
     {
         let span = plan.span;
+        // The span may end at the clock as it was, and each run that is kept ends before the clock.
+        let moment = self.next_moment(now);
         chunks::renew(&mut self.chunks, span.object, plan.fresh);
         self.count = plan.count;
         self.earliest = self.earliest.min(self.floor.max(span.last));
-        self.advance(now)
+        self.clock = moment;
+        self.set_clock(moment);
+        moment
     }
 
     /// Whether a moment of an object can be read: `Future` above the clock, `Expired` below the floor,
@@ -301,18 +363,27 @@ impl Window {
         chunks::covers(chunks, ObjectId::new(0), at) || chunks::covers(chunks, object, at)
     }
 
+    /// The moment of a change.
+    fn next_moment(&self, now: Moment) -> Moment
+        requires { self.now.clock < last_number }
+        ensures { result ≡ max now (self.now.clock + 1) }
+    {
+        Moment::new(now.number().max(self.clock.number() + 1))
+    }
+
     /// Moves on to the moment of a change.
     fn advance(&mut self, now: Moment) -> Moment
         requires { self.old.clock < last_number }
         ensures moment { result ≡ max now (self.old.clock + 1) }
         ensures moved { HasMoved self.old self.new result }
     {
-        let moment = Moment::new(now.number().max(self.clock.number() + 1));
+        let moment = self.next_moment(now);
         self.set_clock(moment);
         moment
     }
 
     /// Sets the clock, which never falls, the floor by it, and forgets the runs that end below the floor.
+    #[tactic(auto, using(crate::proofs::Forgetting::sound_later))]
     fn set_clock(&mut self, clock: Moment)
         requires { self.old.clock ≤ clock }
         ensures { HasMoved self.old self.new clock }

@@ -4,6 +4,7 @@ use Rattle.window.specs.declared.chunks.Fresh.TheVariants.{All}
 use Rattle.window.specs.Runs.{with_span, is_live, is_live_in}
 use Rattle.window.specs.Chunks.{flat}
 use Rattle.window.specs.Timeline.{Timeline, IsMade}
+use Rattle.window.proofs.Live.{ends_by}
 use Rattle.window.proofs.Planning.{all_ready, all_made}
 use Rattle.window.proofs.window.Window.plan_all.Goals as goal
 
@@ -14,7 +15,7 @@ divide-requires-clause-ordered c =
     c.as_slice-4.ensures.value ∙ c.sift.ensures
     ∙ ap (λ (xs : List Span). filter (is_live c.self.inside.floor) xs) (c.in_ok-runs.ensures.ok ∙ ap (λ (xs : List Span). with_span c.args.span xs) (c.as_slice-2.ensures.value ∙ c.in_ok-all.ensures.ok ∙ ap flat c.as_slice.ensures.value)) in
     let below : c.args.span.object < 2 ^ 64 = omega arith in
-    (all_ready w c.args.span c.as_slice-4.result.now is (c.self.invariant.0, c.self.invariant.1) c.self.invariant.2 c.requires.ordered below).0
+    (all_ready w c.args.span c.as_slice-4.result.now is (c.self.invariant.0, ends_by w.clock w.runs c.self.invariant.1) c.self.invariant.2 c.requires.ordered below).0
 
 pub divide-requires-clause-numbered : goal.divide-requires-clause-numbered
 divide-requires-clause-numbered c =
@@ -23,7 +24,7 @@ divide-requires-clause-numbered c =
     c.as_slice-4.ensures.value ∙ c.sift.ensures
     ∙ ap (λ (xs : List Span). filter (is_live c.self.inside.floor) xs) (c.in_ok-runs.ensures.ok ∙ ap (λ (xs : List Span). with_span c.args.span xs) (c.as_slice-2.ensures.value ∙ c.in_ok-all.ensures.ok ∙ ap flat c.as_slice.ensures.value)) in
     let below : c.args.span.object < 2 ^ 64 = omega arith in
-    (all_ready w c.args.span c.as_slice-4.result.now is (c.self.invariant.0, c.self.invariant.1) c.self.invariant.2 c.requires.ordered below).1
+    (all_ready w c.args.span c.as_slice-4.result.now is (c.self.invariant.0, ends_by w.clock w.runs c.self.invariant.1) c.self.invariant.2 c.requires.ordered below).1
 
 pub returns-clause-made : goal.returns-clause-made
 returns-clause-made c =
