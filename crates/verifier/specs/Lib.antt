@@ -1,0 +1,5 @@
+pub mod Tables
+pub mod Rows
+pub mod Grammar
+pub mod Reading
+pub mod Images
