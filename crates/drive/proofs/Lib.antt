@@ -10,3 +10,5 @@ pub mod Storing
 pub mod Served
 pub mod Parts
 pub mod Leading
+pub mod Dating
+pub mod Opening

@@ -44,6 +44,27 @@ impl<J: Naming> Drive<J> {
         self.window.clock()
     }
 
+    /// How many moments history reaches back from the clock.
+    pub fn window(&self) -> u64
+        ensures { result ≡ (state_in self.now).window }
+    {
+        self.window.window()
+    }
+
+    /// The floor: moments below it are lost.
+    pub fn floor(&self) -> Moment
+        ensures { result ≡ (state_in self.now).floor }
+    {
+        self.window.floor()
+    }
+
+    /// The number that the next object gets.
+    pub fn next(&self) -> ObjectId
+        ensures { result ≡ (state_in self.now).next }
+    {
+        self.next
+    }
+
     /// How many blocks changes of objects may still append: the reserve of 60 is not theirs.
     pub fn room(&self) -> usize
         ensures { result ≡ room (store_of self.now) }

@@ -1,0 +1,8 @@
+use Rattle.drive.proofs.Opening.{base_tells, base_listed}
+use Rattle.drive.proofs.laws.a_base_is_what_its_objects_stand_for.Goals as goal
+
+pub returns-clause-versions : goal.returns-clause-versions
+returns-clause-versions c = base_tells c.groups_join_and_part.ensures.ascend
+
+pub returns-clause-listed : goal.returns-clause-listed
+returns-clause-listed c = base_listed c.groups_join_and_part.ensures.ascend

@@ -1,0 +1,17 @@
+//! Laws of opened drives, for the layers above: each function does nothing, and its contract is the law.
+ghost use Rattle.drive.specs.Opened.{ARowTellsItsVersions, ARowsVersionsAscend, ABaseTellsTheStoresVersions, ABaseListsEachObjectOnce};
+
+use undo_redo::laws::groups_join_and_part;
+
+/// What an opened drive begins with is what its objects stand for: at each moment the versions that the base has of an object
+/// tell the one that its row and its blocks do. The base lists each object once, and the moments from which its versions are
+/// current ascend strictly.
+#[tactic(auto, using(crate::proofs::Dating::row_told, crate::proofs::Dating::row_dated))]
+pub fn a_base_is_what_its_objects_stand_for()
+    ensures row { ARowTellsItsVersions }
+    ensures dates { ARowsVersionsAscend }
+    ensures versions { ABaseTellsTheStoresVersions }
+    ensures listed { ABaseListsEachObjectOnce }
+{
+    groups_join_and_part();
+}
