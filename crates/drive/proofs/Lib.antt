@@ -12,3 +12,4 @@ pub mod Parts
 pub mod Leading
 pub mod Dating
 pub mod Opening
+pub mod Ordered

@@ -23,7 +23,7 @@ use Rattle.drive.specs.Opened.{versions_of_row, object_by, versions_below, opene
 use Rattle.drive.proofs.Dating.{GroupsAscend, row_told, row_dated}
 
 -- the objects of so many numbers from one on that have a row, each with its versions
-abbrev objects_from : (Place → Option Stored) → (ℕ → Option Row) → ℕ → ℕ → List (ℕ × List (ℕ × Version))
+abbrev pub objects_from : (Place → Option Stored) → (ℕ → Option Row) → ℕ → ℕ → List (ℕ × List (ℕ × Version))
 objects_from held rows first count = filter_map (λ o. object_by held o (rows o)) (range_with_len first count)
 
 -- the versions of an object by its row; none where it has no row

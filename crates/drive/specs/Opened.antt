@@ -1,5 +1,5 @@
 -- A drive that is opened: what its history begins with, as its objects and its window tell it.
-use Rattle.std.specs.Prelude.{◌≡◌, ℕ, ◌≤◌, Bool, false, ◌==◌, if◌then◌else◌, List, [], ◌∷◌, Option, None, option_map}
+use Rattle.std.specs.Prelude.{◌≡◌, ℕ, ◌≤◌, ◌+◌, Bool, false, ◌==◌, if◌then◌else◌, List, [], ◌∷◌, Option, None, option_map, map}
 use Rattle.std.specs.List.{AllByRecursion, filter_map, range_with_len}
 use Rattle.atomic_table.specs.Seated.{TableId}
 use Rattle.s4_types.specs.Pointer.{Place}
@@ -77,6 +77,19 @@ ARowsVersionsAscend = (held : Place → Option Stored) (o latest : ℕ) (row : R
 -- At each moment a base tells of each object the version that the object has in the store.
 abbrev pub ABaseTellsTheStoresVersions : Type 0
 ABaseTellsTheStoresVersions = (s : StoreFields) (w : Timeline) (next o t : ℕ) → IsStore s → NoneFrom next s → current_of (versions_of (base_of s w next).versions o) t ≡ version_in s o t
+
+-- rows of ascending objects, from a number on
+abbrev pub RowsAscend : ℕ → List (ℕ × Row) → Type 0
+RowsAscend low [] = Unit {0}
+RowsAscend low (e ∷ rows) = (low ≤ e.0) × RowsAscend (e.0 + 1) rows
+
+-- the objects of a store's rows, each with its versions, in the order of the rows
+abbrev pub versions_listed : StoreFields → List (ℕ × List (ℕ × Version))
+versions_listed s = map (λ e. (e.0, versions_of_row s.log.held e.0 e.1)) s.rows
+
+-- Where a store's rows stand by ascending objects, a base lists their versions in their order.
+abbrev pub ABaseListsRowsInOrder : Type 0
+ABaseListsRowsInOrder = (s : StoreFields) (w : Timeline) (low next : ℕ) → NoneFrom next s → RowsAscend low s.rows → (base_of s w next).versions ≡ versions_listed s
 
 -- It lists each object once, with the moments of its versions ascending strictly.
 pub record IsListed (versions : List (ℕ × List (ℕ × Version))) : Type 0 where
