@@ -19,7 +19,7 @@ use Rattle.version_store.specs.Laws.{ThePresentStays}
 use Rattle.window.specs.Runs.{covers}
 use Rattle.window.specs.Timeline.{Timeline}
 use Rattle.drive.specs.Keeping.{IsKeptDrive}
-use Rattle.drive.specs.Opened.{versions_of_row, object_by, versions_below, opened_history, NoneFrom, IsListed, ABaseTellsTheStoresVersions, ABaseListsEachObjectOnce}
+use Rattle.drive.specs.Opened.{versions_of_row, object_by, versions_below, opened_history, NoneFrom, IsListed, ABaseTellsTheStoresVersions, ABaseListsEachObjectOnce, AnOpenedDriveBeginsAsItsParts}
 use Rattle.drive.proofs.Dating.{GroupsAscend, row_told, row_dated}
 
 -- the objects of so many numbers from one on that have a row, each with its versions
@@ -157,6 +157,17 @@ opened_version stays tells s w next o t store none past = elim (cases_lt w.clock
 -- the spans of its state are its window's runs
 opened_spans : (s : StoreFields) (w : Timeline) (next : ℕ) → spans_of (state_of (opened_history s w next)) ≡ w.runs
 opened_spans s w next = append-nil w.runs
+
+-- a drive that has just begun has what its parts have
+pub begins : ThePresentStays → ABaseTellsTheStoresVersions → AnOpenedDriveBeginsAsItsParts
+begins stays tells s w next store none past reach = record {
+  clock = refl;
+  window = refl;
+  floor = omega arith;
+  next = refl;
+  spans = opened_spans s w next;
+  versions = λ o t. opened_version stays tells s w next o t store none past;
+}
 
 pub kept_opened : ThePresentStays → ABaseTellsTheStoresVersions → ABaseListsEachObjectOnce → (s : StoreFields) (w : Timeline) (next : ℕ)
     → IsStore s → s.latest ≤ w.clock → w.floor ≤ w.clock → w.clock - w.window ≤ w.floor → 1 ≤ next → NoneFrom next s

@@ -1,11 +1,13 @@
 -- A drive that is opened: what its history begins with, as its objects and its window tell it.
-use Rattle.std.specs.Prelude.{◌≡◌, ℕ, ◌≤◌, ◌+◌, Bool, false, ◌==◌, if◌then◌else◌, List, [], ◌∷◌, Option, None, option_map, map}
+use Rattle.std.specs.Prelude.{◌≡◌, ℕ, ◌≤◌, ◌+◌, ◌-◌, Bool, false, ◌==◌, if◌then◌else◌, List, [], ◌∷◌, Option, None, option_map, map}
 use Rattle.std.specs.List.{AllByRecursion, filter_map, range_with_len}
 use Rattle.atomic_table.specs.Seated.{TableId}
 use Rattle.s4_types.specs.Pointer.{Place}
 use Rattle.s4_types.specs.History.{Base, History}
 use Rattle.s4_types.specs.declared.versions.Version.{Version}
-use Rattle.s4_model.specs.VersionAt.{current_of, versions_of}
+use Rattle.s4_model.specs.State.{State, state_of}
+use Rattle.s4_model.specs.Visible.{spans_of}
+use Rattle.s4_model.specs.VersionAt.{current_of, versions_of, version_of}
 use Rattle.s4_model.specs.Sound.{AreListedOnce, DatesAscend}
 use Rattle.block_log.specs.Log.{Stored}
 use Rattle.codec.specs.declared.inodes.Inode.{Inode}
@@ -98,3 +100,17 @@ pub record IsListed (versions : List (ℕ × List (ℕ × Version))) : Type 0 wh
 
 abbrev pub ABaseListsEachObjectOnce : Type 0
 ABaseListsEachObjectOnce = (s : StoreFields) (w : Timeline) (next : ℕ) → IsStore s → IsListed (base_of s w next).versions
+
+-- The state of a drive that has just begun is that of its objects and its window: it has the window's numbers, its runs as
+-- spans, and at each moment of each object the version that the object has in the store.
+pub record IsBegun (s : StoreFields) (w : Timeline) (number : ℕ) (begun : State) : Type 0 where
+  pub clock : begun.clock ≡ w.clock
+  pub window : begun.window ≡ w.window
+  pub floor : begun.floor ≡ w.floor
+  pub next : begun.next ≡ number
+  pub spans : spans_of begun ≡ w.runs
+  pub versions : (o t : ℕ) → version_of begun o t ≡ version_in s o t
+
+-- so it is of each drive that is opened whose floor is as high as its window reaches
+abbrev pub AnOpenedDriveBeginsAsItsParts : Type 0
+AnOpenedDriveBeginsAsItsParts = (s : StoreFields) (w : Timeline) (next : ℕ) → IsStore s → NoneFrom next s → s.latest ≤ w.clock → w.clock - w.window ≤ w.floor → IsBegun s w next (state_of (opened_history s w next))
