@@ -66,6 +66,30 @@ opened_history s w next = record { base = base_of s w next; records = [] }
 abbrev pub NoneFrom : ℕ → StoreFields → Type 0
 NoneFrom next s = (o : ℕ) → next ≤ o → row_of s.rows o ≡ None
 
+-- rows of ascending objects, from a number on
+abbrev pub RowsAscend : ℕ → List (ℕ × Row) → Type 0
+RowsAscend low [] = Unit {0}
+RowsAscend low (e ∷ rows) = (low ≤ e.0) × RowsAscend (e.0 + 1) rows
+
+-- the objects of a store's rows, each with its versions, in the order of the rows
+abbrev pub versions_listed : StoreFields → List (ℕ × List (ℕ × Version))
+versions_listed s = map (λ e. (e.0, versions_of_row s.log.held e.0 e.1)) s.rows
+
+-- Each object is listed once, with the moments of its versions ascending strictly.
+pub record IsListed (versions : List (ℕ × List (ℕ × Version))) : Type 0 where
+  pub once : AreListedOnce versions
+  pub dated : AllByRecursion (λ entry. DatesAscend entry.1) versions
+
+-- A state is that of these objects and this window: it has the window's numbers, its runs as spans, and at each moment of each
+-- object the version that the object has in the store.
+pub record IsBegun (s : StoreFields) (w : Timeline) (number : ℕ) (begun : State) : Type 0 where
+  pub clock : begun.clock ≡ w.clock
+  pub window : begun.window ≡ w.window
+  pub floor : begun.floor ≡ w.floor
+  pub next : begun.next ≡ number
+  pub spans : spans_of begun ≡ w.runs
+  pub versions : (o t : ℕ) → version_of begun o t ≡ version_in s o t
+
 -- ---- what these come to: each holds of all stores, and is a clause of a function with an empty body
 
 -- At each moment the versions of a row tell the one that the inode which is current there stands for.
@@ -80,37 +104,14 @@ ARowsVersionsAscend = (held : Place → Option Stored) (o latest : ℕ) (row : R
 abbrev pub ABaseTellsTheStoresVersions : Type 0
 ABaseTellsTheStoresVersions = (s : StoreFields) (w : Timeline) (next o t : ℕ) → IsStore s → NoneFrom next s → current_of (versions_of (base_of s w next).versions o) t ≡ version_in s o t
 
--- rows of ascending objects, from a number on
-abbrev pub RowsAscend : ℕ → List (ℕ × Row) → Type 0
-RowsAscend low [] = Unit {0}
-RowsAscend low (e ∷ rows) = (low ≤ e.0) × RowsAscend (e.0 + 1) rows
-
--- the objects of a store's rows, each with its versions, in the order of the rows
-abbrev pub versions_listed : StoreFields → List (ℕ × List (ℕ × Version))
-versions_listed s = map (λ e. (e.0, versions_of_row s.log.held e.0 e.1)) s.rows
-
 -- Where a store's rows stand by ascending objects, a base lists their versions in their order.
 abbrev pub ABaseListsRowsInOrder : Type 0
 ABaseListsRowsInOrder = (s : StoreFields) (w : Timeline) (low next : ℕ) → NoneFrom next s → RowsAscend low s.rows → (base_of s w next).versions ≡ versions_listed s
 
--- It lists each object once, with the moments of its versions ascending strictly.
-pub record IsListed (versions : List (ℕ × List (ℕ × Version))) : Type 0 where
-  pub once : AreListedOnce versions
-  pub dated : AllByRecursion (λ entry. DatesAscend entry.1) versions
-
+-- A base lists each object once, with the moments of its versions ascending strictly.
 abbrev pub ABaseListsEachObjectOnce : Type 0
 ABaseListsEachObjectOnce = (s : StoreFields) (w : Timeline) (next : ℕ) → IsStore s → IsListed (base_of s w next).versions
 
--- The state of a drive that has just begun is that of its objects and its window: it has the window's numbers, its runs as
--- spans, and at each moment of each object the version that the object has in the store.
-pub record IsBegun (s : StoreFields) (w : Timeline) (number : ℕ) (begun : State) : Type 0 where
-  pub clock : begun.clock ≡ w.clock
-  pub window : begun.window ≡ w.window
-  pub floor : begun.floor ≡ w.floor
-  pub next : begun.next ≡ number
-  pub spans : spans_of begun ≡ w.runs
-  pub versions : (o t : ℕ) → version_of begun o t ≡ version_in s o t
-
--- so it is of each drive that is opened whose floor is as high as its window reaches
+-- The state of a drive that was just opened is that of its parts, where its floor is as high as its window reaches.
 abbrev pub AnOpenedDriveBeginsAsItsParts : Type 0
 AnOpenedDriveBeginsAsItsParts = (s : StoreFields) (w : Timeline) (next : ℕ) → IsStore s → NoneFrom next s → s.latest ≤ w.clock → w.clock - w.window ≤ w.floor → IsBegun s w next (state_of (opened_history s w next))
