@@ -1,5 +1,6 @@
 //! An image that was worked by hand: 16 frames, one object that was made at moment 10 and written at 11.
-ghost use Rattle.std.specs.Prelude.{◌≡◌};
+ghost use Rattle.std.specs.Prelude.{◌≡◌, take, drop};
+ghost use Rattle.sha2.specs.Sha256.{sha256};
 
 use sha2::{Digest, Sha256};
 
@@ -105,10 +106,13 @@ fn put_row(bytes: &mut Example) {
     put(bytes, ROW + 32, &[0, 0, 3, 0, 0, 0, 0, 1]);
 }
 
-/// Makes the digest of the whole image anew.
-pub fn sign(bytes: &mut Example) {
-    let digest = Sha256::digest(&bytes[..DIGEST]);
-    bytes[DIGEST..].copy_from_slice(&digest);
+/// Makes the digest of the whole image anew: SHA-256 of all before it.
+pub fn sign(bytes: &mut Example)
+    ensures digest { drop DIGEST bytes.new ≡ sha256 (take DIGEST bytes.old) }
+    ensures before { take DIGEST bytes.new ≡ take DIGEST bytes.old }
+{
+    let (before, digest) = bytes.split_at_mut(DIGEST);
+    digest.copy_from_slice(&Sha256::digest(&*before));
 }
 
 /// Makes the digest of frame 0 anew, and that of the whole image.
