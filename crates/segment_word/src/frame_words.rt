@@ -16,7 +16,7 @@ use s4_types::Refusal;
 use std::alloc::{AllocError, Global};
 use std::marker::Model;
 
-/// What a frame is for.
+/// What a frame is for: as the two low bits of its state word tell it.
 #[derive(Clone, Copy, Debug, PartialEq, Eq)]
 pub enum FrameState {
     /// It may be opened, at its generation.
@@ -25,7 +25,7 @@ pub enum FrameState {
     Open,
     /// It is full, and may be read.
     Sealed,
-    /// It is sealed, and its last readers are waited for.
+    /// It is being emptied: its blocks stay until nobody reads it.
     Emptied,
 }
 
