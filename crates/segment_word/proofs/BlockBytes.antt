@@ -35,7 +35,7 @@ unfolding block_words
 block_words-back bytes long small = first_back 64 bytes long small
 
 -- the words that were replaced, and those that were not
-replaced : (contents words : List ℕ) (at n i : ℕ) → at + n ≤ length contents → n ≤ length words → i < n → get_or (paste contents at words n) (at + i) 0 ≡ get_or words i 0
+pub replaced : (contents words : List ℕ) (at n i : ℕ) → at + n ≤ length contents → n ≤ length words → i < n → get_or (paste contents at words n) (at + i) 0 ≡ get_or words i 0
 replaced contents words at n i long full h =
     let head : length (take at contents ++ take n words) ≡ at + n = length_paste_head contents at words n (omega arith) full in
     let front : length (take at contents) ≡ at = length-take-le at contents (omega arith) in
@@ -44,7 +44,7 @@ replaced contents words at n i long full h =
     ∙ get_or-append-add (take at contents) (take n words) i 0
     ∙ get_or-take n words i 0 h
 
-before : (contents words : List ℕ) (at n j : ℕ) → at + n ≤ length contents → n ≤ length words → j < at → get_or (paste contents at words n) j 0 ≡ get_or contents j 0
+pub before : (contents words : List ℕ) (at n j : ℕ) → at + n ≤ length contents → n ≤ length words → j < at → get_or (paste contents at words n) j 0 ≡ get_or contents j 0
 before contents words at n j long full h =
     let head : length (take at contents ++ take n words) ≡ at + n = length_paste_head contents at words n (omega arith) full in
     let front : length (take at contents) ≡ at = length-take-le at contents (omega arith) in
@@ -55,7 +55,7 @@ before contents words at n j long full h =
 back_to : (n j : ℕ) → n ≤ j → n + (j - n) ≡ j
 back_to n j h = omega arith
 
-behind : (contents words : List ℕ) (at n j : ℕ) → at + n ≤ length contents → n ≤ length words → at + n ≤ j → get_or (paste contents at words n) j 0 ≡ get_or contents j 0
+pub behind : (contents words : List ℕ) (at n j : ℕ) → at + n ≤ length contents → n ≤ length words → at + n ≤ j → get_or (paste contents at words n) j 0 ≡ get_or contents j 0
 behind contents words at n j long full h =
     let head : length (take at contents ++ take n words) ≡ at + n = length_paste_head contents at words n (omega arith) full in
     get_or-append_right (take at contents ++ take n words) (drop (at + n) contents) j 0 (omega arith)

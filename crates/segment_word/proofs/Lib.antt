@@ -11,6 +11,7 @@ pub mod Opening
 pub mod BlockWords
 pub mod BlockBytes
 pub mod BlockParts
+pub mod UnreadWords
 pub mod HeldPins
 pub mod AcceptLists
 pub mod AcceptFits

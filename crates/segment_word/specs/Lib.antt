@@ -4,6 +4,7 @@ pub mod Counting
 pub mod FrameRule
 pub mod Steps
 pub mod Handles
+pub mod FrameStates
 pub mod AcceptViews
 pub mod AcceptRule
 pub mod AcceptSteps

@@ -16,7 +16,8 @@ use crate::steps::{Place, Words, look, read, store};
 use byteorder::{BigEndian, ByteOrder};
 use s4_types::Refusal;
 
-fn bytes_of(words: &[u64; 64]) -> [u8; 512]
+/// The bytes that words spell.
+pub fn bytes_of(words: &[u64; 64]) -> [u8; 512]
     ensures { result ≡ flat_map (big_bytes 8) words.now }
 {
     let mut bytes = [0; 512];
@@ -24,7 +25,8 @@ fn bytes_of(words: &[u64; 64]) -> [u8; 512]
     bytes
 }
 
-fn words_of(bytes: &[u8; 512]) -> [u64; 64]
+/// The words of a block, and that they spell its bytes.
+pub fn words_of(bytes: &[u8; 512]) -> [u64; 64]
     ensures words { result ≡ block_words bytes.now }
     ensures back { flat_map (big_bytes 8) result ≡ bytes.now }
 {

@@ -8,9 +8,12 @@ use atomic_table::{Perch, Table};
 use std::alloc::Global;
 use std::snapshot::Snapshot;
 
+/// The table of a drive's frames.
+pub type FrameTable = Table<(), Known, Snapshot<Vec<u64>>, OneRule, Global>;
+
 #[derive(Drop)]
 pub struct Board {
-    pub table: Table<(), Known, Snapshot<Vec<u64>>, OneRule, Global>,
+    pub table: FrameTable,
     pub perches: Vec<Perch<(), Known>>,
     ghost sized: { IsSized table.shared.table_id },
     ghost rests: { All (λ r. (r.table_id ≡ table.shared.table_id) × (r.view ≡ nothing_known)) perches.items },

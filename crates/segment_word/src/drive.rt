@@ -3,7 +3,7 @@ ghost use Rattle.std.specs.Prelude.{◌≡◌, ◌≢◌, ℕ, ◌+◌, ◌*◌,
 ghost use Rattle.s4_types.specs.declared.refusals.Refusal.TheVariants.{InUse};
 ghost use Rattle.segment_word.specs.Frames.{Frame, code_of, is_sealed, is_emptied};
 ghost use Rattle.segment_word.specs.Frames.Phase.{Free, Open, Sealed, Emptied};
-ghost use Rattle.segment_word.specs.Layout.{frame_at, block_bytes, with_block};
+ghost use Rattle.segment_word.specs.Layout.{word_of, frame_at, block_bytes, with_block};
 ghost use Rattle.segment_word.specs.FrameRule.{AllRemembered};
 ghost use Rattle.segment_word.specs.Steps.{raised, IsStateOf};
 ghost use Rattle.segment_word.specs.Handles.{with_changed, with_released, HasMissed};
@@ -129,6 +129,16 @@ impl DriveSeat {
     {
         let words = &self.board.table.shared;
         look(words, &mut self.seat, FRAME_WORDS * frame)
+    }
+
+    /// The state word of a frame as it is saved: it counts no reader.
+    pub fn saved_state(&mut self, frame: usize) -> u64
+        requires { frame < length self.old.frames }
+        ensures word { result ≡ word_of (frame_at self.old.frames frame) 0 }
+        ensures same { self.new ≡ self.old }
+    {
+        let state = self.state(frame);
+        state - state % (1 << GENERATION_SHIFT) + state % ONE_READER
     }
 
     /// The generation of a frame. Only a free frame can have the last one, 2^32 - 1.

@@ -15,6 +15,12 @@ pub const ONE_READER: u64 = 4;
 /// Bits of a state word below its generation: two of the phase, and thirty that count readers.
 pub const GENERATION_SHIFT: u32 = 32;
 
+/// The phase of a free frame, as the two low bits of a state word tell it.
+pub const FREE: u64 = 0;
+
+/// The phase of an open frame, as the two low bits of a state word tell it.
+pub const OPEN: u64 = 1;
+
 /// The phase of a sealed frame, as the two low bits of a state word tell it.
 pub const SEALED: u64 = 2;
 

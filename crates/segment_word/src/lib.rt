@@ -11,6 +11,9 @@
 //! seat knew when the frame was pinned; it takes no memory, waits for nobody and always returns. Each call says exactly
 //! what it changes of what the drive's seat knows.
 //!
+//! `FrameWords` are the frames before there is a table: a drive that is opened from a saved image sets the state and the blocks
+//! of each, and `Frames::from_words` makes the drive's memory of them.
+//!
 //! A `Memory` is what a pin counted on, kept after the pin. It keeps nothing from being released; `recall` tells of each of
 //! its frames that while the frame is at the generation remembered, the drive's seat still knows the contents remembered.
 //!
@@ -26,6 +29,7 @@ pub mod accepts;
 mod blocks;
 mod board;
 mod drive;
+mod frame_words;
 mod layout;
 mod lending;
 mod memories;
@@ -37,6 +41,7 @@ mod steps;
 
 pub use accepts::naming::Naming;
 pub use drive::{DriveSeat, FrameToken};
+pub use frame_words::{FrameState, FrameWords};
 pub use memories::Memory;
 pub use pins::Pin;
 pub use pool::Frames;

@@ -1,21 +1,22 @@
 //! Making the table, and its seats for pins.
-ghost use Rattle.std.specs.Prelude.{◌≡◌, ℕ, ◌+◌, ◌*◌, ◌^◌, ◌<◌, ◌≤◌, ◌⊎◌, [], All, length, replicate, slice_index, IfOk, IfErr};
+ghost use Rattle.std.specs.Prelude.{◌≡◌, ◌*◌, ◌<◌, ◌⊎◌, [], All, length, replicate, IfOk, IfErr};
 ghost use Rattle.s4_types.specs.Sizes.{IsFrameCount};
 ghost use Rattle.s4_types.specs.declared.refusals.Refusal.TheVariants.{NoMemory, Busy};
 ghost use Rattle.segment_word.specs.Frames.{nothing_known, no_releases};
 ghost use Rattle.segment_word.specs.Steps.{IsSameSeat};
 ghost use Rattle.segment_word.specs.Handles.{IsDriveSeat, fresh_frame};
 
-use crate::board::Board;
+use crate::board::{Board, FrameTable};
 use crate::drive::DriveSeat;
-use crate::layout::{EMPTY, FIRST_STATE, FRAME_WORDS, RESTING};
+use crate::frame_words::FrameWords;
+use crate::layout::{EMPTY, RESTING};
 use crate::pins::Pin;
 use crate::rule::Known;
 use crate::steps::{Place, Words, hand};
 use atomic_table::{Perch, Table};
 use s4_types::Refusal;
 use s4_types::limits::SEATS;
-use std::alloc::{AllocError, Global};
+use std::alloc::Global;
 use std::marker::Model;
 use std::snapshot::Snapshot;
 use std::sync::Arc;
@@ -38,18 +39,17 @@ impl Model for Frames {
     ghost view = { λ f. (arc_value f.board).table.shared.table_id };
 }
 
-// The words of free frames at generation 1.
-fn blank_words(alloc: Global, count: usize) -> Result<Vec<u64>, AllocError>
-    requires { count ≤ 1024 }
-    ensures count { IfOk result (λ words. length words.items ≡ 1025 * count) }
-    ensures state { IfOk result (λ words. (f : ℕ) → f < count → slice_index words.items (1025 * f) ≡ 2 ^ 32) }
-    ensures zeros { IfOk result (λ words. (f j : ℕ) → j < 1024 → slice_index words.items (1025 * f + 1 + j) ≡ 0) }
+// The table of these words, and its first seat, which is the drive's. The words go once the table has its own.
+fn table_of(alloc: Global, words: FrameWords) -> Result<(FrameTable, Place), Refusal>
+    ensures words { IfOk result (λ t. t.0.shared.table_id.words ≡ 1025 * length words) }
+    ensures seat { IfOk result (λ t. (t.1.table_id ≡ t.0.shared.table_id) × (t.1.id ≡ 0)) }
+    ensures knows { IfOk result (λ t. t.1.me ≡ (record nothing_known { frames = words }, [])) }
+    ensures limits { IfOk result (λ t. IsFrameCount (length words)) }
+    ensures refusal { IfErr result (λ e. e ≡ NoMemory) }
 {
-    let mut words = vec![in alloc; 0u64; FRAME_WORDS * count]?;
-    for i in 0..count {
-        words[FRAME_WORDS * i] = FIRST_STATE;
-    }
-    Ok(words)
+    let spelled = words.words.as_slice();
+    let (table, seat) = Table::of_words(alloc, spelled, &Snapshot::of(&words.words))?;
+    Ok((table, seat))
 }
 
 // A perch for each seat that a pin may have, with a seat on it that is split off the drive's.
@@ -79,8 +79,17 @@ impl Frames {
         ensures frames { IfOk result (λ r. r.1 ≡ record { table = r.0; frames = replicate count fresh_frame; releases = no_releases }) }
         ensures refusal { IfErr result (λ e. (e ≡ NoMemory) ⊎ (e ≡ Busy)) }
     {
-        let words = blank_words(alloc, count)?;
-        let (table, mut seat) = Table::of_words(alloc, words.as_slice(), &Snapshot::of(&words))?;
+        Self::from_words(alloc, FrameWords::new(alloc, count)?)
+    }
+
+    /// The memory of a drive whose frames are these, and the drive's seat.
+    ///
+    /// NoMemory where memory was refused, Busy where the count of those that share it was full.
+    pub fn from_words(alloc: Global, words: FrameWords) -> Result<(Frames, DriveSeat), Refusal>
+        ensures frames { IfOk result (λ r. r.1 ≡ record { table = r.0; frames = words; releases = no_releases }) }
+        ensures refusal { IfErr result (λ e. (e ≡ NoMemory) ⊎ (e ≡ Busy)) }
+    {
+        let (table, mut seat) = table_of(alloc, words)?;
         let perches = perches(alloc, &table.shared, &mut seat)?;
         let board = Arc::new(alloc, Board { table, perches })?;
         let Ok(shared) = Arc::try_clone(&board) else {
