@@ -1,13 +1,27 @@
 //! Laws of the objects of an image, for the layers above: each function does nothing, and its contract is the law.
-ghost use Rattle.std.specs.Prelude.{◌≡◌, ℕ, ◌+◌, ◌^◌, ◌<◌, ◌≤◌, List, length, Option};
+ghost use Rattle.std.specs.Prelude.{◌≡◌, ◌↔◌, ℕ, List, Option, Some};
+ghost use Rattle.std.specs.List.{Contains};
 ghost use Rattle.s4_types.specs.Pointer.{Place};
-ghost use Rattle.block_log.specs.Log.{Log, Stored};
-ghost use Rattle.time_read.specs.Rows.{entries_of, first_of, inode_of};
-ghost use Rattle.version_store.specs.Store.{IsStore};
+ghost use Rattle.block_log.specs.Log.{Stored, of_kind};
+ghost use Rattle.block_log.specs.declared.kinds.BlockKind.TheVariants.{Journal, Checkpoint, Data};
 ghost use Rattle.image_chains.specs.declared.rows.ImageRow.{ImageRow};
-ghost use Rattle.image_chains.specs.Chains.{entries_used};
-ghost use Rattle.image_chains.specs.Inodes.{first_used};
-ghost use Rattle.image_chains.specs.History.{kept_row, present_used};
-ghost use Rattle.image_objects.specs.Objects.{inode_used};
+ghost use Rattle.image_chains.specs.Chains.{chain_view};
+ghost use Rattle.image_chains.specs.History.{checkpoint_view};
+ghost use Rattle.image_objects.specs.Objects.{pointers_used};
 ghost use Rattle.image_objects.specs.Naming.{HoldsWhatIsNamed};
-ghost use Rattle.image_objects.specs.Rows.{RowsAscend, RowsStand, kept_rows};
+ghost use Rattle.image_objects.specs.Rows.{RowsAscend};
+
+use block_log::laws::one_place_has_one_name;
+
+/// Where just what rows name is held, an object that has one of the rows has of its journal the blocks of that row's chain, of
+/// its checkpoints the one that the row names, and of its data what a pointer that the row leads to is: each as it is used.
+pub fn what_is_named_is_held_of_each()
+    ensures journal { (used held : Place → Option Stored) (rows : List ImageRow) (clock : ℕ) (row : ImageRow) → RowsAscend clock 0 0 rows → HoldsWhatIsNamed used held rows → Contains rows row
+        → (p : Place) → of_kind Journal row.object held p ≡ chain_view used row p }
+    ensures checkpoint { (used held : Place → Option Stored) (rows : List ImageRow) (clock : ℕ) (row : ImageRow) → RowsAscend clock 0 0 rows → HoldsWhatIsNamed used held rows → Contains rows row
+        → (p : Place) → of_kind Checkpoint row.object held p ≡ checkpoint_view used row p }
+    ensures data { (used held : Place → Option Stored) (rows : List ImageRow) (clock : ℕ) (row : ImageRow) → RowsAscend clock 0 0 rows → HoldsWhatIsNamed used held rows → Contains rows row
+        → (p : Place) (bytes : List ℕ) → (of_kind Data row.object held p ≡ Some bytes) ↔ ((of_kind Data row.object used p ≡ Some bytes) × Contains (pointers_used used row) (Some p)) }
+{
+    one_place_has_one_name();
+}
