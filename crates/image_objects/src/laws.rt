@@ -1,15 +1,17 @@
 //! Laws of the objects of an image, for the layers above: each function does nothing, and its contract is the law.
-ghost use Rattle.std.specs.Prelude.{◌≡◌, ◌↔◌, ℕ, List, Option, Some};
-ghost use Rattle.std.specs.List.{Contains};
+ghost use Rattle.std.specs.Prelude.{◌≡◌, ◌↔◌, ℕ, ◌<◌, ◌≤◌, List, Option, Some, None};
+ghost use Rattle.std.specs.List.{AllByRecursion, Contains};
 ghost use Rattle.s4_types.specs.Pointer.{Place};
 ghost use Rattle.block_log.specs.Log.{Stored, of_kind};
 ghost use Rattle.block_log.specs.declared.kinds.BlockKind.TheVariants.{Journal, Checkpoint, Data};
+ghost use Rattle.object_map.specs.declared.map.Row.{Row};
+ghost use Rattle.object_map.specs.Rows.{row_of};
 ghost use Rattle.image_chains.specs.declared.rows.ImageRow.{ImageRow};
 ghost use Rattle.image_chains.specs.Chains.{chain_view};
-ghost use Rattle.image_chains.specs.History.{checkpoint_view};
+ghost use Rattle.image_chains.specs.History.{checkpoint_view, kept_row};
 ghost use Rattle.image_objects.specs.Objects.{pointers_used};
 ghost use Rattle.image_objects.specs.Naming.{HoldsWhatIsNamed};
-ghost use Rattle.image_objects.specs.Rows.{RowsAscend};
+ghost use Rattle.image_objects.specs.Rows.{RowsAscend, kept_rows};
 
 use block_log::laws::one_place_has_one_name;
 
@@ -25,3 +27,13 @@ pub fn what_is_named_is_held_of_each()
 {
     one_place_has_one_name();
 }
+
+/// The rows that a drive keeps of an image's are found by their objects: each row of the image, and no other; so none of an object
+/// above all of them.
+pub fn kept_rows_are_listed()
+    ensures listed { (used : Place → Option Stored) (rows : List ImageRow) (clock : ℕ) (row : ImageRow) → RowsAscend clock 0 0 rows → Contains rows row → row_of (kept_rows used rows) row.object ≡ Some (kept_row used row 0) }
+    ensures only { (used : Place → Option Stored) (rows : List ImageRow) (o : ℕ) (found : Row) → row_of (kept_rows used rows) o ≡ Some found
+        → (row : ImageRow) × Contains rows row × (row.object ≡ o) × (found ≡ kept_row used row 0) }
+    ensures none { (used : Place → Option Stored) (rows : List ImageRow) (o : ℕ) → ((row : ImageRow) → Contains rows row → row.object ≡ o → ⊥) → row_of (kept_rows used rows) o ≡ None }
+    ensures above { (used : Place → Option Stored) (rows : List ImageRow) (next o : ℕ) → AllByRecursion (λ row. row.object < next) rows → next ≤ o → row_of (kept_rows used rows) o ≡ None }
+{}
