@@ -1,3 +1,5 @@
 mod Kept
 mod Listed
 mod Named
+mod Pointing
+mod Standing

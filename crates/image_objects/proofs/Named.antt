@@ -105,7 +105,7 @@ journal_held used held rows clock row ascend holds there p =
       | inr ne ↦ absurd (none-some x (sym (cond-false (ltb 0 count) here None ne) ∙ h))
     ])
 
-place_itself : (p : Place) → same_place p p ≡ true
+pub place_itself : (p : Place) → same_place p p ≡ true
 place_itself p =
     and_from (p.frame == p.frame) (p.block == p.block && p.generation == p.generation) (eq-eqb p.frame p.frame refl)
     (and_from (p.block == p.block) (p.generation == p.generation) (eq-eqb p.block p.block refl) (eq-eqb p.generation p.generation refl))

@@ -11,9 +11,16 @@ ghost use Rattle.image_chains.specs.Chains.{chain_view};
 ghost use Rattle.image_chains.specs.History.{checkpoint_view, kept_row};
 ghost use Rattle.image_objects.specs.Objects.{pointers_used};
 ghost use Rattle.image_objects.specs.Naming.{HoldsWhatIsNamed};
-ghost use Rattle.image_objects.specs.Rows.{RowsAscend, kept_rows};
+ghost use Rattle.image_objects.specs.Rows.{RowsAscend, RowsStand, kept_rows};
+ghost use Rattle.image_objects.specs.Laws.{IsHeldAsUsed, InodesUsedPointToWhatRowsLeadTo};
 
 use block_log::laws::one_place_has_one_name;
+use image_chains::laws::{a_chain_that_stands_is_held, a_history_that_stands_is_a_row};
+use inode::laws::only_its_blocks_matter;
+use journal_chain::laws::a_chain_has_its_entries;
+use row_changes::laws::an_orderly_row_is_by_its_moment;
+use time_read::laws::the_last_inode_is_current;
+use version_store::laws::inodes_point_to_what_rows_name;
 
 /// Where just what rows name is held, an object that has one of the rows has of its journal the blocks of that row's chain, of
 /// its checkpoints the one that the row names, and of its data what a pointer that the row leads to is: each as it is used.
@@ -37,3 +44,25 @@ pub fn kept_rows_are_listed()
     ensures none { (used : Place → Option Stored) (rows : List ImageRow) (o : ℕ) → ((row : ImageRow) → Contains rows row → row.object ≡ o → ⊥) → row_of (kept_rows used rows) o ≡ None }
     ensures above { (used : Place → Option Stored) (rows : List ImageRow) (next o : ℕ) → AllByRecursion (λ row. row.object < next) rows → next ≤ o → row_of (kept_rows used rows) o ≡ None }
 {}
+
+/// Each data block that an inode of an image's row points to, at whatever moment, is one that the row leads to.
+pub fn inodes_used_point_to_what_rows_lead_to()
+    ensures { InodesUsedPointToWhatRowsLeadTo }
+{
+    inodes_point_to_what_rows_name();
+}
+
+/// Where all rows of an image stand and just what they name is held, each of their objects is held as it stands in the image.
+pub fn an_object_that_stands_is_held()
+    ensures { (used held : Place → Option Stored) (rows : List ImageRow) (row : ImageRow) (clock stamp : ℕ) → RowsAscend clock 0 0 rows → RowsStand used rows clock → HoldsWhatIsNamed used held rows → Contains rows row
+        → IsHeldAsUsed used held row clock stamp }
+{
+    one_place_has_one_name();
+    a_chain_that_stands_is_held();
+    a_chain_has_its_entries();
+    a_history_that_stands_is_a_row();
+    an_orderly_row_is_by_its_moment();
+    the_last_inode_is_current();
+    only_its_blocks_matter();
+    inodes_used_point_to_what_rows_lead_to();
+}
