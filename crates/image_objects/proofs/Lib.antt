@@ -3,3 +3,4 @@ mod Listed
 mod Named
 mod Pointing
 mod Standing
+mod Storing

@@ -1,11 +1,12 @@
 //! Laws of the objects of an image, for the layers above: each function does nothing, and its contract is the law.
-ghost use Rattle.std.specs.Prelude.{◌≡◌, ◌↔◌, ℕ, ◌<◌, ◌≤◌, List, Option, Some, None};
+ghost use Rattle.std.specs.Prelude.{◌≡◌, ◌↔◌, ℕ, ◌+◌, ◌^◌, ◌<◌, ◌≤◌, List, length, Option, Some, None};
 ghost use Rattle.std.specs.List.{AllByRecursion, Contains};
 ghost use Rattle.s4_types.specs.Pointer.{Place};
-ghost use Rattle.block_log.specs.Log.{Stored, of_kind};
+ghost use Rattle.block_log.specs.Log.{Log, Stored, of_kind};
 ghost use Rattle.block_log.specs.declared.kinds.BlockKind.TheVariants.{Journal, Checkpoint, Data};
 ghost use Rattle.object_map.specs.declared.map.Row.{Row};
 ghost use Rattle.object_map.specs.Rows.{row_of};
+ghost use Rattle.version_store.specs.Store.{IsStore};
 ghost use Rattle.image_chains.specs.declared.rows.ImageRow.{ImageRow};
 ghost use Rattle.image_chains.specs.Chains.{chain_view};
 ghost use Rattle.image_chains.specs.History.{checkpoint_view, kept_row};
@@ -65,4 +66,13 @@ pub fn an_object_that_stands_is_held()
     the_last_inode_is_current();
     only_its_blocks_matter();
     inodes_used_point_to_what_rows_lead_to();
+}
+
+/// Where all rows of an image stand and just what they name is held, they make a store of a drive, whose last change was at the
+/// clock: of places that are fewer than 2^46, counted with those ahead.
+pub fn rows_that_stand_make_a_store()
+    ensures { (used held : Place → Option Stored) (rows : List ImageRow) (clock : ℕ) (log : Log) → RowsAscend clock 0 0 rows → RowsStand used rows clock → HoldsWhatIsNamed used held rows
+        → log.held ≡ held → log.spent + length log.ahead < 2 ^ 46 → IsStore (record { rows = kept_rows used rows; log = log; latest = clock }) }
+{
+    an_object_that_stands_is_held();
 }
