@@ -1,6 +1,8 @@
 mod Kept
 mod Listed
+mod Moments
 mod Named
 mod Pointing
+mod Sorted
 mod Standing
 mod Storing

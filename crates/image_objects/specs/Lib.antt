@@ -2,3 +2,4 @@ pub mod Objects
 pub mod Naming
 pub mod Rows
 pub mod Laws
+pub mod Moments

@@ -1,18 +1,22 @@
 //! Laws of the objects of an image, for the layers above: each function does nothing, and its contract is the law.
-ghost use Rattle.std.specs.Prelude.{◌≡◌, ◌↔◌, ℕ, ◌+◌, ◌^◌, ◌<◌, ◌≤◌, List, length, Option, Some, None};
+ghost use Rattle.std.specs.Prelude.{◌≡◌, ◌↔◌, ℕ, ◌+◌, ◌^◌, ◌<◌, ◌≤◌, true, List, length, slice_index, Option, Some, None};
 ghost use Rattle.std.specs.List.{AllByRecursion, Contains};
+ghost use Rattle.std.specs.List.Sorted.{IsPermutation, IsSorted};
+ghost use Rattle.std.specs.Ordering.{nat_cmp};
 ghost use Rattle.s4_types.specs.Pointer.{Place};
 ghost use Rattle.block_log.specs.Log.{Log, Stored, of_kind};
 ghost use Rattle.block_log.specs.declared.kinds.BlockKind.TheVariants.{Journal, Checkpoint, Data};
+ghost use Rattle.undo_redo.specs.Groups.{grouped};
 ghost use Rattle.object_map.specs.declared.map.Row.{Row};
 ghost use Rattle.object_map.specs.Rows.{row_of};
 ghost use Rattle.version_store.specs.Store.{IsStore};
 ghost use Rattle.image_chains.specs.declared.rows.ImageRow.{ImageRow};
-ghost use Rattle.image_chains.specs.Chains.{chain_view};
+ghost use Rattle.image_chains.specs.Chains.{chain_view, entries_used};
 ghost use Rattle.image_chains.specs.History.{checkpoint_view, kept_row};
 ghost use Rattle.image_objects.specs.Objects.{pointers_used};
 ghost use Rattle.image_objects.specs.Naming.{HoldsWhatIsNamed};
-ghost use Rattle.image_objects.specs.Rows.{RowsAscend, RowsStand, kept_rows};
+ghost use Rattle.image_objects.specs.Rows.{RowsAscend, RowsShareNoMoment, RowsStand, kept_rows};
+ghost use Rattle.image_objects.specs.Moments.{moments_used, StandOnce};
 ghost use Rattle.image_objects.specs.Laws.{IsHeldAsUsed, InodesUsedPointToWhatRowsLeadTo};
 
 use block_log::laws::one_place_has_one_name;
@@ -21,6 +25,7 @@ use inode::laws::only_its_blocks_matter;
 use journal_chain::laws::a_chain_has_its_entries;
 use row_changes::laws::an_orderly_row_is_by_its_moment;
 use time_read::laws::the_last_inode_is_current;
+use undo_redo::laws::groups_join_and_part;
 use version_store::laws::inodes_point_to_what_rows_name;
 
 /// Where just what rows name is held, an object that has one of the rows has of its journal the blocks of that row's chain, of
@@ -76,3 +81,19 @@ pub fn rows_that_stand_make_a_store()
 {
     an_object_that_stands_is_held();
 }
+
+/// Where the moments of all chains, those of each chain told once, have no number twice, no moment stands in the chains of two
+/// rows; and the other way round where the entries of each chain are grouped, as those of rows that stand are.
+pub fn moments_told_once_are_not_shared()
+    ensures apart { (used : Place → Option Stored) (rows : List ImageRow) → StandOnce (moments_used used rows) → RowsShareNoMoment used rows }
+    ensures once { (used : Place → Option Stored) (rows : List ImageRow) → AllByRecursion (λ row. grouped (entries_used used row) ≡ true) rows → RowsShareNoMoment used rows → StandOnce (moments_used used rows) }
+    ensures standing { (used : Place → Option Stored) (rows : List ImageRow) (clock : ℕ) → RowsStand used rows clock → StandOnce (moments_used used rows) }
+{
+    groups_join_and_part();
+}
+
+/// No number stands in a list twice exactly where no two neighbours are equal once it is sorted.
+pub fn neighbours_tell_what_stands_twice()
+    ensures { (numbers sorted : List ℕ) → IsPermutation numbers sorted → IsSorted nat_cmp sorted
+        → StandOnce numbers ↔ ((k : ℕ) → k + 1 < length sorted → slice_index sorted k ≡ slice_index sorted (k + 1) → ⊥) }
+{}
