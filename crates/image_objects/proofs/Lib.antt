@@ -6,3 +6,4 @@ mod Pointing
 mod Sorted
 mod Standing
 mod Storing
+mod Telling
