@@ -30,8 +30,8 @@ use time_read::laws::the_last_inode_is_current;
 use undo_redo::laws::groups_join_and_part;
 use version_store::laws::inodes_point_to_what_rows_name;
 
-/// Where just what rows name is held, an object that has one of the rows has of its journal the blocks of that row's chain, of
-/// its checkpoints the one that the row names, and of its data what a pointer that the row leads to is: each as it is used.
+/// Where just what rows name is held, these blocks are held of an object that has one of the rows, each as it is used: of its
+/// journal those of the row's chain, of its checkpoints the one that the row names, and of its data those that the row leads to.
 pub fn what_is_named_is_held_of_each()
     ensures journal { (used held : Place → Option Stored) (rows : List ImageRow) (clock : ℕ) (row : ImageRow) → RowsAscend clock 0 0 rows → HoldsWhatIsNamed used held rows → Contains rows row
         → (p : Place) → of_kind Journal row.object held p ≡ chain_view used row p }
