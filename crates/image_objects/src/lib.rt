@@ -8,6 +8,7 @@
 pub mod laws;
 mod objects;
 mod pointers;
+pub mod saving_laws;
 mod tidiness;
 
 pub use objects::read_object;
