@@ -1,5 +1,6 @@
 //! What a drive holds, for the layers above it.
 ghost use Rattle.std.specs.Prelude.{◌≡◌, ℕ, ◌<◌, ◌≤◌, length, None, MatchBool, IfSome, IfNone, IfOk, IfErr};
+ghost use Rattle.s4_types.specs.Sizes.{IsFrameCount};
 ghost use Rattle.s4_types.specs.declared.refusals.Refusal.TheVariants.{NoMemory};
 ghost use Rattle.std.specs.List.{AllByRecursion};
 ghost use Rattle.s4_types.specs.declared.limits.TheConstants.{RUNS_IN_ALL};
@@ -12,11 +13,13 @@ ghost use Rattle.object_map.specs.Objects.{IsNextAbove};
 ghost use Rattle.object_map.specs.Rows.{row_of};
 ghost use Rattle.segment_table.specs.Room.{pointers_in};
 ghost use Rattle.segment_table.specs.Table.{HoldsWholeBlocks};
+ghost use Rattle.segment_table.specs.Used.{HoldsUsedBlocks};
 ghost use Rattle.version_store.specs.Store.{IsStore};
 ghost use Rattle.version_store.specs.Costs.{room};
 ghost use Rattle.version_store.specs.Versions.{entries_of_object, inode_in};
 ghost use Rattle.drive.specs.Fields.{history_of, state_in, store_of};
 ghost use Rattle.drive.specs.Keeping.{DecodesWhereVisible};
+ghost use Rattle.drive.specs.Opened.{NoneFrom};
 
 use crate::drive::Drive;
 use codec::{Entry, Inode};
@@ -27,8 +30,8 @@ use segment_word::Naming;
 impl<J: Naming> Drive<J> {
     /// Shows what always holds of a drive: at each moment that can be read, the blocks of each object decode to exactly the
     /// version that the history tells; that history begins with the drive's base and is sound; the frames are those
-    /// of the table that `J` names; the objects stand on their blocks, and none was changed later than the clock; and each
-    /// block that is held has 512 bytes.
+    /// of the table that `J` names, 8 to 1,024; the objects stand on their blocks, none was changed later than the clock, and
+    /// none has a row whose number wasn't given; and each block that is held has 512 bytes and is used.
     pub fn rules(&self)
         ensures decodes { DecodesWhereVisible (store_of self.now) (state_in self.now) }
         ensures base { (history_of self.now).base ≡ J.base }
@@ -37,6 +40,9 @@ impl<J: Naming> Drive<J> {
         ensures store { IsStore (store_of self.now) }
         ensures past { (store_of self.now).latest ≤ (state_in self.now).clock }
         ensures whole { HoldsWholeBlocks self.now.store.table }
+        ensures used { HoldsUsedBlocks self.now.store.table }
+        ensures count { IsFrameCount (length self.now.store.table.drive.frames) }
+        ensures unborn { NoneFrom (state_in self.now).next (store_of self.now) }
     {
         let _ = &self.next;
         self.store.rules();
