@@ -1,22 +1,18 @@
 -- What is read of an image's rows, one behind the other.
-use Rattle.std.specs.Prelude.{◌≡◌, ℕ, List, [], ◌∷◌, Option}
-use Rattle.std.specs.List.{AllByRecursion, flat_map}
+use Rattle.std.specs.Prelude.{◌≡◌, List, [], ◌∷◌, Option}
 use Rattle.s4_types.specs.Pointer.{Place}
 use Rattle.block_log.specs.Log.{Stored}
-use Rattle.segment_table.specs.Table.{Table, held_at}
-use Rattle.segment_table.specs.Used.{used_at}
 use Rattle.version_store.specs.Opening.{OpenedFields, IndexesEntries}
 use Rattle.image_chains.specs.declared.rows.ImageRow.{ImageRow}
 use Rattle.image_chains.specs.Chains.{entries_used}
 use Rattle.image_chains.specs.History.{kept_row, present_used}
-use Rattle.image_objects.specs.Naming.{HoldsWhatIsNamed}
 
 -- what a drive keeps of a row of an image
-pub record IsKept (used : Place → Option Stored) (row : ImageRow) (kept : OpenedFields) : Type 0 where
-  pub object : kept.object ≡ row.object
-  pub row : kept.row ≡ kept_row used row 0
-  pub inode : kept.inode ≡ present_used used row
-  pub entries : IndexesEntries kept (entries_used used row)
+pub record IsKept (used : Place → Option Stored) (saved : ImageRow) (kept : OpenedFields) : Type 0 where
+  pub object : kept.object ≡ saved.object
+  pub row : kept.row ≡ kept_row used saved 0
+  pub inode : kept.inode ≡ present_used used saved
+  pub entries : IndexesEntries kept (entries_used used saved)
 
 -- the same of all rows, in their order
 abbrev pub AreKept : (Place → Option Stored) → List ImageRow → List OpenedFields → Type 0

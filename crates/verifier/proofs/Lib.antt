@@ -1,0 +1,7 @@
+mod Lists
+mod Slots
+mod ListedRows
+mod SavedRows
+mod SavedSpans
+mod FewRows
+mod SavedWhole
