@@ -153,20 +153,28 @@ pub record SpansShown (d : DriveFields) (spans : List Span) : Type 0 where
   pub few : length spans ≤ RUNS_IN_ALL
   pub few_in_each_list : AreFewInEachList spans
 
--- the header that is written
+-- the header that is written, by the numbers of rows and of spans
 pub record HeaderShown (d : DriveFields) (rows spans : ℕ) (h : Header) : Type 0 where
-  pub is : h ≡ record {
-    frames = length d.store.table.drive.frames;
-    clock = (state_in d).clock;
-    window = (state_in d).window;
-    floor = (state_in d).floor;
-    next = (state_in d).next;
-    rows = rows;
-    spans = spans;
-  }
-  pub clock : (state_in d).clock < 2 ^ 64
-  pub window : (state_in d).window < 2 ^ 64
-  pub next : (state_in d).next < 2 ^ 64
+  pub frames : h.frames ≡ length d.store.table.drive.frames
+  pub clock : h.clock ≡ (state_in d).clock
+  pub window : h.window ≡ (state_in d).window
+  pub floor : h.floor ≡ (state_in d).floor
+  pub next : h.next ≡ (state_in d).next
+  pub row_count : h.rows ≡ rows
+  pub span_count : h.spans ≡ spans
+  pub clock_fits : (state_in d).clock < 2 ^ 64
+  pub window_fits : (state_in d).window < 2 ^ 64
+  pub next_fits : (state_in d).next < 2 ^ 64
+
+same_header : (h k : Header) → h.frames ≡ k.frames → h.clock ≡ k.clock → h.window ≡ k.window → h.floor ≡ k.floor → h.next ≡ k.next → h.rows ≡ k.rows → h.spans ≡ k.spans → h ≡ k
+same_header h k frames clock window floor next rows spans =
+    ap (λ n. record { frames = n; clock = h.clock; window = h.window; floor = h.floor; next = h.next; rows = h.rows; spans = h.spans }) frames
+    ∙ ap (λ n. record { frames = k.frames; clock = n; window = h.window; floor = h.floor; next = h.next; rows = h.rows; spans = h.spans }) clock
+    ∙ ap (λ n. record { frames = k.frames; clock = k.clock; window = n; floor = h.floor; next = h.next; rows = h.rows; spans = h.spans }) window
+    ∙ ap (λ n. record { frames = k.frames; clock = k.clock; window = k.window; floor = n; next = h.next; rows = h.rows; spans = h.spans }) floor
+    ∙ ap (λ n. record { frames = k.frames; clock = k.clock; window = k.window; floor = k.floor; next = n; rows = h.rows; spans = h.spans }) next
+    ∙ ap (λ n. record { frames = k.frames; clock = k.clock; window = k.window; floor = k.floor; next = k.next; rows = n; spans = h.spans }) rows
+    ∙ ap (λ n. record { frames = k.frames; clock = k.clock; window = k.window; floor = k.floor; next = k.next; rows = k.rows; spans = n }) spans
 
 -- a store's rows ascend and stand as an image's
 abbrev pub Stand : Type 0
@@ -195,7 +203,7 @@ saves d rows spans h after out stand ascending shown saved seen head adds parts 
     let t : Table = d.store.table in
     let image : Image = record { clock = s.clock; window = s.window; floor = s.floor; next = s.next; frames = adds.frames; rows = rows; spans = spans } in
     let frames : length t.drive.frames ≡ length adds.frames = adds.table.frame_count in
-    let same : h ≡ header_of image = head.is ∙ ap (λ n. record { frames = n; clock = s.clock; window = s.window; floor = s.floor; next = s.next; rows = length rows; spans = length spans }) frames in
+    let same : h ≡ header_of image = same_header h (header_of image) (head.frames ∙ frames) head.clock head.window head.floor head.next head.row_count head.span_count in
     let listed : StoreFields = record { rows = saved.rows; log = log_of t; latest = d.store.latest } in
     let store : IsStore listed = listed_store (store_of d) saved.rows shown.store saved.listed in
     let few : length rows ≤ 2 ^ 20 = few_parts d rows shown.store saved in
@@ -212,12 +220,12 @@ saves d rows spans h after out stand ascending shown saved seen head adds parts 
       spelled = record {
         parts = record {
           is = record {
-            clock = head.clock;
-            window = head.window;
-            next = head.next;
+            clock = head.clock_fits;
+            window = head.window_fits;
+            next = head.next_fits;
             frames = adds.is;
             rows = saved.is;
-            spans = are_spans s.clock s.next spans head.clock head.next seen.ordered seen.past seen.given;
+            spans = are_spans s.clock s.next spans head.clock_fits head.next_fits seen.ordered seen.past seen.given;
             row_count = omega arith;
           };
           rules = record {

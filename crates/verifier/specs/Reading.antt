@@ -1,11 +1,15 @@
 -- What is read of an image's rows, one behind the other.
-use Rattle.std.specs.Prelude.{◌≡◌, List, [], ◌∷◌, Option}
+use Rattle.std.specs.Prelude.{◌≡◌, ℕ, List, [], ◌∷◌, Option}
+use Rattle.std.specs.List.{AllByRecursion, flat_map}
 use Rattle.s4_types.specs.Pointer.{Place}
 use Rattle.block_log.specs.Log.{Stored}
+use Rattle.segment_table.specs.Table.{Table, held_at}
+use Rattle.segment_table.specs.Used.{used_at}
 use Rattle.version_store.specs.Opening.{OpenedFields, IndexesEntries}
 use Rattle.image_chains.specs.declared.rows.ImageRow.{ImageRow}
 use Rattle.image_chains.specs.Chains.{entries_used}
 use Rattle.image_chains.specs.History.{kept_row, present_used}
+use Rattle.image_objects.specs.Naming.{HoldsWhatIsNamed}
 
 -- what a drive keeps of a row of an image
 pub record IsKept (used : Place → Option Stored) (saved : ImageRow) (kept : OpenedFields) : Type 0 where
