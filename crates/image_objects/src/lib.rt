@@ -7,5 +7,8 @@
 
 pub mod laws;
 mod objects;
+mod pointers;
+pub mod saving_laws;
+mod tidiness;
 
 pub use objects::read_object;
