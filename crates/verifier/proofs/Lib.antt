@@ -5,3 +5,4 @@ mod SavedRows
 mod SavedSpans
 mod FewRows
 mod SavedWhole
+pub mod SavedFrames

@@ -3,5 +3,6 @@ pub mod Rows
 pub mod Grammar
 pub mod Reading
 pub mod Images
+pub mod SavedFrame
 pub mod Saved
 pub mod SavedRows

@@ -12,11 +12,11 @@
 // mod objects;
 // mod opening;
 // mod rows;
+mod saved_frames;
+mod saved_rows;
 // mod tables;
 // mod verifying;
 
 // pub use images::Image;
 // pub use opening::open;
 // pub use verifying::verify;
-
-mod saved_rows;
