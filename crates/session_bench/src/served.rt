@@ -19,7 +19,7 @@ use std::time::{Clock, Duration, Instant};
 const SMALL: usize = 64;
 
 /// Reads in a round, behind its Write.
-const READS_A_ROUND: usize = 19;
+const READS_A_ROUND: usize = 99;
 
 /// How many rounds an object is asked. Its journal has space for their Writes.
 const ROUNDS: usize = 200;
