@@ -1,3 +1,4 @@
 pub mod Objects
 pub mod Naming
 pub mod Rows
+pub mod private
