@@ -1,3 +1,5 @@
 pub mod Parts
 pub mod Moments
 pub mod Sizes
+pub mod Walk
+pub mod Named
