@@ -11,3 +11,4 @@ mod Pointing
 mod Sorted
 mod Standing
 mod Storing
+mod Telling
