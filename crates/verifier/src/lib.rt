@@ -6,15 +6,15 @@
 #![tactic(auto)]
 
 mod blocks;
-mod images;
-pub mod laws;
+// mod images;
+// pub mod laws;
 mod moments;
 mod objects;
-mod opening;
+// mod opening;
 mod rows;
-mod tables;
-mod verifying;
+// mod tables;
+// mod verifying;
 
-pub use images::Image;
-pub use opening::open;
-pub use verifying::verify;
+// pub use images::Image;
+// pub use opening::open;
+// pub use verifying::verify;

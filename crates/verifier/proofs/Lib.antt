@@ -1,0 +1,3 @@
+mod AllRows
+mod Holding
+mod Telling
