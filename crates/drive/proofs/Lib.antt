@@ -10,3 +10,6 @@ pub mod Storing
 pub mod Served
 pub mod Parts
 pub mod Leading
+pub mod Dating
+pub mod Opening
+pub mod Ordered

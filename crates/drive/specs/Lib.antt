@@ -1,4 +1,5 @@
 pub mod Fields
 pub mod Keeping
 pub mod Refusing
+pub mod Opened
 pub mod Answering

@@ -1,8 +1,13 @@
 //! What a drive holds, for the layers above it.
-ghost use Rattle.std.specs.Prelude.{◌≡◌, ℕ, ◌<◌, ◌≤◌, None, MatchBool, IfSome, IfNone, IfOk, IfErr};
+ghost use Rattle.std.specs.Prelude.{◌≡◌, ℕ, ◌<◌, ◌≤◌, length, None, MatchBool, IfSome, IfNone, IfOk, IfErr};
 ghost use Rattle.s4_types.specs.declared.refusals.Refusal.TheVariants.{NoMemory};
-ghost use Rattle.s4_model.specs.Visible.{IsSeenBetween};
-ghost use Rattle.s4_model.specs.Sound.{IsSound};
+ghost use Rattle.std.specs.List.{AllByRecursion};
+ghost use Rattle.s4_types.specs.declared.limits.TheConstants.{RUNS_IN_ALL};
+ghost use Rattle.s4_model.specs.Visible.{IsSeenBetween, spans_of};
+ghost use Rattle.s4_model.specs.Sound.{IsSound, IsOfGiven};
+ghost use Rattle.window.specs.Chunks.{AllNumbered};
+ghost use Rattle.window.specs.Runs.{Ascend, AllBeginFrom, AllEndBefore, AreFewInEachList};
+ghost use Rattle.window.specs.Timeline.{CoverAlike};
 ghost use Rattle.object_map.specs.Objects.{IsNextAbove};
 ghost use Rattle.object_map.specs.Rows.{row_of};
 ghost use Rattle.segment_table.specs.Room.{pointers_in};
@@ -16,7 +21,7 @@ ghost use Rattle.drive.specs.Keeping.{DecodesWhereVisible};
 use crate::drive::Drive;
 use codec::{Entry, Inode};
 use object_map::Row;
-use s4_types::{Moment, ObjectId, Ptr, Refusal};
+use s4_types::{Moment, ObjectId, Ptr, Refusal, Span};
 use segment_word::Naming;
 
 impl<J: Naming> Drive<J> {
@@ -44,6 +49,27 @@ impl<J: Naming> Drive<J> {
         self.window.clock()
     }
 
+    /// How many moments history reaches back from the clock.
+    pub fn window(&self) -> u64
+        ensures { result ≡ (state_in self.now).window }
+    {
+        self.window.window()
+    }
+
+    /// The floor: moments below it are lost.
+    pub fn floor(&self) -> Moment
+        ensures { result ≡ (state_in self.now).floor }
+    {
+        self.window.floor()
+    }
+
+    /// The number that the next object gets.
+    pub fn next(&self) -> ObjectId
+        ensures { result ≡ (state_in self.now).next }
+    {
+        self.next
+    }
+
     /// How many blocks changes of objects may still append: the reserve of 60 is not theirs.
     pub fn room(&self) -> usize
         ensures { result ≡ room (store_of self.now) }
@@ -64,6 +90,24 @@ impl<J: Naming> Drive<J> {
         ensures none { IfNone result ((q : ℕ) → object < q → row_of self.now.store.rows q ≡ None) }
     {
         self.store.next_row(object)
+    }
+
+    /// The hidden moments that are saved, as runs: those of all objects under number 0, then those of each object, by number and
+    /// first moment. They hide from the floor on what the history's spans do.
+    ///
+    /// NoMemory alone, where the memory for them is refused.
+    pub fn spans(&self) -> Result<Vec<Span>, Refusal>
+        ensures alike { IfOk result (λ spans. CoverAlike (state_in self.now).floor spans.items (spans_of (state_in self.now))) }
+        ensures ordered { IfOk result (λ spans. Ascend spans.items) }
+        ensures from_floor { IfOk result (λ spans. AllBeginFrom (state_in self.now).floor spans.items) }
+        ensures past { IfOk result (λ spans. AllEndBefore (state_in self.now).clock spans.items) }
+        ensures given { IfOk result (λ spans. AllByRecursion (IsOfGiven (state_in self.now).next) spans.items) }
+        ensures numbered { IfOk result (λ spans. AllNumbered spans.items) }
+        ensures few { IfOk result (λ spans. length spans.items ≤ RUNS_IN_ALL) }
+        ensures few_in_each_list { IfOk result (λ spans. AreFewInEachList spans.items) }
+        ensures refusal { IfErr result (λ e. e ≡ NoMemory) }
+    {
+        self.window.spans(self.alloc)
     }
 
     /// Whether some moment of an object, of those from `first` to `last`, can be read.

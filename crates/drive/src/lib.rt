@@ -6,6 +6,9 @@
 //! so, and what is refused leaves objects, window and spans. After each call a session has seen all accepted changes, and only
 //! an accepted one of its own adds to its numbers.
 //!
+//! A drive is new, or it is opened over objects that are there already: then its history begins with a base that is what they
+//! stand for, each version from the moment at which it came.
+//!
 //! Frames are marked and released, an object's row removed and its journal replaced, where every version that can be read
 //! stays; and it stays whatever they answer.
 //!
@@ -22,7 +25,9 @@ mod changes;
 mod drive;
 mod flushes;
 mod holdings;
+pub mod laws;
 mod new_drive;
+mod opened_drive;
 mod pins;
 mod plans;
 mod reads;
@@ -34,4 +39,5 @@ mod upkeep;
 
 pub use drive::Drive;
 pub use new_drive::NewDrive;
+pub use opened_drive::OpenedDrive;
 pub use session::Session;
