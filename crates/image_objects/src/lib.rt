@@ -7,5 +7,7 @@
 
 pub mod laws;
 mod objects;
+mod pointers;
+mod tidiness;
 
 pub use objects::read_object;

@@ -43,7 +43,7 @@ cleared_more f first end old mid new bytes inside order low c changed stored oth
       ];
     }
 
-blocks_from-suc : (contents : List ℕ) (b n : ℕ) → blocks_from contents b (suc n) ≡ blocks_from contents b n ++ block_bytes contents (b + n) ∷ []
+pub blocks_from-suc : (contents : List ℕ) (b n : ℕ) → blocks_from contents b (suc n) ≡ blocks_from contents b n ++ block_bytes contents (b + n) ∷ []
 unfolding blocks_from
 blocks_from-suc contents b zero = ap (λ (m : ℕ). block_bytes contents m ∷ []) (omega arith)
 blocks_from-suc contents b (suc n) =

@@ -14,3 +14,7 @@ pub mod Vacating
 pub mod Emptying
 pub mod Freeing
 pub mod Listing
+pub mod SavedBlocks
+pub mod UsedBlocks
+pub mod Unshared
+pub mod PartSteps

@@ -1,5 +1,5 @@
 -- What is listed as held in a frame is just what is held there, and no place ahead lies in a sealed frame.
-use Rattle.std.proofs.Common.{◌≡◌, ◌⊎◌, inl, inr, ℕ, zero, suc, ◌+◌, ◌<◌, ◌≤◌, Bool, true, false, cond, if◌then◌else◌, List, [], ◌∷◌, ◌++◌, length, get_or, refl, sym, ap, subst, ◌∙◌, filter, Option, Some, None, arith}
+use Rattle.std.proofs.Common.{◌≡◌, inl, inr, ℕ, zero, suc, ◌+◌, ◌<◌, ◌≤◌, Bool, true, false, cond, if◌then◌else◌, List, [], ◌∷◌, ◌++◌, length, refl, sym, ap, subst, ◌∙◌, filter, Option, Some, None, arith}
 use Rattle.std.specs.Prelude.{IsSome, nat_lt, ◌^◌, ◌-◌}
 use Rattle.std.specs.List.{AllByRecursion, Contains, flat_map}
 use Rattle.std.proofs.lemmas.Bool.{cases_Bool, cases_lt, and_parts}
@@ -10,7 +10,7 @@ use Rattle.segment_word.specs.Frames.{Phase, Free, Open, Sealed, Emptied, Frame,
 use Rattle.segment_word.specs.Layout.{frame_at}
 use Rattle.segment_table.specs.declared.slots.Slot.{Slot}
 use Rattle.segment_table.specs.Table.{Table, slots_at, held_at, is_of}
-use Rattle.segment_table.specs.Room.{is_filling, can_open, numbers, places, rest_of, whole_of, places_ahead, pointers_in}
+use Rattle.segment_table.specs.Room.{is_filling, can_open, numbers, places, rest_of, whole_of, places_ahead}
 use Rattle.segment_table.specs.Sealing.{IsFit}
 use Rattle.segment_table.specs.Laws.{IsListed, WhatIsListedIsHeld, ListsAllHeld, PlacesAheadAreInNoSealedFrame}
 use Rattle.segment_table.proofs.Reading.{IsUsed, held_used}

@@ -168,7 +168,7 @@ part_stored (x ∷ s) zero bytes = elim (cases_Bool x.held) [
 ]
 part_stored (x ∷ s) (suc i) bytes = part_stored s i bytes
 
-slot_before : (s : List Slot) (b : ℕ) → 1 ≤ b → block_slot s b ≡ get_or s (b - 1) no_slot
+pub slot_before : (s : List Slot) (b : ℕ) → 1 ≤ b → block_slot s b ≡ get_or s (b - 1) no_slot
 slot_before s zero low = absurd (omega arith)
 slot_before s (suc b) low = let e : b ≡ suc b - 1 = omega arith in ap (λ (n : ℕ). get_or s n no_slot) e
 
@@ -249,3 +249,21 @@ places_few t free current sound =
     let ahead : length (places_ahead t) ≤ 15360 = ahead_few t free current sound in
     let spent : places_spent t ≤ 1024 * (15 * 2 ^ 32) = spent_most t free current sound in
     omega (arith, ahead, spent)
+
+-- whether a frame is the open one, which the table knows
+pub is_open_one : (t : Table) (free : List ℕ) (current : Option ℕ) (f g : ℕ) → IsSoundTable t free current → f < length t.drive.frames → current ≡ Some g
+    → MatchBool (g == f) ((frame_at t.drive.frames f).phase ≡ Open) ((frame_at t.drive.frames f).phase ≢ Open)
+is_open_one t free current f g sound inside is =
+    let M : Bool → Type 0 = λ b. MatchBool b ((frame_at t.drive.frames f).phase ≡ Open) ((frame_at t.drive.frames f).phase ≢ Open) in
+    elim (cases_eq g f) [
+      | inl e ↦ (let P : ℕ → Type 0 = λ n. (frame_at t.drive.frames n).phase ≡ Open in
+          subst M (sym (eq-eqb g f e)) (subst P e (filling_at t g (current_filling t free current g sound is)).1))
+      | inr ne ↦ subst M (sym (ne_eqb g f ne))
+          (λ phase. let same : Some g ≡ Some f = sym is ∙ only_open t current f sound.filling inside phase in let equal : g ≡ f = (cc) in ne equal)
+    ]
+
+-- and none is, where it knows none
+pub no_open_one : (t : Table) (free : List ℕ) (current : Option ℕ) (f : ℕ) → IsSoundTable t free current → f < length t.drive.frames → current ≡ None → (frame_at t.drive.frames f).phase ≢ Open
+no_open_one t free current f sound inside is phase =
+    let same : None ≡ Some f = sym is ∙ only_open t current f sound.filling inside phase in
+    cc

@@ -149,12 +149,12 @@ sound_sealed old new free current f sound filling sealed slots =
       fit = fits_changed old new f (slots_at old.slots f) (omega (arith, sound.counted)) sealed.alone (slots ∙ stays old.slots f) sound.fit changed;
     }
 
-gone_owned : (s : List Slot) (i : ℕ) (slot : Slot) → AllByRecursion IsOwned s → (i < length s → IsOwned slot) → AllByRecursion IsOwned (set s i slot)
+pub gone_owned : (s : List Slot) (i : ℕ) (slot : Slot) → AllByRecursion IsOwned s → (i < length s → IsOwned slot) → AllByRecursion IsOwned (set s i slot)
 gone_owned [] i slot all h = tt
 gone_owned (x ∷ s) zero slot all h = (h (omega arith), all.1)
 gone_owned (x ∷ s) (suc i) slot all h = (all.0, gone_owned s i slot all.1 (λ low. h (omega arith)))
 
-owned_at : (s : List Slot) (i : ℕ) → AllByRecursion IsOwned s → i < length s → IsOwned (get_or s i no_slot)
+pub owned_at : (s : List Slot) (i : ℕ) → AllByRecursion IsOwned s → i < length s → IsOwned (get_or s i no_slot)
 owned_at [] i all h = absurd (omega arith)
 owned_at (x ∷ s) zero all h = all.0
 owned_at (x ∷ s) (suc i) all h = owned_at s i all.1 (omega arith)

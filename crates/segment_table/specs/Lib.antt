@@ -1,7 +1,9 @@
 pub mod Slots
 pub mod Table
+pub mod Used
 pub mod Room
 pub mod Sealing
+pub mod Parts
 pub mod Changes
 pub mod Laws
 pub mod private

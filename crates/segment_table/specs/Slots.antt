@@ -1,5 +1,5 @@
 -- The used payload blocks of one frame, block 1 first.
-use Rattle.std.specs.Prelude.{ℕ, false, if◌then◌else◌, List, slice_index_or, slice_set, Option, Some, None}
+use Rattle.std.specs.Prelude.{ℕ, true, false, if◌then◌else◌, List, map, slice_index_or, slice_set, Option, Some, None}
 use Rattle.block_log.specs.declared.kinds.BlockKind.TheVariants.{Data}
 use Rattle.codec.specs.declared.summaries.Part.{Part}
 use Rattle.segment_table.specs.declared.slots.Slot.{Slot}
@@ -16,3 +16,11 @@ no_slot = record { part = record { kind = Data; object = 0 }; held = false }
 -- the used block of that index is held no longer
 abbrev pub let_go : List Slot → ℕ → List Slot
 let_go slots i = slice_set slots i (record (slice_index_or slots i no_slot) { held = false })
+
+-- the used block of that index is held
+abbrev pub hold_on : List Slot → ℕ → List Slot
+hold_on slots i = slice_set slots i (record (slice_index_or slots i no_slot) { held = true })
+
+-- used blocks that are for these things, none of them held
+abbrev pub unheld : List Part → List Slot
+unheld parts = map (λ part. record { part = part; held = false }) parts

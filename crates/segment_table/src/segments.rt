@@ -1,26 +1,26 @@
 //! The frames of a drive and what their blocks are for, one step at a time.
-ghost use Rattle.std.specs.Prelude.{◌≡◌, ◌≢◌, ℕ, ◌+◌, ◌-◌, ◌^◌, ◌<◌, ◌≤◌, ◌⊎◌, ◌==◌, true, false, [], ◌∷◌, ◌++◌, length, map, replicate, reverse, Option, Some, None, IsSome, IfSome, IfNone, IfOk, IfErr, OnOk, OnErr, IsOk, MatchOption, MatchBool, option_map, vec_len, vec_capacity};
-ghost use Rattle.std.specs.List.{range_with_len};
+ghost use Rattle.std.specs.Prelude.{◌≡◌, ◌≢◌, ℕ, ◌+◌, ◌-◌, ◌^◌, ◌<◌, ◌≤◌, ◌⊎◌, ◌==◌, true, false, [], ◌∷◌, ◌++◌, length, map, drop, slice_index_or, Option, Some, None, IsSome, IfSome, IfNone, IfOk, IfErr, OnOk, OnErr, IsOk, MatchOption, MatchBool, option_map, vec_len, vec_capacity};
 ghost use Rattle.std.specs.Option.{option_to_list};
 ghost use Rattle.s4_types.specs.declared.refusals.Refusal.TheVariants.{NoMemory, Busy, InUse};
 ghost use Rattle.block_log.specs.Log.{appended, dropped};
-ghost use Rattle.segment_word.specs.Frames.{Pinned, is_sealed, is_emptied};
+ghost use Rattle.codec.specs.Summary.{SpellsSummary};
+ghost use Rattle.segment_word.specs.Frames.{Pinned, code_of, is_sealed, is_emptied};
 ghost use Rattle.segment_word.specs.Frames.Phase.{Open, Sealed, Emptied};
-ghost use Rattle.segment_word.specs.Layout.{frame_at, block_bytes};
+ghost use Rattle.segment_word.specs.Layout.{word_of, frame_at, block_bytes};
 ghost use Rattle.segment_word.specs.Counting.{pins_in};
 ghost use Rattle.segment_word.specs.FrameRule.{AllAgree, AllRemembered};
-ghost use Rattle.segment_word.specs.Handles.{fresh_frame, IsAmong, pin_of, HasMissed};
+ghost use Rattle.segment_word.specs.Handles.{IsAmong, pin_of, HasMissed};
 ghost use Rattle.segment_table.specs.Table.{Table, slots_at, held_at, HoldsWholeBlocks, is_of, part_of};
-ghost use Rattle.segment_table.specs.Room.{is_filling, can_open, numbers, rest_of, places_ahead, places_spent, log_of, pointers_in};
-ghost use Rattle.segment_table.specs.Sealing.{IsFit, IsPartFilled};
+ghost use Rattle.segment_table.specs.Room.{is_filling, numbers, rest_of, places_ahead, places_spent, log_of, pointers_in};
+ghost use Rattle.segment_table.specs.Sealing.{IsFit, IsSoundTable, IsPartFilled, summary_of};
 ghost use Rattle.segment_table.specs.Changes.{IsFilling, NoneIsFilling, IsReadyFrame, IsPut, IsSealed, IsSealedIn, NoneHeld, IsMarked, IsReleased, IsAheadAgain};
 ghost use Rattle.segment_table.specs.private.Putting.{IsPutBetween};
 
-use crate::seals;
 use crate::slots::Slots;
+use crate::{saving, seals};
 use block_log::Block;
 use codec::Part;
-use s4_types::limits::PAYLOAD_BLOCKS;
+use s4_types::limits::{FRAME_BLOCKS, PAYLOAD_BLOCKS};
 use s4_types::{ObjectId, Ptr, Refusal};
 use segment_word::{DriveSeat, Memory, Pin};
 use std::alloc::Global;
@@ -49,31 +49,6 @@ impl Model for Segments {
     ghost invariant = { λ s. IsSoundTable (record { drive = s.seat; slots = s.slots.items }) s.free.items s.current × (length s.seat.frames ≤ vec_capacity s.free) };
 }
 
-// No used block for so many frames.
-fn no_slots(alloc: Global, count: u16) -> Result<Vec<Slots>, Refusal>
-    ensures slots { IfOk result (λ v. v.items ≡ replicate count []) }
-    ensures refusal { IfErr result (λ e. e ≡ NoMemory) }
-{
-    let mut slots = Vec::with_capacity(alloc, count as usize)?;
-    for _ in 0..count {
-        slots.push(Slots::new())?;
-    }
-    Ok(slots)
-}
-
-// The numbers below `count`, the lowest last.
-fn descending(alloc: Global, count: u16) -> Result<Vec<u16>, Refusal>
-    ensures numbers { IfOk result (λ v. v.items ≡ reverse (range_with_len 0 count)) }
-    ensures room { IfOk result (λ v. count ≤ vec_capacity v) }
-    ensures refusal { IfErr result (λ e. e ≡ NoMemory) }
-{
-    let mut numbers = Vec::with_capacity(alloc, count as usize)?;
-    for i in 0..count {
-        numbers.push(count - 1 - i)?;
-    }
-    Ok(numbers)
-}
-
 // Puts a number into a list between those that are greater and those that are less.
 fn put_back(free: &mut Vec<u16>, frame: u16)
     requires { vec_len free.old < vec_capacity free.old }
@@ -86,21 +61,23 @@ fn put_back(free: &mut Vec<u16>, frame: u16)
 }
 
 impl Segments {
-    /// Takes the seat of a new drive of 8 to 1,024 frames.
-    pub fn new(alloc: Global, seat: DriveSeat, count: u16) -> Result<Self, Refusal>
-        requires count { count ≤ 1024 }
-        requires fresh { seat.frames ≡ replicate count fresh_frame }
-        ensures segments { IfOk result (λ s. s ≡ record { drive = seat; slots = replicate count [] }) }
-        ensures refusal { IfErr result (λ e. e ≡ NoMemory) }
+    /// Takes the seat of a drive with what the blocks of its frames are for.
+    pub fn of_parts(
+        seat: DriveSeat,
+        slots: Vec<Slots>,
+        free: Vec<u16>,
+        current: Option<u16>,
+    ) -> Self
+        requires sound { IsSoundTable (record { drive = seat; slots = slots.items }) free.items current }
+        requires room { length seat.frames ≤ vec_capacity free }
+        ensures { result ≡ record { drive = seat; slots = slots.items } }
     {
-        let slots = no_slots(alloc, count)?;
-        let free = descending(alloc, count)?;
-        Ok(Segments {
+        Segments {
             seat,
             slots,
             free,
-            current: None,
-        })
+            current,
+        }
     }
 
     /// Shows what holds of each frame between calls, that at most one is open, that each held block is whole, and that the
@@ -127,6 +104,17 @@ impl Segments {
         ensures { option_to_list result ≡ numbers is_filling 0 self.now.drive.frames }
     {
         self.current
+    }
+
+    // Whether a frame is the open one.
+    fn is_filling(&self, frame: u16) -> bool
+        requires { frame < length self.now.drive.frames }
+        ensures { MatchBool result ((frame_at self.now.drive.frames frame).phase ≡ Open) ((frame_at self.now.drive.frames frame).phase ≢ Open) }
+    {
+        match self.current {
+            Some(open) => open == frame,
+            None => false,
+        }
     }
 
     /// Whether a held block lies in the open frame; else its frame is sealed.
@@ -257,6 +245,32 @@ impl Segments {
     {
         self.seat
             .load(place.frame() as usize, place.block() as usize)
+    }
+
+    /// The state word of a frame as it is saved.
+    pub fn saved_word(&mut self, frame: u16) -> u64
+        requires { frame < length self.old.drive.frames }
+        ensures word { result ≡ word_of (frame_at self.old.drive.frames frame) 0 }
+        ensures same { self.new ≡ self.old }
+    {
+        self.seat.saved_state(frame as usize)
+    }
+
+    /// The blocks of a frame that isn't free, as they are saved: those of the open frame as sealing it now would leave them.
+    pub fn save_blocks(&mut self, frame: u16, blocks: &mut [Block; FRAME_BLOCKS])
+        requires inside { frame < length self.old.drive.frames }
+        requires used { 0 < code_of (frame_at self.old.drive.frames frame).phase }
+        requires part_filled { IsPartFilled self.old }
+        ensures spelled { SpellsSummary (drop 1 blocks.new) (slice_index_or blocks.new 0 []) (summary_of frame (frame_at self.old.drive.frames frame) (slots_at self.old.slots frame)) }
+        ensures kept { (b : ℕ) → 1 ≤ b → b ≤ length (slots_at self.old.slots frame) → slice_index_or blocks.new b [] ≡ block_bytes (frame_at self.old.drive.frames frame).contents b }
+        ensures whole { 2 ≤ code_of (frame_at self.old.drive.frames frame).phase → (b : ℕ) → b < 16 → slice_index_or blocks.new b [] ≡ block_bytes (frame_at self.old.drive.frames frame).contents b }
+        ensures same { self.new ≡ self.old }
+    {
+        if self.is_filling(frame) {
+            saving::save_sealed(&mut self.seat, frame, &self.slots[frame as usize], blocks);
+        } else {
+            saving::save_all(&mut self.seat, frame as usize, blocks);
+        }
     }
 
     // Whether the frame that a pointer names is at the pointer's generation.

@@ -1,13 +1,15 @@
 //! What the payload blocks of one frame are.
-ghost use Rattle.std.specs.Prelude.{◌≡◌, ℕ, ◌+◌, ◌-◌, ◌<◌, ◌≤◌, true, [], ◌∷◌, ◌++◌, length, map, slice_set, slice_get};
+ghost use Rattle.std.specs.Prelude.{◌≡◌, ℕ, ◌+◌, ◌-◌, ◌<◌, ◌≤◌, true, false, [], ◌∷◌, ◌++◌, length, map, option_map, replicate, slice_set, slice_get, IfOk, IfErr};
+ghost use Rattle.s4_types.specs.declared.refusals.Refusal.TheVariants.{NoMemory};
 ghost use Rattle.std.specs.List.{list_any};
-ghost use Rattle.segment_table.specs.Slots.{let_go, held_part};
+ghost use Rattle.segment_table.specs.Slots.{hold_on, let_go, held_part, unheld};
 
 use arrayvec::ArrayVec;
 use block_log::BlockKind;
 use codec::{Part, Parts};
-use s4_types::ObjectId;
 use s4_types::limits::PAYLOAD_BLOCKS;
+use s4_types::{ObjectId, Refusal};
+use std::alloc::Global;
 use std::marker::Model;
 
 /// A used payload block: what it is for, whose it is, and whether some pointer still leads to it.
@@ -41,6 +43,18 @@ impl Model for Slots {
     ghost view = { λ s. s.slots.items };
 }
 
+/// No used block in so many frames.
+pub fn no_slots(alloc: Global, count: u16) -> Result<Vec<Slots>, Refusal>
+    ensures slots { IfOk result (λ v. v.items ≡ replicate count []) }
+    ensures refusal { IfErr result (λ e. e ≡ NoMemory) }
+{
+    let mut slots = Vec::with_capacity(alloc, count as usize)?;
+    for _ in 0..count {
+        slots.push(Slots::new())?;
+    }
+    Ok(slots)
+}
+
 impl Slots {
     /// No used block.
     pub fn new() -> Self
@@ -49,6 +63,21 @@ impl Slots {
         Slots {
             slots: ArrayVec::new(),
         }
+    }
+
+    /// Used blocks that are for these things, none of them held.
+    pub fn unheld(parts: &[Part]) -> Self
+        requires { length parts.now ≤ 15 }
+        ensures { result ≡ unheld parts.now }
+    {
+        let mut slots = ArrayVec::new();
+        for part in parts {
+            slots.push(Slot {
+                part: *part,
+                held: false,
+            });
+        }
+        Slots { slots }
     }
 
     /// How many blocks are used.
@@ -74,6 +103,24 @@ impl Slots {
     {
         let slot = self.slots.as_slice().get(block - 1)?;
         if slot.held { Some(slot.part) } else { None }
+    }
+
+    /// What the block of that number, from 1 on, is for, held or not. None where it isn't used.
+    pub fn used(&self, block: usize) -> Option<Part>
+        requires { 1 ≤ block }
+        ensures { result ≡ option_map (λ slot. slot.part) (slice_get self.now (block - 1)) }
+    {
+        Some(self.slots.as_slice().get(block - 1)?.part)
+    }
+
+    /// The block of that number, from 1 on, is held from now on. Where it isn't used, nothing changes.
+    pub fn hold(&mut self, block: usize)
+        requires { 1 ≤ block }
+        ensures { self.new ≡ hold_on self.old (block - 1) }
+    {
+        if let Some(slot) = self.slots.get_mut(block - 1) {
+            slot.held = true;
+        }
     }
 
     /// The block of that number, from 1 on, is held no longer.

@@ -1,24 +1,27 @@
 //! The segment table: blocks behind pointers, the sealing of frames, and pins that count on them.
-ghost use Rattle.std.specs.Prelude.{◌≡◌, ◌≢◌, ℕ, ◌+◌, ◌^◌, ◌<◌, ◌≤◌, ◌⊎◌, [], ◌∷◌, ◌++◌, length, map, replicate, Some, None, IsSome, IfSome, IfNone, IfOk, IfErr, OnOk, OnErr, IsOk, MatchBool, option_map};
+ghost use Rattle.std.specs.Prelude.{◌≡◌, ◌≢◌, ℕ, ◌+◌, ◌^◌, ◌<◌, ◌≤◌, ◌⊎◌, [], ◌∷◌, ◌++◌, length, map, drop, slice_index_or, replicate, Some, None, IsSome, IfSome, IfNone, IfOk, IfErr, OnOk, OnErr, IsOk, MatchBool, option_map};
 ghost use Rattle.s4_types.specs.Sizes.{IsFrameCount};
 ghost use Rattle.s4_types.specs.Pointer.{Place};
 ghost use Rattle.s4_types.specs.declared.refusals.Refusal.TheVariants.{NoMemory, Busy, NoSpace, InUse};
 ghost use Rattle.block_log.specs.Log.{Log, appended, dropped};
-ghost use Rattle.segment_word.specs.Frames.{Pinned, is_emptied};
+ghost use Rattle.codec.specs.Summary.{SpellsSummary};
+ghost use Rattle.segment_word.specs.Frames.{Pinned, code_of, is_emptied};
 ghost use Rattle.segment_word.specs.Frames.Phase.{Open, Sealed, Emptied};
-ghost use Rattle.segment_word.specs.Layout.{frame_at, block_bytes};
+ghost use Rattle.segment_word.specs.Layout.{word_of, frame_at, block_bytes};
 ghost use Rattle.segment_word.specs.Counting.{pins_in};
 ghost use Rattle.segment_word.specs.FrameRule.{AllAgree, AllRemembered};
 ghost use Rattle.segment_word.specs.Handles.{fresh_frame, IsAmong, pin_of, HasMissed};
 ghost use Rattle.segment_table.specs.Table.{Table, slots_at, held_at, HoldsWholeBlocks, part_of};
 ghost use Rattle.segment_table.specs.Room.{is_filling, numbers, rest_of, places_ahead, log_of, new_places, pointers_in};
 ghost use Rattle.segment_table.specs.Laws.{ListsAllHeld};
-ghost use Rattle.segment_table.specs.Sealing.{IsFit, IsPartFilled};
+ghost use Rattle.segment_table.specs.Sealing.{IsFit, IsPartFilled, summary_of};
 ghost use Rattle.segment_table.specs.Changes.{IsFilling, NoneIsFilling, IsAppended, IsSealedIn, NoneHeld, IsMarked, IsReleased, IsAheadAgain};
 
+use crate::parts::TableParts;
 use crate::segments::Segments;
 use block_log::{Block, BlockKind, Blocks};
 use codec::Part;
+use s4_types::limits::FRAME_BLOCKS;
 use s4_types::{ObjectId, Ptr, Refusal};
 use segment_word::{Frames, Memory, Pin};
 use std::alloc::Global;
@@ -55,9 +58,20 @@ impl SegmentTable {
         ensures log { IfOk result (λ t. log_of t ≡ record { held = λ p. None; ahead = new_places frames; spent = 0 }) }
         ensures refusal { IfErr result (λ e. (e ≡ NoMemory) ⊎ (e ≡ Busy)) }
     {
-        let count = frames as u16;
-        let (frames, seat) = Frames::new(alloc, frames)?;
-        let segments = Segments::new(alloc, seat, count)?;
+        let parts = TableParts::new(alloc, frames)?;
+        Self::from_parts(alloc, parts)
+    }
+
+    /// The table of a drive that was saved.
+    ///
+    /// NoMemory where memory was refused, Busy where the count of those that share it was full.
+    pub fn from_parts(alloc: Global, parts: TableParts) -> Result<Self, Refusal>
+        ensures frames { IfOk result (λ t. t.drive.frames ≡ parts.drive.frames) }
+        ensures slots { IfOk result (λ t. t.slots ≡ parts.slots) }
+        ensures log { IfOk result (λ t. log_of t ≡ log_of parts) }
+        ensures refusal { IfErr result (λ e. (e ≡ NoMemory) ⊎ (e ≡ Busy)) }
+    {
+        let (frames, segments) = parts.shared(alloc)?;
         Ok(SegmentTable { frames, segments })
     }
 
@@ -80,6 +94,28 @@ impl SegmentTable {
         ensures { result ≡ length self.now.drive.frames }
     {
         self.segments.count()
+    }
+
+    /// The state word of a frame as it is saved: it counts no reader.
+    pub fn saved_word(&mut self, frame: u16) -> u64
+        requires { frame < length self.old.drive.frames }
+        ensures word { result ≡ word_of (frame_at self.old.drive.frames frame) 0 }
+        ensures same { self.new ≡ self.old }
+    {
+        self.segments.saved_word(frame)
+    }
+
+    /// The 16 blocks of a frame that isn't free, as they are saved. Those of the open frame are what sealing it now would leave:
+    /// its summary first, and zeros in its unused blocks.
+    pub fn save_blocks(&mut self, frame: u16, blocks: &mut [Block; FRAME_BLOCKS])
+        requires inside { frame < length self.old.drive.frames }
+        requires used { 0 < code_of (frame_at self.old.drive.frames frame).phase }
+        ensures spelled { SpellsSummary (drop 1 blocks.new) (slice_index_or blocks.new 0 []) (summary_of frame (frame_at self.old.drive.frames frame) (slots_at self.old.slots frame)) }
+        ensures kept { (b : ℕ) → 1 ≤ b → b ≤ length (slots_at self.old.slots frame) → slice_index_or blocks.new b [] ≡ block_bytes (frame_at self.old.drive.frames frame).contents b }
+        ensures whole { 2 ≤ code_of (frame_at self.old.drive.frames frame).phase → (b : ℕ) → b < 16 → slice_index_or blocks.new b [] ≡ block_bytes (frame_at self.old.drive.frames frame).contents b }
+        ensures same { self.new ≡ self.old }
+    {
+        self.segments.save_blocks(frame, blocks);
     }
 
     /// Whether a frame is being emptied; one that isn't there is not.

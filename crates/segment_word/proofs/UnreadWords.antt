@@ -232,3 +232,11 @@ copied v was part bytes frames f b n are is h low slice block some =
       ap frames_of items ∙ block_written v.items bytes f b are inside low ∙ ap (λ (l : List Frame). set l f (with_block (frame_at l f) b bytes)) is,
       ap (λ (l : List Frame). length (frame_at l f).contents) (sym is) ∙ frame_whole v.items f are inside,
     )
+
+-- what a state word says of its frame
+pub state_read : (words : List ℕ) (frames : List Frame) (f x : ℕ) → frames_of words ≡ frames → f < length frames → x ≡ slice_index words (1025 * f)
+    → ((frame_at frames f).phase ≡ phase_of (x % 4)) × ((frame_at frames f).generation ≡ x / 2 ^ 32)
+state_read words frames f x is inside read =
+    let at : frame_at frames f ≡ frame_of (drop (1025 * f) words) = ap (λ (l : List Frame). frame_at l f) (sym is) ∙ frame_at-frames_of words f (within words frames f is inside) in
+    let state : slice_index (drop (1025 * f) words) 0 ≡ x = state-at words f ∙ sym read in
+    (ap (λ (k : Frame). k.phase) at ∙ ap (λ (s : ℕ). phase_of (s % 4)) state, ap (λ (k : Frame). k.generation) at ∙ ap (λ (s : ℕ). s / 2 ^ 32) state)

@@ -4,12 +4,13 @@ ghost use Rattle.s4_types.specs.Sizes.{IsFrameCount};
 ghost use Rattle.s4_types.specs.declared.refusals.Refusal.TheVariants.{NoMemory};
 ghost use Rattle.segment_word.specs.Frames.{code_of};
 ghost use Rattle.segment_word.specs.FrameStates.{phase_in};
-ghost use Rattle.segment_word.specs.Layout.{frame_at, block_bytes, with_block};
+ghost use Rattle.segment_word.specs.Layout.{phase_of, frame_at, block_bytes, with_block};
 ghost use Rattle.segment_word.specs.Handles.{fresh_frame};
 
 use crate::blocks::{bytes_of, words_of};
 use crate::layout::{
-    BLOCK_WORDS, EMPTIED, FIRST_STATE, FRAME_WORDS, FREE, GENERATION_SHIFT, OPEN, SEALED,
+    BLOCK_WORDS, EMPTIED, FIRST_STATE, FRAME_WORDS, FREE, GENERATION_SHIFT, ONE_READER, OPEN,
+    SEALED,
 };
 use s4_types::Refusal;
 use std::alloc::{AllocError, Global};
@@ -38,6 +39,18 @@ impl FrameState {
             FrameState::Open => OPEN,
             FrameState::Sealed => SEALED,
             FrameState::Emptied => EMPTIED,
+        }
+    }
+
+    // The state that the two low bits of a state word tell.
+    fn of_code(code: u64) -> Self
+        ensures { phase_in result ≡ phase_of code }
+    {
+        match code {
+            FREE => FrameState::Free,
+            OPEN => FrameState::Open,
+            SEALED => FrameState::Sealed,
+            _ => FrameState::Emptied,
         }
     }
 }
@@ -92,6 +105,22 @@ impl FrameWords {
         ensures limits { IsFrameCount result }
     {
         self.words.len() / FRAME_WORDS
+    }
+
+    /// What a frame is for.
+    pub fn state(&self, frame: usize) -> FrameState
+        requires { frame < length self.now }
+        ensures { phase_in result ≡ (frame_at self.now frame).phase }
+    {
+        FrameState::of_code(self.words[FRAME_WORDS * frame] % ONE_READER)
+    }
+
+    /// The generation of a frame.
+    pub fn generation(&self, frame: usize) -> u32
+        requires { frame < length self.now }
+        ensures { result ≡ (frame_at self.now frame).generation }
+    {
+        (self.words[FRAME_WORDS * frame] >> GENERATION_SHIFT) as u32
     }
 
     /// A frame gets its state and its generation; its blocks stay.

@@ -1,10 +1,10 @@
-use Rattle.std.proofs.Common.{ap, ◌∙◌}
-use Rattle.segment_word.specs.Handles.{Drive}
-use Rattle.segment_table.specs.Table.{Table}
+use Rattle.std.proofs.Common.{◌≡◌, None, ◌∙◌}
+use Rattle.std.proofs.lemmas.Result.{IfOk-weaker}
+use Rattle.segment_table.specs.Room.{log_of, new_places}
 use Rattle.segment_table.proofs.Reading.{new_log}
 use Rattle.segment_table.proofs.table.SegmentTable.new.Goals as goal
 
 pub returns-clause-log : goal.returns-clause-log
 returns-clause-log c =
-    let is = c.in_ok-segments.ensures.segments in
-    new_log c.in_ok-segments.segments c.args.frames (ap (λ (t : Table). t.drive.frames) is ∙ ap (λ (d : Drive). d.frames) c.in_ok-frames.ensures.frames) (ap (λ (t : Table). t.slots) is)
+    IfOk-weaker c.from_parts.result (λ t. log_of t ≡ log_of c.in_ok-parts.parts) (λ t. log_of t ≡ record { held = λ p. None; ahead = new_places c.args.frames; spent = 0 })
+    (λ t same. same ∙ new_log c.in_ok-parts.parts c.args.frames c.in_ok-parts.ensures.frames c.in_ok-parts.ensures.slots) c.from_parts.ensures.log

@@ -1,5 +1,5 @@
 use Rattle.std.proofs.Common.{◌≡◌, [], replicate}
-use Rattle.segment_table.proofs.segments.no_slots.Given as goal
+use Rattle.segment_table.proofs.slots.no_slots.Given as goal
 
 abbrev pub invariant-loop : goal.invariant-loop
 invariant-loop l = l.slots.items ≡ replicate l.counter []

@@ -1,0 +1,19 @@
+use Rattle.std.proofs.Common.{◌<◌, length, refl, ap, ◌∙◌, arith}
+use Rattle.std.proofs.lemmas.List.{length-set}
+use Rattle.segment_word.specs.Handles.{Drive}
+use Rattle.segment_word.specs.Layout.{frame_at, block_bytes}
+use Rattle.segment_table.proofs.SavedBlocks.{saved_more, saved_none}
+use Rattle.segment_table.proofs.saving.save_all.Goals as goal
+
+pub loop-i-preserved : goal.loop-i-preserved
+loop-i-preserved c =
+    let contents = (frame_at c.args.seat.now.frames c.args.frame).contents in
+    let inside : c.loop-i.i < length c.loop-i.blocks = omega arith in (
+      c.load.ensures.same ∙ c.loop-i.invariant.0,
+      length-set c.loop-i.blocks c.loop-i.i c.load.result ∙ c.loop-i.invariant.1,
+      saved_more contents c.loop-i.blocks c.loop-i.i c.load.result inside c.loop-i.invariant.2
+          (c.load.ensures.bytes ∙ ap (λ (d : Drive). block_bytes (frame_at d.frames c.args.frame).contents c.loop-i.i) c.loop-i.invariant.0),
+    )
+
+pub loop-i-init : goal.loop-i-init
+loop-i-init c = (refl, omega arith, saved_none (frame_at c.args.seat.now.frames c.args.frame).contents)
