@@ -5,16 +5,16 @@
 //! drive whose frames, rows, spans and numbers are the image's, and whose history begins with what they stand for.
 #![tactic(auto)]
 
-mod blocks;
+// mod blocks;
 mod images;
-pub mod laws;
-mod moments;
-mod objects;
+// pub mod laws;
+// mod moments;
+// mod objects;
 mod opening;
-mod rows;
+// mod rows;
 mod tables;
-mod verifying;
+// mod verifying;
 
-pub use images::Image;
-pub use opening::open;
-pub use verifying::verify;
+// pub use images::Image;
+// pub use opening::open;
+// pub use verifying::verify;
