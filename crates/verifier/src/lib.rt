@@ -7,7 +7,7 @@
 
 // mod blocks;
 mod images;
-// pub mod laws;
+pub mod laws;
 // mod moments;
 // mod objects;
 mod opening;
