@@ -6,13 +6,13 @@
 #![tactic(auto)]
 
 mod blocks;
-// mod images;
-// pub mod laws;
+mod images;
+pub mod laws;
 mod moments;
 mod objects;
-// mod opening;
+mod opening;
 mod rows;
-// mod tables;
+mod tables;
 // mod verifying;
 
 // pub use images::Image;
