@@ -1,9 +1,11 @@
 //! A row's whole history.
-ghost use Rattle.std.specs.Prelude.{◌≡◌, IfSome, IfNone, IfOk, IfErr};
+ghost use Rattle.std.specs.Prelude.{◌≡◌, length, IfSome, IfNone, IfOk, IfErr};
+ghost use Rattle.s4_types.specs.declared.limits.TheConstants.{OBJECT_BLOCKS};
 ghost use Rattle.s4_types.specs.declared.refusals.Refusal.TheVariants.{NoMemory};
 ghost use Rattle.codec.specs.Entry.{entries_length};
 ghost use Rattle.journal_chain.specs.Packing.{packed, filled_bytes};
 ghost use Rattle.image_chains.specs.Chains.{ChainStands, entries_used};
+ghost use Rattle.image_chains.specs.Inodes.{first_used};
 ghost use Rattle.image_chains.specs.History.{HistoryStands, present_used};
 
 use crate::chains::{ImageChain, read_chain};
@@ -22,12 +24,14 @@ use undo_redo::redo_all;
 pub struct ImageHistory {
     /// Its journal chain.
     pub chain: ImageChain,
+    /// The inode before all entries.
+    pub first: Inode,
     /// The inode behind all entries.
     pub present: Inode,
 }
 
-/// The inode behind all entries of a chain that stands. None where the row's history doesn't stand.
-fn present_inode<U: UsedBlocks>(
+/// The inode before all entries of a chain that stands. None where the row's history doesn't stand.
+fn leading_inode<U: UsedBlocks>(
     used: &U,
     row: &ImageRow,
     clock: Moment,
@@ -35,8 +39,9 @@ fn present_inode<U: UsedBlocks>(
 ) -> Option<Inode>
     requires chain { ChainStands (U.used used.now) row.now clock }
     requires entries { entries.now ≡ entries_used (U.used used.now) row.now }
-    ensures stands { IfSome result (λ present. HistoryStands (U.used used.now) row.now clock) }
-    ensures present { IfSome result (λ present. present ≡ present_used (U.used used.now) row.now) }
+    ensures stands { IfSome result (λ first. HistoryStands (U.used used.now) row.now clock) }
+    ensures first { IfSome result (λ first. first ≡ first_used (U.used used.now) row.now) }
+    ensures count { IfSome result (λ first. length first.pointers ≡ OBJECT_BLOCKS) }
     ensures only { IfNone result (HistoryStands (U.used used.now) row.now clock → ⊥) }
 {
     let Some(first) = first_inode(used, row, clock, entries) else {
@@ -48,9 +53,7 @@ fn present_inode<U: UsedBlocks>(
     if !is_orderly(&first, entries, row.created, clock) {
         return None;
     }
-    let mut present = first;
-    redo_all(entries, &mut present);
-    Some(present)
+    Some(first)
 }
 
 /// A row's history in an image whose clock stands at a moment. None exactly where it doesn't stand.
@@ -67,14 +70,23 @@ pub fn read_history<U: UsedBlocks>(
     ensures entries { IfOk result (λ found. IfSome found (λ history. history.chain.entries.items ≡ entries_used (U.used used.now) row.now)) }
     ensures bytes { IfOk result (λ found. IfSome found (λ history. history.chain.journal_bytes ≡ entries_length (entries_used (U.used used.now) row.now))) }
     ensures head { IfOk result (λ found. IfSome found (λ history. history.chain.head_bytes ≡ filled_bytes (packed (entries_used (U.used used.now) row.now)))) }
+    ensures first { IfOk result (λ found. IfSome found (λ history. history.first ≡ first_used (U.used used.now) row.now)) }
+    ensures count { IfOk result (λ found. IfSome found (λ history. length history.first.pointers ≡ OBJECT_BLOCKS)) }
     ensures present { IfOk result (λ found. IfSome found (λ history. history.present ≡ present_used (U.used used.now) row.now)) }
     ensures refusal { IfErr result (λ e. e ≡ NoMemory) }
 {
     let Some(chain) = read_chain(alloc, used, row, clock)? else {
         return Ok(None);
     };
-    let Some(present) = present_inode(used, row, clock, chain.entries.as_slice()) else {
+    let entries = chain.entries.as_slice();
+    let Some(first) = leading_inode(used, row, clock, entries) else {
         return Ok(None);
     };
-    Ok(Some(ImageHistory { chain, present }))
+    let mut present = first;
+    redo_all(entries, &mut present);
+    Ok(Some(ImageHistory {
+        chain,
+        first,
+        present,
+    }))
 }

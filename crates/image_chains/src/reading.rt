@@ -29,11 +29,7 @@ fn journal_of(object: ObjectId, bytes: Block) -> Option<EntryReader>
 }
 
 /// The object's journal block at a place. None where the image has no such used block there, or where it spells none.
-pub(crate) fn read_journal<U: UsedBlocks>(
-    used: &U,
-    object: ObjectId,
-    place: Ptr,
-) -> Option<EntryReader>
+pub fn read_journal<U: UsedBlocks>(used: &U, object: ObjectId, place: Ptr) -> Option<EntryReader>
     ensures exact { result ≡ journal_held (U.used used.now) object place }
     ensures rules { IfSome result (λ block. journal_rules block ≡ true) }
 {

@@ -46,7 +46,7 @@ fn is_same_kind(one: BlockKind, other: BlockKind) -> bool
 }
 
 /// The bytes of the used block at a place. None where it isn't of this kind and object.
-pub(crate) fn bytes_at<U: UsedBlocks>(
+pub fn bytes_at<U: UsedBlocks>(
     used: &U,
     kind: BlockKind,
     object: ObjectId,

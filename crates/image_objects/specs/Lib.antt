@@ -1,3 +1,6 @@
 pub mod Objects
 pub mod Naming
 pub mod Rows
+pub mod private
+pub mod Laws
+pub mod Moments

@@ -1,12 +1,16 @@
 //! A whole object.
-ghost use Rattle.std.specs.Prelude.{◌≡◌, IfSome, IfNone, IfOk, IfErr};
+ghost use Rattle.std.specs.Prelude.{◌≡◌, length, IfSome, IfNone, IfOk, IfErr};
 ghost use Rattle.s4_types.specs.declared.refusals.Refusal.TheVariants.{NoMemory};
+ghost use Rattle.s4_types.specs.declared.limits.TheConstants.{OBJECT_BLOCKS};
 ghost use Rattle.codec.specs.Entry.{entries_length};
 ghost use Rattle.journal_chain.specs.Packing.{packed, filled_bytes};
 ghost use Rattle.image_chains.specs.Chains.{entries_used};
+ghost use Rattle.image_chains.specs.Inodes.{first_used};
 ghost use Rattle.image_chains.specs.History.{present_used};
 ghost use Rattle.image_objects.specs.Objects.{ObjectStands};
 
+use crate::pointers::is_row_led;
+use crate::tidiness::are_tidy;
 use image_chains::{ImageHistory, ImageRow, UsedBlocks, read_history};
 use s4_types::{Moment, Refusal};
 use std::alloc::Global;
@@ -25,8 +29,20 @@ pub fn read_object<U: UsedBlocks>(
     ensures entries { IfOk result (λ found. IfSome found (λ history. history.chain.entries.items ≡ entries_used (U.used used.now) row.now)) }
     ensures bytes { IfOk result (λ found. IfSome found (λ history. history.chain.journal_bytes ≡ entries_length (entries_used (U.used used.now) row.now))) }
     ensures head { IfOk result (λ found. IfSome found (λ history. history.chain.head_bytes ≡ filled_bytes (packed (entries_used (U.used used.now) row.now)))) }
+    ensures first { IfOk result (λ found. IfSome found (λ history. history.first ≡ first_used (U.used used.now) row.now)) }
+    ensures count { IfOk result (λ found. IfSome found (λ history. length history.first.pointers ≡ OBJECT_BLOCKS)) }
     ensures present { IfOk result (λ found. IfSome found (λ history. history.present ≡ present_used (U.used used.now) row.now)) }
     ensures refusal { IfErr result (λ e. e ≡ NoMemory) }
 {
-    read_history(alloc, used, row, clock)
+    let Some(history) = read_history(alloc, used, row, clock)? else {
+        return Ok(None);
+    };
+    let entries = history.chain.entries.as_slice();
+    if !is_row_led(used, row, entries) {
+        return Ok(None);
+    }
+    if !are_tidy(used, &history.first, entries) {
+        return Ok(None);
+    }
+    Ok(Some(history))
 }

@@ -4,3 +4,4 @@ pub mod Grammar
 pub mod Reading
 pub mod Images
 pub mod Saved
+pub mod private

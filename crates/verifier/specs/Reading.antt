@@ -1,6 +1,5 @@
 -- What is read of an image's rows, one behind the other.
 use Rattle.std.specs.Prelude.{◌≡◌, ℕ, List, [], ◌∷◌, Option}
-use Rattle.std.specs.List.{AllByRecursion, flat_map}
 use Rattle.s4_types.specs.Pointer.{Place}
 use Rattle.block_log.specs.Log.{Stored}
 use Rattle.segment_table.specs.Table.{Table, held_at}
@@ -10,13 +9,16 @@ use Rattle.image_chains.specs.declared.rows.ImageRow.{ImageRow}
 use Rattle.image_chains.specs.Chains.{entries_used}
 use Rattle.image_chains.specs.History.{kept_row, present_used}
 use Rattle.image_objects.specs.Naming.{HoldsWhatIsNamed}
+use Rattle.image_objects.specs.Rows.{RowsStand}
+use Rattle.image_parts.specs.declared.rows.RowPart.{RowPart}
+use Rattle.verifier.specs.Rows.{SpellRows}
 
 -- what a drive keeps of a row of an image
-pub record IsKept (used : Place → Option Stored) (row : ImageRow) (kept : OpenedFields) : Type 0 where
-  pub object : kept.object ≡ row.object
-  pub row : kept.row ≡ kept_row used row 0
-  pub inode : kept.inode ≡ present_used used row
-  pub entries : IndexesEntries kept (entries_used used row)
+pub record IsKept (used : Place → Option Stored) (saved : ImageRow) (kept : OpenedFields) : Type 0 where
+  pub object : kept.object ≡ saved.object
+  pub row : kept.row ≡ kept_row used saved 0
+  pub inode : kept.inode ≡ present_used used saved
+  pub entries : IndexesEntries kept (entries_used used saved)
 
 -- the same of all rows, in their order
 abbrev pub AreKept : (Place → Option Stored) → List ImageRow → List OpenedFields → Type 0
@@ -24,3 +26,12 @@ AreKept used [] [] = Unit {0}
 AreKept used [] (x ∷ objects) = ⊥
 AreKept used (row ∷ rows) [] = ⊥
 AreKept used (row ∷ rows) (x ∷ objects) = IsKept used row x × AreKept used rows objects
+
+-- What was read of the rows of an image, over the table that its frames told: the rows that their bytes spell all stand up to
+-- the clock, these objects are kept of them, and of the used blocks just those are held afterwards that the rows name.
+pub record AreRead (table : Table) (parts : List RowPart) (clock : ℕ) (after : Table) (objects : List OpenedFields) : Type 0 where
+  pub rows : List ImageRow
+  pub spelled : SpellRows parts rows
+  pub stand : RowsStand (used_at table) rows clock
+  pub kept : AreKept (used_at table) rows objects
+  pub held : HoldsWhatIsNamed (used_at table) (held_at after) rows

@@ -1,7 +1,7 @@
 use Rattle.std.proofs.lemmas.Bool.{both_ways}
-use Rattle.image_chains.proofs.Leading.{moments_of, history_stands, present_is, no_beginning, run_of, order_of}
+use Rattle.image_chains.proofs.Leading.{moments_of, history_stands, first_is, no_beginning, run_of, order_of}
 use Rattle.image_chains.specs.History.{present_used}
-use Rattle.image_chains.proofs.histories.present_inode.Goals as goal
+use Rattle.image_chains.proofs.histories.leading_inode.Goals as goal
 
 pub is_orderly-requires-clause-moments : goal.is_orderly-requires-clause-moments
 is_orderly-requires-clause-moments g c = moments_of (g.U.UsedBlocks.used c.args.used.now) c.args.row.now c.args.clock c.args.entries.now c.requires.chain c.requires.entries
@@ -23,6 +23,6 @@ pub returns-clause-stands : goal.returns-clause-stands
 returns-clause-stands g c =
     history_stands (g.U.UsedBlocks.used c.args.used.now) c.args.row.now c.args.clock c.args.entries.now c.in-Some.first c.requires.chain c.requires.entries c.in-Some.ensures.stands c.in-Some.ensures.first (c.is_run.ensures.run c.if-not-is_run.false) (c.is_orderly.ensures.is c.if-not-is_orderly.false)
 
-pub returns-clause-present : goal.returns-clause-present
-returns-clause-present g c =
-    present_is (g.U.UsedBlocks.used c.args.used.now) c.args.row.now c.args.entries.now c.in-Some.first c.redo_all.new.inode c.requires.entries c.in-Some.ensures.first c.redo_all.ensures.exact
+pub returns-clause-first : goal.returns-clause-first
+returns-clause-first g c =
+    first_is (g.U.UsedBlocks.used c.args.used.now) c.args.row.now c.args.entries.now c.in-Some.first c.requires.entries c.in-Some.ensures.first

@@ -1,0 +1,14 @@
+pub mod Parts
+pub mod Moments
+pub mod Sizes
+pub mod Walk
+pub mod Named
+mod HeldByName
+mod Kept
+mod Listed
+mod MomentsOnce
+mod Pointing
+mod Sorted
+mod Standing
+mod Storing
+mod Telling

@@ -1,0 +1,15 @@
+use Rattle.image_objects.proofs.Standing.{held_as_used}
+use Rattle.image_objects.proofs.laws.an_object_that_stands_is_held.Goals as goal
+
+pub returns : goal.returns
+returns c = held_as_used (record {
+  names = c.one_place_has_one_name.ensures;
+  chain = c.a_chain_that_stands_is_held.ensures;
+  entries = c.a_chain_has_its_entries.ensures;
+  row = c.a_history_that_stands_is_a_row.ensures.row;
+  orderly = c.a_history_that_stands_is_a_row.ensures.order;
+  by = c.an_orderly_row_is_by_its_moment.ensures;
+  last = c.the_last_inode_is_current.ensures;
+  matter = c.only_its_blocks_matter.ensures;
+  points = c.inodes_used_point_to_what_rows_lead_to.ensures;
+})

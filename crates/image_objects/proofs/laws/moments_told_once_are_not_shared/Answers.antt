@@ -1,0 +1,11 @@
+use Rattle.image_objects.proofs.MomentsOnce.{share_none, stand_once, standing_once}
+use Rattle.image_objects.proofs.laws.moments_told_once_are_not_shared.Goals as goal
+
+pub returns-clause-apart : goal.returns-clause-apart
+returns-clause-apart c = share_none
+
+pub returns-clause-once : goal.returns-clause-once
+returns-clause-once c = stand_once c.groups_join_and_part.ensures.ascend
+
+pub returns-clause-standing : goal.returns-clause-standing
+returns-clause-standing c = standing_once c.groups_join_and_part.ensures.ascend

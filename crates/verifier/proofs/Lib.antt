@@ -1,0 +1,5 @@
+mod AllRows
+mod Holding
+mod Telling
+pub mod Frames
+pub mod Faults
