@@ -1,5 +1,6 @@
 //! What a drive holds, for the layers above it.
-ghost use Rattle.std.specs.Prelude.{◌≡◌, ℕ, ◌<◌, ◌≤◌, length, None, MatchBool, IfSome, IfNone, IfOk, IfErr};
+ghost use Rattle.std.specs.Prelude.{◌≡◌, ℕ, ◌<◌, ◌≤◌, [], length, drop, slice_index_or, None, MatchBool, IfSome, IfNone, IfOk, IfErr};
+ghost use Rattle.s4_types.specs.Sizes.{IsFrameCount};
 ghost use Rattle.s4_types.specs.declared.refusals.Refusal.TheVariants.{NoMemory};
 ghost use Rattle.std.specs.List.{AllByRecursion};
 ghost use Rattle.s4_types.specs.declared.limits.TheConstants.{RUNS_IN_ALL};
@@ -10,33 +11,49 @@ ghost use Rattle.window.specs.Runs.{Ascend, AllBeginFrom, AllEndBefore, AreFewIn
 ghost use Rattle.window.specs.Timeline.{CoverAlike};
 ghost use Rattle.object_map.specs.Objects.{IsNextAbove};
 ghost use Rattle.object_map.specs.Rows.{row_of};
-ghost use Rattle.segment_table.specs.Room.{pointers_in};
-ghost use Rattle.segment_table.specs.Table.{HoldsWholeBlocks};
+ghost use Rattle.codec.specs.Summary.{SpellsSummary};
+ghost use Rattle.segment_word.specs.Frames.{code_of};
+ghost use Rattle.segment_word.specs.Layout.{word_of, frame_at, block_bytes};
+ghost use Rattle.segment_table.specs.Room.{is_filling, numbers, pointers_in};
+ghost use Rattle.segment_table.specs.Sealing.{IsFit, IsPartFilled, summary_of};
+ghost use Rattle.segment_table.specs.Table.{slots_at, HoldsWholeBlocks};
+ghost use Rattle.segment_table.specs.Used.{HoldsUsedBlocks};
 ghost use Rattle.version_store.specs.Store.{IsStore};
 ghost use Rattle.version_store.specs.Costs.{room};
 ghost use Rattle.version_store.specs.Versions.{entries_of_object, inode_in};
 ghost use Rattle.drive.specs.Fields.{history_of, state_in, store_of};
 ghost use Rattle.drive.specs.Keeping.{DecodesWhereVisible};
+ghost use Rattle.drive.specs.Opened.{NoneFrom};
 
 use crate::drive::Drive;
+use block_log::Block;
 use codec::{Entry, Inode};
 use object_map::Row;
+use s4_types::limits::FRAME_BLOCKS;
 use s4_types::{Moment, ObjectId, Ptr, Refusal, Span};
 use segment_word::Naming;
 
 impl<J: Naming> Drive<J> {
     /// Shows what always holds of a drive: at each moment that can be read, the blocks of each object decode to exactly the
     /// version that the history tells; that history begins with the drive's base and is sound; the frames are those
-    /// of the table that `J` names; the objects stand on their blocks, and none was changed later than the clock; and each
-    /// block that is held has 512 bytes.
+    /// of the table that `J` names, 8 to 1,024; the objects stand on their blocks, none was changed later than the clock, and
+    /// no number that wasn't given has a row; and each block that is held has 512 bytes and is used. The used blocks of each
+    /// frame fit what it is for, and at most one frame is open, with 1 to 14 used blocks.
     pub fn rules(&self)
         ensures decodes { DecodesWhereVisible (store_of self.now) (state_in self.now) }
         ensures base { (history_of self.now).base ≡ J.base }
         ensures frames { self.now.store.table.drive.table ≡ J.frames }
+        ensures fit { (f : ℕ) → f < length self.now.store.table.drive.frames → IsFit f (frame_at self.now.store.table.drive.frames f) (slots_at self.now.store.table.slots f) }
+        ensures one_open { length (numbers is_filling 0 self.now.store.table.drive.frames) ≤ 1 }
+        ensures part_filled { IsPartFilled self.now.store.table }
+        ensures sizes { (length self.now.store.table.drive.frames ≤ 1024) × (length self.now.store.table.slots ≡ length self.now.store.table.drive.frames) }
         ensures sound { IsSound (state_in self.now) }
         ensures store { IsStore (store_of self.now) }
         ensures past { (store_of self.now).latest ≤ (state_in self.now).clock }
         ensures whole { HoldsWholeBlocks self.now.store.table }
+        ensures used { HoldsUsedBlocks self.now.store.table }
+        ensures count { IsFrameCount (length self.now.store.table.drive.frames) }
+        ensures unborn { NoneFrom (state_in self.now).next (store_of self.now) }
     {
         let _ = &self.next;
         self.store.rules();
@@ -150,5 +167,27 @@ impl<J: Naming> Drive<J> {
         ensures same { self.new ≡ self.old }
     {
         self.store.held_in(object, frame)
+    }
+
+    /// The state word of a frame as it is saved: it counts no reader.
+    pub fn saved_word(&mut self, frame: u16) -> u64
+        requires { frame < length self.old.store.table.drive.frames }
+        ensures word { result ≡ word_of (frame_at self.old.store.table.drive.frames frame) 0 }
+        ensures same { self.new ≡ self.old }
+    {
+        self.store.saved_word(frame)
+    }
+
+    /// The 16 blocks of a frame that isn't free, as they are saved. Those of the open frame are what sealing it now would leave:
+    /// its summary first, and zeros in its unused blocks.
+    pub fn save_blocks(&mut self, frame: u16, blocks: &mut [Block; FRAME_BLOCKS])
+        requires inside { frame < length self.old.store.table.drive.frames }
+        requires used { 0 < code_of (frame_at self.old.store.table.drive.frames frame).phase }
+        ensures spelled { SpellsSummary (drop 1 blocks.new) (slice_index_or blocks.new 0 []) (summary_of frame (frame_at self.old.store.table.drive.frames frame) (slots_at self.old.store.table.slots frame)) }
+        ensures kept { (b : ℕ) → 1 ≤ b → b ≤ length (slots_at self.old.store.table.slots frame) → slice_index_or blocks.new b [] ≡ block_bytes (frame_at self.old.store.table.drive.frames frame).contents b }
+        ensures whole { 2 ≤ code_of (frame_at self.old.store.table.drive.frames frame).phase → (b : ℕ) → b < 16 → slice_index_or blocks.new b [] ≡ block_bytes (frame_at self.old.store.table.drive.frames frame).contents b }
+        ensures same { self.new ≡ self.old }
+    {
+        self.store.save_blocks(frame, blocks);
     }
 }

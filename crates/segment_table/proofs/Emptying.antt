@@ -119,6 +119,7 @@ sound_marked old new free current f sound inside gone m =
       emptied = λ e. gone;
     } in
     record {
+      least = omega (arith, length-alone old.drive new.drive f at.0, sound.least);
       most = omega (arith, length-alone old.drive new.drive f at.0, sound.most);
       counted = ap length m.slots ∙ sound.counted ∙ sym (length-alone old.drive new.drive f at.0);
       vacant = sound.vacant ∙ ap reverse (sym (vacant_same old.drive new.drive f at.0 (ap is_free m.sealed) (ap is_free phase)));
@@ -150,7 +151,7 @@ mark_made old new free current f sound inside sealed none drive slots =
 pub same_sound : (t : Table) (d : Drive) (free : List ℕ) (current : Option ℕ) → IsSoundTable t free current → d.frames ≡ t.drive.frames → IsSoundTable (record { drive = d; slots = t.slots }) free current
 same_sound t d free current s e =
     subst (λ (l : List Frame). IsSoundTable (record { drive = record d { frames = l }; slots = t.slots }) free current) (sym e)
-    (record { most = s.most; counted = s.counted; vacant = s.vacant; filling = s.filling; fit = s.fit })
+    (record { least = s.least; most = s.most; counted = s.counted; vacant = s.vacant; filling = s.filling; fit = s.fit })
 
 pub same_log : (t : Table) (d : Drive) → d.frames ≡ t.drive.frames → log_of (record { drive = d; slots = t.slots }) ≡ log_of t
 same_log t d e = ap (λ (l : List Frame). log_of (record { drive = record d { frames = l }; slots = t.slots })) e

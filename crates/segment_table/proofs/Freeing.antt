@@ -104,6 +104,7 @@ sound_released old new free free' current f sound r vacant =
       emptied = λ e. tt;
     } in
     let made : IsSoundTable mid free' current = record {
+      least = omega (arith, length-alone old.drive d f a, sound.least);
       most = omega (arith, length-alone old.drive d f a, sound.most);
       counted = ap length r.slots ∙ length-set old.slots f [] ∙ sound.counted ∙ sym (length-alone old.drive d f a);
       vacant = vacant;

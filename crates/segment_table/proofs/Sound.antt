@@ -6,6 +6,7 @@ use Rattle.std.proofs.lemmas.Bool.{cases_eq}
 use Rattle.std.proofs.Math.Seq.{map-set_same}
 use Rattle.codec.specs.declared.summaries.Part.{Part}
 use Rattle.codec.specs.Summary.{SpellsSummary}
+use Rattle.s4_types.specs.declared.limits.TheConstants.{FEWEST_FRAMES}
 use Rattle.segment_word.specs.Frames.{Free, Open, Sealed, Emptied, Frame, no_frame, code_of, is_free, is_open}
 use Rattle.segment_word.specs.Layout.{frame_at, block_bytes}
 use Rattle.segment_word.specs.Handles.{Drive, with_changed, fresh_frame}
@@ -74,6 +75,7 @@ sound_opened old new free free' current f sound none split changed slots =
     let inside : f < length old.drive.frames = (vacant_first old.drive.frames f (reverse free') first).inside in
     let a = opened_alone old.drive new.drive f inside changed in
     record {
+      least = omega (arith, length-alone old.drive new.drive f a.0, sound.least);
       most = omega (arith, length-alone old.drive new.drive f a.0, sound.most);
       counted = ap length slots ∙ sound.counted ∙ sym (length-alone old.drive new.drive f a.0);
       vacant = sym (ap reverse (opened_vacant old.drive new.drive f (reverse free') first changed) ∙ reverse-reverse free');
@@ -116,6 +118,7 @@ sound_put old new free current f slot block sound filling room own size put =
       emptied = λ e. absurd (let is : Open ≡ Emptied = sym phase ∙ e in cc);
     } in
     record {
+      least = omega (arith, length-alone old.drive new.drive f put.alone, sound.least);
       most = omega (arith, length-alone old.drive new.drive f put.alone, sound.most);
       counted = ap length put.slots ∙ length-set old.slots f (slots_at old.slots f ++ slot ∷ []) ∙ sound.counted ∙ sym (length-alone old.drive new.drive f put.alone);
       vacant = sound.vacant ∙ ap reverse (sym (vacant_same old.drive new.drive f put.alone (ap is_free at.1) (ap is_free phase)));
@@ -142,6 +145,7 @@ sound_sealed old new free current f sound filling sealed slots =
       emptied = λ e. absurd (let is : Sealed ≡ Emptied = sym sealed.phase ∙ e in cc);
     } in
     record {
+      least = omega (arith, length-alone old.drive new.drive f sealed.alone, sound.least);
       most = omega (arith, length-alone old.drive new.drive f sealed.alone, sound.most);
       counted = ap length slots ∙ sound.counted ∙ sym (length-alone old.drive new.drive f sealed.alone);
       vacant = sound.vacant ∙ ap reverse (sym (vacant_same old.drive new.drive f sealed.alone (ap is_free at.1) (ap is_free sealed.phase)));
@@ -206,6 +210,7 @@ sound_gone old new free current f i sound inside drive slots =
     let within : f < length old.drive.frames = omega (arith, sound.counted) in
     let P : Frame → Type 0 = λ k. IsFit f k (let_go s i) in
     record {
+      least = omega (arith, ap (λ (d : Drive). length d.frames) drive, sound.least);
       most = omega (arith, ap (λ (d : Drive). length d.frames) drive, sound.most);
       counted = ap length slots ∙ length-set old.slots f (let_go s i) ∙ sound.counted ∙ sym (ap (λ (d : Drive). length d.frames) drive);
       vacant = sound.vacant ∙ sym (ap (λ (d : Drive). reverse (numbers can_open 0 d.frames)) drive);
@@ -226,10 +231,11 @@ fit_fresh f = record {
 }
 
 -- a new table
-pub sound_new : (t : Table) (count : ℕ) → count ≤ 1024 → t.drive.frames ≡ replicate count fresh_frame → t.slots ≡ replicate count [] → (free : List ℕ) → free ≡ reverse (range_with_len 0 count) → IsSoundTable t free None
-sound_new t count small frames slots free e =
+pub sound_new : (t : Table) (count : ℕ) → FEWEST_FRAMES ≤ count → count ≤ 1024 → t.drive.frames ≡ replicate count fresh_frame → t.slots ≡ replicate count [] → (free : List ℕ) → free ≡ reverse (range_with_len 0 count) → IsSoundTable t free None
+sound_new t count enough small frames slots free e =
     let long : length t.drive.frames ≡ count = ap length frames ∙ length-replicate count fresh_frame in
     record {
+      least = omega (arith, long);
       most = omega (arith, long);
       counted = ap length slots ∙ length-replicate count [] ∙ sym long;
       vacant = e ∙ ap reverse (sym (ap (λ (l : List Frame). numbers can_open 0 l) frames ∙ numbers_all can_open 0 count fresh_frame refl));

@@ -9,6 +9,7 @@ use Rattle.s4_types.specs.Pointer.{Place}
 use Rattle.block_log.specs.Log.{Stored}
 use Rattle.codec.specs.declared.summaries.Part.{Part}
 use Rattle.codec.specs.Summary.{SummaryFields, KeepsSummaryRules, SpellsSummary}
+use Rattle.s4_types.specs.declared.limits.TheConstants.{FEWEST_FRAMES}
 use Rattle.segment_word.specs.Frames.{Phase, Free, Open, Sealed, Emptied, Frame, no_frame, code_of, is_open}
 use Rattle.segment_word.specs.Layout.{frame_at, block_bytes, with_block}
 use Rattle.segment_word.specs.Handles.{Drive, fresh_frame}
@@ -29,7 +30,7 @@ pub alone_frames : (old new : List Frame) (ss ts : List (List Slot)) (f : ℕ) �
 alone_frames old new ss ts f e = ap (λ (l : List Frame). (unnamed l ts).drive) e
 
 pub sound_table : (t : Table) (current : Option ℕ) → IsSoundParts t current → IsSoundTable t (reverse (numbers can_open 0 t.drive.frames)) current
-sound_table t current sound = record { most = sound.most; counted = sound.counted; vacant = refl; filling = sound.filling; fit = sound.fit }
+sound_table t current sound = record { least = sound.least; most = sound.most; counted = sound.counted; vacant = refl; filling = sound.filling; fit = sound.fit }
 
 -- one frame has changed and fits
 pub changed_parts : (old new : Table) (f : ℕ) (s : List Slot) (current current' : Option ℕ) → IsSoundParts old current → f < length old.drive.frames → IsAlone f old.drive new.drive → new.slots ≡ set old.slots f s
@@ -38,6 +39,7 @@ pub changed_parts : (old new : Table) (f : ℕ) (s : List Slot) (current current
 changed_parts old new f s current current' sound inside alone slots fit filling room =
     let within : f < length old.slots = omega (arith, sound.counted) in
     record {
+      least = omega (arith, length-alone old.drive new.drive f alone, sound.least);
       most = omega (arith, length-alone old.drive new.drive f alone, sound.most);
       counted = ap length slots ∙ length-set old.slots f s ∙ sound.counted ∙ sym (length-alone old.drive new.drive f alone);
       filling = filling;
@@ -198,11 +200,12 @@ stored_more f n blocks block old mid new inside low are changed here others is l
 
 -- ---- all free
 
-pub sound_free : (count : ℕ) → count ≤ 1024 → IsSoundParts (unnamed (replicate count fresh_frame) (replicate count [])) None
-sound_free count small =
+pub sound_free : (count : ℕ) → FEWEST_FRAMES ≤ count → count ≤ 1024 → IsSoundParts (unnamed (replicate count fresh_frame) (replicate count [])) None
+sound_free count enough small =
     let t : Table = unnamed (replicate count fresh_frame) (replicate count []) in
-    let sound = sound_new t count small refl refl (reverse (range_with_len 0 count)) refl in
+    let sound = sound_new t count enough small refl refl (reverse (range_with_len 0 count)) refl in
     record {
+      least = sound.least;
       most = sound.most;
       counted = sound.counted;
       filling = sound.filling;

@@ -1,6 +1,7 @@
 -- What holds of a table before its frames are shared.
 use Rattle.std.specs.Prelude.{◌≡◌, ℕ, ◌<◌, ◌≤◌, List, length, Option}
 use Rattle.std.specs.Option.{option_to_list}
+use Rattle.s4_types.specs.declared.limits.TheConstants.{FEWEST_FRAMES}
 use Rattle.segment_word.specs.Frames.{Frame, no_releases}
 use Rattle.segment_word.specs.Layout.{frame_at}
 use Rattle.segment_word.specs.AcceptHandles.{no_table}
@@ -15,6 +16,7 @@ unnamed frames slots = record { drive = record { table = no_table; frames = fram
 
 -- What holds of its frames: the used blocks of each fit what it is for, and at most one is open, with 1 to 14 used blocks.
 pub record IsSoundParts (t : Table) (current : Option ℕ) : Type 0 where
+  pub least : FEWEST_FRAMES ≤ length t.drive.frames
   pub most : length t.drive.frames ≤ 1024
   pub counted : length t.slots ≡ length t.drive.frames
   pub filling : option_to_list current ≡ numbers is_filling 0 t.drive.frames

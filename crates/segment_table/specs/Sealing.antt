@@ -2,6 +2,7 @@
 use Rattle.std.specs.Prelude.{◌≡◌, ℕ, zero, suc, ◌+◌, ◌^◌, ◌<◌, ◌≤◌, false, List, [], ◌∷◌, length, map, reverse, Option}
 use Rattle.std.specs.List.{AllByRecursion}
 use Rattle.std.specs.Option.{option_to_list}
+use Rattle.s4_types.specs.declared.limits.TheConstants.{FEWEST_FRAMES}
 use Rattle.codec.specs.Summary.{SummaryFields, SpellsSummary}
 use Rattle.segment_word.specs.Frames.{Free, Open, Emptied, Frame, code_of}
 use Rattle.segment_word.specs.Layout.{frame_at, block_bytes}
@@ -50,6 +51,7 @@ pub record IsFit (f : ℕ) (k : Frame) (slots : List Slot) : Type 0 where
 -- What holds of a table between calls, but for how many blocks of the open frame are used: which frames can be opened,
 -- the lowest number last, and which one is open.
 pub record IsSoundTable (t : Table) (free : List ℕ) (current : Option ℕ) : Type 0 where
+  pub least : FEWEST_FRAMES ≤ length t.drive.frames
   pub most : length t.drive.frames ≤ 1024
   pub counted : length t.slots ≡ length t.drive.frames
   pub vacant : free ≡ reverse (numbers can_open 0 t.drive.frames)

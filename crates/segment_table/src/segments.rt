@@ -1,6 +1,7 @@
 //! The frames of a drive and what their blocks are for, one step at a time.
 ghost use Rattle.std.specs.Prelude.{◌≡◌, ◌≢◌, ℕ, ◌+◌, ◌-◌, ◌^◌, ◌<◌, ◌≤◌, ◌⊎◌, ◌==◌, true, false, [], ◌∷◌, ◌++◌, length, map, drop, slice_index_or, Option, Some, None, IsSome, IfSome, IfNone, IfOk, IfErr, OnOk, OnErr, IsOk, MatchOption, MatchBool, option_map, vec_len, vec_capacity};
 ghost use Rattle.std.specs.Option.{option_to_list};
+ghost use Rattle.s4_types.specs.Sizes.{IsFrameCount};
 ghost use Rattle.s4_types.specs.declared.refusals.Refusal.TheVariants.{NoMemory, Busy, InUse};
 ghost use Rattle.block_log.specs.Log.{appended, dropped};
 ghost use Rattle.codec.specs.Summary.{SpellsSummary};
@@ -11,6 +12,7 @@ ghost use Rattle.segment_word.specs.Counting.{pins_in};
 ghost use Rattle.segment_word.specs.FrameRule.{AllAgree, AllRemembered};
 ghost use Rattle.segment_word.specs.Handles.{IsAmong, pin_of, HasMissed};
 ghost use Rattle.segment_table.specs.Table.{Table, slots_at, held_at, HoldsWholeBlocks, is_of, part_of};
+ghost use Rattle.segment_table.specs.Used.{HoldsUsedBlocks};
 ghost use Rattle.segment_table.specs.Room.{is_filling, numbers, rest_of, places_ahead, places_spent, log_of, pointers_in};
 ghost use Rattle.segment_table.specs.Sealing.{IsFit, IsSoundTable, IsPartFilled, summary_of};
 ghost use Rattle.segment_table.specs.Changes.{IsFilling, NoneIsFilling, IsReadyFrame, IsPut, IsSealed, IsSealedIn, NoneHeld, IsMarked, IsReleased, IsAheadAgain};
@@ -80,12 +82,14 @@ impl Segments {
         }
     }
 
-    /// Shows what holds of each frame between calls, that at most one is open, that each held block is whole, and that the
-    /// places that were ever taken and those ahead are fewer than 2^46.
+    /// Shows what holds of each frame between calls, that at most one is open, that each held block is whole and used, how many
+    /// frames there can be, and that the places that were ever taken and those ahead are fewer than 2^46.
     pub fn rules(&self)
         ensures fit { (f : ℕ) → f < length self.now.drive.frames → IsFit f (frame_at self.now.drive.frames f) (slots_at self.now.slots f) }
         ensures one_open { length (numbers is_filling 0 self.now.drive.frames) ≤ 1 }
         ensures whole { HoldsWholeBlocks self.now }
+        ensures used { HoldsUsedBlocks self.now }
+        ensures count { IsFrameCount (length self.now.drive.frames) }
         ensures sizes { (length self.now.drive.frames ≤ 1024) × (length self.now.slots ≡ length self.now.drive.frames) }
         ensures bounded { places_spent self.now + length (places_ahead self.now) < 2 ^ 46 }
     {

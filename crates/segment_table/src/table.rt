@@ -12,6 +12,7 @@ ghost use Rattle.segment_word.specs.Counting.{pins_in};
 ghost use Rattle.segment_word.specs.FrameRule.{AllAgree, AllRemembered};
 ghost use Rattle.segment_word.specs.Handles.{fresh_frame, IsAmong, pin_of, HasMissed};
 ghost use Rattle.segment_table.specs.Table.{Table, slots_at, held_at, HoldsWholeBlocks, part_of};
+ghost use Rattle.segment_table.specs.Used.{HoldsUsedBlocks};
 ghost use Rattle.segment_table.specs.Room.{is_filling, numbers, rest_of, places_ahead, log_of, new_places, pointers_in};
 ghost use Rattle.segment_table.specs.Laws.{ListsAllHeld};
 ghost use Rattle.segment_table.specs.Sealing.{IsFit, IsPartFilled, summary_of};
@@ -77,12 +78,14 @@ impl SegmentTable {
 
     /// Shows what holds between calls: the used blocks of each frame fit what it is for, so that a sealed frame spells its
     /// summary in front of zeros in its unused blocks; at most one frame is open, with 1 to 14 used blocks; each held block
-    /// has 512 bytes; and the places that were ever taken and those ahead are fewer than 2^46, over all lives of the frames.
+    /// has 512 bytes and is used; there are 8 to 1,024 frames; and the places that were ever taken and those ahead are fewer than 2^46, over all lives of the frames.
     pub fn rules(&self)
         ensures fit { (f : ℕ) → f < length self.now.drive.frames → IsFit f (frame_at self.now.drive.frames f) (slots_at self.now.slots f) }
         ensures one_open { length (numbers is_filling 0 self.now.drive.frames) ≤ 1 }
         ensures whole { HoldsWholeBlocks self.now }
         ensures part_filled { IsPartFilled self.now }
+        ensures used { HoldsUsedBlocks self.now }
+        ensures count { IsFrameCount (length self.now.drive.frames) }
         ensures sizes { (length self.now.drive.frames ≤ 1024) × (length self.now.slots ≡ length self.now.drive.frames) }
         ensures bounded { (log_of self.now).spent + length (log_of self.now).ahead < 2 ^ 46 }
     {

@@ -1,6 +1,7 @@
 //! The segment table of the drive that a type names.
 ghost use Rattle.std.specs.Prelude.{◌≡◌, ◌≢◌, ℕ, ◌<◌, ◌≤◌, ◌+◌, ◌-◌, ◌^◌, ◌↔◌, ◌⊎◌, ◌++◌, true, false, [], ◌∷◌, Some, None, length, min, take, drop, slice_index_or, option_map, IsSome, IsOk, IfSome, IfNone, IfOk, IfErr, OnOk, OnErr, MatchResult};
 ghost use Rattle.std.specs.List.{list_any};
+ghost use Rattle.s4_types.specs.Sizes.{IsFrameCount};
 ghost use Rattle.s4_types.specs.declared.limits.TheConstants.{OBJECT_BLOCKS, OBJECT_BYTES};
 ghost use Rattle.s4_types.specs.declared.refusals.Refusal.TheVariants.{NoMemory, Busy, NoSpace, InUse};
 ghost use Rattle.block_log.specs.Log.{appended, dropped};
@@ -14,8 +15,9 @@ ghost use Rattle.segment_word.specs.FrameRule.{AllRemembered};
 ghost use Rattle.segment_word.specs.Handles.{HasMissed, pin_of};
 ghost use Rattle.segment_table.specs.Laws.{ListsAllHeld};
 ghost use Rattle.segment_table.specs.Table.{slots_at, held_at, part_of, HoldsWholeBlocks};
+ghost use Rattle.segment_table.specs.Used.{HoldsUsedBlocks};
 ghost use Rattle.segment_table.specs.Room.{is_filling, numbers, rest_of, places_ahead, log_of, pointers_in};
-ghost use Rattle.segment_table.specs.Sealing.{summary_of};
+ghost use Rattle.segment_table.specs.Sealing.{IsFit, IsPartFilled, summary_of};
 ghost use Rattle.segment_table.specs.Changes.{IsFilling, NoneIsFilling, IsSealedIn, IsMarked, IsReleased, IsAheadAgain};
 ghost use Rattle.time_read.specs.Plans.{IsAt, pieces_of, bytes_planned, pins_held, is_pinned, is_pinned_in};
 ghost use Rattle.version_store.specs.Emptying.{CanBeEmptied};
@@ -63,10 +65,17 @@ impl<J: Naming> NamedTable<J> {
 
     /// Shows that its frames are the drive's, that at most one of them is open, that each held block has 512 bytes, and that
     /// places that were ever taken and those ahead are fewer than 2^46.
+    ///
+    /// The used blocks of each frame fit what it is for, and an open one has 1 to 14.
     pub(crate) fn rules(&self)
         ensures frames { self.now.drive.table ≡ J.frames }
+        ensures fit { (f : ℕ) → f < length self.now.drive.frames → IsFit f (frame_at self.now.drive.frames f) (slots_at self.now.slots f) }
+        ensures part_filled { IsPartFilled self.now }
+        ensures sizes { (length self.now.drive.frames ≤ 1024) × (length self.now.slots ≡ length self.now.drive.frames) }
         ensures one_open { length (numbers is_filling 0 self.now.drive.frames) ≤ 1 }
         ensures whole { HoldsWholeBlocks self.now }
+        ensures used { HoldsUsedBlocks self.now }
+        ensures count { IsFrameCount (length self.now.drive.frames) }
         ensures bounded { (log_of self.now).spent + length (log_of self.now).ahead < 2 ^ 46 }
     {
         self.table.rules();

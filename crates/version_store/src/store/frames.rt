@@ -1,11 +1,15 @@
 //! A store over frames: what it holds in one of them, and plans of reads.
-ghost use Rattle.std.specs.Prelude.{◌≡◌, ℕ, ◌<◌, ◌-◌, ◌↔◌, ◌⊎◌, true, false, Some, None, IsSome, IfSome, IfOk, IfErr, min, take, drop};
+ghost use Rattle.std.specs.Prelude.{◌≡◌, ℕ, ◌<◌, ◌≤◌, ◌-◌, ◌↔◌, ◌⊎◌, true, false, Some, None, IsSome, IfSome, IfOk, IfErr, length, min, take, drop};
 ghost use Rattle.std.specs.List.{list_any};
+ghost use Rattle.s4_types.specs.Sizes.{IsFrameCount};
 ghost use Rattle.s4_types.specs.declared.refusals.Refusal.TheVariants.{NoMemory, Busy};
 ghost use Rattle.inode.specs.Contents.{contents_of, bytes_of};
 ghost use Rattle.segment_word.specs.Counting.{pins_in};
-ghost use Rattle.segment_table.specs.Room.{log_of, pointers_in};
-ghost use Rattle.segment_table.specs.Table.{HoldsWholeBlocks};
+ghost use Rattle.segment_word.specs.Layout.{frame_at};
+ghost use Rattle.segment_table.specs.Room.{is_filling, numbers, log_of, pointers_in};
+ghost use Rattle.segment_table.specs.Sealing.{IsFit, IsPartFilled};
+ghost use Rattle.segment_table.specs.Table.{slots_at, HoldsWholeBlocks};
+ghost use Rattle.segment_table.specs.Used.{HoldsUsedBlocks};
 ghost use Rattle.time_read.specs.Plans.{IsAt, pieces_of, bytes_planned, pins_held, is_pinned, is_pinned_in};
 ghost use Rattle.version_store.specs.Planning.{IsReadPlan, IsPlanRefusal};
 ghost use Rattle.version_store.specs.Store.{fields_of, IsStore};
@@ -42,10 +46,17 @@ impl Store<SegmentTable> {
 }
 
 impl<J: Naming> Store<NamedTable<J>> {
-    /// Shows that its frames are those of the drive that `J` names, and that each block that it holds has 512 bytes.
+    /// Shows that its frames are those of the drive that `J` names, 8 to 1,024, and that each block that it holds has 512 bytes and
+    /// is used. The used blocks of each frame fit what it is for, and at most one frame is open, with 1 to 14 used blocks.
     pub fn rules(&self)
         ensures frames { self.now.table.drive.table ≡ J.frames }
+        ensures fit { (f : ℕ) → f < length self.now.table.drive.frames → IsFit f (frame_at self.now.table.drive.frames f) (slots_at self.now.table.slots f) }
+        ensures one_open { length (numbers is_filling 0 self.now.table.drive.frames) ≤ 1 }
+        ensures part_filled { IsPartFilled self.now.table }
+        ensures sizes { (length self.now.table.drive.frames ≤ 1024) × (length self.now.table.slots ≡ length self.now.table.drive.frames) }
         ensures whole { HoldsWholeBlocks self.now.table }
+        ensures used { HoldsUsedBlocks self.now.table }
+        ensures count { IsFrameCount (length self.now.table.drive.frames) }
     {
         self.table.rules();
     }

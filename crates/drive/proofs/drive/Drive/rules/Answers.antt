@@ -13,3 +13,8 @@ pub returns-clause-past : goal.returns-clause-past
 returns-clause-past g c =
     let kept : IsKeptDrive (state_in c.args.self.now) (store_of c.args.self.now) c.self.inside.window c.self.inside.next = kept_of c.args.self.now g.J.Naming.base c.self.inside.history c.self.inside.store c.self.inside.window c.self.inside.next c.self.view_is c.self.invariant in
     kept.past
+
+pub returns-clause-unborn : goal.returns-clause-unborn
+returns-clause-unborn g c =
+    let kept : IsKeptDrive (state_in c.args.self.now) (store_of c.args.self.now) c.self.inside.window c.self.inside.next = kept_of c.args.self.now g.J.Naming.base c.self.inside.history c.self.inside.store c.self.inside.window c.self.inside.next c.self.view_is c.self.invariant in
+    kept.unborn

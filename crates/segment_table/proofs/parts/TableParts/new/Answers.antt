@@ -10,4 +10,4 @@ pub invariant_of-result : goal.invariant_of-result
 invariant_of-result c =
     let F : List Frame → Type 0 = λ l. IsSoundParts (unnamed l (replicate c.args.frames [])) None in
     let S : List (List Slot) → Type 0 = λ l. IsSoundParts (unnamed c.in_ok-words.words l) None in
-    subst S (sym c.in_ok-slots.ensures.slots) (subst F (sym c.in_ok-words.ensures.frames) (sound_free c.args.frames c.requires.1))
+    subst S (sym c.in_ok-slots.ensures.slots) (subst F (sym c.in_ok-words.ensures.frames) (sound_free c.args.frames c.requires.0 c.requires.1))
