@@ -1,2 +1,5 @@
 pub mod Frames
 pub mod Faults
+pub mod Retold
+pub mod SpanOrder
+pub mod KeptRows
