@@ -3,3 +3,4 @@ pub mod Faults
 pub mod Retold
 pub mod SpanOrder
 pub mod KeptRows
+pub mod Verified

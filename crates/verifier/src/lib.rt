@@ -9,12 +9,12 @@
 mod images;
 pub mod laws;
 // mod moments;
-// mod objects;
+mod objects;
 mod opening;
 // mod rows;
 mod tables;
-// mod verifying;
+mod verifying;
 
-// pub use images::Image;
-// pub use opening::open;
-// pub use verifying::verify;
+pub use images::Image;
+pub use opening::open;
+pub use verifying::verify;
