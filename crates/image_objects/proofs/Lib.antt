@@ -1,11 +1,14 @@
 pub mod Parts
 pub mod Moments
 pub mod Sizes
+pub mod Walk
+pub mod Named
+mod HeldByName
 mod Kept
 mod Listed
 mod MomentsOnce
-mod Named
 mod Pointing
 mod Sorted
 mod Standing
 mod Storing
+mod Telling

@@ -1,12 +1,14 @@
 //! Laws of the objects of an image, for the layers above: each function does nothing, and its contract is the law.
-ghost use Rattle.std.specs.Prelude.{◌≡◌, ◌↔◌, ℕ, ◌+◌, ◌^◌, ◌<◌, ◌≤◌, true, List, length, slice_index, Option, Some, None};
+ghost use Rattle.std.specs.Prelude.{◌≡◌, ◌↔◌, ℕ, ◌+◌, ◌^◌, ◌<◌, ◌≤◌, ◌==◌, if◌then◌else◌, true, List, [], ◌∷◌, ◌++◌, length, slice_index, Option, Some, None};
 ghost use Rattle.std.specs.List.{AllByRecursion, Contains};
 ghost use Rattle.std.specs.List.Sorted.{IsPermutation, IsSorted};
 ghost use Rattle.std.specs.Ordering.{nat_cmp};
 ghost use Rattle.s4_types.specs.Pointer.{Place};
 ghost use Rattle.block_log.specs.Log.{Log, Stored, of_kind};
 ghost use Rattle.block_log.specs.declared.kinds.BlockKind.TheVariants.{Journal, Checkpoint, Data};
+ghost use Rattle.codec.specs.Entry.{EntryFields};
 ghost use Rattle.undo_redo.specs.Groups.{grouped};
+ghost use Rattle.undo_redo.specs.Runs.{last_moment};
 ghost use Rattle.object_map.specs.declared.map.Row.{Row};
 ghost use Rattle.object_map.specs.Rows.{row_of};
 ghost use Rattle.version_store.specs.Store.{IsStore};
@@ -16,7 +18,7 @@ ghost use Rattle.image_chains.specs.History.{checkpoint_view, kept_row};
 ghost use Rattle.image_objects.specs.Objects.{pointers_used};
 ghost use Rattle.image_objects.specs.Naming.{HoldsWhatIsNamed};
 ghost use Rattle.image_objects.specs.Rows.{RowsAscend, RowsShareNoMoment, RowsStand, kept_rows};
-ghost use Rattle.image_objects.specs.Moments.{moments_used, StandOnce};
+ghost use Rattle.image_objects.specs.Moments.{moments_of_chain, moments_used, StandOnce};
 ghost use Rattle.image_objects.specs.Laws.{IsHeldAsUsed, InodesUsedPointToWhatRowsLeadTo};
 
 use block_log::laws::one_place_has_one_name;
@@ -28,8 +30,8 @@ use time_read::laws::the_last_inode_is_current;
 use undo_redo::laws::groups_join_and_part;
 use version_store::laws::inodes_point_to_what_rows_name;
 
-/// Where just what rows name is held, an object that has one of the rows has of its journal the blocks of that row's chain, of
-/// its checkpoints the one that the row names, and of its data what a pointer that the row leads to is: each as it is used.
+/// Where just what rows name is held, these blocks are held of an object that has one of the rows, each as it is used: of its
+/// journal those of the row's chain, of its checkpoints the one that the row names, and of its data those that the row leads to.
 pub fn what_is_named_is_held_of_each()
     ensures journal { (used held : Place → Option Stored) (rows : List ImageRow) (clock : ℕ) (row : ImageRow) → RowsAscend clock 0 0 rows → HoldsWhatIsNamed used held rows → Contains rows row
         → (p : Place) → of_kind Journal row.object held p ≡ chain_view used row p }
@@ -91,6 +93,14 @@ pub fn moments_told_once_are_not_shared()
 {
     groups_join_and_part();
 }
+
+/// The moments of a chain are told entry by entry: the moment of one more entry comes behind them, where it isn't that of the entry
+/// before it.
+pub fn moments_are_told_one_by_one()
+    ensures moments { (entries : List EntryFields) (e : EntryFields) → 1 ≤ e.moment
+        → moments_of_chain (entries ++ e ∷ []) ≡ moments_of_chain entries ++ (if e.moment == last_moment 0 entries then [] else e.moment ∷ []) }
+    ensures last { (entries : List EntryFields) (e : EntryFields) → last_moment 0 (entries ++ e ∷ []) ≡ e.moment }
+{}
 
 /// No number stands in a list twice exactly where no two neighbours are equal once it is sorted.
 pub fn neighbours_tell_what_stands_twice()

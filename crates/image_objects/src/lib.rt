@@ -6,8 +6,10 @@
 #![tactic(auto)]
 
 pub mod laws;
+mod naming;
 mod objects;
 mod pointers;
 mod tidiness;
 
+pub use naming::{push_named, what_a_row_names_is_used};
 pub use objects::read_object;

@@ -1,6 +1,9 @@
-pub mod Frames
-pub mod Faults
-pub mod Retold
-pub mod SpanOrder
-pub mod KeptRows
-pub mod Verified
+mod AllRows
+mod Holding
+mod Telling
+mod Frames
+mod Faults
+mod Retold
+mod SpanOrder
+mod KeptRows
+mod Verified

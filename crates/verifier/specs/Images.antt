@@ -3,7 +3,6 @@ use Rattle.std.specs.Prelude.{◌≡◌, ℕ, ◌-◌, ◌≤◌, List, length}
 use Rattle.std.specs.List.{All, AllByRecursion}
 use Rattle.s4_types.specs.declared.spans.Span.{Span}
 use Rattle.s4_types.specs.declared.limits.TheConstants.{RUNS_IN_ALL}
-use Rattle.s4_types.specs.Sizes.{IsFrameCount}
 use Rattle.s4_model.specs.Sound.{IsOfGiven}
 use Rattle.image_parts.specs.Image.{Image}
 use Rattle.image_chains.specs.declared.rows.ImageRow.{ImageRow}

@@ -3,3 +3,4 @@ pub mod Rows
 pub mod Grammar
 pub mod Reading
 pub mod Images
+pub mod private

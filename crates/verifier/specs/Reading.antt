@@ -1,6 +1,5 @@
 -- What is read of an image's rows, one behind the other.
 use Rattle.std.specs.Prelude.{◌≡◌, ℕ, List, [], ◌∷◌, Option}
-use Rattle.std.specs.List.{AllByRecursion, flat_map}
 use Rattle.s4_types.specs.Pointer.{Place}
 use Rattle.block_log.specs.Log.{Stored}
 use Rattle.segment_table.specs.Table.{Table, held_at}

@@ -5,13 +5,13 @@
 //! drive whose frames, rows, spans and numbers are the image's, and whose history begins with what they stand for.
 #![tactic(auto)]
 
-// mod blocks;
+mod blocks;
 mod images;
 pub mod laws;
-// mod moments;
+mod moments;
 mod objects;
 mod opening;
-// mod rows;
+mod rows;
 mod tables;
 mod verifying;
 

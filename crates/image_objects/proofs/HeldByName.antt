@@ -1,0 +1,135 @@
+-- Of the blocks of an object, those are held that its row names.
+use Rattle.std.proofs.Common.{◌≡◌, ◌↔◌, inl, inr, ℕ, ◌==◌, ◌&&◌, true, ltb, List, Option, Some, None, refl, sym, ap, ◌∙◌, subst}
+use Rattle.std.specs.List.{Contains}
+use Rattle.std.proofs.lemmas.Bool.{cases_Bool, false≢true, and_from, and_parts, eq-eqb, eqb-true, lt-ltb, ltb-true, cond-true, cond-false}
+use Rattle.std.proofs.lemmas.Option.{none-some, same_Some}
+use Rattle.s4_types.specs.Pointer.{Place}
+use Rattle.block_log.specs.Log.{Stored, of_kind, seen_as, same_kind, same_place}
+use Rattle.block_log.specs.declared.kinds.BlockKind.{BlockKind}
+use Rattle.block_log.specs.declared.kinds.BlockKind.TheVariants.{Journal, Checkpoint, Data}
+use Rattle.journal_chain.specs.Chain.{BlockView, chain_places, times}
+use Rattle.image_chains.specs.declared.rows.ImageRow.{ImageRow}
+use Rattle.image_chains.specs.Chains.{chain_view}
+use Rattle.image_chains.specs.History.{named_at, checkpoint_view}
+use Rattle.image_objects.specs.Objects.{pointers_used}
+use Rattle.image_objects.specs.Naming.{NamesUsed, IsNamedBy, HoldsWhatIsNamed}
+use Rattle.image_objects.specs.Rows.{RowsAscend}
+use Rattle.image_objects.proofs.Listed.{one_row}
+
+-- places that the test finds to be one are equal
+abbrev pub OneName : Type 0
+OneName = (p q : Place) → same_place p q ≡ true → p ≡ q
+
+-- ---- a block that is seen as one of a kind and of an object
+
+one_kind : (k l : BlockKind) → same_kind k l ≡ true → l ≡ k
+one_kind Journal Journal h = refl
+one_kind Journal Checkpoint h = absurd (false≢true h)
+one_kind Journal Data h = absurd (false≢true h)
+one_kind Checkpoint Journal h = absurd (false≢true h)
+one_kind Checkpoint Checkpoint h = refl
+one_kind Checkpoint Data h = absurd (false≢true h)
+one_kind Data Journal h = absurd (false≢true h)
+one_kind Data Checkpoint h = absurd (false≢true h)
+one_kind Data Data h = refl
+
+kind_itself : (k : BlockKind) → same_kind k k ≡ true
+kind_itself Journal = refl
+kind_itself Checkpoint = refl
+kind_itself Data = refl
+
+pub record Seen (k : BlockKind) (o : ℕ) (found : Option Stored) (bytes : List ℕ) : Type 0 where
+  pub block : Stored
+  pub there : found ≡ Some block
+  pub kind : block.kind ≡ k
+  pub object : block.object ≡ o
+  pub same : block.bytes ≡ bytes
+
+pub seen : (k : BlockKind) (o : ℕ) (found : Option Stored) (bytes : List ℕ) → seen_as k o found ≡ Some bytes → Seen k o found bytes
+seen k o None bytes h = absurd (none-some bytes h)
+seen k o (Some block) bytes h =
+    let test = same_kind k block.kind && block.object == o in
+    elim (cases_Bool test) [
+      | inl is ↦ (let parts = and_parts (same_kind k block.kind) (block.object == o) is in
+          record {
+            block = block;
+            there = refl;
+            kind = one_kind k block.kind parts.0;
+            object = eqb-true block.object o parts.1;
+            same = same_Some block.bytes bytes (sym (cond-true test (Some block.bytes) None is) ∙ h);
+          })
+      | inr ne ↦ absurd (none-some bytes (sym (cond-false test (Some block.bytes) None ne) ∙ h))
+    ]
+
+pub seen_here : (k : BlockKind) (o : ℕ) (found : Option Stored) (block : Stored) → found ≡ Some block → block.kind ≡ k → block.object ≡ o → seen_as k o found ≡ Some block.bytes
+seen_here k o found block there kind object =
+    ap (seen_as k o) there
+    ∙ cond-true (same_kind k block.kind && block.object == o) (Some block.bytes) None
+    (and_from (same_kind k block.kind) (block.object == o) (ap (same_kind k) kind ∙ kind_itself k) (eq-eqb block.object o object))
+
+-- ---- of an object's blocks of a kind, those are held that the row names
+
+pub held_named : (used held : Place → Option Stored) (rows : List ImageRow) (clock : ℕ) (row : ImageRow) (k : BlockKind) (p : Place) (bytes : List ℕ) → RowsAscend clock 0 0 rows → HoldsWhatIsNamed used held rows → Contains rows row
+    → of_kind k row.object held p ≡ Some bytes → (of_kind k row.object used p ≡ Some bytes) × NamesUsed used row k p
+held_named used held rows clock row k p bytes ascend holds there h =
+    let s : Seen k row.object (held p) bytes = seen k row.object (held p) bytes h in
+    let n : IsNamedBy used rows p s.block = holds.named p s.block s.there in
+    let same : n.row ≡ row = one_row clock 0 0 rows n.row row ascend n.listed there (n.object ∙ s.object) in (
+      seen_here k row.object (used p) s.block (holds.kept p s.block s.there) s.kind s.object ∙ ap (λ (b : List ℕ). Some b) s.same,
+      subst (λ (r : ImageRow). NamesUsed used r k p) same (subst (λ (kind : BlockKind). NamesUsed used n.row kind p) s.kind n.names),
+    )
+
+pub named_held : (used held : Place → Option Stored) (rows : List ImageRow) (row : ImageRow) (k : BlockKind) (p : Place) (bytes : List ℕ) → HoldsWhatIsNamed used held rows → Contains rows row
+    → of_kind k row.object used p ≡ Some bytes → NamesUsed used row k p → of_kind k row.object held p ≡ Some bytes
+named_held used held rows row k p bytes holds there h names =
+    let s : Seen k row.object (used p) bytes = seen k row.object (used p) bytes h in
+    let n : IsNamedBy used rows p s.block = record { row = row; listed = there; object = sym s.object; names = subst (λ (kind : BlockKind). NamesUsed used row kind p) (sym s.kind) names } in
+    seen_here k row.object (held p) s.block (holds.all p s.block s.there n) s.kind s.object ∙ ap (λ (b : List ℕ). Some b) s.same
+
+-- ---- as views of journal and checkpoint
+
+same_options : {X : Type 0} (a b : Option X) → ((x : X) → a ≡ Some x → b ≡ Some x) → ((x : X) → b ≡ Some x → a ≡ Some x) → a ≡ b
+same_options None None forth back = refl
+same_options None (Some y) forth back = back y refl
+same_options (Some x) b forth back = sym (forth x refl)
+
+pub journal_held : (used held : Place → Option Stored) (rows : List ImageRow) (clock : ℕ) (row : ImageRow) → RowsAscend clock 0 0 rows → HoldsWhatIsNamed used held rows → Contains rows row
+    → (p : Place) → of_kind Journal row.object held p ≡ chain_view used row p
+journal_held used held rows clock row ascend holds there p =
+    let count = times p (chain_places (of_kind Journal row.object used) row.object row.head) in
+    let here = of_kind Journal row.object used p in
+    same_options (of_kind Journal row.object held p) (chain_view used row p)
+    (λ x h. let (is, names) = held_named used held rows clock row Journal p x ascend holds there h in cond-true (ltb 0 count) here None (lt-ltb 0 count names) ∙ is)
+    (λ x h. elim (cases_Bool (ltb 0 count)) [
+      | inl is ↦ named_held used held rows row Journal p x holds there (sym (cond-true (ltb 0 count) here None is) ∙ h) (ltb-true 0 count is)
+      | inr ne ↦ absurd (none-some x (sym (cond-false (ltb 0 count) here None ne) ∙ h))
+    ])
+
+pub place_itself : (p : Place) → same_place p p ≡ true
+place_itself p =
+    and_from (p.frame == p.frame) (p.block == p.block && p.generation == p.generation) (eq-eqb p.frame p.frame refl)
+    (and_from (p.block == p.block) (p.generation == p.generation) (eq-eqb p.block p.block refl) (eq-eqb p.generation p.generation refl))
+
+named_there : OneName → (view : BlockView) (q : Option Place) (p : Place) (x : List ℕ) → named_at q view p ≡ Some x → (view p ≡ Some x) × (q ≡ Some p)
+named_there one view None p x h = absurd (none-some x h)
+named_there one view (Some q) p x h = elim (cases_Bool (same_place q p)) [
+  | inl is ↦ (sym (cond-true (same_place q p) (view p) None is) ∙ h, ap (λ (r : Place). Some r) (one q p is))
+  | inr ne ↦ absurd (none-some x (sym (cond-false (same_place q p) (view p) None ne) ∙ h))
+]
+
+named_here : (view : BlockView) (q : Option Place) (p : Place) (x : List ℕ) → view p ≡ Some x → q ≡ Some p → named_at q view p ≡ Some x
+named_here view q p x h is = ap (λ (r : Option Place). named_at r view p) is ∙ cond-true (same_place p p) (view p) None (place_itself p) ∙ h
+
+pub checkpoint_held : OneName → (used held : Place → Option Stored) (rows : List ImageRow) (clock : ℕ) (row : ImageRow) → RowsAscend clock 0 0 rows → HoldsWhatIsNamed used held rows → Contains rows row
+    → (p : Place) → of_kind Checkpoint row.object held p ≡ checkpoint_view used row p
+checkpoint_held one used held rows clock row ascend holds there p =
+    same_options (of_kind Checkpoint row.object held p) (checkpoint_view used row p)
+    (λ x h. let (is, names) = held_named used held rows clock row Checkpoint p x ascend holds there h in named_here (of_kind Checkpoint row.object used) row.checkpoint p x is names)
+    (λ x h. let (is, names) = named_there one (of_kind Checkpoint row.object used) row.checkpoint p x h in named_held used held rows row Checkpoint p x holds there is names)
+
+pub data_held : (used held : Place → Option Stored) (rows : List ImageRow) (clock : ℕ) (row : ImageRow) → RowsAscend clock 0 0 rows → HoldsWhatIsNamed used held rows → Contains rows row
+    → (p : Place) (bytes : List ℕ) → (of_kind Data row.object held p ≡ Some bytes) ↔ ((of_kind Data row.object used p ≡ Some bytes) × Contains (pointers_used used row) (Some p))
+data_held used held rows clock row ascend holds there p bytes = (
+  λ h. held_named used held rows clock row Data p bytes ascend holds there h,
+  λ h. named_held used held rows row Data p bytes holds there h.0 h.1,
+)
