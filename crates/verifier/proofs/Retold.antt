@@ -74,10 +74,10 @@ same_frame : OneSummaryASpelling → (n : ℕ) (f : FrameFields) (k m : Frame) (
 same_frame one n f k m slots others b g is other =
     let phase : k.phase ≡ m.phase = is.phase ∙ sym other.phase in
     same_block k m slots others b g phase (is.generation ∙ sym other.generation) (λ used.
-      let also : m.phase ≢ Free = λ e. used (phase ∙ e) in
-      let parts : parts_in slots ≡ parts_in others = same_parts one n f k m slots others is other used also in
-      let count : length slots ≡ length others = sym (length-map slots (λ (slot : Slot). slot.part)) ∙ ap length parts ∙ length-map others (λ (slot : Slot). slot.part) in
-      same_used_slot slots others k.contents m.contents b parts (λ i low high. is.blocks used i low high ∙ sym (other.blocks also i low (omega arith))))
+    let also : m.phase ≢ Free = λ e. used (phase ∙ e) in
+    let parts : parts_in slots ≡ parts_in others = same_parts one n f k m slots others is other used also in
+    let count : length slots ≡ length others = sym (length-map slots (λ (slot : Slot). slot.part)) ∙ ap length parts ∙ length-map others (λ (slot : Slot). slot.part) in
+    same_used_slot slots others k.contents m.contents b parts (λ i low high. is.blocks used i low high ∙ sym (other.blocks also i low (omega arith))))
 
 no_block : (t : Table) (f b g : ℕ) → length t.drive.frames ≤ f → used_block (frame_at t.drive.frames f) (slots_at t.slots f) b g ≡ None
 no_block t f b g past = ap (λ (k : Frame). used_block k (slots_at t.slots f) b g) (get_or_past t.drive.frames f no_frame past)
@@ -118,8 +118,8 @@ table_held frames t u is same counted parts =
       frame_count = count;
       slot_count = counted ∙ count;
       each = λ n h.
-        let F : List Frame → Type 0 = λ l. IsFrameOf n (get_or frames n no_part) (frame_at l n) (slots_at u.slots n) in
-        subst F (sym same) (frame_held n (get_or frames n no_part) (frame_at t.drive.frames n) (slots_at t.slots n) (slots_at u.slots n) (is.each n h) (parts n));
+          let F : List Frame → Type 0 = λ l. IsFrameOf n (get_or frames n no_part) (frame_at l n) (slots_at u.slots n) in
+          subst F (sym same) (frame_held n (get_or frames n no_part) (frame_at t.drive.frames n) (slots_at t.slots n) (slots_at u.slots n) (is.each n h) (parts n));
     }
 
 -- ---- chains
