@@ -170,10 +170,10 @@ begins stays tells s w next store none past reach = record {
 }
 
 pub kept_opened : ThePresentStays → ABaseTellsTheStoresVersions → ABaseListsEachObjectOnce → (s : StoreFields) (w : Timeline) (next : ℕ)
-    → IsStore s → s.latest ≤ w.clock → w.floor ≤ w.clock → w.clock - w.window ≤ w.floor → 1 ≤ next → NoneFrom next s
+    → IsStore s → s.latest ≤ w.clock → w.floor ≤ w.clock → w.clock - w.window ≤ w.floor → 1 ≤ next → next ≤ w.clock + 1 → NoneFrom next s
     → AllByRecursion (EndsBefore w.clock) w.runs → AllByRecursion (IsOfGiven next) w.runs
     → IsKeptDrive (state_of (opened_history s w next)) s w next
-kept_opened stays tells lists s w next store past below reach numbered none ends given =
+kept_opened stays tells lists s w next store past below reach numbered made none ends given =
     let begun : State = state_of (opened_history s w next) in
     let spans : spans_of begun ≡ w.runs = opened_spans s w next in
     let floor : begun.floor ≡ w.floor = omega arith in
@@ -193,7 +193,9 @@ kept_opened stays tells lists s w next store past below reach numbered none ends
       unborn = none;
       sound = record {
         floor_reached = omega arith;
+        reached = omega arith;
         numbered = numbered;
+        given = made;
         counted = tt;
         stamped = omega arith;
         past = subst (AllByRecursion (EndsBefore w.clock)) (sym spans) ends;

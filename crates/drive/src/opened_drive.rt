@@ -1,5 +1,5 @@
 //! A drive of objects that are there already, before and when it gets its name.
-ghost use Rattle.std.specs.Prelude.{◌≡◌, ◌⊎◌, ◌≤◌, ◌-◌, ℕ, IfOk, IfErr};
+ghost use Rattle.std.specs.Prelude.{◌≡◌, ◌⊎◌, ◌≤◌, ◌+◌, ◌-◌, ℕ, IfOk, IfErr};
 ghost use Rattle.std.specs.List.{AllByRecursion};
 ghost use Rattle.s4_types.specs.declared.refusals.Refusal.TheVariants.{NoMemory, Busy};
 ghost use Rattle.s4_model.specs.Sound.{EndsBefore, IsOfGiven};
@@ -61,6 +61,7 @@ impl OpenedDrive {
         requires below { window.floor ≤ window.clock }
         requires reach { window.clock - window.window ≤ window.floor }
         requires numbered { 1 ≤ next }
+        requires given { next ≤ window.clock + 1 }
         requires unborn { NoneFrom next (fields_of log_of store) }
         requires ended { AllByRecursion (EndsBefore window.clock) window.runs }
         requires owned { AllByRecursion (IsOfGiven next) window.runs }

@@ -43,6 +43,17 @@ next_by-grows (SetWindow window) next = omega arith
 next_by-grows (Flush first last) next = omega arith
 next_by-grows (FlushO object first last) next = omega arith
 
+-- a change gives at most one number
+pub next_by-bounded : (c : Change) (next : ℕ) → next_by c next ≤ next + 1
+next_by-bounded (Create object attribute) next = omega arith
+next_by-bounded (Delete object) next = omega arith
+next_by-bounded (Write object offset bytes) next = omega arith
+next_by-bounded (Truncate object size) next = omega arith
+next_by-bounded (SetAttr object attribute) next = omega arith
+next_by-bounded (SetWindow window) next = omega arith
+next_by-bounded (Flush first last) next = omega arith
+next_by-bounded (FlushO object first last) next = omega arith
+
 -- the spans after a change: those before, and its own
 pub spans_of-took : (s : State) (a : Accepted) → spans_of (took s a) ≡ spans_of s ++ cons_option (span_by a.change) []
 spans_of-took s a = ap (λ more. s.spans ++ more) (filter_map-append span_of s.changes (a ∷ [])) ∙ sym (append_assoc s.spans (filter_map span_of s.changes) (cons_option (span_by a.change) []))
@@ -56,9 +67,11 @@ AreCounted-push number [] a counted e = (let same : a.number ≡ number = omega 
 AreCounted-push number (b ∷ changes) a counted e = (counted.0, AreCounted-push (number + 1) changes a counted.1 (let more : length (b ∷ changes) ≡ 1 + length changes = omega arith in omega arith))
 
 pub IsSound-seen : (s : State) (now : ℕ) → IsSound s → IsSound (seen s now)
-IsSound-seen s now sound = let below : s.floor ≤ s.clock = sound.floor_reached in record {
+IsSound-seen s now sound = let below : s.floor ≤ s.clock = sound.floor_reached in let given : s.next ≤ s.clock + 1 = sound.given in record {
   floor_reached = omega arith;
+  reached = omega arith;
   numbered = sound.numbered;
+  given = omega arith;
   counted = sound.counted;
   stamped = Ascends-higher s.opened s.changes s.clock (max s.clock now) sound.stamped (omega arith);
   past = all_weaker (EndsBefore s.clock) (EndsBefore (max s.clock now)) (λ span lt. omega arith) (spans_of s) sound.past;
@@ -71,6 +84,9 @@ IsSound-seen s now sound = let below : s.floor ≤ s.clock = sound.floor_reached
 
 IsSound-floor : (floor clock moment window : ℕ) → floor ≤ clock → clock < moment → max floor (moment - window) ≤ moment
 IsSound-floor floor clock moment window le lt = omega arith
+
+IsSound-given : (next by clock moment : ℕ) → next ≤ clock + 1 → by ≤ next + 1 → clock < moment → by ≤ moment + 1
+IsSound-given next by clock moment given bounded later = omega arith
 
 unborn_stays : (s : State) (a : Accepted) → IsSound s → ((o : ℕ) → is_change_of o a.change ≡ true → o < next_by a.change s.next) → (o t : ℕ) → next_by a.change s.next ≤ o → version_of (took s a) o t ≡ Absent
 unborn_stays s a sound born o t ge =
@@ -87,7 +103,9 @@ IsSound-took s role request now reply a sound taken =
     let numbered : 1 ≤ s.next = sound.numbered in
     record {
       floor_reached = IsSound-floor s.floor s.clock a.moment (window_by a.change s.window) sound.floor_reached later;
+      reached = omega arith;
       numbered = omega arith;
+      given = IsSound-given s.next (next_by a.change s.next) s.clock a.moment sound.given (next_by-bounded a.change s.next) later;
       counted = AreCounted-push 1 s.changes a sound.counted (taken.counted ∙ add_comm (length s.changes) 1);
       stamped = Ascends-push s.opened s.changes s.clock a sound.stamped later;
       past = subst (AllByRecursion (EndsBefore a.moment)) (sym (spans_of-took s a)) (all_append (EndsBefore a.moment) (spans_of s) (cons_option (span_by a.change) [])
@@ -113,7 +131,9 @@ IsSound-step h role request now reply after sound step = IsSound-outcome h role 
 pub IsSound-new : (window : ℕ) → IsSound (state_of (new_history window))
 IsSound-new window = record {
   floor_reached = omega arith;
+  reached = omega arith;
   numbered = omega arith;
+  given = omega arith;
   counted = tt;
   stamped = omega arith;
   past = tt;

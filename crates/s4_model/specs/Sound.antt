@@ -1,5 +1,5 @@
 -- What holds of each history that a drive can have.
-use Rattle.std.specs.Prelude.{◌≡◌, ℕ, ◌+◌, ◌<◌, ◌≤◌, ◌≢◌, List, [], ◌∷◌}
+use Rattle.std.specs.Prelude.{◌≡◌, ℕ, ◌+◌, ◌-◌, ◌<◌, ◌≤◌, ◌≢◌, List, [], ◌∷◌}
 use Rattle.std.specs.List.{AllByRecursion}
 use Rattle.s4_types.specs.declared.spans.Span.{Span}
 use Rattle.s4_types.specs.declared.changes.Accepted.{Accepted}
@@ -37,13 +37,17 @@ abbrev pub DatesAscend : List (ℕ × Version) → Type 0
 DatesAscend [] = Unit {0}
 DatesAscend (dated ∷ versions) = AllByRecursion (λ later. dated.0 < later.0) versions × DatesAscend versions
 
--- A state that a drive can have: the floor isn't above the clock, the next object's number is at least 1, changes
--- are numbered from 1, moments ascend strictly from the base's clock to the clock, spans end before the clock and
--- are of numbers that were given, a number that wasn't given is of no object, and number 0 never is. The base
--- lists each object once, with the moments of its versions ascending strictly.
+-- A state that a drive can have: the floor isn't above the clock, and at least as high as the window reaches back
+-- from it; the next object's number is at least 1, and no more numbers were given than moments passed, since each
+-- object took a moment of its own to make. Changes are numbered from 1, moments ascend strictly from the base's
+-- clock to the clock, spans end before the clock and are of numbers that were given, a number that wasn't given is
+-- of no object, and number 0 never is. The base lists each object once, with the moments of its versions ascending
+-- strictly.
 pub record IsSound (s : State) : Type 0 where
   pub floor_reached : s.floor ≤ s.clock
+  pub reached : s.clock - s.window ≤ s.floor
   pub numbered : 1 ≤ s.next
+  pub given : s.next ≤ s.clock + 1
   pub counted : AreCounted 1 s.changes
   pub stamped : Ascends s.opened s.changes s.clock
   pub past : AllByRecursion (EndsBefore s.clock) (spans_of s)

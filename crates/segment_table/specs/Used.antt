@@ -22,7 +22,8 @@ is_named k = is_open k.phase || is_sealed k.phase
 
 -- what a pointer of generation g names in block b of a frame
 abbrev pub used_block : Frame → List Slot → ℕ → ℕ → Option Stored
-used_block k slots b g = if is_named k && k.generation == g then option_map (with_bytes (block_bytes k.contents b)) (used_slot slots b) else None
+used_block k slots b g =
+    if is_named k && k.generation == g then option_map (with_bytes (block_bytes k.contents b)) (used_slot slots b) else None
 
 -- The used block that a place names in an open or sealed frame at the frame's generation, held or not.
 abbrev pub used_at : Table → Place → Option Stored

@@ -1,17 +1,22 @@
 //! How many requests a second 1, 2, 4, 8 and 16 sessions are answered over one locked drive in memory, and how many times as many
-//! that is as one session is answered.
+//! that is as one session is answered; and how many a second 1, 4 and 16 sessions are answered that are served from bytes in memory,
+//! without the history cleaner and the segment copier beside them and with both.
 //!
-//! Each measure has a drive of its own with 16 objects, and asks the same of each object, whatever the number of sessions: first
-//! Reads of a whole object, then rounds of seven small Reads, two small Writes and a GetAttr. The figures differ from run to run,
-//! so they go to standard error, and nothing to standard output.
+//! Each measure has a drive of its own with 16 objects. The first ones ask the same of each object, whatever the number of sessions:
+//! Reads of a whole object, then rounds of seven small Reads, two small Writes and a GetAttr. Of the sessions that are served from
+//! bytes each asks an object of its own. The figures differ from run to run, so they go to standard error, and nothing to standard
+//! output.
 #![tactic(auto)]
 
 ghost use Rattle.std.specs.Prelude.{◌≡◌, ◌%◌, ◌<◌, true, ◌↔◌};
 ghost use Rattle.s4_model.specs.State.{new_base};
 
+mod served;
+
 use drive::{Drive, NewDrive};
 use s4_types::{Bytes, Moment, ObjectId, Refusal, Reply, Request, Role};
 use segment_word::Naming;
+use served::compare;
 use server::{Locked, Open};
 use serving::Backend;
 use std::alloc::{AllocError, Global};
@@ -261,5 +266,8 @@ fn measure_all<R: Clock + Eprint + Threads + Wait + Sync>(
 
 fn main(rt: HostRuntime) -> Result<(), BenchError> {
     measure_all(&rt, rt.alloc(), "whole objects", Load::Whole, 8_000)?;
-    measure_all(&rt, rt.alloc(), "small requests", Load::Small, 16_000)
+    measure_all(&rt, rt.alloc(), "small requests", Load::Small, 16_000)?;
+    compare(&rt, rt.alloc(), 1)?;
+    compare(&rt, rt.alloc(), 4)?;
+    compare(&rt, rt.alloc(), 16)
 }

@@ -6,8 +6,9 @@
 //! emptying of frames that hold nothing leave each version as it was. An object can be removed, and its journal replaced by a
 //! shorter one: all other objects stay, and no block that nothing names any more is held. What the table holds is exactly what
 //! the rows name. Of two objects the one with the greater number was made later, and no moment stands in the journals of both.
-//! A store is made without objects, or of objects whose blocks its table holds already: then it has exactly their rows. Which
-//! changes may be asked for, and at which moments, is told elsewhere.
+//! A store is made without objects, or of objects whose blocks its table holds already: then it has exactly their rows. The
+//! frames below it are told as they are saved, and that changes nothing. Which changes may be asked for, and at which moments,
+//! is told elsewhere.
 #![tactic(auto)]
 
 mod copies;

@@ -1,25 +1,28 @@
 //! The segment table of the drive that a type names.
-ghost use Rattle.std.specs.Prelude.{◌≡◌, ◌≢◌, ℕ, ◌<◌, ◌≤◌, ◌+◌, ◌-◌, ◌^◌, ◌↔◌, ◌⊎◌, ◌++◌, true, false, [], ◌∷◌, Some, None, length, min, take, drop, option_map, IsSome, IsOk, IfSome, IfNone, IfOk, IfErr, OnOk, OnErr, MatchResult};
+ghost use Rattle.std.specs.Prelude.{◌≡◌, ◌≢◌, ℕ, ◌<◌, ◌≤◌, ◌+◌, ◌-◌, ◌^◌, ◌↔◌, ◌⊎◌, ◌++◌, true, false, [], ◌∷◌, Some, None, length, min, take, drop, slice_index_or, option_map, IsSome, IsOk, IfSome, IfNone, IfOk, IfErr, OnOk, OnErr, MatchResult};
 ghost use Rattle.std.specs.List.{list_any};
 ghost use Rattle.s4_types.specs.declared.limits.TheConstants.{OBJECT_BLOCKS, OBJECT_BYTES};
 ghost use Rattle.s4_types.specs.declared.refusals.Refusal.TheVariants.{NoMemory, Busy, NoSpace, InUse};
 ghost use Rattle.block_log.specs.Log.{appended, dropped};
 ghost use Rattle.inode.specs.Contents.{contents_of, bytes_of};
 ghost use Rattle.inode.specs.Tidiness.{PointersLead};
-ghost use Rattle.segment_word.specs.Frames.{Sealed, Emptied, is_emptied};
-ghost use Rattle.segment_word.specs.Layout.{frame_at};
+ghost use Rattle.codec.specs.Summary.{SpellsSummary};
+ghost use Rattle.segment_word.specs.Frames.{Sealed, Emptied, code_of, is_emptied};
+ghost use Rattle.segment_word.specs.Layout.{word_of, frame_at, block_bytes};
 ghost use Rattle.segment_word.specs.Counting.{pins_in};
 ghost use Rattle.segment_word.specs.FrameRule.{AllRemembered};
 ghost use Rattle.segment_word.specs.Handles.{HasMissed, pin_of};
 ghost use Rattle.segment_table.specs.Laws.{ListsAllHeld};
-ghost use Rattle.segment_table.specs.Table.{held_at, part_of, HoldsWholeBlocks};
+ghost use Rattle.segment_table.specs.Table.{slots_at, held_at, part_of, HoldsWholeBlocks};
 ghost use Rattle.segment_table.specs.Room.{is_filling, numbers, rest_of, places_ahead, log_of, pointers_in};
+ghost use Rattle.segment_table.specs.Sealing.{summary_of};
 ghost use Rattle.segment_table.specs.Changes.{IsFilling, NoneIsFilling, IsSealedIn, IsMarked, IsReleased, IsAheadAgain};
 ghost use Rattle.time_read.specs.Plans.{IsAt, pieces_of, bytes_planned, pins_held, is_pinned, is_pinned_in};
 ghost use Rattle.version_store.specs.Emptying.{CanBeEmptied};
 
 use block_log::{Block, BlockKind, Blocks};
 use codec::{Inode, Part};
+use s4_types::limits::FRAME_BLOCKS;
 use s4_types::{ObjectId, Ptr, Refusal};
 use segment_table::SegmentTable;
 use segment_word::{Memory, Naming, Pin};
@@ -87,6 +90,27 @@ impl<J: Naming> NamedTable<J> {
         ensures { result ≡ length self.now.drive.frames }
     {
         self.table.frame_count()
+    }
+
+    /// `SegmentTable::saved_word`.
+    pub(crate) fn saved_word(&mut self, frame: u16) -> u64
+        requires { frame < length self.old.drive.frames }
+        ensures word { result ≡ word_of (frame_at self.old.drive.frames frame) 0 }
+        ensures same { self.new ≡ self.old }
+    {
+        self.table.saved_word(frame)
+    }
+
+    /// `SegmentTable::save_blocks`.
+    pub(crate) fn save_blocks(&mut self, frame: u16, blocks: &mut [Block; FRAME_BLOCKS])
+        requires inside { frame < length self.old.drive.frames }
+        requires used { 0 < code_of (frame_at self.old.drive.frames frame).phase }
+        ensures spelled { SpellsSummary (drop 1 blocks.new) (slice_index_or blocks.new 0 []) (summary_of frame (frame_at self.old.drive.frames frame) (slots_at self.old.slots frame)) }
+        ensures kept { (b : ℕ) → 1 ≤ b → b ≤ length (slots_at self.old.slots frame) → slice_index_or blocks.new b [] ≡ block_bytes (frame_at self.old.drive.frames frame).contents b }
+        ensures whole { 2 ≤ code_of (frame_at self.old.drive.frames frame).phase → (b : ℕ) → b < 16 → slice_index_or blocks.new b [] ≡ block_bytes (frame_at self.old.drive.frames frame).contents b }
+        ensures same { self.new ≡ self.old }
+    {
+        self.table.save_blocks(frame, blocks);
     }
 
     /// `SegmentTable::is_emptied`.

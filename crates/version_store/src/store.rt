@@ -17,6 +17,7 @@ mod opening;
 mod pins;
 mod relocations;
 mod replacements;
+mod saving;
 mod seals;
 
 use crate::laws::the_present_stays;

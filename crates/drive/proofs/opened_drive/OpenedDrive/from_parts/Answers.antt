@@ -8,4 +8,4 @@ pub invariant_of-result : goal.invariant_of-result
 invariant_of-result c =
     kept_opened c.the_present_stays.ensures c.a_base_is_what_its_objects_stand_for.ensures.versions c.a_base_is_what_its_objects_stand_for.ensures.listed
     (fields_of log_of c.args.store) c.args.window c.args.next
-    c.requires.store c.requires.past c.requires.below c.requires.reach c.requires.numbered c.requires.unborn c.requires.ended c.requires.owned
+    c.requires.store c.requires.past c.requires.below c.requires.reach c.requires.numbered c.requires.given c.requires.unborn c.requires.ended c.requires.owned

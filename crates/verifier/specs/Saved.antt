@@ -1,0 +1,46 @@
+-- The parts of an image that a drive is saved as.
+use Rattle.std.specs.Prelude.{◌≡◌, ℕ, ◌<◌, List, [], ◌∷◌, ◌++◌, map}
+use Rattle.std.specs.List.{flat_map, AllByRecursion}
+use Rattle.s4_types.specs.declared.spans.Span.{Span}
+use Rattle.object_map.specs.declared.map.Row.{Row}
+use Rattle.object_map.specs.Rows.{row_of}
+use Rattle.image_parts.specs.Frames.{FrameFields, IsFrame, KeepFrameRules, frame_bytes}
+use Rattle.image_parts.specs.Image.{Image}
+use Rattle.image_chains.specs.declared.rows.ImageRow.{ImageRow}
+use Rattle.segment_table.specs.Table.{Table}
+use Rattle.window.specs.Timeline.{CoverAlike}
+use Rattle.s4_model.specs.Visible.{spans_of}
+use Rattle.drive.specs.Fields.{DriveFields, state_in}
+use Rattle.verifier.specs.Tables.{IsTableOf}
+use Rattle.verifier.specs.Rows.{SpellRows}
+
+-- Bytes are these with the frames of a table behind them, as an image has them.
+pub record AddsFrames (t : Table) (before after : List ℕ) : Type 0 where
+  pub frames : List FrameFields
+  pub is : AllByRecursion IsFrame frames
+  pub rules : KeepFrameRules frames
+  pub table : IsTableOf frames t
+  pub bytes : after ≡ before ++ flat_map frame_bytes frames
+
+-- the row of an image that a drive's row is saved as
+abbrev pub row_saved : ℕ → Row → ImageRow
+row_saved o row = record { object = o; created = row.created; checkpoint = row.checkpoint; checkpoint_moment = row.checkpoint_moment; head = row.head }
+
+-- rows stand by ascending objects, from above a number
+abbrev pub ObjectsAscend : ℕ → List (ℕ × Row) → Type 0
+ObjectsAscend low [] = Unit {0}
+ObjectsAscend low (e ∷ rows) = (low < e.0) × ObjectsAscend e.0 rows
+
+-- An image is what a drive is saved as: it has the drive's clock, window, floor and next number; its table is the drive's; its rows
+-- are the drive's, by ascending objects; and from the floor on its spans hide what the drive's do.
+pub record IsSavedOf (d : DriveFields) (image : Image) : Type 0 where
+  pub clock : image.clock ≡ (state_in d).clock
+  pub window : image.window ≡ (state_in d).window
+  pub floor : image.floor ≡ (state_in d).floor
+  pub next : image.next ≡ (state_in d).next
+  pub frames : IsTableOf image.frames d.store.table
+  pub rows : List (ℕ × Row)
+  pub ascending : ObjectsAscend 0 rows
+  pub listed : (o : ℕ) → row_of rows o ≡ row_of d.store.rows o
+  pub spelled : SpellRows image.rows (map (λ e. row_saved e.0 e.1) rows)
+  pub spans : CoverAlike (state_in d).floor image.spans (spans_of (state_in d))
