@@ -3,9 +3,9 @@ use Rattle.std.proofs.Common.{◌≡◌, ◌⊎◌, ℕ, ◌+◌, ◌-◌, ◌<�
 use Rattle.std.specs.List.{AllByRecursion}
 use Rattle.std.proofs.lemmas.Bool.{or_cases, and_parts, and_from, ltb-true, eqb-true, lt-ltb, eq-eqb}
 use Rattle.s4_types.specs.declared.spans.Span.{Span}
-use Rattle.s4_model.specs.Sound.{EndsBefore, IsOfGiven}
+use Rattle.s4_model.specs.Sound.{IsOfGiven}
 use Rattle.image_parts.specs.declared.headers.Header.{Header}
-use Rattle.image_parts.specs.Spans.{KeepsSpanRules, BeginsList, GoesOn, SpansFollow, SpansKeep, KeepSpanRules}
+use Rattle.image_parts.specs.Spans.{KeepsSpanRules, BeginsList, GoesOn, SpansFollow, SpansKeep}
 use Rattle.window.specs.Runs.{is_before, IsBeforeAll, Ascend, AllBeginFrom, AllEndBefore}
 
 -- ---- one before another

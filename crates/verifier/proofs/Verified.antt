@@ -1,5 +1,5 @@
 -- An image whose parts keep their rules and whose chains stand can be opened.
-use Rattle.std.proofs.Common.{◌≡◌, ℕ, ◌+◌, ◌^◌, ◌<◌, ◌≤◌, List, length, Option, None, refl, sym, ap, subst, ◌∙◌}
+use Rattle.std.proofs.Common.{◌≡◌, ℕ, ◌+◌, ◌^◌, ◌<◌, ◌≤◌, List, length, Option, None, refl, sym, ap, subst, ◌∙◌, arith}
 use Rattle.std.specs.List.{Contains, AllByRecursion}
 use Rattle.s4_types.specs.Pointer.{Place}
 use Rattle.s4_types.specs.declared.spans.Span.{Span}
@@ -59,6 +59,7 @@ can_be_opened store as_used above few parts t objects rules are bounded =
       below = rules.header.floor;
       reach = rules.header.window;
       numbered = rules.header.next;
+      given_by = omega (arith, rules.header.given);
       ordered = spans_ascend h parts.spans rules.spans.each;
       from_floor = spans_from_floor h parts.spans rules.spans.each;
       past = spans_past h parts.spans rules.spans.each;
