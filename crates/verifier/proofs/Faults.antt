@@ -104,3 +104,9 @@ pub one_fault : (bytes : List ℕ) (found other : Option Cause) → FirstFault b
 one_fault bytes found other x y =
     one_found x y (λ a b. one_found a b (λ a b. one_found a b (λ a b. one_found a b (λ a b. one_found a b
     (λ a b. one_found a b (λ a b. one_found a b (λ a b. one_found a b (λ p q. p ∙ sym q))))))))
+
+-- parts that no test refuses, and whose chains don't stand
+pub chain_fault : (bytes : List ℕ) (parts : Image) → FirstCause bytes None → parts ≡ image_in bytes → (ChainsStand parts → ⊥) → FirstFault bytes (Some Chain)
+chain_fault bytes parts tests is fall =
+    let F : Image → Type 0 = λ image. ChainsStand image → ⊥ in
+    parts_passed bytes (Tested (ChainsStand (image_in bytes)) Chain (λ f. f ≡ None)) (Some Chain) tests (inl (subst F is fall, refl))

@@ -67,7 +67,7 @@ used_told number f k slots blocks s used rules are spelled only keeps phase gene
     let lived : s.generation ≡ generation_of f.word = ap (λ (x : SummaryFields). x.generation) same ∙ has.generation in
     let parts : s.parts ≡ map (λ (slot : Slot). slot.part) slots = sym (ap (map (λ (slot : Slot). slot.part)) is ∙ map_unheld s.parts) in
     let told : s ≡ summary_of number k slots =
-      ap (λ (n : ℕ). summary_by n s.generation s.parts) at ∙ ap (λ (n : ℕ). summary_by number n s.parts) (sym generation) ∙ ap (summary_by number k.generation) parts in
+    ap (λ (n : ℕ). summary_by n s.generation s.parts) at ∙ ap (λ (n : ℕ). summary_by number n s.parts) (sym generation) ∙ ap (summary_by number k.generation) parts in
     let C : List (List ℕ) → Type 0 = λ l. SpellsSummary (drop 1 l) (get_or l 0 []) s in
     let D : SummaryFields → Type 0 = SpellsSummary (drop 1 (blocks_of f.contents)) (get_or (blocks_of f.contents) 0 []) in
     let few : length slots ≤ 15 = omega (arith, ap length is, length-unheld s.parts, keeps.room) in
@@ -175,9 +175,9 @@ pub one_set : (frames : List FrameFields) (n : ℕ) (f : FrameFields) (rest left
 one_set frames n f rest left old new were is frame frames_alone slots_alone held =
     let more : length left ≡ suc (length rest) = ap length is in
     let other_frame : (i : ℕ) → i ≢ n → frame_at new.drive.frames i ≡ frame_at old.drive.frames i =
-      λ i ne. ap (λ (l : List Frame). frame_at l i) frames_alone ∙ get_or-set_other old.drive.frames n i (frame_at new.drive.frames n) no_frame ne in
+    λ i ne. ap (λ (l : List Frame). frame_at l i) frames_alone ∙ get_or-set_other old.drive.frames n i (frame_at new.drive.frames n) no_frame ne in
     let other_slots : (i : ℕ) → i ≢ n → slots_at new.slots i ≡ slots_at old.slots i =
-      λ i ne. ap (λ (l : List (List Slot)). slots_at l i) slots_alone ∙ get_or-set_other old.slots n i (slots_at new.slots n) [] ne in
+    λ i ne. ap (λ (l : List (List Slot)). slots_at l i) slots_alone ∙ get_or-set_other old.slots n i (slots_at new.slots n) [] ne in
     record {
       left_are = sym (ap (drop 1) (sym were.left_are ∙ is)) ∙ drop-drop 1 n frames;
       rules = (next_rules frames n f rest left old were is).1;

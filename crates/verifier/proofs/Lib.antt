@@ -1,5 +1,9 @@
 mod AllRows
 mod Holding
 mod Telling
-pub mod Frames
-pub mod Faults
+mod Frames
+mod Faults
+mod Retold
+mod SpanOrder
+mod KeptRows
+mod Verified

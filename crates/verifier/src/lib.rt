@@ -13,8 +13,8 @@ mod objects;
 mod opening;
 mod rows;
 mod tables;
-// mod verifying;
+mod verifying;
 
-// pub use images::Image;
-// pub use opening::open;
-// pub use verifying::verify;
+pub use images::Image;
+pub use opening::open;
+pub use verifying::verify;

@@ -71,13 +71,14 @@ fn set_used(table: &mut TableParts, number: u16, frame: &FramePart<'_>)
     ensures held { (p : Place) → held_at table.new p ≡ held_at table.old p }
 {
     rules_of_a_summary();
-    let Ok(blocks) = <&[Block; FRAME_BLOCKS]>::try_from(frame.blocks()) else {
+    let blocks = frame.blocks();
+    let Ok(whole) = <&[Block; FRAME_BLOCKS]>::try_from(blocks) else {
         unreachable!()
     };
-    let Some(summary) = summary_in(blocks) else {
+    let Some(summary) = summary_in(whole) else {
         unreachable!()
     };
-    table.set_used(number, state_in(frame.word()), &summary, blocks);
+    table.set_used(number, state_in(frame.word()), &summary, whole);
 }
 
 /// Sets a frame that is free in a table, and has no used block, to that of an image.
