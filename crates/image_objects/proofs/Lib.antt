@@ -8,6 +8,10 @@ mod Kept
 mod Listed
 mod MomentsOnce
 mod Pointing
+mod SavedObject
+mod SavedRows
+mod SavedStore
+mod Saving
 mod Sorted
 mod Standing
 mod Storing

@@ -4,3 +4,4 @@ pub mod Rows
 pub mod private
 pub mod Laws
 pub mod Moments
+pub mod Saved

@@ -1,0 +1,38 @@
+-- The rows of a store as an image's: what a drive that is saved writes of them.
+use Rattle.std.specs.Prelude.{◌≡◌, ℕ, ◌+◌, ◌≤◌, List, [], ◌∷◌, map, Option, Some}
+use Rattle.s4_types.specs.Pointer.{Place}
+use Rattle.block_log.specs.Log.{Stored}
+use Rattle.object_map.specs.declared.map.Row.{Row}
+use Rattle.version_store.specs.Store.{pointers_of}
+use Rattle.time_read.specs.Rows.{entries_of, first_of, inode_of}
+use Rattle.image_chains.specs.declared.rows.ImageRow.{ImageRow}
+use Rattle.image_chains.specs.Chains.{entries_used}
+use Rattle.image_chains.specs.Inodes.{first_used}
+use Rattle.image_chains.specs.History.{kept_row}
+use Rattle.image_objects.specs.Objects.{pointers_used, inode_used}
+
+-- the row of an image that the row of a drive's object is saved as
+abbrev pub saved_row : ℕ → Row → ImageRow
+saved_row o row = record { object = o; created = row.created; checkpoint = row.checkpoint; checkpoint_moment = row.checkpoint_moment; head = row.head }
+
+-- the rows of an image that those of a drive are saved as, in order
+abbrev pub saved_rows : List (ℕ × Row) → List ImageRow
+saved_rows rows = map (λ e. saved_row e.0 e.1) rows
+
+-- each block that is held is used, as it is held
+abbrev pub HoldsUsed : (Place → Option Stored) → (Place → Option Stored) → Type 0
+HoldsUsed used held = (p : Place) (block : Stored) → held p ≡ Some block → used p ≡ Some block
+
+-- objects ascend strictly, from this number on
+abbrev pub ObjectsAscend : ℕ → List (ℕ × Row) → Type 0
+ObjectsAscend low [] = Unit {0}
+ObjectsAscend low (e ∷ rows) = (low ≤ e.0) × ObjectsAscend (e.0 + 1) rows
+
+-- A row that is saved tells over the used blocks what it tells over those that are held: the entries, the first inode, at each
+-- moment the inode, and the pointers that it leads to. And the drive that is opened again keeps the same row.
+pub record IsSavedAsHeld (used held : Place → Option Stored) (o : ℕ) (row : Row) : Type 0 where
+  pub entries : entries_used used (saved_row o row) ≡ entries_of held o row
+  pub first : first_used used (saved_row o row) ≡ first_of held o row
+  pub inodes : (t : ℕ) → inode_used used (saved_row o row) t ≡ inode_of held o row t
+  pub pointers : pointers_used used (saved_row o row) ≡ pointers_of held o row
+  pub kept : kept_row used (saved_row o row) row.stamp ≡ row
