@@ -23,7 +23,7 @@ at_is o k = unsigned_tied o k
 pub found_here : (rows : List (ℕ × Row)) (o k : ℕ) (row : Row) → k ≡ o → row_of ((k, row) ∷ rows) o ≡ Some row
 found_here rows o k row is = cond-true (is_at (nat_cmp o) k) (Some row) (row_of rows o) (at_is o k ∙ eq-eqb o k (sym is))
 
-found_behind : (rows : List (ℕ × Row)) (o k : ℕ) (row : Row) → (k ≡ o → ⊥) → row_of ((k, row) ∷ rows) o ≡ row_of rows o
+pub found_behind : (rows : List (ℕ × Row)) (o k : ℕ) (row : Row) → (k ≡ o → ⊥) → row_of ((k, row) ∷ rows) o ≡ row_of rows o
 found_behind rows o k row apart = cond-false (is_at (nat_cmp o) k) (Some row) (row_of rows o) (at_is o k ∙ ne_eqb o k (λ (is : o ≡ k). apart (sym is)))
 
 -- a row that is found is one of the image's

@@ -1,11 +1,17 @@
 pub mod Parts
 pub mod Moments
 pub mod Sizes
+pub mod Walk
+pub mod Named
+mod HeldByName
 mod Kept
 mod Listed
-mod Sharing
-mod Holding
+mod MomentsOnce
 mod Pointing
+mod SavedObject
+mod SavedRows
+mod SavedStore
+mod Saving
 mod Sorted
 mod Standing
 mod Storing

@@ -24,7 +24,7 @@ back_of P xs ys all = All-same P ys _ (sym (drop_at xs ys (length xs) refl)) (Al
 
 -- ---- the parts of a list's elements
 
-one_part : {X A : Type 0} (f : X → List A) (xs : List X) (i : ℕ) (x : X) → i < length xs → x ≡ get_or xs i x → flat_map f (take (i + 1) xs) ≡ flat_map f (take i xs) ++ f x
+pub one_part : {X A : Type 0} (f : X → List A) (xs : List X) (i : ℕ) (x : X) → i < length xs → x ≡ get_or xs i x → flat_map f (take (i + 1) xs) ≡ flat_map f (take i xs) ++ f x
 one_part f xs i x lt is =
     ap (flat_map f) (take_more xs i x lt)
     ∙ flat_map-append f (take i xs) (get_or xs i x ∷ [])

@@ -30,8 +30,8 @@ use Rattle.image_objects.specs.Naming.{HoldsWhatIsNamed}
 use Rattle.image_objects.specs.Rows.{RowsAscend, RowsStand}
 use Rattle.image_objects.specs.Laws.{IsHeldAsUsed, InodesUsedPointToWhatRowsLeadTo}
 use Rattle.image_objects.proofs.Listed.{above, made_by}
-use Rattle.image_objects.proofs.Holding.{OneName, Seen, seen, held_named, named_held, journal_held, place_itself}
-use Rattle.image_objects.proofs.Holding.{checkpoint_held as checkpoints_held}
+use Rattle.image_objects.proofs.HeldByName.{OneName, Seen, seen, held_named, named_held, journal_held, place_itself}
+use Rattle.image_objects.proofs.HeldByName.{checkpoint_held as checkpoints_held}
 
 -- of an object's journal blocks those of the row's chain alone are held
 abbrev pub JournalIsHeld : (Place → Option Stored) → (Place → Option Stored) → ImageRow → Type 0

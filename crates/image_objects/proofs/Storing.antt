@@ -19,7 +19,7 @@ use Rattle.image_objects.specs.Naming.{IsNamedBy, HoldsWhatIsNamed}
 use Rattle.image_objects.specs.Rows.{RowsAscend, RowsStand, kept_rows}
 use Rattle.image_objects.specs.Laws.{IsHeldAsUsed}
 use Rattle.image_objects.proofs.Listed.{made_later, apart_rows}
-use Rattle.image_objects.proofs.Holding.{Seen, seen}
+use Rattle.image_objects.proofs.HeldByName.{Seen, seen}
 use Rattle.image_objects.proofs.Kept.{row_found, row_there}
 
 -- each object is held as it stands: the law of one object

@@ -19,7 +19,7 @@ use std::time::{Clock, Duration, Instant};
 const SMALL: usize = 64;
 
 /// Reads in a round, behind its Write.
-const READS_A_ROUND: usize = 19;
+const READS_A_ROUND: usize = 99;
 
 /// How many rounds an object is asked. Its journal has space for their Writes.
 const ROUNDS: usize = 200;
@@ -137,11 +137,10 @@ fn serve_all<
 }
 
 /// Whether a session ended well, and its replies have as many bytes as they have where each is the wanted one.
-fn is_answered(client: &Client<MemorySource<'_>, MemorySink>) -> bool
-    ensures { IsTrue result ↔ ((client.now.outcome ≡ Outcome.Served ServeEnd.Ended) × (vec_len client.now.writer.bytes ≡ REPLY_BYTES)) }
+fn is_answered(outcome: Outcome, replies: &[u8]) -> bool
+    ensures { IsTrue result ↔ ((outcome ≡ Outcome.Served ServeEnd.Ended) × (length replies.now ≡ REPLY_BYTES)) }
 {
-    client.outcome == Outcome::Served(ServeEnd::Ended)
-        && client.writer.as_slice().len() == REPLY_BYTES
+    outcome == Outcome::Served(ServeEnd::Ended) && replies.len() == REPLY_BYTES
 }
 
 /// Makes and fills the objects, by a session of its own.
@@ -172,7 +171,11 @@ fn measure<J: Naming + Send + Sync, R: Threads + Wait + Clock + Sync>(
     let start = Instant::now(rt)?;
     let (clients, upkeep) = serve_all(rt, alloc, &drive, clients, is_kept_up);
     let taken = start.elapsed(rt)?;
-    if clients.iter().all(is_answered) {
+    let answered = clients.iter().all(|client| is_answered(
+        client.outcome,
+        client.writer.as_slice(),
+    ));
+    if answered {
         Ok(Served { taken, upkeep })
     } else {
         Err(BenchError::NotAnswered)

@@ -1,3 +1,12 @@
+mod AllRows
+mod Holding
+mod Telling
+mod Frames
+mod Faults
+mod Retold
+mod SpanOrder
+mod KeptRows
+mod Verified
 mod Lists
 mod Slots
 mod ListedRows

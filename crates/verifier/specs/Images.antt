@@ -1,9 +1,8 @@
 -- What contracts see of an image that was verified, and what holds of it.
-use Rattle.std.specs.Prelude.{◌≡◌, ℕ, ◌-◌, ◌≤◌, List, length}
+use Rattle.std.specs.Prelude.{◌≡◌, ℕ, ◌+◌, ◌-◌, ◌≤◌, List, length}
 use Rattle.std.specs.List.{All, AllByRecursion}
 use Rattle.s4_types.specs.declared.spans.Span.{Span}
 use Rattle.s4_types.specs.declared.limits.TheConstants.{RUNS_IN_ALL}
-use Rattle.s4_types.specs.Sizes.{IsFrameCount}
 use Rattle.s4_model.specs.Sound.{IsOfGiven}
 use Rattle.image_parts.specs.Image.{Image}
 use Rattle.image_chains.specs.declared.rows.ImageRow.{ImageRow}
@@ -43,6 +42,7 @@ pub record CanBeOpened (image : ImageFields) : Type 0 where
   pub below : image.floor ≤ image.clock
   pub reach : image.clock - image.window ≤ image.floor
   pub numbered : 1 ≤ image.next
+  pub given_by : image.next ≤ image.clock + 1
   pub ordered : Ascend image.spans
   pub from_floor : AllBeginFrom image.floor image.spans
   pub past : AllEndBefore image.clock image.spans

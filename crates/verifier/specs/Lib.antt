@@ -6,3 +6,4 @@ pub mod Images
 pub mod SavedFrame
 pub mod Saved
 pub mod SavedRows
+pub mod private

@@ -1,22 +1,26 @@
-//! Images of drives: bytes are verified, and a drive is opened from them.
+//! Images of drives: bytes are verified, a drive is opened from them, and a drive is saved as them.
 //!
 //! The layers above may rely on this: `verify` answers an image exactly where the bytes spell one, want of memory aside, and else
 //! the cause of the first test that fails, each of which looks at the whole image before the next one does. `open` gives a
-//! drive whose frames, rows, spans and numbers are the image's, and whose history begins with what they stand for.
+//! drive whose frames, rows, spans and numbers are the image's, and whose history begins with what they stand for. `save` gives
+//! bytes that spell an image with the numbers, frames and rows of the drive, which stays as it is, and with spans that hide from
+//! its floor on what its own do.
 #![tactic(auto)]
 
-// mod blocks;
-// mod images;
-// pub mod laws;
-// mod moments;
-// mod objects;
-// mod opening;
-// mod rows;
+mod blocks;
+mod images;
+pub mod laws;
+mod moments;
+mod objects;
+mod opening;
+mod rows;
 mod saved_frames;
 mod saved_rows;
-// mod tables;
-// mod verifying;
+mod saving;
+mod tables;
+mod verifying;
 
-// pub use images::Image;
-// pub use opening::open;
-// pub use verifying::verify;
+pub use images::Image;
+pub use opening::open;
+pub use saving::save;
+pub use verifying::verify;

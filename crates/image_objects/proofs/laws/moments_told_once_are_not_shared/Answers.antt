@@ -1,4 +1,4 @@
-use Rattle.image_objects.proofs.Sharing.{share_none, stand_once, standing_once}
+use Rattle.image_objects.proofs.MomentsOnce.{share_none, stand_once, standing_once}
 use Rattle.image_objects.proofs.laws.moments_told_once_are_not_shared.Goals as goal
 
 pub returns-clause-apart : goal.returns-clause-apart

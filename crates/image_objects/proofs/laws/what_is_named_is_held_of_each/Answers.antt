@@ -1,4 +1,4 @@
-use Rattle.image_objects.proofs.Holding.{journal_held, checkpoint_held, data_held}
+use Rattle.image_objects.proofs.HeldByName.{journal_held, checkpoint_held, data_held}
 use Rattle.image_objects.proofs.laws.what_is_named_is_held_of_each.Goals as goal
 
 pub returns-clause-journal : goal.returns-clause-journal

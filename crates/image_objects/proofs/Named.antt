@@ -1,0 +1,146 @@
+-- The places that a row names, and what is at them.
+use Rattle.std.proofs.Common.{◌≡◌, ℕ, zero, suc, ◌+◌, ◌<◌, ◌==◌, ◌&&◌, true, inl, inr, List, [], ◌∷◌, ◌++◌, length, get_or, Option, Some, None, IsSome, is_some, refl, sym, ap, ◌∙◌, subst, arith}
+use Rattle.std.specs.Prelude.{◌⊎◌}
+use Rattle.std.specs.List.{Contains}
+use Rattle.std.specs.Option.{option_to_list}
+use Rattle.std.proofs.lemmas.Bool.{cases_Bool, false≢true, and_from, eq-eqb}
+use Rattle.std.proofs.lemmas.List.Elements.{Contains-append_left, Contains-append_right, Contains-append_cases, Contains-push_cases, All-contains}
+use Rattle.std.proofs.lemmas.Option.{MatchOption-at_some}
+use Rattle.s4_types.specs.Pointer.{Place}
+use Rattle.block_log.specs.Log.{Stored, of_kind, seen_as, same_place}
+use Rattle.block_log.specs.declared.kinds.BlockKind.{BlockKind}
+use Rattle.block_log.specs.declared.kinds.BlockKind.TheVariants.{Journal, Checkpoint, Data}
+use Rattle.codec.specs.Fields.{bit}
+use Rattle.codec.specs.Checkpoint.{CheckpointFields}
+use Rattle.journal_chain.specs.Chain.{times}
+use Rattle.checkpoint.specs.Held.{spelled_checkpoint}
+use Rattle.version_store.specs.Store.{IsLed}
+use Rattle.image_chains.specs.declared.rows.ImageRow.{ImageRow}
+use Rattle.image_chains.specs.Chains.{entries_used}
+use Rattle.image_chains.specs.Inodes.{CheckpointStands}
+use Rattle.image_objects.specs.Objects.{ObjectStands, pointers_used}
+use Rattle.image_objects.specs.Naming.{NamesUsed}
+use Rattle.image_objects.specs.private.Places.{places_in, places_of_chain, places_named}
+use Rattle.image_objects.proofs.Walk.{in_none, place_there}
+
+-- ---- what is listed
+
+here_alone : (p : Place) → Contains (p ∷ []) p
+here_alone p = (0, omega arith, refl)
+
+only_itself : (p q : Place) → Contains (q ∷ []) p → q ≡ p
+only_itself p q listed = elim (Contains-push_cases [] q p listed) [ inl none ↦ absurd (in_none p none) | inr same ↦ same ]
+
+in_slot : (slot : Option Place) (p : Place) → slot ≡ Some p → Contains (option_to_list slot) p
+in_slot slot p is = subst (λ (s : Option Place). Contains (option_to_list s) p) (sym is) (here_alone p)
+
+of_slot : (slot : Option Place) (p : Place) → Contains (option_to_list slot) p → slot ≡ Some p
+of_slot None p listed = absurd (in_none p listed)
+of_slot (Some q) p listed = ap Some (only_itself p q listed)
+
+slot_listed : (slots : List (Option Place)) (k : ℕ) (p : Place) → k < length slots → get_or slots k (Some p) ≡ Some p → Contains (places_in slots) p
+slot_listed [] k p lt is = absurd (omega (arith, lt))
+slot_listed (s ∷ slots) zero p lt is = Contains-append_left (option_to_list s) (places_in slots) p (in_slot s p is)
+slot_listed (s ∷ slots) (suc k) p lt is = Contains-append_right (option_to_list s) (places_in slots) p (slot_listed slots k p (omega (arith, lt)) is)
+
+listed_slot : (slots : List (Option Place)) (p : Place) → Contains (places_in slots) p → Contains slots (Some p)
+listed_slot [] p listed = absurd (in_none p listed)
+listed_slot (s ∷ slots) p listed = elim (Contains-append_cases (option_to_list s) (places_in slots) p listed) [
+  | inl here ↦ Contains-append_left (s ∷ []) slots (Some p) (0, omega arith, of_slot s p here)
+  | inr later ↦ Contains-append_right (s ∷ []) slots (Some p) (listed_slot slots p later)
+]
+
+-- ---- how often a place is listed
+
+abbrev pub OneName : Type 0
+OneName = (p q : Place) → same_place p q ≡ true → p ≡ q
+
+place_itself : (p : Place) → same_place p p ≡ true
+place_itself p =
+    and_from (p.frame == p.frame) (p.block == p.block && p.generation == p.generation) (eq-eqb p.frame p.frame refl)
+    (and_from (p.block == p.block) (p.generation == p.generation) (eq-eqb p.block p.block refl) (eq-eqb p.generation p.generation refl))
+
+counted : (p q : Place) (places : List Place) → times p (q ∷ places) ≡ bit (same_place p q) + times p places
+unfolding times
+counted p q places = refl
+
+counted_none : (p : Place) → times p [] ≡ 0
+unfolding times
+counted_none p = refl
+
+once_there : (places : List Place) (k : ℕ) (p : Place) → k < length places → get_or places k p ≡ p → 0 < times p places
+once_there [] k p lt is = absurd (omega (arith, lt))
+once_there (q ∷ places) zero p lt is =
+    let one : bit (same_place p q) ≡ 1 = ap bit (ap (same_place p) is ∙ place_itself p) in
+    omega (arith, counted p q places, one)
+once_there (q ∷ places) (suc k) p lt is =
+    let some : 0 < times p places = once_there places k p (omega (arith, lt)) is in
+    omega (arith, counted p q places, some)
+
+pub there_once : OneName → (places : List Place) (p : Place) → 0 < times p places → Contains places p
+there_once names [] p some = absurd (omega (arith, some, counted_none p))
+there_once names (q ∷ places) p some = elim (cases_Bool (same_place p q)) [
+  | inl same ↦ Contains-append_left (q ∷ []) places p (0, omega arith, sym (names p q same))
+  | inr other ↦ (let none : bit (same_place p q) ≡ 0 = ap bit other in
+      Contains-append_right (q ∷ []) places p (there_once names places p (omega (arith, counted p q places, none, some))))
+]
+
+-- ---- what a row names
+
+pub listed_is_named : (used : Place → Option Stored) (row : ImageRow) (p : Place) → Contains (places_named used row) p → (kind : BlockKind) × NamesUsed used row kind p
+listed_is_named used row p listed =
+    let c = places_of_chain used row in
+    elim (Contains-append_cases (c ++ option_to_list row.checkpoint) (places_in (pointers_used used row)) p listed) [
+      | inl front ↦ (elim (Contains-append_cases c (option_to_list row.checkpoint) p front) [
+        | inl chain ↦ (Journal, once_there c chain.0 p chain.1 chain.2)
+        | inr checkpoint ↦ (Checkpoint, of_slot row.checkpoint p checkpoint)
+      ])
+      | inr data_there ↦ (Data, listed_slot (pointers_used used row) p data_there)
+    ]
+
+pub named_is_listed : OneName → (used : Place → Option Stored) (row : ImageRow) (kind : BlockKind) (p : Place) → NamesUsed used row kind p → Contains (places_named used row) p
+named_is_listed names used row Journal p named =
+    let c = places_of_chain used row in
+    Contains-append_left (c ++ option_to_list row.checkpoint) (places_in (pointers_used used row)) p (Contains-append_left c (option_to_list row.checkpoint) p (there_once names c p named))
+named_is_listed names used row Checkpoint p named =
+    let c = places_of_chain used row in
+    Contains-append_left (c ++ option_to_list row.checkpoint) (places_in (pointers_used used row)) p (Contains-append_right c (option_to_list row.checkpoint) p (in_slot row.checkpoint p named))
+named_is_listed names used row Data p named =
+    let c = places_of_chain used row in
+    Contains-append_right (c ++ option_to_list row.checkpoint) (places_in (pointers_used used row)) p (slot_listed (pointers_used used row) named.0 p named.1 named.2)
+
+spelled : (bytes : Option (List ℕ)) (found : CheckpointFields) → spelled_checkpoint bytes ≡ Some found → IsSome bytes
+spelled None found is = absurd (false≢true (ap is_some is))
+spelled (Some bytes) found is = refl
+
+-- each named place has a used block of the object, of that kind
+pub named_is_used : OneName → (used : Place → Option Stored) (row : ImageRow) (clock : ℕ) (kind : BlockKind) (p : Place) → ObjectStands used row clock → NamesUsed used row kind p → IsSome (of_kind kind row.object used p)
+named_is_used names used row clock Journal p stands named = place_there used row p stands.history.chain.walk (there_once names (places_of_chain used row) p named)
+named_is_used names used row clock Checkpoint p stands named =
+    let c : CheckpointStands used row clock (entries_used used row) p = MatchOption-at_some _ (λ q. CheckpointStands used row clock (entries_used used row) q) p named stands.history.beginning in
+    spelled (of_kind Checkpoint row.object used p) c.found c.decodes
+named_is_used names used row clock Data p stands named = All-contains (IsLed used row.object) (pointers_used used row) (Some p) stands.led named
+
+pub is_used : (kind : BlockKind) (o : ℕ) (block : Option Stored) → IsSome (seen_as kind o block) → IsSome block
+is_used kind o None h = absurd (false≢true h)
+is_used kind o (Some block) h = refl
+
+-- ---- what adding them makes of a list
+
+pub only_named : (used : Place → Option Stored) (row : ImageRow) (before items : List Place) → items ≡ before ++ places_named used row → (p : Place) → Contains items p → Contains before p ⊎ ((kind : BlockKind) × NamesUsed used row kind p)
+only_named used row before items is p listed = elim (Contains-append_cases before (places_named used row) p (subst (λ (l : List Place). Contains l p) is listed)) [
+  | inl old ↦ inl old
+  | inr new ↦ inr (listed_is_named used row p new)
+]
+
+pub all_named : OneName → (used : Place → Option Stored) (row : ImageRow) (before items : List Place) → items ≡ before ++ places_named used row → (kind : BlockKind) (p : Place) → NamesUsed used row kind p → Contains items p
+all_named names used row before items is kind p named = subst (λ (l : List Place). Contains l p) (sym is) (Contains-append_right before (places_named used row) p (named_is_listed names used row kind p named))
+
+pub all_kept : (used : Place → Option Stored) (row : ImageRow) (before items : List Place) → items ≡ before ++ places_named used row → (p : Place) → Contains before p → Contains items p
+all_kept used row before items is p old = subst (λ (l : List Place). Contains l p) (sym is) (Contains-append_left before (places_named used row) p old)
+
+pub only_used : OneName → (used : Place → Option Stored) (row : ImageRow) (clock : ℕ) (before items : List Place) → ObjectStands used row clock → items ≡ before ++ places_named used row → (p : Place) → Contains items p → Contains before p ⊎ IsSome (used p)
+only_used names used row clock before items stands is p listed = elim (only_named used row before items is p listed) [
+  | inl old ↦ inl old
+  | inr new ↦ inr (is_used new.0 row.object (used p) (named_is_used names used row clock new.0 p stands new.1))
+]

@@ -1,0 +1,44 @@
+use Rattle.std.proofs.Common.{◌≡◌, ◌++◌, IsSome}
+use Rattle.std.specs.Prelude.{◌⊎◌}
+use Rattle.std.specs.List.{Contains}
+use Rattle.std.proofs.lemmas.Result.{IfOk-weaker}
+use Rattle.s4_types.specs.Pointer.{Place}
+use Rattle.block_log.specs.declared.kinds.BlockKind.{BlockKind}
+use Rattle.image_objects.specs.Naming.{NamesUsed}
+use Rattle.image_objects.specs.private.Places.{places_named}
+use Rattle.image_objects.proofs.Named.{only_named, all_named, all_kept, only_used}
+use Rattle.image_objects.proofs.naming.push_named.Goals as goal
+
+pub returns-clause-only : goal.returns-clause-only
+returns-clause-only g c =
+    let used = g.U.UsedBlocks.used c.args.used.now in
+    let row = c.args.row.now in
+    let before = c.args.places.now.items in
+    let items = c.push_all.new.places.items in
+    IfOk-weaker c.push_all.result (λ _. items ≡ before ++ places_named used row) (λ _. (p : Place) → Contains items p → Contains before p ⊎ ((kind : BlockKind) × NamesUsed used row kind p)) (λ _ is. only_named used row before items is) c.push_all.ensures.places
+
+pub returns-clause-all : goal.returns-clause-all
+returns-clause-all g c =
+    let used = g.U.UsedBlocks.used c.args.used.now in
+    let row = c.args.row.now in
+    let before = c.args.places.now.items in
+    let items = c.push_all.new.places.items in
+    IfOk-weaker c.push_all.result (λ _. items ≡ before ++ places_named used row) (λ _. (kind : BlockKind) (p : Place) → NamesUsed used row kind p → Contains items p) (λ _ is. all_named c.one_place_has_one_name.ensures used row before items is)
+    c.push_all.ensures.places
+
+pub returns-clause-kept : goal.returns-clause-kept
+returns-clause-kept g c =
+    let used = g.U.UsedBlocks.used c.args.used.now in
+    let row = c.args.row.now in
+    let before = c.args.places.now.items in
+    let items = c.push_all.new.places.items in
+    IfOk-weaker c.push_all.result (λ _. items ≡ before ++ places_named used row) (λ _. (p : Place) → Contains before p → Contains items p) (λ _ is. all_kept used row before items is) c.push_all.ensures.places
+
+pub returns-clause-used : goal.returns-clause-used
+returns-clause-used g c =
+    let used = g.U.UsedBlocks.used c.args.used.now in
+    let row = c.args.row.now in
+    let before = c.args.places.now.items in
+    let items = c.push_all.new.places.items in
+    IfOk-weaker c.push_all.result (λ _. items ≡ before ++ places_named used row) (λ _. (p : Place) → Contains items p → Contains before p ⊎ IsSome (used p))
+    (λ _ is. only_used c.one_place_has_one_name.ensures used row c.requires.stands.0 before items c.requires.stands.1 is) c.push_all.ensures.places

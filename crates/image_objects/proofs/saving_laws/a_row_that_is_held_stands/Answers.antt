@@ -1,0 +1,11 @@
+use Rattle.image_objects.proofs.SavedObject.{object_stands}
+use Rattle.image_objects.proofs.saving_laws.a_row_that_is_held_stands.Goals as goal
+
+pub returns : goal.returns
+returns c = object_stands (record {
+  packing = c.packing_keeps_the_rule.ensures.packed;
+  end = c.a_run_has_one_end_and_one_beginning.ensures.end;
+  making = c.a_row_keeps_the_making.ensures;
+  later = c.an_orderly_row_stays.ensures.later;
+  matter = c.only_its_blocks_matter.ensures;
+})

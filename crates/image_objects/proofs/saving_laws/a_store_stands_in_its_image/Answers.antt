@@ -1,0 +1,8 @@
+use Rattle.image_objects.proofs.SavedStore.{store_stands, store_ascends}
+use Rattle.image_objects.proofs.saving_laws.a_store_stands_in_its_image.Goals as goal
+
+pub returns-clause-stand : goal.returns-clause-stand
+returns-clause-stand c = store_stands c.a_row_that_is_held_stands.ensures
+
+pub returns-clause-ascend : goal.returns-clause-ascend
+returns-clause-ascend c = store_ascends

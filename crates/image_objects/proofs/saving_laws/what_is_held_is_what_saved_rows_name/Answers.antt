@@ -1,0 +1,5 @@
+use Rattle.image_objects.proofs.SavedStore.{holds_what_is_named}
+use Rattle.image_objects.proofs.saving_laws.what_is_held_is_what_saved_rows_name.Goals as goal
+
+pub returns : goal.returns
+returns c = holds_what_is_named c.what_is_held_is_what_rows_name.ensures.exact c.what_is_held_is_what_rows_name.ensures.block

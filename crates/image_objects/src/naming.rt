@@ -1,0 +1,147 @@
+//! The places that a row of an image names.
+ghost use Rattle.std.specs.Prelude.{◌≡◌, ℕ, ◌⊎◌, ◌++◌, Option, IsSome, IfOk, IfErr};
+ghost use Rattle.std.specs.List.{Contains};
+ghost use Rattle.std.specs.Option.{option_to_list};
+ghost use Rattle.s4_types.specs.Pointer.{Place};
+ghost use Rattle.s4_types.specs.declared.refusals.Refusal.TheVariants.{NoMemory};
+ghost use Rattle.block_log.specs.Log.{Stored, of_kind};
+ghost use Rattle.block_log.specs.declared.kinds.BlockKind.{BlockKind};
+ghost use Rattle.version_store.specs.Store.{sides_of, sides_told, pointers_kept};
+ghost use Rattle.image_chains.specs.declared.rows.ImageRow.{ImageRow as RowFields};
+ghost use Rattle.image_chains.specs.Chains.{ChainStands, entries_used};
+ghost use Rattle.image_chains.specs.Inodes.{checkpoint_used};
+ghost use Rattle.image_objects.specs.Objects.{ObjectStands};
+ghost use Rattle.image_objects.specs.Naming.{NamesUsed};
+ghost use Rattle.image_objects.specs.private.Places.{places_in, places_of_chain, places_named};
+
+use crate::pointers::checkpoint_of;
+use block_log::laws::one_place_has_one_name;
+use codec::{Entry, Triple};
+use image_chains::{ImageHistory, ImageRow, UsedBlocks, read_journal};
+use s4_types::limits::CHAIN_BLOCKS;
+use s4_types::{Ptr, Refusal};
+
+/// Adds the place that a slot leads to, where it isn't a hole.
+fn push_slot(slot: Option<Ptr>, places: &mut Vec<Ptr>) -> Result<(), Refusal>
+    ensures places { IfOk result (λ _. places.new.items ≡ places.old.items ++ option_to_list slot) }
+    ensures refusal { IfErr result (λ e. e ≡ NoMemory) }
+{
+    if let Some(place) = slot {
+        places.push(place)?;
+    }
+    Ok(())
+}
+
+/// Adds the places that slots lead to.
+fn push_slots(slots: &[Option<Ptr>], places: &mut Vec<Ptr>) -> Result<(), Refusal>
+    ensures places { IfOk result (λ _. places.new.items ≡ places.old.items ++ places_in slots.now) }
+    ensures refusal { IfErr result (λ e. e ≡ NoMemory) }
+{
+    for slot in slots {
+        push_slot(*slot, places)?;
+    }
+    Ok(())
+}
+
+/// Adds the places that both sides of triples lead to.
+fn push_triples(triples: &[Triple], places: &mut Vec<Ptr>) -> Result<(), Refusal>
+    ensures places { IfOk result (λ _. places.new.items ≡ places.old.items ++ places_in (sides_of triples.now)) }
+    ensures refusal { IfErr result (λ e. e ≡ NoMemory) }
+{
+    for triple in triples {
+        push_slot(triple.before, places)?;
+        push_slot(triple.after, places)?;
+    }
+    Ok(())
+}
+
+/// Adds the places that both sides of the triples of entries lead to.
+fn push_entries(entries: &[Entry], places: &mut Vec<Ptr>) -> Result<(), Refusal>
+    ensures places { IfOk result (λ _. places.new.items ≡ places.old.items ++ places_in (sides_told entries.now)) }
+    ensures refusal { IfErr result (λ e. e ≡ NoMemory) }
+{
+    for entry in entries {
+        push_triples(entry.triples(), places)?;
+    }
+    Ok(())
+}
+
+/// Adds the places that the pointers of a row's checkpoint lead to.
+fn push_kept<U: UsedBlocks>(used: &U, row: &ImageRow, places: &mut Vec<Ptr>) -> Result<(), Refusal>
+    ensures places { IfOk result (λ _. places.new.items ≡ places.old.items ++ places_in (pointers_kept (checkpoint_used (U.used used.now) row.now))) }
+    ensures refusal { IfErr result (λ e. e ≡ NoMemory) }
+{
+    let Some(checkpoint) = checkpoint_of(used, row) else {
+        return Ok(());
+    };
+    push_slots(&checkpoint.inode().pointers, places)
+}
+
+/// Adds the places of the blocks of a row's chain, the newest first.
+fn push_chain<U: UsedBlocks>(used: &U, row: &ImageRow, places: &mut Vec<Ptr>) -> Result<(), Refusal>
+    requires { (clock : ℕ) × ChainStands (U.used used.now) row.now clock }
+    ensures places { IfOk result (λ _. places.new.items ≡ places.old.items ++ places_of_chain (U.used used.now) row.now) }
+    ensures refusal { IfErr result (λ e. e ≡ NoMemory) }
+{
+    let mut next = row.head;
+    for _ in 0..CHAIN_BLOCKS {
+        let Some(place) = next else {
+            return Ok(());
+        };
+        places.push(place)?;
+        let Some(block) = read_journal(used, row.object, place) else {
+            unreachable!()
+        };
+        next = block.previous();
+    }
+    Ok(())
+}
+
+/// Adds the places of all used blocks that a row names, one after another.
+fn push_all<U: UsedBlocks>(
+    used: &U,
+    row: &ImageRow,
+    entries: &[Entry],
+    places: &mut Vec<Ptr>,
+) -> Result<(), Refusal>
+    requires chain { (clock : ℕ) × ChainStands (U.used used.now) row.now clock }
+    requires entries { entries.now ≡ entries_used (U.used used.now) row.now }
+    ensures places { IfOk result (λ _. places.new.items ≡ places.old.items ++ places_named (U.used used.now) row.now) }
+    ensures refusal { IfErr result (λ e. e ≡ NoMemory) }
+{
+    push_chain(used, row, places)?;
+    push_slot(row.checkpoint, places)?;
+    push_kept(used, row, places)?;
+    push_entries(entries, places)
+}
+
+/// Adds the places of all used blocks that a row of an image names: its chain's, its checkpoint's, and those of its data. A
+/// place that is named twice may stand there twice.
+///
+/// NoMemory alone, after which some of them may have been added. Linear in the chain's blocks.
+pub fn push_named<U: UsedBlocks>(
+    used: &U,
+    row: &ImageRow,
+    history: &ImageHistory,
+    places: &mut Vec<Ptr>,
+) -> Result<(), Refusal>
+    requires stands { (clock : ℕ) × ObjectStands (U.used used.now) row.now clock }
+    requires entries { history.now.chain.entries.items ≡ entries_used (U.used used.now) row.now }
+    ensures only { IfOk result (λ _. (p : Place) → Contains places.new.items p
+        → Contains places.old.items p ⊎ ((kind : BlockKind) × NamesUsed (U.used used.now) row.now kind p)) }
+    ensures all { IfOk result (λ _. (kind : BlockKind) (p : Place) → NamesUsed (U.used used.now) row.now kind p → Contains places.new.items p) }
+    ensures kept { IfOk result (λ _. (p : Place) → Contains places.old.items p → Contains places.new.items p) }
+    ensures used { IfOk result (λ _. (p : Place) → Contains places.new.items p → Contains places.old.items p ⊎ IsSome (U.used used.now p)) }
+    ensures refusal { IfErr result (λ e. e ≡ NoMemory) }
+{
+    one_place_has_one_name();
+    push_all(used, row, history.chain.entries.as_slice(), places)
+}
+
+/// Each place that a row of an object which stands in an image names has a used block of the object, of that kind.
+pub fn what_a_row_names_is_used()
+    ensures { (used : Place → Option Stored) (row : RowFields) (clock : ℕ) (kind : BlockKind) (p : Place) → ObjectStands used row clock
+        → NamesUsed used row kind p → IsSome (of_kind kind row.object used p) }
+{
+    one_place_has_one_name();
+}

@@ -1,0 +1,112 @@
+-- Tests in a fixed order, of which the first that fails tells the cause.
+use Rattle.std.proofs.Common.{◌≡◌, ◌⊎◌, ℕ, List, Option, Some, None, refl, sym, ◌∙◌, subst, inl, inr}
+use Rattle.s4_types.specs.declared.refusals.Cause.{Cause}
+use Rattle.s4_types.specs.declared.refusals.Cause.TheVariants.{Chain}
+use Rattle.image_parts.specs.Image.{Image, SpellsImage, image_in}
+use Rattle.image_parts.specs.Causes.{Tested, TestedParts, FirstCause}
+use Rattle.verifier.specs.Rows.{ChainsStand}
+use Rattle.verifier.specs.Grammar.{SpellsDrive, FirstFault}
+
+-- ---- one test
+
+some_is_some : {P : Type 0} (cause : Cause) → ◌≡◌ {A = Option Cause} None (Some cause) → P
+some_is_some cause e = absurd (cc)
+
+-- one test: it fails and its cause was found, or it holds and something else holds too
+abbrev Test : Type 0 → Cause → Type 0 → Option Cause → Type 0
+Test holds cause later found = ((holds → ⊥) × (found ≡ Some cause)) ⊎ (holds × later)
+
+-- a test that holds does so whatever comes behind
+passed : {holds early late : Type 0} {cause : Cause} {found : Option Cause} → Test holds cause early None → (early → late) → Test holds cause late found
+passed {cause = cause} (inl failed) on = some_is_some cause failed.1
+passed (inr held) on = inr (held.0, on held.1)
+
+-- where all tests hold, what comes behind them decides
+behind : {holds early late : Type 0} {cause : Cause} {found : Option Cause} → Test holds cause early None → Test holds cause late found → early × late
+behind {cause = cause} (inl failed) other = some_is_some cause failed.1
+behind (inr held) (inl failed) = absurd (failed.0 held.0)
+behind (inr held) (inr other) = (held.1, other.1)
+
+-- where nothing was found, the test held
+none_found : {holds later : Type 0} {cause : Cause} → Test holds cause later None → holds × later
+none_found {cause = cause} (inl failed) = some_is_some cause failed.1
+none_found (inr held) = held
+
+-- a test that fails does so whatever comes behind
+kept_found : {holds early late : Type 0} {cause : Cause} {found : Option Cause} → Test holds cause early found → (early → late) → Test holds cause late found
+kept_found (inl failed) on = inl failed
+kept_found (inr held) on = inr (held.0, on held.1)
+
+-- the tests come to one cause
+one_found : {holds early late : Type 0} {cause : Cause} {found other : Option Cause} → Test holds cause early found → Test holds cause late other → (early → late → found ≡ other) → found ≡ other
+one_found (inl a) (inl b) on = a.1 ∙ sym b.1
+one_found (inl a) (inr b) on = absurd (a.0 b.0)
+one_found (inr a) (inl b) on = absurd (b.0 a.0)
+one_found (inr a) (inr b) on = on a.1 b.1
+
+-- ---- all tests
+
+-- where all tests of parts hold, what comes behind them decides
+pub parts_passed : (bytes : List ℕ) (late : Option Cause → Type 0) (found : Option Cause) → FirstCause bytes None → late found → TestedParts bytes late found
+parts_passed bytes late found tests on =
+    passed tests (λ a. passed a (λ b. passed b (λ c. passed c (λ d. passed d (λ e. passed e (λ f. passed f (λ g. on)))))))
+
+-- what comes behind the tests of parts, where those hold
+pub parts_behind : (bytes : List ℕ) (late : Option Cause → Type 0) (found : Option Cause) → FirstCause bytes None → TestedParts bytes late found → late found
+parts_behind bytes late found tests all =
+    let a = behind tests all in
+    let b = behind a.0 a.1 in
+    let c = behind b.0 b.1 in
+    let d = behind c.0 c.1 in
+    let e = behind d.0 d.1 in
+    let f = behind e.0 e.1 in
+    (behind f.0 f.1).1
+
+-- where nothing was found, nothing was by the tests of parts
+pub parts_none : (bytes : List ℕ) (late : Option Cause → Type 0) → TestedParts bytes late None → FirstCause bytes None
+parts_none bytes late tests =
+    kept_found tests (λ a. kept_found a (λ b. kept_found b (λ c. kept_found c (λ d. kept_found d (λ e. kept_found e (λ f. kept_found f (λ g. refl)))))))
+
+-- what the tests of parts found is found whatever comes behind them
+pub parts_found : (bytes : List ℕ) (late : Option Cause → Type 0) (cause : Cause) → FirstCause bytes (Some cause) → TestedParts bytes late (Some cause)
+parts_found bytes late cause tests =
+    kept_found tests (λ a. kept_found a (λ b. kept_found b (λ c. kept_found c (λ d. kept_found d (λ e. kept_found e (λ f. kept_found f (λ g. some_is_some cause (sym g))))))))
+
+-- ---- the image
+
+-- what an_image_is_read and what_no_test_refuses_is_an_image tell
+abbrev pub AreTested : Type 0
+AreTested = (bytes : List ℕ) (image : Image) → SpellsImage bytes image → FirstCause bytes None
+
+abbrev pub AreReadAgain : Type 0
+AreReadAgain = (bytes : List ℕ) (image : Image) → SpellsImage bytes image → image_in bytes ≡ image
+
+read_chains : AreReadAgain → (bytes : List ℕ) (image : Image) → SpellsDrive bytes image → ChainsStand (image_in bytes)
+read_chains read bytes image spells = subst ChainsStand (sym (read bytes image spells.parts)) spells.chains
+
+pub nothing_spelled : AreTested → AreReadAgain → (bytes : List ℕ) (cause : Cause) (image : Image) → FirstFault bytes (Some cause) → SpellsDrive bytes image → ⊥
+nothing_spelled tests read bytes cause image fault spells =
+    elim (parts_behind bytes (Tested (ChainsStand (image_in bytes)) Chain (λ f. f ≡ None)) (Some cause) (tests bytes image spells.parts) fault) [
+      | inl failed ↦ failed.0 (read_chains read bytes image spells)
+      | inr held ↦ some_is_some cause (sym held.1)
+    ]
+
+pub none_where_spelled : AreTested → AreReadAgain → (bytes : List ℕ) (image : Image) → SpellsDrive bytes image → FirstFault bytes None
+none_where_spelled tests read bytes image spells =
+    parts_passed bytes (Tested (ChainsStand (image_in bytes)) Chain (λ f. f ≡ None)) None (tests bytes image spells.parts) (inr (read_chains read bytes image spells, refl))
+
+pub spelled_where_none : (bytes : List ℕ) → (FirstCause bytes None → SpellsImage bytes (image_in bytes)) → FirstFault bytes None → SpellsDrive bytes (image_in bytes)
+spelled_where_none bytes is none =
+    let parts : FirstCause bytes None = parts_none bytes (Tested (ChainsStand (image_in bytes)) Chain (λ f. f ≡ None)) none in
+    record { parts = is parts; chains = (none_found (parts_behind bytes (Tested (ChainsStand (image_in bytes)) Chain (λ f. f ≡ None)) None parts none)).0 }
+
+pub one_fault : (bytes : List ℕ) (found other : Option Cause) → FirstFault bytes found → FirstFault bytes other → found ≡ other
+one_fault bytes found other x y =
+    one_found x y (λ a b. one_found a b (λ a b. one_found a b (λ a b. one_found a b (λ a b. one_found a b
+    (λ a b. one_found a b (λ a b. one_found a b (λ a b. one_found a b (λ p q. p ∙ sym q))))))))
+
+-- parts that no test refuses, and whose chains don't stand
+pub chain_fault : (bytes : List ℕ) (parts : Image) → FirstCause bytes None → parts ≡ image_in bytes → (ChainsStand parts → ⊥) → FirstFault bytes (Some Chain)
+chain_fault bytes parts tests is fall =
+    let F : Image → Type 0 = λ image. ChainsStand image → ⊥ in
+    parts_passed bytes (Tested (ChainsStand (image_in bytes)) Chain (λ f. f ≡ None)) (Some Chain) tests (inl (subst F is fall, refl))

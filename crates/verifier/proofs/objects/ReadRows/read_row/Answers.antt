@@ -1,0 +1,52 @@
+use Rattle.std.proofs.Common.{◌≡◌, ◌++◌, List, sym, ap, ◌∙◌, subst}
+use Rattle.std.proofs.lemmas.Option.{same_Some}
+use Rattle.s4_types.specs.Pointer.{Place}
+use Rattle.codec.specs.Entry.{EntryFields, entries_length}
+use Rattle.journal_chain.specs.Packing.{packed, filled_bytes}
+use Rattle.segment_table.specs.Table.{held_at}
+use Rattle.segment_table.specs.Used.{used_at}
+use Rattle.image_chains.specs.declared.histories.ImageHistory.{ImageHistory}
+use Rattle.image_chains.specs.Chains.{entries_used}
+use Rattle.image_chains.specs.History.{present_used}
+use Rattle.image_objects.specs.Objects.{ObjectStands}
+use Rattle.image_objects.specs.Moments.{moments_of_chain}
+use Rattle.verifier.specs.private.Holding.{HoldsAlso}
+use Rattle.verifier.proofs.Holding.{AreNamed, at_some, holds_more, only_named}
+use Rattle.verifier.proofs.objects.ReadRows.read_row.Goals as goal
+
+pub returns-clause-read : goal.returns-clause-read
+returns-clause-read c =
+    let used = used_at c.args.self.now.table in
+    let row = c.in-Some.row in
+    let found = c.in_ok-history.field-0 in
+    let history = c.in-Some-2.history in
+    let is = c.in-Some-2.is in
+    let told = c.in_ok-history.ensures in
+    let stands : ObjectStands used row c.args.clock = at_some found history (λ (h : ImageHistory). ObjectStands used row c.args.clock) is told.stands in
+    let entries : history.chain.entries.items ≡ entries_used used row = at_some found history (λ (h : ImageHistory). h.chain.entries.items ≡ entries_used used row) is told.entries in
+    let places = c.push_named.new.places.items in
+    let named : AreNamed used row places = record {
+      only = only_named used row c.clear.new.self.items places c.clear.ensures.items c.in_ok-push_named.ensures.only;
+      all = c.in_ok-push_named.ensures.all;
+      used_there = λ kind p names. c.what_a_row_names_is_used.ensures used row c.args.clock kind p stands names;
+    } in
+    let old = held_at c.args.self.now.table in
+    let new = held_at c.hold_all.new.table in
+    let also : HoldsAlso used old new places = subst (λ (l : List Place). HoldsAlso used old new l) c.as_slice-2.ensures.value c.hold_all.ensures.also in
+    record {
+      row = row;
+      spelled = c.in-Some.ensures.found;
+      only = λ other s. sym (same_Some row other (c.in-Some.ensures.only other s));
+      stands = stands;
+      opened = c.kept_of.result;
+      kept = c.kept_of.ensures used (record {
+        entries = entries;
+        bytes = at_some found history (λ (h : ImageHistory). h.chain.journal_bytes ≡ entries_length (entries_used used row)) is told.bytes;
+        head = at_some found history (λ (h : ImageHistory). h.chain.head_bytes ≡ filled_bytes (packed (entries_used used row))) is told.head;
+        present = at_some found history (λ (h : ImageHistory). h.present ≡ present_used used row) is told.present;
+      });
+      objects = c.in_ok-push.ensures.items;
+      moments = c.in_ok-push_moments.ensures.moments ∙ ap (λ (es : List EntryFields). c.args.self.now.moments.items ++ moments_of_chain es) (c.as_slice.ensures.value ∙ entries);
+      held = λ rows h. holds_more used old new rows row places named also h;
+      alike = c.hold_all.ensures.alike;
+    }

@@ -1,0 +1,49 @@
+use Rattle.std.proofs.Common.{◌≡◌, ◌∙◌, ℕ, List, [], ◌++◌, length, sym, ap, subst}
+use Rattle.std.specs.List.{flat_map}
+use Rattle.image_parts.specs.Header.{header_bytes}
+use Rattle.image_parts.specs.Rows.{row_bytes}
+use Rattle.image_parts.specs.Spans.{span_bytes}
+use Rattle.drive.specs.Fields.{DriveFields}
+use Rattle.verifier.specs.Saved.{AddsFrames, SpellsSaved}
+use Rattle.verifier.proofs.SavedWhole.{Shown, SpansShown, HeaderShown, saves}
+use Rattle.verifier.proofs.saving.save.Goals as goal
+
+pub returns-clause-saved : goal.returns-clause-saved
+returns-clause-saved g c =
+    let d : DriveFields = c.args.drive.now in
+    let rows = c.in_ok-rows.rows.items in
+    let spans = c.in_ok-spans.spans.items in
+    let h = c.header_of-header.result in
+    let rules = c.rules.ensures in
+    let shown : Shown d = record { sound = rules.sound; store = rules.store; past = rules.past; unborn = rules.unborn; used = rules.used; count = rules.count } in
+    let seen : SpansShown d spans = record {
+      alike = c.in_ok-spans.ensures.alike;
+      ordered = c.in_ok-spans.ensures.ordered;
+      from_floor = c.in_ok-spans.ensures.from_floor;
+      past = c.in_ok-spans.ensures.past;
+      given = c.in_ok-spans.ensures.given;
+      few = c.in_ok-spans.ensures.few;
+      few_in_each_list = c.in_ok-spans.ensures.few_in_each_list;
+    } in
+    let head = c.header_of-header.ensures in
+    let written : HeaderShown d (length rows) (length spans) h = record {
+      frames = head.frames;
+      clock = head.clock;
+      window = head.window;
+      floor = head.floor;
+      next = head.next;
+      row_count = head.rows ∙ c.len.ensures ∙ c.in_ok-rows.rows.ok.0;
+      span_count = head.spans ∙ c.len-2.ensures ∙ c.in_ok-spans.spans.ok.0;
+      clock_fits = head.clock_fits;
+      window_fits = head.window_fits;
+      next_fits = head.next_fits;
+    } in
+    let begun : c.push_header.new.out.items ≡ [] ++ header_bytes h = c.in_ok-push_header.ensures.items ∙ ap (λ (l : List ℕ). l ++ header_bytes h) c.new-out.ensures.items in
+    let adds : AddsFrames d.store.table ([] ++ header_bytes h) c.push_frames.new.out.items =
+    subst (λ (l : List ℕ). AddsFrames d.store.table l c.push_frames.new.out.items) begun c.in_ok-push_frames.ensures.frames in
+    let parts : c.push_spans.new.out.items ≡ (c.push_frames.new.out.items ++ flat_map row_bytes rows) ++ flat_map span_bytes spans =
+    c.in_ok-push_spans.ensures.items ∙ ap (λ l. l ++ flat_map span_bytes c.as_slice-2.result.now) (c.in_ok-push_rows.ensures.items ∙ ap (λ r. c.push_frames.new.out.items ++ flat_map row_bytes r) c.as_slice.ensures.value)
+    ∙ ap (λ r. (c.push_frames.new.out.items ++ flat_map row_bytes rows) ++ flat_map span_bytes r) c.as_slice-2.ensures.value in
+    subst (SpellsSaved d) (sym c.in_ok-push_digest.ensures.items)
+    (saves d rows spans h c.push_frames.new.out.items c.push_spans.new.out.items c.a_store_stands_in_its_image.ensures.stand c.a_store_stands_in_its_image.ensures.ascend
+    shown c.in_ok-rows.ensures.saved seen written adds parts)

@@ -1,0 +1,45 @@
+//! The used blocks of an image, as its table tells them.
+ghost use Rattle.std.specs.Prelude.{IsSome};
+ghost use Rattle.std.specs.List.{All};
+ghost use Rattle.segment_table.specs.Table.{held_at};
+ghost use Rattle.segment_table.specs.Used.{used_at};
+ghost use Rattle.verifier.specs.private.Holding.{HoldsAlso, IsUsedAlike};
+
+use block_log::laws::one_place_has_one_name;
+use image_chains::{UsedBlock, UsedBlocks};
+use s4_types::Ptr;
+use segment_table::TableParts;
+
+/// The used blocks of the frames of an image, whether they are held or not.
+#[derive(Clone, Copy)]
+pub(crate) struct TableBlocks<'a> {
+    pub(crate) table: &'a TableParts,
+}
+
+impl UsedBlocks for TableBlocks<'_> {
+    ghost use Rattle.segment_table.specs.Used.{used_at};
+
+    ghost used = { λ b. used_at b.table.now };
+
+    fn block(&self, place: Ptr) -> Option<UsedBlock> {
+        let block = self.table.used(place)?;
+        let part = block.part();
+        Some(UsedBlock {
+            kind: part.kind,
+            object: part.object,
+            bytes: *block.bytes(),
+        })
+    }
+}
+
+/// The used blocks at these places are held from now on. Where one was, nothing changes.
+pub(crate) fn hold_all(table: &mut TableParts, places: &[Ptr])
+    requires { All (λ p. IsSome (used_at table.old p)) places.now }
+    ensures also { HoldsAlso (used_at table.old) (held_at table.old) (held_at table.new) places.now }
+    ensures alike { IsUsedAlike table.old table.new }
+{
+    one_place_has_one_name();
+    for place in places {
+        table.hold(*place);
+    }
+}

@@ -1,0 +1,66 @@
+//! Images that were verified.
+ghost use Rattle.std.specs.Prelude.{◌≡◌, length};
+
+use s4_types::{Moment, ObjectId, Span};
+use segment_table::TableParts;
+use std::marker::Model;
+use version_store::OpenedObject;
+
+/// What was read of an image that was verified: a drive can be opened from it.
+#[derive(Drop)]
+pub struct Image {
+    pub(crate) clock: Moment,
+    pub(crate) window: u64,
+    pub(crate) floor: Moment,
+    pub(crate) next: ObjectId,
+    pub(crate) table: TableParts,
+    pub(crate) objects: Vec<OpenedObject>,
+    pub(crate) spans: Vec<Span>,
+}
+
+impl Model for Image {
+    ghost use Rattle.verifier.specs.Images.{ImageFields, CanBeOpened};
+
+    ghost Value = { ImageFields };
+
+    ghost view = { λ i. record { clock = i.clock; window = i.window; floor = i.floor; next = i.next; table = i.table; objects = i.objects.items; spans = i.spans.items } };
+
+    ghost invariant = { λ i. CanBeOpened (record { clock = i.clock; window = i.window; floor = i.floor; next = i.next; table = i.table; objects = i.objects.items; spans = i.spans.items }) };
+}
+
+impl Image {
+    /// How many frames the drive has.
+    pub fn frames(&self) -> u16
+        ensures { result ≡ length self.now.table.drive.frames }
+    {
+        self.table.frame_count()
+    }
+
+    /// How many objects have a row.
+    pub fn objects(&self) -> usize
+        ensures { result ≡ length self.now.objects }
+    {
+        self.objects.len()
+    }
+
+    /// The moment of the last change that was accepted.
+    pub fn clock(&self) -> Moment
+        ensures { result ≡ self.now.clock }
+    {
+        self.clock
+    }
+
+    /// How many moments history reaches back from the clock.
+    pub fn window(&self) -> u64
+        ensures { result ≡ self.now.window }
+    {
+        self.window
+    }
+
+    /// Moments below it are lost.
+    pub fn floor(&self) -> Moment
+        ensures { result ≡ self.now.floor }
+    {
+        self.floor
+    }
+}

@@ -1,0 +1,29 @@
+//! Laws of the images of drives, for the layers above: each function does nothing, and its contract is the law.
+ghost use Rattle.std.specs.Prelude.{◌≡◌, ◌↔◌, ℕ, List, Option, Some, None};
+ghost use Rattle.s4_types.specs.declared.refusals.Cause.{Cause as Found};
+ghost use Rattle.image_parts.specs.Header.{AreBytes};
+ghost use Rattle.image_parts.specs.Image.{Image as Parts, image_in};
+ghost use Rattle.verifier.specs.Grammar.{SpellsDrive, FirstFault};
+
+use image_parts::laws::{an_image_is_read, what_no_test_refuses_is_an_image};
+
+/// Bytes in which a fault is found spell no image of a drive.
+pub fn what_has_a_fault_spells_nothing()
+    ensures { (bytes : List ℕ) (cause : Found) (image : Parts) → FirstFault bytes (Some cause) → SpellsDrive bytes image → ⊥ }
+{
+    an_image_is_read();
+}
+
+/// Bytes in which no fault is found are those that spell the image of a drive: the one that is read from them.
+pub fn what_has_no_fault_is_an_image()
+    ensures image { (bytes : List ℕ) → AreBytes bytes → FirstFault bytes None ↔ SpellsDrive bytes (image_in bytes) }
+    ensures read { (bytes : List ℕ) (image : Parts) → SpellsDrive bytes image → image_in bytes ≡ image }
+{
+    an_image_is_read();
+    what_no_test_refuses_is_an_image();
+}
+
+/// The tests come to one cause, or to none.
+pub fn one_first_fault()
+    ensures { (bytes : List ℕ) (found other : Option Found) → FirstFault bytes found → FirstFault bytes other → found ≡ other }
+{}

@@ -1,0 +1,61 @@
+//! The image of a drive, written.
+ghost use Rattle.std.specs.Prelude.{◌≡◌, ◌≤◌, ◌<◌, ◌^◌, length, IfOk, IfErr};
+ghost use Rattle.s4_types.specs.declared.refusals.Refusal.TheVariants.{NoMemory};
+ghost use Rattle.drive.specs.Fields.{state_in};
+ghost use Rattle.verifier.specs.Saved.{SpellsSaved};
+
+use crate::saved_frames::push_frames;
+use crate::saved_rows::{push_rows, push_spans, rows_saved};
+use drive::Drive;
+use image_objects::saving_laws::a_store_stands_in_its_image;
+use image_parts::{Header, push_digest, push_header};
+use s4_types::Refusal;
+use segment_word::Naming;
+use std::alloc::Global;
+
+/// The header of the image of a drive, by the numbers of its rows and of its spans.
+fn header_of<J: Naming>(drive: &Drive<J>, rows: u32, spans: u32) -> Header
+    ensures frames { result.frames ≡ length drive.now.store.table.drive.frames }
+    ensures clock { result.clock ≡ (state_in drive.now).clock }
+    ensures window { result.window ≡ (state_in drive.now).window }
+    ensures floor { result.floor ≡ (state_in drive.now).floor }
+    ensures next { result.next ≡ (state_in drive.now).next }
+    ensures rows { result.rows ≡ rows }
+    ensures spans { result.spans ≡ spans }
+    ensures clock_fits { (state_in drive.now).clock < 2 ^ 64 }
+    ensures window_fits { (state_in drive.now).window < 2 ^ 64 }
+    ensures next_fits { (state_in drive.now).next < 2 ^ 64 }
+{
+    Header {
+        frames: drive.frame_count(),
+        clock: drive.clock(),
+        window: drive.window(),
+        floor: drive.floor(),
+        next: drive.next(),
+        rows,
+        spans,
+    }
+}
+
+/// The image of a drive, which stays as it is: its clock, window, floor and next number, its frames with what is used of them, its
+/// rows by ascending object, and the spans that hide its moments from the floor on.
+///
+/// NoMemory alone, where the memory for it is refused.
+pub fn save<J: Naming>(alloc: Global, drive: &mut Drive<J>) -> Result<Vec<u8>, Refusal>
+    ensures saved { IfOk result (λ bytes. SpellsSaved drive.old bytes.items) }
+    ensures refusal { IfErr result (λ e. e ≡ NoMemory) }
+    ensures same { drive.new ≡ drive.old }
+{
+    a_store_stands_in_its_image();
+    drive.rules();
+    let rows = rows_saved(alloc, drive)?;
+    let spans = drive.spans()?;
+    let header = header_of(drive, rows.len() as u32, spans.len() as u32);
+    let mut out = Vec::new(alloc);
+    push_header(&mut out, &header)?;
+    push_frames(drive, &mut out)?;
+    push_rows(&mut out, rows.as_slice())?;
+    push_spans(&mut out, spans.as_slice())?;
+    push_digest(&mut out)?;
+    Ok(out)
+}
