@@ -6,9 +6,10 @@ use Rattle.std.specs.List.{AllZip, before_first, after_first, position_or_len}
 use Rattle.std.specs.Borrow.{Bor}
 use Rattle.std.proofs.Math.Seq.{get_or-append_seam}
 use Rattle.std.proofs.lemmas.Bool.{eqb-false, eqb-true}
-use Rattle.std.proofs.lemmas.List.{take_more, map-append, get_or-take, length-take}
+use Rattle.std.proofs.lemmas.List.{length-map, take_more, map-append, get_or-take, length-take}
 use Rattle.std.proofs.lemmas.List.Elements.{All-head, All-tail}
 use Rattle.std.proofs.lemmas.List.Sums.{split_at_first, fails_before_first, passes_at_first}
+use Rattle.std.proofs.lemmas.Slice.Zip.{AllZip-long}
 use Rattle.clap.specs.Walk.{Text, texts}
 use Rattle.s4_types.specs.declared.requests.Role.{Role}
 use Rattle.s4d_command.specs.declared.sessions.RunSession.{RunSession}
@@ -36,7 +37,8 @@ is_colon c = c == colon
 pub no_cut : (text : Text) → position_or_len is_colon text ≡ length text → (front back : Text) → IsCut text front back → ⊥
 no_cut text e front back h =
     let long : length text ≡ length front + length (colon ∷ back) = ap length h.whole ∙ length-append front (colon ∷ back) in
-    let here : get_or text (length front) 0 ≡ colon = ap (λ (t : Text). get_or t (length front) 0) h.whole ∙ get_or-append_seam front colon back 0 in
+    let here : get_or text (length front) 0 ≡ colon
+    = ap (λ (t : Text). get_or t (length front) 0) h.whole ∙ get_or-append_seam front colon back 0 in
     let fails : (get_or text (length front) 0 == colon) ≡ false = fails_before_first is_colon text (length front) 0 (omega arith) in
     eqb-false (get_or text (length front) 0) colon fails here
 
@@ -57,27 +59,20 @@ cut_here text front back f b lt =
           λ e. eqb-false (get_or text k d) colon fails (sym at ∙ e);
     }
 
-module _ (text : Text) (r : Option (Bor Text × Bor Text))
-    (found : MatchOption r (position_or_len is_colon text ≡ length text) (λ x. (x.0.now ≡ before_first is_colon text) × (x.1.now ≡ after_first is_colon text) × (position_or_len is_colon text < length text))) where
-  pub cut_none : IfNone r ((front back : Text) → IsCut text front back → ⊥)
-  cut_none = go r found where
-    go : (r : Option (Bor Text × Bor Text)) → MatchOption r (position_or_len is_colon text ≡ length text) (λ x. (x.0.now ≡ before_first is_colon text) × (x.1.now ≡ after_first is_colon text) × (position_or_len is_colon text < length text))
-        → IfNone r ((front back : Text) → IsCut text front back → ⊥)
-    go None e = no_cut text e
-    go (Some x) e = tt
+-- what `split_once` says of a text and a colon
+abbrev IsSplit : Text → Option (Bor Text × Bor Text) → Type 0
+IsSplit text r = MatchOption r (position_or_len is_colon text ≡ length text)
+    (λ x. (x.0.now ≡ before_first is_colon text) × (x.1.now ≡ after_first is_colon text) × (position_or_len is_colon text < length text))
 
-  pub cut_some : IfSome r (λ parts. IsCut text parts.0.now parts.1.now)
-  cut_some = go r found where
-    go : (r : Option (Bor Text × Bor Text)) → MatchOption r (position_or_len is_colon text ≡ length text) (λ x. (x.0.now ≡ before_first is_colon text) × (x.1.now ≡ after_first is_colon text) × (position_or_len is_colon text < length text))
-        → IfSome r (λ parts. IsCut text parts.0.now parts.1.now)
-    go None e = tt
-    go (Some x) e = cut_here text x.0.now x.1.now e.0 e.1 e.2
+pub cut_none : (text : Text) (r : Option (Bor Text × Bor Text)) → IsSplit text r → IfNone r ((front back : Text) → IsCut text front back → ⊥)
+cut_none text None split = no_cut text split
+cut_none text (Some x) split = tt
 
--- a word that is not cut spells never session
-pub uncut : (word : Text) → ((front back : Text) → IsCut word front back → ⊥) → (session : RunSession) → SpellsSession word session → ⊥
-uncut word never session h = never (role_word session.role) h.rest h.role
+pub cut_some : (text : Text) (r : Option (Bor Text × Bor Text)) → IsSplit text r → IfSome r (λ parts. IsCut text parts.0.now parts.1.now)
+cut_some text None split = tt
+cut_some text (Some x) split = cut_here text x.0.now x.1.now split.0 split.1 split.2
 
--- nor does one whose rest is not cut
+-- a word whose rest is not cut spells no session
 pub uncut_rest : (word front back : Text) → IsCut word front back → ((input output : Text) → IsCut back input output → ⊥)
     → (session : RunSession) → SpellsSession word session → ⊥
 uncut_rest word front back whole never session h =
@@ -115,3 +110,8 @@ no_sessions words i d lt never sessions h = go words i lt never sessions h.each
     go (w ∷ ws) k lt no_one [] e = e
     go (w ∷ ws) zero lt no_one (s ∷ ss) e = no_one s e.0
     go (w ∷ ws) (suc k) lt no_one (s ∷ ss) e = go ws k (omega arith) no_one ss e.1
+
+-- there are as many sessions as words that spell them
+pub as_many : (words : List (Bor Text)) (sessions : List RunSession) → AllZip SpellsSession (texts words) sessions → length sessions ≡ length words
+as_many words sessions each =
+    let mapped : length (texts words) ≡ length words = simp length-map in AllZip-long SpellsSession (texts words) sessions each ∙ mapped

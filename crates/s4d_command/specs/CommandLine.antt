@@ -127,11 +127,11 @@ pub record SpellsSession (word : Text) (session : RunSession) : Type 0 where
   pub role : IsCut word (role_word session.role) rest
   pub files : IsCut rest session.input.now session.output.now
 
--- Each word spells a session, and there are 1 to 16.
+-- Each word spells a session, and there are 1 to 16 sessions.
 pub record SpellsSessions (words : List Text) (sessions : List RunSession) : Type 0 where
   pub each : AllZip SpellsSession words sessions
-  pub some : 1 ≤ length words
-  pub most : length words ≤ MOST_SESSIONS
+  pub some : 1 ≤ length sessions
+  pub most : length sessions ≤ MOST_SESSIONS
 
 -- the flag is given
 abbrev pub IsGiven : Text → List Row → Type 0

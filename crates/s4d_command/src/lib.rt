@@ -11,7 +11,8 @@ ghost use Rattle.clap.specs.Walk.{all_of, first_of, one_of, rows_of, texts};
 ghost use Rattle.clap.specs.Takes.{takes};
 ghost use Rattle.clap.specs.Matches.{found_of};
 ghost use Rattle.clap.specs.Simple.{subcommand_of, subcommand_rows_of};
-ghost use Rattle.s4d_command.specs.CommandLine.{line, IsGiven, IsNumber, Spells, SpellsNone, SpellsPipe, SpellsNew, SpellsVerify, SpellsRun, SpellsAt, role_word};
+ghost use Rattle.s4d_command.specs.CommandLine.{line, IsGiven, IsNumber, role_word};
+ghost use Rattle.s4d_command.specs.CommandLine.{Spells, SpellsNone, SpellsPipe, SpellsNew, SpellsVerify, SpellsRun, SpellsAt};
 
 mod line;
 mod sessions;

@@ -3,7 +3,8 @@ ghost use Rattle.std.specs.Prelude.{◌≡◌, IfOk, false};
 ghost use Rattle.clap.specs.declared.builder.command.Command.TheViews.{out-Command as fields_of};
 ghost use Rattle.clap.specs.Walk.{rule_of};
 ghost use Rattle.clap.specs.Simple.{app_of, with_subcommand};
-ghost use Rattle.s4d_command.specs.CommandLine.{line, option_rule, flag_rule, operand_rule, list_rule, pipe_line, new_line, verify_line, run_line, at_line};
+ghost use Rattle.s4d_command.specs.CommandLine.{line, pipe_line, new_line, verify_line, run_line, at_line};
+ghost use Rattle.s4d_command.specs.CommandLine.{option_rule, flag_rule, operand_rule, list_rule};
 
 use clap::{Arg, ArgAction, Command};
 use std::alloc::{AllocError, Global};
