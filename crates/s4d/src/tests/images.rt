@@ -1,0 +1,205 @@
+//! Commands over images: each on its way, and its faults.
+
+use crate::tests::memory_files::MemoryFiles;
+use crate::tests::{bytes_of, run_in_pieces, run_over};
+use serving::{FailAfter, MemorySink, MemorySource};
+use std::alloc::{AllocError, Global};
+use std::sync::Wait;
+use std::test::Fail;
+use std::thread::Threads;
+use std::time::Clock;
+
+/// A Create, a Write of "first" and a Write of "later" over it, at the moments 1 to 3.
+static CHANGES: &str =
+    "00000002 01 00 00000016 04 0000000000000001 0000000000000000 6669727374 00000016 04 0000000000000001 0000000000000000 6c61746572";
+
+/// A Create, and the beginning of a frame.
+static CUT: &str = "00000002 01 00 00000016 04";
+
+/// A line of words, and what it comes to.
+struct Line {
+    words: &'static [&'static str],
+    status: u8,
+    output: &'static str,
+    errors: &'static str,
+}
+
+/// A line that is done and writes this.
+const fn done(words: &'static [&'static str], output: &'static str) -> Line {
+    Line {
+        words,
+        status: 0,
+        output,
+        errors: "",
+    }
+}
+
+/// A line that fails with these lines.
+const fn failed(words: &'static [&'static str], errors: &'static str) -> Line {
+    Line {
+        words,
+        status: 1,
+        output: "",
+        errors,
+    }
+}
+
+/// Whether the line comes to what it should.
+fn is_so<T: Threads + Wait + Clock + Sync>(
+    rt: &T,
+    alloc: Global,
+    files: &mut MemoryFiles,
+    line: &Line,
+) -> Result<bool, AllocError> {
+    let outcome = run_in_pieces(rt, alloc, files, line.words, &[], 1)?;
+    Ok(outcome.is(line.status, line.output.as_bytes(), line.errors))
+}
+
+/// The files that lines are tried over: the image of a new drive, and what sessions read.
+fn files_with_image<T: Threads + Wait + Clock + Sync>(
+    rt: &T,
+    alloc: Global,
+) -> Result<MemoryFiles, AllocError> {
+    let mut files = MemoryFiles::new(alloc);
+    files.put("changes", bytes_of(alloc, CHANGES)?.as_slice())?;
+    files.put("cut", bytes_of(alloc, CUT)?.as_slice())?;
+    files.put("short", &[0])?;
+    let _ = run_in_pieces(
+        rt,
+        alloc,
+        &mut files,
+        &["s4d", "new", "image", "16"],
+        &[],
+        1,
+    )?;
+    Ok(files)
+}
+
+static STORY: [Line; 9] = [
+    done(
+        &["s4d", "verify", "image"],
+        "ok frames=16 objects=0 clock=0 window=100 floor=0\n",
+    ),
+    done(
+        &[
+            "s4d",
+            "run",
+            "--no-upkeep",
+            "image",
+            "client:changes:replies",
+        ],
+        "",
+    ),
+    done(
+        &["s4d", "verify", "image"],
+        "ok frames=16 objects=1 clock=3 window=100 floor=0\n",
+    ),
+    done(&["s4d", "at", "image", "1", "2"], "first"),
+    done(&["s4d", "at", "image", "1", "3"], "later"),
+    done(&["s4d", "at", "image", "1", "1"], ""),
+    done(
+        &["s4d", "run", "--tick=2", "image", "admin:changes:replies"],
+        "",
+    ),
+    done(
+        &["s4d", "verify", "image"],
+        "ok frames=16 objects=2 clock=9 window=100 floor=0\n",
+    ),
+    done(&["s4d", "at", "image", "1", "2"], "first"),
+];
+
+#[test]
+fn a_drive_lives_in_an_image(rt: HostRuntime) -> Result<(), Fail> {
+    let mut files = files_with_image(&rt, rt.alloc())?;
+    for (number, line) in STORY.iter().enumerate() {
+        assert!(rt; is_so(&rt, rt.alloc(), &mut files, line)?, "line {number}");
+    }
+    Ok(())
+}
+
+static FAULTS: [Line; 10] = [
+    failed(
+        &["s4d", "new", "/image", "16"],
+        "s4d: cannot write /image\n",
+    ),
+    failed(&["s4d", "verify", "none"], "s4d: cannot read none\n"),
+    failed(&["s4d", "verify", "short"], "s4d: Damaged length\n"),
+    failed(&["s4d", "at", "none", "1", "0"], "s4d: cannot read none\n"),
+    failed(&["s4d", "at", "image", "1", "0"], "s4d: NoObject\n"),
+    failed(&["s4d", "at", "image", "1", "1"], "s4d: Future\n"),
+    failed(
+        &["s4d", "run", "short", "client:none:/replies"],
+        "s4d: Damaged length\n",
+    ),
+    failed(
+        &["s4d", "run", "image", "client::replies"],
+        "s4d: cannot read \n",
+    ),
+    failed(
+        &["s4d", "run", "image", "client:changes:/replies"],
+        "s4d: cannot write /replies\n",
+    ),
+    failed(
+        &["s4d", "run", "image", "client:changes:a", "client:none:b"],
+        "s4d: cannot read none\n",
+    ),
+];
+
+/// The image is the same behind each.
+#[test]
+fn a_fault_has_its_line(rt: HostRuntime) -> Result<(), Fail> {
+    let mut files = files_with_image(&rt, rt.alloc())?;
+    let before = Vec::from_slice(rt.alloc(), files.bytes("image").unwrap_or_default())?;
+    for (number, line) in FAULTS.iter().enumerate() {
+        assert!(rt; is_so(&rt, rt.alloc(), &mut files, line)?, "line {number}");
+        assert!(rt;
+            files.bytes("image") == Some(before.as_slice()),
+            "line {number}"
+        );
+    }
+    Ok(())
+}
+
+/// The sessions are served all the same, and the image is saved.
+#[test]
+fn a_session_that_fails_has_its_line(rt: HostRuntime) -> Result<(), Fail> {
+    let mut files = files_with_image(&rt, rt.alloc())?;
+    let lines = [
+        failed(
+            &[
+                "s4d",
+                "run",
+                "--tick=0",
+                "image",
+                "client:changes:a",
+                "client:cut:b",
+            ],
+            "s4d: session 2: CutFrame\n",
+        ),
+        done(
+            &["s4d", "verify", "image"],
+            "ok frames=16 objects=2 clock=4 window=100 floor=0\n",
+        ),
+    ];
+    for line in &lines {
+        assert!(rt; is_so(&rt, rt.alloc(), &mut files, line)?);
+    }
+    Ok(())
+}
+
+#[test]
+fn a_writer_that_fails_is_told(rt: HostRuntime) -> Result<(), Fail> {
+    let alloc = rt.alloc();
+    let mut files = files_with_image(&rt, alloc)?;
+    for count in 0..50 {
+        let mut reader = MemorySource::new(&[], 1);
+        let mut writer = FailAfter::new(MemorySink::new(alloc), count);
+        let words = ["s4d", "verify", "image"];
+        let (status, errors) = run_over(&rt, alloc, &mut files, &words, &mut reader, &mut writer);
+        assert!(rt;
+            status == 1 && errors.as_slice() == b"s4d: WriteFailed\n".as_slice(),
+            "after {count} bytes"
+        );
+    }
+    Ok(())
+}
