@@ -24,26 +24,6 @@ struct Line {
     errors: &'static str,
 }
 
-/// A line that is done and writes this.
-const fn done(words: &'static [&'static str], output: &'static str) -> Line {
-    Line {
-        words,
-        status: 0,
-        output,
-        errors: "",
-    }
-}
-
-/// A line that fails with these lines.
-const fn failed(words: &'static [&'static str], errors: &'static str) -> Line {
-    Line {
-        words,
-        status: 1,
-        output: "",
-        errors,
-    }
-}
-
 /// Whether the line comes to what it should.
 fn is_so<T: Threads + Wait + Clock + Sync>(
     rt: &T,
@@ -76,36 +56,66 @@ fn files_with_image<T: Threads + Wait + Clock + Sync>(
 }
 
 static STORY: [Line; 9] = [
-    done(
-        &["s4d", "verify", "image"],
-        "ok frames=16 objects=0 clock=0 window=100 floor=0\n",
-    ),
-    done(
-        &[
+    Line {
+        words: &["s4d", "verify", "image"],
+        status: 0,
+        output: "ok frames=16 objects=0 clock=0 window=100 floor=0\n",
+        errors: "",
+    },
+    Line {
+        words: &[
             "s4d",
             "run",
             "--no-upkeep",
             "image",
             "client:changes:replies",
         ],
-        "",
-    ),
-    done(
-        &["s4d", "verify", "image"],
-        "ok frames=16 objects=1 clock=3 window=100 floor=0\n",
-    ),
-    done(&["s4d", "at", "image", "1", "2"], "first"),
-    done(&["s4d", "at", "image", "1", "3"], "later"),
-    done(&["s4d", "at", "image", "1", "1"], ""),
-    done(
-        &["s4d", "run", "--tick=2", "image", "admin:changes:replies"],
-        "",
-    ),
-    done(
-        &["s4d", "verify", "image"],
-        "ok frames=16 objects=2 clock=9 window=100 floor=0\n",
-    ),
-    done(&["s4d", "at", "image", "1", "2"], "first"),
+        status: 0,
+        output: "",
+        errors: "",
+    },
+    Line {
+        words: &["s4d", "verify", "image"],
+        status: 0,
+        output: "ok frames=16 objects=1 clock=3 window=100 floor=0\n",
+        errors: "",
+    },
+    Line {
+        words: &["s4d", "at", "image", "1", "2"],
+        status: 0,
+        output: "first",
+        errors: "",
+    },
+    Line {
+        words: &["s4d", "at", "image", "1", "3"],
+        status: 0,
+        output: "later",
+        errors: "",
+    },
+    Line {
+        words: &["s4d", "at", "image", "1", "1"],
+        status: 0,
+        output: "",
+        errors: "",
+    },
+    Line {
+        words: &["s4d", "run", "--tick=2", "image", "admin:changes:replies"],
+        status: 0,
+        output: "",
+        errors: "",
+    },
+    Line {
+        words: &["s4d", "verify", "image"],
+        status: 0,
+        output: "ok frames=16 objects=2 clock=9 window=100 floor=0\n",
+        errors: "",
+    },
+    Line {
+        words: &["s4d", "at", "image", "1", "2"],
+        status: 0,
+        output: "first",
+        errors: "",
+    },
 ];
 
 #[test]
@@ -118,31 +128,66 @@ fn a_drive_lives_in_an_image(rt: HostRuntime) -> Result<(), Fail> {
 }
 
 static FAULTS: [Line; 10] = [
-    failed(
-        &["s4d", "new", "/image", "16"],
-        "s4d: cannot write /image\n",
-    ),
-    failed(&["s4d", "verify", "none"], "s4d: cannot read none\n"),
-    failed(&["s4d", "verify", "short"], "s4d: Damaged length\n"),
-    failed(&["s4d", "at", "none", "1", "0"], "s4d: cannot read none\n"),
-    failed(&["s4d", "at", "image", "1", "0"], "s4d: NoObject\n"),
-    failed(&["s4d", "at", "image", "1", "1"], "s4d: Future\n"),
-    failed(
-        &["s4d", "run", "short", "client:none:/replies"],
-        "s4d: Damaged length\n",
-    ),
-    failed(
-        &["s4d", "run", "image", "client::replies"],
-        "s4d: cannot read \n",
-    ),
-    failed(
-        &["s4d", "run", "image", "client:changes:/replies"],
-        "s4d: cannot write /replies\n",
-    ),
-    failed(
-        &["s4d", "run", "image", "client:changes:a", "client:none:b"],
-        "s4d: cannot read none\n",
-    ),
+    Line {
+        words: &["s4d", "new", "/image", "16"],
+        status: 1,
+        output: "",
+        errors: "s4d: cannot write /image\n",
+    },
+    Line {
+        words: &["s4d", "verify", "none"],
+        status: 1,
+        output: "",
+        errors: "s4d: cannot read none\n",
+    },
+    Line {
+        words: &["s4d", "verify", "short"],
+        status: 1,
+        output: "",
+        errors: "s4d: Damaged length\n",
+    },
+    Line {
+        words: &["s4d", "at", "none", "1", "0"],
+        status: 1,
+        output: "",
+        errors: "s4d: cannot read none\n",
+    },
+    Line {
+        words: &["s4d", "at", "image", "1", "0"],
+        status: 1,
+        output: "",
+        errors: "s4d: NoObject\n",
+    },
+    Line {
+        words: &["s4d", "at", "image", "1", "1"],
+        status: 1,
+        output: "",
+        errors: "s4d: Future\n",
+    },
+    Line {
+        words: &["s4d", "run", "short", "client:none:/replies"],
+        status: 1,
+        output: "",
+        errors: "s4d: Damaged length\n",
+    },
+    Line {
+        words: &["s4d", "run", "image", "client::replies"],
+        status: 1,
+        output: "",
+        errors: "s4d: cannot read \n",
+    },
+    Line {
+        words: &["s4d", "run", "image", "client:changes:/replies"],
+        status: 1,
+        output: "",
+        errors: "s4d: cannot write /replies\n",
+    },
+    Line {
+        words: &["s4d", "run", "image", "client:changes:a", "client:none:b"],
+        status: 1,
+        output: "",
+        errors: "s4d: cannot read none\n",
+    },
 ];
 
 /// The image is the same behind each.
@@ -160,28 +205,33 @@ fn a_fault_has_its_line(rt: HostRuntime) -> Result<(), Fail> {
     Ok(())
 }
 
+static FAILED_SESSION: [Line; 2] = [
+    Line {
+        words: &[
+            "s4d",
+            "run",
+            "--tick=0",
+            "image",
+            "client:changes:a",
+            "client:cut:b",
+        ],
+        status: 1,
+        output: "",
+        errors: "s4d: session 2: CutFrame\n",
+    },
+    Line {
+        words: &["s4d", "verify", "image"],
+        status: 0,
+        output: "ok frames=16 objects=2 clock=4 window=100 floor=0\n",
+        errors: "",
+    },
+];
+
 /// The sessions are served all the same, and the image is saved.
 #[test]
 fn a_session_that_fails_has_its_line(rt: HostRuntime) -> Result<(), Fail> {
     let mut files = files_with_image(&rt, rt.alloc())?;
-    let lines = [
-        failed(
-            &[
-                "s4d",
-                "run",
-                "--tick=0",
-                "image",
-                "client:changes:a",
-                "client:cut:b",
-            ],
-            "s4d: session 2: CutFrame\n",
-        ),
-        done(
-            &["s4d", "verify", "image"],
-            "ok frames=16 objects=2 clock=4 window=100 floor=0\n",
-        ),
-    ];
-    for line in &lines {
+    for line in &FAILED_SESSION {
         assert!(rt; is_so(&rt, rt.alloc(), &mut files, line)?);
     }
     Ok(())
