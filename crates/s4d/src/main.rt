@@ -1,8 +1,9 @@
-//! The program `s4d`: a self-securing object drive behind a pipe.
+//! The program `s4d`: a self-securing object drive behind a pipe, or in a file.
 //!
-//! `perform` does what a line of words asks for, over any reader and writers, and `main` calls it with the
-//! standard streams, on a thread whose stack is had before anything is read. What a session reads, answers and
-//! writes is proved, and what the status says of it; the texts on standard error are tested.
+//! `perform` does what a line of words asks for, over any files, reader and writers, and `main` calls it with the
+//! system's files and the standard streams. What the session of
+//! `pipe` reads, answers and writes is proved, and what the status says of it. What a file holds is known to no proof: of the other
+//! commands it is proved that they do with bytes what the crates below promise; their files and the texts on standard error are tested.
 #![tactic(auto)]
 
 ghost use Rattle.std.specs.Prelude.{◌≡◌, ◌≢◌, ◌≤◌, ℕ, List, Option};
@@ -11,26 +12,32 @@ ghost use Rattle.clap.specs.Walk.{Text};
 ghost use Rattle.std.specs.declared.io.ErrorKind.TheVariants.{OutOfMemory};
 ghost use Rattle.s4d.specs.Performing.{IsDone};
 
+mod faults;
+mod files;
 mod performing;
 mod piping;
-mod session_thread;
+mod reading_past;
+mod running;
+mod saving;
 #[cfg(test)]
 mod tests;
+mod verifying;
 
-use performing::{fail, refuse};
+use performing::{fail, perform, refuse};
 use s4d_command::CommandError;
 use serving::{ReadSource, WriteSink};
-use session_thread::perform_apart;
 use std::io;
 use std::process::ExitCode;
+use std::sync::Wait;
 use std::thread::Threads;
+use std::time::Clock;
 
 fn main(rt: HostRuntime) -> ExitCode {
     exit_of(&rt, &rt)
 }
 
-// What the line came to that the program was called with: 0 only where a session of it was served to its end.
-fn exit_of<H: Threads>(threads: &H, rt: &HostRuntime) -> ExitCode
+// What the line came to that the program was called with: 0 only where it is done, and a session of `pipe` was served to its end.
+fn exit_of<T: Threads + Wait + Clock + Sync>(threads: &T, rt: &HostRuntime) -> ExitCode
     ensures status { exit_status result ≤ 2 }
     ensures done { exit_status result ≡ 0 → (words : List Text) × (input : Option (List ℕ)) × (output : Option (List ℕ))
         × (input' : Option (List ℕ)) × (output' : Option (List ℕ)) × IsDone words input output input' output' }
@@ -40,12 +47,20 @@ fn exit_of<H: Threads>(threads: &H, rt: &HostRuntime) -> ExitCode
         Ok(words) => words,
         Err(error) => return ExitCode::from(tell(rt, error.kind())),
     };
-    let reader = ReadSource::new(rt.stdin());
-    let writer = WriteSink::new(alloc, rt.stdout());
-    match perform_apart(threads, alloc, words, reader, writer, rt.stderr()) {
-        Ok(run) => ExitCode::from(run.status),
-        Err(_) => ExitCode::from(fail(&mut rt.stderr(), CommandError::NoMemory)),
-    }
+    let mut files = *rt;
+    let mut reader = ReadSource::new(rt.stdin());
+    let mut writer = WriteSink::new(alloc, rt.stdout());
+    let mut errors = rt.stderr();
+    let status = perform(
+        threads,
+        alloc,
+        &mut files,
+        words.as_slice(),
+        &mut reader,
+        &mut writer,
+        &mut errors,
+    );
+    ExitCode::from(status)
 }
 
 // Says why the line couldn't be had: for want of memory, or as words that are no text.

@@ -3,13 +3,22 @@ ghost use Rattle.std.specs.Prelude.{◌≡◌, ◌+◌, ◌^◌, ◌<◌, ◌≤
 ghost use Rattle.serving.specs.Streams.{taken_by};
 ghost use Rattle.s4d.specs.Performing.{IsDone, IsUsage};
 
+use crate::faults::Fault;
+use crate::files::Files;
 use crate::piping::serve_pipe;
+use crate::reading_past::write_object;
+use crate::running::run_file;
+use crate::saving::make_file;
+use crate::verifying::verify_file;
 use s4d_command::{Command, CommandError, command_of};
 use serving::{ServeEnd, Sink, Source};
 use std::alloc::Global;
 use std::convert::AsStr;
 use std::fmt::Display;
 use std::io::Write;
+use std::sync::Wait;
+use std::thread::Threads;
+use std::time::Clock;
 
 /// The status of what was done.
 const DONE: u8 = 0;
@@ -22,8 +31,12 @@ const USAGE: u8 = 2;
 
 /// Does what the words ask for, the program's name first among them, and answers the program's status: 0 where
 /// it is done, 1 with a line on `errors` where it failed, 2 with a line where the words spell no command.
-pub fn perform<S: AsStr, R: Source, W: Sink, E: Write>(
+///
+/// `run` has a line for each session that failed, and writes the image all the same.
+pub fn perform<T: Threads + Wait + Clock + Sync, F: Files, S: AsStr, R: Source, W: Sink, E: Write>(
+    rt: &T,
     alloc: Global,
+    files: &mut F,
     words: &[S],
     reader: &mut R,
     writer: &mut W,
@@ -44,8 +57,37 @@ pub fn perform<S: AsStr, R: Source, W: Sink, E: Write>(
             Ok(end) => fail(errors, end),
             Err(refusal) => fail(errors, refusal),
         },
+        Ok(Command::New(new)) => match make_file(alloc, files, new) {
+            Ok(()) => pass_on(writer, errors),
+            Err(fault) => fail(errors, fault),
+        },
+        Ok(Command::Verify(asked)) => match verify_file(alloc, files, asked, writer) {
+            Ok(()) => DONE,
+            Err(fault) => fail(errors, fault),
+        },
+        Ok(Command::At(asked)) => match write_object(alloc, files, asked, writer) {
+            Ok(()) => DONE,
+            Err(fault) => fail(errors, fault),
+        },
+        Ok(Command::Run(run)) => match run_file(rt, alloc, files, run, errors) {
+            Ok(true) => pass_on(writer, errors),
+            Ok(false) => FAILED,
+            Err(fault) => fail(errors, fault),
+        },
         Err(CommandError::NoMemory) => fail(errors, CommandError::NoMemory),
         Err(CommandError::Usage) => refuse(errors),
+    }
+}
+
+// The status of a command that is done and wrote nothing itself: what the writer held before is passed on.
+fn pass_on<W: Sink, E: Write>(writer: &mut W, errors: &mut E) -> u8
+    requires writer { W.failures writer.old + 1 < 2 ^ 64 }
+    ensures status { result ≤ 1 }
+    ensures passed { result ≡ 0 → W.held writer.new ≡ [] }
+{
+    match writer.pass_on() {
+        Ok(()) => DONE,
+        Err(_) => fail(errors, Fault::WriteFailed),
     }
 }
 

@@ -2,14 +2,20 @@
 ghost use Rattle.std.specs.Prelude.{◌+◌, ◌^◌, ◌<◌};
 
 mod faults;
+mod images;
 mod lines;
 mod memory;
+mod memory_files;
 mod pipes;
 mod rows;
 
 use crate::performing::perform;
+use crate::tests::memory_files::MemoryFiles;
 use serving::{MemorySink, MemorySource, ReadSource, Sink, Source, WriteSink};
 use std::alloc::{AllocError, Global};
+use std::sync::Wait;
+use std::thread::Threads;
+use std::time::Clock;
 
 /// What a run left: its status, what it wrote, and its lines on standard error.
 #[derive(Drop)]
@@ -29,8 +35,10 @@ impl Outcome {
 }
 
 /// Performs the words from a reader to a writer: the status, and the lines on standard error.
-fn run_over<R: Source, W: Sink>(
+fn run_over<T: Threads + Wait + Clock + Sync, R: Source, W: Sink>(
+    rt: &T,
     alloc: Global,
+    files: &mut MemoryFiles,
     words: &[&str],
     reader: &mut R,
     writer: &mut W,
@@ -39,13 +47,15 @@ fn run_over<R: Source, W: Sink>(
     requires writer { W.failures writer.old + 1 < 2 ^ 64 }
 {
     let mut errors = Vec::new(alloc);
-    let status = perform(alloc, words, reader, writer, &mut errors);
+    let status = perform(rt, alloc, files, words, reader, writer, &mut errors);
     (status, errors)
 }
 
 /// Performs the words over bytes, which come in pieces of this size.
-fn run_in_pieces(
+fn run_in_pieces<T: Threads + Wait + Clock + Sync>(
+    rt: &T,
     alloc: Global,
+    files: &mut MemoryFiles,
     words: &[&str],
     input: &[u8],
     piece: usize,
@@ -54,7 +64,7 @@ fn run_in_pieces(
 {
     let mut reader = MemorySource::new(input, piece);
     let mut writer = MemorySink::new(alloc);
-    let (status, errors) = run_over(alloc, words, &mut reader, &mut writer);
+    let (status, errors) = run_over(rt, alloc, files, words, &mut reader, &mut writer);
     let output = Vec::from_slice(alloc, writer.as_slice())?;
     Ok(Outcome {
         status,
@@ -64,7 +74,8 @@ fn run_in_pieces(
 }
 
 /// Performs the words over a slice of bytes, a slice to be written and one for the lines.
-fn run_over_slices(
+fn run_over_slices<T: Threads + Wait + Clock + Sync>(
+    rt: &T,
     alloc: Global,
     words: &[&str],
     input: &[u8],
@@ -74,7 +85,16 @@ fn run_over_slices(
     let mut reader = ReadSource::new(input);
     let mut writer = WriteSink::new(alloc, output);
     let mut lines = errors;
-    let status = perform(alloc, words, &mut reader, &mut writer, &mut lines);
+    let mut files = MemoryFiles::new(alloc);
+    let status = perform(
+        rt,
+        alloc,
+        &mut files,
+        words,
+        &mut reader,
+        &mut writer,
+        &mut lines,
+    );
     drop(writer);
     status
 }

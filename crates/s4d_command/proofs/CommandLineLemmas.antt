@@ -1,14 +1,17 @@
 -- How the readers of matches read numbers and words.
-use Rattle.std.proofs.Common.{◌≡◌, ℕ, Option, Some, None, Result, Ok, Err, IfSome, refl, sym, ap, ◌∙◌, option_map}
+use Rattle.std.proofs.Common.{List, ◌≡◌, ℕ, Option, Some, None, Result, Ok, Err, IfSome, refl, sym, ap, ◌∙◌, option_map, codes, get_or, arith}
 use Rattle.std.specs.Option.{IfNone}
+use Rattle.std.specs.Result.{IsErrOf}
 use Rattle.std.specs.Str.Parse.{ParsesUnsigned}
 use Rattle.std.specs.Borrow.{Bor}
 use Rattle.clap.proofs.WalkLemmas.{first_value-rows}
 use Rattle.clap.specs.Matches.{ReadsOne, first_value}
 use Rattle.clap.specs.declared.parser.matches.Found.{Found}
 use Rattle.s4_types.specs.declared.requests.Role.{Role}
-use Rattle.clap.specs.Walk.{Text, first_of, rows_of}
-use Rattle.s4d_command.specs.CommandLine.{IsNumber, role_word}
+use Rattle.clap.specs.Walk.{Row, Text, first_of, rows_of}
+use Rattle.s4d_command.specs.declared.Command.TheVariants as command
+use Rattle.s4d_command.specs.declared.Run.{Run}
+use Rattle.s4d_command.specs.CommandLine.{IsNumber, SpellsNone, SpellsRun, role_word}
 
 module _ {E : Type 0} (gives : Text → Result ℕ E → Type 0) (reads : (t : Text) (x : Result ℕ E) → gives t x → ParsesUnsigned 64 10 t x) where
   pub number_some : (o : Option Text) (r : Option ℕ) → (o ≡ None → r ≡ None) → ((t : Text) → o ≡ Some t → ReadsOne gives t r) → IfSome r (IsNumber o)
@@ -40,3 +43,30 @@ other_word o w (Some role) is other = tt
 pub same_word : (o : Option Text) (w : Text) (r : Option Role) → o ≡ Some w → IfSome r (λ role. w ≡ role_word role) → IfSome r (λ role. o ≡ Some (role_word role))
 same_word o w None is same = tt
 same_word o w (Some role) is same = is ∙ ap (λ x. Some x) same
+
+module _ {X : Type 0} {Y : Type 0} (view : X → Y) where
+  -- the reader of a value finds none where the rows have none
+  pub value_none : (o : Option X) (p q : Option Y) → option_map view o ≡ p → p ≡ q → IfNone o ((y : Y) → q ≡ Some y → ⊥)
+  value_none None p q value same = λ y h. let e : None ≡ Some y = value ∙ same ∙ h in absurd cc
+  value_none (Some x) p q value same = tt
+
+  -- the reader of a value finds the one that the rows have
+  pub value_some : (o : Option X) (p q : Option Y) → option_map view o ≡ p → p ≡ q → IfSome o (λ x. q ≡ Some (view x))
+  value_some None p q value same = tt
+  value_some (Some x) p q value same = sym (value ∙ same)
+
+-- texts that begin otherwise are no one text
+pub other_letter : (text a b : Text) → text ≡ a → text ≡ b → (get_or a 0 0 ≡ get_or b 0 0 → ⊥) → ⊥
+other_letter text a b is also differ = differ (ap (λ (t : Text). get_or t 0 0) (sym is ∙ also))
+
+-- the matches of `run` that spell no sessions spell no command
+pub no_run : (name : Text) (rows : List Row) → name ≡ codes "run" → ((run : Run) → SpellsRun rows run → ⊥) → SpellsNone (Some (name, rows))
+no_run name rows is never (command.Pipe pipe) h = other_letter name (codes "run") (codes "pipe") is h.0 (λ e. let no_way : 114 ≡ 112 = e in absurd (omega arith))
+no_run name rows is never (command.New new) h = other_letter name (codes "run") (codes "new") is h.0 (λ e. let no_way : 114 ≡ 110 = e in absurd (omega arith))
+no_run name rows is never (command.Verify verify) h = other_letter name (codes "run") (codes "verify") is h.0 (λ e. let no_way : 114 ≡ 118 = e in absurd (omega arith))
+no_run name rows is never (command.Run run) h = never run h.1
+no_run name rows is never (command.At at) h = other_letter name (codes "run") (codes "at") is h.0 (λ e. let no_way : 114 ≡ 97 = e in absurd (omega arith))
+
+-- an error is that of another kind of result
+pub same_error : {X Y E : Type 0} (error other : E) → IsErrOf {T = X} (Err error) other → IsErrOf {T = Y} (Err error) other
+same_error {X} {Y} {E} error other h = let e : Err error ≡ Err other = h in let same : error ≡ other = cc in ap (λ (x : E). Err x) same

@@ -6,27 +6,81 @@
 //! command does is said elsewhere.
 #![tactic(auto)]
 
-ghost use Rattle.std.specs.Prelude.{◌≡◌, ◌∷◌, [], ℕ, IfOk, IfSome, IfNone, Some, codes, map, true, false, MatchOption, IsErrOf};
-ghost use Rattle.clap.specs.declared.builder.command.Command.TheViews.{out-Command as fields_of};
-ghost use Rattle.clap.specs.Walk.{first_of, one_of, rule_of, rows_of};
+ghost use Rattle.std.specs.Prelude.{◌≡◌, ◌≤◌, ◌↔◌, ℕ, IfOk, IfSome, IfNone, IsErrOf, IsTrue, Some, codes, map, true};
+ghost use Rattle.clap.specs.Walk.{all_of, first_of, one_of, rows_of, texts};
 ghost use Rattle.clap.specs.Takes.{takes};
 ghost use Rattle.clap.specs.Matches.{found_of};
-ghost use Rattle.clap.specs.Simple.{app_of, subcommand_of, subcommand_rows_of};
-ghost use Rattle.s4d_command.specs.CommandLine.{line, option_rule, operand_rule, pipe_line, IsNumber, Spells, SpellsNone, SpellsPipe, role_word};
+ghost use Rattle.clap.specs.Simple.{subcommand_of, subcommand_rows_of};
+ghost use Rattle.s4d_command.specs.CommandLine.{line, IsGiven, IsNumber, role_word};
+ghost use Rattle.s4d_command.specs.CommandLine.{Spells, SpellsNone, SpellsPipe, SpellsNew, SpellsVerify, SpellsRun, SpellsAt};
 
+mod line;
+mod sessions;
+
+use clap::ArgMatches;
 use clap::error::ErrorKind;
-use clap::{Arg, ArgAction, ArgMatches};
+use line::command_line;
 use s4_types::Role;
 use s4_types::limits::{FEWEST_FRAMES, MOST_FRAMES};
+use sessions::sessions_in;
+pub use sessions::{MOST_SESSIONS, RunSession};
 use std::alloc::{AllocError, Global};
 use std::convert::AsStr;
 use thiserror::Error;
 
-/// What the program is to do.
-#[derive(Clone, Copy, Debug, PartialEq, Eq)]
-pub enum Command {
+/// What the program is to do. Its texts are words of the line.
+#[derive(Debug, Drop, PartialEq, Eq)]
+pub enum Command<'a> {
     /// Serves one session of a new drive, from standard input to standard output.
     Pipe(Pipe),
+    /// Writes the image of a new drive.
+    New(New<'a>),
+    /// Says what is wrong with an image.
+    Verify(Verify<'a>),
+    /// Serves sessions of a drive that an image is read from, and writes its image anew.
+    Run(Run<'a>),
+    /// Gives what an object was at a moment.
+    At(At<'a>),
+}
+
+/// What `new` makes.
+#[derive(Clone, Copy, Debug, PartialEq, Eq)]
+pub struct New<'a> {
+    /// The image's file.
+    pub image: &'a str,
+    /// How many frames the drive has, 8 to 1024.
+    pub frames: u64,
+    /// The detection window, in moments.
+    pub window: u64,
+}
+
+/// What `verify` reads.
+#[derive(Clone, Copy, Debug, PartialEq, Eq)]
+pub struct Verify<'a> {
+    /// The image's file.
+    pub image: &'a str,
+}
+
+/// The sessions that `run` serves, and over what drive.
+#[derive(Debug, Drop, PartialEq, Eq)]
+pub struct Run<'a> {
+    /// The image's file.
+    pub image: &'a str,
+    /// How far the clock moves for each request, in moments.
+    pub tick: u64,
+    /// Whether the history cleaner and the segment copier are beside the sessions.
+    pub upkeep: bool,
+    /// 1 to 16 sessions.
+    pub sessions: Vec<RunSession<'a>>,
+}
+
+/// What `at` asks for.
+#[derive(Clone, Copy, Debug, PartialEq, Eq)]
+pub struct At<'a> {
+    /// The image's file.
+    pub image: &'a str,
+    pub object: u64,
+    pub moment: u64,
 }
 
 /// The options of `pipe`.
@@ -65,78 +119,142 @@ impl From<AllocError> for CommandError {
 }
 
 /// The command that the words spell, the program's name first among them.
-pub fn command_of<S: AsStr>(alloc: Global, words: &[S]) -> Result<Command, CommandError>
-    ensures spelled { IfOk result (Spells (subcommand_of line (map S.text words.now))) }
-    ensures usage { IsErrOf result CommandError.Usage → takes line (map S.text words.now) ≡ true
-        → SpellsNone (subcommand_of line (map S.text words.now)) }
+pub fn command_of<'a, S: AsStr>(alloc: Global, words: &'a [S]) -> Result<Command<'a>, CommandError>
+    ensures spelled { IfOk result (Spells (subcommand_of line (map S.text words.entry.now))) }
+    ensures usage { IsErrOf result CommandError.Usage → takes line (map S.text words.entry.now) ≡ true
+        → SpellsNone (subcommand_of line (map S.text words.entry.now)) }
 {
     let parser = command_line(alloc)?;
     match parser.try_get_matches_from(words) {
-        Ok(matches) => command_in(&matches).ok_or(CommandError::Usage),
+        Ok(matches) => command_in(alloc, &matches),
         Err(error) if error.kind() == ErrorKind::OutOfMemory => Err(CommandError::NoMemory),
         Err(_) => Err(CommandError::Usage),
     }
 }
 
-fn option_of<'a>(alloc: Global, name: &'a str, default: &'a str) -> Arg<'a>
-    ensures rule { rule_of result ≡ option_rule name.entry.now default.entry.now }
-    ensures own { result.global ≡ false }
+fn command_in<'a>(alloc: Global, matches: &ArgMatches<'a>) -> Result<Command<'a>, CommandError>
+    ensures spelled { IfOk result (Spells (subcommand_rows_of matches.now)) }
+    ensures usage { IsErrOf result CommandError.Usage → SpellsNone (subcommand_rows_of matches.now) }
 {
-    Arg::new(alloc, name)
-        .long(name)
-        .action(ArgAction::Set)
-        .default_value(default)
+    match matches.subcommand() {
+        Some((name, found)) => named_command(alloc, name, found),
+        None => Err(CommandError::Usage),
+    }
 }
 
-fn operand_of<'a>(alloc: Global, name: &'a str) -> Arg<'a>
-    ensures rule { rule_of result ≡ operand_rule name.entry.now }
-    ensures own { result.global ≡ false }
+fn named_command<'a>(
+    alloc: Global,
+    name: &str,
+    found: &ArgMatches<'a>,
+) -> Result<Command<'a>, CommandError>
+    ensures spelled { IfOk result (Spells (Some (name.now, rows_of (found_of found.now)))) }
+    ensures usage { IsErrOf result CommandError.Usage → SpellsNone (Some (name.now, rows_of (found_of found.now))) }
 {
-    Arg::new(alloc, name).action(ArgAction::Set)
-}
-
-fn pipe_command<'a>(alloc: Global) -> Result<clap::Command<'a>, AllocError>
-    ensures app { IfOk result (λ c. app_of c ≡ pipe_line) }
-    ensures own { IfOk result (λ c. (fields_of c).has_globals ≡ false) }
-{
-    clap::Command::new(alloc, "pipe")
-        .arg(option_of(alloc, "frames", "16"))?
-        .arg(option_of(alloc, "window", "100"))?
-        .arg(option_of(alloc, "tick", "1"))?
-        .arg(operand_of(alloc, "role"))
-}
-
-fn command_line<'a>(alloc: Global) -> Result<clap::Command<'a>, AllocError>
-    ensures { IfOk result (λ c. app_of c ≡ line) }
-{
-    clap::Command::new(alloc, "s4d")
-        .disable_help_flag(true)
-        .disable_help_subcommand(true)
-        .subcommand(pipe_command(alloc)?)
-}
-
-fn command_in(matches: &ArgMatches<'_>) -> Option<Command>
-    ensures { MatchOption result (SpellsNone (subcommand_rows_of matches.now))
-        (Spells (subcommand_rows_of matches.now)) }
-{
-    let pipe = pipe_in(matches.subcommand_matches("pipe")?)?;
-    Some(Command::Pipe(pipe))
+    match name {
+        "pipe" => Ok(Command::Pipe(pipe_in(found).ok_or(CommandError::Usage)?)),
+        "new" => Ok(Command::New(new_in(found).ok_or(CommandError::Usage)?)),
+        "verify" => Ok(Command::Verify(verify_in(found).ok_or(CommandError::Usage)?)),
+        "run" => match run_in(alloc, found) {
+            Ok(run) => Ok(Command::Run(run)),
+            Err(error) => Err(error),
+        },
+        "at" => Ok(Command::At(at_in(found).ok_or(CommandError::Usage)?)),
+        _ => Err(CommandError::Usage),
+    }
 }
 
 fn pipe_in(matches: &ArgMatches<'_>) -> Option<Pipe>
     ensures none { IfNone result ((pipe : _) → SpellsPipe (rows_of (found_of matches.now)) pipe → ⊥) }
     ensures some { IfSome result (SpellsPipe (rows_of (found_of matches.now))) }
 {
-    let frames = number(matches, "frames")?;
-    if frames < FEWEST_FRAMES as u64 || frames > MOST_FRAMES as u64 {
-        return None;
-    }
     Some(Pipe {
-        frames,
+        frames: frame_count(matches)?,
         window: number(matches, "window")?,
         tick: number(matches, "tick")?,
         role: role_in(matches)?,
     })
+}
+
+fn new_in<'a>(matches: &ArgMatches<'a>) -> Option<New<'a>>
+    ensures none { IfNone result ((new : _) → SpellsNew (rows_of (found_of matches.now)) new → ⊥) }
+    ensures some { IfSome result (SpellsNew (rows_of (found_of matches.now))) }
+{
+    let window = number(matches, "window")?;
+    Some(New {
+        image: text_in(matches, "image")?,
+        frames: frame_count(matches)?,
+        window,
+    })
+}
+
+fn verify_in<'a>(matches: &ArgMatches<'a>) -> Option<Verify<'a>>
+    ensures none { IfNone result ((verify : _) → SpellsVerify (rows_of (found_of matches.now)) verify → ⊥) }
+    ensures some { IfSome result (SpellsVerify (rows_of (found_of matches.now))) }
+{
+    Some(Verify {
+        image: text_in(matches, "image")?,
+    })
+}
+
+fn at_in<'a>(matches: &ArgMatches<'a>) -> Option<At<'a>>
+    ensures none { IfNone result ((at : _) → SpellsAt (rows_of (found_of matches.now)) at → ⊥) }
+    ensures some { IfSome result (SpellsAt (rows_of (found_of matches.now))) }
+{
+    Some(At {
+        image: text_in(matches, "image")?,
+        object: number(matches, "object")?,
+        moment: number(matches, "moment")?,
+    })
+}
+
+fn run_in<'a>(alloc: Global, matches: &ArgMatches<'a>) -> Result<Run<'a>, CommandError>
+    ensures spelled { IfOk result (SpellsRun (rows_of (found_of matches.now))) }
+    ensures usage { IsErrOf result CommandError.Usage → (run : _) → SpellsRun (rows_of (found_of matches.now)) run → ⊥ }
+{
+    let image = text_in(matches, "image").ok_or(CommandError::Usage)?;
+    let tick = number(matches, "tick").ok_or(CommandError::Usage)?;
+    let words = texts_in(matches, "sessions").ok_or(CommandError::Usage)?;
+    let sessions = sessions_in(alloc, words)?;
+    Ok(Run {
+        image,
+        tick,
+        upkeep: !is_given(matches, "no-upkeep"),
+        sessions,
+    })
+}
+
+fn frame_count(matches: &ArgMatches<'_>) -> Option<u64>
+    ensures none { IfNone result ((n : ℕ) → IsNumber (one_of (codes "frames") (rows_of (found_of matches.now))) n
+        → FEWEST_FRAMES ≤ n → n ≤ MOST_FRAMES → ⊥) }
+    ensures some { IfSome result (IsNumber (one_of (codes "frames") (rows_of (found_of matches.now)))) }
+    ensures fewest { IfSome result (λ n. FEWEST_FRAMES ≤ n) }
+    ensures most { IfSome result (λ n. n ≤ MOST_FRAMES) }
+{
+    let frames = number(matches, "frames")?;
+    if frames < FEWEST_FRAMES as u64 || frames > MOST_FRAMES as u64 {
+        return None;
+    }
+    Some(frames)
+}
+
+fn text_in<'a>(matches: &ArgMatches<'a>, id: &str) -> Option<&'a str>
+    ensures none { IfNone result ((text : _) → first_of id.now (rows_of (found_of matches.now)) ≡ Some text → ⊥) }
+    ensures some { IfSome result (λ text. first_of id.now (rows_of (found_of matches.now)) ≡ Some text.now) }
+{
+    matches.get_str(id)
+}
+
+fn texts_in<'b, 'a>(matches: &'b ArgMatches<'a>, id: &str) -> Option<&'b [&'a str]>
+    ensures none { IfNone result ((words : _) → all_of id.now (rows_of (found_of matches.entry.now)) ≡ Some words → ⊥) }
+    ensures some { IfSome result (λ words. all_of id.now (rows_of (found_of matches.entry.now)) ≡ Some (texts words.now)) }
+{
+    matches.get_strs(id)
+}
+
+fn is_given(matches: &ArgMatches<'_>, id: &str) -> bool
+    ensures { IsTrue result ↔ IsGiven id.now (rows_of (found_of matches.now)) }
+{
+    matches!(text_in(matches, id), Some("true"))
 }
 
 fn number(matches: &ArgMatches<'_>, id: &str) -> Option<u64>

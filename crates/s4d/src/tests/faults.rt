@@ -1,5 +1,6 @@
 //! Readers and writers that fail, and inputs cut into pieces.
 
+use crate::tests::memory_files::MemoryFiles;
 use crate::tests::{bytes_of, run_in_pieces, run_over, run_over_slices};
 use serving::{FailAfter, MemorySink, MemorySource};
 use std::test::Fail;
@@ -27,8 +28,16 @@ fn answered(bytes: usize) -> usize {
 fn pieces_change_nothing(rt: HostRuntime) -> Result<(), Fail> {
     let input = bytes_of(rt.alloc(), INPUT)?;
     let output = bytes_of(rt.alloc(), OUTPUT)?;
+    let mut files = MemoryFiles::new(rt.alloc());
     for piece in 1..91 {
-        let outcome = run_in_pieces(rt.alloc(), WORDS.as_slice(), input.as_slice(), piece)?;
+        let outcome = run_in_pieces(
+            &rt,
+            rt.alloc(),
+            &mut files,
+            WORDS.as_slice(),
+            input.as_slice(),
+            piece,
+        )?;
         assert!(rt; outcome.is(0, output.as_slice(), ""), "pieces of {piece}");
     }
     Ok(())
@@ -39,10 +48,18 @@ fn a_reader_that_fails(rt: HostRuntime) -> Result<(), Fail> {
     let alloc = rt.alloc();
     let input = bytes_of(alloc, INPUT)?;
     let output = bytes_of(alloc, OUTPUT)?;
+    let mut files = MemoryFiles::new(alloc);
     for count in 0..91 {
         let mut reader = FailAfter::new(MemorySource::new(input.as_slice(), 90), count);
         let mut writer = MemorySink::new(alloc);
-        let (status, errors) = run_over(alloc, WORDS.as_slice(), &mut reader, &mut writer);
+        let (status, errors) = run_over(
+            &rt,
+            alloc,
+            &mut files,
+            WORDS.as_slice(),
+            &mut reader,
+            &mut writer,
+        );
         let is_told = status == 1 && errors.as_slice() == b"s4d: ReadFailed\n".as_slice();
         let expected = output.as_slice().get(..answered(count));
         assert!(rt;
@@ -58,10 +75,18 @@ fn a_writer_that_fails(rt: HostRuntime) -> Result<(), Fail> {
     let alloc = rt.alloc();
     let input = bytes_of(alloc, INPUT)?;
     let output = bytes_of(alloc, OUTPUT)?;
+    let mut files = MemoryFiles::new(alloc);
     for count in 0..47 {
         let mut reader = MemorySource::new(input.as_slice(), 90);
         let mut writer = FailAfter::new(MemorySink::new(alloc), count);
-        let (status, errors) = run_over(alloc, WORDS.as_slice(), &mut reader, &mut writer);
+        let (status, errors) = run_over(
+            &rt,
+            alloc,
+            &mut files,
+            WORDS.as_slice(),
+            &mut reader,
+            &mut writer,
+        );
         let is_told = status == 1 && errors.as_slice() == b"s4d: WriteFailed\n".as_slice();
         let expected = output.as_slice().get(..count);
         assert!(rt;
@@ -81,6 +106,7 @@ fn readers_and_writers_of_std(rt: HostRuntime) -> Result<(), Fail> {
         let mut all = [0u8; 64];
         let mut errors = [0u8; 32];
         let status = run_over_slices(
+            &rt,
             alloc,
             WORDS.as_slice(),
             input.as_slice(),

@@ -1,9 +1,13 @@
 //! Lines of words, good and bad.
 
+use crate::tests::memory_files::MemoryFiles;
 use crate::tests::{bytes_of, run_in_pieces};
 use std::alloc::Global;
 use std::process::Abort;
+use std::sync::Wait;
 use std::test::Fail;
+use std::thread::Threads;
+use std::time::Clock;
 
 static BAD: [&[&str]; 23] = [
     &[],
@@ -53,7 +57,7 @@ static GOOD: [&[&str]; 8] = [
 static CREATE: &str = "00000002 01 00";
 
 /// Each of the lines is answered by a status and with this on standard error, and so many bytes are written to the frame.
-fn are_answered<R: Abort>(
+fn are_answered<R: Abort + Threads + Wait + Clock + Sync>(
     rt: &R,
     alloc: Global,
     lines: &[&[&str]],
@@ -62,8 +66,9 @@ fn are_answered<R: Abort>(
     length: usize,
 ) -> Result<(), Fail> {
     let input = bytes_of(alloc, CREATE)?;
+    let mut files = MemoryFiles::new(alloc);
     for (number, words) in lines.iter().enumerate() {
-        let outcome = run_in_pieces(alloc, words, input.as_slice(), 65_536)?;
+        let outcome = run_in_pieces(rt, alloc, &mut files, words, input.as_slice(), 65_536)?;
         assert!(rt;
             outcome.is(status, outcome.output.as_slice(), errors) && outcome.output.len() == length,
             "line {number}"

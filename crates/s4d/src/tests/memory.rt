@@ -45,6 +45,7 @@ fn want_of_memory_is_told(rt: HostRuntime) {
     let mut output = [0u8; 48];
     let mut errors = [0u8; 32];
     let status = run_over_slices(
+        &rt,
         rt.alloc(),
         WORDS.as_slice(),
         INPUT.as_slice(),

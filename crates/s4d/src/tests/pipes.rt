@@ -1,9 +1,13 @@
 //! Runs of `pipe`: what goes in, and what comes out.
 
+use crate::tests::memory_files::MemoryFiles;
 use crate::tests::pipes::Piece::{Hex, Zeros};
 use crate::tests::{bytes_of, run_in_pieces};
 use std::alloc::{AllocError, Global};
+use std::sync::Wait;
 use std::test::Fail;
+use std::thread::Threads;
+use std::time::Clock;
 
 /// Bytes.
 #[derive(Clone, Copy)]
@@ -252,17 +256,22 @@ fn joined(alloc: Global, pieces: &[Piece]) -> Result<Vec<u8>, AllocError> {
 }
 
 /// Whether a run is as the case says.
-fn is_so(alloc: Global, case: &Case) -> Result<bool, AllocError> {
+fn is_so<T: Threads + Wait + Clock + Sync>(
+    rt: &T,
+    alloc: Global,
+    case: &Case,
+) -> Result<bool, AllocError> {
     let input = joined(alloc, case.input)?;
     let expected = joined(alloc, case.output)?;
-    let outcome = run_in_pieces(alloc, case.words, input.as_slice(), 65_536)?;
+    let mut files = MemoryFiles::new(alloc);
+    let outcome = run_in_pieces(rt, alloc, &mut files, case.words, input.as_slice(), 65_536)?;
     Ok(outcome.is(case.status, expected.as_slice(), case.errors))
 }
 
 #[test]
 fn pipes_answer_as_the_rules_say(rt: HostRuntime) -> Result<(), Fail> {
     for case in &CASES {
-        assert!(rt; is_so(rt.alloc(), case)?, "{}", case.name);
+        assert!(rt; is_so(&rt, rt.alloc(), case)?, "{}", case.name);
     }
     Ok(())
 }

@@ -1,0 +1,38 @@
+//! Why a command over files failed.
+
+use s4_types::Refusal;
+use std::io;
+use thiserror::Error;
+
+/// Why a command over files failed. Each prints its line.
+#[derive(Clone, Copy, Debug, PartialEq, Eq, Error)]
+pub enum Fault<'a> {
+    /// The drive, or what reads its image, refused it.
+    #[error("{0}")]
+    Refused(Refusal),
+    /// The file of this path can't be read.
+    #[error("cannot read {0}")]
+    CannotRead(&'a str),
+    /// The file of this path can't be written.
+    #[error("cannot write {0}")]
+    CannotWrite(&'a str),
+    /// Standard output can't be written.
+    #[error("WriteFailed")]
+    WriteFailed,
+}
+
+/// The fault of a file that can't be read: NoMemory where a growth was refused.
+pub fn reading<'a>(error: io::Error, path: &'a str) -> Fault<'a> {
+    match error.kind() {
+        io::ErrorKind::OutOfMemory => Fault::Refused(Refusal::NoMemory),
+        _ => Fault::CannotRead(path),
+    }
+}
+
+/// The fault of a file that can't be written: NoMemory where a growth was refused.
+pub fn writing<'a>(error: io::Error, path: &'a str) -> Fault<'a> {
+    match error.kind() {
+        io::ErrorKind::OutOfMemory => Fault::Refused(Refusal::NoMemory),
+        _ => Fault::CannotWrite(path),
+    }
+}

@@ -1,0 +1,105 @@
+//! `at`: what an object was at a moment.
+ghost use Rattle.std.specs.Prelude.{◌≡◌, ◌+◌, ◌^◌, ◌<◌, [], OnOk};
+ghost use Rattle.segment_table.specs.Room.{log_of};
+ghost use Rattle.version_store.specs.Store.{fields_of};
+ghost use Rattle.drive.specs.Opened.{base_of};
+
+use crate::faults::Fault;
+use crate::files::Files;
+use crate::verifying::{read_image, write_out};
+use drive::{Drive, OpenedDrive, Session};
+use s4_types::limits::READ_BYTES;
+use s4_types::{Bytes, Moment, ObjectId, Refusal, Reply, Request, Role};
+use s4d_command::At;
+use segment_word::Naming;
+use serving::Sink;
+use std::alloc::Global;
+use std::marker::Brand;
+use verifier::open;
+
+/// Writes the whole bytes of an object at a moment.
+pub fn write_object<'a, F: Files, W: Sink>(
+    alloc: Global,
+    files: &F,
+    asked: At<'a>,
+    writer: &mut W,
+) -> Result<(), Fault<'a>>
+    requires writer { W.failures writer.old + 1 < 2 ^ 64 }
+    ensures passed { OnOk result (W.held writer.new ≡ []) }
+{
+    let image = match read_image(alloc, files, asked.image) {
+        Ok(image) => image,
+        Err(fault) => return Err(fault),
+    };
+    match open(alloc, image) {
+        Ok(opened) => write_named::<Brand, W>(opened, asked, writer),
+        Err(refusal) => Err(Fault::Refused(refusal)),
+    }
+}
+
+// The same of a drive that was just opened.
+fn write_named<'a, J: Naming, W: Sink>(
+    opened: OpenedDrive,
+    asked: At<'a>,
+    writer: &mut W,
+) -> Result<(), Fault<'a>>
+    requires accepts { opened.accepts ≡ J.accepts }
+    requires frames { opened.store.table.drive.table ≡ J.frames }
+    requires base { base_of (fields_of log_of opened.store) opened.timeline opened.next ≡ J.base }
+    requires writer { W.failures writer.old + 1 < 2 ^ 64 }
+    ensures passed { OnOk result (W.held writer.new ≡ []) }
+{
+    let mut drive = opened.named::<J>();
+    match drive.session(Role::Client) {
+        Ok(session) => write_parts(drive, session, asked, writer),
+        Err(refusal) => Err(Fault::Refused(refusal)),
+    }
+}
+
+// Reads the object's bytes at the moment, and writes each part before the next is read.
+fn write_parts<'a, J: Naming, W: Sink>(
+    drive: Drive<J>,
+    session: Session<J>,
+    asked: At<'a>,
+    writer: &mut W,
+) -> Result<(), Fault<'a>>
+    requires writer { W.failures writer.old + 1 < 2 ^ 64 }
+    ensures passed { OnOk result (W.held writer.new ≡ []) }
+{
+    let (mut drive, mut session) = (drive, session);
+    for part in 0..u64::MAX / READ_BYTES {
+        let bytes = match read_part(&mut drive, &mut session, asked, part * READ_BYTES) {
+            Ok(bytes) => bytes,
+            Err(refusal) => return Err(Fault::Refused(refusal)),
+        };
+        match write_out(writer, bytes.as_slice()) {
+            Ok(()) => {}
+            Err(fault) => return Err(fault),
+        }
+        if (bytes.as_slice().len() as u64) < READ_BYTES {
+            return Ok(());
+        }
+    }
+    // No object is so large.
+    Err(Fault::Refused(Refusal::TooLarge))
+}
+
+// The bytes of the object from an offset on, at the moment. The clock stays.
+fn read_part<J: Naming>(
+    drive: &mut Drive<J>,
+    session: &mut Session<J>,
+    asked: At<'_>,
+    offset: u64,
+) -> Result<Bytes, Refusal> {
+    let request = Request::Read {
+        object: ObjectId::new(asked.object),
+        offset,
+        length: READ_BYTES as u32,
+        at: Some(Moment::new(asked.moment)),
+    };
+    match drive.request(session, request, Moment::new(0)) {
+        Reply::Data(bytes) => Ok(bytes),
+        Reply::Refused(refusal) => Err(refusal),
+        _ => unreachable!(),
+    }
+}

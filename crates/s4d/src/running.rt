@@ -1,0 +1,208 @@
+//! `run`: sessions of a drive that an image is read from, and its image written anew.
+ghost use Rattle.std.specs.Prelude.{◌≡◌, ◌+◌, ◌^◌, ◌<◌, ◌≤◌, All, length, vec_len, IfOk, IsTrue, ◌↔◌};
+ghost use Rattle.segment_table.specs.Room.{log_of};
+ghost use Rattle.version_store.specs.Store.{fields_of};
+ghost use Rattle.drive.specs.Opened.{base_of};
+
+use crate::faults::{Fault, reading, writing};
+use crate::files::Files;
+use crate::saving::write_image;
+use crate::verifying::read_image;
+use drive::{Drive, OpenedDrive};
+use s4_types::{Moment, Refusal};
+use s4d_command::{Run, RunSession};
+use segment_word::Naming;
+use server::{Client, Open, Outcome, run_sessions, run_with_upkeep};
+use serving::{ReadSource, ServeEnd, Sink, Source, WriteSink};
+use std::alloc::Global;
+use std::io::Write;
+use std::marker::Brand;
+use std::sync::{Mutex, Wait};
+use std::thread::Threads;
+use std::time::Clock;
+use verifier::{open, save};
+
+/// A session over the files that it reads and writes.
+type FileClient<F> = Client<ReadSource<<F as Files>::Reader>, WriteSink<<F as Files>::Writer>>;
+
+/// How sessions are served.
+#[derive(Clone, Copy)]
+struct Manner {
+    /// The drive's clock before the first session.
+    start: Moment,
+    /// How far the clock moves for each request, in moments.
+    tick: u64,
+    /// Whether the history cleaner and the segment copier are beside the sessions.
+    upkeep: bool,
+}
+
+/// Serves the sessions of a drive that an image is read from, and writes its image anew. Says whether each session ended at the
+/// end of its input; each other one has a line on `errors`. Where the image or a file fails, no session is served.
+pub fn run_file<'a, T: Threads + Wait + Clock + Sync, F: Files, E: Write>(
+    rt: &T,
+    alloc: Global,
+    files: &mut F,
+    asked: Run<'a>,
+    errors: &mut E,
+) -> Result<bool, Fault<'a>>
+    requires sessions { vec_len asked.sessions ≤ 16 }
+{
+    let image = match read_image(alloc, files, asked.image) {
+        Ok(image) => image,
+        Err(fault) => return Err(fault),
+    };
+    let manner = Manner {
+        start: image.clock(),
+        tick: asked.tick,
+        upkeep: asked.upkeep,
+    };
+    let opened = match open(alloc, image) {
+        Ok(opened) => opened,
+        Err(refusal) => return Err(Fault::Refused(refusal)),
+    };
+    let clients = match clients_of(alloc, files, asked.sessions.as_slice()) {
+        Ok(clients) => clients,
+        Err(fault) => return Err(fault),
+    };
+    let (served, saved) = serve_named::<Brand, T, ReadSource<F::Reader>, WriteSink<F::Writer>>(
+        rt, alloc, opened, manner, clients,
+    );
+    let is_ended = tell_sessions(errors, served.as_slice());
+    match write_image(alloc, files, asked.image, saved) {
+        Ok(()) => Ok(is_ended),
+        Err(fault) => Err(fault),
+    }
+}
+
+// Opens the files of each session in turn.
+fn clients_of<'a, F: Files>(
+    alloc: Global,
+    files: &mut F,
+    sessions: &[RunSession<'a>],
+) -> Result<Vec<FileClient<F>>, Fault<'a>>
+    ensures count { IfOk result (λ clients. vec_len clients ≡ length sessions.now) }
+    ensures readers { IfOk result (λ clients. All (λ c. c.reader.failures + 1 < 2 ^ 64) clients.items) }
+    ensures writers { IfOk result (λ clients. All (λ c. c.writer.failures + 1 < 2 ^ 64) clients.items) }
+{
+    let mut clients = Vec::new(alloc);
+    for session in sessions {
+        let client = match client_of(alloc, files, *session) {
+            Ok(client) => client,
+            Err(fault) => return Err(fault),
+        };
+        match clients.push(client) {
+            Ok(()) => {}
+            Err(_) => return Err(Fault::Refused(Refusal::NoMemory)),
+        }
+    }
+    Ok(clients)
+}
+
+// Opens what a session reads, and makes what it writes.
+fn client_of<'a, F: Files>(
+    alloc: Global,
+    files: &mut F,
+    session: RunSession<'a>,
+) -> Result<FileClient<F>, Fault<'a>>
+    ensures reader { IfOk result (λ c. c.reader.failures + 1 < 2 ^ 64) }
+    ensures writer { IfOk result (λ c. c.writer.failures + 1 < 2 ^ 64) }
+{
+    let input = match files.open(session.input) {
+        Ok(input) => input,
+        Err(error) => return Err(reading(error, session.input)),
+    };
+    let output = match files.make(session.output) {
+        Ok(output) => output,
+        Err(error) => return Err(writing(error, session.output)),
+    };
+    Ok(Client {
+        role: session.role,
+        reader: ReadSource::new(input),
+        writer: WriteSink::new(alloc, output),
+        outcome: Outcome::Waiting,
+    })
+}
+
+// Serves the sessions of a drive that was just opened, and gives what it is saved as.
+fn serve_named<
+    J: Naming + Send + Sync,
+    T: Threads + Wait + Clock + Sync,
+    S: Source + Send + Drop,
+    W: Sink + Send + Drop,
+>(
+    rt: &T,
+    alloc: Global,
+    opened: OpenedDrive,
+    manner: Manner,
+    clients: Vec<Client<S, W>>,
+) -> (Vec<Client<S, W>>, Result<Vec<u8>, Refusal>)
+    requires accepts { opened.accepts ≡ J.accepts }
+    requires frames { opened.store.table.drive.table ≡ J.frames }
+    requires base { base_of (fields_of log_of opened.store) opened.timeline opened.next ≡ J.base }
+    requires count { vec_len clients ≤ 16 }
+    requires readers { All (λ c. S.failures c.reader + 1 < 2 ^ 64) clients.items }
+    requires writers { All (λ c. W.failures c.writer + 1 < 2 ^ 64) clients.items }
+    ensures count { vec_len result.0 ≡ vec_len clients }
+{
+    let drive = Mutex::new(opened.named::<J>());
+    let served = serve_all(rt, alloc, &drive, manner, clients);
+    let mut drive = drive.into_inner();
+    let saved = save(alloc, &mut drive);
+    (served, saved)
+}
+
+// Serves the sessions, with upkeep or without it.
+fn serve_all<
+    J: Naming + Send + Sync,
+    T: Threads + Wait + Clock + Sync,
+    S: Source + Send + Drop,
+    W: Sink + Send + Drop,
+>(
+    rt: &T,
+    alloc: Global,
+    drive: &Mutex<Drive<J>>,
+    manner: Manner,
+    clients: Vec<Client<S, W>>,
+) -> Vec<Client<S, W>>
+    requires count { vec_len clients ≤ 16 }
+    requires readers { All (λ c. S.failures c.reader + 1 < 2 ^ 64) clients.items }
+    requires writers { All (λ c. W.failures c.writer + 1 < 2 ^ 64) clients.items }
+    ensures count { vec_len result ≡ vec_len clients }
+{
+    let Manner {
+        start,
+        tick,
+        upkeep,
+    } = manner;
+    if upkeep {
+        let (served, _) = run_with_upkeep(rt, alloc, drive, &Open, start, tick, clients);
+        return served;
+    }
+    let mut served = clients;
+    run_sessions(rt, alloc, drive, &Open, start, tick, served.as_mut_slice());
+    served
+}
+
+// Writes a line for each session that didn't come to the end of its input, and says whether there is none.
+fn tell_sessions<S: Source, W: Sink, E: Write>(errors: &mut E, served: &[Client<S, W>]) -> bool {
+    let mut is_ended = true;
+    for (number, client) in (1u64..).zip(served) {
+        is_ended &= tell_session(errors, number, client.outcome);
+    }
+    is_ended
+}
+
+// Writes a line for a session that didn't come to the end of its input, and says whether it did.
+fn tell_session<E: Write>(errors: &mut E, number: u64, outcome: Outcome) -> bool
+    ensures { IsTrue result ↔ (outcome ≡ Outcome.Served ServeEnd.Ended) }
+{
+    // There is nobody to tell where such a line can't be written.
+    let _ = match outcome {
+        Outcome::Served(ServeEnd::Ended) => return true,
+        Outcome::Served(end) => writeln!(errors, "s4d: session {number}: {end}"),
+        Outcome::Refused(refusal) => writeln!(errors, "s4d: session {number}: {refusal}"),
+        // No session is left so.
+        Outcome::Waiting => writeln!(errors, "s4d: session {number}: Busy"),
+    };
+    false
+}

@@ -1,0 +1,105 @@
+//! `verify`, and how each command reads an image.
+ghost use Rattle.std.specs.Prelude.{◌≡◌, ◌+◌, ◌^◌, ◌<◌, [], IfOk, OnOk, string_bytes};
+ghost use Rattle.std.specs.Io.KnownBytes.{Appends};
+ghost use Rattle.serving.specs.Streams.{taken_by};
+ghost use Rattle.s4d.specs.Verifying.{number_line};
+
+use crate::faults::{Fault, reading};
+use crate::files::Files;
+use s4_types::{Moment, Refusal};
+use s4d_command::Verify;
+use serving::Sink;
+use std::alloc::{AllocError, Global};
+use verifier::{Image, verify};
+
+/// The image in a file, which was verified.
+pub fn read_image<'a, F: Files>(
+    alloc: Global,
+    files: &F,
+    path: &'a str,
+) -> Result<Image, Fault<'a>> {
+    let bytes = match files.read_whole(alloc, path) {
+        Ok(bytes) => bytes,
+        Err(error) => return Err(reading(error, path)),
+    };
+    match verify(alloc, bytes.as_slice()) {
+        Ok(image) => Ok(image),
+        Err(refusal) => Err(Fault::Refused(refusal)),
+    }
+}
+
+/// Writes the line of an image's numbers, where the file has one.
+pub fn verify_file<'a, F: Files, W: Sink>(
+    alloc: Global,
+    files: &F,
+    asked: Verify<'a>,
+    writer: &mut W,
+) -> Result<(), Fault<'a>>
+    requires writer { W.failures writer.old + 1 < 2 ^ 64 }
+    ensures passed { OnOk result (W.held writer.new ≡ []) }
+{
+    let image = match read_image(alloc, files, asked.image) {
+        Ok(image) => image,
+        Err(fault) => return Err(fault),
+    };
+    write_numbers(
+        alloc,
+        image.frames(),
+        image.objects(),
+        image.clock(),
+        image.window(),
+        image.floor(),
+        writer,
+    )
+}
+
+// Writes the line of such numbers, and passes it on.
+fn write_numbers<'a, W: Sink>(
+    alloc: Global,
+    frames: u16,
+    objects: usize,
+    clock: Moment,
+    window: u64,
+    floor: Moment,
+    writer: &mut W,
+) -> Result<(), Fault<'a>>
+    requires writer { W.failures writer.old + 1 < 2 ^ 64 }
+    ensures line { OnOk result (Appends (taken_by W.passed W.held writer.old) (taken_by W.passed W.held writer.new)
+        (number_line frames objects clock window floor)) }
+    ensures passed { OnOk result (W.held writer.new ≡ []) }
+{
+    match number_line(alloc, frames, objects, clock, window, floor) {
+        Ok(line) => write_out(writer, line.as_bytes()),
+        Err(_) => Err(Fault::Refused(Refusal::NoMemory)),
+    }
+}
+
+// The line of such numbers.
+fn number_line(
+    alloc: Global,
+    frames: u16,
+    objects: usize,
+    clock: Moment,
+    window: u64,
+    floor: Moment,
+) -> Result<String, AllocError>
+    ensures { IfOk result (λ line. string_bytes line ≡ number_line frames objects clock window floor) }
+{
+    let (clock, floor) = (clock.number(), floor.number());
+    format!(in alloc;
+        "ok frames={frames} objects={objects} clock={clock} window={window} floor={floor}\n"
+    )
+}
+
+/// Writes the bytes, and passes them on.
+pub fn write_out<'a, W: Sink>(writer: &mut W, bytes: &[u8]) -> Result<(), Fault<'a>>
+    requires writer { W.failures writer.old + 1 < 2 ^ 64 }
+    ensures bytes { OnOk result (Appends (taken_by W.passed W.held writer.old) (taken_by W.passed W.held writer.new) bytes.now) }
+    ensures passed { OnOk result (W.held writer.new ≡ []) }
+    ensures failures { OnOk result (W.failures writer.new ≡ W.failures writer.old) }
+{
+    if writer.put(bytes).is_err() || writer.pass_on().is_err() {
+        return Err(Fault::WriteFailed);
+    }
+    Ok(())
+}

@@ -1,0 +1,49 @@
+#!/usr/bin/env bash
+# Tells a story over fresh files: an object is made, an intruder overwrites and deletes it, and what was there before is read.
+#     story.sh        S4D names the program, else the one that `rt ci` or `rt run` left in crates/s4d/out
+set -euo pipefail
+. "$(dirname "$0")/program.sh"
+if ! command -v python3 > /dev/null; then
+    echo "story.sh: python3 is needed" >&2
+    exit 2
+fi
+if ! find_program; then
+    echo "story.sh: no program in crates/s4d/out; build it by (cd crates/s4d && rt run -- pipe client < /dev/null)" >&2
+    exit 2
+fi
+program=$(realpath "$program")
+folder=$(mktemp -d)
+trap 'rm -rf "$folder"' EXIT
+cd "$folder"
+
+run() {
+    echo "\$ s4d $*"
+    "$program" "$@"
+}
+
+# Serves one client, with no upkeep beside it, and shows its requests and its replies.
+session() {
+    python3 -B "$here/hex.py" bytes "$here/story_$1.hex" > "$1.in"
+    run run --no-upkeep drive.image "client:$1.in:$1.out"
+    sed 's/^/  > /' <(python3 -B "$here/hex.py" requests < "$1.in")
+    sed 's/^/  < /' <(python3 -B "$here/hex.py" replies < "$1.out")
+}
+
+echo "# A new drive"
+run new drive.image 16
+run verify drive.image
+echo
+echo "# Its owner makes an object"
+session owner
+echo
+echo "# An intruder comes"
+session intruder
+run verify drive.image
+echo
+echo "# What was there at moment 2, and what the intruder made of it at moment 4"
+run at drive.image 1 2
+echo
+run at drive.image 1 4
+echo
+echo "# The object isn't there any more"
+run at drive.image 1 5 || echo "(status $?)"
