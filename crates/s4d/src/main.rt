@@ -1,9 +1,10 @@
 //! The program `s4d`: a self-securing object drive behind a pipe, or in a file.
 //!
 //! `perform` does what a line of words asks for, over any files, reader and writers, and `main` calls it with the
-//! system's files and the standard streams. What the session of
-//! `pipe` reads, answers and writes is proved, and what the status says of it. What a file holds is known to no proof: of the other
-//! commands it is proved that they do with bytes what the crates below promise; their files and the texts on standard error are tested.
+//! system's files and the standard streams, on a thread whose stack is had before anything is read. What the session of `pipe`
+//! reads, answers and writes is proved, and what the status says of it. What a file holds is known to no proof: of the other
+//! commands it is proved that they do with bytes what the crates below promise; their files and the texts on standard error are
+//! tested.
 #![tactic(auto)]
 
 ghost use Rattle.std.specs.Prelude.{◌≡◌, ◌≢◌, ◌≤◌, ℕ, List, Option};
@@ -19,25 +20,24 @@ mod piping;
 mod reading_past;
 mod running;
 mod saving;
+mod session_thread;
 #[cfg(test)]
 mod tests;
 mod verifying;
 
-use performing::{fail, perform, refuse};
+use performing::{fail, refuse};
 use s4d_command::CommandError;
 use serving::{ReadSource, WriteSink};
+use session_thread::perform_apart;
 use std::io;
 use std::process::ExitCode;
-use std::sync::Wait;
-use std::thread::Threads;
-use std::time::Clock;
 
 fn main(rt: HostRuntime) -> ExitCode {
-    exit_of(&rt, &rt)
+    exit_of(&rt)
 }
 
 // What the line came to that the program was called with: 0 only where it is done, and a session of `pipe` was served to its end.
-fn exit_of<T: Threads + Wait + Clock + Sync>(threads: &T, rt: &HostRuntime) -> ExitCode
+fn exit_of(rt: &HostRuntime) -> ExitCode
     ensures status { exit_status result ≤ 2 }
     ensures done { exit_status result ≡ 0 → (words : List Text) × (input : Option (List ℕ)) × (output : Option (List ℕ))
         × (input' : Option (List ℕ)) × (output' : Option (List ℕ)) × IsDone words input output input' output' }
@@ -47,20 +47,12 @@ fn exit_of<T: Threads + Wait + Clock + Sync>(threads: &T, rt: &HostRuntime) -> E
         Ok(words) => words,
         Err(error) => return ExitCode::from(tell(rt, error.kind())),
     };
-    let mut files = *rt;
-    let mut reader = ReadSource::new(rt.stdin());
-    let mut writer = WriteSink::new(alloc, rt.stdout());
-    let mut errors = rt.stderr();
-    let status = perform(
-        threads,
-        alloc,
-        &mut files,
-        words.as_slice(),
-        &mut reader,
-        &mut writer,
-        &mut errors,
-    );
-    ExitCode::from(status)
+    let reader = ReadSource::new(rt.stdin());
+    let writer = WriteSink::new(alloc, rt.stdout());
+    match perform_apart(rt, alloc, words, reader, writer, rt.stderr()) {
+        Ok(run) => ExitCode::from(run.status),
+        Err(_) => ExitCode::from(fail(&mut rt.stderr(), CommandError::NoMemory)),
+    }
 }
 
 // Says why the line couldn't be had: for want of memory, or as words that are no text.
