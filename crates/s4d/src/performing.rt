@@ -1,5 +1,5 @@
 //! What a line of words asks for, and the status of the program.
-ghost use Rattle.std.specs.Prelude.{◌≡◌, ◌+◌, ◌^◌, ◌<◌, ◌≤◌, [], map};
+ghost use Rattle.std.specs.Prelude.{◌≡◌, ◌+◌, ◌^◌, ◌<◌, ◌≤◌, [], map, Some, IfSome};
 ghost use Rattle.serving.specs.Streams.{taken_by};
 ghost use Rattle.s4d.specs.Performing.{IsDone, IsUsage};
 
@@ -76,6 +76,36 @@ pub fn perform<T: Threads + Wait + Clock + Sync, F: Files, S: AsStr, R: Source, 
         },
         Err(CommandError::NoMemory) => fail(errors, CommandError::NoMemory),
         Err(CommandError::Usage) => refuse(errors),
+    }
+}
+
+/// Does what the words ask for where that is a session of a new drive, as [`perform`] does, and says why where they spell no
+/// command. None where they spell another command: then nothing was read or written.
+pub fn perform_pipe<S: AsStr, R: Source, W: Sink, E: Write>(
+    alloc: Global,
+    words: &[S],
+    reader: &mut R,
+    writer: &mut W,
+    errors: &mut E,
+) -> Option<u8>
+    requires reader { R.failures reader.old + 1 < 2 ^ 64 }
+    requires writer { W.failures writer.old + 1 < 2 ^ 64 }
+    ensures status { IfSome result (λ status. status ≤ 2) }
+    ensures done { result ≡ Some 0 → IsDone (map S.text words.now)
+        (R.remaining reader.old) (taken_by W.passed W.held writer.old)
+        (R.remaining reader.new) (taken_by W.passed W.held writer.new) }
+    ensures passed { result ≡ Some 0 → W.held writer.new ≡ [] }
+    ensures usage { result ≡ Some 2 → IsUsage (map S.text words.now) }
+{
+    match command_of(alloc, words) {
+        Ok(Command::Pipe(pipe)) => match serve_pipe(alloc, pipe, reader, writer) {
+            Ok(ServeEnd::Ended) => Some(DONE),
+            Ok(end) => Some(fail(errors, end)),
+            Err(refusal) => Some(fail(errors, refusal)),
+        },
+        Err(CommandError::NoMemory) => Some(fail(errors, CommandError::NoMemory)),
+        Err(CommandError::Usage) => Some(refuse(errors)),
+        Ok(_) => None,
     }
 }
 

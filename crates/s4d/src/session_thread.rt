@@ -1,24 +1,25 @@
-//! A run of the program on a thread of its own, so that its stack is had before anything is read.
-ghost use Rattle.std.specs.Prelude.{◌≡◌, ◌+◌, ◌^◌, ◌<◌, ◌≤◌, [], map, IfOk};
+//! A session of `pipe` on a thread of its own, so that its stack is had before anything is read.
+ghost use Rattle.std.specs.Prelude.{◌≡◌, ◌+◌, ◌^◌, ◌<◌, ◌≤◌, [], map, Some, IfSome, IfOk};
 ghost use Rattle.serving.specs.Streams.{taken_by};
 ghost use Rattle.s4d.specs.Performing.{IsDone, IsUsage};
 
-use crate::performing::perform;
+use crate::performing::perform_pipe;
 use serving::{Sink, Source};
 use std::alloc::{AllocError, Global};
 use std::convert::AsStr;
 use std::io::Write;
 use std::marker::Send;
 use std::snapshot::Snapshot;
-use std::thread::{Builder, Promise};
+use std::thread::{Builder, Promise, Threads};
 
-/// How many bytes of stack a run has: several times what the deepest call takes.
+/// How many bytes of stack a session has: several times what the deepest call takes.
 const STACK_BYTES: usize = 1 << 20;
 
-/// A run that is over: its status, and the streams as it left them.
+/// A run that is over: its status, or none where the words spell another command than `pipe`, the words, and the streams as it left them.
 #[derive(Drop)]
-pub struct Ran<R, W> {
-    pub status: u8,
+pub struct Ran<S, R, W> {
+    pub status: Option<u8>,
+    pub words: Vec<S>,
     pub reader: R,
     pub writer: W,
 }
@@ -31,39 +32,40 @@ struct Begun<S, R, W> {
     writer: Snapshot<W>,
 }
 
-impl<S: AsStr, R: Source, W: Sink> Promise<Ran<R, W>> for Begun<S, R, W> {
-    ghost kept_by = { λ begun run. (run.status ≤ 2)
-        × (run.status ≡ 0 → IsDone (map S.text begun.words.value.items)
+impl<S: AsStr, R: Source, W: Sink> Promise<Ran<S, R, W>> for Begun<S, R, W> {
+    ghost kept_by = { λ begun run. (IfSome run.status (λ status. status ≤ 2))
+        × (run.status ≡ Some 0 → IsDone (map S.text begun.words.value.items)
         (R.remaining begun.reader.value) (taken_by W.passed W.held begun.writer.value)
         (R.remaining run.reader) (taken_by W.passed W.held run.writer))
-        × (run.status ≡ 0 → W.held run.writer ≡ [])
-        × (run.status ≡ 2 → IsUsage (map S.text begun.words.value.items)) };
+        × (run.status ≡ Some 0 → W.held run.writer ≡ [])
+        × (run.status ≡ Some 2 → IsUsage (map S.text begun.words.value.items)) };
 }
 
-/// Does what the words ask for, as `perform` does, on a thread with a stack of its own.
+/// Does what the words ask for, as `perform_pipe` does, on a thread with a stack of its own.
 ///
 /// AllocError where the system has no such thread or stack: nothing was read or written then.
-pub fn perform_apart<
+pub fn pipe_apart<
+    H: Threads,
     S: AsStr + Send + Drop + 'static,
     R: Source + Send + Drop + 'static,
     W: Sink + Send + Drop + 'static,
     E: Write + Send + Drop + 'static,
 >(
-    rt: &HostRuntime,
+    threads: &H,
     alloc: Global,
     words: Vec<S>,
     reader: R,
     writer: W,
     errors: E,
-) -> Result<Ran<R, W>, AllocError>
+) -> Result<Ran<S, R, W>, AllocError>
     requires reader { R.failures reader + 1 < 2 ^ 64 }
     requires writer { W.failures writer + 1 < 2 ^ 64 }
-    ensures status { IfOk result (λ run. run.status ≤ 2) }
-    ensures done { IfOk result (λ run. run.status ≡ 0 → IsDone (map S.text words.items)
+    ensures status { IfOk result (λ run. IfSome run.status (λ status. status ≤ 2)) }
+    ensures done { IfOk result (λ run. run.status ≡ Some 0 → IsDone (map S.text words.items)
         (R.remaining reader) (taken_by W.passed W.held writer)
         (R.remaining run.reader) (taken_by W.passed W.held run.writer)) }
-    ensures passed { IfOk result (λ run. run.status ≡ 0 → W.held run.writer ≡ []) }
-    ensures usage { IfOk result (λ run. run.status ≡ 2 → IsUsage (map S.text words.items)) }
+    ensures passed { IfOk result (λ run. run.status ≡ Some 0 → W.held run.writer ≡ []) }
+    ensures usage { IfOk result (λ run. run.status ≡ Some 2 → IsUsage (map S.text words.items)) }
 {
     let begun = Begun {
         words: Snapshot::of(&words),
@@ -71,39 +73,34 @@ pub fn perform_apart<
         writer: Snapshot::of(&writer),
     };
     let stack = Builder::new().stack_size(STACK_BYTES);
-    let host = *rt;
     let started = stack.spawn_with(
-        rt,
+        threads,
         begun,
-        move || run(host, alloc, words, reader, writer, errors),
+        move || run(alloc, words, reader, writer, errors),
     )?;
-    Ok(started.join(rt))
+    Ok(started.join(threads))
 }
 
-/// Does what the words ask for, over the system's files and streams of its own.
+/// Does what the words ask for where that is a session, over streams of its own.
 fn run<S: AsStr + Drop, R: Source, W: Sink, E: Write + Drop>(
-    host: HostRuntime,
     alloc: Global,
     words: Vec<S>,
     reader: R,
     writer: W,
     errors: E,
-) -> Ran<R, W>
+) -> Ran<S, R, W>
     requires reader { R.failures reader + 1 < 2 ^ 64 }
     requires writer { W.failures writer + 1 < 2 ^ 64 }
-    ensures status { result.status ≤ 2 }
-    ensures done { result.status ≡ 0 → IsDone (map S.text words.items)
+    ensures status { IfSome result.status (λ status. status ≤ 2) }
+    ensures done { result.status ≡ Some 0 → IsDone (map S.text words.items)
         (R.remaining reader) (taken_by W.passed W.held writer)
         (R.remaining result.reader) (taken_by W.passed W.held result.writer) }
-    ensures passed { result.status ≡ 0 → W.held result.writer ≡ [] }
-    ensures usage { result.status ≡ 2 → IsUsage (map S.text words.items) }
+    ensures passed { result.status ≡ Some 0 → W.held result.writer ≡ [] }
+    ensures usage { result.status ≡ Some 2 → IsUsage (map S.text words.items) }
 {
     let (mut reader, mut writer, mut errors) = (reader, writer, errors);
-    let mut files = host;
-    let status = perform(
-        &host,
+    let status = perform_pipe(
         alloc,
-        &mut files,
         words.as_slice(),
         &mut reader,
         &mut writer,
@@ -111,6 +108,7 @@ fn run<S: AsStr + Drop, R: Source, W: Sink, E: Write + Drop>(
     );
     Ran {
         status,
+        words,
         reader,
         writer,
     }
