@@ -8,8 +8,13 @@ if ! command -v python3 > /dev/null; then
     exit 2
 fi
 if ! find_program; then
-    echo "story.sh: no program in crates/s4d/out; build it by (cd crates/s4d && rt run -- pipe client < /dev/null)" >&2
-    exit 2
+    if ! command -v rt > /dev/null; then
+        echo "story.sh: neither a built program nor the Rattle kit's command rt is here" >&2
+        exit 2
+    fi
+    echo "story.sh: no built program is here: proving and building s4d by rt run, a quarter of an hour and more" >&2
+    (cd "$crate" && rt run -- pipe client < /dev/null) > /dev/null
+    find_program
 fi
 program=$(realpath "$program")
 folder=$(mktemp -d)
