@@ -36,6 +36,7 @@ pub const DIGEST: usize = 8872;
 
 /// The state word of an open frame at generation 1, and of a free one.
 const OPEN: u64 = 0x1_0000_0001;
+
 const FREE: u64 = 0x1_0000_0000;
 
 /// Puts bytes at a place, as far as the image reaches.
@@ -92,10 +93,18 @@ fn put_write(bytes: &mut Example) {
 }
 
 fn put_blocks(bytes: &mut Example) {
-    put(bytes, FIRST_JOURNAL, &[1, 1, 0, 34, 0, 0, 0, 0, 0, 0, 0, 0, 0, 0, 0, 1]);
+    put(
+        bytes,
+        FIRST_JOURNAL,
+        &[1, 1, 0, 34, 0, 0, 0, 0, 0, 0, 0, 0, 0, 0, 0, 1],
+    );
     put_making(bytes, FIRST_JOURNAL + 24);
     put(bytes, DATA, b"abc");
-    put(bytes, JOURNAL, &[1, 2, 0, 85, 0, 0, 0, 0, 0, 0, 0, 0, 0, 0, 0, 1]);
+    put(
+        bytes,
+        JOURNAL,
+        &[1, 2, 0, 85, 0, 0, 0, 0, 0, 0, 0, 0, 0, 0, 0, 1],
+    );
     put_making(bytes, JOURNAL + 24);
     put_write(bytes);
 }

@@ -135,7 +135,10 @@ fn each_byte_in_turn(rt: HostRuntime) {
     for place in 0..whole.len() {
         let mut bytes = whole;
         bytes[place] ^= 1;
-        assert!(rt; cause_of(alloc, &bytes) == cause_unsigned(place), "at {place}");
+        assert!(rt;
+            cause_of(alloc, &bytes) == cause_unsigned(place),
+            "at {place}"
+        );
     }
 }
 

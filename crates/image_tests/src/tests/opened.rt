@@ -13,7 +13,7 @@ use std::alloc::Global;
 use std::marker::Brand;
 use std::process::Abort;
 use std::test::Fail;
-use verifier::{open, verify};
+use verifier::{open, save, verify};
 
 /// What a session's Read of object 1 from its beginning is answered, at a moment.
 fn read<J: Naming>(drive: &mut Drive<J>, session: &mut Session<J>, at: u64) -> Reply {
@@ -34,11 +34,7 @@ fn is_data(reply: &Reply, bytes: &[u8]) -> bool {
 }
 
 /// What was there is told, and a change comes behind it.
-fn go_on<J: Naming, R: Abort>(
-    rt: &R,
-    alloc: Global,
-    drive: Drive<J>,
-) -> Result<(), Fail> {
+fn go_on<J: Naming, R: Abort>(rt: &R, alloc: Global, drive: Drive<J>) -> Result<(), Fail> {
     let mut drive = drive;
     let mut session = drive.session(Role::Client)?;
     assert!(rt; is_data(&read(&mut drive, &mut session, 11), b"abc"));
@@ -63,24 +59,58 @@ fn go_on<J: Naming, R: Abort>(
     Ok(())
 }
 
-fn go_on_named<J: Naming, R: Abort>(
+/// What was opened is saved as it was; what was changed is saved as another image, which can be opened too.
+fn save_again<J: Naming, R: Abort>(rt: &R, alloc: Global, drive: Drive<J>) -> Result<(), Fail> {
+    let mut drive = drive;
+    let saved = save(alloc, &mut drive)?;
+    assert!(rt; saved.as_slice() == example().as_slice());
+    let mut session = drive.session(Role::Admin)?;
+    let removed = drive.request(
+        &mut session,
+        Request::Delete {
+            object: ObjectId::new(1),
+        },
+        Moment::new(30),
+    );
+    assert!(rt; removed == Reply::Changed(Moment::new(30)));
+    let changed = save(alloc, &mut drive)?;
+    let image = verify(alloc, changed.as_slice())?;
+    assert!(rt; image.objects() == 1 && image.clock().number() == 30);
+    Ok(())
+}
+
+fn play_named<J: Naming, R: Abort>(
     rt: &R,
     alloc: Global,
     opened: OpenedDrive,
+    is_saved: bool,
 ) -> Result<(), Fail>
     requires frames { opened.store.table.drive.table ≡ J.frames }
     requires accepts { opened.accepts ≡ J.accepts }
     requires base { base_of (fields_of log_of opened.store) opened.timeline opened.next ≡ J.base }
 {
-    go_on(rt, alloc, opened.named::<J>())
+    let drive = opened.named::<J>();
+    if is_saved {
+        return save_again(rt, alloc, drive);
+    }
+    go_on(rt, alloc, drive)
 }
 
-#[test]
-fn the_drive_goes_on(rt: HostRuntime) -> Result<(), Fail> {
-    let alloc = rt.alloc();
+/// Opens a drive from the image, and goes on with it or saves it.
+fn play<R: Abort>(rt: &R, alloc: Global, is_saved: bool) -> Result<(), Fail> {
     let image = verify(alloc, &example())?;
     assert!(rt; image.frames() == 16 && image.objects() == 1 && image.clock().number() == 11);
     assert!(rt; image.window() == 100 && image.floor().number() == 0);
     let opened = open(alloc, image)?;
-    go_on_named::<Brand, HostRuntime>(&rt, alloc, opened)
+    play_named::<Brand, R>(rt, alloc, opened, is_saved)
+}
+
+#[test]
+fn the_drive_goes_on(rt: HostRuntime) -> Result<(), Fail> {
+    play(&rt, rt.alloc(), false)
+}
+
+#[test]
+fn the_drive_is_saved_again(rt: HostRuntime) -> Result<(), Fail> {
+    play(&rt, rt.alloc(), true)
 }
