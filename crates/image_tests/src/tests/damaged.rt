@@ -33,7 +33,10 @@ fn it_is_an_image(rt: HostRuntime) {
     assert!(rt; is_image(alloc, &with(ROW + 32, &[0, 0, 1, 0, 0, 0, 0, 1])));
     // The window reaches further.
     assert!(rt; is_image(alloc, &with(24, &[255, 255, 255, 255, 255, 255, 255, 255])));
-    assert!(rt; cause_of(alloc, &bytes[..8903]) == Some(Length));
+    match bytes.get(..8903) {
+        Some(cut) => assert!(rt; cause_of(alloc, cut) == Some(Length)),
+        None => assert!(rt; false),
+    }
     assert!(rt; cause_of(alloc, &[]) == Some(Length));
 }
 

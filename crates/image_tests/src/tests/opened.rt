@@ -7,13 +7,13 @@ ghost use Rattle.drive.specs.Opened.{base_of};
 use crate::example::example;
 use drive::{Drive, OpenedDrive, Session};
 use s4_types::Refusal::{Future, NoObject};
-use s4_types::{Bytes, Moment, ObjectId, Reply, Request, Role};
+use s4_types::{Bytes, Moment, ObjectId, Refusal, Reply, Request, Role};
 use segment_word::Naming;
 use std::alloc::Global;
 use std::marker::Brand;
 use std::process::Abort;
 use std::test::Fail;
-use verifier::{open, save, verify};
+use verifier::{Image, open, save, verify};
 
 /// What a session's Read of object 1 from its beginning is answered, at a moment.
 fn read<J: Naming>(drive: &mut Drive<J>, session: &mut Session<J>, at: u64) -> Reply {
@@ -96,13 +96,36 @@ fn play_named<J: Naming, R: Abort>(
     go_on(rt, alloc, drive)
 }
 
+/// Whether an image tells the numbers of the worked one.
+fn is_told(image: &Image) -> bool {
+    image.frames() == 16
+        && image.objects() == 1
+        && image.clock().number() == 11
+        && image.window() == 100
+        && image.floor().number() == 0
+}
+
+/// The worked image, verified.
+fn verified(alloc: Global) -> Result<Image, Refusal> {
+    verify(alloc, &example())
+}
+
+/// The drive of the worked image.
+fn opened(alloc: Global) -> Result<OpenedDrive, Refusal> {
+    open(alloc, verified(alloc)?)
+}
+
 /// Opens a drive from the image, and goes on with it or saves it.
 fn play<R: Abort>(rt: &R, alloc: Global, is_saved: bool) -> Result<(), Fail> {
-    let image = verify(alloc, &example())?;
-    assert!(rt; image.frames() == 16 && image.objects() == 1 && image.clock().number() == 11);
-    assert!(rt; image.window() == 100 && image.floor().number() == 0);
-    let opened = open(alloc, image)?;
+    let opened = opened(alloc)?;
     play_named::<Brand, R>(rt, alloc, opened, is_saved)
+}
+
+#[test]
+fn its_numbers_are_told(rt: HostRuntime) -> Result<(), Fail> {
+    let image = verified(rt.alloc())?;
+    assert!(rt; is_told(&image));
+    Ok(())
 }
 
 #[test]
