@@ -4,5 +4,5 @@ use Rattle.drive.specs.Opened.{base_of}
 use Rattle.image_tests.proofs.tests.opened.play.Given as goal
 
 -- the drive that was opened
-abbrev pub ghosts-play_named : goal.ghosts-play_named
-ghosts-play_named g a = record { frames = a.opened.store.table.drive.table; accepts = a.opened.accepts; base = base_of (fields_of log_of a.opened.store) a.opened.timeline a.opened.next }
+abbrev pub ghosts-is_saved_again : goal.ghosts-is_saved_again
+ghosts-is_saved_again a = record { frames = a.opened.store.table.drive.table; accepts = a.opened.accepts; base = base_of (fields_of log_of a.opened.store) a.opened.timeline a.opened.next }
