@@ -6,8 +6,7 @@ ghost use Rattle.drive.specs.Opened.{base_of};
 
 use crate::example::example;
 use drive::{Drive, OpenedDrive};
-use s4_types::Refusal::{Future, NoObject};
-use s4_types::{Bytes, Moment, ObjectId, Refusal, Reply, Request, Role};
+use s4_types::Refusal;
 use segment_word::Naming;
 use std::alloc::Global;
 use std::marker::Brand;
