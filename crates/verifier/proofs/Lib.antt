@@ -15,3 +15,7 @@ mod SavedSpans
 mod FewRows
 mod SavedWhole
 pub mod SavedFrames
+mod OneSpans
+mod OneRows
+mod OneFrames
+mod OneImage
