@@ -65,118 +65,39 @@ static LINES: [Line; 6] = [
     },
 ];
 
-/// What a session is told of its changes: the object that it made, and the moments of making and writing.
-struct Told {
-    object: u64,
-    made: u64,
-    written: u64,
-}
-
-/// What the two sessions may be told: by each order of their four changes.
-static ORDERS: [(Told, Told); 6] = [
-    (
-        Told {
-            object: 1,
-            made: 1,
-            written: 2,
-        },
-        Told {
-            object: 2,
-            made: 3,
-            written: 4,
-        },
-    ),
-    (
-        Told {
-            object: 1,
-            made: 1,
-            written: 3,
-        },
-        Told {
-            object: 2,
-            made: 2,
-            written: 4,
-        },
-    ),
-    (
-        Told {
-            object: 1,
-            made: 1,
-            written: 4,
-        },
-        Told {
-            object: 2,
-            made: 2,
-            written: 3,
-        },
-    ),
-    (
-        Told {
-            object: 2,
-            made: 2,
-            written: 3,
-        },
-        Told {
-            object: 1,
-            made: 1,
-            written: 4,
-        },
-    ),
-    (
-        Told {
-            object: 2,
-            made: 2,
-            written: 4,
-        },
-        Told {
-            object: 1,
-            made: 1,
-            written: 3,
-        },
-    ),
-    (
-        Told {
-            object: 2,
-            made: 3,
-            written: 4,
-        },
-        Told {
-            object: 1,
-            made: 1,
-            written: 2,
-        },
-    ),
+/// The moments at which the one and the other may have made an object and written: by each order of the four changes.
+static ORDERS: [[[u64; 2]; 2]; 6] = [
+    [[1, 2], [3, 4]],
+    [[1, 3], [2, 4]],
+    [[1, 4], [2, 3]],
+    [[2, 3], [1, 4]],
+    [[2, 4], [1, 3]],
+    [[3, 4], [1, 2]],
 ];
 
-/// The replies of a session that is told this, and reads these bytes.
-fn replies(alloc: Global, told: &Told, read: &str) -> Result<Vec<u8>, AllocError> {
-    let Told {
-        object,
-        made,
-        written,
-    } = *told;
+/// The replies of a session that made an object and wrote at these moments, and read these bytes.
+fn replies(alloc: Global, moments: [u64; 2], read: &str) -> Result<Vec<u8>, AllocError> {
+    let [made, written] = moments;
+    // Who is first makes object 1, at moment 1.
+    let object = made.min(2);
     let text = format!(in alloc;
         "00000011 02 {object:016x} {made:016x} 00000009 01 {written:016x} 00000003 03 {read}"
     )?;
     bytes_of(alloc, text.as_str())
 }
 
-/// Whether both sessions were told this.
-fn are_told(
-    alloc: Global,
-    files: &MemoryFiles,
-    left: &Told,
-    right: &Told,
-) -> Result<bool, AllocError> {
-    let of_left = replies(alloc, left, "6161")?;
-    let of_right = replies(alloc, right, "6262")?;
-    Ok(files.holds("left", of_left.as_slice()) && files.holds("right", of_right.as_slice()))
+/// Whether both sessions were told what comes of this order.
+fn came_so(alloc: Global, files: &MemoryFiles, order: [[u64; 2]; 2]) -> Result<bool, AllocError> {
+    let [left, right] = order;
+    let left = replies(alloc, left, "6161")?;
+    let right = replies(alloc, right, "6262")?;
+    Ok(files.holds("left", left.as_slice()) && files.holds("right", right.as_slice()))
 }
 
-/// Whether both sessions were told what one of the orders says.
-fn are_told_in_order(alloc: Global, files: &MemoryFiles) -> Result<bool, AllocError> {
-    for (left, right) in &ORDERS {
-        if are_told(alloc, files, left, right)? {
+/// Whether both sessions were told what comes of one of the orders.
+fn came_in_order(alloc: Global, files: &MemoryFiles) -> Result<bool, AllocError> {
+    for order in &ORDERS {
+        if came_so(alloc, files, *order)? {
             return Ok(true);
         }
     }
@@ -191,7 +112,7 @@ fn two_sessions_change_one_image(rt: HostRuntime) -> Result<(), Fail> {
     files.put("right-requests", bytes_of(alloc, RIGHT)?.as_slice())?;
     files.put("reads", bytes_of(alloc, READS)?.as_slice())?;
     play(&rt, alloc, &mut files, &LINES)?;
-    assert!(rt; are_told_in_order(alloc, &files)?, "what both are told");
+    assert!(rt; came_in_order(alloc, &files)?, "what both are told");
     let read = bytes_of(alloc, READ)?;
     assert!(rt; files.holds("read", read.as_slice()), "what is read then");
     Ok(())

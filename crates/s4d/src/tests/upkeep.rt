@@ -167,41 +167,46 @@ fn versions_are_those_of_the_session(rt: HostRuntime) -> Result<(), Fail> {
     play(&rt, rt.alloc(), &mut files, &VERSIONS)
 }
 
-/// A row that nobody can see is gone.
-static WITHOUT_HIDDEN_ROWS: [Line; 1] = [Line {
-    words: &["s4d", "verify", "image"],
-    status: 0,
-    output: "ok frames=16 objects=2 clock=17 window=10 floor=7\n",
-    errors: "",
-}];
-
-/// It is there.
-static WITH_HIDDEN_ROWS: [Line; 1] = [Line {
-    words: &["s4d", "verify", "image"],
-    status: 0,
-    output: "ok frames=16 objects=3 clock=17 window=10 floor=7\n",
-    errors: "",
-}];
-
-/// Object 2 is dead since before the floor, and 3 can be read below its death.
-#[test]
-fn rows_that_nobody_can_see_are_gone(rt: HostRuntime) -> Result<(), Fail> {
-    let mut kept_up = served(&rt, rt.alloc(), EDITS, &KEPT_UP)?;
-    play(&rt, rt.alloc(), &mut kept_up, &WITHOUT_HIDDEN_ROWS)?;
-    let mut left_alone = served(&rt, rt.alloc(), EDITS, &LEFT_ALONE)?;
-    play(&rt, rt.alloc(), &mut left_alone, &WITH_HIDDEN_ROWS)
+/// Whether `verify` tells these numbers of the image.
+fn has_numbers<T: Threads + Wait + Clock + Sync>(
+    rt: &T,
+    alloc: Global,
+    files: &mut MemoryFiles,
+    numbers: &str,
+) -> Result<bool, AllocError> {
+    let outcome = run_in_pieces(rt, alloc, files, &["s4d", "verify", "image"], &[], 1)?;
+    Ok(outcome.is(0, numbers.as_bytes(), ""))
 }
 
-/// Behind a session with upkeep in which an object is made and ends.
-static WITHOUT_THE_DEAD: [Line; 1] = [Line {
-    words: &["s4d", "verify", "image"],
-    status: 0,
-    output: "ok frames=16 objects=0 clock=3 window=0 floor=3\n",
-    errors: "",
-}];
+/// Object 2 has been dead since before the floor, and 3 can be read below its death.
+#[test]
+fn rows_that_nobody_can_see_are_gone(rt: HostRuntime) -> Result<(), Fail> {
+    let two_rows = "ok frames=16 objects=2 clock=17 window=10 floor=7\n";
+    let three_rows = "ok frames=16 objects=3 clock=17 window=10 floor=7\n";
+    let mut kept_up = served(&rt, rt.alloc(), EDITS, &KEPT_UP)?;
+    assert!(rt;
+        has_numbers(&rt, rt.alloc(), &mut kept_up, two_rows)?,
+        "with upkeep"
+    );
+    let mut left_alone = served(&rt, rt.alloc(), EDITS, &LEFT_ALONE)?;
+    assert!(rt;
+        has_numbers(&rt, rt.alloc(), &mut left_alone, three_rows)?,
+        "without"
+    );
+    Ok(())
+}
 
-/// Behind the same without upkeep, and then behind an empty one with it.
-static FIRST_WITH_THE_DEAD: [Line; 3] = [
+/// The cleaner goes round once more when the session has ended.
+#[test]
+fn an_object_that_ends_in_a_session_is_gone(rt: HostRuntime) -> Result<(), Fail> {
+    let mut files = served(&rt, rt.alloc(), DEATH, &KEPT_UP)?;
+    let no_row = "ok frames=16 objects=0 clock=3 window=0 floor=3\n";
+    assert!(rt; has_numbers(&rt, rt.alloc(), &mut files, no_row)?);
+    Ok(())
+}
+
+/// Without upkeep the object is still there, until a session comes that has it, though it asks nothing.
+static LEFT_FOR_LATER: [Line; 3] = [
     Line {
         words: &["s4d", "verify", "image"],
         status: 0,
@@ -222,16 +227,9 @@ static FIRST_WITH_THE_DEAD: [Line; 3] = [
     },
 ];
 
-/// The cleaner goes round once more when all sessions have ended.
 #[test]
-fn a_session_leaves_no_dead_object(rt: HostRuntime) -> Result<(), Fail> {
-    let mut files = served(&rt, rt.alloc(), DEATH, &KEPT_UP)?;
-    play(&rt, rt.alloc(), &mut files, &WITHOUT_THE_DEAD)
-}
-
-#[test]
-fn a_later_session_clears_what_was_left(rt: HostRuntime) -> Result<(), Fail> {
+fn what_was_left_goes_later(rt: HostRuntime) -> Result<(), Fail> {
     let mut files = served(&rt, rt.alloc(), DEATH, &LEFT_ALONE)?;
     files.put("nothing", &[])?;
-    play(&rt, rt.alloc(), &mut files, &FIRST_WITH_THE_DEAD)
+    play(&rt, rt.alloc(), &mut files, &LEFT_FOR_LATER)
 }
