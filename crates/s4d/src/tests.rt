@@ -8,6 +8,8 @@ mod memory;
 mod memory_files;
 mod pipes;
 mod rows;
+mod together;
+mod upkeep;
 
 use crate::performing::perform;
 use crate::tests::memory_files::MemoryFiles;
@@ -18,7 +20,7 @@ use std::thread::Threads;
 use std::time::Clock;
 
 /// What a run left: its status, what it wrote, and its lines on standard error.
-#[derive(Drop)]
+#[derive(Drop, PartialEq, Eq)]
 struct Outcome {
     status: u8,
     output: Vec<u8>,

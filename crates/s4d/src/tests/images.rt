@@ -1,9 +1,11 @@
 //! Commands over images: each on its way, and its faults.
 
+use crate::files::Files;
 use crate::tests::memory_files::MemoryFiles;
 use crate::tests::{bytes_of, run_in_pieces, run_over};
 use serving::{FailAfter, MemorySink, MemorySource};
 use std::alloc::{AllocError, Global};
+use std::process::Abort;
 use std::sync::Wait;
 use std::test::Fail;
 use std::thread::Threads;
@@ -17,11 +19,11 @@ static CHANGES: &str =
 static CUT: &str = "00000002 01 00 00000016 04";
 
 /// A line of words, and what it comes to.
-struct Line {
-    words: &'static [&'static str],
-    status: u8,
-    output: &'static str,
-    errors: &'static str,
+pub struct Line {
+    pub words: &'static [&'static str],
+    pub status: u8,
+    pub output: &'static str,
+    pub errors: &'static str,
 }
 
 /// Whether the line comes to what it should.
@@ -35,23 +37,39 @@ fn is_so<T: Threads + Wait + Clock + Sync>(
     Ok(outcome.is(line.status, line.output.as_bytes(), line.errors))
 }
 
+/// Each of the lines, one after the other, comes to what it should.
+pub fn play<R: Abort + Threads + Wait + Clock + Sync>(
+    rt: &R,
+    alloc: Global,
+    files: &mut MemoryFiles,
+    lines: &[Line],
+) -> Result<(), Fail> {
+    for (number, line) in lines.iter().enumerate() {
+        assert!(rt; is_so(rt, alloc, files, line)?, "line {number}");
+    }
+    Ok(())
+}
+
+/// The image of a new drive of 16 frames.
+pub fn new_image<T: Threads + Wait + Clock + Sync>(
+    rt: &T,
+    alloc: Global,
+) -> Result<MemoryFiles, AllocError> {
+    let mut files = MemoryFiles::new(alloc);
+    let words = ["s4d", "new", "image", "16"];
+    let _ = run_in_pieces(rt, alloc, &mut files, &words, &[], 1)?;
+    Ok(files)
+}
+
 /// The files that lines are tried over: the image of a new drive, and what sessions read.
 fn files_with_image<T: Threads + Wait + Clock + Sync>(
     rt: &T,
     alloc: Global,
 ) -> Result<MemoryFiles, AllocError> {
-    let mut files = MemoryFiles::new(alloc);
+    let mut files = new_image(rt, alloc)?;
     files.put("changes", bytes_of(alloc, CHANGES)?.as_slice())?;
     files.put("cut", bytes_of(alloc, CUT)?.as_slice())?;
     files.put("short", &[0])?;
-    let _ = run_in_pieces(
-        rt,
-        alloc,
-        &mut files,
-        &["s4d", "new", "image", "16"],
-        &[],
-        1,
-    )?;
     Ok(files)
 }
 
@@ -121,10 +139,7 @@ static STORY: [Line; 9] = [
 #[test]
 fn a_drive_lives_in_an_image(rt: HostRuntime) -> Result<(), Fail> {
     let mut files = files_with_image(&rt, rt.alloc())?;
-    for (number, line) in STORY.iter().enumerate() {
-        assert!(rt; is_so(&rt, rt.alloc(), &mut files, line)?, "line {number}");
-    }
-    Ok(())
+    play(&rt, rt.alloc(), &mut files, &STORY)
 }
 
 static FAULTS: [Line; 10] = [
@@ -194,18 +209,15 @@ static FAULTS: [Line; 10] = [
 #[test]
 fn a_fault_has_its_line(rt: HostRuntime) -> Result<(), Fail> {
     let mut files = files_with_image(&rt, rt.alloc())?;
-    let before = Vec::from_slice(rt.alloc(), files.bytes("image").unwrap_or_default())?;
+    let before = files.read_whole(rt.alloc(), "image")?;
     for (number, line) in FAULTS.iter().enumerate() {
         assert!(rt; is_so(&rt, rt.alloc(), &mut files, line)?, "line {number}");
-        assert!(rt;
-            files.bytes("image") == Some(before.as_slice()),
-            "line {number}"
-        );
+        assert!(rt; files.holds("image", before.as_slice()), "line {number}");
     }
     Ok(())
 }
 
-static FAILED_SESSION: [Line; 2] = [
+static FAILED_SESSION: [Line; 4] = [
     Line {
         words: &[
             "s4d",
@@ -225,16 +237,26 @@ static FAILED_SESSION: [Line; 2] = [
         output: "ok frames=16 objects=2 clock=4 window=100 floor=0\n",
         errors: "",
     },
+    Line {
+        words: &["s4d", "at", "image", "1", "4"],
+        status: 0,
+        output: "later",
+        errors: "",
+    },
+    Line {
+        words: &["s4d", "at", "image", "2", "4"],
+        status: 0,
+        output: "",
+        errors: "",
+    },
 ];
 
-/// The sessions are served all the same, and the image is saved.
+/// The sessions are served all the same, and the image is saved with what both have changed. Which of the two makes which object
+/// is left to chance.
 #[test]
 fn a_session_that_fails_has_its_line(rt: HostRuntime) -> Result<(), Fail> {
     let mut files = files_with_image(&rt, rt.alloc())?;
-    for line in &FAILED_SESSION {
-        assert!(rt; is_so(&rt, rt.alloc(), &mut files, line)?);
-    }
-    Ok(())
+    play(&rt, rt.alloc(), &mut files, &FAILED_SESSION)
 }
 
 #[test]

@@ -2,16 +2,20 @@
 
 use crate::files::Files;
 use std::alloc::{AllocError, Global};
-use std::io::{self, Cursor, ErrorKind};
+use std::io::{self, Cursor, ErrorKind, Write};
+use std::sync::{Arc, Mutex};
+
+/// The bytes of a file, which its writer has too.
+type SharedBytes = Arc<Mutex<Vec<u8>>, Global>;
 
 /// A file: its path, and its bytes.
 #[derive(Drop)]
 struct MemoryFile {
     path: String,
-    bytes: Vec<u8>,
+    bytes: SharedBytes,
 }
 
-/// Files in memory. A path that begins with a slash can't be written. What is written to a file that was made is let go.
+/// Files in memory. A path that begins with a slash can't be written.
 #[derive(Drop)]
 pub struct MemoryFiles {
     alloc: Global,
@@ -29,29 +33,71 @@ impl MemoryFiles {
 
     /// Puts a file there, in place of what stands there.
     pub fn put(&mut self, path: &str, bytes: &[u8]) -> Result<(), AllocError> {
+        let bytes = Vec::from_slice(self.alloc, bytes)?;
+        let bytes = Arc::new(self.alloc, Mutex::new(bytes))?;
+        self.put_shared(path, bytes)
+    }
+
+    fn put_shared(&mut self, path: &str, bytes: SharedBytes) -> Result<(), AllocError> {
         self.files.retain(|file| file.path.as_str() != path);
         let path = String::from_str(self.alloc, path)?;
-        let bytes = Vec::from_slice(self.alloc, bytes)?;
         self.files.push(MemoryFile { path, bytes })?;
         Ok(())
     }
 
-    /// The bytes of a file.
-    pub fn bytes(&self, path: &str) -> Option<&[u8]> {
-        let file = self.files.iter().find(|file| file.path.as_str() == path)?;
-        Some(file.bytes.as_slice())
+    fn file(&self, path: &str) -> Option<&MemoryFile> {
+        self.files.iter().find(|file| file.path.as_str() == path)
+    }
+
+    /// Whether there is a file of these bytes.
+    pub fn holds(&self, path: &str, bytes: &[u8]) -> bool {
+        let Some(file) = self.file(path) else {
+            return false;
+        };
+        match file.bytes.try_lock() {
+            Some(held) => held.as_slice() == bytes,
+            None => false,
+        }
+    }
+}
+
+/// Whether a path can be written.
+fn is_writable(path: &str) -> bool {
+    !path.starts_with('/')
+}
+
+/// Writes a file in memory.
+#[derive(Drop)]
+pub struct MemoryWriter {
+    bytes: SharedBytes,
+}
+
+impl Write for MemoryWriter {
+    fn write(&mut self, bytes: &[u8]) -> io::Result<usize> {
+        // A file that is being written is read by nobody.
+        match self.bytes.try_lock() {
+            Some(mut held) => held.write(bytes),
+            None => Err(io::Error::from(ErrorKind::WouldBlock)),
+        }
+    }
+
+    fn flush(&mut self) -> io::Result<()> {
+        Ok(())
     }
 }
 
 impl Files for MemoryFiles {
     type Reader = Cursor<Vec<u8>>;
 
-    type Writer = Vec<u8>;
+    type Writer = MemoryWriter;
 
     fn read_whole(&self, alloc: Global, path: &str) -> io::Result<Vec<u8>> {
-        match self.bytes(path) {
-            Some(bytes) => Ok(Vec::from_slice(alloc, bytes)?),
-            None => Err(io::Error::from(ErrorKind::NotFound)),
+        let Some(file) = self.file(path) else {
+            return Err(io::Error::from(ErrorKind::NotFound));
+        };
+        match file.bytes.try_lock() {
+            Some(held) => Ok(Vec::from_slice(alloc, held.as_slice())?),
+            None => Err(io::Error::from(ErrorKind::WouldBlock)),
         }
     }
 
@@ -60,13 +106,17 @@ impl Files for MemoryFiles {
         Ok(Cursor::new(bytes))
     }
 
-    fn make(&mut self, path: &str) -> io::Result<Vec<u8>> {
-        self.replace(self.alloc, path, &[])?;
-        Ok(Vec::new(self.alloc))
+    fn make(&mut self, path: &str) -> io::Result<MemoryWriter> {
+        if !is_writable(path) {
+            return Err(io::Error::from(ErrorKind::PermissionDenied));
+        }
+        let bytes = Arc::new(self.alloc, Mutex::new(Vec::new(self.alloc)))?;
+        self.put_shared(path, Arc::try_clone(&bytes)?)?;
+        Ok(MemoryWriter { bytes })
     }
 
     fn replace(&mut self, _alloc: Global, path: &str, bytes: &[u8]) -> io::Result<()> {
-        if path.starts_with('/') {
+        if !is_writable(path) {
             return Err(io::Error::from(ErrorKind::PermissionDenied));
         }
         self.put(path, bytes)?;
