@@ -1,9 +1,10 @@
-use Rattle.std.proofs.Common.{◌≡◌, ◌⊎◌, Some, None, IfOk, refl, subst, inl, inr}
+use Rattle.std.proofs.Common.{rules, ◌≡◌, ◌⊎◌, Some, None, IfOk, refl, subst, inl, inr}
 use Rattle.std.proofs.lemmas.Result.{IfOk-weaker, IfErr-weaker}
 use Rattle.s4_types.specs.declared.refusals.Cause.{Cause}
 use Rattle.s4_types.specs.declared.refusals.Refusal.{Refusal}
 use Rattle.s4_types.specs.declared.refusals.Refusal.TheVariants.{NoMemory, Damaged}
 use Rattle.image_parts.specs.Image.{Image, image_in}
+use Rattle.image_parts.specs.Causes.{HasDigest}
 use Rattle.verifier.specs.Grammar.{SpellsDrive, FirstFault}
 use Rattle.verifier.specs.Images.{IsImageOf}
 use Rattle.verifier.specs.private.Rest.{FirstRestCause}
@@ -13,10 +14,11 @@ use Rattle.verifier.proofs.verifying.verify.Goals as goal
 pub returns-clause-whole : goal.returns-clause-whole
 returns-clause-whole g c =
     let bytes = c.args.bytes.now in
+    let digest : HasDigest bytes = search rules in
     let parts = c.in-Ok.parts in
     IfOk-weaker c.read_beside_digest-has_digest.result.1 (λ image. FirstRestCause parts None) (λ image. SpellsDrive bytes (image_in bytes))
     (λ image none. spelled_where_none bytes (c.what_no_test_refuses_is_an_image.ensures bytes (λ i. (c.type_inv.bytes i).fits))
-    (rest_fault bytes parts None c.in-Ok.ensures.whole c.in-Ok.ensures.read c.in-Ok.ensures.header c.if-not-has_digest.ensures none))
+    (rest_fault bytes parts None c.in-Ok.ensures.whole c.in-Ok.ensures.read c.in-Ok.ensures.header digest none))
     c.read_beside_digest-has_digest.ensures.whole
 
 pub returns-clause-told : goal.returns-clause-told
@@ -27,12 +29,13 @@ returns-clause-told g c =
 pub returns-clause-damaged : goal.returns-clause-damaged
 returns-clause-damaged g c =
     let bytes = c.args.bytes.now in
+    let digest : HasDigest bytes = search rules in
     let parts = c.in-Ok.parts in
     IfErr-weaker c.read_beside_digest-has_digest.result.1
     (λ e. (e ≡ NoMemory) ⊎ ((cause : Cause) × (e ≡ Damaged cause) × FirstRestCause parts (Some cause)))
     (λ e. (e ≡ NoMemory) ⊎ ((cause : Cause) × (e ≡ Damaged cause) × FirstFault bytes (Some cause)))
     (λ e why. elim why [
       | inl none ↦ inl none
-      | inr told ↦ inr (told.0, told.1, rest_fault bytes parts (Some told.0) c.in-Ok.ensures.whole c.in-Ok.ensures.read c.in-Ok.ensures.header c.if-not-has_digest.ensures told.2)
+      | inr told ↦ inr (told.0, told.1, rest_fault bytes parts (Some told.0) c.in-Ok.ensures.whole c.in-Ok.ensures.read c.in-Ok.ensures.header digest told.2)
     ])
     c.read_beside_digest-has_digest.ensures.damaged
