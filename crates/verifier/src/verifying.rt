@@ -42,11 +42,7 @@ fn spans_of(alloc: Global, parts: &Parts<'_>) -> Result<Vec<Span>, Refusal>
 
 /// The table of an image's frames with what its rows name held, and its objects. None where its chains don't stand. NoMemory
 /// alone.
-fn read_chains(
-    alloc: Global,
-    table: TableParts,
-    parts: &Parts<'_>,
-) -> Result<Option<Read>, Refusal>
+fn read_chains(alloc: Global, table: TableParts, parts: &Parts<'_>) -> Result<Option<Read>, Refusal>
     requires table { IsTableOf parts.now.frames table }
     requires nothing { (p : Place) → held_at table p ≡ None }
     ensures frames { IfOk result (λ found. IfSome found (λ read. IsTableOf parts.now.frames read.table)) }
@@ -128,19 +124,18 @@ fn read_beside_digest<R: Threads>(
     ensures told { IfOk result.1 (λ image. IsImageOf parts.now image) }
     ensures damaged { IfErr result.1 (λ e. (e ≡ NoMemory) ⊎ ((cause : Found) × (e ≡ Damaged cause) × FirstRestCause parts.now (Some cause))) }
 {
-    join(
-        rt,
-        || -> bool
-            requires { 32 ≤ length bytes.now }
-            ensures { MatchBool result (HasDigest bytes.entry.now) (HasDigest bytes.entry.now → ⊥) }
-        { has_digest(bytes) },
-        || -> Result<Image, Refusal>
-            requires { KeepsHeaderRules (header_of parts.now) }
-            ensures whole { IfOk result (λ image. FirstRestCause parts.entry.now None) }
-            ensures told { IfOk result (λ image. IsImageOf parts.entry.now image) }
-            ensures damaged { IfErr result (λ e. (e ≡ NoMemory) ⊎ ((cause : Found) × (e ≡ Damaged cause) × FirstRestCause parts.entry.now (Some cause))) }
-        { read_rest(alloc, parts) },
-    )
+    let digest = || -> bool
+        requires { 32 ≤ length bytes.now }
+        ensures { MatchBool result (HasDigest bytes.entry.now) (HasDigest bytes.entry.now → ⊥) }
+    { has_digest(bytes) };
+    let rest = || -> Result<Image, Refusal>
+        requires { KeepsHeaderRules (header_of parts.now) }
+        ensures whole { IfOk result (λ image. FirstRestCause parts.entry.now None) }
+        ensures told { IfOk result (λ image. IsImageOf parts.entry.now image) }
+        ensures damaged { IfErr result (λ e. (e ≡ NoMemory) ⊎ ((cause : Found) × (e ≡ Damaged cause) × FirstRestCause parts.entry.now (Some cause))) }
+    { read_rest(alloc, parts) };
+    // Where there is no thread for the first, it is called behind the second.
+    join(rt, digest, rest)
 }
 
 /// The image of a drive that the bytes spell. All of its tests look at the whole image before the next one does.

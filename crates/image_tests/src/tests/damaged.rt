@@ -32,7 +32,13 @@ fn it_is_an_image(rt: HostRuntime) {
     // The head is the first journal block: the object was made, and nothing else.
     assert!(rt; is_image(&rt, alloc, &with(ROW + 32, &[0, 0, 1, 0, 0, 0, 0, 1])));
     // The window reaches further.
-    assert!(rt; is_image(&rt, alloc, &with(24, &[255, 255, 255, 255, 255, 255, 255, 255])));
+    assert!(rt;
+        is_image(
+            &rt,
+            alloc,
+            &with(24, &[255, 255, 255, 255, 255, 255, 255, 255])
+        )
+    );
     match bytes.get(..8903) {
         Some(cut) => assert!(rt; cause_of(&rt, alloc, cut) == Some(Length)),
         None => assert!(rt; false),
@@ -153,6 +159,9 @@ fn each_byte_in_turn_signed(rt: HostRuntime) {
         let mut bytes = whole;
         bytes[place] ^= 1;
         sign(&mut bytes);
-        assert!(rt; cause_of(&rt, alloc, &bytes) == cause_at(place), "at {place}");
+        assert!(rt;
+            cause_of(&rt, alloc, &bytes) == cause_at(place),
+            "at {place}"
+        );
     }
 }
