@@ -88,7 +88,7 @@ parts_fit bytes filled =
       whole = omega (arith, all);
     }
 
-counted : (bytes : List ℕ) → header_of (image_in bytes) ≡ header_in bytes
+pub counted : (bytes : List ℕ) → header_of (image_in bytes) ≡ header_in bytes
 unfolding image_in
 counted bytes =
     rw (
@@ -152,15 +152,6 @@ found bytes h none =
       };
       spelled = spelled_by bytes (front_bytes (image_in bytes)) all.digest (front_is bytes h all.header fit);
     }
-
--- what a reader has found, of the bytes whose parts these are
-pub found_by : (bytes : List ℕ) (image : Image) (h : Header) → IsBytes bytes → image ≡ image_in bytes → h ≡ header_in bytes → IsLong bytes → HasHeader bytes → IsFilled bytes → HasDigest bytes
-    → KeepFrameRules image.frames → KeepSpanRules h image.spans → KeepRowRules h image.rows → SpellsImage bytes image
-found_by bytes image h b is head long header filled digest frames spans rows =
-    let all_frames = subst (λ (i : Image). KeepFrameRules i.frames) is frames in
-    let all_spans = subst (λ (k : Header). KeepSpanRules k (image_in bytes).spans) head (subst (λ (i : Image). KeepSpanRules h i.spans) is spans) in
-    let all_rows = subst (λ (k : Header). KeepRowRules k (image_in bytes).rows) head (subst (λ (i : Image). KeepRowRules h i.rows) is rows) in
-    subst (SpellsImage bytes) (sym is) (found bytes b (all_hold bytes long header filled digest all_frames all_spans all_rows))
 
 -- ---- bytes that spell an image
 

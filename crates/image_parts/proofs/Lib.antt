@@ -2,7 +2,6 @@ pub mod Bytes
 pub mod Zeros
 pub mod FrameLists
 pub mod RowLists
-pub mod FrameRules
 pub mod RowRules
 pub mod SpanRules
 pub mod CauseLaws

@@ -25,16 +25,25 @@ HasDigest bytes = drop (length bytes - 32) bytes ≡ sha256 (take (length bytes 
 abbrev pub Tested : Type 0 → Cause → (Option Cause → Type 0) → Option Cause → Type 0
 Tested holds cause later found = ((holds → ⊥) × (found ≡ Some cause)) ⊎ (holds × later found)
 
+-- the tests of whether the bytes can be split into parts, in their order, and what comes behind them
+abbrev pub TestedSplit : List ℕ → (Option Cause → Type 0) → Option Cause → Type 0
+TestedSplit bytes later =
+    Tested (IsLong bytes) Length (
+    Tested (HasHeader bytes) HeaderCause (
+    Tested (IsFilled bytes) Length later))
+
+-- the cause of the first of these tests that fails, or none where they hold
+abbrev pub FirstSplitCause : List ℕ → Option Cause → Type 0
+FirstSplitCause bytes found = TestedSplit bytes (λ f. f ≡ None) found
+
 -- the tests of all parts, in their order, and what comes behind them
 abbrev pub TestedParts : List ℕ → (Option Cause → Type 0) → Option Cause → Type 0
 TestedParts bytes later =
-    Tested (IsLong bytes) Length (
-    Tested (HasHeader bytes) HeaderCause (
-    Tested (IsFilled bytes) Length (
+    TestedSplit bytes (
     Tested (HasDigest bytes) Digest (
     Tested (KeepFrameRules (image_in bytes).frames) Frame (
     Tested (KeepSpanRules (header_in bytes) (image_in bytes).spans) SpanCause (
-    Tested (KeepRowRules (header_in bytes) (image_in bytes).rows) Row later))))))
+    Tested (KeepRowRules (header_in bytes) (image_in bytes).rows) Row later))))
 
 -- the cause of the first test that fails, or none where all hold
 abbrev pub FirstCause : List ℕ → Option Cause → Type 0

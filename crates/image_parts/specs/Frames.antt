@@ -5,6 +5,8 @@ use Rattle.std.specs.Simd.{first_chunks}
 use Rattle.codec.specs.Fields.{number}
 use Rattle.codec.specs.Summary.{SummaryFields, SpellsSummary}
 use Rattle.image_parts.specs.Header.{AreBytes, number_in}
+use Rattle.image_parts.specs.declared.frame_rules.FrameRead.{FrameRead}
+use Rattle.image_parts.specs.declared.frame_rules.FrameRead.TheVariants.{Free, Used}
 
 -- a frame: its word, and the bytes of its 16 blocks, or none where it is free
 pub record FrameFields : Type 0 where
@@ -71,6 +73,12 @@ pub record HasSummary (number : ℕ) (f : FrameFields) : Type 0 where
   pub generation : summary.generation ≡ generation_of f.word
   pub spelled : SpellsSummary (drop 1 (blocks_of f.contents)) (slice_index_or (blocks_of f.contents) 0 []) summary
   pub room : state_of f.word ≡ 1 → length summary.parts ≤ 14
+
+-- What is read of a frame: nothing of a free one, and of any other the summary that its first block spells over those behind it.
+abbrev pub IsReadOf : FrameFields → FrameRead → Type 0
+IsReadOf f Free = state_of f.word ≡ 0
+IsReadOf f (Used summary) =
+    (state_of f.word ≢ 0) × SpellsSummary (drop 1 (blocks_of f.contents)) (slice_index_or (blocks_of f.contents) 0 []) summary
 
 -- the rules of the frame of this number
 pub record KeepsFrameRules (number : ℕ) (f : FrameFields) : Type 0 where

@@ -6,8 +6,8 @@ use sha2::{Digest, Sha256};
 /// Bytes of a digest.
 pub(crate) const DIGEST_BYTES: usize = 32;
 
-/// Whether the last bytes are the digest of all before them.
-pub(crate) fn has_digest(bytes: &[u8]) -> bool
+/// Whether the last 32 bytes are the digest of all before them. Linear in the bytes.
+pub fn has_digest(bytes: &[u8]) -> bool
     requires { 32 ≤ length bytes.now }
     ensures { MatchBool result (HasDigest bytes.now) (HasDigest bytes.now → ⊥) }
 {

@@ -1,9 +1,8 @@
-ghost use Rattle.std.specs.Prelude.{◌≡◌, ◌≢◌, ℕ, ◌≤◌, [], List, MatchBool, IfSome, Some, length, drop, slice_index_or, if◌then◌else◌};
+ghost use Rattle.std.specs.Prelude.{◌≡◌, ◌≢◌, [], MatchOption, IfSome, Some, length, drop, slice_index_or};
 ghost use Rattle.codec.specs.Summary.{SummaryFields, SpellsSummary};
-ghost use Rattle.image_parts.specs.Frames.{state_of, readers_of, generation_of, is_open, HasSummary, KeepsFrameRules, KeepFrameRules};
+ghost use Rattle.image_parts.specs.Frames.{state_of, readers_of, generation_of, blocks_of, HasSummary, KeepsFrameRules, IsReadOf};
 
 use crate::frames::FramePart;
-use crate::parts::Parts;
 use block_log::Block;
 use codec::{Summary, decode_summary};
 use s4_types::limits::PAYLOAD_BLOCKS;
@@ -51,59 +50,48 @@ fn summary_in(blocks: &[Block]) -> Option<Summary>
     decode_summary(&blocks[0], payload)
 }
 
-/// Whether the first block of a frame that isn't free is the summary of this frame as its word says.
-fn has_summary(number: u16, frame: &FramePart<'_>) -> bool
+/// The summary that the first block of a frame that isn't free spells, where it is that of this frame as its word says.
+fn summary_of(number: u16, frame: &FramePart<'_>) -> Option<Summary>
     requires { state_of frame.now.word ≢ 0 }
-    ensures { MatchBool result (HasSummary number frame.now) (HasSummary number frame.now → ⊥) }
+    ensures has { MatchOption result (HasSummary number frame.now → ⊥) (λ summary. HasSummary number frame.now) }
+    ensures spelled { IfSome result (λ summary. SpellsSummary (drop 1 (blocks_of frame.now.contents)) (slice_index_or (blocks_of frame.now.contents) 0 []) summary) }
 {
-    let Some(summary) = summary_in(frame.blocks()) else {
-        return false;
-    };
+    let summary = summary_in(frame.blocks())?;
     let word = frame.word();
     if summary.frame() != number || u64::from(summary.generation()) != generation_in(word) {
-        return false;
+        return None;
     }
-    state_in(word) != 1 || summary.parts().len() <= OPEN_BLOCKS
+    if state_in(word) == 1 && summary.parts().len() > OPEN_BLOCKS {
+        return None;
+    }
+    Some(summary)
 }
 
-fn keeps_rules(number: u16, frame: &FramePart<'_>) -> bool
-    ensures { MatchBool result (KeepsFrameRules number frame.now) (KeepsFrameRules number frame.now → ⊥) }
+/// What a frame of an image is.
+#[derive(Debug, Drop)]
+pub enum FrameRead {
+    /// No block of it is used.
+    Free,
+    /// It has this summary.
+    Used(Summary),
+}
+
+/// What the frame of this number is. None exactly where it breaks a rule of a frame by itself. Its bytes are hashed once.
+pub fn read_frame(number: u16, frame: &FramePart<'_>) -> Option<FrameRead>
+    ensures rules { MatchOption result (KeepsFrameRules number frame.now → ⊥) (λ read. KeepsFrameRules number frame.now) }
+    ensures read { IfSome result (λ read. IsReadOf frame.now read) }
 {
     let word = frame.word();
     let generation = generation_in(word);
     if readers_in(word) != 0 || generation < 1 {
-        return false;
+        return None;
     }
     if state_in(word) == 0 {
-        return true;
+        return Some(FrameRead::Free);
     }
-    generation + 1 < GENERATION && has_summary(number, frame)
-}
-
-/// One where the frame is open.
-fn open_count(frame: &FramePart<'_>) -> u16
-    ensures { result ≡ (if is_open frame.now then 1 else 0) }
-{
-    if state_in(frame.word()) == 1 { 1 } else { 0 }
-}
-
-/// Whether each frame keeps the rules, and at most one is open.
-pub(crate) fn frames_keep_rules(parts: &Parts<'_>) -> bool
-    ensures { MatchBool result (KeepFrameRules parts.now.frames) (KeepFrameRules parts.now.frames → ⊥) }
-{
-    let frames = parts.frames();
-    let count = frames.len();
-    let mut number = 0;
-    let mut open = 0;
-    for frame in frames {
-        if !keeps_rules(number, &frame) {
-            return false;
-        }
-        open += open_count(&frame);
-        if open > 1 {
-            return false;
-        }
-        number += 1;
+    if generation + 1 >= GENERATION {
+        return None;
     }
-    true
+    let summary = summary_of(number, frame)?;
+    Some(FrameRead::Used(summary))
 }

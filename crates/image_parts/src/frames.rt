@@ -1,6 +1,6 @@
 ghost use Rattle.std.specs.Iterator.{YieldsFirst, item_count};
 ghost use Rattle.std.specs.Prelude.{◌≡◌, ℕ, ◌+◌, ◌^◌, ◌<◌, ◌≤◌, ◌≢◌, [], ◌∷◌, List, MatchOption, length, drop};
-ghost use Rattle.image_parts.specs.Frames.{FrameFields, state_of, contents_length, blocks_of, frame_in, frame_length, frames_in, frames_length};
+ghost use Rattle.image_parts.specs.Frames.{FrameFields, state_of, is_open, contents_length, blocks_of, frame_in, frame_length, frames_in, frames_length};
 
 use crate::numbers::long_at;
 use block_log::Block;
@@ -37,6 +37,13 @@ impl<'a> FramePart<'a> {
         ensures { result ≡ self.now.word }
     {
         self.word
+    }
+
+    /// Whether its word says that it is open.
+    pub fn is_open(&self) -> bool
+        ensures { result ≡ is_open self.now }
+    {
+        self.word % 4 == 1
     }
 
     /// The frame's 16 blocks, its summary first. None where it is free.

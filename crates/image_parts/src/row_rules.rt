@@ -1,5 +1,6 @@
 ghost use Rattle.std.specs.Prelude.{◌≡◌, ℕ, MatchBool};
 ghost use Rattle.image_parts.specs.Rows.{KeepsRowRules, KeepRowRules};
+ghost use Rattle.image_parts.specs.Image.{header_of};
 
 use crate::headers::Header;
 use crate::parts::Parts;
@@ -18,13 +19,14 @@ fn keeps_rules(header: &Header, object: ObjectId, created: Moment, row: &RowPart
 }
 
 /// Whether each row keeps the rules behind the one before it.
-pub(crate) fn rows_keep_rules(header: &Header, parts: &Parts<'_>) -> bool
-    ensures { MatchBool result (KeepRowRules header.now parts.now.rows) (KeepRowRules header.now parts.now.rows → ⊥) }
+pub fn rows_keep_rules(parts: &Parts<'_>) -> bool
+    ensures { MatchBool result (KeepRowRules (header_of parts.now) parts.now.rows) (KeepRowRules (header_of parts.now) parts.now.rows → ⊥) }
 {
+    let header = parts.header();
     let mut object = ObjectId::new(0);
     let mut created = Moment::new(0);
     for row in parts.rows() {
-        if !keeps_rules(header, object, created, &row) {
+        if !keeps_rules(&header, object, created, &row) {
             return false;
         }
         object = row.object;

@@ -1,6 +1,7 @@
 ghost use Rattle.std.specs.Prelude.{◌≡◌, ◌⊎◌, ℕ, ◌+◌, ◌≤◌, MatchBool, MatchOption};
 ghost use Rattle.s4_types.specs.declared.limits.TheConstants.{RUNS_IN_A_LIST};
 ghost use Rattle.image_parts.specs.Spans.{KeepsSpanRules, BeginsList, GoesOn, SpansFollow, SpansKeep, KeepSpanRules};
+ghost use Rattle.image_parts.specs.Image.{header_of};
 
 use crate::headers::Header;
 use crate::parts::Parts;
@@ -60,8 +61,8 @@ fn follow(header: &Header, parts: &Parts<'_>) -> bool
 }
 
 /// Whether the spans keep the rules, and are no more than an image may have.
-pub(crate) fn spans_keep_rules(header: &Header, parts: &Parts<'_>) -> bool
-    ensures { MatchBool result (KeepSpanRules header.now parts.now.spans) (KeepSpanRules header.now parts.now.spans → ⊥) }
+pub fn spans_keep_rules(parts: &Parts<'_>) -> bool
+    ensures { MatchBool result (KeepSpanRules (header_of parts.now) parts.now.spans) (KeepSpanRules (header_of parts.now) parts.now.spans → ⊥) }
 {
-    parts.spans().len() as usize <= RUNS_IN_ALL && follow(header, parts)
+    parts.spans().len() as usize <= RUNS_IN_ALL && follow(&parts.header(), parts)
 }

@@ -15,10 +15,12 @@ use segment_word::Naming;
 use serving::Sink;
 use std::alloc::Global;
 use std::marker::Brand;
+use std::thread::Threads;
 use verifier::open;
 
 /// Writes the whole bytes of an object at a moment.
-pub fn write_object<'a, F: Files, W: Sink>(
+pub fn write_object<'a, T: Threads, F: Files, W: Sink>(
+    rt: &T,
     alloc: Global,
     files: &F,
     asked: At<'a>,
@@ -27,7 +29,7 @@ pub fn write_object<'a, F: Files, W: Sink>(
     requires writer { W.failures writer.old + 1 < 2 ^ 64 }
     ensures passed { OnOk result (W.held writer.new ≡ []) }
 {
-    let image = match read_image(alloc, files, asked.image) {
+    let image = match read_image(rt, alloc, files, asked.image) {
         Ok(image) => image,
         Err(fault) => return Err(fault),
     };

@@ -47,7 +47,7 @@ pub fn run_file<'a, T: Threads + Wait + Clock + Sync, F: Files, E: Write>(
 ) -> Result<bool, Fault<'a>>
     requires sessions { vec_len asked.sessions ≤ 16 }
 {
-    let image = match read_image(alloc, files, asked.image) {
+    let image = match read_image(rt, alloc, files, asked.image) {
         Ok(image) => image,
         Err(fault) => return Err(fault),
     };

@@ -10,10 +10,12 @@ use s4_types::{Moment, Refusal};
 use s4d_command::Verify;
 use serving::Sink;
 use std::alloc::{AllocError, Global};
+use std::thread::Threads;
 use verifier::{Image, verify};
 
 /// The image in a file, which was verified.
-pub fn read_image<'a, F: Files>(
+pub fn read_image<'a, T: Threads, F: Files>(
+    rt: &T,
     alloc: Global,
     files: &F,
     path: &'a str,
@@ -22,14 +24,15 @@ pub fn read_image<'a, F: Files>(
         Ok(bytes) => bytes,
         Err(error) => return Err(reading(error, path)),
     };
-    match verify(alloc, bytes.as_slice()) {
+    match verify(rt, alloc, bytes.as_slice()) {
         Ok(image) => Ok(image),
         Err(refusal) => Err(Fault::Refused(refusal)),
     }
 }
 
 /// Writes the line of an image's numbers, where the file has one.
-pub fn verify_file<'a, F: Files, W: Sink>(
+pub fn verify_file<'a, T: Threads, F: Files, W: Sink>(
+    rt: &T,
     alloc: Global,
     files: &F,
     asked: Verify<'a>,
@@ -38,7 +41,7 @@ pub fn verify_file<'a, F: Files, W: Sink>(
     requires writer { W.failures writer.old + 1 < 2 ^ 64 }
     ensures passed { OnOk result (W.held writer.new ≡ []) }
 {
-    let image = match read_image(alloc, files, asked.image) {
+    let image = match read_image(rt, alloc, files, asked.image) {
         Ok(image) => image,
         Err(fault) => return Err(fault),
     };

@@ -1,11 +1,17 @@
 -- Tests in a fixed order, of which the first that fails tells the cause.
 use Rattle.std.proofs.Common.{◌≡◌, ◌⊎◌, ℕ, List, Option, Some, None, refl, sym, ◌∙◌, subst, inl, inr}
 use Rattle.s4_types.specs.declared.refusals.Cause.{Cause}
-use Rattle.s4_types.specs.declared.refusals.Cause.TheVariants.{Chain}
-use Rattle.image_parts.specs.Image.{Image, SpellsImage, image_in}
-use Rattle.image_parts.specs.Causes.{Tested, TestedParts, FirstCause}
+use Rattle.s4_types.specs.declared.refusals.Cause.TheVariants.{Digest, Frame, Span, Row, Chain}
+use Rattle.image_parts.specs.declared.headers.Header.{Header}
+use Rattle.image_parts.specs.Header.{header_in}
+use Rattle.image_parts.specs.Frames.{KeepFrameRules}
+use Rattle.image_parts.specs.Spans.{KeepSpanRules}
+use Rattle.image_parts.specs.Rows.{KeepRowRules}
+use Rattle.image_parts.specs.Image.{Image, SpellsImage, header_of, image_in}
+use Rattle.image_parts.specs.Causes.{Tested, TestedParts, HasDigest, FirstSplitCause, FirstCause}
 use Rattle.verifier.specs.Rows.{ChainsStand}
 use Rattle.verifier.specs.Grammar.{SpellsDrive, FirstFault}
+use Rattle.verifier.specs.private.Rest.{FirstRestCause}
 
 -- ---- one test
 
@@ -67,11 +73,6 @@ pub parts_none : (bytes : List ℕ) (late : Option Cause → Type 0) → TestedP
 parts_none bytes late tests =
     kept_found tests (λ a. kept_found a (λ b. kept_found b (λ c. kept_found c (λ d. kept_found d (λ e. kept_found e (λ f. kept_found f (λ g. refl)))))))
 
--- what the tests of parts found is found whatever comes behind them
-pub parts_found : (bytes : List ℕ) (late : Option Cause → Type 0) (cause : Cause) → FirstCause bytes (Some cause) → TestedParts bytes late (Some cause)
-parts_found bytes late cause tests =
-    kept_found tests (λ a. kept_found a (λ b. kept_found b (λ c. kept_found c (λ d. kept_found d (λ e. kept_found e (λ f. kept_found f (λ g. some_is_some cause (sym g))))))))
-
 -- ---- the image
 
 -- what an_image_is_read and what_no_test_refuses_is_an_image tell
@@ -105,8 +106,24 @@ one_fault bytes found other x y =
     one_found x y (λ a b. one_found a b (λ a b. one_found a b (λ a b. one_found a b (λ a b. one_found a b
     (λ a b. one_found a b (λ a b. one_found a b (λ a b. one_found a b (λ p q. p ∙ sym q))))))))
 
--- parts that no test refuses, and whose chains don't stand
-pub chain_fault : (bytes : List ℕ) (parts : Image) → FirstCause bytes None → parts ≡ image_in bytes → (ChainsStand parts → ⊥) → FirstFault bytes (Some Chain)
-chain_fault bytes parts tests is fall =
-    let F : Image → Type 0 = λ image. ChainsStand image → ⊥ in
-    parts_passed bytes (Tested (ChainsStand (image_in bytes)) Chain (λ f. f ≡ None)) (Some Chain) tests (inl (subst F is fall, refl))
+-- ---- what was read
+
+-- where the bytes can't be split, that is the fault
+pub split_fault : (bytes : List ℕ) (cause : Cause) → FirstSplitCause bytes (Some cause) → FirstFault bytes (Some cause)
+split_fault bytes cause tests = kept_found tests (λ a. kept_found a (λ b. kept_found b (λ c. some_is_some cause (sym c))))
+
+-- where they can, and have another digest, this is
+pub digest_fault : (bytes : List ℕ) → FirstSplitCause bytes None → (HasDigest bytes → ⊥) → FirstFault bytes (Some Digest)
+digest_fault bytes tests other = passed tests (λ a. passed a (λ b. passed b (λ c. inl (other, refl))))
+
+-- what comes behind the digest, of these parts and this header
+abbrev rest : Header → Image → Option Cause → Type 0
+rest h image found = Tested (KeepFrameRules image.frames) Frame (Tested (KeepSpanRules h image.spans) Span (Tested (KeepRowRules h image.rows) Row (Tested (ChainsStand image) Chain (λ f. f ≡ None)))) found
+
+-- and where they have theirs, what was found behind it decides
+pub rest_fault : (bytes : List ℕ) (parts : Image) (found : Option Cause) → FirstSplitCause bytes None → parts ≡ image_in bytes → header_of parts ≡ header_in bytes → HasDigest bytes → FirstRestCause parts found → FirstFault bytes found
+rest_fault bytes parts found tests is header digest later =
+    let H : Header → Type 0 = λ h. rest h parts found in
+    let P : Image → Type 0 = λ image. rest (header_in bytes) image found in
+    let here : P (image_in bytes) = subst P is (subst H header later) in
+    passed tests (λ a. passed a (λ b. passed b (λ c. inr (digest, here))))

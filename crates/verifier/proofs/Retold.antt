@@ -24,12 +24,9 @@ use Rattle.image_objects.specs.Rows.{RowsStand}
 use Rattle.verifier.specs.Tables.{no_part, IsFrameOf, IsTableOf}
 use Rattle.verifier.specs.Rows.{SpellRows, ChainsStand}
 use Rattle.verifier.specs.Reading.{AreKept, AreRead}
+use Rattle.verifier.proofs.Frames.{OneSummaryASpelling}
 
 -- ---- what a block is named for
-
--- what one_summary_a_spelling tells
-abbrev pub OneSummaryASpelling : Type 0
-OneSummaryASpelling = (payload : List (List ℕ)) (block : List ℕ) (s t : SummaryFields) → SpellsSummary payload block s → SpellsSummary payload block t → s ≡ t
 
 abbrev parts_in : List Slot → List Part
 parts_in slots = map (λ slot. slot.part) slots

@@ -1,10 +1,10 @@
 //! The table that the frames of an image tell.
-ghost use Rattle.std.specs.Prelude.{◌≡◌, ◌≢◌, ℕ, ◌<◌, ◌≤◌, [], List, length, drop, slice_index_or, slice_set, Some, None, IfOk, IfErr, IfSome};
+ghost use Rattle.std.specs.Prelude.{◌≡◌, ◌≢◌, ◌<◌, ◌≤◌, [], length, drop, slice_index_or, slice_set, None, IfOk, IfErr, IfSome, IfNone};
 ghost use Rattle.s4_types.specs.Pointer.{Place};
 ghost use Rattle.s4_types.specs.Sizes.{IsFrameCount};
 ghost use Rattle.s4_types.specs.declared.refusals.Refusal.TheVariants.{NoMemory};
-ghost use Rattle.codec.specs.Summary.{SummaryFields, SpellsSummary};
-ghost use Rattle.image_parts.specs.Frames.{state_of, generation_of, KeepsFrameRules, KeepFrameRules};
+ghost use Rattle.codec.specs.Summary.{SpellsSummary};
+ghost use Rattle.image_parts.specs.Frames.{state_of, generation_of, blocks_of, KeepsFrameRules, KeepFrameRules, IsReadOf};
 ghost use Rattle.segment_word.specs.Frames.Phase.{Free};
 ghost use Rattle.segment_word.specs.FrameStates.{phase_in};
 ghost use Rattle.segment_word.specs.Layout.{phase_of, frame_at};
@@ -13,11 +13,11 @@ ghost use Rattle.segment_table.specs.Room.{is_filling, numbers};
 ghost use Rattle.verifier.specs.Tables.{IsFrameOf, IsTableOf};
 
 use block_log::Block;
-use codec::laws::rules_of_a_summary;
-use codec::{Summary, decode_summary};
-use image_parts::{FramePart, Parts};
+use codec::Summary;
+use codec::laws::{one_summary_a_spelling, rules_of_a_summary};
+use image_parts::{FramePart, FrameRead, Parts, read_frame};
 use s4_types::Refusal;
-use s4_types::limits::{FRAME_BLOCKS, PAYLOAD_BLOCKS};
+use s4_types::limits::FRAME_BLOCKS;
 use segment_table::TableParts;
 use segment_word::FrameState;
 use std::alloc::Global;
@@ -45,22 +45,11 @@ fn generation_in(word: u64) -> u32
     (word / GENERATION) as u32
 }
 
-/// The summary that the first of a frame's blocks spells over the others, if it spells one.
-fn summary_in(blocks: &[Block; FRAME_BLOCKS]) -> Option<Summary>
-    ensures found { IfSome result (λ summary. SpellsSummary (drop 1 blocks.now) (slice_index_or blocks.now 0 []) summary) }
-    ensures only { (summary : SummaryFields) → SpellsSummary (drop 1 blocks.now) (slice_index_or blocks.now 0 []) summary → result ≡ Some summary }
-{
-    let (_, payload) = blocks.split_at(1);
-    let Ok(payload) = <&[Block; PAYLOAD_BLOCKS]>::try_from(payload) else {
-        unreachable!()
-    };
-    decode_summary(&blocks[0], payload)
-}
-
-/// Sets a frame that is free in a table to one of an image that isn't.
-fn set_used(table: &mut TableParts, number: u16, frame: &FramePart<'_>)
+/// Sets a frame that is free in a table to one of an image that isn't, and has this summary.
+fn set_used(table: &mut TableParts, number: u16, frame: &FramePart<'_>, summary: &Summary)
     requires used { state_of frame.now.word ≢ 0 }
     requires rules { KeepsFrameRules number frame.now }
+    requires spelled { SpellsSummary (drop 1 (blocks_of frame.now.contents)) (slice_index_or (blocks_of frame.now.contents) 0 []) summary.now }
     requires inside { number < length table.old.drive.frames }
     requires counted { length table.old.slots ≡ length table.old.drive.frames }
     requires free { (frame_at table.old.drive.frames number).phase ≡ Free }
@@ -71,19 +60,18 @@ fn set_used(table: &mut TableParts, number: u16, frame: &FramePart<'_>)
     ensures held { (p : Place) → held_at table.new p ≡ held_at table.old p }
 {
     rules_of_a_summary();
+    one_summary_a_spelling();
     let blocks = frame.blocks();
     let Ok(whole) = <&[Block; FRAME_BLOCKS]>::try_from(blocks) else {
         unreachable!()
     };
-    let Some(summary) = summary_in(whole) else {
-        unreachable!()
-    };
-    table.set_used(number, state_in(frame.word()), &summary, whole);
+    table.set_used(number, state_in(frame.word()), summary, whole);
 }
 
-/// Sets a frame that is free in a table, and has no used block, to that of an image.
-fn set_frame(table: &mut TableParts, number: u16, frame: &FramePart<'_>)
+/// Sets a frame that is free in a table, and has no used block, to that of an image of which this was read.
+fn set_frame(table: &mut TableParts, number: u16, frame: &FramePart<'_>, read: &FrameRead)
     requires rules { KeepsFrameRules number frame.now }
+    requires read { IsReadOf frame.now read.now }
     requires inside { number < length table.old.drive.frames }
     requires counted { length table.old.slots ≡ length table.old.drive.frames }
     requires free { (frame_at table.old.drive.frames number).phase ≡ Free }
@@ -94,28 +82,40 @@ fn set_frame(table: &mut TableParts, number: u16, frame: &FramePart<'_>)
     ensures slots { table.new.slots ≡ slice_set table.old.slots number (slots_at table.new.slots number) }
     ensures held { (p : Place) → held_at table.new p ≡ held_at table.old p }
 {
-    let word = frame.word();
-    if word % STATES == 0 {
-        table.set_free(number, generation_in(word));
-    } else {
-        set_used(table, number, frame);
+    match read {
+        FrameRead::Free => table.set_free(number, generation_in(frame.word())),
+        FrameRead::Used(summary) => set_used(table, number, frame, summary),
     }
 }
 
-/// The table that an image's frames tell, of which no block is held. NoMemory alone, where memory for it is refused.
-pub(crate) fn table_of(alloc: Global, parts: &Parts<'_>) -> Result<TableParts, Refusal>
+/// The table that an image's frames tell, of which no block is held. None exactly where the frames break a rule: one by itself,
+/// or two are open.
+///
+/// Each frame is judged and set in one step, so that its summary is decoded once. NoMemory alone, where memory for the table is
+/// refused.
+pub(crate) fn read_frames(alloc: Global, parts: &Parts<'_>) -> Result<Option<TableParts>, Refusal>
     requires counted { IsFrameCount (length parts.now.frames) }
-    requires rules { KeepFrameRules parts.now.frames }
-    ensures table { IfOk result (λ table. IsTableOf parts.now.frames table) }
-    ensures nothing { IfOk result (λ table. (p : Place) → held_at table p ≡ None) }
+    ensures table { IfOk result (λ found. IfSome found (λ table. IsTableOf parts.now.frames table)) }
+    ensures nothing { IfOk result (λ found. IfSome found (λ table. (p : Place) → held_at table p ≡ None)) }
+    ensures rules { IfOk result (λ found. IfSome found (λ table. KeepFrameRules parts.now.frames)) }
+    ensures none { IfOk result (λ found. IfNone found (KeepFrameRules parts.now.frames → ⊥)) }
     ensures refusal { IfErr result (λ e. e ≡ NoMemory) }
 {
     let frames = parts.frames();
     let mut table = TableParts::new(alloc, frames.len() as usize)?;
     let mut number = 0;
+    let mut has_open = false;
     for frame in frames {
-        set_frame(&mut table, number, &frame);
+        let Some(read) = read_frame(number, &frame) else {
+            return Ok(None);
+        };
+        let is_open = frame.is_open();
+        if has_open && is_open {
+            return Ok(None);
+        }
+        has_open |= is_open;
+        set_frame(&mut table, number, &frame, &read);
         number += 1;
     }
-    Ok(table)
+    Ok(Some(table))
 }

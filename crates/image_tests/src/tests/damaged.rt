@@ -28,16 +28,22 @@ fn it_is_an_image(rt: HostRuntime) {
     let alloc = rt.alloc();
     let bytes = example();
     assert!(rt; bytes.len() == 8904 && bytes[1544] == b'a');
-    assert!(rt; is_image(alloc, &bytes));
+    assert!(rt; is_image(&rt, alloc, &bytes));
     // The head is the first journal block: the object was made, and nothing else.
-    assert!(rt; is_image(alloc, &with(ROW + 32, &[0, 0, 1, 0, 0, 0, 0, 1])));
+    assert!(rt; is_image(&rt, alloc, &with(ROW + 32, &[0, 0, 1, 0, 0, 0, 0, 1])));
     // The window reaches further.
-    assert!(rt; is_image(alloc, &with(24, &[255, 255, 255, 255, 255, 255, 255, 255])));
+    assert!(rt;
+        is_image(
+            &rt,
+            alloc,
+            &with(24, &[255, 255, 255, 255, 255, 255, 255, 255])
+        )
+    );
     match bytes.get(..8903) {
-        Some(cut) => assert!(rt; cause_of(alloc, cut) == Some(Length)),
+        Some(cut) => assert!(rt; cause_of(&rt, alloc, cut) == Some(Length)),
         None => assert!(rt; false),
     }
-    assert!(rt; cause_of(alloc, &[]) == Some(Length));
+    assert!(rt; cause_of(&rt, alloc, &[]) == Some(Length));
 }
 
 #[test]
@@ -45,11 +51,11 @@ fn a_byte_of_the_data(rt: HostRuntime) {
     let alloc = rt.alloc();
     let mut bytes = example();
     put(&mut bytes, DATA, b"b");
-    assert!(rt; cause_of(alloc, &bytes) == Some(Digest));
+    assert!(rt; cause_of(&rt, alloc, &bytes) == Some(Digest));
     sign(&mut bytes);
-    assert!(rt; cause_of(alloc, &bytes) == Some(Frame));
+    assert!(rt; cause_of(&rt, alloc, &bytes) == Some(Frame));
     sign_all(&mut bytes);
-    assert!(rt; is_image(alloc, &bytes));
+    assert!(rt; is_image(&rt, alloc, &bytes));
 }
 
 #[test]
@@ -77,11 +83,11 @@ fn one_part_is_changed(rt: HostRuntime) {
     ];
     for (place, new, cause) in cases {
         assert!(rt;
-            cause_of(alloc, &with(place, new)) == Some(cause),
+            cause_of(&rt, alloc, &with(place, new)) == Some(cause),
             "at {place}"
         );
     }
-    assert!(rt; cause_of(alloc, &with_one_moment()) == Some(Chain));
+    assert!(rt; cause_of(&rt, alloc, &with_one_moment()) == Some(Chain));
 }
 
 /// What a frame's state word spells where the lowest bit of its byte of this index is turned, and the frame is free.
@@ -139,7 +145,7 @@ fn each_byte_in_turn(rt: HostRuntime) {
         let mut bytes = whole;
         bytes[place] ^= 1;
         assert!(rt;
-            cause_of(alloc, &bytes) == cause_unsigned(place),
+            cause_of(&rt, alloc, &bytes) == cause_unsigned(place),
             "at {place}"
         );
     }
@@ -153,6 +159,9 @@ fn each_byte_in_turn_signed(rt: HostRuntime) {
         let mut bytes = whole;
         bytes[place] ^= 1;
         sign(&mut bytes);
-        assert!(rt; cause_of(alloc, &bytes) == cause_at(place), "at {place}");
+        assert!(rt;
+            cause_of(&rt, alloc, &bytes) == cause_at(place),
+            "at {place}"
+        );
     }
 }

@@ -11,6 +11,7 @@ use segment_word::Naming;
 use std::alloc::Global;
 use std::marker::Brand;
 use std::test::Fail;
+use std::thread::Threads;
 use verifier::{Image, open, save, verify};
 
 /// Whether a drive is saved as the worked image.
@@ -38,30 +39,30 @@ fn is_told(image: &Image) -> bool {
 }
 
 /// The worked image, verified.
-fn verified(alloc: Global) -> Result<Image, Refusal> {
-    verify(alloc, &example())
+fn verified<R: Threads>(rt: &R, alloc: Global) -> Result<Image, Refusal> {
+    verify(rt, alloc, &example())
 }
 
 /// The drive of the worked image.
-fn opened(alloc: Global) -> Result<OpenedDrive, Refusal> {
-    open(alloc, verified(alloc)?)
+fn opened<R: Threads>(rt: &R, alloc: Global) -> Result<OpenedDrive, Refusal> {
+    open(alloc, verified(rt, alloc)?)
 }
 
 /// Whether the drive that is opened from the worked image is saved as that image.
-fn play(alloc: Global) -> Result<bool, Refusal> {
-    let opened = opened(alloc)?;
+fn play<R: Threads>(rt: &R, alloc: Global) -> Result<bool, Refusal> {
+    let opened = opened(rt, alloc)?;
     is_saved_again::<Brand>(alloc, opened)
 }
 
 #[test]
 fn its_numbers_are_told(rt: HostRuntime) -> Result<(), Fail> {
-    let image = verified(rt.alloc())?;
+    let image = verified(&rt, rt.alloc())?;
     assert!(rt; is_told(&image));
     Ok(())
 }
 
 #[test]
 fn the_drive_is_saved_again(rt: HostRuntime) -> Result<(), Fail> {
-    assert!(rt; play(rt.alloc())?);
+    assert!(rt; play(&rt, rt.alloc())?);
     Ok(())
 }

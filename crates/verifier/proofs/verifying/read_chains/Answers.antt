@@ -12,16 +12,16 @@ use Rattle.verifier.proofs.verifying.read_chains.Goals as goal
 pub returns-in_default-clause-none : goal.returns-in_default-clause-none
 returns-in_default-clause-none c =
     let parts = c.args.parts.now in
-    let N : Header → Type 0 = λ h. (rows : List ImageRow) → SpellRows parts.rows rows → RowsStand (used_at c.in_ok-table.table) rows h.clock → ⊥ in
-    chains_fall c.one_summary_a_spelling.ensures parts c.in_ok-table.table c.in_ok-table.ensures.table (subst N c.header.ensures (rw c.in_default.is at c.in_ok-read.ensures.none))
+    let N : Header → Type 0 = λ h. (rows : List ImageRow) → SpellRows parts.rows rows → RowsStand (used_at c.args.table) rows h.clock → ⊥ in
+    chains_fall c.one_summary_a_spelling.ensures parts c.args.table c.requires.table (subst N c.header.ensures (rw c.in_default.is at c.in_ok-read.ensures.none))
 
 pub returns-clause-frames : goal.returns-clause-frames
 returns-clause-frames c =
-    table_held c.args.parts.now.frames c.in_ok-table.table c.in-Some.read.table c.in_ok-table.ensures.table (rw c.in-Some.is at c.in_ok-read.ensures.frames) c.rules.ensures.sizes.1 (rw c.in-Some.is at c.in_ok-read.ensures.slots)
+    table_held c.args.parts.now.frames c.args.table c.in-Some.read.table c.requires.table (rw c.in-Some.is at c.in_ok-read.ensures.frames) c.rules.ensures.sizes.1 (rw c.in-Some.is at c.in_ok-read.ensures.slots)
 
 pub returns-clause-rows : goal.returns-clause-rows
 returns-clause-rows c =
     let parts = c.args.parts.now in
     let read = c.in-Some.read in
-    let R : Header → Type 0 = λ h. AreRead c.in_ok-table.table parts.rows h.clock read.table read.objects.items in
-    read_over c.in_ok-table.table read.table parts.rows parts.clock read.objects.items (subst R c.header.ensures (rw c.in-Some.is at c.in_ok-read.ensures.found)) (rw c.in-Some.is at c.in_ok-read.ensures.used)
+    let R : Header → Type 0 = λ h. AreRead c.args.table parts.rows h.clock read.table read.objects.items in
+    read_over c.args.table read.table parts.rows parts.clock read.objects.items (subst R c.header.ensures (rw c.in-Some.is at c.in_ok-read.ensures.found)) (rw c.in-Some.is at c.in_ok-read.ensures.used)

@@ -1,15 +1,41 @@
-use Rattle.std.proofs.Common.{◌≡◌, None, refl, inr}
-use Rattle.s4_types.specs.declared.refusals.Cause.TheVariants.{Chain}
-use Rattle.image_parts.specs.Image.{image_in}
-use Rattle.image_parts.specs.Causes.{Tested}
-use Rattle.verifier.specs.Rows.{ChainsStand}
-use Rattle.verifier.proofs.Faults.{parts_found, chain_fault}
+use Rattle.std.proofs.Common.{rules, ◌≡◌, ◌⊎◌, Some, None, IfOk, refl, subst, inl, inr}
+use Rattle.std.proofs.lemmas.Result.{IfOk-weaker, IfErr-weaker}
+use Rattle.s4_types.specs.declared.refusals.Cause.{Cause}
+use Rattle.s4_types.specs.declared.refusals.Refusal.{Refusal}
+use Rattle.s4_types.specs.declared.refusals.Refusal.TheVariants.{NoMemory, Damaged}
+use Rattle.image_parts.specs.Image.{Image, image_in}
+use Rattle.image_parts.specs.Causes.{HasDigest}
+use Rattle.verifier.specs.Grammar.{SpellsDrive, FirstFault}
+use Rattle.verifier.specs.Images.{IsImageOf}
+use Rattle.verifier.specs.private.Rest.{FirstRestCause}
+use Rattle.verifier.proofs.Faults.{rest_fault, spelled_where_none}
 use Rattle.verifier.proofs.verifying.verify.Goals as goal
 
-pub returns-in-Err-clause-damaged : goal.returns-in-Err-clause-damaged
-returns-in-Err-clause-damaged c =
-    inr (c.in-Err.cause, refl, parts_found c.args.bytes.now (Tested (ChainsStand (image_in c.args.bytes.now)) Chain (λ f. f ≡ None)) c.in-Err.cause c.in-Err.ensures.damaged)
+pub returns-clause-whole : goal.returns-clause-whole
+returns-clause-whole g c =
+    let bytes = c.args.bytes.now in
+    let digest : HasDigest bytes = search rules in
+    let parts = c.in-Ok.parts in
+    IfOk-weaker c.read_beside_digest-has_digest.result.1 (λ image. FirstRestCause parts None) (λ image. SpellsDrive bytes (image_in bytes))
+    (λ image none. spelled_where_none bytes (c.what_no_test_refuses_is_an_image.ensures bytes (λ i. (c.type_inv.bytes i).fits))
+    (rest_fault bytes parts None c.in-Ok.ensures.whole c.in-Ok.ensures.read c.in-Ok.ensures.header digest none))
+    c.read_beside_digest-has_digest.ensures.whole
 
-pub returns-in_default-clause-damaged : goal.returns-in_default-clause-damaged
-returns-in_default-clause-damaged c =
-    inr (Chain, refl, chain_fault c.args.bytes.now c.in-Ok.parts c.in-Ok.ensures.whole c.in-Ok.ensures.read (rw c.in_default.is at c.in_ok-read.ensures.none))
+pub returns-clause-told : goal.returns-clause-told
+returns-clause-told g c =
+    let P : Image → Type 0 = λ parts. IfOk c.read_beside_digest-has_digest.result.1 (λ image. IsImageOf parts image) in
+    subst P c.in-Ok.ensures.read c.read_beside_digest-has_digest.ensures.told
+
+pub returns-clause-damaged : goal.returns-clause-damaged
+returns-clause-damaged g c =
+    let bytes = c.args.bytes.now in
+    let digest : HasDigest bytes = search rules in
+    let parts = c.in-Ok.parts in
+    IfErr-weaker c.read_beside_digest-has_digest.result.1
+    (λ e. (e ≡ NoMemory) ⊎ ((cause : Cause) × (e ≡ Damaged cause) × FirstRestCause parts (Some cause)))
+    (λ e. (e ≡ NoMemory) ⊎ ((cause : Cause) × (e ≡ Damaged cause) × FirstFault bytes (Some cause)))
+    (λ e why. elim why [
+      | inl none ↦ inl none
+      | inr told ↦ inr (told.0, told.1, rest_fault bytes parts (Some told.0) c.in-Ok.ensures.whole c.in-Ok.ensures.read c.in-Ok.ensures.header digest told.2)
+    ])
+    c.read_beside_digest-has_digest.ensures.damaged

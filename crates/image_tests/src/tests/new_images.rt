@@ -1,7 +1,8 @@
 //! Images of a new drive, whole and damaged.
-use crate::read_parts;
+use crate::tests::cause_of;
 use s4_types::Cause;
 use sha2::{Digest, Sha256};
+use verifier::{Image, verify};
 
 /// The bytes of the image of a new drive of 16 frames, with a window of 100, with another last byte of each header field
 /// that a place tells.
@@ -26,40 +27,38 @@ fn empty_image() -> [u8; 672] {
     image_with(0, 0x53)
 }
 
-fn cause_of(bytes: &[u8]) -> Option<Cause> {
-    read_parts(bytes).err()
+/// Whether an image tells the numbers of the new drive.
+fn is_new(image: &Image) -> bool {
+    image.frames() == 16
+        && image.objects() == 0
+        && image.clock().number() == 0
+        && image.window() == 100
+        && image.floor().number() == 0
 }
 
 #[test]
 fn a_new_drive_is_read(rt: HostRuntime) {
-    let bytes = empty_image();
-    let Ok(parts) = read_parts(&bytes) else {
-        assert!(rt; false);
-        return;
-    };
-    let header = parts.header();
-    assert!(rt; header.frames == 16 && header.window == 100 && header.next.number() == 1);
-    assert!(rt; header.clock.number() == 0 && header.rows == 0 && header.spans == 0);
-    assert!(rt; parts.frames().count() == 16);
-    for frame in parts.frames() {
-        assert!(rt; frame.word() == 1 << 32 && frame.blocks().is_empty());
+    match verify(&rt, rt.alloc(), &empty_image()) {
+        Ok(image) => assert!(rt; is_new(&image)),
+        Err(_) => assert!(rt; false),
     }
-    assert!(rt; parts.rows().count() == 0 && parts.spans().count() == 0);
 }
 
 #[test]
 fn other_lengths(rt: HostRuntime) {
+    let alloc = rt.alloc();
     let bytes = empty_image();
     for count in [0, 543, 544, 640, 671] {
-        assert!(rt; cause_of(&bytes[..count]) == Some(Cause::Length));
+        assert!(rt; cause_of(&rt, alloc, &bytes[..count]) == Some(Cause::Length));
     }
     let mut longer = [0; 673];
     longer[..672].copy_from_slice(&bytes);
-    assert!(rt; cause_of(&longer) == Some(Cause::Length));
+    assert!(rt; cause_of(&rt, alloc, &longer) == Some(Cause::Length));
 }
 
 #[test]
 fn damaged_bytes(rt: HostRuntime) {
+    let alloc = rt.alloc();
     let cases = [
         (0, 0x54, Cause::Header), // the mark
         (9, 7, Cause::Header), // too few frames
@@ -79,14 +78,14 @@ fn damaged_bytes(rt: HostRuntime) {
     ];
     for (place, byte, cause) in cases {
         assert!(rt;
-            cause_of(&image_with(place, byte)) == Some(cause),
+            cause_of(&rt, alloc, &image_with(place, byte)) == Some(cause),
             "at {place}"
         );
     }
     let mut bytes = empty_image();
     bytes[671] ^= 1;
-    assert!(rt; cause_of(&bytes) == Some(Cause::Digest));
+    assert!(rt; cause_of(&rt, alloc, &bytes) == Some(Cause::Digest));
     bytes = empty_image();
     bytes[519] = 4;
-    assert!(rt; cause_of(&bytes) == Some(Cause::Digest));
+    assert!(rt; cause_of(&rt, alloc, &bytes) == Some(Cause::Digest));
 }
