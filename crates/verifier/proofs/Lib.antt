@@ -14,4 +14,7 @@ mod SavedRows
 mod SavedSpans
 mod FewRows
 mod SavedWhole
+mod OpenedRows
+mod OpenedBase
+mod OpenedSaved
 pub mod SavedFrames
