@@ -74,10 +74,10 @@ one_fits used held row clock x kept as_used =
       entries = subst F (sym kept.object) (subst G (sym kept.row) (subst E (sym as_used.entries) kept.entries));
     }
 
-listed_first : (row : ImageRow) (rows : List ImageRow) → Contains (row ∷ rows) row
+pub listed_first : (row : ImageRow) (rows : List ImageRow) → Contains (row ∷ rows) row
 listed_first row rows = Contains-append_left (row ∷ []) rows row (0, omega arith, refl)
 
-listed_later : (first : ImageRow) (rows : List ImageRow) (row : ImageRow) → Contains rows row → Contains (first ∷ rows) row
+pub listed_later : (first : ImageRow) (rows : List ImageRow) (row : ImageRow) → Contains rows row → Contains (first ∷ rows) row
 listed_later first rows row there = Contains-append_right (first ∷ []) rows row there
 
 pub all_fit : (used held : Place → Option Stored) (clock : ℕ) (rows : List ImageRow) (objects : List OpenedFields) → AreKept used rows objects → ((row : ImageRow) → Contains rows row → IsHeldAsUsed used held row clock 0)

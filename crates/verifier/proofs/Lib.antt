@@ -14,6 +14,9 @@ mod SavedRows
 mod SavedSpans
 mod FewRows
 mod SavedWhole
+mod OpenedRows
+mod OpenedBase
+mod OpenedSaved
 pub mod SavedFrames
 mod OneSpans
 mod OneRows

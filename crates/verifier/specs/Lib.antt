@@ -6,4 +6,5 @@ pub mod Images
 pub mod SavedFrame
 pub mod Saved
 pub mod SavedRows
+pub mod Opened
 pub mod private

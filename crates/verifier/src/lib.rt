@@ -13,6 +13,7 @@ pub mod laws;
 mod moments;
 mod objects;
 mod opening;
+pub mod opening_laws;
 mod rows;
 mod saved_frames;
 mod saved_rows;

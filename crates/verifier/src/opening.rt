@@ -1,9 +1,16 @@
 //! A drive that is opened from an image.
-ghost use Rattle.std.specs.Prelude.{◌≡◌, ◌⊎◌, IfOk, IfErr};
+ghost use Rattle.std.specs.Prelude.{◌≡◌, ℕ, List, ◌⊎◌, IfOk, IfErr};
 ghost use Rattle.s4_types.specs.declared.refusals.Refusal.TheVariants.{NoMemory, Busy};
-ghost use Rattle.version_store.specs.Opening.{rows_opened};
+ghost use Rattle.segment_table.specs.Room.{log_of};
+ghost use Rattle.version_store.specs.Store.{fields_of};
+ghost use Rattle.drive.specs.Opened.{base_of};
+ghost use Rattle.image_parts.specs.Image.{Image as Parts};
+ghost use Rattle.verifier.specs.Grammar.{SpellsDrive};
+ghost use Rattle.verifier.specs.Images.{IsImageOf};
+ghost use Rattle.verifier.specs.Opened.{IsOpenedOf, IsToldBy};
 
 use crate::images::Image;
+use crate::opening_laws::an_opened_drive_begins_as_its_image_tells;
 use drive::OpenedDrive;
 use s4_types::Refusal;
 use segment_table::SegmentTable;
@@ -11,22 +18,17 @@ use std::alloc::Global;
 use version_store::Store;
 use window::Window;
 
-/// A drive whose frames, rows, spans and numbers are the image's, and whose last change was at the image's clock. It has no
-/// name yet. What the image has is let go.
+/// A drive whose frames, rows, spans and numbers are the image's, and whose last change was at the image's clock. What its history
+/// begins with is what the parts of the image tell, where bytes spell these. It has no name yet. What the image has is let go.
 ///
 /// NoMemory where memory was refused, Busy where a count of those that share a part of the drive was full.
 pub fn open(alloc: Global, image: Image) -> Result<OpenedDrive, Refusal>
-    ensures frames { IfOk result (λ d. d.store.table.drive.frames ≡ image.table.drive.frames) }
-    ensures slots { IfOk result (λ d. d.store.table.slots ≡ image.table.slots) }
-    ensures rows { IfOk result (λ d. d.store.rows ≡ rows_opened image.objects) }
-    ensures latest { IfOk result (λ d. d.store.latest ≡ image.clock) }
-    ensures clock { IfOk result (λ d. d.timeline.clock ≡ image.clock) }
-    ensures window { IfOk result (λ d. d.timeline.window ≡ image.window) }
-    ensures floor { IfOk result (λ d. d.timeline.floor ≡ image.floor) }
-    ensures spans { IfOk result (λ d. d.timeline.runs ≡ image.spans) }
-    ensures next { IfOk result (λ d. d.next ≡ image.next) }
+    ensures opened { IfOk result (λ d. IsOpenedOf image d) }
+    ensures base { IfOk result (λ d. (bytes : List ℕ) (parts : Parts) → SpellsDrive bytes parts → IsImageOf parts image
+        → IsToldBy parts (base_of (fields_of log_of d.store) d.timeline d.next)) }
     ensures refusal { IfErr result (λ e. (e ≡ NoMemory) ⊎ (e ≡ Busy)) }
 {
+    an_opened_drive_begins_as_its_image_tells();
     let Image {
         clock,
         window,
