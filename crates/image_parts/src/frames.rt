@@ -8,10 +8,10 @@ use s4_types::limits::BLOCK_BYTES;
 use std::marker::Model;
 
 /// Bytes of a frame's word.
-const WORD_BYTES: usize = 8;
+pub(crate) const WORD_BYTES: usize = 8;
 
 /// Bytes of a frame's blocks.
-const CONTENTS_BYTES: usize = 8192;
+pub(crate) const CONTENTS_BYTES: usize = 8192;
 
 /// A frame of an image: its word, and its 16 blocks, or none where it is free.
 #[derive(Debug, Drop)]

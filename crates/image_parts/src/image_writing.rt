@@ -1,4 +1,4 @@
-ghost use Rattle.std.specs.Prelude.{◌≡◌, ◌++◌, OnOk, IfErr};
+ghost use Rattle.std.specs.Prelude.{◌≡◌, ◌+◌, ◌*◌, ◌++◌, OnOk, IfErr};
 ghost use Rattle.std.specs.Int.{w64};
 ghost use Rattle.std.specs.List.{concat};
 ghost use Rattle.sha2.specs.Sha256.{sha256};
@@ -8,8 +8,11 @@ ghost use Rattle.image_parts.specs.Header.{header_bytes};
 ghost use Rattle.image_parts.specs.Rows.{row_bytes};
 ghost use Rattle.image_parts.specs.Spans.{span_bytes};
 
-use crate::headers::{Header, spelling_of};
-use crate::rows::RowPart;
+use crate::digests::DIGEST_BYTES;
+use crate::frames::{CONTENTS_BYTES, WORD_BYTES};
+use crate::headers::{HEADER_BYTES, Header, spelling_of};
+use crate::rows::{ROW_BYTES, RowPart};
+use crate::spans::SPAN_BYTES;
 use block_log::Block;
 use s4_types::{Refusal, Span};
 use sha2::{Digest, Sha256};
@@ -21,6 +24,16 @@ fn push_long(out: &mut Vec<u8>, n: u64) -> Result<(), Refusal>
 {
     out.extend_from_slice(&n.to_be_bytes())?;
     Ok(())
+}
+
+/// How many bytes an image has of so many frames, of which some aren't free and so have blocks, and of so many rows and spans.
+pub fn image_length(frames: u16, with_blocks: u16, rows: u32, spans: u32) -> usize
+    ensures { result ≡ 512 + 8 * frames + 8192 * with_blocks + 40 * rows + 24 * spans + 32 }
+{
+    let words = WORD_BYTES * frames as usize;
+    let contents = CONTENTS_BYTES * with_blocks as usize;
+    let behind = ROW_BYTES * rows as usize + SPAN_BYTES * spans as usize + DIGEST_BYTES;
+    HEADER_BYTES + words + contents + behind
 }
 
 /// Adds a header. The only error is NoMemory.

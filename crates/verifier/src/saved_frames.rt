@@ -39,6 +39,19 @@ fn push_saved<J: Naming>(
     push_frame(out, word, blocks)
 }
 
+/// How many frames of a drive are saved with their blocks: those that aren't free.
+pub(crate) fn frames_with_blocks<J: Naming>(drive: &mut Drive<J>) -> u16
+    ensures { drive.new ≡ drive.old }
+{
+    let mut count = 0;
+    for frame in 0..drive.frame_count() {
+        if drive.saved_word(frame) % STATES != 0 {
+            count += 1;
+        }
+    }
+    count
+}
+
 /// Adds the frames of a drive, as an image has them. NoMemory alone, after which some of them may have been added.
 pub(crate) fn push_frames<J: Naming>(drive: &mut Drive<J>, out: &mut Vec<u8>) -> Result<(), Refusal>
     ensures frames { IfOk result (λ _. AddsFrames drive.old.store.table out.old.items out.new.items) }

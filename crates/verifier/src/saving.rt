@@ -1,14 +1,14 @@
 //! The image of a drive, written.
-ghost use Rattle.std.specs.Prelude.{◌≡◌, ◌≤◌, ◌<◌, ◌^◌, length, IfOk, IfErr};
+ghost use Rattle.std.specs.Prelude.{◌≡◌, ◌≤◌, ◌<◌, ◌^◌, [], length, IfOk, IfErr};
 ghost use Rattle.s4_types.specs.declared.refusals.Refusal.TheVariants.{NoMemory};
 ghost use Rattle.drive.specs.Fields.{state_in};
 ghost use Rattle.verifier.specs.Saved.{SpellsSaved};
 
-use crate::saved_frames::push_frames;
+use crate::saved_frames::{frames_with_blocks, push_frames};
 use crate::saved_rows::{push_rows, push_spans, rows_saved};
 use drive::Drive;
 use image_objects::saving_laws::a_store_stands_in_its_image;
-use image_parts::{Header, push_digest, push_header};
+use image_parts::{Header, image_length, push_digest, push_header};
 use s4_types::Refusal;
 use segment_word::Naming;
 use std::alloc::Global;
@@ -37,6 +37,23 @@ fn header_of<J: Naming>(drive: &Drive<J>, rows: u32, spans: u32) -> Header
     }
 }
 
+/// An empty list with room for the whole image of a drive with so many rows and spans, so that it isn't moved while it grows: no
+/// second copy of it stands beside the drive. NoMemory alone.
+fn room_for_image<J: Naming>(
+    alloc: Global,
+    drive: &mut Drive<J>,
+    rows: u32,
+    spans: u32,
+) -> Result<Vec<u8>, Refusal>
+    ensures empty { IfOk result (λ out. out.items ≡ []) }
+    ensures refusal { IfErr result (λ e. e ≡ NoMemory) }
+    ensures same { drive.new ≡ drive.old }
+{
+    let length = image_length(drive.frame_count(), frames_with_blocks(drive), rows, spans);
+    let out = Vec::with_capacity(alloc, length)?;
+    Ok(out)
+}
+
 /// The image of a drive, which stays as it is: its clock, window, floor and next number, its frames with what is used of them, its
 /// rows by ascending object, and the spans that hide its moments from the floor on.
 ///
@@ -51,7 +68,7 @@ pub fn save<J: Naming>(alloc: Global, drive: &mut Drive<J>) -> Result<Vec<u8>, R
     let rows = rows_saved(alloc, drive)?;
     let spans = drive.spans()?;
     let header = header_of(drive, rows.len() as u32, spans.len() as u32);
-    let mut out = Vec::new(alloc);
+    let mut out = room_for_image(alloc, drive, header.rows, header.spans)?;
     push_header(&mut out, &header)?;
     push_frames(drive, &mut out)?;
     push_rows(&mut out, rows.as_slice())?;

@@ -38,7 +38,7 @@ returns-clause-saved g c =
       window_fits = head.window_fits;
       next_fits = head.next_fits;
     } in
-    let begun : c.push_header.new.out.items ≡ [] ++ header_bytes h = c.in_ok-push_header.ensures.items ∙ ap (λ (l : List ℕ). l ++ header_bytes h) c.new-out.ensures.items in
+    let begun : c.push_header.new.out.items ≡ [] ++ header_bytes h = c.in_ok-push_header.ensures.items ∙ ap (λ (l : List ℕ). l ++ header_bytes h) c.in_ok-out.ensures.empty in
     let adds : AddsFrames d.store.table ([] ++ header_bytes h) c.push_frames.new.out.items =
     subst (λ (l : List ℕ). AddsFrames d.store.table l c.push_frames.new.out.items) begun c.in_ok-push_frames.ensures.frames in
     let parts : c.push_spans.new.out.items ≡ (c.push_frames.new.out.items ++ flat_map row_bytes rows) ++ flat_map span_bytes spans =
