@@ -26,12 +26,12 @@ run() {
     "$program" "$@"
 }
 
-# Serves one client, with no upkeep beside it, and shows its requests and its replies.
+# Serves one session of a role, with no upkeep beside it, and shows its requests and its replies.
 session() {
-    python3 -B "$here/hex.py" bytes "$here/story_$1.hex" > "$1.in"
-    run run --no-upkeep drive.image "client:$1.in:$1.out"
-    sed 's/^/  > /' <(python3 -B "$here/hex.py" requests < "$1.in")
-    sed 's/^/  < /' <(python3 -B "$here/hex.py" replies < "$1.out")
+    python3 -B "$here/hex.py" bytes "$here/story_$2.hex" > "$2.in"
+    run run --no-upkeep drive.image "$1:$2.in:$2.out"
+    sed 's/^/  > /' <(python3 -B "$here/hex.py" requests < "$2.in")
+    sed 's/^/  < /' <(python3 -B "$here/hex.py" replies < "$2.out")
 }
 
 echo "# A new drive"
@@ -39,16 +39,21 @@ run new drive.image 16
 run verify drive.image
 echo
 echo "# Its owner makes an object"
-session owner
+session client owner
 echo
 echo "# An intruder comes"
-session intruder
+session client intruder
 run verify drive.image
 echo
-echo "# What was there at moment 2, and what the intruder made of it at moment 4"
+echo "# An administrator reads what was there before"
+session admin admin
+echo
+echo "# So does anybody who has the image"
 run at drive.image 1 2
 echo
-run at drive.image 1 4
 echo
 echo "# The object isn't there any more"
 run at drive.image 1 5 || echo "(status $?)"
+echo
+echo "# The image is whole"
+run verify drive.image
