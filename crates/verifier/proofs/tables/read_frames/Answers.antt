@@ -1,5 +1,4 @@
 use Rattle.std.proofs.Common.{◌+◌, ◌||◌, Bool, true≢false, sym, subst, ◌∙◌}
-use Rattle.image_parts.specs.Frames.{is_open}
 use Rattle.verifier.proofs.Frames.{AreSet, none_before, one_set}
 use Rattle.verifier.proofs.tables.read_frames.Goals.{else-has_open-via-then-has_open+else-is_open, else-has_open-via-else-has_open}
 use Rattle.verifier.proofs.tables.read_frames.Goals as goal
