@@ -75,6 +75,6 @@ begins_as_told tells lists as_used summary pointer bytes parts image x spells is
       rows = is.rows;
       spelled = is.spelled;
       versions = λ o t. (tells s x.timeline x.next o t store none ∙ ap (λ (k : StoreFields). version_in k o t) same
-      ∙ version_stored as_used summary pointer bytes parts image o t spells is);
+          ∙ version_stored as_used summary pointer bytes parts image o t spells is);
       listed = lists s x.timeline x.next store;
     }
