@@ -18,3 +18,7 @@ mod OpenedRows
 mod OpenedBase
 mod OpenedSaved
 pub mod SavedFrames
+mod OneSpans
+mod OneRows
+mod OneFrames
+mod OneImage

@@ -1,9 +1,14 @@
 //! Laws of the images of drives, for the layers above: each function does nothing, and its contract is the law.
 ghost use Rattle.std.specs.Prelude.{◌≡◌, ◌↔◌, ℕ, List, Option, Some, None};
 ghost use Rattle.s4_types.specs.declared.refusals.Cause.{Cause as Found};
+ghost use Rattle.s4_types.specs.declared.spans.Span.{Span as Hidden};
 ghost use Rattle.image_parts.specs.Header.{AreBytes};
 ghost use Rattle.image_parts.specs.Image.{Image as Parts, image_in};
+ghost use Rattle.window.specs.Runs.{Ascend, AllBeginFrom};
+ghost use Rattle.window.specs.Timeline.{CoverAlike};
+ghost use Rattle.drive.specs.Fields.{DriveFields};
 ghost use Rattle.verifier.specs.Grammar.{SpellsDrive, FirstFault};
+ghost use Rattle.verifier.specs.Saved.{SpellsSaved};
 
 use image_parts::laws::{an_image_is_read, what_no_test_refuses_is_an_image};
 
@@ -26,4 +31,14 @@ pub fn what_has_no_fault_is_an_image()
 /// The tests come to one cause, or to none.
 pub fn one_first_fault()
     ensures { (bytes : List ℕ) (found other : Option Found) → FirstFault bytes found → FirstFault bytes other → found ≡ other }
+{}
+
+/// Spans in order, from a floor on, are told by what they hide: two such lists that cover the same moments of the same lists are equal.
+pub fn spans_that_cover_alike_are_equal()
+    ensures { (floor : ℕ) (spans others : List Hidden) → Ascend spans → Ascend others → AllBeginFrom floor spans → AllBeginFrom floor others → CoverAlike floor spans others → spans ≡ others }
+{}
+
+/// A drive is saved as one list of bytes: two lists that both spell an image of it are equal.
+pub fn one_image_a_drive()
+    ensures { (d : DriveFields) (bytes other : List ℕ) → SpellsSaved d bytes → SpellsSaved d other → bytes ≡ other }
 {}
