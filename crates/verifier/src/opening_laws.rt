@@ -10,6 +10,7 @@ ghost use Rattle.verifier.specs.Images.{ImageFields, CanBeOpened, IsImageOf};
 ghost use Rattle.verifier.specs.Saved.{SpellsSaved};
 ghost use Rattle.verifier.specs.Opened.{IsOpenedOf, IsToldBy, IsNamedOf};
 
+use crate::laws::one_image_a_drive;
 use codec::laws::{one_pointer_a_spelling, one_summary_a_spelling};
 use drive::laws::a_base_is_what_its_objects_stand_for;
 use image_objects::laws::an_object_that_stands_is_held;
@@ -31,3 +32,13 @@ pub fn an_image_spells_the_drive_opened_from_it()
     ensures { (bytes : List ℕ) (parts : Parts) (image : ImageFields) (opened : OpenedFields) (d : DriveFields) → SpellsDrive bytes parts → IsImageOf parts image → IsOpenedOf image opened → IsNamedOf opened d
         → SpellsSaved d bytes }
 {}
+
+/// What was verified, opened and saved again is the same list of bytes: a drive that has begun with what an image tells, and that nothing
+/// has happened to, is saved as just the bytes that it was opened from.
+pub fn what_is_opened_is_saved_as_it_was()
+    ensures { (bytes saved : List ℕ) (parts : Parts) (image : ImageFields) (opened : OpenedFields) (d : DriveFields) → SpellsDrive bytes parts → IsImageOf parts image → IsOpenedOf image opened → IsNamedOf opened d
+        → SpellsSaved d saved → saved ≡ bytes }
+{
+    one_image_a_drive();
+    an_image_spells_the_drive_opened_from_it();
+}
