@@ -21,7 +21,8 @@ use Rattle.verifier.specs.Rows.{SpellRows, ChainsStand}
 use Rattle.verifier.specs.Grammar.{SpellsDrive}
 use Rattle.verifier.specs.Images.{ImageFields, store_in, CanBeOpened, IsImageOf}
 use Rattle.verifier.specs.Opened.{version_of_rows, IsOpenedOf, IsToldBy}
-use Rattle.verifier.proofs.Retold.{OneSummaryASpelling, used_same}
+use Rattle.verifier.proofs.Frames.{OneSummaryASpelling}
+use Rattle.verifier.proofs.Retold.{used_same}
 use Rattle.verifier.proofs.KeptRows.{rows_ascend, rows_listed}
 use Rattle.verifier.proofs.Verified.{AreHeldAsUsed}
 use Rattle.verifier.proofs.OpenedRows.{OnePointerASpelling, rows_same, version_kept}
@@ -75,6 +76,6 @@ begins_as_told tells lists as_used summary pointer bytes parts image x spells is
       rows = is.rows;
       spelled = is.spelled;
       versions = λ o t. (tells s x.timeline x.next o t store none ∙ ap (λ (k : StoreFields). version_in k o t) same
-      ∙ version_stored as_used summary pointer bytes parts image o t spells is);
+          ∙ version_stored as_used summary pointer bytes parts image o t spells is);
       listed = lists s x.timeline x.next store;
     }

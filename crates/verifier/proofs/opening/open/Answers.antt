@@ -1,6 +1,23 @@
-use Rattle.std.proofs.Common.{sym, subst}
+use Rattle.std.proofs.Common.{rules, ℕ, List, IfOk, sym, subst, arith}
+use Rattle.std.proofs.lemmas.Grind.{common_steps}
+use Rattle.std.proofs.lemmas.Result.{IfOk-weaker}
+use Rattle.segment_table.specs.Room.{log_of}
+use Rattle.version_store.specs.Store.{fields_of}
 use Rattle.window.specs.Runs.{AreFewInEachList}
+use Rattle.drive.specs.Opened.{base_of}
+use Rattle.image_parts.specs.Image.{Image}
+use Rattle.verifier.specs.Grammar.{SpellsDrive}
+use Rattle.verifier.specs.Images.{CanBeOpened, IsImageOf}
+use Rattle.verifier.specs.Opened.{IsOpenedOf, IsToldBy}
 use Rattle.verifier.proofs.opening.open.Goals as goal
 
 pub from_parts-requires-3-clause-few_in_each_list : goal.from_parts-requires-3-clause-few_in_each_list
 from_parts-requires-3-clause-few_in_each_list c = subst AreFewInEachList (sym c.as_slice.ensures.value) c.image.invariant.few_in_each_list
+
+-- what has the image's parts begins as they tell
+pub returns-clause-base : goal.returns-clause-base
+returns-clause-base c =
+    let has : IfOk c.from_parts-4.result (λ d. IsOpenedOf c.args.image d) = first_of (search rules, grind (arith, common_steps)) in
+    IfOk-weaker c.from_parts-4.result (λ d. IsOpenedOf c.args.image d)
+    (λ d. (bytes : List ℕ) (parts : Image) → SpellsDrive bytes parts → IsImageOf parts c.args.image → IsToldBy parts (base_of (fields_of log_of d.store) d.timeline d.next))
+    (λ d is bytes parts spells told. c.an_opened_drive_begins_as_its_image_tells.ensures bytes parts c.args.image d spells told (subst CanBeOpened c.image.view_is c.image.invariant) is) has

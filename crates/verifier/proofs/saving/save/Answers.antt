@@ -40,7 +40,8 @@ returns-clause-saved g c =
     } in
     let begun : c.push_header.new.out.items ≡ [] ++ header_bytes h = c.in_ok-push_header.ensures.items ∙ ap (λ (l : List ℕ). l ++ header_bytes h) c.in_ok-out.ensures.empty in
     let adds : AddsFrames d.store.table ([] ++ header_bytes h) c.push_frames.new.out.items =
-    subst (λ (l : List ℕ). AddsFrames d.store.table l c.push_frames.new.out.items) begun c.in_ok-push_frames.ensures.frames in
+    subst (λ (l : List ℕ). AddsFrames d.store.table l c.push_frames.new.out.items) begun
+    (subst (λ (before : DriveFields). AddsFrames before.store.table c.push_header.new.out.items c.push_frames.new.out.items) c.in_ok-out.ensures.same c.in_ok-push_frames.ensures.frames) in
     let parts : c.push_spans.new.out.items ≡ (c.push_frames.new.out.items ++ flat_map row_bytes rows) ++ flat_map span_bytes spans =
     c.in_ok-push_spans.ensures.items ∙ ap (λ l. l ++ flat_map span_bytes c.as_slice-2.result.now) (c.in_ok-push_rows.ensures.items ∙ ap (λ r. c.push_frames.new.out.items ++ flat_map row_bytes r) c.as_slice.ensures.value)
     ∙ ap (λ r. (c.push_frames.new.out.items ++ flat_map row_bytes rows) ++ flat_map span_bytes r) c.as_slice-2.ensures.value in
