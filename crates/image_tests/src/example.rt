@@ -40,7 +40,7 @@ const OPEN: u64 = 0x1_0000_0001;
 const FREE: u64 = 0x1_0000_0000;
 
 /// Puts bytes at a place, as far as the image reaches.
-pub fn put(bytes: &mut Example, place: usize, new: &[u8]) {
+pub fn put(bytes: &mut [u8], place: usize, new: &[u8]) {
     for i in 0..new.len() {
         if let Some(byte) = bytes.get_mut(place.saturating_add(i)) {
             *byte = new[i];
@@ -48,7 +48,8 @@ pub fn put(bytes: &mut Example, place: usize, new: &[u8]) {
     }
 }
 
-fn put_long(bytes: &mut Example, place: usize, number: u64) {
+/// Puts a number of eight bytes at a place, as far as the image reaches.
+pub fn put_long(bytes: &mut [u8], place: usize, number: u64) {
     put(bytes, place, &number.to_be_bytes());
 }
 
@@ -76,20 +77,29 @@ fn put_summary(bytes: &mut Example) {
     put(bytes, SUMMARY + 34, &[1, 0, 0, 0, 0, 0, 0, 0, 1]);
 }
 
-/// The entry of the making: moment 10, alive after.
-fn put_making(bytes: &mut Example, place: usize) {
-    put_long(bytes, place, 10);
+/// The entry of a making: its moment, alive after.
+pub fn put_making(bytes: &mut [u8], place: usize, moment: u64) {
+    put_long(bytes, place, moment);
     put(bytes, place.saturating_add(8), &[2, 0]);
-    put_long(bytes, place.saturating_add(26), 10);
+    put_long(bytes, place.saturating_add(26), moment);
 }
 
-/// The entry of the write: moment 11, alive before and after, one pointer more, size 0 to 3, changed 10 to 11.
-fn put_write(bytes: &mut Example) {
-    put_long(bytes, WRITE_ENTRY, 11);
-    put(bytes, WRITE_ENTRY + 8, &[3, 1, 0, 0, 0, 0, 0, 0, 0, 3]);
-    put_long(bytes, WRITE_ENTRY + 18, 10);
-    put_long(bytes, WRITE_ENTRY + 26, 11);
-    put(bytes, WRITE_ENTRY + 43, &[0, 0, 2, 0, 0, 0, 0, 1]);
+/// The entry of a write of three bytes behind a making: its moment, alive before and after, one pointer more, which leads to a block
+/// of frame 0, size 0 to 3, and when the object was changed before.
+pub fn put_write(bytes: &mut [u8], place: usize, moment: u64, made: u64, block: u8) {
+    put_long(bytes, place, moment);
+    put(
+        bytes,
+        place.saturating_add(8),
+        &[3, 1, 0, 0, 0, 0, 0, 0, 0, 3],
+    );
+    put_long(bytes, place.saturating_add(18), made);
+    put_long(bytes, place.saturating_add(26), moment);
+    put(
+        bytes,
+        place.saturating_add(43),
+        &[0, 0, block, 0, 0, 0, 0, 1],
+    );
 }
 
 fn put_blocks(bytes: &mut Example) {
@@ -98,15 +108,15 @@ fn put_blocks(bytes: &mut Example) {
         FIRST_JOURNAL,
         &[1, 1, 0, 34, 0, 0, 0, 0, 0, 0, 0, 0, 0, 0, 0, 1],
     );
-    put_making(bytes, FIRST_JOURNAL + 24);
+    put_making(bytes, FIRST_JOURNAL + 24, 10);
     put(bytes, DATA, b"abc");
     put(
         bytes,
         JOURNAL,
         &[1, 2, 0, 85, 0, 0, 0, 0, 0, 0, 0, 0, 0, 0, 0, 1],
     );
-    put_making(bytes, JOURNAL + 24);
-    put_write(bytes);
+    put_making(bytes, JOURNAL + 24, 10);
+    put_write(bytes, WRITE_ENTRY, 11, 10, 2);
 }
 
 fn put_row(bytes: &mut Example) {

@@ -1,7 +1,9 @@
-//! The worked image, whole, damaged and opened, and images of new drives.
+//! The worked image, whole, damaged and opened, with spans and with a second object, and images of new drives.
 mod damaged;
 mod new_images;
 mod opened;
+mod spans;
+mod two_objects;
 
 use s4_types::{Cause, Refusal};
 use std::alloc::Global;

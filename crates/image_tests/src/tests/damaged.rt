@@ -61,10 +61,11 @@ fn a_byte_of_the_data(rt: HostRuntime) {
 #[test]
 fn one_part_is_changed(rt: HostRuntime) {
     let alloc = rt.alloc();
-    let cases: [(usize, &[u8], Cause); 18] = [
+    let cases: [(usize, &[u8], Cause); 19] = [
         (8, &[0, 7], Header), // too few frames
         (48, &[0, 0, 0, 2], Length), // a row more
         (48, &[255, 255, 255, 255], Length), // as many rows as a number can tell
+        (52, &[255, 255, 255, 255], Length), // as many spans
         (FRAMES, &[0, 0, 0, 1, 0, 0, 0, 5], Frame), // a reader
         (40, &[0, 0, 0, 0, 0, 0, 0, 1], Row), // the object wasn't given
         (16, &[0, 0, 0, 0, 0, 0, 0, 9], Row), // it was made behind the clock
