@@ -10,8 +10,9 @@ use std::thread::Threads;
 use std::time::Clock;
 
 /// Three objects are made at the moments 1 to 3. Object 2 is written, and deleted at 5. Then come, from 6 on: "first" in object 1,
-/// "other" in 3, "later" over object 1, "st" behind its third byte, and its cut to three bytes; at 11 "OTHER" over object 3, its growth
-/// to eight bytes, an attribute of object 1, and the end of object 3; at 15 flushes of moment 9, and of 11 for object 3, and a window of 10.
+/// "other" in 3, "later" over object 1, "st" behind its third byte, and its cut to three bytes; at 11 "OTHER" over object 3, its
+/// growth to eight bytes, an attribute of object 1, and the end of object 3; at 15 flushes of moment 9, and of 11 for object 3, and
+/// a window of 10.
 static EDITS: &str =
     "00000002 01 00 00000002 01 00 00000002 01 00 00000016 04 0000000000000002 0000000000000000 6561726c79 00000009 02 0000000000000002 00000016 04 0000000000000001 0000000000000000 6669727374 00000016 04 0000000000000003 0000000000000000 6f74686572 00000016 04 0000000000000001 0000000000000000 6c61746572 00000013 04 0000000000000001 0000000000000003 7374 00000011 06 0000000000000001 0000000000000003 00000016 04 0000000000000003 0000000000000000 4f54484552 00000011 06 0000000000000003 0000000000000008 0000000b 08 0000000000000001 01 6b 00000009 02 0000000000000003 00000011 0a 0000000000000009 0000000000000009 00000019 0b 0000000000000003 000000000000000b 000000000000000b 00000009 09 000000000000000a";
 
