@@ -61,11 +61,11 @@ pub fn perform<T: Threads + Wait + Clock + Sync, F: Files, S: AsStr, R: Source, 
             Ok(()) => pass_on(writer, errors),
             Err(fault) => fail(errors, fault),
         },
-        Ok(Command::Verify(asked)) => match verify_file(alloc, files, asked, writer) {
+        Ok(Command::Verify(asked)) => match verify_file(rt, alloc, files, asked, writer) {
             Ok(()) => DONE,
             Err(fault) => fail(errors, fault),
         },
-        Ok(Command::At(asked)) => match write_object(alloc, files, asked, writer) {
+        Ok(Command::At(asked)) => match write_object(rt, alloc, files, asked, writer) {
             Ok(()) => DONE,
             Err(fault) => fail(errors, fault),
         },

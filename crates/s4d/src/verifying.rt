@@ -2,7 +2,7 @@
 ghost use Rattle.std.specs.Prelude.{◌≡◌, ◌+◌, ◌^◌, ◌<◌, [], IfOk, OnOk, string_bytes};
 ghost use Rattle.std.specs.Io.KnownBytes.{Appends};
 ghost use Rattle.serving.specs.Streams.{taken_by};
-ghost use Rattle.s4d.specs.Verifying.{number_line};
+ghost use Rattle.s4d.specs.Verifying.{number_line, image_line, IsVerified, TellsImage};
 
 use crate::faults::{Fault, reading};
 use crate::files::Files;
@@ -10,14 +10,18 @@ use s4_types::{Moment, Refusal};
 use s4d_command::Verify;
 use serving::Sink;
 use std::alloc::{AllocError, Global};
+use std::thread::Threads;
 use verifier::{Image, verify};
 
 /// The image in a file, which was verified.
-pub fn read_image<'a, F: Files>(
+pub fn read_image<'a, T: Threads, F: Files>(
+    rt: &T,
     alloc: Global,
     files: &F,
     path: &'a str,
-) -> Result<Image, Fault<'a>> {
+) -> Result<Image, Fault<'a>>
+    ensures verified { IfOk result IsVerified }
+{
     let bytes = match files.read_whole(alloc, path) {
         Ok(bytes) => bytes,
         Err(error) => return Err(reading(error, path)),
@@ -29,19 +33,34 @@ pub fn read_image<'a, F: Files>(
 }
 
 /// Writes the line of an image's numbers, where the file has one.
-pub fn verify_file<'a, F: Files, W: Sink>(
+pub fn verify_file<'a, T: Threads, F: Files, W: Sink>(
+    rt: &T,
     alloc: Global,
     files: &F,
     asked: Verify<'a>,
     writer: &mut W,
 ) -> Result<(), Fault<'a>>
     requires writer { W.failures writer.old + 1 < 2 ^ 64 }
+    ensures line { OnOk result (TellsImage (taken_by W.passed W.held writer.old) (taken_by W.passed W.held writer.new)) }
     ensures passed { OnOk result (W.held writer.new ≡ []) }
 {
-    let image = match read_image(alloc, files, asked.image) {
+    let image = match read_image(rt, alloc, files, asked.image) {
         Ok(image) => image,
         Err(fault) => return Err(fault),
     };
+    write_image_numbers(alloc, &image, writer)
+}
+
+// Writes the line of an image's numbers, and passes it on.
+fn write_image_numbers<'a, W: Sink>(
+    alloc: Global,
+    image: &Image,
+    writer: &mut W,
+) -> Result<(), Fault<'a>>
+    requires writer { W.failures writer.old + 1 < 2 ^ 64 }
+    ensures line { OnOk result (Appends (taken_by W.passed W.held writer.old) (taken_by W.passed W.held writer.new) (image_line image.now)) }
+    ensures passed { OnOk result (W.held writer.new ≡ []) }
+{
     write_numbers(
         alloc,
         image.frames(),
