@@ -1,3 +1,4 @@
 pub mod Performing
 pub mod Piping
+pub mod Running
 pub mod Verifying

@@ -1,8 +1,28 @@
--- The line that `verify` writes.
-use Rattle.std.specs.Prelude.{ℕ, ◌++◌, List, codes, decimal}
+-- The line that `verify` writes, and the image that it tells of.
+use Rattle.std.specs.Prelude.{ℕ, ◌++◌, List, Option, codes, decimal, length}
+use Rattle.std.specs.Io.KnownBytes.{Appends}
+use Rattle.image_parts.specs.Image.{image_in}
+use Rattle.verifier.specs.Grammar.{SpellsDrive}
+use Rattle.verifier.specs.Images.{ImageFields, IsImageOf}
 
 -- the line of an image's frames, objects, clock, window and floor
 abbrev pub number_line : (frames objects clock window floor : ℕ) → List ℕ
 number_line frames objects clock window floor =
     codes "ok frames=" ++ (decimal frames ++ (codes " objects=" ++ (decimal objects ++ (codes " clock=" ++ (decimal clock
     ++ (codes " window=" ++ (decimal window ++ (codes " floor=" ++ (decimal floor ++ codes "\n")))))))))
+
+-- the line of what an image tells
+abbrev pub image_line : ImageFields → List ℕ
+image_line image = number_line (length image.table.drive.frames) (length image.objects) image.clock image.window image.floor
+
+-- an image that was verified: some bytes spell a drive, and it is what they tell
+pub record IsVerified (image : ImageFields) : Type 0 where
+  pub bytes : List ℕ
+  pub spelled : SpellsDrive bytes (image_in bytes)
+  pub told : IsImageOf (image_in bytes) image
+
+-- the output has the line of an image that was verified behind it
+pub record TellsImage (output output' : Option (List ℕ)) : Type 0 where
+  pub image : ImageFields
+  pub verified : IsVerified image
+  pub line : Appends output output' (image_line image)

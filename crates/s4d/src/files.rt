@@ -4,6 +4,9 @@ use std::alloc::Global;
 use std::fs::{self, File};
 use std::io::{self, Read, Write};
 
+/// How many names are tried for the file that is written beside another.
+const MOST_BESIDE: u32 = 100;
+
 /// Files, each found by its path. An error of the kind `OutOfMemory` says that a growth was refused.
 pub trait Files {
     /// What an opened file is read by.
@@ -43,10 +46,10 @@ impl Files for HostRuntime {
         File::create(self, path)
     }
 
-    // The bytes are written to a file beside it, and are on the disk before that takes the old one's path.
+    // The bytes are written to a file of this call's own beside it, and are on the disk before that takes the old one's path.
     fn replace(&mut self, alloc: Global, path: &str, bytes: &[u8]) -> io::Result<()> {
-        let beside = format!(in alloc; "{path}.new")?;
-        let put = match write_synced(self, beside.as_str(), bytes) {
+        let (beside, file) = make_beside(self, alloc, path)?;
+        let put = match write_synced(file, bytes) {
             Ok(()) => fs::rename(self, beside.as_str(), path),
             Err(error) => Err(error),
         };
@@ -58,9 +61,34 @@ impl Files for HostRuntime {
     }
 }
 
-// Makes a file of these bytes, and returns once they are on the disk.
-fn write_synced(rt: &HostRuntime, path: &str, bytes: &[u8]) -> io::Result<()> {
-    let mut file = File::create(rt, path)?;
+// Makes a file beside this path, by the first name that no file has: `PATH.new`, `PATH.new.1` and so on. So nobody else
+// writes it, and no file that was there is lost.
+//
+// AlreadyExists where all names are taken, OutOfMemory where the memory for a name is refused.
+fn make_beside(rt: &HostRuntime, alloc: Global, path: &str) -> io::Result<(String, File)> {
+    for number in 0..MOST_BESIDE {
+        let beside = name_beside(alloc, path, number)?;
+        match File::create_new(rt, beside.as_str()) {
+            Ok(file) => return Ok((beside, file)),
+            Err(error) if error.kind() == io::ErrorKind::AlreadyExists => {}
+            Err(error) => return Err(error),
+        }
+    }
+    Err(io::Error::from(io::ErrorKind::AlreadyExists))
+}
+
+// The name of that number beside a path.
+fn name_beside(alloc: Global, path: &str, number: u32) -> io::Result<String> {
+    let name = match number {
+        0 => format!(in alloc; "{path}.new")?,
+        _ => format!(in alloc; "{path}.new.{number}")?,
+    };
+    Ok(name)
+}
+
+// Writes these bytes, and returns once they are on the disk. The file is closed then.
+fn write_synced(file: File, bytes: &[u8]) -> io::Result<()> {
+    let mut file = file;
     file.write_all(bytes)?;
     file.sync_all()
 }

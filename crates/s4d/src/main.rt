@@ -2,9 +2,10 @@
 //!
 //! `perform` does what a line of words asks for, over any files, reader and writers, and `main` calls it with the
 //! system's files and the standard streams; of `pipe` on a thread whose stack is had before anything is read. What its session
-//! reads, answers and writes is proved, and what the status says of it. What a file holds is known to no proof: of the other
-//! commands it is proved that they do with bytes what the crates below promise; their files and the texts on standard error are
-//! tested.
+//! reads, answers and writes is proved, and what the status says of it. What a file holds is known to no proof. Of the other
+//! commands it is proved what line `verify` writes of an image that was verified, that each part that `at` writes was read of the
+//! drive's past, that each session of `run` was attended, and that what it saves is a drive that began with what was opened. That
+//! the right bytes come from files and go to them is tested, and so are the texts on standard error.
 #![tactic(auto)]
 
 ghost use Rattle.std.specs.Prelude.{◌≡◌, ◌≢◌, ◌≤◌, ℕ, List, Option};

@@ -1,13 +1,21 @@
 //! `at`: what an object was at a moment.
-ghost use Rattle.std.specs.Prelude.{◌≡◌, ◌+◌, ◌^◌, ◌<◌, [], OnOk};
+ghost use Rattle.std.specs.Prelude.{◌≡◌, ◌+◌, ◌^◌, ◌<◌, [], OnOk, IfOk, Some};
+ghost use Rattle.s4_types.specs.History.{Seen};
+ghost use Rattle.s4_types.specs.declared.limits.TheConstants.{READ_BYTES};
+ghost use Rattle.s4_types.specs.declared.replies.Reply.TheVariants.{Data};
+ghost use Rattle.s4_model.specs.State.{grown};
+ghost use Rattle.s4_model.specs.VersionAt.{version_of};
+ghost use Rattle.s4_model.specs.Step.{data_of};
 ghost use Rattle.segment_table.specs.Room.{log_of};
 ghost use Rattle.version_store.specs.Store.{fields_of};
 ghost use Rattle.drive.specs.Opened.{base_of};
+ghost use Rattle.drive.specs.Fields.{history_of, state_in};
 
 use crate::faults::Fault;
 use crate::files::Files;
 use crate::verifying::{read_image, write_out};
 use drive::{Drive, OpenedDrive, Session};
+use s4_model::laws::the_state_goes_on_record_by_record;
 use s4_types::limits::READ_BYTES;
 use s4_types::{Bytes, Moment, ObjectId, Refusal, Reply, Request, Role};
 use s4d_command::At;
@@ -92,7 +100,11 @@ fn read_part<J: Naming>(
     session: &mut Session<J>,
     asked: At<'_>,
     offset: u64,
-) -> Result<Bytes, Refusal> {
+) -> Result<Bytes, Refusal>
+    ensures read { IfOk result (λ bytes. data_of (version_of (state_in drive.old) asked.entry.object asked.entry.moment) offset READ_BYTES ≡ Some (Data bytes)) }
+    ensures past { history_of drive.new ≡ grown (history_of drive.old) (Seen 0) }
+{
+    the_state_goes_on_record_by_record();
     let request = Request::Read {
         object: ObjectId::new(asked.object),
         offset,

@@ -1,8 +1,11 @@
 //! `run`: sessions of a drive that an image is read from, and its image written anew.
-ghost use Rattle.std.specs.Prelude.{◌≡◌, ◌+◌, ◌^◌, ◌<◌, ◌≤◌, All, length, vec_len, IfOk, IsTrue, ◌↔◌};
+ghost use Rattle.std.specs.Prelude.{◌≡◌, ◌≢◌, ℕ, ◌+◌, ◌^◌, ◌<◌, ◌≤◌, All, length, slice_index_or, vec_len, IfOk, IsTrue, ◌↔◌};
 ghost use Rattle.segment_table.specs.Room.{log_of};
 ghost use Rattle.version_store.specs.Store.{fields_of};
 ghost use Rattle.drive.specs.Opened.{base_of};
+ghost use Rattle.serving.specs.Streams.{taken_by};
+ghost use Rattle.server.specs.Attending.{IsAttended, PassesOn};
+ghost use Rattle.s4d.specs.Running.{IsSavedFrom};
 
 use crate::faults::{Fault, reading, writing};
 use crate::files::Files;
@@ -37,7 +40,8 @@ struct Manner {
 }
 
 /// Serves the sessions of a drive that an image is read from, and writes its image anew. Says whether each session ended at the
-/// end of its input; each other one has a line on `errors`. Where the image or a file fails, no session is served.
+/// end of its input; each other one has a line on `errors`. Where the image or a file fails, no session is served; where a session
+/// is to write over the image itself, nothing is made either.
 pub fn run_file<'a, T: Threads + Wait + Clock + Sync, F: Files, E: Write>(
     rt: &T,
     alloc: Global,
@@ -60,6 +64,9 @@ pub fn run_file<'a, T: Threads + Wait + Clock + Sync, F: Files, E: Write>(
         Ok(opened) => opened,
         Err(refusal) => return Err(Fault::Refused(refusal)),
     };
+    if let Some(output) = output_at(asked.image, asked.sessions.as_slice()) {
+        return Err(Fault::CannotWrite(output));
+    }
     let clients = match clients_of(alloc, files, asked.sessions.as_slice()) {
         Ok(clients) => clients,
         Err(fault) => return Err(fault),
@@ -72,6 +79,16 @@ pub fn run_file<'a, T: Threads + Wait + Clock + Sync, F: Files, E: Write>(
         Ok(()) => Ok(is_ended),
         Err(fault) => Err(fault),
     }
+}
+
+// The output of a session that is the file of this path. Where it were made, that file would be empty.
+fn output_at<'a>(path: &str, sessions: &[RunSession<'a>]) -> Option<&'a str> {
+    for session in sessions {
+        if session.output == path {
+            return Some(session.output);
+        }
+    }
+    None
 }
 
 // Opens the files of each session in turn.
@@ -143,10 +160,19 @@ fn serve_named<
     requires readers { All (λ c. S.failures c.reader + 1 < 2 ^ 64) clients.items }
     requires writers { All (λ c. W.failures c.writer + 1 < 2 ^ 64) clients.items }
     ensures count { vec_len result.0 ≡ vec_len clients }
+    // Each session was answered by steps of the shared drive, or the drive had no seat for it.
+    ensures attended { (i : ℕ) (d : _) → i < vec_len clients
+        → IsAttended J.base (record { start = manner.start; tick = manner.tick }) (slice_index_or clients.items i d).role (slice_index_or result.0.items i d).outcome
+        (S.remaining (slice_index_or clients.items i d).reader) (taken_by W.passed W.held (slice_index_or clients.items i d).writer)
+        (S.remaining (slice_index_or result.0.items i d).reader) (taken_by W.passed W.held (slice_index_or result.0.items i d).writer) }
+    ensures passed { (i : ℕ) (d : _) → i < vec_len clients → PassesOn (slice_index_or result.0.items i d).outcome (W.held (slice_index_or result.0.items i d).writer) }
+    // What is saved is a drive of this name.
+    ensures saved { IfOk result.1 (λ bytes. IsSavedFrom J.base bytes.items) }
 {
     let drive = Mutex::new(opened.named::<J>());
     let served = serve_all(rt, alloc, &drive, manner, clients);
     let mut drive = drive.into_inner();
+    drive.rules();
     let saved = save(alloc, &mut drive);
     (served, saved)
 }
@@ -168,6 +194,12 @@ fn serve_all<
     requires readers { All (λ c. S.failures c.reader + 1 < 2 ^ 64) clients.items }
     requires writers { All (λ c. W.failures c.writer + 1 < 2 ^ 64) clients.items }
     ensures count { vec_len result ≡ vec_len clients }
+    // Each session was answered by steps of the shared drive, or the drive had no seat for it.
+    ensures attended { (i : ℕ) (d : _) → i < vec_len clients
+        → IsAttended J.base (record { start = manner.start; tick = manner.tick }) (slice_index_or clients.items i d).role (slice_index_or result.items i d).outcome
+        (S.remaining (slice_index_or clients.items i d).reader) (taken_by W.passed W.held (slice_index_or clients.items i d).writer)
+        (S.remaining (slice_index_or result.items i d).reader) (taken_by W.passed W.held (slice_index_or result.items i d).writer) }
+    ensures passed { (i : ℕ) (d : _) → i < vec_len clients → PassesOn (slice_index_or result.items i d).outcome (W.held (slice_index_or result.items i d).writer) }
 {
     let Manner {
         start,
@@ -184,7 +216,9 @@ fn serve_all<
 }
 
 // Writes a line for each session that didn't come to the end of its input, and says whether there is none.
-fn tell_sessions<S: Source, W: Sink, E: Write>(errors: &mut E, served: &[Client<S, W>]) -> bool {
+fn tell_sessions<S: Source, W: Sink, E: Write>(errors: &mut E, served: &[Client<S, W>]) -> bool
+    requires passed { (i : ℕ) (d : _) → i < length served.now → PassesOn (slice_index_or served.now i d).outcome (W.held (slice_index_or served.now i d).writer) }
+{
     let mut is_ended = true;
     for (number, client) in (1u64..).zip(served) {
         is_ended &= tell_session(errors, number, client.outcome);
@@ -194,6 +228,7 @@ fn tell_sessions<S: Source, W: Sink, E: Write>(errors: &mut E, served: &[Client<
 
 // Writes a line for a session that didn't come to the end of its input, and says whether it did.
 fn tell_session<E: Write>(errors: &mut E, number: u64, outcome: Outcome) -> bool
+    requires { outcome ≢ Outcome.Waiting }
     ensures { IsTrue result ↔ (outcome ≡ Outcome.Served ServeEnd.Ended) }
 {
     // There is nobody to tell where such a line can't be written.
@@ -201,8 +236,7 @@ fn tell_session<E: Write>(errors: &mut E, number: u64, outcome: Outcome) -> bool
         Outcome::Served(ServeEnd::Ended) => return true,
         Outcome::Served(end) => writeln!(errors, "s4d: session {number}: {end}"),
         Outcome::Refused(refusal) => writeln!(errors, "s4d: session {number}: {refusal}"),
-        // No session is left so.
-        Outcome::Waiting => writeln!(errors, "s4d: session {number}: Busy"),
+        Outcome::Waiting => unreachable!(),
     };
     false
 }

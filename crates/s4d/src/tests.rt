@@ -6,6 +6,7 @@ mod images;
 mod lines;
 mod memory;
 mod memory_files;
+mod outputs;
 mod pipes;
 mod rows;
 mod together;

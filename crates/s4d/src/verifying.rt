@@ -2,7 +2,7 @@
 ghost use Rattle.std.specs.Prelude.{◌≡◌, ◌+◌, ◌^◌, ◌<◌, [], IfOk, OnOk, string_bytes};
 ghost use Rattle.std.specs.Io.KnownBytes.{Appends};
 ghost use Rattle.serving.specs.Streams.{taken_by};
-ghost use Rattle.s4d.specs.Verifying.{number_line};
+ghost use Rattle.s4d.specs.Verifying.{number_line, image_line, IsVerified, TellsImage};
 
 use crate::faults::{Fault, reading};
 use crate::files::Files;
@@ -19,7 +19,9 @@ pub fn read_image<'a, T: Threads, F: Files>(
     alloc: Global,
     files: &F,
     path: &'a str,
-) -> Result<Image, Fault<'a>> {
+) -> Result<Image, Fault<'a>>
+    ensures verified { IfOk result IsVerified }
+{
     let bytes = match files.read_whole(alloc, path) {
         Ok(bytes) => bytes,
         Err(error) => return Err(reading(error, path)),
@@ -39,12 +41,26 @@ pub fn verify_file<'a, T: Threads, F: Files, W: Sink>(
     writer: &mut W,
 ) -> Result<(), Fault<'a>>
     requires writer { W.failures writer.old + 1 < 2 ^ 64 }
+    ensures line { OnOk result (TellsImage (taken_by W.passed W.held writer.old) (taken_by W.passed W.held writer.new)) }
     ensures passed { OnOk result (W.held writer.new ≡ []) }
 {
     let image = match read_image(rt, alloc, files, asked.image) {
         Ok(image) => image,
         Err(fault) => return Err(fault),
     };
+    write_image_numbers(alloc, &image, writer)
+}
+
+// Writes the line of an image's numbers, and passes it on.
+fn write_image_numbers<'a, W: Sink>(
+    alloc: Global,
+    image: &Image,
+    writer: &mut W,
+) -> Result<(), Fault<'a>>
+    requires writer { W.failures writer.old + 1 < 2 ^ 64 }
+    ensures line { OnOk result (Appends (taken_by W.passed W.held writer.old) (taken_by W.passed W.held writer.new) (image_line image.now)) }
+    ensures passed { OnOk result (W.held writer.new ≡ []) }
+{
     write_numbers(
         alloc,
         image.frames(),
