@@ -1,13 +1,9 @@
 //! Sessions that are to write over the image that they are served of.
 
 use crate::files::Files;
-use crate::tests::memory_files::MemoryFiles;
+use crate::tests::images::new_image;
 use crate::tests::run_in_pieces;
-use std::alloc::{AllocError, Global};
-use std::sync::Wait;
 use std::test::Fail;
-use std::thread::Threads;
-use std::time::Clock;
 
 /// The only session is to write over the image, or the second one. The first line's input isn't there either.
 static OVER_IMAGE: [&[&str]; 2] = [
@@ -21,22 +17,11 @@ static OVER_IMAGE: [&[&str]; 2] = [
     ],
 ];
 
-/// The image of a new drive, and an input without requests.
-fn files_with_image<T: Threads + Wait + Clock + Sync>(
-    rt: &T,
-    alloc: Global,
-) -> Result<MemoryFiles, AllocError> {
-    let mut files = MemoryFiles::new(alloc);
-    files.put("nothing", &[])?;
-    let words = ["s4d", "new", "image", "16"];
-    let _ = run_in_pieces(rt, alloc, &mut files, &words, &[], 1)?;
-    Ok(files)
-}
-
 /// Nothing is made then, and the image is as it was.
 #[test]
 fn the_image_is_no_sessions_output(rt: HostRuntime) -> Result<(), Fail> {
-    let mut files = files_with_image(&rt, rt.alloc())?;
+    let mut files = new_image(&rt, rt.alloc())?;
+    files.put("nothing", &[])?;
     let before = files.read_whole(rt.alloc(), "image")?;
     for words in &OVER_IMAGE {
         let outcome = run_in_pieces(&rt, rt.alloc(), &mut files, words, &[], 1)?;
