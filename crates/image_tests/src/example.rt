@@ -155,3 +155,11 @@ pub fn example() -> Example {
     sign_all(&mut bytes);
     bytes
 }
+
+/// Puts what stands at these places of the image at the same places of others.
+pub fn put_worked(bytes: &mut [u8], from: usize, to: usize) {
+    let whole = example();
+    if let Some(part) = whole.get(from..to) {
+        put(bytes, from, part);
+    }
+}

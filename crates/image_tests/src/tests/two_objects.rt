@@ -1,5 +1,7 @@
 //! An image of two objects that was worked by hand: they were made at moments 10 and 11, and written at 12 and 13.
-use crate::example::{FREE_FRAMES, ROW, SUMMARY, example, put, put_long, put_making, put_write};
+ghost use Rattle.std.specs.Prelude.{◌≤◌};
+
+use crate::example::{FREE_FRAMES, ROW, SUMMARY, put, put_long, put_making, put_worked, put_write};
 use crate::tests::opened::play;
 use crate::tests::{cause_of, is_image};
 use s4_types::Cause::Chain;
@@ -10,10 +12,12 @@ use std::test::Fail;
 type Two = [u8; 8944];
 
 /// Where its digest begins, behind two rows.
-const TWO_ROWS: usize = ROW + 80;
+const TWO_ROWS: usize = 8912;
 
 /// Where a block of frame 0 begins.
-fn block(index: u8) -> usize {
+fn block(index: u8) -> usize
+    ensures { result ≤ 131080 }
+{
     SUMMARY + 512 * index as usize
 }
 
@@ -80,8 +84,8 @@ fn sign(bytes: &mut Two) {
 /// The image, where the second write was made at this moment.
 fn two_objects(moment: u8) -> Two {
     let mut bytes = [0; 8944];
-    bytes[..SUMMARY + 16].copy_from_slice(&example()[..SUMMARY + 16]);
-    bytes[FREE_FRAMES..ROW].copy_from_slice(&example()[FREE_FRAMES..ROW]);
+    put_worked(&mut bytes, 0, SUMMARY + 16);
+    put_worked(&mut bytes, FREE_FRAMES, ROW);
     put(&mut bytes, 23, &[13]); // the clock
     put(&mut bytes, 47, &[3]); // the number that the next object gets
     put(&mut bytes, 51, &[2]); // rows
