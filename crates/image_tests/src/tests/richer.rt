@@ -11,7 +11,7 @@ use crate::tests::opened::opened;
 use crate::tests::played::{ACTS, Played, READS, does_all};
 use drive::{NewDrive, OpenedDrive};
 use s4_types::Cause;
-use s4_types::Cause::{Chain, Frame, Length, Row, Span};
+use s4_types::Cause::{Chain, Frame, Length, Span};
 use segment_word::Naming;
 use sha2::{Digest, Sha256};
 use std::alloc::Global;
@@ -116,7 +116,7 @@ static CHANGED: [Changed; 12] = [
     (SPANS + 31, &[3], Some(Span)), // of an object that wasn't given
     (ROWS + 23, &[1], Some(Chain)), // the checkpoint is in an earlier life
     (ROWS + 79, &[1], Some(Chain)), // the second chain is
-    (ROWS + 31, &[91], Some(Row)), // a checkpoint behind the clock
+    (ROWS + 31, &[91], Some(Chain)), // a checkpoint behind the clock
 ];
 
 fn causes<R: Threads>(rt: &R, alloc: Global, image: &[u8]) -> Result<bool, Fail> {
