@@ -1,7 +1,10 @@
-//! The worked image, whole, damaged and opened, with spans and with a second object, and images of new drives.
+//! The worked image, whole, damaged and opened, with spans and with a second object, images of new drives, and one of a drive that
+//! was played with.
 mod damaged;
 mod new_images;
 mod opened;
+mod played;
+mod richer;
 mod spans;
 mod two_objects;
 

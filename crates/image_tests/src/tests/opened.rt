@@ -60,7 +60,7 @@ fn verified<R: Threads>(rt: &R, alloc: Global, bytes: &[u8]) -> Result<Image, Re
 }
 
 /// The drive of the image of these bytes. An image is spent by `open`, whatever that answers.
-fn opened<R: Threads>(rt: &R, alloc: Global, bytes: &[u8]) -> Result<OpenedDrive, Refusal> {
+pub fn opened<R: Threads>(rt: &R, alloc: Global, bytes: &[u8]) -> Result<OpenedDrive, Refusal> {
     match open(alloc, verified(rt, alloc, bytes)?) {
         Err(Refusal::NoMemory) => open(alloc, verified(rt, alloc, bytes)?),
         opened => opened,
