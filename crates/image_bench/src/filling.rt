@@ -88,10 +88,10 @@ fn fill<J: Naming>(
 }
 
 /// Fills a drive without objects, and saves it.
-fn filled<J: Naming>(alloc: Global, mut drive: Drive<J>) -> Result<Full, BenchError> {
+fn filled<J: Naming>(alloc: Global, drive: &mut Drive<J>) -> Result<Full, BenchError> {
     let mut session = drive.session(Role::Client)?;
-    let written = fill(alloc, &mut drive, &mut session)?;
-    let bytes = save(alloc, &mut drive)?;
+    let written = fill(alloc, drive, &mut session)?;
+    let bytes = save(alloc, drive)?;
     Ok(Full { bytes, written })
 }
 
@@ -100,7 +100,8 @@ fn filled_named<J: Naming>(alloc: Global, made: NewDrive) -> Result<Full, BenchE
     requires accepts { made.accepts ≡ J.accepts }
     requires base { new_base made.window ≡ J.base }
 {
-    filled(alloc, made.named::<J>())
+    let mut drive = made.named::<J>();
+    filled(alloc, &mut drive)
 }
 
 /// The image of a drive of the most frames that has no room for one more whole object.

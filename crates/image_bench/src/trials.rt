@@ -8,7 +8,6 @@ ghost use Rattle.drive.specs.Opened.{base_of};
 use crate::BenchError;
 use crate::figures::Trial;
 use drive::{Drive, OpenedDrive};
-use s4_types::Refusal;
 use segment_word::Naming;
 use sha2::{Digest, Sha256};
 use std::alloc::Global;
@@ -23,11 +22,6 @@ pub fn digest_of(bytes: &[u8]) -> [u8; 32]
     ensures { result ≡ sha256 bytes.now }
 {
     Sha256::digest(bytes)
-}
-
-/// The image that the bytes spell.
-fn verified<R: Threads>(_rt: &R, alloc: Global, bytes: &[u8]) -> Result<Image, Refusal> {
-    verify(alloc, bytes)
 }
 
 /// How long one digest takes. Differs where it is another one than this.
@@ -49,7 +43,7 @@ fn time_verify<R: Clock + Threads>(
     bytes: &[u8],
 ) -> Result<(Image, Duration), BenchError> {
     let start = Instant::now(rt)?;
-    let image = verified(rt, alloc, bytes)?;
+    let image = verify(rt, alloc, bytes)?;
     Ok((image, start.elapsed(rt)?))
 }
 
@@ -68,11 +62,11 @@ fn time_open<R: Clock>(
 fn time_save<J: Naming, R: Clock>(
     rt: &R,
     alloc: Global,
-    mut drive: Drive<J>,
+    drive: &mut Drive<J>,
     bytes: &[u8],
 ) -> Result<Duration, BenchError> {
     let start = Instant::now(rt)?;
-    let saved = save(alloc, &mut drive)?;
+    let saved = save(alloc, drive)?;
     let taken = start.elapsed(rt)?;
     if saved.as_slice() == bytes {
         Ok(taken)
@@ -91,7 +85,8 @@ fn time_save_named<J: Naming, R: Clock>(
     requires accepts { opened.accepts ≡ J.accepts }
     requires base { base_of (fields_of log_of opened.store) opened.timeline opened.next ≡ J.base }
 {
-    time_save(rt, alloc, opened.named::<J>(), bytes)
+    let mut drive = opened.named::<J>();
+    time_save(rt, alloc, &mut drive, bytes)
 }
 
 /// How long each call takes over the image of these bytes, whose digest is this.
