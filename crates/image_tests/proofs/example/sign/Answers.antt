@@ -1,6 +1,5 @@
-use Rattle.std.proofs.Common.{rules, ◌≡◌, take, drop, ℕ, List, ◌++◌, length, subst}
+use Rattle.std.proofs.Common.{◌≡◌, take, drop, ℕ, List, ◌++◌, length, subst}
 use Rattle.std.proofs.Math.Seq.{drop-append_seam, take-append_seam}
-use Rattle.sha2.specs.Sha256.{sha256}
 use Rattle.image_tests.specs.declared.example.TheConstants.{DIGEST}
 use Rattle.image_tests.proofs.example.sign.Goals as goal
 

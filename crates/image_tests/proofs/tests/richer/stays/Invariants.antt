@@ -5,4 +5,4 @@ use Rattle.image_tests.proofs.tests.richer.stays.Given as goal
 
 -- the drive that was opened
 abbrev pub ghosts-is_opened_as_before : goal.ghosts-is_opened_as_before
-ghosts-is_opened_as_before a = record { frames = a.opened.store.table.drive.table; accepts = a.opened.accepts; base = base_of (fields_of log_of a.opened.store) a.opened.timeline a.opened.next }
+ghosts-is_opened_as_before a b = record { frames = b.opened.store.table.drive.table; accepts = b.opened.accepts; base = base_of (fields_of log_of b.opened.store) b.opened.timeline b.opened.next }
