@@ -1,12 +1,17 @@
 #!/usr/bin/env python3
-"""Says what a gate costs: seconds of processor by crate, for its proof, its tests' proof and its must-fail edits.
+"""Says what a gate costs: seconds of processor by crate and kind of work.
+
+    proof    the crate's own               edits   its must-fail edits, and in the next column how many checks these were
+    tests    the proof of its tests        llvm    compiling what was proved, by LLVM
+    seed     its proof once more, which    rattle  and by Rattle's own compiler
+             two or more edits begin with
 
     bench/gate.py                      at the top of the repository: runs `rt ci`, prints each of its lines behind the time of day, and
                                        the table behind them. Ends with the gate's own status
     bench/gate.py run COMMAND ..       the same of another command, as `rt must-fail codec` or `rt check`
-    bench/gate.py read LOG [EARLIER]   the table of a run whose output was kept, `bench/gate.py > LOG`, and how it differs from an
-                                       earlier one. A log without a table, which `rt ci` alone wrote behind times of day: when each
-                                       crate's proof and tests ended, in seconds after its first line
+    bench/gate.py read LOG [EARLIER]   the table of a run whose output was kept, `bench/gate.py > LOG`, and what each row took more or
+                                       less than in an earlier one. A log without a table, which `rt ci` alone wrote behind times of
+                                       day: when each crate's proof and tests ended, in seconds after its first line
 
 `rt ci` tells no times. So this looks twice a second at all `rattle` processes below it, and adds up what each had taken when it
 was last seen. What processes take behind that, and what `rt` takes itself and the built tests do, is in the line `elsewhere`; the total
@@ -19,7 +24,7 @@ import sys
 import threading
 import time
 
-KINDS = ("proof", "tests", "edits")
+COLUMNS = ("proof", "tests", "seed", "edits", "tried", "llvm", "rattle", "all")
 TICKS = os.sysconf("SC_CLK_TCK")
 
 
@@ -56,9 +61,15 @@ def task_of(number):
         return None
     if "--crate-name" not in words[:-1]:
         return None
-    # (an edit is checked in a copy of the crate)
-    kind = "edits" if folder.startswith("rt-edit-") else "tests" if "--test" in words else "proof"
-    return words[words.index("--crate-name") + 1], kind
+    after = lambda word: words[words.index(word) + 1] if word in words[:-1] else ""
+    if folder.startswith("rt-edit-"):
+        # (a copy of the crate; its edits are tried each over a copy of what the seed left)
+        kind = "seed" if after("--incremental").endswith("/seed") else "edits"
+    elif "--crate-checked" in words:
+        kind = after("--backend")
+    else:
+        kind = "tests" if "--test" in words else "proof"
+    return after("--crate-name"), kind
 
 
 def watch(top, is_over, seen):
@@ -77,14 +88,13 @@ def watch(top, is_over, seen):
 
 def show(table, total):
     """Prints a table of crates, the dearest first."""
-    print(f"gate: {'crate':<16}" + "".join(f"{it:>9}" for it in (*KINDS, "all")))
-    rows = sorted(table.items(), key=lambda it: -sum(it[1].values()))
-    sums = {kind: sum(row[kind] for _, row in rows) for kind in KINDS}
-    for crate, row in [*rows, ("all crates", sums)]:
-        numbers = row.values()
-        print(f"gate: {crate:<16}" + "".join(f"{it:9.1f}" for it in (*numbers, sum(numbers))))
-    print(f"gate: {'elsewhere':<43}{total - sum(sums.values()):9.1f}")
-    print(f"gate: {'total':<43}{total:9.1f}", flush=True)
+    print(f"gate: {'crate':<18}" + "".join(f"{it:>9}" for it in COLUMNS))
+    rows = sorted(table.items(), key=lambda it: -it[1]["all"])
+    rows.append(("all crates", {it: sum(row[it] for _, row in rows) for it in COLUMNS}))
+    for name, row in rows:
+        print(f"gate: {name:<18}" + "".join(f"{row[it]:9.{int(it != 'tried')}f}" for it in COLUMNS))
+    print(f"gate: {'elsewhere':<81}{total - rows[-1][1]['all']:9.1f}")
+    print(f"gate: {'total':<81}{total:9.1f}", flush=True)
 
 
 def run(words):
@@ -99,7 +109,10 @@ def run(words):
     watcher.join()
     table = {}
     for (crate, kind), taken in seen.values():
-        table.setdefault(crate, dict.fromkeys(KINDS, 0.0))[kind] += taken
+        row = table.setdefault(crate, dict.fromkeys(COLUMNS, 0))
+        row[kind] += taken
+        row["all"] += taken
+        row["tried"] += kind == "edits"
     taken = resource.getrusage(resource.RUSAGE_CHILDREN)
     show(table, taken.ru_utime + taken.ru_stime)
     print(f"gate: status {status} after {time.time() - began:.0f} s by the clock")
@@ -130,18 +143,25 @@ def show_ends(file):
                 print(f"{(at - first) % 86400:6d} {line[9:].rstrip()}")
 
 
+def compare(now, earlier):
+    """Prints the rows of a table, each with its change since an earlier one, and those that are gone."""
+    for name in [*now, *(it for it in earlier or [] if it not in now)]:
+        row = now.get(name, [0.0])
+        change = f"{row[-1] - earlier.get(name, [0.0])[-1]:+9.1f}" if earlier else ""
+        cells = "".join(f"{it:9.1f}" for it in row)
+        print(f"{name:<18}{cells:>72}{change}")
+
+
 def main(words):
     if not words or words[0] == "run" and len(words) > 1:
         return run(words[1:] or ["rt", "ci"])
     if words[0] != "read" or len(words) not in (2, 3):
         sys.exit(__doc__)
     rows = [read(it) for it in words[1:]]
-    if not rows[0]:
-        return show_ends(words[1])
-    for crate in [*rows[0], *(it for it in rows[-1] if it not in rows[0])]:
-        now = rows[0].get(crate, [0.0])
-        change = f"{now[-1] - rows[1].get(crate, [0.0])[-1]:+9.1f}" if len(rows) == 2 else ""
-        print(f"{crate:<16}" + "".join(f"{it:9.1f}" for it in now) + change)
+    if rows[0]:
+        compare(rows[0], rows[1] if len(rows) == 2 else None)
+    else:
+        show_ends(words[1])
     return 0
 
 
