@@ -1,58 +1,83 @@
 #!/usr/bin/env python3
-"""Measures `s4d` over a full image of 1,024 frames: verify, at (which verifies, opens and reads), and run with no request (which
-verifies, opens and saves), in seconds, and the memory that each takes at most.
+"""Measures `s4d` over a full image of 1,024 frames, in seconds by the clock of a whole process and in the memory that it takes at most:
+verify; at, which verifies, opens and reads; and run with no request, which verifies, opens and saves the same bytes again. Beside
+them stands one SHA-256 of the image's bytes by Python's hashlib.
 
-    images.py [PROGRAM]      crates/s4d/out/s4d where it isn't given; build it by `rt run` there
+    images.py [PROGRAM [OTHER]]      crates/s4d/out/s4d where it isn't given; build it by `rt run` there
+
+OTHER is the program of another commit, which runs between over the same image: then its figures stand there too.
 """
+import hashlib
 import os
 import subprocess
 import sys
 import tempfile
 import time
 
-HERE = os.path.dirname(os.path.abspath(__file__))
-PROGRAM = os.path.abspath(sys.argv[1] if len(sys.argv) > 1 else os.path.join(HERE, "..", "crates", "s4d", "out", "s4d"))
+import wire
+from wire import ratio, spread
+
 OBJECTS = 300
 WHOLE = bytes(range(256)) * 96  # the most bytes that an object may have
 RUNS = 7
 
 
-def frame(body):
-    return len(body).to_bytes(4, "big") + body
-
-
 def requests():
     """Objects are made, and each is written whole: more than the drive has room for."""
-    made = frame(b"\x01\x00") * OBJECTS
-    written = (frame(b"\x04" + number.to_bytes(8, "big") + bytes(8) + WHOLE) for number in range(1, OBJECTS + 1))
-    return made + b"".join(written)
+    return wire.create() * OBJECTS + b"".join(wire.write(number, 0, WHOLE) for number in range(1, OBJECTS + 1))
 
 
-def run(words, folder):
+def run(program, words, folder):
+    """The seconds and the KiB of one call."""
     began = time.monotonic()
-    pid = subprocess.Popen([PROGRAM, *words], cwd=folder, stdout=subprocess.DEVNULL)
-    _, status, used = os.wait4(pid.pid, 0)
-    if status:
-        sys.exit(f"{words}: status {os.waitstatus_to_exitcode(status)}")
+    child = subprocess.Popen([program, *words], cwd=folder, stdout=subprocess.DEVNULL)
+    _, status, used = os.wait4(child.pid, 0)
+    child.returncode = os.waitstatus_to_exitcode(status)
+    if child.returncode:
+        sys.exit(f"images.py: {program} {words}: status {child.returncode}")
     return time.monotonic() - began, used.ru_maxrss
 
 
-def measure(name, words, folder):
-    runs = sorted(run(words, folder) for _ in range(RUNS))
-    print(f"{name}: {runs[RUNS // 2][0]:.3f} s ({runs[0][0]:.3f} to {runs[-1][0]:.3f}), at most {max(most for _, most in runs):,} KB")
+def digest(image):
+    began = time.monotonic()
+    hashlib.sha256(image)
+    return time.monotonic() - began
+
+
+def bytes_of(path):
+    with open(path, "rb") as file:
+        return file.read()
+
+
+def measure(programs, name, words, folder):
+    """Prints a line of what a call takes each program."""
+    runs = [[run(it, words, folder) for it in programs] for _ in range(RUNS)]
+    mine, *others = [[seconds for seconds, _ in column] for column in zip(*runs)]
+    most = [max(memory for _, memory in column) for column in zip(*runs)]
+    beside = "".join(f"; other {spread(it)} s, {ratio(it, mine)} times" for it in others)
+    print(f"{name}: {spread(mine)} s{beside}; at most {', other '.join(f'{it:,} KB' for it in most)}", flush=True)
 
 
 def main():
+    if len(sys.argv) > 3 or any(it.startswith("-") for it in sys.argv[1:]):
+        sys.exit(__doc__)
+    programs = wire.programs(sys.argv[1:])
     with tempfile.TemporaryDirectory() as folder:
         with open(os.path.join(folder, "in"), "wb") as file:
             file.write(requests())
         open(os.path.join(folder, "none"), "wb").close()
-        run(["new", "--window", "1000000", "image", "1024"], folder)
-        run(["run", "--no-upkeep", "--tick", "0", "image", "client:in:out"], folder)
-        print(f"an image of {os.path.getsize(os.path.join(folder, 'image')):,} bytes")
-        measure("verify", ["verify", "image"], folder)
-        measure("at", ["at", "image", "1", str(OBJECTS + 1)], folder)
-        measure("run without a request", ["run", "--no-upkeep", "image", "client:none:out"], folder)
+        run(programs[0], ["new", "--window", "1000000", "image", "1024"], folder)
+        run(programs[0], ["run", "--no-upkeep", "--tick", "0", "image", "client:in:out"], folder)
+        image = bytes_of(os.path.join(folder, "image"))
+        written = wire.kinds(bytes_of(os.path.join(folder, "out"))).count(wire.CHANGED)
+        print(f"an image of {len(image):,} bytes, {OBJECTS} objects of which {written} are written whole")
+        print(f"one SHA-256 of it by hashlib: {spread([digest(image) for _ in range(RUNS)])} s")
+        measure(programs, "verify", ["verify", "image"], folder)
+        measure(programs, "at", ["at", "image", "1", str(OBJECTS + 1)], folder)
+        measure(programs, "run without a request", ["run", "--no-upkeep", "image", "client:none:out"], folder)
+        if bytes_of(os.path.join(folder, "image")) != image:
+            sys.exit("images.py: what was saved again without a request are other bytes")
 
 
-main()
+if __name__ == "__main__":
+    main()

@@ -1,20 +1,34 @@
 #!/usr/bin/env python3
-"""Refuses a test each of its allocations in turn: in its first run the first one, in its second the second, and so on.
+"""Refuses a program each of its allocations in turn: in its first run the first one, in its second the second, and so on.
 
-Prints each run that didn't pass, with the last line that it wrote; then how many allocations were refused, one a run, and how many
-of these runs didn't pass. The last run, in which none is left to refuse, is looked at too. The status is 0 where all passed.
-
+    refused.py SCRIPT..       scripts of tests/drive, played by the program that (cd crates/replay && rt run) builds. It asks each step
+                              that is refused NoMemory once more, so that a script has the answers that it expects, whichever allocation
+                              is refused. Status 2 says that the program itself had no memory for its own work, and isn't a fault
     refused.py CRATE TEST     TEST: a test's name, or its end; first (cd crates/CRATE && rt test) builds it
 
-An allocation is what a test asks of the C library: a new block, or another size of one. CC is the C compiler, cc where it isn't set.
+Prints each run that fails, with the end of what it wrote; then how many allocations were refused, one a run, and how many of these
+runs failed. The last run, in which none is left to refuse, is looked at too. The status is 0 where none failed.
+
+An allocation is what a program asks of the C library: a new block, or another size of one. CC is the C compiler, cc where it isn't set.
+REPLAY names another program than crates/replay/out/replay.
 """
 import os
 import subprocess
 import sys
 import tempfile
+from typing import Callable, NamedTuple
 
+HERE = os.path.dirname(os.path.abspath(__file__))
 SECONDS = 60  # of a run
 REFUSED = "an allocation was refused\n"
+PASSED, FAILED, OWN = "passed", "failed", "own"  # the last: no memory for the program's own work
+
+
+class Subject(NamedTuple):
+    name: str
+    words: list  # of the command
+    judge: Callable  # what a status, None after too long, and the lines that were written say
+
 
 # Stands before the C library, and refuses the allocation that REFUSE numbers from 1.
 ALLOCATOR = f"""
@@ -56,38 +70,69 @@ def named(program, word):
     return found[0]
 
 
-def run(program, test, library, number):
-    """Whether the allocation was refused, whether the test passed, and the last line that it wrote."""
+def need_built(program, how):
+    if not os.access(program, os.X_OK):
+        sys.exit(f"refused.py: {program}: no program; build it by {how}")
+
+
+def of_test(crate, word):
+    program = os.path.join(HERE, f"../crates/{crate}/out/{crate}_tests")
+    need_built(program, f"(cd crates/{crate} && rt test)")
+    test = named(program, word)
+    return Subject(test, [program, test], lambda status, lines: PASSED if status == 0 and "test result: ok" in lines else FAILED)
+
+
+def of_script(script):
+    program = os.environ.get("REPLAY", os.path.join(HERE, "../crates/replay/out/replay"))
+    need_built(program, "(cd crates/replay && rt run)")
+    return Subject(script, [program, script], lambda status, _: {0: PASSED, 2: OWN}.get(status, FAILED))
+
+
+def run(subject, library, number):
+    """Whether the allocation was refused, what came of the run, and the end of what it wrote."""
     told = {"LD_PRELOAD": library, "REFUSE": str(number)}
     try:
-        ran = subprocess.run([program, test], env=told, stderr=subprocess.PIPE, stdout=subprocess.PIPE, text=True, timeout=SECONDS)
+        ran = subprocess.run(subject.words, env=told, stdin=subprocess.DEVNULL, stderr=subprocess.PIPE, stdout=subprocess.PIPE,
+                             text=True, timeout=SECONDS)
     except subprocess.TimeoutExpired:
-        return True, False, f"had not ended after {SECONDS} seconds"
+        return True, FAILED, f"had not ended after {SECONDS} seconds"
+    is_refused = REFUSED in ran.stderr
     lines = (ran.stdout + ran.stderr.replace(REFUSED, "")).split("\n")
-    passed = ran.returncode == 0 and "test result: ok" in lines
-    return REFUSED in ran.stderr, passed, " ".join(lines).strip()[-200:]
+    outcome = subject.judge(ran.returncode, lines)
+    if outcome == OWN and not is_refused:
+        outcome = FAILED
+    return is_refused, outcome, f"status {ran.returncode}, {' '.join(lines).strip()[-200:]}"
+
+
+def refuse_each(subject, library):
+    """Prints what comes of all runs, and says whether one failed."""
+    counts, is_refused = dict.fromkeys((PASSED, FAILED, OWN), 0), True
+    while is_refused:
+        number = sum(counts.values()) + 1
+        is_refused, outcome, said = run(subject, library, number)
+        counts[outcome] += 1
+        if outcome == FAILED:
+            print(f"{subject.name}, allocation {number}: {said}", flush=True)
+    own = f", {counts[OWN]} had no memory for their own work" if counts[OWN] else ""
+    print(f"{subject.name}: {number - 1} allocations were refused, one a run; {counts[FAILED] or 'none'} of {number} runs failed{own}",
+          flush=True)
+    return counts[FAILED] > 0
 
 
 def main():
-    if len(sys.argv) != 3:
+    words = sys.argv[1:]
+    if not words or any(it.startswith("-") for it in words):
         sys.exit(__doc__)
-    crate, word = sys.argv[1:]
-    here = os.path.dirname(os.path.abspath(__file__))
-    program = os.path.join(here, f"../crates/{crate}/out/{crate}_tests")
-    if not os.access(program, os.X_OK):
-        sys.exit(f"refused.py: {program}: no tests; build them by (cd crates/{crate} && rt test)")
-    test = named(program, word)
-    number, failed = 0, 0
+    if all(os.path.isfile(it) for it in words):
+        subjects = [of_script(it) for it in words]
+    elif len(words) == 2:
+        subjects = [of_test(*words)]
+    else:
+        sys.exit(__doc__)
     with tempfile.TemporaryDirectory() as folder:
-        library, is_refused = compiled(folder), True
-        while is_refused:
-            number += 1
-            is_refused, passed, said = run(program, test, library, number)
-            if not passed:
-                failed += 1
-                print(f"{test}, allocation {number}: {said}", flush=True)
-    print(f"{test}: {number - 1} allocations were refused, one a run; {failed or 'none'} of {number} runs failed")
-    sys.exit(1 if failed else 0)
+        library = compiled(folder)
+        failed = [refuse_each(it, library) for it in subjects]
+    sys.exit(1 if any(failed) else 0)
 
 
 if __name__ == "__main__":

@@ -1,0 +1,137 @@
+#!/usr/bin/env python3
+"""Requests a second that `s4d run` answers 1, 2, 4 and 16 sessions at once, without upkeep and with the history cleaner and the
+segment copier beside them, and how many times as many that is as one session is answered.
+
+Each session has an object of its own, of 16 of a drive of 1,024 frames, which was written whole, and reads its requests from a file:
+Reads of all 24,576 bytes, or rounds of a Write of 64 bytes and 999 Reads of 64 bytes. Its replies go to /dev/null. The seconds
+by the clock are those of a run without the ones of a run whose sessions ask nothing, which verifies, opens and saves the image, too.
+With upkeep they end behind the copier's last step and the cleaner's last round. The image is the same before each run. Of some trials the
+shortest counts; of three rounds the median stands with the least and the most. First each number of sessions is asked once with the
+replies looked at.
+
+    sessions.py [PROGRAM [OTHER]]      crates/s4d/out/s4d where it isn't given
+
+OTHER is the program of another commit, which runs between: then its figures stand there too, and PROGRAM's as a multiple of them.
+"""
+import os
+import shutil
+import subprocess
+import sys
+import tempfile
+import time
+
+import wire
+from wire import DATA, WHOLE, ratio, spread
+
+ROUNDS = 3
+TRIALS = 5
+SESSIONS = (1, 2, 4, 16)
+OBJECTS = 16
+INPUTS = [f"in{o}" for o in range(1, OBJECTS + 1)]
+PART = 64  # bytes of a small Write or Read
+WHOLE_READS = 10_000  # of each session
+WRITES, READS_A_WRITE = 200, 999  # the object's journal has room for them
+
+
+def whole_reads(o):
+    return wire.read(o, 0, WHOLE) * WHOLE_READS
+
+
+def rounds(o):
+    return (wire.write(o, 0, b"w" * PART) + wire.read(o, 0, PART) * READS_A_WRITE) * WRITES
+
+
+# What a session asks, how many requests these are, and how many bytes the wanted replies have.
+LOADS = {
+    "Reads of 24,576 bytes": (whole_reads, WHOLE_READS, WHOLE_READS * (5 + WHOLE)),
+    "a Write and 999 Reads of 64 bytes": (rounds, WRITES * (1 + READS_A_WRITE), WRITES * (13 + READS_A_WRITE * (5 + PART))),
+}
+
+
+class Drive:
+    """An image in a folder, and files of what sessions ask."""
+
+    def __init__(self, program, folder):
+        self.program, self.folder = program, folder
+        os.mkdir(folder)
+        self.perform("new", "--window", "1000000", "full", "1024")
+        made = wire.create() * OBJECTS + b"".join(wire.write(o + 1, 0, b"a" * WHOLE) for o in range(OBJECTS))
+        self.put("made", made)
+        self.put("nothing", b"")
+        self.perform("run", "--no-upkeep", "--tick", "0", "full", "client:made:replies")
+        kinds = wire.kinds(self.bytes_of("replies"))
+        if len(kinds) != 2 * OBJECTS or 0 in kinds:
+            sys.exit(f"sessions.py: {program}: the objects could not be made")
+
+    def put(self, name, data):
+        with open(os.path.join(self.folder, name), "wb") as file:
+            file.write(data)
+
+    def bytes_of(self, name):
+        with open(os.path.join(self.folder, name), "rb") as file:
+            return file.read()
+
+    def perform(self, *words):
+        subprocess.run([self.program, *words], cwd=self.folder, stdout=subprocess.DEVNULL, check=True)
+
+    def run(self, inputs, outputs, has_upkeep):
+        """The seconds by the clock of a run over the image as it was made."""
+        shutil.copyfile(os.path.join(self.folder, "full"), os.path.join(self.folder, "image"))
+        upkeep = [] if has_upkeep else ["--no-upkeep"]
+        sessions = [f"client:{source}:{sink}" for source, sink in zip(inputs, outputs)]
+        began = time.perf_counter()
+        self.perform("run", *upkeep, "--tick", "0", "image", *sessions)
+        return time.perf_counter() - began
+
+    def look(self, name, inputs, length):
+        """Asks once with the replies looked at: as many bytes as the wanted ones have, and the last one of the wanted kind."""
+        outputs = [f"{it}.out" for it in inputs]
+        self.run(inputs, outputs, False)
+        for it in outputs:
+            found = self.bytes_of(it)
+            os.remove(os.path.join(self.folder, it))
+            if len(found) != length or wire.kinds(found)[-1] != DATA:
+                sys.exit(f"sessions.py: {self.program}: {name}: {len(found)} bytes of replies, and not {length}")
+
+    def taken(self, inputs, has_upkeep):
+        """The seconds of all requests, of the shortest trials."""
+        outputs, nothing = ["/dev/null"] * len(inputs), ["nothing"] * len(inputs)
+        asked, idle = (min(self.run(it, outputs, has_upkeep) for _ in range(TRIALS)) for it in (inputs, nothing))
+        return max(asked - idle, 1e-6)
+
+
+def measure(drives, name, has_upkeep):
+    """Prints a line for each number of sessions."""
+    requests, alone = LOADS[name][1], None
+    for count in SESSIONS:
+        taken = [[drive.taken(INPUTS[:count], has_upkeep) for drive in drives] for _ in range(ROUNDS)]
+        mine, *others = [[requests * count / one for one in column] for column in zip(*taken)]
+        alone = alone or mine
+        beside = (cell for it in others for cell in (spread(it), ratio(mine, it)))
+        row([name, str(count), "with" if has_upkeep else "without", spread(mine), ratio(mine, alone), *beside])
+
+
+def row(cells):
+    print("| " + " | ".join(cells) + " |", flush=True)
+
+
+def main():
+    if len(sys.argv) > 3 or any(it.startswith("-") for it in sys.argv[1:]):
+        sys.exit(__doc__)
+    with tempfile.TemporaryDirectory() as folder:
+        drives = [Drive(it, os.path.join(folder, str(number))) for number, it in enumerate(wire.programs(sys.argv[1:]))]
+        print("Requests a second by the clock\n")
+        heads = ["Requests", "Sessions", "Upkeep", "a second", "of one session's", *["other", "ratio"] * (len(drives) - 1)]
+        row(heads)
+        row(["---"] * len(heads))
+        for name, (asked, _, length) in LOADS.items():
+            for drive in drives:
+                for o, it in enumerate(INPUTS, 1):
+                    drive.put(it, asked(o))
+                drive.look(name, INPUTS, length)
+            for has_upkeep in (False, True):
+                measure(drives, name, has_upkeep)
+
+
+if __name__ == "__main__":
+    main()

@@ -1,0 +1,69 @@
+"""What the scripts here ask `s4d`, as bytes, how they find the program, and how they tell figures."""
+import os
+import statistics
+import sys
+
+HERE = os.path.dirname(os.path.abspath(__file__))
+BUILT = os.path.join(HERE, "..", "crates", "s4d", "out", "s4d")
+SMALL, WHOLE = 100, 24_576  # bytes of a small Write or Read, and the most that an object has
+CHANGED, CREATED, DATA, ATTRIBUTE = 1, 2, 3, 4  # kinds of replies
+
+
+def frame(body):
+    return len(body).to_bytes(4, "big") + body
+
+
+def long(number):
+    return number.to_bytes(8, "big")
+
+
+def told(at):
+    return b"\0" if at is None else b"\x01" + long(at)
+
+
+def create():
+    return frame(b"\x01\x00")
+
+
+def read(o, offset, count, at=None):
+    return frame(b"\x03" + long(o) + long(offset) + count.to_bytes(4, "big") + told(at))
+
+
+def write(o, offset, data):
+    return frame(b"\x04" + long(o) + long(offset) + data)
+
+
+def get_attr(o, at=None):
+    return frame(b"\x07" + long(o) + told(at))
+
+
+def flush_object(o, first, last):
+    return frame(b"\x0b" + long(o) + long(first) + long(last))
+
+
+def kinds(replies):
+    """The kind of each reply."""
+    found, at = [], 0
+    while at < len(replies):
+        found.append(replies[at + 4])
+        at += 4 + int.from_bytes(replies[at:at + 4], "big")
+    return found
+
+
+def programs(words):
+    """The programs that are named, or the one that was built here."""
+    paths = [os.path.abspath(it) for it in words or [BUILT]]
+    for path in paths:
+        if not os.access(path, os.X_OK):
+            sys.exit(f"{path}: no program; build it by (cd crates/s4d && rt run -- pipe client < /dev/null)")
+    return paths
+
+
+def spread(values):
+    """The median with the least and the most."""
+    digits = 0 if min(values) >= 100 else 2 if min(values) >= 1 else 4
+    return f"{statistics.median(values):,.{digits}f} ({min(values):,.{digits}f} to {max(values):,.{digits}f})"
+
+
+def ratio(values, others):
+    return f"{statistics.median(values) / statistics.median(others):,.2f}"
