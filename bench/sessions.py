@@ -53,7 +53,8 @@ def small_round(o):
 
 LOADS = (
     Load("Reads of 24,576 bytes", whole_read, 1, 5 + WHOLE, 10_000),
-    Load("a Write and 999 Reads of 64 bytes", small_round, 1 + READS_A_WRITE, 13 + READS_A_WRITE * (5 + PART), 200),  # its journal has room for them
+    # The object's journal has room for so many Writes.
+    Load("a Write and 999 Reads of 64 bytes", small_round, 1 + READS_A_WRITE, 13 + READS_A_WRITE * (5 + PART), 200),
 )
 
 
