@@ -1,7 +1,8 @@
 #!/usr/bin/env python3
-"""Measures `s4d` over a full image of 1,024 frames, in seconds by the clock of a whole process and in the memory that it takes at most:
-verify; at, which verifies, opens and reads; and run with no request, which verifies, opens and saves the same bytes again. Beside
-them stands one SHA-256 of the image's bytes by Python's hashlib.
+"""Measures `s4d` over a full image of 1,024 frames, in seconds by the clock of a whole process and in the memory that it has at most:
+verify; at, which verifies, opens and reads; and run with no request, which verifies, opens and saves, and has to save the same bytes.
+Between them goes one SHA-256 of the image's bytes by Python's hashlib, the digest. Of seven rounds the median stands with the least and
+the most.
 
     images.py [PROGRAM [OTHER]]      crates/s4d/out/s4d where it isn't given; build it by `rt run` there
 
@@ -49,13 +50,14 @@ def bytes_of(path):
         return file.read()
 
 
-def measure(programs, name, words, folder):
-    """Prints a line of what a call takes each program."""
-    runs = [[run(it, words, folder) for it in programs] for _ in range(RUNS)]
-    mine, *others = [[seconds for seconds, _ in column] for column in zip(*runs)]
-    most = [max(memory for _, memory in column) for column in zip(*runs)]
+def measure(programs, name, words, image, folder):
+    """Prints a line of what a call takes each program, and how many digests that is."""
+    rounds = [[digest(image)] + [run(it, words, folder) for it in programs] for _ in range(RUNS)]
+    digests, *columns = zip(*rounds)
+    mine, *others = [[seconds for seconds, _ in column] for column in columns]
+    most = [f"{max(memory for _, memory in column):,}" for column in columns]
     beside = "".join(f"; other {spread(it)} s, {ratio(it, mine)} times" for it in others)
-    print(f"{name}: {spread(mine)} s{beside}; at most {', other '.join(f'{it:,} KB' for it in most)}", flush=True)
+    print(f"{name}: {spread(mine)} s, {ratio(mine, digests)} digests{beside}; at most {', other '.join(most)} KiB", flush=True)
 
 
 def main():
@@ -71,10 +73,10 @@ def main():
         image = bytes_of(os.path.join(folder, "image"))
         written = wire.kinds(bytes_of(os.path.join(folder, "out"))).count(wire.CHANGED)
         print(f"an image of {len(image):,} bytes, {OBJECTS} objects of which {written} are written whole")
-        print(f"one SHA-256 of it by hashlib: {spread([digest(image) for _ in range(RUNS)])} s")
-        measure(programs, "verify", ["verify", "image"], folder)
-        measure(programs, "at", ["at", "image", "1", str(OBJECTS + 1)], folder)
-        measure(programs, "run without a request", ["run", "--no-upkeep", "image", "client:none:out"], folder)
+        print(f"a digest: {spread([digest(image) for _ in range(RUNS)])} s")
+        measure(programs, "verify", ["verify", "image"], image, folder)
+        measure(programs, "at", ["at", "image", "1", str(OBJECTS + 1)], image, folder)
+        measure(programs, "run without a request", ["run", "--no-upkeep", "image", "client:none:out"], image, folder)
         if bytes_of(os.path.join(folder, "image")) != image:
             sys.exit("images.py: what was saved again without a request are other bytes")
 

@@ -19,6 +19,7 @@ import subprocess
 import sys
 import tempfile
 import time
+from typing import Callable, NamedTuple
 
 import wire
 from wire import DATA, WHOLE, ratio, spread
@@ -29,23 +30,32 @@ SESSIONS = (1, 2, 4, 16)
 OBJECTS = 16
 INPUTS = [f"in{o}" for o in range(1, OBJECTS + 1)]
 PART = 64  # bytes of a small Write or Read
-WHOLE_READS = 10_000  # of each session
-WRITES, READS_A_WRITE = 200, 999  # the object's journal has room for them
+READS_A_WRITE = 999
+LOOKED = 10  # how often each session asks where the replies are looked at
 
 
-def whole_reads(o):
-    return wire.read(o, 0, WHOLE) * WHOLE_READS
+class Load(NamedTuple):
+    """What a session asks of an object, again and again."""
+    name: str
+    asked: Callable  # the requests of one time
+    count: int  # how many these are
+    replied: int  # how many bytes the wanted replies have
+    times: int
 
 
-def rounds(o):
-    return (wire.write(o, 0, b"w" * PART) + wire.read(o, 0, PART) * READS_A_WRITE) * WRITES
+def whole_read(o):
+    return wire.read(o, 0, WHOLE)
 
 
-# What a session asks, how many requests these are, and how many bytes the wanted replies have.
-LOADS = {
-    "Reads of 24,576 bytes": (whole_reads, WHOLE_READS, WHOLE_READS * (5 + WHOLE)),
-    "a Write and 999 Reads of 64 bytes": (rounds, WRITES * (1 + READS_A_WRITE), WRITES * (13 + READS_A_WRITE * (5 + PART))),
-}
+def small_round(o):
+    return wire.write(o, 0, b"w" * PART) + wire.read(o, 0, PART) * READS_A_WRITE
+
+
+LOADS = (
+    Load("Reads of 24,576 bytes", whole_read, 1, 5 + WHOLE, 10_000),
+    # The object's journal has room for so many Writes.
+    Load("a Write and 999 Reads of 64 bytes", small_round, 1 + READS_A_WRITE, 13 + READS_A_WRITE * (5 + PART), 200),
+)
 
 
 class Drive:
@@ -83,15 +93,19 @@ class Drive:
         self.perform("run", *upkeep, "--tick", "0", "image", *sessions)
         return time.perf_counter() - began
 
-    def look(self, name, inputs, length):
-        """Asks once with the replies looked at: as many bytes as the wanted ones have, and the last one of the wanted kind."""
-        outputs = [f"{it}.out" for it in inputs]
-        self.run(inputs, outputs, False)
-        for it in outputs:
-            found = self.bytes_of(it)
-            os.remove(os.path.join(self.folder, it))
-            if len(found) != length or wire.kinds(found)[-1] != DATA:
-                sys.exit(f"sessions.py: {self.program}: {name}: {len(found)} bytes of replies, and not {length}")
+    def ask(self, load, times):
+        """Puts the files of what sessions ask so often."""
+        for o, name in enumerate(INPUTS, 1):
+            self.put(name, load.asked(o) * times)
+
+    def look(self, load):
+        """Asks a few times with the replies looked at: as many bytes as the wanted ones have, and the last one of the wanted kind."""
+        self.ask(load, LOOKED)
+        outputs = [f"{it}.out" for it in INPUTS]
+        self.run(INPUTS, outputs, False)
+        for found in map(self.bytes_of, outputs):
+            if len(found) != load.replied * LOOKED or wire.kinds(found)[-1] != DATA:
+                sys.exit(f"sessions.py: {self.program}: {load.name}: {len(found)} bytes of replies, and not {load.replied * LOOKED}")
 
     def taken(self, inputs, has_upkeep):
         """The seconds of all requests, of the shortest trials."""
@@ -100,15 +114,15 @@ class Drive:
         return max(asked - idle, 1e-6)
 
 
-def measure(drives, name, has_upkeep):
+def measure(drives, load, has_upkeep):
     """Prints a line for each number of sessions."""
-    requests, alone = LOADS[name][1], None
+    alone = None
     for count in SESSIONS:
         taken = [[drive.taken(INPUTS[:count], has_upkeep) for drive in drives] for _ in range(ROUNDS)]
-        mine, *others = [[requests * count / one for one in column] for column in zip(*taken)]
+        mine, *others = [[count * load.count * load.times / one for one in column] for column in zip(*taken)]
         alone = alone or mine
         beside = (cell for it in others for cell in (spread(it), ratio(mine, it)))
-        row([name, str(count), "with" if has_upkeep else "without", spread(mine), ratio(mine, alone), *beside])
+        row([load.name, str(count), "with" if has_upkeep else "without", spread(mine), ratio(mine, alone), *beside])
 
 
 def row(cells):
@@ -124,13 +138,12 @@ def main():
         heads = ["Requests", "Sessions", "Upkeep", "a second", "of one session's", *["other", "ratio"] * (len(drives) - 1)]
         row(heads)
         row(["---"] * len(heads))
-        for name, (asked, _, length) in LOADS.items():
+        for load in LOADS:
             for drive in drives:
-                for o, it in enumerate(INPUTS, 1):
-                    drive.put(it, asked(o))
-                drive.look(name, INPUTS, length)
+                drive.look(load)
+                drive.ask(load, load.times)
             for has_upkeep in (False, True):
-                measure(drives, name, has_upkeep)
+                measure(drives, load, has_upkeep)
 
 
 if __name__ == "__main__":
