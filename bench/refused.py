@@ -1,10 +1,11 @@
 #!/usr/bin/env python3
-"""Refuses a test each of its allocations in turn: in its first run the first one, in its second the second, and so on.
+"""Refuses a test, or what plays a script, each of its allocations in turn: in its first run the first one, in its second the second.
 
 Prints each run that didn't pass, with the last line that it wrote; then how many allocations were refused, one a run, and how many
 of these runs didn't pass. The last run, in which none is left to refuse, is looked at too. The status is 0 where all passed.
 
     refused.py CRATE TEST     TEST: a test's name, or its end; first (cd crates/CRATE && rt test) builds it
+    refused.py SCRIPT         a script's path, as tests/drive/full_passes.test; first (cd crates/replay && rt run) builds what plays it
 
 An allocation is what a test asks of the C library: a new block, or another size of one. CC is the C compiler, cc where it isn't set.
 """
@@ -56,37 +57,56 @@ def named(program, word):
     return found[0]
 
 
-def run(program, test, library, number):
-    """Whether the allocation was refused, whether the test passed, and the last line that it wrote."""
+def run(words, wanted, library, number):
+    """Whether the allocation was refused, whether all ended well and this was printed, and the last lines that were written."""
     told = {"LD_PRELOAD": library, "REFUSE": str(number)}
     try:
-        ran = subprocess.run([program, test], env=told, stderr=subprocess.PIPE, stdout=subprocess.PIPE, text=True, timeout=SECONDS)
+        ran = subprocess.run(words, env=told, stderr=subprocess.PIPE, stdout=subprocess.PIPE, text=True, timeout=SECONDS)
     except subprocess.TimeoutExpired:
         return True, False, f"had not ended after {SECONDS} seconds"
-    lines = (ran.stdout + ran.stderr.replace(REFUSED, "")).split("\n")
-    passed = ran.returncode == 0 and "test result: ok" in lines
-    return REFUSED in ran.stderr, passed, " ".join(lines).strip()[-200:]
+    said = (ran.stdout + ran.stderr.replace(REFUSED, "")).strip()
+    passed = ran.returncode == 0 and wanted in said
+    return REFUSED in ran.stderr, passed, said.replace("\n", " ")[-200:]
+
+
+def test_of(crate, word):
+    """The words that run a test, its full name, and what it prints where it passes."""
+    program = built(f"../crates/{crate}/out/{crate}_tests", f"(cd crates/{crate} && rt test)")
+    test = named(program, word)
+    return [program, test], test, "test result: ok"
+
+
+def built(place, command):
+    """The path of a program that this command builds."""
+    program = os.path.join(os.path.dirname(os.path.abspath(__file__)), place)
+    if not os.access(program, os.X_OK):
+        sys.exit(f"refused.py: {program} isn't there; build it by {command}")
+    return program
+
+
+def asked():
+    """The words of the run that was asked for, its name, and what it prints where all is as it should be."""
+    if len(sys.argv) == 3:
+        return test_of(*sys.argv[1:])
+    if len(sys.argv) != 2:
+        sys.exit(__doc__)
+    script = sys.argv[1]
+    program = built("../crates/replay/out/replay", "(cd crates/replay && rt run)")
+    return [program, script], script, " lines, 0 differ"
 
 
 def main():
-    if len(sys.argv) != 3:
-        sys.exit(__doc__)
-    crate, word = sys.argv[1:]
-    here = os.path.dirname(os.path.abspath(__file__))
-    program = os.path.join(here, f"../crates/{crate}/out/{crate}_tests")
-    if not os.access(program, os.X_OK):
-        sys.exit(f"refused.py: {program}: no tests; build them by (cd crates/{crate} && rt test)")
-    test = named(program, word)
+    words, name, wanted = asked()
     number, failed = 0, 0
     with tempfile.TemporaryDirectory() as folder:
         library, is_refused = compiled(folder), True
         while is_refused:
             number += 1
-            is_refused, passed, said = run(program, test, library, number)
+            is_refused, passed, said = run(words, wanted, library, number)
             if not passed:
                 failed += 1
-                print(f"{test}, allocation {number}: {said}", flush=True)
-    print(f"{test}: {number - 1} allocations were refused, one a run; {failed or 'none'} of {number} runs failed")
+                print(f"{name}, allocation {number}: {said}", flush=True)
+    print(f"{name}: {number - 1} allocations were refused, one a run; {failed or 'none'} of {number} runs failed")
     sys.exit(1 if failed else 0)
 
 
