@@ -22,8 +22,6 @@ mod reading_past;
 mod running;
 mod saving;
 mod session_thread;
-#[cfg(test)]
-mod tests;
 mod verifying;
 
 use performing::{fail, perform, refuse};
