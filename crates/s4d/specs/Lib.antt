@@ -1,4 +1,3 @@
 pub mod Performing
 pub mod Piping
 pub mod Running
-pub mod Verifying

@@ -14,17 +14,10 @@ ghost use Rattle.clap.specs.Walk.{Text};
 ghost use Rattle.std.specs.declared.io.ErrorKind.TheVariants.{OutOfMemory};
 ghost use Rattle.s4d.specs.Performing.{IsDone};
 
-mod faults;
-mod files;
 mod performing;
 mod piping;
-mod reading_past;
 mod running;
-mod saving;
 mod session_thread;
-#[cfg(test)]
-mod tests;
-mod verifying;
 
 use performing::{fail, perform, refuse};
 use s4d_command::CommandError;

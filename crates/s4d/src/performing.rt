@@ -3,13 +3,9 @@ ghost use Rattle.std.specs.Prelude.{◌≡◌, ◌+◌, ◌^◌, ◌<◌, ◌≤
 ghost use Rattle.serving.specs.Streams.{taken_by};
 ghost use Rattle.s4d.specs.Performing.{IsDone, IsUsage};
 
-use crate::faults::Fault;
-use crate::files::Files;
 use crate::piping::serve_pipe;
-use crate::reading_past::write_object;
 use crate::running::run_file;
-use crate::saving::make_file;
-use crate::verifying::verify_file;
+use image_commands::{Fault, Files, make_file, verify_file, write_object};
 use s4d_command::{Command, CommandError, command_of};
 use serving::{ServeEnd, Sink, Source};
 use std::alloc::Global;

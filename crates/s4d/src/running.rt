@@ -7,11 +7,8 @@ ghost use Rattle.serving.specs.Streams.{taken_by};
 ghost use Rattle.server.specs.Attending.{IsAttended, PassesOn};
 ghost use Rattle.s4d.specs.Running.{IsSavedFrom};
 
-use crate::faults::{Fault, reading, writing};
-use crate::files::Files;
-use crate::saving::write_image;
-use crate::verifying::read_image;
 use drive::{Drive, OpenedDrive};
+use image_commands::{Fault, Files, read_image, reading, write_image, writing};
 use s4_types::{Moment, Refusal};
 use s4d_command::{Run, RunSession};
 use segment_word::Naming;

@@ -2,7 +2,7 @@
 ghost use Rattle.std.specs.Prelude.{◌≡◌, ◌+◌, ◌^◌, ◌<◌, [], IfOk, OnOk, string_bytes};
 ghost use Rattle.std.specs.Io.KnownBytes.{Appends};
 ghost use Rattle.serving.specs.Streams.{taken_by};
-ghost use Rattle.s4d.specs.Verifying.{number_line, image_line, IsVerified, TellsImage};
+ghost use Rattle.image_commands.specs.Verifying.{number_line, image_line, IsVerified, TellsImage};
 
 use crate::faults::{Fault, reading};
 use crate::files::Files;

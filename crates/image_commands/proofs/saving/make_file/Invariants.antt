@@ -1,5 +1,5 @@
 use Rattle.s4_model.specs.State.{new_base}
-use Rattle.s4d.proofs.saving.make_file.Given as goal
+use Rattle.image_commands.proofs.saving.make_file.Given as goal
 
 -- the drive that was just made
 abbrev pub ghosts-save_new : goal.ghosts-save_new

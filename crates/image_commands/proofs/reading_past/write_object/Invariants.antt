@@ -1,7 +1,7 @@
 use Rattle.segment_table.specs.Room.{log_of}
 use Rattle.version_store.specs.Store.{fields_of}
 use Rattle.drive.specs.Opened.{base_of}
-use Rattle.s4d.proofs.reading_past.write_object.Given as goal
+use Rattle.image_commands.proofs.reading_past.write_object.Given as goal
 
 -- the drive that was opened
 abbrev pub ghosts-write_named : goal.ghosts-write_named

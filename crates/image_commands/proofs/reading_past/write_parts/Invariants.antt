@@ -1,5 +1,5 @@
 use Rattle.std.proofs.Common.{◌+◌, ◌^◌, ◌<◌}
-use Rattle.s4d.proofs.reading_past.write_parts.Given as goal
+use Rattle.image_commands.proofs.reading_past.write_parts.Given as goal
 
 -- the writer hasn't failed since
 abbrev pub invariant-loop-part : goal.invariant-loop-part
