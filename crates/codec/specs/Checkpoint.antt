@@ -63,6 +63,24 @@ SpellsCheckpoint block c = ((checkpoint_rules c ≡ true) × CheckpointNumbers c
 abbrev pub checked : CheckpointFields → Option CheckpointFields
 checked c = kept (checkpoint_rules c) c
 
+-- reading what stands behind the moments of a checkpoint
+abbrev pub behind_moments : Bool → ℕ → ℕ → ℕ → ℕ → ℕ → ℕ → List ℕ → Option (CheckpointFields × List ℕ)
+behind_moments alive len size object moment created changed bytes = do
+  attribute ← padded_at len bytes
+  pointers ← many_at slot_at OBJECT_BLOCKS attribute.1
+  end ← zeros_at 24 pointers.1
+  made ← checked (record { object = object; moment = moment; inode = record { alive = alive; size = size; created = created; changed = changed; attribute = attribute.0; pointers = pointers.0 } })
+  Some (made, end.1)
+
+-- reading what stands behind the size of a checkpoint
+abbrev pub behind_size : Bool → ℕ → ℕ → List ℕ → Option (CheckpointFields × List ℕ)
+behind_size alive len size bytes = do
+  object ← number_at w64 bytes
+  moment ← number_at w64 object.1
+  created ← number_at w64 moment.1
+  changed ← number_at w64 created.1
+  behind_moments alive len size object.0 moment.0 created.0 changed.0 changed.1
+
 -- reading a checkpoint
 unfoldable pub checkpoint_at : List ℕ → Option (CheckpointFields × List ℕ)
 checkpoint_at bytes = do
@@ -71,12 +89,4 @@ checkpoint_at bytes = do
   len ← byte_at alive.1
   gap ← mark_at 0 len.1
   size ← number_at w32 gap.1
-  object ← number_at w64 size.1
-  moment ← number_at w64 object.1
-  created ← number_at w64 moment.1
-  changed ← number_at w64 created.1
-  attribute ← padded_at len.0 changed.1
-  pointers ← many_at slot_at OBJECT_BLOCKS attribute.1
-  end ← zeros_at 24 pointers.1
-  made ← checked (record { object = object.0; moment = moment.0; inode = record { alive = alive.0; size = size.0; created = created.0; changed = changed.0; attribute = attribute.0; pointers = pointers.0 } })
-  Some (made, end.1)
+  behind_size alive.0 len.0 size.0 size.1

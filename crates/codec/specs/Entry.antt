@@ -144,20 +144,30 @@ triples_at count bytes = if nat_lt 16 count then None else many_at triple_at cou
 abbrev pub checked_entry : EntryFields → Option EntryFields
 checked_entry e = kept (entry_rules e) e
 
+-- what stands behind the two statuses of an entry
+abbrev pub behind_statuses : ℕ → Status → Status → Bool → ℕ → List ℕ → Option (EntryFields × List ℕ)
+behind_statuses moment before after there count bytes = do
+  pair ← pair_at there bytes
+  triples ← triples_at count pair.1
+  made ← checked_entry (record { moment = moment; before = before; after = after; pair = pair.0; triples = triples.0 })
+  Some (made, triples.1)
+
+-- what stands behind an entry's count of triples
+abbrev pub behind_count : ℕ → Flags → ℕ → List ℕ → Option (EntryFields × List ℕ)
+behind_count moment flags count bytes = do
+  size_before ← number_at w32 bytes
+  size_after ← number_at w32 size_before.1
+  changed_before ← number_at w64 size_after.1
+  changed_after ← number_at w64 changed_before.1
+  behind_statuses moment (record { alive = flags.before; size = size_before.0; changed = changed_before.0 }) (record { alive = flags.after; size = size_after.0; changed = changed_after.0 }) flags.pair count changed_after.1
+
 -- an entry, and the bytes after it
 unfoldable pub entry_at : List ℕ → Option (EntryFields × List ℕ)
 entry_at bytes = do
   moment ← number_at w64 bytes
   flags ← flags_at moment.1
   count ← byte_at flags.1
-  size_before ← number_at w32 count.1
-  size_after ← number_at w32 size_before.1
-  changed_before ← number_at w64 size_after.1
-  changed_after ← number_at w64 changed_before.1
-  pair ← pair_at flags.0.pair changed_after.1
-  triples ← triples_at count.0 pair.1
-  made ← checked_entry (record { moment = moment.0; before = record { alive = flags.0.before; size = size_before.0; changed = changed_before.0 }; after = record { alive = flags.0.after; size = size_after.0; changed = changed_after.0 }; pair = pair.0; triples = triples.0 })
-  Some (made, triples.1)
+  behind_count moment.0 flags.0 count.0 count.1
 
 -- the bytes of two attributes behind their lengths, or none
 unfoldable pub pair_length : Option Pair → ℕ

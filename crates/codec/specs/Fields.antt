@@ -63,15 +63,20 @@ slot_of frame block gap generation =
     let place : Place = record { frame = frame; block = block; generation = generation } in
     if gap == 0 then (if frame == 0 && (block == 0 && generation == 0) then Some None else kept (is_place place) (Some place)) else None
 
+-- what stands behind the block of a slot
+abbrev pub behind_block : ℕ → ℕ → List ℕ → Option (Option Place × List ℕ)
+behind_block frame block bytes = do
+  gap ← byte_at bytes
+  generation ← number_at w32 gap.1
+  place ← slot_of frame block gap.0 generation.0
+  Some (place, generation.1)
+
 -- a pointer or a hole, and the bytes after it
 unfoldable pub slot_at : List ℕ → Option (Option Place × List ℕ)
 slot_at bytes = do
   frame ← number_at w16 bytes
   block ← byte_at frame.1
-  gap ← byte_at block.1
-  generation ← number_at w32 gap.1
-  place ← slot_of frame.0 block.0 gap.0 generation.0
-  Some (place, generation.1)
+  behind_block frame.0 block.0 block.1
 
 -- a byte that must be this one, and the bytes after it
 unfoldable pub mark_at : ℕ → List ℕ → Option (Unit {0} × List ℕ)

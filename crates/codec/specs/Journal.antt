@@ -45,6 +45,15 @@ entries_at count bytes = if nat_lt 14 count then None else many_at entry_at coun
 unfoldable pub told_journal : ℕ → JournalFields → Option JournalFields
 told_journal told j = kept (told == entries_length j.entries && journal_rules j) j
 
+-- reading what stands behind the object of a journal block
+abbrev pub behind_object : ℕ → ℕ → ℕ → List ℕ → Option (JournalFields × List ℕ)
+behind_object count told object bytes = do
+  previous ← slot_at bytes
+  entries ← entries_at count previous.1
+  end ← zeros_at (JOURNAL_ENTRY_BYTES - told) entries.1
+  made ← told_journal told (record { object = object; previous = previous.0; entries = entries.0 })
+  Some (made, end.1)
+
 -- reading a journal block
 unfoldable pub journal_at : List ℕ → Option (JournalFields × List ℕ)
 journal_at bytes = do
@@ -53,8 +62,4 @@ journal_at bytes = do
   told ← number_at w16 count.1
   gap ← zeros_at 4 told.1
   object ← number_at w64 gap.1
-  previous ← slot_at object.1
-  entries ← entries_at count.0 previous.1
-  end ← zeros_at (JOURNAL_ENTRY_BYTES - told.0) entries.1
-  made ← told_journal told.0 (record { object = object.0; previous = previous.0; entries = entries.0 })
-  Some (made, end.1)
+  behind_object count.0 told.0 object.0 object.1

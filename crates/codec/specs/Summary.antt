@@ -105,6 +105,24 @@ parts_at used bytes = if nat_lt 15 used then None else many_at part_at used byte
 abbrev pub checked_summary : SummaryFields → Option SummaryFields
 checked_summary s = kept (summary_rules s) s
 
+-- reading what stands behind the numbers in the head of a summary
+abbrev pub behind_numbers : ℕ → ℕ → ℕ → List ℕ → Option (SummaryFields × List ℕ)
+behind_numbers frame used generation bytes = do
+  parts ← parts_at used bytes
+  end ← zeros_at (464 - 9 * used) parts.1
+  made ← checked_summary (record { frame = frame; generation = generation; parts = parts.0 })
+  Some (made, end.1)
+
+-- reading what stands behind the marks in the head of a summary
+abbrev pub behind_marks : List ℕ → Option (SummaryFields × List ℕ)
+behind_marks bytes = do
+  frame ← number_at w16 bytes
+  used ← byte_at frame.1
+  gap ← mark_at 0 used.1
+  generation ← number_at w32 gap.1
+  reserve ← zeros_at 4 generation.1
+  behind_numbers frame.0 used.0 generation.0 reserve.1
+
 -- reading the head of a summary
 unfoldable pub head_at : List ℕ → Option (SummaryFields × List ℕ)
 head_at bytes = do
@@ -112,12 +130,4 @@ head_at bytes = do
   second ← mark_at 0x34 first.1
   third ← mark_at 0x73 second.1
   fourth ← mark_at 0x67 third.1
-  frame ← number_at w16 fourth.1
-  used ← byte_at frame.1
-  gap ← mark_at 0 used.1
-  generation ← number_at w32 gap.1
-  reserve ← zeros_at 4 generation.1
-  parts ← parts_at used.0 reserve.1
-  end ← zeros_at (464 - 9 * used.0) parts.1
-  made ← checked_summary (record { frame = frame.0; generation = generation.0; parts = parts.0 })
-  Some (made, end.1)
+  behind_marks fourth.1

@@ -1,6 +1,6 @@
 ghost use Rattle.std.specs.Prelude.{◌≡◌, ℕ, ◌≤◌, ◌+◌, ◌++◌, Bool, true, nat_lt, is_none, ◌||◌, List, length, Option, Some, IfSome, IsSome, ◌↔◌};
 ghost use Rattle.codec.specs.Fields.{Reads, all_of, padded_at};
-ghost use Rattle.codec.specs.Checkpoint.{CheckpointFields, checked, holes_past, checkpoint_rules, checkpoint_at, SpellsCheckpoint};
+ghost use Rattle.codec.specs.Checkpoint.{CheckpointFields, checked, holes_past, checkpoint_rules, behind_moments, behind_size, checkpoint_at, SpellsCheckpoint};
 
 use crate::attributes::Attribute;
 use crate::fields::{
@@ -119,6 +119,65 @@ fn read_padded(length: u8, bytes: &[u8]) -> Option<(Attribute, &[u8])>
     Some((attribute, rest))
 }
 
+/// The numbers of a checkpoint.
+#[derive(Clone, Copy)]
+struct Numbers {
+    alive: bool,
+    length: u8,
+    size: u32,
+    object: u64,
+    moment: u64,
+    created: u64,
+    changed: u64,
+}
+
+/// What stands behind the moments of a checkpoint.
+fn read_behind_moments(numbers: Numbers, bytes: &[u8]) -> Option<(Checkpoint, &[u8])>
+    ensures { Reads (λ x. (x.0, x.1.now)) result (behind_moments numbers.alive numbers.length numbers.size numbers.object numbers.moment numbers.created numbers.changed bytes.now) }
+{
+    let Some((attribute, rest)) = read_padded(numbers.length, bytes) else {
+        return None;
+    };
+    let Some((slots, rest)) = read_slots(rest) else {
+        return None;
+    };
+    let rest = read_zeros(24, rest)?;
+    let inode = Inode {
+        alive: numbers.alive,
+        size: numbers.size,
+        created: Moment::new(numbers.created),
+        changed: Moment::new(numbers.changed),
+        attribute,
+        pointers: all_slots(slots),
+    };
+    let checkpoint = Checkpoint::new(
+        ObjectId::new(numbers.object),
+        Moment::new(numbers.moment),
+        inode,
+    )?;
+    Some((checkpoint, rest))
+}
+
+/// What stands behind the size of a checkpoint.
+fn read_behind_size(alive: bool, length: u8, size: u32, bytes: &[u8]) -> Option<(Checkpoint, &[u8])>
+    ensures { Reads (λ x. (x.0, x.1.now)) result (behind_size alive length size bytes.now) }
+{
+    let (object, rest) = read_long(bytes)?;
+    let (moment, rest) = read_long(rest)?;
+    let (created, rest) = read_long(rest)?;
+    let (changed, rest) = read_long(rest)?;
+    let numbers = Numbers {
+        alive,
+        length,
+        size,
+        object,
+        moment,
+        created,
+        changed,
+    };
+    read_behind_moments(numbers, rest)
+}
+
 #[tactic(auto, unfolding(crate::specs::Checkpoint::checkpoint_at))]
 fn read_checkpoint(bytes: &[u8]) -> Option<(Checkpoint, &[u8])>
     ensures { Reads (λ x. (x.0, x.1.now)) result (checkpoint_at bytes.now) }
@@ -128,28 +187,7 @@ fn read_checkpoint(bytes: &[u8]) -> Option<(Checkpoint, &[u8])>
     let (length, rest) = read_byte(rest)?;
     let rest = read_mark(0, rest)?;
     let (size, rest) = read_word(rest)?;
-    let (object, rest) = read_long(rest)?;
-    let (moment, rest) = read_long(rest)?;
-    let (created, rest) = read_long(rest)?;
-    let (changed, rest) = read_long(rest)?;
-    let Some((attribute, rest)) = read_padded(length, rest) else {
-        return None;
-    };
-    let Some((slots, rest)) = read_slots(rest) else {
-        return None;
-    };
-    let rest = read_zeros(24, rest)?;
-    let pointers = all_slots(slots);
-    let inode = Inode {
-        alive,
-        size,
-        created: Moment::new(created),
-        changed: Moment::new(changed),
-        attribute,
-        pointers,
-    };
-    let checkpoint = Checkpoint::new(ObjectId::new(object), Moment::new(moment), inode)?;
-    Some((checkpoint, rest))
+    read_behind_size(alive, length, size, rest)
 }
 
 fn checkpoint_in(bytes: &[u8]) -> Option<Checkpoint>

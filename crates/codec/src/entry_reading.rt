@@ -1,6 +1,6 @@
 ghost use Rattle.std.specs.Prelude.{◌≡◌, ℕ, List, length, Option};
 ghost use Rattle.codec.specs.Fields.{Reads};
-ghost use Rattle.codec.specs.Entry.{EntryFields, flags_at, text_at, pair_at, triple_at, triples_at, entry_at};
+ghost use Rattle.codec.specs.Entry.{EntryFields, flags_at, text_at, pair_at, triple_at, triples_at, behind_statuses, behind_count, entry_at};
 
 use crate::attributes::Attribute;
 use crate::entries::{Entry, Flags, Pair, Status, Triple, Triples};
@@ -92,23 +92,40 @@ fn read_triples(count: u8, bytes: &[u8]) -> Option<(Triples, &[u8])>
     Some((triples, rest))
 }
 
-#[tactic(auto, unfolding(crate::specs::Entry::entry_at))]
-pub(crate) fn read_entry(bytes: &[u8]) -> Option<(Entry, &[u8])>
-    ensures { Reads (λ x. (x.0, x.1.now)) result (entry_at bytes.now) }
+// What stands behind the two statuses of an entry.
+fn read_behind_statuses(
+    moment: Moment,
+    before: Status,
+    after: Status,
+    has_pair: bool,
+    count: u8,
+    bytes: &[u8],
+) -> Option<(Entry, &[u8])>
+    ensures { Reads (λ x. (x.0, x.1.now)) result (behind_statuses moment before after has_pair count bytes.now) }
 {
-    let (moment, rest) = read_long(bytes)?;
-    let (flags, rest) = read_flags(rest)?;
-    let (count, rest) = read_byte(rest)?;
-    let (size_before, rest) = read_word(rest)?;
-    let (size_after, rest) = read_word(rest)?;
-    let (changed_before, rest) = read_long(rest)?;
-    let (changed_after, rest) = read_long(rest)?;
-    let Some((pair, rest)) = read_pair(flags.pair, rest) else {
+    let Some((pair, rest)) = read_pair(has_pair, bytes) else {
         return None;
     };
     let Some((triples, rest)) = read_triples(count, rest) else {
         return None;
     };
+    let entry = Entry::new(moment, before, after, pair, triples)?;
+    Some((entry, rest))
+}
+
+// What stands behind an entry's count of triples.
+fn read_behind_count(
+    moment: Moment,
+    flags: Flags,
+    count: u8,
+    bytes: &[u8],
+) -> Option<(Entry, &[u8])>
+    ensures { Reads (λ x. (x.0, x.1.now)) result (behind_count moment flags count bytes.now) }
+{
+    let (size_before, rest) = read_word(bytes)?;
+    let (size_after, rest) = read_word(rest)?;
+    let (changed_before, rest) = read_long(rest)?;
+    let (changed_after, rest) = read_long(rest)?;
     let before = Status {
         alive: flags.before,
         size: size_before,
@@ -119,6 +136,15 @@ pub(crate) fn read_entry(bytes: &[u8]) -> Option<(Entry, &[u8])>
         size: size_after,
         changed: Moment::new(changed_after),
     };
-    let entry = Entry::new(Moment::new(moment), before, after, pair, triples)?;
-    Some((entry, rest))
+    read_behind_statuses(moment, before, after, flags.pair, count, rest)
+}
+
+#[tactic(auto, unfolding(crate::specs::Entry::entry_at))]
+pub(crate) fn read_entry(bytes: &[u8]) -> Option<(Entry, &[u8])>
+    ensures { Reads (λ x. (x.0, x.1.now)) result (entry_at bytes.now) }
+{
+    let (moment, rest) = read_long(bytes)?;
+    let (flags, rest) = read_flags(rest)?;
+    let (count, rest) = read_byte(rest)?;
+    read_behind_count(Moment::new(moment), flags, count, rest)
 }

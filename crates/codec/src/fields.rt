@@ -1,6 +1,6 @@
 ghost use Rattle.std.specs.Prelude.{◌≡◌, ℕ, ◌-◌, ◌+◌, ◌≤◌, ◌++◌, [], ◌∷◌, List, length};
 ghost use Rattle.std.specs.Int.{w16, w32, w64};
-ghost use Rattle.codec.specs.Fields.{Reads, number_at, byte_at, bytes_at, zeros_at, mark_at, flag_at, slot_at, slot_of, number, zeros, slot};
+ghost use Rattle.codec.specs.Fields.{Reads, number_at, byte_at, bytes_at, zeros_at, mark_at, flag_at, behind_block, slot_at, slot_of, number, zeros, slot};
 
 use byteorder::{BigEndian, ByteOrder};
 use s4_types::Ptr;
@@ -91,6 +91,16 @@ fn slot_named(frame: u16, block: u8, gap: u8, generation: u32) -> Option<Option<
     Some(Ptr::new(frame, block, generation))
 }
 
+/// What stands behind the block of a pointer or a hole.
+fn read_behind_block(frame: u16, block: u8, bytes: &[u8]) -> Option<(Option<Ptr>, &[u8])>
+    ensures { Reads (λ x. (x.0, x.1.now)) result (behind_block frame block bytes.now) }
+{
+    let (gap, rest) = read_byte(bytes)?;
+    let (generation, rest) = read_word(rest)?;
+    let slot = slot_named(frame, block, gap, generation)?;
+    Some((slot, rest))
+}
+
 /// A pointer or a hole.
 #[tactic(auto, unfolding(crate::specs::Fields::slot_at))]
 pub(crate) fn read_slot(bytes: &[u8]) -> Option<(Option<Ptr>, &[u8])>
@@ -98,10 +108,7 @@ pub(crate) fn read_slot(bytes: &[u8]) -> Option<(Option<Ptr>, &[u8])>
 {
     let (frame, rest) = read_short(bytes)?;
     let (block, rest) = read_byte(rest)?;
-    let (gap, rest) = read_byte(rest)?;
-    let (generation, rest) = read_word(rest)?;
-    let slot = slot_named(frame, block, gap, generation)?;
-    Some((slot, rest))
+    read_behind_block(frame, block, rest)
 }
 
 /// Whether the next byte is `mark`, and what stands behind it.

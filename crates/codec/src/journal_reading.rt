@@ -1,6 +1,6 @@
 ghost use Rattle.std.specs.Prelude.{◌≡◌, ℕ, List, length, Option, Some, IfSome};
 ghost use Rattle.codec.specs.Fields.{Reads, all_of};
-ghost use Rattle.codec.specs.Journal.{JournalFields, entries_at, told_journal, journal_at, SpellsJournal};
+ghost use Rattle.codec.specs.Journal.{JournalFields, entries_at, told_journal, behind_object, journal_at, SpellsJournal};
 
 use crate::entry_reading::read_entry;
 use crate::fields::{read_byte, read_long, read_mark, read_short, read_slot, read_zeros};
@@ -43,6 +43,26 @@ fn block_told(
     JournalBlock::new(object, previous, entries)
 }
 
+/// What stands behind the object of a journal block.
+fn read_behind_object(
+    count: u8,
+    told: u16,
+    object: ObjectId,
+    bytes: &[u8],
+) -> Option<(JournalBlock, &[u8])>
+    ensures { Reads (λ x. (x.0, x.1.now)) result (behind_object count told object bytes.now) }
+{
+    let Some((previous, rest)) = read_slot(bytes) else {
+        return None;
+    };
+    let Some((entries, rest)) = read_entries(count, rest) else {
+        return None;
+    };
+    let rest = read_zeros(JOURNAL_ENTRY_BYTES.saturating_sub(told as usize), rest)?;
+    let journal = block_told(told, object, previous, entries)?;
+    Some((journal, rest))
+}
+
 #[tactic(auto, unfolding(crate::specs::Journal::journal_at))]
 fn read_journal(bytes: &[u8]) -> Option<(JournalBlock, &[u8])>
     ensures { Reads (λ x. (x.0, x.1.now)) result (journal_at bytes.now) }
@@ -52,15 +72,7 @@ fn read_journal(bytes: &[u8]) -> Option<(JournalBlock, &[u8])>
     let (told, rest) = read_short(rest)?;
     let rest = read_zeros(4, rest)?;
     let (object, rest) = read_long(rest)?;
-    let Some((previous, rest)) = read_slot(rest) else {
-        return None;
-    };
-    let Some((entries, rest)) = read_entries(count, rest) else {
-        return None;
-    };
-    let rest = read_zeros(JOURNAL_ENTRY_BYTES.saturating_sub(told as usize), rest)?;
-    let journal = block_told(told, ObjectId::new(object), previous, entries)?;
-    Some((journal, rest))
+    read_behind_object(count, told, ObjectId::new(object), rest)
 }
 
 fn journal_in(bytes: &[u8]) -> Option<JournalBlock>

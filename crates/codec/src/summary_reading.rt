@@ -1,7 +1,7 @@
 ghost use Rattle.std.specs.Prelude.{◌≡◌, ◌≢◌, ℕ, ◌≤◌, List, length, Option, Some, IfSome, MatchBool};
 ghost use Rattle.std.specs.List.{AllByRecursion};
 ghost use Rattle.codec.specs.Fields.{Reads, all_of, zeros};
-ghost use Rattle.codec.specs.Summary.{SummaryFields, IsBlank, UnusedAreBlank, SpellsSummary, frame_digest, kind_at, part_at, parts_at, head_at};
+ghost use Rattle.codec.specs.Summary.{SummaryFields, IsBlank, UnusedAreBlank, SpellsSummary, frame_digest, kind_at, part_at, parts_at, behind_numbers, behind_marks, head_at};
 
 use crate::fields::{read_byte, read_long, read_mark, read_short, read_word, read_zeros};
 use crate::frame_digests::digest_of;
@@ -55,20 +55,16 @@ fn read_parts(used: u8, bytes: &[u8]) -> Option<(Parts, &[u8])>
     Some((parts, rest))
 }
 
-#[tactic(auto, unfolding(crate::specs::Summary::head_at))]
-fn read_head(bytes: &[u8]) -> Option<(Summary, &[u8])>
-    ensures { Reads (λ x. (x.0, x.1.now)) result (head_at bytes.now) }
+/// What stands behind the numbers in the head of a summary.
+fn read_behind_numbers(
+    frame: u16,
+    used: u8,
+    generation: u32,
+    bytes: &[u8],
+) -> Option<(Summary, &[u8])>
+    ensures { Reads (λ x. (x.0, x.1.now)) result (behind_numbers frame used generation bytes.now) }
 {
-    let rest = read_mark(0x53, bytes)?;
-    let rest = read_mark(0x34, rest)?;
-    let rest = read_mark(0x73, rest)?;
-    let rest = read_mark(0x67, rest)?;
-    let (frame, rest) = read_short(rest)?;
-    let (used, rest) = read_byte(rest)?;
-    let rest = read_mark(0, rest)?;
-    let (generation, rest) = read_word(rest)?;
-    let rest = read_zeros(4, rest)?;
-    let Some((parts, rest)) = read_parts(used, rest) else {
+    let Some((parts, rest)) = read_parts(used, bytes) else {
         return None;
     };
     let rest = read_zeros(
@@ -77,6 +73,29 @@ fn read_head(bytes: &[u8]) -> Option<(Summary, &[u8])>
     )?;
     let summary = Summary::new(frame, generation, parts)?;
     Some((summary, rest))
+}
+
+/// What stands behind the marks in the head of a summary.
+fn read_behind_marks(bytes: &[u8]) -> Option<(Summary, &[u8])>
+    ensures { Reads (λ x. (x.0, x.1.now)) result (behind_marks bytes.now) }
+{
+    let (frame, rest) = read_short(bytes)?;
+    let (used, rest) = read_byte(rest)?;
+    let rest = read_mark(0, rest)?;
+    let (generation, rest) = read_word(rest)?;
+    let rest = read_zeros(4, rest)?;
+    read_behind_numbers(frame, used, generation, rest)
+}
+
+#[tactic(auto, unfolding(crate::specs::Summary::head_at))]
+fn read_head(bytes: &[u8]) -> Option<(Summary, &[u8])>
+    ensures { Reads (λ x. (x.0, x.1.now)) result (head_at bytes.now) }
+{
+    let rest = read_mark(0x53, bytes)?;
+    let rest = read_mark(0x34, rest)?;
+    let rest = read_mark(0x73, rest)?;
+    let rest = read_mark(0x67, rest)?;
+    read_behind_marks(rest)
 }
 
 fn summary_in(head: &[u8]) -> Option<Summary>

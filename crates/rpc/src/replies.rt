@@ -3,7 +3,7 @@ ghost use Rattle.std.specs.Result.{IsErrOf};
 ghost use Rattle.rpc.specs.Spelling.{SpellsReply};
 ghost use Rattle.s4_types.specs.declared.replies.Reply.{Reply as Answered};
 ghost use Rattle.s4_types.specs.declared.refusals.Refusal.TheVariants.{NoMemory, BadFrame};
-ghost use Rattle.rpc.specs.private.Reading.{Gives, refusal_of_code, refused_at, changed_at, created_at, data_at, attr_at, wire_reply_at};
+ghost use Rattle.rpc.specs.private.Reading.{Gives, refusal_of_code, refused_at, changed_at, created_at, data_at, behind_changed, attr_at, wire_reply_at};
 
 use crate::fields::{read_end, read_long, read_tail, read_text, read_word};
 use crate::unread::Unread;
@@ -57,6 +57,26 @@ fn data_of(alloc: Global, bytes: &[u8]) -> Result<Reply, Unread>
     Ok(Reply::Data(read_tail(alloc, READ_BYTES as usize, bytes)?))
 }
 
+// What stands behind the moments of a reply with attributes.
+fn read_behind_changed(
+    alloc: Global,
+    size: u32,
+    created: Moment,
+    changed: Moment,
+    bytes: &[u8],
+) -> Result<Reply, Unread>
+    ensures { Gives (λ x. x) result (behind_changed size created changed bytes.now) }
+{
+    let (attribute, rest) = read_text(alloc, ATTRIBUTE_BYTES, bytes)?;
+    read_end(rest)?;
+    Ok(Reply::Attr {
+        size,
+        created,
+        changed,
+        attribute,
+    })
+}
+
 #[tactic(auto, unfolding(crate::specs::private::Reading::attr_at))]
 fn attr_of(alloc: Global, bytes: &[u8]) -> Result<Reply, Unread>
     ensures { Gives (λ x. x) result (attr_at bytes.now) }
@@ -64,14 +84,13 @@ fn attr_of(alloc: Global, bytes: &[u8]) -> Result<Reply, Unread>
     let (size, rest) = read_word(bytes)?;
     let (created, rest) = read_long(rest)?;
     let (changed, rest) = read_long(rest)?;
-    let (attribute, rest) = read_text(alloc, ATTRIBUTE_BYTES, rest)?;
-    read_end(rest)?;
-    Ok(Reply::Attr {
+    read_behind_changed(
+        alloc,
         size,
-        created: Moment::new(created),
-        changed: Moment::new(changed),
-        attribute,
-    })
+        Moment::new(created),
+        Moment::new(changed),
+        rest,
+    )
 }
 
 /// A reply, by its first byte.

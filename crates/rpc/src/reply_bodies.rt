@@ -5,7 +5,20 @@ ghost use Rattle.s4_types.specs.Sizes.{ReplyFits};
 ghost use Rattle.s4_types.specs.declared.limits.TheConstants.{FRAME_BODY_BYTES};
 
 use crate::room::{put, put_bytes, put_moment, put_object, put_text, put_word};
-use s4_types::Reply;
+use s4_types::{Bytes, Moment, Reply};
+
+fn put_attr(out: &mut Vec<u8>, size: u32, created: Moment, changed: Moment, attribute: &Bytes)
+    requires room { HasRoom out.old (length (reply_spelling (Reply.Attr size created changed attribute.now))) }
+    requires fits { ReplyFits (Reply.Attr size created changed attribute.now) }
+    ensures bytes { Appended out.old out.new (reply_spelling (Reply.Attr size created changed attribute.now)) }
+    ensures range { ReplyNumbers (Reply.Attr size created changed attribute.now) }
+{
+    put(out, &[4]);
+    put_word(out, size);
+    put_moment(out, created);
+    put_moment(out, changed);
+    put_text(out, attribute);
+}
 
 /// Writes the body of a reply.
 pub(crate) fn put_reply(out: &mut Vec<u8>, reply: &Reply)
@@ -34,13 +47,7 @@ pub(crate) fn put_reply(out: &mut Vec<u8>, reply: &Reply)
             created,
             changed,
             attribute,
-        } => {
-            put(out, &[4]);
-            put_word(out, *size);
-            put_moment(out, *created);
-            put_moment(out, *changed);
-            put_text(out, attribute);
-        }
+        } => put_attr(out, *size, *created, *changed, attribute),
     }
 }
 

@@ -3,7 +3,7 @@ ghost use Rattle.std.specs.Result.{IsErrOf};
 ghost use Rattle.rpc.specs.Spelling.{SpellsRequest};
 ghost use Rattle.s4_types.specs.declared.requests.Request.{Request as Asked};
 ghost use Rattle.s4_types.specs.declared.refusals.Refusal.TheVariants.{NoMemory, BadFrame};
-ghost use Rattle.rpc.specs.private.Reading.{Gives, create_at, delete_at, read_at, write_at, append_at, truncate_at, get_attr_at, set_attr_at, set_window_at, flush_at, flush_object_at, request_at};
+ghost use Rattle.rpc.specs.private.Reading.{Gives, create_at, delete_at, behind_offset, read_at, write_at, append_at, truncate_at, get_attr_at, set_attr_at, set_window_at, flush_at, flush_object_at, request_at};
 
 use crate::fields::{read_at, read_end, read_long, read_tail, read_text, read_word};
 use crate::unread::Unread;
@@ -40,21 +40,28 @@ fn delete_of(bytes: &[u8]) -> Result<Request, Unread>
     })
 }
 
+// What stands behind the offset of a read.
+fn read_behind_offset(object: ObjectId, offset: u64, bytes: &[u8]) -> Result<Request, Unread>
+    ensures { Gives (λ x. x) result (behind_offset object offset bytes.now) }
+{
+    let (length, rest) = read_word(bytes)?;
+    let (at, rest) = read_at(rest)?;
+    read_end(rest)?;
+    Ok(Request::Read {
+        object,
+        offset,
+        length,
+        at: moment_of(at),
+    })
+}
+
 #[tactic(auto, unfolding(crate::specs::private::Reading::read_at))]
 fn read_of(bytes: &[u8]) -> Result<Request, Unread>
     ensures { Gives (λ x. x) result (read_at bytes.now) }
 {
     let (object, rest) = read_long(bytes)?;
     let (offset, rest) = read_long(rest)?;
-    let (length, rest) = read_word(rest)?;
-    let (at, rest) = read_at(rest)?;
-    read_end(rest)?;
-    Ok(Request::Read {
-        object: ObjectId::new(object),
-        offset,
-        length,
-        at: moment_of(at),
-    })
+    read_behind_offset(ObjectId::new(object), offset, rest)
 }
 
 #[tactic(auto, unfolding(crate::specs::private::Reading::write_at))]

@@ -1,9 +1,11 @@
 -- The program's command line in clap's own words, and which command the matches of a line spell.
-use Rattle.std.specs.Prelude.{◌≡◌, ◌≢◌, ◌≤◌, ◌<◌, ◌^◌, ◌↔◌, ℕ, List, [], ◌∷◌, ◌++◌, Option, Some, None, true, false, codes, All, length}
+use Rattle.std.specs.Prelude.{◌≡◌, ◌≢◌, ◌≤◌, ◌<◌, ◌^◌, ◌↔◌, ℕ, List, [], ◌∷◌, ◌++◌, Option, Some, None, Result, IfOk, true, false, codes, All, length}
 use Rattle.std.specs.List.{AllZip}
 use Rattle.std.specs.Str.Parse.{IsNumeral, digits_value, without_leading_plus}
 use Rattle.clap.specs.Walk.{Row, Rule, Text, all_of, first_of, one_of}
-use Rattle.clap.specs.Simple.{App, new_app, new_rule, on_top, with_rule, with_subcommand}
+use Rattle.clap.specs.declared.builder.command.Command.{Command as Made}
+use Rattle.clap.specs.declared.builder.command.Command.TheViews.{out-Command as fields_of}
+use Rattle.clap.specs.Simple.{App, app_of, new_app, new_rule, on_top, with_rule, with_subcommand}
 use Rattle.clap.specs.declared.builder.action.ArgAction.TheVariants.{Set, SetTrue, Append}
 use Rattle.s4_types.specs.declared.requests.Role.{Role}
 use Rattle.s4_types.specs.declared.requests.Role.TheVariants.{Client, Admin}
@@ -34,6 +36,10 @@ flag_rule name = record (new_rule name) { long = Some name; action = Some SetTru
 -- words that stand for themselves, as many as come
 abbrev pub list_rule : Text → Rule
 list_rule name = record (new_rule name) { action = Some Append }
+
+-- what is made of a command, if memory allows, and that no argument of it is another command's too
+abbrev pub IsLine : {E : Type 0} → Result Made E → App → Type 0
+IsLine result app = IfOk result (λ c. (app_of c ≡ app) × ((fields_of c).has_globals ≡ false))
 
 -- `pipe [--frames N] [--window W] [--tick T] ROLE`
 abbrev pub pipe_line : App

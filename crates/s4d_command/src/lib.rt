@@ -9,6 +9,7 @@
 ghost use Rattle.std.specs.Prelude.{◌≡◌, ◌≤◌, ◌↔◌, ℕ, IfOk, IfSome, IfNone, IsErrOf, IsTrue, Some, codes, map, true};
 ghost use Rattle.clap.specs.Walk.{all_of, first_of, one_of, rows_of, texts};
 ghost use Rattle.clap.specs.Takes.{takes};
+ghost use Rattle.clap.specs.Values.{kind_of};
 ghost use Rattle.clap.specs.Matches.{found_of};
 ghost use Rattle.clap.specs.Simple.{subcommand_of, subcommand_rows_of};
 ghost use Rattle.s4d_command.specs.CommandLine.{line, IsGiven, IsNumber, role_word};
@@ -29,7 +30,7 @@ use std::convert::AsStr;
 use thiserror::Error;
 
 /// What the program is to do. Its texts are words of the line.
-#[derive(Debug, Drop, PartialEq, Eq)]
+#[derive(Drop)]
 pub enum Command<'a> {
     /// Serves one session of a new drive, from standard input to standard output.
     Pipe(Pipe),
@@ -44,7 +45,7 @@ pub enum Command<'a> {
 }
 
 /// What `new` makes.
-#[derive(Clone, Copy, Debug, PartialEq, Eq)]
+#[derive(Clone, Copy)]
 pub struct New<'a> {
     /// The image's file.
     pub image: &'a str,
@@ -55,14 +56,14 @@ pub struct New<'a> {
 }
 
 /// What `verify` reads.
-#[derive(Clone, Copy, Debug, PartialEq, Eq)]
+#[derive(Clone, Copy)]
 pub struct Verify<'a> {
     /// The image's file.
     pub image: &'a str,
 }
 
 /// The sessions that `run` serves, and over what drive.
-#[derive(Debug, Drop, PartialEq, Eq)]
+#[derive(Drop)]
 pub struct Run<'a> {
     /// The image's file.
     pub image: &'a str,
@@ -75,7 +76,7 @@ pub struct Run<'a> {
 }
 
 /// What `at` asks for.
-#[derive(Clone, Copy, Debug, PartialEq, Eq)]
+#[derive(Clone, Copy)]
 pub struct At<'a> {
     /// The image's file.
     pub image: &'a str,
@@ -84,7 +85,7 @@ pub struct At<'a> {
 }
 
 /// The options of `pipe`.
-#[derive(Clone, Copy, Debug, PartialEq, Eq)]
+#[derive(Clone, Copy)]
 pub struct Pipe {
     /// How many frames the drive has, 8 to 1024.
     pub frames: u64,
@@ -127,8 +128,17 @@ pub fn command_of<'a, S: AsStr>(alloc: Global, words: &'a [S]) -> Result<Command
     let parser = command_line(alloc)?;
     match parser.try_get_matches_from(words) {
         Ok(matches) => command_in(alloc, &matches),
-        Err(error) if error.kind() == ErrorKind::OutOfMemory => Err(CommandError::NoMemory),
-        Err(_) => Err(CommandError::Usage),
+        Err(error) => Err(refused(&error)),
+    }
+}
+
+// What a refusal of the parser means.
+fn refused(error: &clap::Error) -> CommandError
+    ensures { kind_of error.now ≡ ErrorKind.OutOfMemory → result ≡ CommandError.NoMemory }
+{
+    match error.kind() {
+        ErrorKind::OutOfMemory => CommandError::NoMemory,
+        _ => CommandError::Usage,
     }
 }
 
@@ -151,15 +161,62 @@ fn named_command<'a>(
     ensures usage { IsErrOf result CommandError.Usage → SpellsNone (Some (name.now, rows_of (found_of found.now))) }
 {
     match name {
-        "pipe" => Ok(Command::Pipe(pipe_in(found).ok_or(CommandError::Usage)?)),
-        "new" => Ok(Command::New(new_in(found).ok_or(CommandError::Usage)?)),
-        "verify" => Ok(Command::Verify(verify_in(found).ok_or(CommandError::Usage)?)),
-        "run" => match run_in(alloc, found) {
-            Ok(run) => Ok(Command::Run(run)),
-            Err(error) => Err(error),
-        },
-        "at" => Ok(Command::At(at_in(found).ok_or(CommandError::Usage)?)),
+        "pipe" => pipe_asked(found),
+        "new" => new_asked(found),
+        "verify" => verify_asked(found),
+        "run" => run_asked(alloc, found),
+        "at" => at_asked(found),
         _ => Err(CommandError::Usage),
+    }
+}
+
+fn pipe_asked<'a>(found: &ArgMatches<'a>) -> Result<Command<'a>, CommandError>
+    ensures spelled { IfOk result (Spells (Some (codes "pipe", rows_of (found_of found.now)))) }
+    ensures usage { IsErrOf result CommandError.Usage → SpellsNone (Some (codes "pipe", rows_of (found_of found.now))) }
+{
+    match pipe_in(found) {
+        Some(pipe) => Ok(Command::Pipe(pipe)),
+        None => Err(CommandError::Usage),
+    }
+}
+
+fn new_asked<'a>(found: &ArgMatches<'a>) -> Result<Command<'a>, CommandError>
+    ensures spelled { IfOk result (Spells (Some (codes "new", rows_of (found_of found.now)))) }
+    ensures usage { IsErrOf result CommandError.Usage → SpellsNone (Some (codes "new", rows_of (found_of found.now))) }
+{
+    match new_in(found) {
+        Some(new) => Ok(Command::New(new)),
+        None => Err(CommandError::Usage),
+    }
+}
+
+fn verify_asked<'a>(found: &ArgMatches<'a>) -> Result<Command<'a>, CommandError>
+    ensures spelled { IfOk result (Spells (Some (codes "verify", rows_of (found_of found.now)))) }
+    ensures usage { IsErrOf result CommandError.Usage → SpellsNone (Some (codes "verify", rows_of (found_of found.now))) }
+{
+    match verify_in(found) {
+        Some(verify) => Ok(Command::Verify(verify)),
+        None => Err(CommandError::Usage),
+    }
+}
+
+fn at_asked<'a>(found: &ArgMatches<'a>) -> Result<Command<'a>, CommandError>
+    ensures spelled { IfOk result (Spells (Some (codes "at", rows_of (found_of found.now)))) }
+    ensures usage { IsErrOf result CommandError.Usage → SpellsNone (Some (codes "at", rows_of (found_of found.now))) }
+{
+    match at_in(found) {
+        Some(at) => Ok(Command::At(at)),
+        None => Err(CommandError::Usage),
+    }
+}
+
+fn run_asked<'a>(alloc: Global, found: &ArgMatches<'a>) -> Result<Command<'a>, CommandError>
+    ensures spelled { IfOk result (Spells (Some (codes "run", rows_of (found_of found.now)))) }
+    ensures usage { IsErrOf result CommandError.Usage → SpellsNone (Some (codes "run", rows_of (found_of found.now))) }
+{
+    match run_in(alloc, found) {
+        Ok(run) => Ok(Command::Run(run)),
+        Err(error) => Err(error),
     }
 }
 

@@ -2,8 +2,8 @@
 ghost use Rattle.std.specs.Prelude.{◌≡◌, IfOk, false};
 ghost use Rattle.clap.specs.declared.builder.command.Command.TheViews.{out-Command as fields_of};
 ghost use Rattle.clap.specs.Walk.{rule_of};
-ghost use Rattle.clap.specs.Simple.{app_of, with_subcommand};
-ghost use Rattle.s4d_command.specs.CommandLine.{line, pipe_line, new_line, verify_line, run_line, at_line};
+ghost use Rattle.clap.specs.Simple.{App, app_of, new_app, with_rule, with_subcommand};
+ghost use Rattle.s4d_command.specs.CommandLine.{line, program, pipe_line, new_line, verify_line, run_line, at_line, IsLine};
 ghost use Rattle.s4d_command.specs.CommandLine.{option_rule, flag_rule, operand_rule, list_rule};
 
 use clap::{Arg, ArgAction, Command};
@@ -40,73 +40,127 @@ fn list_of<'a>(alloc: Global, name: &'a str) -> Arg<'a>
     Arg::new(alloc, name).action(ArgAction::Append)
 }
 
-fn pipe_command<'a>(alloc: Global) -> Result<Command<'a>, AllocError>
-    ensures app { IfOk result (λ c. app_of c ≡ pipe_line) }
-    ensures own { IfOk result (λ c. (fields_of c).has_globals ≡ false) }
+// A command that is being made, with an option more. The first refusal of memory stays.
+fn with_option<'a>(
+    alloc: Global,
+    command: Result<Command<'a>, AllocError>,
+    name: &'a str,
+    default: &'a str,
+) -> Result<Command<'a>, AllocError>
+    ensures { (app : App) → IsLine command.entry app → IsLine result (with_rule app (option_rule name.entry.now default.entry.now)) }
 {
-    Command::new(alloc, "pipe")
-        .arg(option_of(alloc, "frames", "16"))?
-        .arg(option_of(alloc, "window", "100"))?
-        .arg(option_of(alloc, "tick", "1"))?
-        .arg(operand_of(alloc, "role"))
+    command?.arg(option_of(alloc, name, default))
+}
+
+// It, with an operand more.
+fn with_operand<'a>(
+    alloc: Global,
+    command: Result<Command<'a>, AllocError>,
+    name: &'a str,
+) -> Result<Command<'a>, AllocError>
+    ensures { (app : App) → IsLine command.entry app → IsLine result (with_rule app (operand_rule name.entry.now)) }
+{
+    command?.arg(operand_of(alloc, name))
+}
+
+// It, with a flag more.
+fn with_flag<'a>(
+    alloc: Global,
+    command: Result<Command<'a>, AllocError>,
+    name: &'a str,
+) -> Result<Command<'a>, AllocError>
+    ensures { (app : App) → IsLine command.entry app → IsLine result (with_rule app (flag_rule name.entry.now)) }
+{
+    command?.arg(flag_of(alloc, name))
+}
+
+// It, with words more, as many as come.
+fn with_list<'a>(
+    alloc: Global,
+    command: Result<Command<'a>, AllocError>,
+    name: &'a str,
+) -> Result<Command<'a>, AllocError>
+    ensures { (app : App) → IsLine command.entry app → IsLine result (with_rule app (list_rule name.entry.now)) }
+{
+    command?.arg(list_of(alloc, name))
+}
+
+// A command with its name alone.
+fn named<'a>(alloc: Global, name: &'a str) -> Result<Command<'a>, AllocError>
+    ensures { IsLine result (new_app name.entry.now) }
+{
+    Ok(Command::new(alloc, name))
+}
+
+fn pipe_command<'a>(alloc: Global) -> Result<Command<'a>, AllocError>
+    ensures { IsLine result pipe_line }
+{
+    let frames = with_option(alloc, named(alloc, "pipe"), "frames", "16");
+    let window = with_option(alloc, frames, "window", "100");
+    let tick = with_option(alloc, window, "tick", "1");
+    with_operand(alloc, tick, "role")
 }
 
 fn new_command<'a>(alloc: Global) -> Result<Command<'a>, AllocError>
-    ensures app { IfOk result (λ c. app_of c ≡ new_line) }
-    ensures own { IfOk result (λ c. (fields_of c).has_globals ≡ false) }
+    ensures { IsLine result new_line }
 {
-    Command::new(alloc, "new")
-        .arg(option_of(alloc, "window", "100"))?
-        .arg(operand_of(alloc, "image"))?
-        .arg(operand_of(alloc, "frames"))
+    let window = with_option(alloc, named(alloc, "new"), "window", "100");
+    let image = with_operand(alloc, window, "image");
+    with_operand(alloc, image, "frames")
 }
 
 fn verify_command<'a>(alloc: Global) -> Result<Command<'a>, AllocError>
-    ensures app { IfOk result (λ c. app_of c ≡ verify_line) }
-    ensures own { IfOk result (λ c. (fields_of c).has_globals ≡ false) }
+    ensures { IsLine result verify_line }
 {
-    Command::new(alloc, "verify").arg(operand_of(alloc, "image"))
+    with_operand(alloc, named(alloc, "verify"), "image")
 }
 
 fn run_command<'a>(alloc: Global) -> Result<Command<'a>, AllocError>
-    ensures app { IfOk result (λ c. app_of c ≡ run_line) }
-    ensures own { IfOk result (λ c. (fields_of c).has_globals ≡ false) }
+    ensures { IsLine result run_line }
 {
-    Command::new(alloc, "run")
-        .arg(option_of(alloc, "tick", "1"))?
-        .arg(flag_of(alloc, "no-upkeep"))?
-        .arg(operand_of(alloc, "image"))?
-        .arg(list_of(alloc, "sessions"))
+    let tick = with_option(alloc, named(alloc, "run"), "tick", "1");
+    let upkeep = with_flag(alloc, tick, "no-upkeep");
+    let image = with_operand(alloc, upkeep, "image");
+    with_list(alloc, image, "sessions")
 }
 
 fn at_command<'a>(alloc: Global) -> Result<Command<'a>, AllocError>
-    ensures app { IfOk result (λ c. app_of c ≡ at_line) }
-    ensures own { IfOk result (λ c. (fields_of c).has_globals ≡ false) }
+    ensures { IsLine result at_line }
 {
-    Command::new(alloc, "at")
-        .arg(operand_of(alloc, "image"))?
-        .arg(operand_of(alloc, "object"))?
-        .arg(operand_of(alloc, "moment"))
+    let image = with_operand(alloc, named(alloc, "at"), "image");
+    let object = with_operand(alloc, image, "object");
+    with_operand(alloc, object, "moment")
 }
 
-// The program with one command more.
-fn with_command<'a>(program: Command<'a>, command: Command<'a>) -> Result<Command<'a>, AllocError>
-    requires { (fields_of command).has_globals ≡ false }
-    ensures { IfOk result (λ c. app_of c ≡ with_subcommand (app_of program.entry) (app_of command.entry).top) }
+// The program with one command more. The first refusal of memory stays.
+fn with_command<'a>(
+    program: Result<Command<'a>, AllocError>,
+    command: Result<Command<'a>, AllocError>,
+) -> Result<Command<'a>, AllocError>
+    ensures { (app added : App) → IfOk program.entry (λ c. app_of c ≡ app) → IsLine command.entry added
+        → IfOk result (λ c. app_of c ≡ with_subcommand app added.top) }
 {
-    program.subcommand(command)
+    program?.subcommand(command?)
+}
+
+// The program with no command.
+fn empty_program<'a>(alloc: Global) -> Result<Command<'a>, AllocError>
+    ensures { IfOk result (λ c. app_of c ≡ program) }
+{
+    Ok(
+        Command::new(alloc, "s4d")
+            .disable_help_flag(true)
+            .disable_help_subcommand(true),
+    )
 }
 
 /// The whole command line.
 pub(crate) fn command_line<'a>(alloc: Global) -> Result<Command<'a>, AllocError>
     ensures { IfOk result (λ c. app_of c ≡ line) }
 {
-    let empty = Command::new(alloc, "s4d")
-        .disable_help_flag(true)
-        .disable_help_subcommand(true);
-    let first = with_command(empty, pipe_command(alloc)?)?;
-    let second = with_command(first, new_command(alloc)?)?;
-    let third = with_command(second, verify_command(alloc)?)?;
-    let fourth = with_command(third, run_command(alloc)?)?;
-    with_command(fourth, at_command(alloc)?)
+    let first = with_command(empty_program(alloc), pipe_command(alloc));
+    let second = with_command(first, new_command(alloc));
+    let third = with_command(second, verify_command(alloc));
+    let fourth = with_command(third, run_command(alloc));
+    with_command(fourth, at_command(alloc))
 }

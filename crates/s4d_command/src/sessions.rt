@@ -11,7 +11,7 @@ use std::alloc::{AllocError, Global};
 pub const MOST_SESSIONS: usize = 16;
 
 /// A session of `run`: ROLE:IN:OUT.
-#[derive(Clone, Copy, Debug, PartialEq, Eq)]
+#[derive(Clone, Copy)]
 pub struct RunSession<'a> {
     /// What it may do.
     pub role: Role,

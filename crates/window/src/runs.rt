@@ -29,6 +29,16 @@ fn joined(x: &Span, y: &Span) -> Span
     }
 }
 
+// Runs with a span and others behind them.
+fn ended(mut all: Vec<Span>, span: Span, behind: &[Span]) -> Result<Vec<Span>, Refusal>
+    ensures ok { IfOk result (λ ended. ended.items ≡ all.items ++ span ∷ behind.now) }
+    ensures err { IfErr result (λ refusal. refusal ≡ NoMemory) }
+{
+    all.push(span)?;
+    all.extend_from_slice(behind)?;
+    Ok(all)
+}
+
 /// Runs with one more span, joined with those that it overlaps or touches. Linear in the runs.
 pub fn with_span(alloc: Global, runs: &[Span], added: &Span) -> Result<Vec<Span>, Refusal>
     ensures ok { IfOk result (λ all. all.items ≡ with_span added.now runs.now) }
@@ -40,15 +50,12 @@ pub fn with_span(alloc: Global, runs: &[Span], added: &Span) -> Result<Vec<Span>
         if is_before(run, &span) {
             all.push(*run)?;
         } else if is_before(&span, run) {
-            all.push(span)?;
-            all.extend_from_slice(&runs[i..])?;
-            return Ok(all);
+            return ended(all, span, &runs[i..]);
         } else {
             span = joined(&span, run);
         }
     }
-    all.push(span)?;
-    Ok(all)
+    ended(all, span, &[])
 }
 
 /// How many runs of a list reach the floor.

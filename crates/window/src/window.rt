@@ -12,7 +12,7 @@ ghost use Rattle.s4_model.specs.Visible.{span_of, spans_of, IsVisible, IsSeenBet
 ghost use Rattle.s4_model.specs.Sound.{IsOfGiven};
 ghost use Rattle.window.specs.Chunks.{holder, is_longer, AllNumbered};
 ghost use Rattle.window.specs.Timeline.{StandsFor, CoverAlike, spans_kept, IsMade, IsPlanned, HasMoved};
-ghost use Rattle.window.specs.Runs.{is_live, Ascend, AllBeginFrom, AllEndBefore, AreFewInEachList};
+ghost use Rattle.window.specs.Runs.{is_live, with_span, Ascend, AllBeginFrom, AllEndBefore, AreFewInEachList};
 ghost use Rattle.s4_model.specs.Effect.{is_of_versions};
 
 use crate::chunks::{self, Chunk, Fresh};
@@ -282,6 +282,17 @@ impl Window {
         })
     }
 
+    // All runs that reach the floor, one more span among them. Linear in all runs.
+    fn live_with(&self, span: &Span) -> Result<Vec<Span>, Refusal>
+        ensures ok { IfOk result (λ runs. runs.items ≡ filter (is_live self.now.floor) (with_span span.now self.now.runs)) }
+        ensures err { IfErr result (λ refusal. refusal ≡ NoMemory) }
+    {
+        let all = chunks::all_runs(self.alloc, self.chunks.as_slice())?;
+        let mut runs = runs::with_span(self.alloc, all.as_slice(), span)?;
+        runs::sift(&mut runs, self.floor);
+        Ok(runs)
+    }
+
     /// What a span makes of all runs, in new chunks. Linear in all runs.
     fn plan_all(&self, span: Span) -> Result<FlushPlan, Refusal>
         requires ordered { span.first ≤ span.last }
@@ -289,9 +300,7 @@ impl Window {
         ensures made { IfOk result (λ plan. (plan.span ≡ span) × IsMade self.now plan) }
         ensures err { IfErr result (λ refusal. refusal ≡ NoMemory) }
     {
-        let all = chunks::all_runs(self.alloc, self.chunks.as_slice())?;
-        let mut runs = runs::with_span(self.alloc, all.as_slice(), &span)?;
-        runs::sift(&mut runs, self.floor);
+        let runs = self.live_with(&span)?;
         let own = runs::live_in(self.floor, span.object, runs.as_slice());
         let fresh = Fresh::All(chunks::divide(self.alloc, runs.as_slice())?);
         Ok(FlushPlan {

@@ -66,14 +66,19 @@ delete_at bytes = do
   end ← ended_at object.1
   Some (Delete object.0)
 
+-- what stands behind the offset of a read
+abbrev pub behind_offset : ℕ → ℕ → List ℕ → Option Request
+behind_offset object offset bytes = do
+  len ← wire_number_at w32 bytes
+  moment ← wire_moment_at len.1
+  end ← ended_at moment.1
+  Some (Read object offset len.0 moment.0)
+
 unfoldable pub read_at : List ℕ → Option Request
 read_at bytes = do
   object ← wire_number_at w64 bytes
   offset ← wire_number_at w64 object.1
-  len ← wire_number_at w32 offset.1
-  moment ← wire_moment_at len.1
-  end ← ended_at moment.1
-  Some (Read object.0 offset.0 len.0 moment.0)
+  behind_offset object.0 offset.0 offset.1
 
 unfoldable pub write_at : List ℕ → Option Request
 write_at bytes = do
@@ -185,14 +190,19 @@ data_at bytes = do
   found ← tail_at READ_BYTES bytes
   Some (Data found)
 
+-- what stands behind the moments of a reply with attributes
+abbrev pub behind_changed : ℕ → ℕ → ℕ → List ℕ → Option Reply
+behind_changed size created changed bytes = do
+  attribute ← wire_text_at ATTRIBUTE_BYTES bytes
+  end ← ended_at attribute.1
+  Some (Attr size created changed attribute.0)
+
 unfoldable pub attr_at : List ℕ → Option Reply
 attr_at bytes = do
   size ← wire_number_at w32 bytes
   created ← wire_number_at w64 size.1
   changed ← wire_number_at w64 created.1
-  attribute ← wire_text_at ATTRIBUTE_BYTES changed.1
-  end ← ended_at attribute.1
-  Some (Attr size.0 created.0 changed.0 attribute.0)
+  behind_changed size.0 created.0 changed.0 changed.1
 
 -- a reply, by its first byte
 unfoldable pub wire_reply_at : List ℕ → Option Reply

@@ -11,31 +11,28 @@ use Rattle.window.proofs.window.Window.plan_all.Goals as goal
 pub divide-requires-clause-ordered : goal.divide-requires-clause-ordered
 divide-requires-clause-ordered c =
     let w : Timeline = record { clock = c.self.inside.clock; window = c.self.inside.window; floor = c.self.inside.floor; runs = flat c.self.inside.chunks.items; chunks = c.self.inside.chunks.items } in
-    let is : c.as_slice-4.result.now ≡ filter (is_live w.floor) (with_span c.args.span w.runs) =
-    c.as_slice-4.ensures.value ∙ c.sift.ensures
-    ∙ ap (λ (xs : List Span). filter (is_live c.self.inside.floor) xs) (c.in_ok-runs.ensures.ok ∙ ap (λ (xs : List Span). with_span c.args.span xs) (c.as_slice-2.ensures.value ∙ c.in_ok-all.ensures.ok ∙ ap flat c.as_slice.ensures.value)) in
+    let Live : Timeline → Type 0 = λ x. c.in_ok-runs.runs.items ≡ filter (is_live x.floor) (with_span c.args.span x.runs) in
+    let is : c.as_slice-2.result.now ≡ filter (is_live w.floor) (with_span c.args.span w.runs) = c.as_slice-2.ensures.value ∙ subst Live (sym c.self.view_is) c.in_ok-runs.ensures.ok in
     let below : c.args.span.object < 2 ^ 64 = omega arith in
-    (all_ready w c.args.span c.as_slice-4.result.now is (c.self.invariant.0, ends_by w.clock w.runs c.self.invariant.1) c.self.invariant.2 c.requires.ordered below).0
+    (all_ready w c.args.span c.as_slice-2.result.now is (c.self.invariant.0, ends_by w.clock w.runs c.self.invariant.1) c.self.invariant.2 c.requires.ordered below).0
 
 pub divide-requires-clause-numbered : goal.divide-requires-clause-numbered
 divide-requires-clause-numbered c =
     let w : Timeline = record { clock = c.self.inside.clock; window = c.self.inside.window; floor = c.self.inside.floor; runs = flat c.self.inside.chunks.items; chunks = c.self.inside.chunks.items } in
-    let is : c.as_slice-4.result.now ≡ filter (is_live w.floor) (with_span c.args.span w.runs) =
-    c.as_slice-4.ensures.value ∙ c.sift.ensures
-    ∙ ap (λ (xs : List Span). filter (is_live c.self.inside.floor) xs) (c.in_ok-runs.ensures.ok ∙ ap (λ (xs : List Span). with_span c.args.span xs) (c.as_slice-2.ensures.value ∙ c.in_ok-all.ensures.ok ∙ ap flat c.as_slice.ensures.value)) in
+    let Live : Timeline → Type 0 = λ x. c.in_ok-runs.runs.items ≡ filter (is_live x.floor) (with_span c.args.span x.runs) in
+    let is : c.as_slice-2.result.now ≡ filter (is_live w.floor) (with_span c.args.span w.runs) = c.as_slice-2.ensures.value ∙ subst Live (sym c.self.view_is) c.in_ok-runs.ensures.ok in
     let below : c.args.span.object < 2 ^ 64 = omega arith in
-    (all_ready w c.args.span c.as_slice-4.result.now is (c.self.invariant.0, ends_by w.clock w.runs c.self.invariant.1) c.self.invariant.2 c.requires.ordered below).1
+    (all_ready w c.args.span c.as_slice-2.result.now is (c.self.invariant.0, ends_by w.clock w.runs c.self.invariant.1) c.self.invariant.2 c.requires.ordered below).1
 
 pub returns-clause-made : goal.returns-clause-made
 returns-clause-made c =
     let w : Timeline = record { clock = c.self.inside.clock; window = c.self.inside.window; floor = c.self.inside.floor; runs = flat c.self.inside.chunks.items; chunks = c.self.inside.chunks.items } in
-    let is : c.as_slice-4.result.now ≡ filter (is_live w.floor) (with_span c.args.span w.runs) =
-    c.as_slice-4.ensures.value ∙ c.sift.ensures
-    ∙ ap (λ (xs : List Span). filter (is_live c.self.inside.floor) xs) (c.in_ok-runs.ensures.ok ∙ ap (λ (xs : List Span). with_span c.args.span xs) (c.as_slice-2.ensures.value ∙ c.in_ok-all.ensures.ok ∙ ap flat c.as_slice.ensures.value)) in
+    let Live : Timeline → Type 0 = λ x. c.in_ok-runs.runs.items ≡ filter (is_live x.floor) (with_span c.args.span x.runs) in
+    let is : c.as_slice-2.result.now ≡ filter (is_live w.floor) (with_span c.args.span w.runs) = c.as_slice-2.ensures.value ∙ subst Live (sym c.self.view_is) c.in_ok-runs.ensures.ok in
     let below : c.args.span.object < 2 ^ 64 = omega arith in
     let S : Timeline → Type 0 = λ x. c.args.span.last ≤ x.clock in
-    let counted : c.len.result ≡ length c.as_slice-4.result.now = c.len.ensures ∙ sym c.as_slice-4.ensures.len in
-    let own : c.live_in-own.result ≡ count_by (is_live_in w.floor c.args.span.object) c.as_slice-4.result.now =
-    c.live_in-own.ensures ∙ ap (λ (xs : List Span). count_by (is_live_in c.self.inside.floor c.args.span.object) xs) (c.as_slice-3.ensures.value ∙ sym c.as_slice-4.ensures.value) in
+    let counted : c.len.result ≡ length c.as_slice-2.result.now = c.len.ensures ∙ sym c.as_slice-2.ensures.len in
+    let own : c.live_in-own.result ≡ count_by (is_live_in w.floor c.args.span.object) c.as_slice-2.result.now =
+    c.live_in-own.ensures ∙ ap (λ (xs : List Span). count_by (is_live_in c.self.inside.floor c.args.span.object) xs) (c.as_slice.ensures.value ∙ sym c.as_slice-2.ensures.value) in
     let P : Timeline → Type 0 = λ x. IsMade x (record { span = c.args.span; fresh = All c.in_ok-divide.field-0; count = c.len.result; own = c.live_in-own.result }) in
-    (refl, subst P c.self.view_is (all_made w c.args.span c.in_ok-divide.field-0 c.as_slice-4.result.now c.len.result c.live_in-own.result c.requires.ordered (subst S (sym c.self.view_is) c.requires.past) below is c.in_ok-divide.ensures.ok counted own))
+    (refl, subst P c.self.view_is (all_made w c.args.span c.in_ok-divide.field-0 c.as_slice-2.result.now c.len.result c.live_in-own.result c.requires.ordered (subst S (sym c.self.view_is) c.requires.past) below is c.in_ok-divide.ensures.ok counted own))
