@@ -29,14 +29,10 @@ def requests():
 
 
 def run(program, words, folder):
-    """The seconds and the KiB of one call."""
+    """The seconds of one call."""
     began = time.monotonic()
-    child = subprocess.Popen([program, *words], cwd=folder, stdout=subprocess.DEVNULL)
-    _, status, used = os.wait4(child.pid, 0)
-    child.returncode = os.waitstatus_to_exitcode(status)
-    if child.returncode:
-        sys.exit(f"images.py: {program} {words}: status {child.returncode}")
-    return time.monotonic() - began, used.ru_maxrss
+    subprocess.run([program, *words], cwd=folder, stdout=subprocess.DEVNULL, check=True)
+    return time.monotonic() - began
 
 
 def digest(image):
@@ -53,9 +49,8 @@ def bytes_of(path):
 def measure(programs, name, words, image, folder):
     """Prints a line of what a call takes each program, and how many digests that is."""
     rounds = [[digest(image)] + [run(it, words, folder) for it in programs] for _ in range(RUNS)]
-    digests, *columns = zip(*rounds)
-    mine, *others = [[seconds for seconds, _ in column] for column in columns]
-    most = [f"{max(memory for _, memory in column):,}" for column in columns]
+    digests, mine, *others = zip(*rounds)
+    most = [f"{wire.memory([it, *words], cwd=folder):,}" for it in programs]
     beside = "".join(f"; other {spread(it)} s, {ratio(it, mine)} times" for it in others)
     print(f"{name}: {spread(mine)} s, {ratio(mine, digests)} digests{beside}; at most {', other '.join(most)} KiB", flush=True)
 

@@ -138,20 +138,20 @@ def command(program, load, frames=1024):
     return [program, "pipe", *(word for key, value in options.items() for word in (f"--{key}", str(value))), "admin"]
 
 
-def used(words, path):
-    """What a run over a file of requests used."""
+def spent(words, path):
+    """The seconds of processor of a run over a file of requests."""
     with open(path, "rb") as requests:
         child = subprocess.Popen(words, stdin=requests, stdout=subprocess.DEVNULL)
     _, status, usage = os.wait4(child.pid, 0)
     child.returncode = os.waitstatus_to_exitcode(status)
     if child.returncode:
         sys.exit(f"speed.py: {words}: status {child.returncode}")
-    return usage
+    return usage.ru_utime + usage.ru_stime
 
 
 def seconds(words, path):
-    """The seconds of processor of the shortest of some runs over a file of requests."""
-    return min(it.ru_utime + it.ru_stime for it in (used(words, path) for _ in range(TRIALS)))
+    """Those of the shortest of some runs."""
+    return min(spent(words, path) for _ in range(TRIALS))
 
 
 def instructions(words, path):
@@ -222,7 +222,10 @@ def print_starts(programs, measure, unit):
 
 def print_memory(programs, load, folder):
     _, path = put(load, folder, 1)
-    most = [f"{used(command(it, load), path).ru_maxrss:,}" for it in programs]
+    most = []
+    for program in programs:
+        with open(path, "rb") as requests:
+            most.append(f"{wire.memory(command(program, load), stdin=requests):,}")
     print(f"\n{len(load.asked):,} {load.name} take at most {', other '.join(most)} KiB of memory.")
 
 

@@ -1,11 +1,19 @@
 """What the scripts here ask `s4d`, as bytes, how they find the program, and how they tell figures."""
 import os
 import statistics
+import subprocess
 import sys
 
 HERE = os.path.dirname(os.path.abspath(__file__))
 BUILT = os.path.join(HERE, "..", "crates", "s4d", "out", "s4d")
 SMALL, WHOLE = 100, 24_576  # bytes of a small Write or Read, and the most that an object has
+WATCHER = """
+import os, sys
+child = os.posix_spawn(sys.argv[1], sys.argv[1:], os.environ)
+_, status, used = os.wait4(child, 0)
+print(used.ru_maxrss, file=sys.stderr)
+sys.exit(os.waitstatus_to_exitcode(status) != 0)
+"""
 CHANGED, CREATED, DATA, ATTRIBUTE = 1, 2, 3, 4  # kinds of replies
 
 
@@ -57,6 +65,14 @@ def programs(words):
         if not os.access(path, os.X_OK):
             sys.exit(f"{path}: no program; build it by (cd crates/s4d && rt run -- pipe client < /dev/null)")
     return paths
+
+
+def memory(words, **how):
+    """The most memory of a run, in KiB. A process is told the memory of the one that started it where that is more, so a small one
+    starts it, of some 10,000 KiB."""
+    watched = [sys.executable, "-S", "-E", "-c", WATCHER, *words]
+    ran = subprocess.run(watched, stdout=subprocess.DEVNULL, stderr=subprocess.PIPE, text=True, check=True, **how)
+    return int(ran.stderr)
 
 
 def spread(values):
