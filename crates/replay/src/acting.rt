@@ -64,7 +64,7 @@ fn request_without(asking: Asking, command: &Command<'_>) -> Request {
             object,
             at: command.at.map(Moment::new),
         },
-        _ => read_of(reading_of(command)),
+        _ => read_of(&reading_of(command)),
     }
 }
 
@@ -80,7 +80,7 @@ fn reading_of(command: &Command<'_>) -> Reading {
     }
 }
 
-fn read_of(reading: Reading) -> Request {
+fn read_of(reading: &Reading) -> Request {
     Request::Read {
         object: reading.object,
         offset: reading.offset,
@@ -89,7 +89,7 @@ fn read_of(reading: Reading) -> Request {
     }
 }
 
-fn resolve_of(reading: Reading) -> Act {
+fn resolve_of(reading: &Reading) -> Act {
     Act::Resolve {
         object: reading.object,
         offset: reading.offset,
@@ -102,7 +102,7 @@ fn resolve_of(reading: Reading) -> Act {
 /// The act that a command spells, which is no request.
 fn act_of(acting: Acting, command: &Command<'_>) -> Act {
     match acting {
-        Acting::Resolve => resolve_of(reading_of(command)),
+        Acting::Resolve => resolve_of(&reading_of(command)),
         Acting::Fetch => Act::Fetch,
         Acting::Meet => Act::Meet,
         Acting::Plan => Act::Plan {
@@ -142,12 +142,10 @@ pub(crate) fn take<D: Played>(
     drive: &mut D,
     step: Step,
 ) -> Result<Answer, Refusal> {
-    let steps = [step];
-    let answer = drive.take(&steps)?;
+    let answer = drive.take(&step)?;
     if lacks_memory(&answer) {
         return Err(Refusal::NoMemory);
     }
-    let [step] = steps;
     stage.compare(step, &answer)?;
     Ok(answer)
 }
@@ -267,7 +265,7 @@ fn move_by<D: Played>(
     object: ObjectId,
 ) -> Result<(), Refusal> {
     for act in [Act::Plan { frame, object }, Act::Copy, Act::Commit] {
-        if let Answer::Refused(refusal) = drive.take(&[Step::By { actor, act }])? {
+        if let Answer::Refused(refusal) = drive.take(&Step::By { actor, act })? {
             return Err(refusal);
         }
     }
@@ -287,14 +285,14 @@ fn keep<D: Played>(
         return Ok(());
     }
     let reading = reading_of(command);
-    let planned = drive.keep(place, reading);
+    let planned = drive.keep(place, &reading);
     stage.plan(place, None);
     let answer = match planned {
         Ok(()) => Answer::Done,
         Err(Refusal::NoMemory) => return Err(Refusal::NoMemory),
         Err(refusal) => Answer::Refused(refusal),
     };
-    let told = stage.reply(place, read_of(reading), reading.now)?;
+    let told = stage.reply(place, read_of(&reading), reading.now)?;
     if let Some(told) = &told {
         stage.compare_plan(told, &answer);
     }

@@ -217,16 +217,18 @@ static COMMANDS: [(&str, Verb); 76] = [
     ("$ Commit", Verb::Act(Acting::Commit)),
 ];
 
-/// What the words of a command give: two names, three numbers, bytes as they are spelled, and two moments.
+/// What the words of a command give: the places of two names and of bytes among them, three numbers, and two moments.
 #[derive(Clone, Copy)]
-struct Given<'a> {
-    names: [&'a [u8]; 2],
+struct Given {
+    /// How many words were taken.
+    taken: usize,
+    name: usize,
+    other: usize,
+    bytes: usize,
     numbers: [u64; 3],
-    bytes: &'a [u8],
+    counted: usize,
     at: Option<u64>,
     now: Option<u64>,
-    name_count: usize,
-    number_count: usize,
 }
 
 /// A command that is done.
@@ -241,26 +243,43 @@ pub(crate) struct Command<'a> {
     pub(crate) now: u64,
 }
 
-impl<'a> Given<'a> {
+/// The place of a word that isn't there.
+const NOWHERE: usize = usize::MAX;
+
+impl Given {
     fn new() -> Self {
         Given {
-            names: [&[], &[]],
+            taken: 0,
+            name: NOWHERE,
+            other: NOWHERE,
+            bytes: NOWHERE,
             numbers: [0, 0, 0],
-            bytes: &[],
+            counted: 0,
             at: None,
             now: None,
-            name_count: 0,
-            number_count: 0,
         }
     }
 
-    /// Takes one more name.
-    fn take_name(&mut self, word: &'a [u8]) -> bool {
-        if let Some(name) = self.names.get_mut(self.name_count) {
-            *name = word;
-        }
-        self.name_count = self.name_count.saturating_add(1);
+    /// One more word is taken.
+    fn pass(&mut self) -> bool {
+        self.taken = self.taken.saturating_add(1);
         true
+    }
+
+    /// Takes one more name.
+    fn take_name(&mut self) -> bool {
+        if self.name == NOWHERE {
+            self.name = self.taken;
+        } else {
+            self.other = self.taken;
+        }
+        self.pass()
+    }
+
+    /// Takes bytes.
+    fn take_bytes(&mut self) -> bool {
+        self.bytes = self.taken;
+        self.pass()
     }
 
     /// Takes one more number, if the word is one.
@@ -268,75 +287,71 @@ impl<'a> Given<'a> {
         let Some(number) = number_of(word) else {
             return false;
         };
-        if let Some(place) = self.numbers.get_mut(self.number_count) {
+        let counted = self.counted;
+        if let Some(place) = self.numbers.get_mut(counted) {
             *place = number;
         }
-        self.number_count = self.number_count.saturating_add(1);
-        true
+        self.counted = counted.saturating_add(1);
+        self.pass()
+    }
+
+    /// Takes a word and a number, if that word comes next.
+    fn take_moment(&mut self, name: &[u8], words: &[&[u8]]) -> Option<u64> {
+        let taken = self.taken;
+        match words.get(taken..) {
+            Some([first, second, ..]) if *first == name => {
+                self.taken = taken.saturating_add(2);
+                number_of(second)
+            }
+            _ => None,
+        }
+    }
+
+    /// Takes what a part of a pattern stands for. Whether it is there.
+    fn take(&mut self, part: &[u8], words: &[&[u8]]) -> bool {
+        match part {
+            [b'[', b'a', ..] => {
+                self.at = self.take_moment(b"at", words);
+                true
+            }
+            [b'[', ..] => {
+                self.now = self.take_moment(b"now", words);
+                true
+            }
+            _ => match words.get(self.taken) {
+                Some(word) => self.take_word(part, word),
+                None => false,
+            },
+        }
     }
 
     /// Takes a word as a part of a pattern says. Whether it fits.
-    fn take_word(&mut self, part: &[u8], word: &'a [u8]) -> bool {
+    fn take_word(&mut self, part: &[u8], word: &[u8]) -> bool {
         match part {
-            [b'$'] => self.take_name(word),
+            [b'$'] => self.take_name(),
             [b'#'] => self.take_number(word),
-            [b'%'] => {
-                self.bytes = word;
-                true
-            }
-            _ => part == word,
+            [b'%'] => self.take_bytes(),
+            _ => part == word && self.pass(),
         }
     }
 }
 
-/// The number behind a word that may stand first, and the words behind that.
-fn moment_of<'a, 'b>(name: &[u8], words: &'b [&'a [u8]]) -> (Option<u64>, &'b [&'a [u8]]) {
-    if let [first, second, rest @ ..] = words
-        && *first == name
-    {
-        return (number_of(second), rest);
-    }
-    (None, words)
-}
-
-/// Takes what a part of a pattern stands for from the words, and gives those behind it, if they fit.
-fn take_part<'a, 'b>(
-    given: &mut Given<'a>,
-    part: &[u8],
-    words: &'b [&'a [u8]],
-) -> Option<&'b [&'a [u8]]> {
-    if part == b"[at]".as_slice() {
-        let (at, rest) = moment_of(b"at", words);
-        given.at = at;
-        return Some(rest);
-    }
-    if part == b"[now]".as_slice() {
-        let (now, rest) = moment_of(b"now", words);
-        given.now = now;
-        return Some(rest);
-    }
-    let (first, rest) = words.split_first()?;
-    if given.take_word(part, first) {
-        return Some(rest);
-    }
-    None
-}
-
 /// What words give where they fit a pattern.
-fn fit<'a>(pattern: &str, words: &[&'a [u8]]) -> Option<Given<'a>> {
+fn fit(pattern: &str, words: &[&[u8]]) -> Option<Given> {
     let mut given = Given::new();
-    let mut rest = words;
     for part in pattern.as_bytes().split(|byte| *byte == b' ') {
-        rest = take_part(&mut given, part, rest)?;
+        if !given.take(part, words) {
+            return None;
+        }
     }
-    if !rest.is_empty() {
+    if given.taken != words.len() {
         return None;
     }
     Some(given)
 }
 
 /// The command that words spell, and what they give, if they spell one.
-fn find<'a>(words: &[&'a [u8]]) -> Option<(Verb, Given<'a>)> {
+fn find(words: &[&[u8]]) -> Option<(Verb, Given)> {
     for (pattern, verb) in &COMMANDS {
         if let Some(given) = fit(pattern, words) {
             return Some((*verb, given));
@@ -345,20 +360,28 @@ fn find<'a>(words: &[&'a [u8]]) -> Option<(Verb, Given<'a>)> {
     None
 }
 
+/// The word at a place; none of no bytes where there is none.
+fn word_at<'a>(words: &[&'a [u8]], place: usize) -> &'a [u8] {
+    match words.get(place) {
+        Some(word) => word,
+        None => b"",
+    }
+}
+
 /// The command that words spell, if they spell one.
 fn command_of<'a>(alloc: Global, words: &[&'a [u8]]) -> Result<Option<Command<'a>>, Refusal> {
     let Some((verb, given)) = find(words) else {
         return Ok(None);
     };
-    let Some(bytes) = bytes_of(alloc, given.bytes)? else {
+    let Some(bytes) = bytes_of(alloc, word_at(words, given.bytes))? else {
         return Ok(None);
     };
-    let [name, other] = given.names;
+    let numbers = given.numbers;
     Ok(Some(Command {
         verb,
-        name,
-        other,
-        numbers: given.numbers,
+        name: word_at(words, given.name),
+        other: word_at(words, given.other),
+        numbers,
         bytes,
         at: given.at,
         now: given.now.unwrap_or(0),
@@ -374,7 +397,7 @@ pub(crate) struct Line<'a> {
     pub(crate) text: &'a [u8],
 }
 
-/// Where a separate word stands first outside of quotes, with a space on both sides.
+/// Where the arrow before an answer stands: the first one outside of quotes, with a space on both sides.
 fn find_arrow(line: &[u8]) -> Option<usize> {
     let mut is_quoted = false;
     for place in 0..line.len() {

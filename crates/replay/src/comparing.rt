@@ -37,7 +37,7 @@ fn drive_reply<D: Played>(
 ) -> Result<Option<Reply>, Refusal> {
     let now = Moment::new(0);
     let act = Act::Request { request, now };
-    match drive.take(&[Step::By { actor, act }])? {
+    match drive.take(&Step::By { actor, act })? {
         Answer::Reply(Reply::Refused(Refusal::NoMemory)) => Err(Refusal::NoMemory),
         Answer::Reply(reply) => Ok(Some(reply)),
         _ => Ok(None),

@@ -128,7 +128,7 @@ fn tell_fault(rt: &HostRuntime, words: &[String], fault: Fault) {
     let _ = match fault {
         Fault::NoMemory => eprintln!(rt; "replay: out of memory"),
         Fault::NoOutput => eprintln!(rt; "replay: cannot write"),
-        Fault::NoScript(number) => eprintln!(rt; "replay: cannot read file {}", number + 1),
+        Fault::NoScript(number) => eprintln!(rt; "replay: cannot read file {}", number.saturating_add(1)),
     };
 }
 

@@ -16,12 +16,12 @@ use segment_copier::{Candidate, Copier, candidate};
 use segment_word::Naming;
 use std::alloc::Global;
 use std::marker::Brand;
+use std::slice::from_ref;
 use std::thread::Threads;
 use time_read::ReadPlan;
 use verifier::{open, save, verify};
 
 /// A read of an object.
-#[derive(Clone, Copy)]
 pub(crate) struct Reading {
     pub(crate) object: ObjectId,
     pub(crate) offset: u64,
@@ -43,10 +43,10 @@ pub(crate) trait Played {
     fn leave_beside(&mut self, place: usize, other: usize) -> Result<(), Refusal>;
 
     /// Takes one step in a run of its own. Idle where its session isn't there.
-    fn take(&mut self, steps: &[Step; 1]) -> Result<Answer, Refusal>;
+    fn take(&mut self, step: &Step) -> Result<Answer, Refusal>;
 
     /// A plan of a read is laid on the pile.
-    fn keep(&mut self, place: usize, reading: Reading) -> Result<(), Refusal>;
+    fn keep(&mut self, place: usize, reading: &Reading) -> Result<(), Refusal>;
 
     /// The last plan of the pile is fetched, if there is one.
     fn fetch(&mut self) -> Result<Option<Vec<u8>>, Refusal>;
@@ -158,14 +158,14 @@ impl<J: Naming> Played for Party<J> {
         Ok(())
     }
 
-    fn take(&mut self, steps: &[Step; 1]) -> Result<Answer, Refusal> {
+    fn take(&mut self, step: &Step) -> Result<Answer, Refusal> {
         let actors = self.actors.as_mut_slice();
-        let mut answers =
-            run::<J, Cleaner, Copier>(self.alloc, &mut self.drive, actors, steps.as_slice())?;
+        let steps = from_ref(step);
+        let mut answers = run::<J, Cleaner, Copier>(self.alloc, &mut self.drive, actors, steps)?;
         Ok(answers.pop().unwrap_or(Answer::Idle))
     }
 
-    fn keep(&mut self, place: usize, reading: Reading) -> Result<(), Refusal> {
+    fn keep(&mut self, place: usize, reading: &Reading) -> Result<(), Refusal> {
         if place >= self.actors.len() {
             return Ok(());
         }
