@@ -144,8 +144,14 @@ static COMMANDS: [(&str, Verb); 76] = [
     ("open", Verb::Begin(Beginning::Open)),
     ("session $ client", Verb::Sit(Sitting::Come(Role::Client))),
     ("session $ admin", Verb::Sit(Sitting::Come(Role::Admin))),
-    ("sessions $ # client", Verb::Sit(Sitting::ComeMany(Role::Client))),
-    ("sessions $ # admin", Verb::Sit(Sitting::ComeMany(Role::Admin))),
+    (
+        "sessions $ # client",
+        Verb::Sit(Sitting::ComeMany(Role::Client)),
+    ),
+    (
+        "sessions $ # admin",
+        Verb::Sit(Sitting::ComeMany(Role::Admin)),
+    ),
     ("end $", Verb::Sit(Sitting::End)),
     ("end $ beside $", Verb::Sit(Sitting::EndBeside)),
     ("seal", Verb::Step(Upkeep::Seal)),

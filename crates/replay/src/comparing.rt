@@ -82,10 +82,7 @@ fn find_unlike_by<D: Played>(
 }
 
 /// The same, by a session that comes for it and leaves; where there is no seat, by one that is there.
-fn find_unlike<D: Played>(
-    stage: &mut Stage,
-    drive: &mut D,
-) -> Result<Option<(u64, u64)>, Refusal> {
+fn find_unlike<D: Played>(stage: &mut Stage, drive: &mut D) -> Result<Option<(u64, u64)>, Refusal> {
     let actor = stage.seats.len();
     if drive.come(Role::Admin).is_err() {
         return find_unlike_by(stage, drive, 0);
@@ -96,11 +93,7 @@ fn find_unlike<D: Played>(
 }
 
 /// Says whether all is alike, where there is a plain drive.
-fn tell_alike<D: Played>(
-    stage: &mut Stage,
-    drive: &mut D,
-    text: &mut Text,
-) -> Result<(), Refusal> {
+fn tell_alike<D: Played>(stage: &mut Stage, drive: &mut D, text: &mut Text) -> Result<(), Refusal> {
     if stage.plain.is_none() {
         text.word("Idle");
         return Ok(());

@@ -26,15 +26,13 @@ pub(crate) struct Tally {
 }
 
 /// One more, but for the last number, which stays.
-fn raise(count: &mut u64)
-{
+fn raise(count: &mut u64) {
     *count = count.saturating_add(1);
 }
 
 impl Tally {
     /// Counts an act that was done.
-    fn count_act(&mut self, act: &Act)
-    {
+    fn count_act(&mut self, act: &Act) {
         match act {
             Act::Request { .. } => raise(&mut self.requests),
             Act::Resolve { .. } => raise(&mut self.resolves),
@@ -47,8 +45,7 @@ impl Tally {
     }
 
     /// Counts a step that was done.
-    pub(crate) fn count(&mut self, step: &Step)
-    {
+    pub(crate) fn count(&mut self, step: &Step) {
         match step {
             Step::By { act, .. } => self.count_act(act),
             Step::Seal => raise(&mut self.seals),
@@ -60,8 +57,7 @@ impl Tally {
     }
 
     /// Counts a step that changed a row, where it is a clean or a commit.
-    pub(crate) fn count_change(&mut self, step: &Step)
-    {
+    pub(crate) fn count_change(&mut self, step: &Step) {
         match step {
             Step::By {
                 act: Act::Commit,

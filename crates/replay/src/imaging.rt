@@ -257,9 +257,7 @@ pub(crate) fn perform_imaging<D: Played, R: Threads>(
             tell_image(text, &verify(rt, alloc, stage.image.as_slice())?);
             Ok(())
         }
-        Imaging::Turned => {
-            tell_turned(rt, alloc, stage.image.as_slice(), command, false, text)
-        }
+        Imaging::Turned => { tell_turned(rt, alloc, stage.image.as_slice(), command, false, text) }
         Imaging::TurnedSigned => {
             tell_turned(rt, alloc, stage.image.as_slice(), command, true, text)
         }

@@ -22,10 +22,9 @@ mod words;
 
 use player::{Report, play_script};
 use s4_types::Refusal;
-use std::fs;
-use std::io;
 use std::process::ExitCode;
 use std::thread::Threads;
+use std::{fs, io};
 
 /// Why scripts couldn't be played to their end.
 #[derive(Clone, Copy)]
@@ -110,7 +109,11 @@ fn perform<T: Threads>(threads: &T, rt: &HostRuntime, words: &[String]) -> Resul
         Some(word) => word.as_str() == "--print",
         None => false,
     };
-    let files = if is_printed { files.get(1..).unwrap_or(&[]) } else { files };
+    let files = if is_printed {
+        files.get(1..).unwrap_or(&[])
+    } else {
+        files
+    };
     let mut sum = Sum {
         lines: 0,
         differing: 0,
@@ -118,8 +121,9 @@ fn perform<T: Threads>(threads: &T, rt: &HostRuntime, words: &[String]) -> Resul
     };
     play_all(threads, rt, &mut sum, files, is_printed)?;
     let mark = if is_printed { "# " } else { "" };
-    println!(rt; "{mark}{} lines, {} differ", sum.lines, sum.differing)
-        .map_err(|_| Fault::NoOutput)?;
+    println!(rt; "{mark}{} lines, {} differ", sum.lines, sum.differing).map_err(
+        |_| Fault::NoOutput,
+    )?;
     Ok(status_of(&sum))
 }
 
@@ -128,7 +132,10 @@ fn tell_fault(rt: &HostRuntime, words: &[String], fault: Fault) {
     let _ = match fault {
         Fault::NoMemory => eprintln!(rt; "replay: out of memory"),
         Fault::NoOutput => eprintln!(rt; "replay: cannot write"),
-        Fault::NoScript(number) => eprintln!(rt; "replay: cannot read file {}", number.saturating_add(1)),
+        Fault::NoScript(number) => eprintln!(rt;
+            "replay: cannot read file {}",
+            number.saturating_add(1)
+        ),
     };
 }
 

@@ -22,6 +22,7 @@ use time_read::ReadPlan;
 use verifier::{open, save, verify};
 
 /// A read of an object.
+#[derive(Clone, Copy)]
 pub(crate) struct Reading {
     pub(crate) object: ObjectId,
     pub(crate) offset: u64,

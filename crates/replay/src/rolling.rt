@@ -47,8 +47,7 @@ fn by(actor: usize, act: Act) -> Step {
 
 impl Dice {
     /// The list of a seed, from its beginning on.
-    pub(crate) fn new(seed: u64) -> Self
-    {
+    pub(crate) fn new(seed: u64) -> Self {
         Dice {
             state: seed,
             made: 0,
@@ -97,8 +96,7 @@ impl Dice {
     }
 
     /// One byte so often, mostly less than three blocks of it.
-    fn bytes(&mut self, alloc: Global) -> Result<Bytes, Refusal>
-    {
+    fn bytes(&mut self, alloc: Global) -> Result<Bytes, Refusal> {
         let most = match self.roll(8) {
             0 => 6_700,
             1 => 2,
@@ -110,16 +108,14 @@ impl Dice {
     }
 
     /// The bytes of an attribute.
-    fn attribute(&mut self, alloc: Global) -> Result<Bytes, Refusal>
-    {
+    fn attribute(&mut self, alloc: Global) -> Result<Bytes, Refusal> {
         let length = self.roll(20) as usize;
         let byte = b'A' + self.roll(26) as u8;
         Ok(Bytes::from_vec(vec![in alloc; byte; length]?))
     }
 
     /// A request that changes an object.
-    fn change(&mut self, alloc: Global) -> Result<Request, Refusal>
-    {
+    fn change(&mut self, alloc: Global) -> Result<Request, Refusal> {
         let object = self.object();
         Ok(match self.roll(12) {
             0 | 1 => Request::Append {
@@ -175,8 +171,7 @@ impl Dice {
     }
 
     /// The making of an object, while there are fewer than all.
-    fn creation(&mut self, alloc: Global) -> Result<Request, Refusal>
-    {
+    fn creation(&mut self, alloc: Global) -> Result<Request, Refusal> {
         if self.made >= OBJECTS {
             return self.change(alloc);
         }
@@ -187,8 +182,7 @@ impl Dice {
     }
 
     /// A request, mostly a change.
-    fn request(&mut self, alloc: Global, clock: u64) -> Result<Request, Refusal>
-    {
+    fn request(&mut self, alloc: Global, clock: u64) -> Result<Request, Refusal> {
         match self.roll(24) {
             0 => Ok(Request::Delete {
                 object: self.object(),
@@ -210,8 +204,7 @@ impl Dice {
     }
 
     /// A request of one of the actors.
-    fn asking(&mut self, alloc: Global, clock: u64) -> Result<Step, Refusal>
-    {
+    fn asking(&mut self, alloc: Global, clock: u64) -> Result<Step, Refusal> {
         let request = self.request(alloc, clock)?;
         let now = self.now(clock);
         Ok(by(self.actor(), Act::Request { request, now }))
@@ -274,8 +267,7 @@ impl Dice {
     }
 
     /// A step that has nothing to do with a sweep that goes on, but may begin another one in its place.
-    fn single(&mut self, alloc: Global, clock: u64) -> Result<Step, Refusal>
-    {
+    fn single(&mut self, alloc: Global, clock: u64) -> Result<Step, Refusal> {
         let actor = self.actor();
         let frame = self.frame();
         let object = self.object();
@@ -296,8 +288,7 @@ impl Dice {
     }
 
     /// The next step, where the drive's clock is this. NoMemory where memory for its bytes is refused.
-    pub(crate) fn step(&mut self, alloc: Global, clock: u64) -> Result<Step, Refusal>
-    {
+    pub(crate) fn step(&mut self, alloc: Global, clock: u64) -> Result<Step, Refusal> {
         if self.made == 0 {
             let request = self.creation(alloc)?;
             let now = self.now(clock);

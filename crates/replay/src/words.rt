@@ -62,7 +62,11 @@ fn digit_of(sign: u8) -> Option<u8> {
 
 /// The byte that two hex digits tell.
 fn byte_of(high: u8, low: u8) -> Option<u8> {
-    Some(digit_of(high)?.wrapping_mul(16).wrapping_add(digit_of(low)?))
+    Some(
+        digit_of(high)?
+            .wrapping_mul(16)
+            .wrapping_add(digit_of(low)?),
+    )
 }
 
 /// Puts the bytes of hex digits behind others. Whether they are ones.
@@ -102,7 +106,12 @@ fn put_text(bytes: &mut Vec<u8>, part: &[u8]) -> Result<bool, Refusal> {
 fn put_part(bytes: &mut Vec<u8>, part: &[u8]) -> Result<bool, Refusal> {
     match part {
         [b'"', ..] => put_text(bytes, part),
-        [high, low, b'.', b'.', b'*', count @ ..] => put_many(bytes, byte_of(*high, *low), 1, count),
+        [high, low, b'.', b'.', b'*', count @ ..] => put_many(
+            bytes,
+            byte_of(*high, *low),
+            1,
+            count,
+        ),
         [high, low, b'*', count @ ..] => put_many(bytes, byte_of(*high, *low), 0, count),
         _ => put_hex(bytes, part),
     }
