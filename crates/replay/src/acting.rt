@@ -1,0 +1,365 @@
+//! Steps of sessions and of the drive.
+use crate::commands::{Acting, Asking, Command, Tidying, Upkeep};
+use crate::party::{Played, Reading};
+use crate::sitting::tell_done;
+use crate::stage::{Stage, tell_answer};
+use crate::text::Text;
+use history_cleaner::Turn;
+use interleaving::{Act, Answer, Step};
+use s4_types::{Bytes, Moment, ObjectId, Refusal, Reply, Request};
+use std::alloc::Global;
+
+/// The number of a frame; of one that isn't there where the number is greater than any.
+pub(crate) fn frame_of(number: u64) -> u16 {
+    u16::try_from(number).unwrap_or(u16::MAX)
+}
+
+/// The request that a command spells.
+fn request_of(alloc: Global, asking: Asking, command: &Command<'_>) -> Result<Request, Refusal> {
+    let bytes = Bytes::from_slice(alloc, command.bytes.as_slice())?;
+    Ok(request_with(asking, command, bytes))
+}
+
+/// The request that a command spells, with its bytes.
+fn request_with(asking: Asking, command: &Command<'_>, bytes: Bytes) -> Request {
+    let [number, second, _] = command.numbers;
+    let object = ObjectId::new(number);
+    match asking {
+        Asking::Create => Request::Create { attribute: bytes },
+        Asking::Write => Request::Write {
+            object,
+            offset: second,
+            bytes,
+        },
+        Asking::Append => Request::Append { object, bytes },
+        Asking::SetAttr => Request::SetAttr {
+            object,
+            attribute: bytes,
+        },
+        _ => request_without(asking, command),
+    }
+}
+
+/// The request that a command spells, of those that have no bytes.
+fn request_without(asking: Asking, command: &Command<'_>) -> Request {
+    let [number, second, third] = command.numbers;
+    let object = ObjectId::new(number);
+    match asking {
+        Asking::Delete => Request::Delete { object },
+        Asking::Truncate => Request::Truncate {
+            object,
+            size: second,
+        },
+        Asking::SetWindow => Request::SetWindow { window: number },
+        Asking::Flush => Request::Flush {
+            first: Moment::new(number),
+            last: Moment::new(second),
+        },
+        Asking::FlushObject => Request::FlushO {
+            object,
+            first: Moment::new(second),
+            last: Moment::new(third),
+        },
+        Asking::GetAttr => Request::GetAttr {
+            object,
+            at: command.at.map(Moment::new),
+        },
+        _ => read_of(&reading_of(command)),
+    }
+}
+
+/// The read that a command spells.
+fn reading_of(command: &Command<'_>) -> Reading {
+    let [number, offset, length] = command.numbers;
+    Reading {
+        object: ObjectId::new(number),
+        offset,
+        length: u32::try_from(length).unwrap_or(u32::MAX),
+        at: command.at.map(Moment::new),
+        now: Moment::new(command.now),
+    }
+}
+
+fn read_of(reading: &Reading) -> Request {
+    Request::Read {
+        object: reading.object,
+        offset: reading.offset,
+        length: reading.length,
+        at: reading.at,
+    }
+}
+
+fn resolve_of(reading: &Reading) -> Act {
+    Act::Resolve {
+        object: reading.object,
+        offset: reading.offset,
+        length: reading.length,
+        at: reading.at,
+        now: reading.now,
+    }
+}
+
+/// The act that a command spells, which is no request.
+fn act_of(acting: Acting, command: &Command<'_>) -> Act {
+    match acting {
+        Acting::Resolve => resolve_of(&reading_of(command)),
+        Acting::Fetch => Act::Fetch,
+        Acting::Meet => Act::Meet,
+        Acting::Plan => Act::Plan {
+            frame: frame_of(command.numbers[0]),
+            object: ObjectId::new(command.numbers[1]),
+        },
+        Acting::Copy => Act::Copy,
+        Acting::Commit => Act::Commit,
+    }
+}
+
+/// The step of the drive that a command spells.
+fn step_of(upkeep: Upkeep, command: &Command<'_>) -> Step {
+    let number = command.numbers[0];
+    let object = ObjectId::new(number);
+    let frame = frame_of(number);
+    match upkeep {
+        Upkeep::Seal => Step::Seal,
+        Upkeep::Checkpoint => Step::Checkpoint { object },
+        Upkeep::Clean => Step::Clean { object },
+        Upkeep::Mark => Step::Mark { frame },
+        Upkeep::Release => Step::Release { frame },
+    }
+}
+
+/// Whether an answer is a refusal for want of memory.
+fn lacks_memory(answer: &Answer) -> bool {
+    matches!(
+        answer,
+        Answer::Refused(Refusal::NoMemory) | Answer::Reply(Reply::Refused(Refusal::NoMemory))
+    )
+}
+
+/// Takes a step, and compares its answer with what the plain drive tells.
+pub(crate) fn take<D: Played>(
+    stage: &mut Stage,
+    drive: &mut D,
+    step: Step,
+) -> Result<Answer, Refusal> {
+    let answer = drive.take(&step)?;
+    if lacks_memory(&answer) {
+        return Err(Refusal::NoMemory);
+    }
+    stage.compare(step, &answer)?;
+    Ok(answer)
+}
+
+/// Somebody takes a step.
+fn act_by<D: Played>(
+    stage: &mut Stage,
+    drive: &mut D,
+    name: &[u8],
+    act: Act,
+    text: &mut Text,
+) -> Result<(), Refusal> {
+    let actor = stage.place_of(name);
+    let answer = take(stage, drive, Step::By { actor, act })?;
+    tell_answer(text, &answer);
+    Ok(())
+}
+
+/// Somebody asks for something.
+pub(crate) fn perform_asking<D: Played>(
+    stage: &mut Stage,
+    drive: &mut D,
+    asking: Asking,
+    command: &Command<'_>,
+    text: &mut Text,
+) -> Result<(), Refusal> {
+    let request = request_of(stage.alloc, asking, command)?;
+    let now = Moment::new(command.now);
+    act_by(
+        stage,
+        drive,
+        command.name,
+        Act::Request { request, now },
+        text,
+    )
+}
+
+/// Somebody does something else. What spends a plan can't be done once more.
+pub(crate) fn perform_acting<D: Played>(
+    stage: &mut Stage,
+    drive: &mut D,
+    acting: Acting,
+    command: &Command<'_>,
+    text: &mut Text,
+) -> Result<(), Refusal> {
+    stage.is_spent = matches!(acting, Acting::Fetch | Acting::Copy | Acting::Commit);
+    act_by(stage, drive, command.name, act_of(acting, command), text)
+}
+
+/// A step of the drive.
+pub(crate) fn perform_upkeep<D: Played>(
+    stage: &mut Stage,
+    drive: &mut D,
+    upkeep: Upkeep,
+    command: &Command<'_>,
+    text: &mut Text,
+) -> Result<(), Refusal> {
+    let answer = take(stage, drive, step_of(upkeep, command))?;
+    tell_answer(text, &answer);
+    Ok(())
+}
+
+/// A full pass of the cleaner.
+fn pass<D: Played>(stage: &mut Stage, drive: &mut D, text: &mut Text) -> Result<(), Refusal> {
+    stage.is_spent = true;
+    let report = drive.pass()?;
+    text.word("Passed");
+    text.number(report.rewritten as u64);
+    text.number(report.removed as u64);
+    text.number(report.released as u64);
+    Ok(())
+}
+
+/// A turn of the cleaner's rounds.
+fn turn<D: Played>(stage: &mut Stage, drive: &mut D, text: &mut Text) -> Result<(), Refusal> {
+    stage.is_spent = true;
+    match drive.turn() {
+        Turn::Cleaned(object) => {
+            text.word("Cleaned");
+            text.number(object.number());
+            Ok(())
+        }
+        Turn::PassedOver(_, refusal) => Err(refusal),
+        Turn::Ended => {
+            text.word("Ended");
+            Ok(())
+        }
+    }
+}
+
+/// What the copier chooses is moved by a session that comes for it and leaves.
+fn move_chosen<D: Played>(
+    stage: &mut Stage,
+    drive: &mut D,
+    text: &mut Text,
+) -> Result<(), Refusal> {
+    let Some(chosen) = drive.chosen()? else {
+        text.word("Idle");
+        return Ok(());
+    };
+    drive.come(s4_types::Role::Admin)?;
+    let actor = stage.seats.len();
+    let moved = move_by(drive, actor, chosen.frame, chosen.object);
+    drive.leave(actor);
+    moved?;
+    text.word("Moved");
+    text.number(chosen.frame as u64);
+    text.number(chosen.object.number());
+    Ok(())
+}
+
+/// An actor moves an object's blocks out of a frame.
+fn move_by<D: Played>(
+    drive: &mut D,
+    actor: usize,
+    frame: u16,
+    object: ObjectId,
+) -> Result<(), Refusal> {
+    for act in [Act::Plan { frame, object }, Act::Copy, Act::Commit] {
+        if let Answer::Refused(refusal) = drive.take(&Step::By { actor, act })? {
+            return Err(refusal);
+        }
+    }
+    Ok(())
+}
+
+/// A plan of a read is laid on the pile.
+fn keep<D: Played>(
+    stage: &mut Stage,
+    drive: &mut D,
+    command: &Command<'_>,
+    text: &mut Text,
+) -> Result<(), Refusal> {
+    let place = stage.place_of(command.name);
+    if place >= stage.seats.len() {
+        text.word("Idle");
+        return Ok(());
+    }
+    let reading = reading_of(command);
+    let planned = drive.keep(place, &reading);
+    stage.plan(place, None);
+    let answer = match planned {
+        Ok(()) => Answer::Done,
+        Err(Refusal::NoMemory) => return Err(Refusal::NoMemory),
+        Err(refusal) => Answer::Refused(refusal),
+    };
+    let told = stage.reply(place, read_of(&reading), reading.now)?;
+    if let Some(told) = &told {
+        stage.compare_plan(told, &answer);
+    }
+    if answer == Answer::Done {
+        stage.pile.push(told)?;
+    }
+    tell_answer(text, &answer);
+    Ok(())
+}
+
+/// The last plan of the pile is fetched.
+fn take_last<D: Played>(stage: &mut Stage, drive: &mut D, text: &mut Text) -> Result<(), Refusal> {
+    stage.is_spent = true;
+    let Some(bytes) = drive.fetch()? else {
+        text.word("Idle");
+        return Ok(());
+    };
+    if let Some(Some(told)) = stage.pile.pop() {
+        stage.compare_bytes(&told, bytes.as_slice());
+    }
+    text.word("Bytes");
+    text.bytes(bytes.as_slice());
+    Ok(())
+}
+
+/// Frames that hold nothing are marked and released.
+fn empty<D: Played>(drive: &mut D, text: &mut Text) -> Result<(), Refusal> {
+    let count = drive.empty()?;
+    text.word("Emptied");
+    text.number(count as u64);
+    Ok(())
+}
+
+/// The last plan of the pile, or all, are given up.
+fn drop_plans<D: Played>(stage: &mut Stage, drive: &mut D, is_all: bool, text: &mut Text) {
+    if is_all {
+        stage.pile.clear();
+        drive.drop_all();
+    } else {
+        drop(stage.pile.pop());
+        drive.drop_last();
+    }
+    tell_done(text, true);
+}
+
+/// What is done in more than one step, and with the pile.
+pub(crate) fn perform_tidying<D: Played>(
+    stage: &mut Stage,
+    drive: &mut D,
+    tidying: Tidying,
+    command: &Command<'_>,
+    text: &mut Text,
+) -> Result<(), Refusal> {
+    match tidying {
+        Tidying::Pass => pass(stage, drive, text),
+        Tidying::Turn => turn(stage, drive, text),
+        Tidying::Empty => empty(drive, text),
+        Tidying::Move => move_chosen(stage, drive, text),
+        Tidying::Keep => keep(stage, drive, command, text),
+        Tidying::Take => take_last(stage, drive, text),
+        Tidying::Drop => {
+            drop_plans(stage, drive, false, text);
+            Ok(())
+        }
+        Tidying::DropAll => {
+            drop_plans(stage, drive, true, text);
+            Ok(())
+        }
+    }
+}

@@ -1,0 +1,461 @@
+//! The commands of a script.
+use crate::words::{bytes_of, number_of, parts_of};
+use s4_types::{Refusal, Role};
+use std::alloc::Global;
+
+/// What a session asks.
+#[derive(Clone, Copy)]
+pub(crate) enum Asking {
+    Create,
+    Delete,
+    Write,
+    Append,
+    Truncate,
+    SetAttr,
+    SetWindow,
+    Flush,
+    FlushObject,
+    Read,
+    GetAttr,
+}
+
+/// What a session does beside that.
+#[derive(Clone, Copy)]
+pub(crate) enum Acting {
+    Resolve,
+    Fetch,
+    Meet,
+    Plan,
+    Copy,
+    Commit,
+}
+
+/// Steps of the drive.
+#[derive(Clone, Copy)]
+pub(crate) enum Upkeep {
+    Seal,
+    Checkpoint,
+    Clean,
+    Mark,
+    Release,
+}
+
+/// What is done with the drive in more than one step, and with the pile of plans.
+#[derive(Clone, Copy)]
+pub(crate) enum Tidying {
+    Pass,
+    Turn,
+    Empty,
+    Move,
+    Keep,
+    Take,
+    Drop,
+    DropAll,
+}
+
+/// What is looked at.
+#[derive(Clone, Copy)]
+pub(crate) enum Look {
+    Clock,
+    Floor,
+    Window,
+    Next,
+    Room,
+    Sees,
+    Above,
+    Row,
+    Entries,
+    Count,
+    Entry,
+    LastEntry,
+    Inode,
+    Held,
+    Frame,
+    Word,
+    Chosen,
+    Rules,
+}
+
+/// What is compared with the plain drive.
+#[derive(Clone, Copy)]
+pub(crate) enum Beside {
+    Alike,
+    Watch,
+    Thrown,
+    Tally,
+}
+
+/// What is done with the image.
+#[derive(Clone, Copy)]
+pub(crate) enum Imaging {
+    Save,
+    Saved,
+    Zeros,
+    Put,
+    Cut,
+    Add,
+    TurnBit,
+    Keep,
+    Back,
+    Sign,
+    SignAll,
+    Bytes,
+    Verify,
+    Turned,
+    TurnedSigned,
+}
+
+/// Who comes and goes.
+#[derive(Clone, Copy)]
+pub(crate) enum Sitting {
+    Come(Role),
+    ComeMany(Role),
+    End,
+    EndBeside,
+}
+
+/// What begins another drive.
+#[derive(Clone, Copy)]
+pub(crate) enum Beginning {
+    Drive,
+    Alone,
+    Open,
+}
+
+/// What a command does.
+#[derive(Clone, Copy)]
+pub(crate) enum Verb {
+    Begin(Beginning),
+    Sit(Sitting),
+    Ask(Asking),
+    Act(Acting),
+    Step(Upkeep),
+    Tidy(Tidying),
+    Look(Look),
+    Compare(Beside),
+    Hold(Imaging),
+}
+
+/// How commands are spelled: `$` stands for a name, `#` for a number, `%` for bytes, `[at]` and `[now]` for such a word and a
+/// number, or for none.
+static COMMANDS: [(&str, Verb); 76] = [
+    ("drive # window #", Verb::Begin(Beginning::Drive)),
+    ("drive # window # alone", Verb::Begin(Beginning::Alone)),
+    ("open", Verb::Begin(Beginning::Open)),
+    ("session $ client", Verb::Sit(Sitting::Come(Role::Client))),
+    ("session $ admin", Verb::Sit(Sitting::Come(Role::Admin))),
+    (
+        "sessions $ # client",
+        Verb::Sit(Sitting::ComeMany(Role::Client)),
+    ),
+    (
+        "sessions $ # admin",
+        Verb::Sit(Sitting::ComeMany(Role::Admin)),
+    ),
+    ("end $", Verb::Sit(Sitting::End)),
+    ("end $ beside $", Verb::Sit(Sitting::EndBeside)),
+    ("seal", Verb::Step(Upkeep::Seal)),
+    ("checkpoint #", Verb::Step(Upkeep::Checkpoint)),
+    ("clean #", Verb::Step(Upkeep::Clean)),
+    ("mark #", Verb::Step(Upkeep::Mark)),
+    ("release #", Verb::Step(Upkeep::Release)),
+    ("pass", Verb::Tidy(Tidying::Pass)),
+    ("turn", Verb::Tidy(Tidying::Turn)),
+    ("empty", Verb::Tidy(Tidying::Empty)),
+    ("move", Verb::Tidy(Tidying::Move)),
+    ("take", Verb::Tidy(Tidying::Take)),
+    ("drop", Verb::Tidy(Tidying::Drop)),
+    ("drop all", Verb::Tidy(Tidying::DropAll)),
+    ("clock", Verb::Look(Look::Clock)),
+    ("floor", Verb::Look(Look::Floor)),
+    ("window", Verb::Look(Look::Window)),
+    ("next", Verb::Look(Look::Next)),
+    ("room", Verb::Look(Look::Room)),
+    ("sees # # #", Verb::Look(Look::Sees)),
+    ("above #", Verb::Look(Look::Above)),
+    ("row #", Verb::Look(Look::Row)),
+    ("entries #", Verb::Look(Look::Entries)),
+    ("count #", Verb::Look(Look::Count)),
+    ("entry # #", Verb::Look(Look::Entry)),
+    ("entry # last", Verb::Look(Look::LastEntry)),
+    ("inode # #", Verb::Look(Look::Inode)),
+    ("held # #", Verb::Look(Look::Held)),
+    ("frame #", Verb::Look(Look::Frame)),
+    ("word #", Verb::Look(Look::Word)),
+    ("chosen", Verb::Look(Look::Chosen)),
+    ("rules", Verb::Look(Look::Rules)),
+    ("alike", Verb::Compare(Beside::Alike)),
+    ("watch", Verb::Compare(Beside::Watch)),
+    ("thrown # # #", Verb::Compare(Beside::Thrown)),
+    ("tally", Verb::Compare(Beside::Tally)),
+    ("save", Verb::Hold(Imaging::Save)),
+    ("saved", Verb::Hold(Imaging::Saved)),
+    ("image #", Verb::Hold(Imaging::Zeros)),
+    ("put # %", Verb::Hold(Imaging::Put)),
+    ("cut #", Verb::Hold(Imaging::Cut)),
+    ("add %", Verb::Hold(Imaging::Add)),
+    ("turn_bit #", Verb::Hold(Imaging::TurnBit)),
+    ("keep", Verb::Hold(Imaging::Keep)),
+    ("back", Verb::Hold(Imaging::Back)),
+    ("sign", Verb::Hold(Imaging::Sign)),
+    ("sign all", Verb::Hold(Imaging::SignAll)),
+    ("bytes # #", Verb::Hold(Imaging::Bytes)),
+    ("verify", Verb::Hold(Imaging::Verify)),
+    ("turned # #", Verb::Hold(Imaging::Turned)),
+    ("turned # # sign", Verb::Hold(Imaging::TurnedSigned)),
+    ("$ Create % [now]", Verb::Ask(Asking::Create)),
+    ("$ Delete # [now]", Verb::Ask(Asking::Delete)),
+    ("$ Write # # % [now]", Verb::Ask(Asking::Write)),
+    ("$ Append # % [now]", Verb::Ask(Asking::Append)),
+    ("$ Truncate # # [now]", Verb::Ask(Asking::Truncate)),
+    ("$ SetAttr # % [now]", Verb::Ask(Asking::SetAttr)),
+    ("$ SetWindow # [now]", Verb::Ask(Asking::SetWindow)),
+    ("$ Flush # # [now]", Verb::Ask(Asking::Flush)),
+    ("$ FlushO # # # [now]", Verb::Ask(Asking::FlushObject)),
+    ("$ Read # # # [at] [now]", Verb::Ask(Asking::Read)),
+    ("$ GetAttr # [at] [now]", Verb::Ask(Asking::GetAttr)),
+    ("$ Resolve # # # [at] [now]", Verb::Act(Acting::Resolve)),
+    ("$ Keep # # # [at] [now]", Verb::Tidy(Tidying::Keep)),
+    ("$ Fetch", Verb::Act(Acting::Fetch)),
+    ("$ Meet", Verb::Act(Acting::Meet)),
+    ("$ Plan # #", Verb::Act(Acting::Plan)),
+    ("$ Copy", Verb::Act(Acting::Copy)),
+    ("$ Commit", Verb::Act(Acting::Commit)),
+];
+
+/// What the words of a command give: the places of two names and of bytes among them, three numbers, and two moments.
+#[derive(Clone, Copy)]
+struct Given {
+    /// How many words were taken.
+    taken: usize,
+    name: usize,
+    other: usize,
+    bytes: usize,
+    numbers: [u64; 3],
+    counted: usize,
+    at: Option<u64>,
+    now: Option<u64>,
+}
+
+/// A command that is done.
+#[derive(Drop)]
+pub(crate) struct Command<'a> {
+    pub(crate) verb: Verb,
+    pub(crate) name: &'a [u8],
+    pub(crate) other: &'a [u8],
+    pub(crate) numbers: [u64; 3],
+    pub(crate) bytes: Vec<u8>,
+    pub(crate) at: Option<u64>,
+    pub(crate) now: u64,
+}
+
+/// The place of a word that isn't there.
+const NOWHERE: usize = usize::MAX;
+
+impl Given {
+    fn new() -> Self {
+        Given {
+            taken: 0,
+            name: NOWHERE,
+            other: NOWHERE,
+            bytes: NOWHERE,
+            numbers: [0, 0, 0],
+            counted: 0,
+            at: None,
+            now: None,
+        }
+    }
+
+    /// One more word is taken.
+    fn pass(&mut self) -> bool {
+        self.taken = self.taken.saturating_add(1);
+        true
+    }
+
+    /// Takes one more name.
+    fn take_name(&mut self) -> bool {
+        if self.name == NOWHERE {
+            self.name = self.taken;
+        } else {
+            self.other = self.taken;
+        }
+        self.pass()
+    }
+
+    /// Takes bytes.
+    fn take_bytes(&mut self) -> bool {
+        self.bytes = self.taken;
+        self.pass()
+    }
+
+    /// Takes one more number, if the word is one.
+    fn take_number(&mut self, word: &[u8]) -> bool {
+        let Some(number) = number_of(word) else {
+            return false;
+        };
+        let counted = self.counted;
+        if let Some(place) = self.numbers.get_mut(counted) {
+            *place = number;
+        }
+        self.counted = counted.saturating_add(1);
+        self.pass()
+    }
+
+    /// Takes a word and a number, if that word comes next.
+    fn take_moment(&mut self, name: &[u8], words: &[&[u8]]) -> Option<u64> {
+        let taken = self.taken;
+        match words.get(taken..) {
+            Some([first, second, ..]) if *first == name => {
+                self.taken = taken.saturating_add(2);
+                number_of(second)
+            }
+            _ => None,
+        }
+    }
+
+    /// Takes what a part of a pattern stands for. Whether it is there.
+    fn take(&mut self, part: &[u8], words: &[&[u8]]) -> bool {
+        match part {
+            [b'[', b'a', ..] => {
+                self.at = self.take_moment(b"at", words);
+                true
+            }
+            [b'[', ..] => {
+                self.now = self.take_moment(b"now", words);
+                true
+            }
+            _ => match words.get(self.taken) {
+                Some(word) => self.take_word(part, word),
+                None => false,
+            },
+        }
+    }
+
+    /// Takes a word as a part of a pattern says. Whether it fits.
+    fn take_word(&mut self, part: &[u8], word: &[u8]) -> bool {
+        match part {
+            [b'$'] => self.take_name(),
+            [b'#'] => self.take_number(word),
+            [b'%'] => self.take_bytes(),
+            _ => part == word && self.pass(),
+        }
+    }
+}
+
+/// What words give where they fit a pattern.
+fn fit(pattern: &str, words: &[&[u8]]) -> Option<Given> {
+    let mut given = Given::new();
+    for part in pattern.as_bytes().split(|byte| *byte == b' ') {
+        if !given.take(part, words) {
+            return None;
+        }
+    }
+    if given.taken != words.len() {
+        return None;
+    }
+    Some(given)
+}
+
+/// The command that words spell, and what they give, if they spell one.
+fn find(words: &[&[u8]]) -> Option<(Verb, Given)> {
+    for (pattern, verb) in &COMMANDS {
+        if let Some(given) = fit(pattern, words) {
+            return Some((*verb, given));
+        }
+    }
+    None
+}
+
+/// The word at a place; none of no bytes where there is none.
+fn word_at<'a>(words: &[&'a [u8]], place: usize) -> &'a [u8] {
+    match words.get(place) {
+        Some(word) => word,
+        None => b"",
+    }
+}
+
+/// The command that words spell, if they spell one.
+fn command_of<'a>(alloc: Global, words: &[&'a [u8]]) -> Result<Option<Command<'a>>, Refusal> {
+    let Some((verb, given)) = find(words) else {
+        return Ok(None);
+    };
+    let Some(bytes) = bytes_of(alloc, word_at(words, given.bytes))? else {
+        return Ok(None);
+    };
+    let numbers = given.numbers;
+    Ok(Some(Command {
+        verb,
+        name: word_at(words, given.name),
+        other: word_at(words, given.other),
+        numbers,
+        bytes,
+        at: given.at,
+        now: given.now.unwrap_or(0),
+    }))
+}
+
+/// A line of a script: its commands, which are done so often in turn, and the words of the answer that must come.
+#[derive(Drop)]
+pub(crate) struct Line<'a> {
+    pub(crate) times: u64,
+    pub(crate) commands: Vec<Command<'a>>,
+    pub(crate) expected: Option<&'a [u8]>,
+    pub(crate) text: &'a [u8],
+}
+
+/// Where the arrow before an answer stands: the first one outside of quotes, with a space on both sides.
+fn find_arrow(line: &[u8]) -> Option<usize> {
+    let mut is_quoted = false;
+    for place in 0..line.len() {
+        is_quoted = is_quoted != (line[place] == b'"');
+        if !is_quoted && line.get(place..).unwrap_or(&[]).starts_with(b" -> ") {
+            return Some(place);
+        }
+    }
+    None
+}
+
+/// How often a line's commands are done, and their words.
+fn times_of<'a, 'b>(words: &'b [&'a [u8]]) -> (u64, &'b [&'a [u8]]) {
+    if let [count, times, rest @ ..] = words
+        && *times == b"times".as_slice()
+        && let Some(count) = number_of(count)
+    {
+        return (count, rest);
+    }
+    (1, words)
+}
+
+/// The commands that words spell, with `;` between two of them. None where some of them spell none.
+fn commands_of<'a>(alloc: Global, words: &[&'a [u8]]) -> Result<Option<Vec<Command<'a>>>, Refusal> {
+    let mut commands = Vec::new(alloc);
+    for part in words.split(|word| *word == b";".as_slice()) {
+        match command_of(alloc, part)? {
+            Some(command) => commands.push(command)?,
+            None => return Ok(None),
+        }
+    }
+    Ok(Some(commands))
+}
+
+/// What a line says, if it spells commands.
+pub(crate) fn line_of<'a>(alloc: Global, line: &'a [u8]) -> Result<Option<Line<'a>>, Refusal> {
+    let (text, expected) = match find_arrow(line) {
+        Some(place) => (
+            line.get(..place).unwrap_or(line),
+            line.get(place.saturating_add(4)..),
+        ),
+        None => (line, None),
+    };
+    let words = parts_of(alloc, text, b' ')?;
+    let (times, words) = times_of(words.as_slice());
+    let Some(commands) = commands_of(alloc, words)? else {
+        return Ok(None);
+    };
+    Ok(Some(Line {
+        times,
+        commands,
+        expected,
+        text,
+    }))
+}

@@ -1,0 +1,270 @@
+//! The image that is kept.
+use crate::commands::{Command, Imaging};
+use crate::party::Played;
+use crate::sitting::tell_done;
+use crate::stage::Stage;
+use crate::text::Text;
+use s4_types::Refusal;
+use sha2::{Digest, Sha256};
+use std::alloc::Global;
+use std::mem;
+use std::thread::Threads;
+use verifier::{Image, verify};
+
+/// Bytes of a digest.
+const DIGEST_BYTES: usize = 32;
+
+/// Where the frames of an image begin.
+const FRAMES: usize = 512;
+
+/// Bytes of a frame's word, and of its blocks.
+const WORD_BYTES: usize = 8;
+
+const CONTENTS_BYTES: usize = 8192;
+
+/// Where the digest of a summary begins, and where the blocks behind it do.
+const SUMMARY_DIGEST: usize = 480;
+
+const PAYLOAD: usize = 512;
+
+/// Puts bytes at a place. Whether they are within the image.
+fn put(image: &mut [u8], place: usize, new: &[u8]) -> bool {
+    let Some(end) = place.checked_add(new.len()) else {
+        return false;
+    };
+    if end > image.len() {
+        return false;
+    }
+    for (old, byte) in image.iter_mut().skip(place).zip(new.iter()) {
+        *old = *byte;
+    }
+    true
+}
+
+/// Makes the digest of the whole image anew.
+fn sign(image: &mut [u8]) {
+    let end = image.len().saturating_sub(DIGEST_BYTES);
+    if let Some(front) = image.get(..end) {
+        let digest = Sha256::digest(front);
+        put(image, end, &digest);
+    }
+}
+
+/// Makes the digest of the summary anew of the frame whose blocks begin here.
+fn sign_frame(image: &mut [u8], begin: usize) {
+    let end = begin.saturating_add(CONTENTS_BYTES);
+    let Some(blocks) = image.get(begin..end) else {
+        return;
+    };
+    let mut hasher = Sha256::new();
+    hasher.update(blocks.get(..SUMMARY_DIGEST).unwrap_or(&[]));
+    hasher.update(blocks.get(PAYLOAD..).unwrap_or(&[]));
+    let digest = hasher.finalize();
+    put(image, begin.saturating_add(SUMMARY_DIGEST), &digest);
+}
+
+/// Makes the digests of the summaries of all frames with blocks anew, and then the image's.
+fn sign_all(image: &mut [u8]) {
+    let count = match image.get(8..10) {
+        Some([high, low]) => u16::from_be_bytes([*high, *low]),
+        _ => 0,
+    };
+    let mut place = FRAMES;
+    for _ in 0..count {
+        let begin = place.saturating_add(WORD_BYTES);
+        let is_free = match image.get(begin.saturating_sub(1)) {
+            Some(byte) => *byte % 4 == 0,
+            None => true,
+        };
+        place = begin;
+        if !is_free {
+            sign_frame(image, begin);
+            place = begin.saturating_add(CONTENTS_BYTES);
+        }
+    }
+    sign(image);
+}
+
+fn tell_named(text: &mut Text, name: &str, number: u64) {
+    text.word(name);
+    text.mark("=");
+    text.digits(number);
+}
+
+fn tell_image(text: &mut Text, image: &Image) {
+    text.word("ok");
+    tell_named(text, "frames", image.frames() as u64);
+    tell_named(text, "objects", image.objects() as u64);
+    tell_named(text, "clock", image.clock().number());
+    tell_named(text, "window", image.window());
+    tell_named(text, "floor", image.floor().number());
+}
+
+/// Turns the lowest bit of a byte. Whether it is there.
+fn turn_bit(image: &mut [u8], place: usize) -> bool {
+    match image.get_mut(place) {
+        Some(byte) => {
+            *byte ^= 1;
+            true
+        }
+        None => false,
+    }
+}
+
+/// Why the image is none where the lowest bit of a byte is turned, and the digest made anew if that is asked for. None where it
+/// is one.
+fn fault_with<R: Threads>(
+    rt: &R,
+    alloc: Global,
+    image: &[u8],
+    place: usize,
+    is_signed: bool,
+) -> Result<Option<Refusal>, Refusal> {
+    let mut turned = Vec::from_slice(alloc, image)?;
+    turn_bit(turned.as_mut_slice(), place);
+    if is_signed {
+        sign(turned.as_mut_slice());
+    }
+    match verify(rt, alloc, turned.as_slice()) {
+        Ok(_) => Ok(None),
+        Err(Refusal::NoMemory) => Err(Refusal::NoMemory),
+        Err(refusal) => Ok(Some(refusal)),
+    }
+}
+
+/// Tells what the image is once each of so many bytes is turned, if that is the same of all.
+fn tell_turned<R: Threads>(
+    rt: &R,
+    alloc: Global,
+    image: &[u8],
+    command: &Command<'_>,
+    is_signed: bool,
+    text: &mut Text,
+) -> Result<(), Refusal> {
+    let begin = place_of(command.numbers[0]);
+    let end = begin.saturating_add(place_of(command.numbers[1]));
+    if begin >= end || end > image.len() {
+        text.word("Idle");
+        return Ok(());
+    }
+    let first = fault_with(rt, alloc, image, begin, is_signed)?;
+    for place in begin..end {
+        if fault_with(rt, alloc, image, place, is_signed)? != first {
+            text.word("differ at");
+            text.number(place as u64);
+            return Ok(());
+        }
+    }
+    match first {
+        Some(refusal) => text.refusal(refusal),
+        None => text.word("ok"),
+    }
+    Ok(())
+}
+
+/// A place in an image; behind all where the number is greater than any.
+fn place_of(number: u64) -> usize {
+    usize::try_from(number).unwrap_or(usize::MAX)
+}
+
+/// So many zeros.
+fn zeros(alloc: Global, length: u64) -> Result<Vec<u8>, Refusal> {
+    Ok(Vec::from_elem(alloc, 0, place_of(length))?)
+}
+
+/// A second image of these bytes in place of another.
+fn copy(alloc: Global, from: &[u8], to: &mut Vec<u8>) -> Result<(), Refusal> {
+    drop(mem::replace(to, Vec::from_slice(alloc, from)?));
+    Ok(())
+}
+
+/// Cuts so many bytes off.
+fn cut(image: &mut Vec<u8>, count: u64) -> bool {
+    match image.len().checked_sub(place_of(count)) {
+        Some(length) => {
+            image.truncate(length);
+            true
+        }
+        None => false,
+    }
+}
+
+/// Does something with the image that is kept, which is told Done, or Idle where that isn't within it.
+fn change_image(
+    stage: &mut Stage,
+    imaging: Imaging,
+    command: &Command<'_>,
+) -> Result<bool, Refusal> {
+    let place = place_of(command.numbers[0]);
+    match imaging {
+        Imaging::Put => {
+            let image = stage.image.as_mut_slice();
+            return Ok(put(image, place, command.bytes.as_slice()));
+        }
+        Imaging::Cut => return Ok(cut(&mut stage.image, command.numbers[0])),
+        Imaging::TurnBit => return Ok(turn_bit(stage.image.as_mut_slice(), place)),
+        Imaging::Zeros => stage.image = zeros(stage.alloc, command.numbers[0])?,
+        Imaging::Add => stage.image.extend_from_slice(command.bytes.as_slice())?,
+        Imaging::Keep => copy(stage.alloc, stage.image.as_slice(), &mut stage.kept)?,
+        Imaging::Back => copy(stage.alloc, stage.kept.as_slice(), &mut stage.image)?,
+        Imaging::SignAll => sign_all(stage.image.as_mut_slice()),
+        _ => sign(stage.image.as_mut_slice()),
+    }
+    Ok(true)
+}
+
+fn tell_bytes(text: &mut Text, image: &[u8], command: &Command<'_>) {
+    let begin = place_of(command.numbers[0]);
+    let end = begin.saturating_add(place_of(command.numbers[1]));
+    match image.get(begin..end) {
+        Some(bytes) => text.bytes(bytes),
+        None => text.word("Idle"),
+    }
+}
+
+fn save<D: Played>(stage: &mut Stage, drive: &mut D, text: &mut Text) -> Result<(), Refusal> {
+    stage.image = drive.save()?;
+    text.word("Saved");
+    text.number(stage.image.len() as u64);
+    Ok(())
+}
+
+fn tell_saved<D: Played>(stage: &Stage, drive: &mut D, text: &mut Text) -> Result<(), Refusal> {
+    let saved = drive.save()?;
+    let is_same = saved.as_slice() == stage.image.as_slice();
+    text.word(if is_same { "same" } else { "other" });
+    Ok(())
+}
+
+/// Does what is asked for with the image.
+pub(crate) fn perform_imaging<D: Played, R: Threads>(
+    rt: &R,
+    stage: &mut Stage,
+    drive: &mut D,
+    imaging: Imaging,
+    command: &Command<'_>,
+    text: &mut Text,
+) -> Result<(), Refusal> {
+    let alloc = stage.alloc;
+    match imaging {
+        Imaging::Save => save(stage, drive, text),
+        Imaging::Saved => tell_saved(stage, drive, text),
+        Imaging::Bytes => {
+            tell_bytes(text, stage.image.as_slice(), command);
+            Ok(())
+        }
+        Imaging::Verify => {
+            tell_image(text, &verify(rt, alloc, stage.image.as_slice())?);
+            Ok(())
+        }
+        Imaging::Turned => { tell_turned(rt, alloc, stage.image.as_slice(), command, false, text) }
+        Imaging::TurnedSigned => {
+            tell_turned(rt, alloc, stage.image.as_slice(), command, true, text)
+        }
+        _ => {
+            let is_done = change_image(stage, imaging, command)?;
+            tell_done(text, is_done);
+            Ok(())
+        }
+    }
+}

@@ -1,0 +1,262 @@
+//! What is looked at.
+use crate::acting::frame_of;
+use crate::commands::{Command, Look};
+use crate::party::Played;
+use crate::text::Text;
+use codec::{Entry, Pair, Status, Triple};
+use s4_types::{Moment, Ptr, Refusal};
+
+/// Tells a moment or a place that may not be there.
+fn tell_number(text: &mut Text, number: Option<u64>) {
+    match number {
+        Some(number) => text.number(number),
+        None => text.word("none"),
+    }
+}
+
+fn tell_row<D: Played>(text: &mut Text, drive: &mut D, object: u64) {
+    let Some(row) = drive.row(object) else {
+        text.word("none");
+        return;
+    };
+    text.word("created");
+    text.number(row.created.number());
+    text.word("bytes");
+    text.number(row.journal_bytes as u64);
+    text.word("checkpoint");
+    tell_number(text, row.checkpoint.map(|_| row.checkpoint_moment.number()));
+    text.word("head");
+    tell_head(text, row.head);
+    text.word("stamp");
+    text.number(row.stamp);
+}
+
+fn tell_head(text: &mut Text, head: Option<Ptr>) {
+    match head {
+        Some(_) => {
+            text.word("");
+            text.place(head);
+        }
+        None => text.word("none"),
+    }
+}
+
+fn tell_moments(text: &mut Text, entries: &[Entry]) {
+    if entries.is_empty() {
+        text.word("none");
+    }
+    for entry in entries {
+        text.number(entry.moment().number());
+    }
+}
+
+/// Tells what was and what is, with `>` between them.
+fn tell_change(text: &mut Text, before: u64, after: u64) {
+    text.number(before);
+    text.mark(">");
+    text.digits(after);
+}
+
+fn yes_or_no(is_so: bool) -> &'static str {
+    if is_so { "yes" } else { "no" }
+}
+
+fn tell_status(text: &mut Text, before: Status, after: Status) {
+    text.word("alive");
+    text.word(yes_or_no(before.alive));
+    text.mark(">");
+    text.mark(yes_or_no(after.alive));
+    text.word("size");
+    tell_change(text, before.size as u64, after.size as u64);
+    text.word("changed");
+    tell_change(text, before.changed.number(), after.changed.number());
+}
+
+fn tell_pair(text: &mut Text, pair: &Pair) {
+    text.word("attribute");
+    text.bytes(pair.before.as_slice());
+    text.mark(">");
+    text.joined_bytes(pair.after.as_slice());
+}
+
+fn tell_triple(text: &mut Text, triple: &Triple) {
+    text.number(triple.index as u64);
+    text.mark(":");
+    text.place(triple.before);
+    text.mark(">");
+    text.place(triple.after);
+}
+
+fn tell_entry(text: &mut Text, entry: Option<&Entry>) {
+    let Some(entry) = entry else {
+        text.word("none");
+        return;
+    };
+    text.word("moment");
+    text.number(entry.moment().number());
+    tell_status(text, entry.before(), entry.after());
+    if let Some(pair) = entry.pair() {
+        tell_pair(text, &pair);
+    }
+    for triple in entry.triples() {
+        tell_triple(text, triple);
+    }
+}
+
+/// Tells an object's entry of a number, from 1 on.
+fn tell_numbered<D: Played>(
+    text: &mut Text,
+    drive: &mut D,
+    object: u64,
+    number: u64,
+) -> Result<(), Refusal> {
+    let entries = drive.entries(object)?;
+    let place = match number.checked_sub(1) {
+        Some(place) => usize::try_from(place).unwrap_or(usize::MAX),
+        None => usize::MAX,
+    };
+    tell_entry(text, entries.get(place));
+    Ok(())
+}
+
+fn tell_inode<D: Played>(text: &mut Text, drive: &mut D, object: u64, at: u64) {
+    let Some(inode) = drive.inode(object, at) else {
+        text.word("none");
+        return;
+    };
+    text.word(if inode.alive { "live" } else { "dead" });
+    text.word("size");
+    text.number(inode.size as u64);
+    text.word("created");
+    tell_moment(text, inode.created);
+    text.word("changed");
+    tell_moment(text, inode.changed);
+    text.word("attribute");
+    text.bytes(inode.attribute.as_slice());
+    tell_pointers(text, &inode.pointers);
+}
+
+fn tell_moment(text: &mut Text, moment: Moment) {
+    text.number(moment.number());
+}
+
+fn tell_pointers(text: &mut Text, pointers: &[Option<Ptr>]) {
+    let mut index = 0u64;
+    for pointer in pointers {
+        if pointer.is_some() {
+            text.number(index);
+            text.mark(":");
+            text.place(*pointer);
+        }
+        index = index.saturating_add(1);
+    }
+}
+
+fn tell_held<D: Played>(
+    text: &mut Text,
+    drive: &mut D,
+    object: u64,
+    frame: u64,
+) -> Result<(), Refusal> {
+    let places = drive.held(object, frame_of(frame))?;
+    if places.is_empty() {
+        text.word("none");
+    }
+    for place in places.as_slice() {
+        text.number(place.block() as u64);
+    }
+    Ok(())
+}
+
+fn tell_frame<D: Played>(text: &mut Text, drive: &mut D, frame: u64) {
+    let Some(generation) = drive.generation(frame_of(frame)) else {
+        text.word("none");
+        return;
+    };
+    text.word("generation");
+    text.number(generation as u64);
+    if drive.is_emptied(frame_of(frame)) {
+        text.word("emptied");
+    }
+}
+
+fn tell_word<D: Played>(text: &mut Text, drive: &mut D, frame: u64) {
+    match drive.word(frame_of(frame)) {
+        Some(word) => text.long_hex(word),
+        None => text.word("none"),
+    }
+}
+
+fn tell_chosen<D: Played>(text: &mut Text, drive: &mut D) -> Result<(), Refusal> {
+    match drive.chosen()? {
+        Some(chosen) => {
+            text.number(chosen.frame as u64);
+            text.number(chosen.object.number());
+        }
+        None => text.word("none"),
+    }
+    Ok(())
+}
+
+/// Looks at one number of the drive.
+fn look_at_drive<D: Played>(drive: &mut D, look: Look) -> u64 {
+    match look {
+        Look::Clock => drive.clock(),
+        Look::Floor => drive.floor(),
+        Look::Window => drive.window(),
+        Look::Next => drive.next(),
+        _ => drive.room() as u64,
+    }
+}
+
+/// Looks at an object.
+fn look_at_object<D: Played>(
+    drive: &mut D,
+    look: Look,
+    command: &Command<'_>,
+    text: &mut Text,
+) -> Result<(), Refusal> {
+    let [object, second, third] = command.numbers;
+    match look {
+        Look::Sees => text.word(yes_or_no(drive.sees(object, second, third))),
+        Look::Above => tell_number(text, drive.above(object).map(|next| next.number())),
+        Look::Row => tell_row(text, drive, object),
+        Look::Inode => tell_inode(text, drive, object, second),
+        Look::Held => return tell_held(text, drive, object, second),
+        Look::Entry => return tell_numbered(text, drive, object, second),
+        Look::Entries => tell_moments(text, drive.entries(object)?.as_slice()),
+        Look::LastEntry => tell_entry(text, drive.entries(object)?.last()),
+        _ => text.number(drive.entries(object)?.len() as u64),
+    }
+    Ok(())
+}
+
+/// Looks at something.
+pub(crate) fn perform_look<D: Played>(
+    drive: &mut D,
+    look: Look,
+    command: &Command<'_>,
+    text: &mut Text,
+) -> Result<(), Refusal> {
+    match look {
+        Look::Clock | Look::Floor | Look::Window | Look::Next | Look::Room => {
+            text.number(look_at_drive(drive, look));
+            Ok(())
+        }
+        Look::Frame => {
+            tell_frame(text, drive, command.numbers[0]);
+            Ok(())
+        }
+        Look::Word => {
+            tell_word(text, drive, command.numbers[0]);
+            Ok(())
+        }
+        Look::Chosen => tell_chosen(text, drive),
+        Look::Rules => {
+            drive.rules();
+            text.word("Done");
+            Ok(())
+        }
+        _ => look_at_object(drive, look, command, text),
+    }
+}

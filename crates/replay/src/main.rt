@@ -1,0 +1,158 @@
+//! Plays scripts of plain text over the proved drive, with the history cleaner and the segment copier, and the plain drive beside it:
+//! `replay [--print] [FILE..]`.
+//!
+//! Each step of a script is taken by `interleaving::run`, which is proved to keep every version; each line says what must be
+//! answered. What differs is printed, and then how many lines were played and how many of them differ. The status is 0 where none
+//! does, 1 where some do, and 2 where the words, a file or a line of a script are none.
+#![tactic(auto)]
+
+mod acting;
+mod commands;
+mod comparing;
+mod counting;
+mod imaging;
+mod looking;
+mod party;
+mod player;
+mod rolling;
+mod sitting;
+mod stage;
+mod text;
+mod words;
+
+use player::{Report, play_script};
+use s4_types::Refusal;
+use std::process::ExitCode;
+use std::thread::Threads;
+use std::{fs, io};
+
+/// Why scripts couldn't be played to their end.
+#[derive(Clone, Copy)]
+enum Fault {
+    NoMemory,
+    NoOutput,
+    /// The script of this number among the words can't be read.
+    NoScript(usize),
+}
+
+/// What all scripts came to.
+#[derive(Clone, Copy)]
+struct Sum {
+    lines: u64,
+    differing: u64,
+    is_broken: bool,
+}
+
+/// Prints what came of a script, and counts it.
+fn count(rt: &HostRuntime, sum: &mut Sum, report: Report) -> Result<(), Fault> {
+    sum.lines = sum.lines.saturating_add(report.lines);
+    sum.differing = sum.differing.saturating_add(report.differing);
+    sum.is_broken = sum.is_broken || report.is_broken;
+    let text = report.text.finish().map_err(|_| Fault::NoMemory)?;
+    print!(rt; "{text}").map_err(|_| Fault::NoOutput)
+}
+
+/// Plays a script, and counts it.
+fn play<T: Threads>(
+    threads: &T,
+    rt: &HostRuntime,
+    sum: &mut Sum,
+    name: &str,
+    script: io::Result<String>,
+    number: usize,
+    is_printed: bool,
+) -> Result<(), Fault> {
+    let script = match script {
+        Ok(script) => script,
+        Err(_) => return Err(Fault::NoScript(number)),
+    };
+    match play_script(threads, rt.alloc(), name, script.as_str(), is_printed) {
+        Ok(report) => count(rt, sum, report),
+        Err(_) => Err(Fault::NoMemory),
+    }
+}
+
+/// Plays the scripts of these files, or the standard input.
+fn play_all<T: Threads>(
+    threads: &T,
+    rt: &HostRuntime,
+    sum: &mut Sum,
+    files: &[String],
+    is_printed: bool,
+) -> Result<(), Fault> {
+    if files.is_empty() {
+        let script = io::read_to_string(rt.alloc(), rt.stdin());
+        return play(threads, rt, sum, "-", script, 0, is_printed);
+    }
+    for (number, file) in files.iter().enumerate() {
+        let script = fs::read_to_string(rt, file.as_str());
+        play(threads, rt, sum, file.as_str(), script, number, is_printed)?;
+    }
+    Ok(())
+}
+
+/// The status that scripts came to.
+fn status_of(sum: &Sum) -> u8 {
+    if sum.is_broken {
+        2
+    } else if sum.differing > 0 {
+        1
+    } else {
+        0
+    }
+}
+
+/// Plays the scripts that the words name, and prints what they came to.
+fn perform<T: Threads>(threads: &T, rt: &HostRuntime, words: &[String]) -> Result<u8, Fault> {
+    let files = words.get(1..).unwrap_or(&[]);
+    let is_printed = match files.first() {
+        Some(word) => word.as_str() == "--print",
+        None => false,
+    };
+    let files = if is_printed {
+        files.get(1..).unwrap_or(&[])
+    } else {
+        files
+    };
+    let mut sum = Sum {
+        lines: 0,
+        differing: 0,
+        is_broken: false,
+    };
+    play_all(threads, rt, &mut sum, files, is_printed)?;
+    let mark = if is_printed { "# " } else { "" };
+    println!(rt; "{mark}{} lines, {} differ", sum.lines, sum.differing).map_err(
+        |_| Fault::NoOutput,
+    )?;
+    Ok(status_of(&sum))
+}
+
+/// Says why scripts couldn't be played. There is nobody to tell where that can't be written.
+fn tell_fault(rt: &HostRuntime, words: &[String], fault: Fault) {
+    let _ = match fault {
+        Fault::NoMemory => eprintln!(rt; "replay: out of memory"),
+        Fault::NoOutput => eprintln!(rt; "replay: cannot write"),
+        Fault::NoScript(number) => eprintln!(rt;
+            "replay: cannot read file {}",
+            number.saturating_add(1)
+        ),
+    };
+}
+
+fn words_of(rt: &HostRuntime) -> io::Result<Vec<String>> {
+    let words = std::env::args(rt)?.collect(rt.alloc())?;
+    Ok(words)
+}
+
+fn main(rt: HostRuntime) -> ExitCode {
+    let Ok(words) = words_of(&rt) else {
+        return ExitCode::from(2);
+    };
+    match perform(&rt, &rt, words.as_slice()) {
+        Ok(status) => ExitCode::from(status),
+        Err(fault) => {
+            tell_fault(&rt, words.as_slice(), fault);
+            ExitCode::from(2)
+        }
+    }
+}

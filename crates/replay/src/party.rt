@@ -1,0 +1,365 @@
+//! A drive with its sessions, its cleaner's rounds and a pile of plans, as scripts are played over it.
+ghost use Rattle.std.specs.Prelude.{◌≡◌};
+ghost use Rattle.s4_types.specs.Sizes.{IsFrameCount};
+ghost use Rattle.s4_model.specs.State.{new_base};
+ghost use Rattle.segment_table.specs.Room.{log_of};
+ghost use Rattle.version_store.specs.Store.{fields_of};
+ghost use Rattle.drive.specs.Opened.{base_of};
+
+use codec::{Entry, Inode};
+use drive::{Drive, NewDrive, OpenedDrive};
+use history_cleaner::{Cleaner, PassReport, Rounds, Turn, empty_frames, full_pass};
+use interleaving::{Actor, Answer, Step, run};
+use object_map::Row;
+use s4_types::{Moment, ObjectId, Ptr, Refusal, Role};
+use segment_copier::{Candidate, Copier, candidate};
+use segment_word::Naming;
+use std::alloc::Global;
+use std::marker::Brand;
+use std::slice::from_ref;
+use std::thread::Threads;
+use time_read::ReadPlan;
+use verifier::{open, save, verify};
+
+/// A read of an object.
+#[derive(Clone, Copy)]
+pub(crate) struct Reading {
+    pub(crate) object: ObjectId,
+    pub(crate) offset: u64,
+    pub(crate) length: u32,
+    pub(crate) at: Option<Moment>,
+    pub(crate) now: Moment,
+}
+
+/// A drive with its sessions, under any name; sessions are told by their places, from 0 on. No call has a clause, so that what
+/// calls them is proved without their contracts.
+pub(crate) trait Played {
+    /// A session comes, behind those that are there.
+    fn come(&mut self, role: Role) -> Result<(), Refusal>;
+
+    /// A session leaves; those behind it move up.
+    fn leave(&mut self, place: usize);
+
+    /// A session leaves beside another one.
+    fn leave_beside(&mut self, place: usize, other: usize) -> Result<(), Refusal>;
+
+    /// Takes one step in a run of its own. Idle where its session isn't there.
+    fn take(&mut self, step: &Step) -> Result<Answer, Refusal>;
+
+    /// A plan of a read is laid on the pile.
+    fn keep(&mut self, place: usize, reading: &Reading) -> Result<(), Refusal>;
+
+    /// The last plan of the pile is fetched, if there is one.
+    fn fetch(&mut self) -> Result<Option<Vec<u8>>, Refusal>;
+
+    /// The last plan of the pile is given up.
+    fn drop_last(&mut self);
+
+    /// All plans of the pile are.
+    fn drop_all(&mut self);
+
+    fn pass(&mut self) -> Result<PassReport, Refusal>;
+
+    fn turn(&mut self) -> Turn;
+
+    fn empty(&mut self) -> Result<u32, Refusal>;
+
+    fn chosen(&mut self) -> Result<Option<Candidate>, Refusal>;
+
+    fn clock(&self) -> u64;
+
+    fn floor(&self) -> u64;
+
+    fn window(&self) -> u64;
+
+    fn next(&self) -> u64;
+
+    fn room(&self) -> usize;
+
+    fn sees(&self, object: u64, first: u64, last: u64) -> bool;
+
+    fn above(&self, object: u64) -> Option<ObjectId>;
+
+    fn row(&self, object: u64) -> Option<Row>;
+
+    fn entries(&mut self, object: u64) -> Result<Vec<Entry>, Refusal>;
+
+    fn inode(&mut self, object: u64, at: u64) -> Option<Inode>;
+
+    fn held(&mut self, object: u64, frame: u16) -> Result<Vec<Ptr>, Refusal>;
+
+    fn generation(&mut self, frame: u16) -> Option<u32>;
+
+    fn is_emptied(&mut self, frame: u16) -> bool;
+
+    /// The frame's saved word, if it is there.
+    fn word(&mut self, frame: u16) -> Option<u64>;
+
+    fn rules(&self);
+
+    fn save(&mut self) -> Result<Vec<u8>, Refusal>;
+}
+
+/// What is done with a drive.
+pub(crate) trait Scene {
+    /// What comes of it.
+    type Outcome: Drop;
+
+    fn play<D: Played, R: Threads>(
+        &mut self,
+        rt: &R,
+        drive: &mut D,
+    ) -> Result<Self::Outcome, Refusal>;
+}
+
+/// The drive with what is beside it.
+#[derive(Drop)]
+struct Party<J: Naming> {
+    alloc: Global,
+    drive: Drive<J>,
+    actors: Vec<Actor<J, Copier>>,
+    rounds: Rounds,
+    pile: Vec<ReadPlan>,
+}
+
+impl<J: Naming> Party<J> {
+    fn new(alloc: Global, drive: Drive<J>) -> Self {
+        Party {
+            alloc,
+            drive,
+            actors: Vec::new(alloc),
+            rounds: Rounds::new(),
+            pile: Vec::new(alloc),
+        }
+    }
+}
+
+impl<J: Naming> Played for Party<J> {
+    fn come(&mut self, role: Role) -> Result<(), Refusal> {
+        let session = self.drive.session(role)?;
+        self.actors.push(Actor::new(session))?;
+        Ok(())
+    }
+
+    fn leave(&mut self, place: usize) {
+        if place < self.actors.len() {
+            drop(self.actors.remove(place));
+        }
+    }
+
+    fn leave_beside(&mut self, place: usize, other: usize) -> Result<(), Refusal> {
+        if place >= self.actors.len() || other >= self.actors.len() || place == other {
+            return Ok(());
+        }
+        let ends = self.actors.remove(place).into_session();
+        let stays = if other > place { other - 1 } else { other };
+        let mut session = self.actors.remove(stays).into_session();
+        self.drive.end_beside(&mut session, ends);
+        self.actors.insert(stays, Actor::new(session))?;
+        Ok(())
+    }
+
+    fn take(&mut self, step: &Step) -> Result<Answer, Refusal> {
+        let actors = self.actors.as_mut_slice();
+        let steps = from_ref(step);
+        let mut answers = run::<J, Cleaner, Copier>(self.alloc, &mut self.drive, actors, steps)?;
+        Ok(answers.pop().unwrap_or(Answer::Idle))
+    }
+
+    fn keep(&mut self, place: usize, reading: &Reading) -> Result<(), Refusal> {
+        if place >= self.actors.len() {
+            return Ok(());
+        }
+        let mut session = self.actors.remove(place).into_session();
+        let planned = self.drive.resolve(
+            &mut session,
+            reading.object,
+            reading.offset,
+            reading.length,
+            reading.at,
+            reading.now,
+        );
+        self.actors.insert(place, Actor::new(session))?;
+        self.pile.push(planned?)?;
+        Ok(())
+    }
+
+    fn fetch(&mut self) -> Result<Option<Vec<u8>>, Refusal> {
+        match self.pile.pop() {
+            Some(plan) => Ok(Some(plan.fetch(self.alloc)?)),
+            None => Ok(None),
+        }
+    }
+
+    fn drop_last(&mut self) {
+        drop(self.pile.pop());
+    }
+
+    fn drop_all(&mut self) {
+        self.pile.clear();
+    }
+
+    fn pass(&mut self) -> Result<PassReport, Refusal> {
+        full_pass(self.alloc, &mut self.drive)
+    }
+
+    fn turn(&mut self) -> Turn {
+        self.rounds.turn(self.alloc, &mut self.drive)
+    }
+
+    fn empty(&mut self) -> Result<u32, Refusal> {
+        empty_frames(&mut self.drive)
+    }
+
+    fn chosen(&mut self) -> Result<Option<Candidate>, Refusal> {
+        candidate(&mut self.drive)
+    }
+
+    fn clock(&self) -> u64 {
+        self.drive.clock().number()
+    }
+
+    fn floor(&self) -> u64 {
+        self.drive.floor().number()
+    }
+
+    fn window(&self) -> u64 {
+        self.drive.window()
+    }
+
+    fn next(&self) -> u64 {
+        self.drive.next().number()
+    }
+
+    fn room(&self) -> usize {
+        self.drive.room()
+    }
+
+    fn sees(&self, object: u64, first: u64, last: u64) -> bool {
+        let (first, last) = (Moment::new(first), Moment::new(last));
+        self.drive.sees(ObjectId::new(object), first, last)
+    }
+
+    fn above(&self, object: u64) -> Option<ObjectId> {
+        self.drive.next_row(ObjectId::new(object))
+    }
+
+    fn row(&self, object: u64) -> Option<Row> {
+        self.drive.row(ObjectId::new(object))
+    }
+
+    fn entries(&mut self, object: u64) -> Result<Vec<Entry>, Refusal> {
+        self.drive.entries(ObjectId::new(object))
+    }
+
+    fn inode(&mut self, object: u64, at: u64) -> Option<Inode> {
+        self.drive.inode_at(ObjectId::new(object), Moment::new(at))
+    }
+
+    fn held(&mut self, object: u64, frame: u16) -> Result<Vec<Ptr>, Refusal> {
+        self.drive.held_in(ObjectId::new(object), frame)
+    }
+
+    fn generation(&mut self, frame: u16) -> Option<u32> {
+        self.drive.generation(frame)
+    }
+
+    fn is_emptied(&mut self, frame: u16) -> bool {
+        self.drive.is_emptied(frame)
+    }
+
+    fn word(&mut self, frame: u16) -> Option<u64> {
+        if frame >= self.drive.frame_count() {
+            return None;
+        }
+        Some(self.drive.saved_word(frame))
+    }
+
+    fn rules(&self) {
+        self.drive.rules();
+    }
+
+    fn save(&mut self) -> Result<Vec<u8>, Refusal> {
+        save(self.alloc, &mut self.drive)
+    }
+}
+
+/// Plays a scene over a drive, which ends behind it.
+fn play_over<J: Naming, R: Threads, S: Scene>(
+    rt: &R,
+    alloc: Global,
+    drive: Drive<J>,
+    scene: &mut S,
+) -> Result<S::Outcome, Refusal> {
+    let mut party = Party::new(alloc, drive);
+    scene.play(rt, &mut party)
+}
+
+fn play_made<J: Naming, R: Threads, S: Scene>(
+    rt: &R,
+    alloc: Global,
+    made: NewDrive,
+    scene: &mut S,
+) -> Result<S::Outcome, Refusal>
+    requires frames { made.store.table.drive.table ≡ J.frames }
+    requires accepts { made.accepts ≡ J.accepts }
+    requires base { new_base made.window ≡ J.base }
+{
+    play_over(rt, alloc, made.named::<J>(), scene)
+}
+
+fn play_opened<J: Naming, R: Threads, S: Scene>(
+    rt: &R,
+    alloc: Global,
+    opened: OpenedDrive,
+    scene: &mut S,
+) -> Result<S::Outcome, Refusal>
+    requires frames { opened.store.table.drive.table ≡ J.frames }
+    requires accepts { opened.accepts ≡ J.accepts }
+    requires base { base_of (fields_of log_of opened.store) opened.timeline opened.next ≡ J.base }
+{
+    play_over(rt, alloc, opened.named::<J>(), scene)
+}
+
+/// A new drive. What is refused for want of memory is asked for once more.
+fn new_drive(alloc: Global, frames: usize, window: u64) -> Result<NewDrive, Refusal>
+    requires { IsFrameCount frames }
+{
+    match NewDrive::new(alloc, frames, window) {
+        Err(_) => NewDrive::new(alloc, frames, window),
+        made => made,
+    }
+}
+
+/// Plays a scene over a new drive.
+pub(crate) fn play_new<R: Threads, S: Scene>(
+    rt: &R,
+    alloc: Global,
+    frames: usize,
+    window: u64,
+    scene: &mut S,
+) -> Result<S::Outcome, Refusal>
+    requires { IsFrameCount frames }
+{
+    let made = new_drive(alloc, frames, window)?;
+    play_made::<Brand, R, S>(rt, alloc, made, scene)
+}
+
+/// The drive of an image. What is refused for want of memory is asked for once more.
+fn opened_drive<R: Threads>(rt: &R, alloc: Global, image: &[u8]) -> Result<OpenedDrive, Refusal> {
+    match open(alloc, verify(rt, alloc, image)?) {
+        Err(_) => open(alloc, verify(rt, alloc, image)?),
+        opened => opened,
+    }
+}
+
+/// Plays a scene over the drive of an image.
+pub(crate) fn play_image<R: Threads, S: Scene>(
+    rt: &R,
+    alloc: Global,
+    image: &[u8],
+    scene: &mut S,
+) -> Result<S::Outcome, Refusal> {
+    let opened = opened_drive(rt, alloc, image)?;
+    play_opened::<Brand, R, S>(rt, alloc, opened, scene)
+}

@@ -1,0 +1,372 @@
+//! A script is played line by line.
+use crate::acting::{perform_acting, perform_asking, perform_tidying, perform_upkeep};
+use crate::commands::{Beginning, Command, Line, Verb, line_of};
+use crate::comparing::{perform_comparing, watch};
+use crate::imaging::perform_imaging;
+use crate::looking::perform_look;
+use crate::party::{Played, Scene, play_image, play_new};
+use crate::sitting::{come, perform_sitting};
+use crate::stage::Stage;
+use crate::text::Text;
+use crate::words::{is_said, parts_of};
+use s4_model::PlainDrive;
+use s4_types::limits::{FEWEST_FRAMES, MOST_FRAMES};
+use s4_types::{Refusal, Role};
+use std::alloc::Global;
+use std::str::from_utf8;
+use std::thread::Threads;
+use verifier::verify;
+
+/// What comes behind a drive: the script's end, a new drive, or the one of the image that is kept.
+#[derive(Clone, Copy)]
+enum Start {
+    End,
+    New {
+        frames: usize,
+        window: u64,
+        is_alone: bool,
+    },
+    Image,
+}
+
+/// What came of a script.
+#[derive(Drop)]
+pub(crate) struct Report {
+    pub(crate) text: Text,
+    pub(crate) lines: u64,
+    pub(crate) differing: u64,
+    pub(crate) is_broken: bool,
+}
+
+/// A script that is played.
+#[derive(Drop)]
+struct Player<'a> {
+    alloc: Global,
+    name: &'a str,
+    lines: &'a [&'a [u8]],
+    next: usize,
+    is_printed: bool,
+    stage: Stage,
+    report: Report,
+}
+
+/// Does what a command says, and tells what it is answered.
+fn perform<D: Played, R: Threads>(
+    rt: &R,
+    stage: &mut Stage,
+    drive: &mut D,
+    command: &Command<'_>,
+    text: &mut Text,
+) -> Result<(), Refusal> {
+    match command.verb {
+        Verb::Begin(_) => {
+            text.word("Idle");
+            return Ok(());
+        }
+        Verb::Look(look) => return perform_look(drive, look, command, text),
+        Verb::Compare(beside) => return perform_comparing(rt, stage, drive, beside, command, text),
+        Verb::Hold(imaging) => return perform_imaging(rt, stage, drive, imaging, command, text),
+        Verb::Sit(sitting) => perform_sitting(stage, drive, sitting, command, text)?,
+        Verb::Ask(asking) => perform_asking(stage, drive, asking, command, text)?,
+        Verb::Act(acting) => perform_acting(stage, drive, acting, command, text)?,
+        Verb::Step(upkeep) => perform_upkeep(stage, drive, upkeep, command, text)?,
+        Verb::Tidy(tidying) => perform_tidying(stage, drive, tidying, command, text)?,
+    }
+    watch(stage, drive)
+}
+
+/// What a command is answered; NoMemory is refused where it is told.
+fn try_command<D: Played, R: Threads>(
+    rt: &R,
+    stage: &mut Stage,
+    drive: &mut D,
+    command: &Command<'_>,
+) -> Result<String, Refusal> {
+    let mut text = Text::new(stage.alloc);
+    match perform(rt, stage, drive, command, &mut text) {
+        Ok(()) => {}
+        Err(Refusal::NoMemory) => return Err(Refusal::NoMemory),
+        Err(refusal) => text.refusal(refusal),
+    }
+    text.finish()
+}
+
+/// The same; what is refused memory is done once more where it can be.
+fn do_command<D: Played, R: Threads>(
+    rt: &R,
+    stage: &mut Stage,
+    drive: &mut D,
+    command: &Command<'_>,
+) -> Result<String, Refusal> {
+    stage.is_spent = false;
+    match try_command(rt, stage, drive, command) {
+        Err(Refusal::NoMemory) if !stage.is_spent => try_command(rt, stage, drive, command),
+        told => told,
+    }
+}
+
+/// Whether an answer passes where none is told.
+fn is_good(told: &str) -> bool {
+    !told.starts_with("Refused ") && !told.starts_with("Damaged ") && told != "Idle"
+}
+
+/// What a line is answered, and whether all before its last answer went well.
+fn do_line<D: Played, R: Threads>(
+    rt: &R,
+    stage: &mut Stage,
+    drive: &mut D,
+    line: &Line<'_>,
+) -> Result<(String, bool), Refusal> {
+    let mut told = String::new(stage.alloc);
+    for _ in 0..line.times {
+        for command in line.commands.as_slice() {
+            if !is_good(told.as_str()) {
+                return Ok((told, false));
+            }
+            told = do_command(rt, stage, drive, command)?;
+        }
+    }
+    Ok((told, true))
+}
+
+impl<'a> Player<'a> {
+    /// Prints some of a script.
+    fn print(&mut self, bytes: &[u8]) {
+        if let Ok(text) = from_utf8(bytes) {
+            self.report.text.mark(text);
+        }
+    }
+
+    /// Prints where a script is.
+    fn print_place(&mut self) {
+        self.report.text.mark(self.name);
+        self.report.text.mark(":");
+        self.report.text.digits(self.next as u64);
+        self.report.text.mark(": ");
+    }
+
+    /// A line that spells no command ends its script.
+    fn break_off(&mut self, line: &[u8]) -> Option<Start> {
+        self.print_place();
+        self.report.text.mark("no command: ");
+        self.print(line);
+        self.report.text.mark("\n");
+        self.report.is_broken = true;
+        Some(Start::End)
+    }
+
+    /// Says how a line differs.
+    fn print_differing(&mut self, line: &Line<'_>, told: &str, remark: &str) {
+        self.report.differing = self.report.differing.saturating_add(1);
+        self.print_place();
+        self.print(line.text);
+        self.report.text.mark(" -> ");
+        self.report.text.mark(told);
+        if !remark.is_empty() {
+            self.report.text.mark(", and ");
+            self.report.text.mark(remark);
+        }
+        if let Some(expected) = line.expected {
+            self.report.text.mark(", and not ");
+            self.print(expected);
+        }
+        self.report.text.mark("\n");
+    }
+
+    /// Whether an answer is the one that must come.
+    fn is_right(&self, line: &Line<'_>, told: &str) -> Result<bool, Refusal> {
+        match line.expected {
+            Some(expected) => {
+                let words = parts_of(self.alloc, expected, b' ')?;
+                is_said(self.alloc, told.as_bytes(), words.as_slice())
+            }
+            None => Ok(is_good(told)),
+        }
+    }
+
+    /// Judges what a line was answered.
+    fn judge(&mut self, line: &Line<'_>, told: &str, is_whole: bool) -> Result<(), Refusal> {
+        self.report.lines = self.report.lines.saturating_add(1);
+        if self.is_printed {
+            self.print(line.text);
+            self.report.text.mark(" -> ");
+            self.report.text.mark(told);
+            self.report.text.mark("\n");
+        }
+        let remark = self.stage.take_remark()?;
+        if !is_whole || !remark.is_empty() || !self.is_right(line, told)? {
+            self.print_differing(line, told, remark.as_str());
+        }
+        Ok(())
+    }
+
+    /// The drive that a command begins; none where it is no such command, or is refused, which is told.
+    fn start_of<R: Threads>(
+        &mut self,
+        rt: &R,
+        beginning: Beginning,
+        command: &Command<'_>,
+    ) -> Result<Option<Start>, Refusal> {
+        if matches!(beginning, Beginning::Open) {
+            verify(rt, self.alloc, self.stage.image.as_slice())?;
+            return Ok(Some(Start::Image));
+        }
+        let frames = usize::try_from(command.numbers[0]).unwrap_or(0);
+        if !(FEWEST_FRAMES..=MOST_FRAMES).contains(&frames) {
+            return Ok(None);
+        }
+        Ok(Some(Start::New {
+            frames,
+            window: command.numbers[1],
+            is_alone: matches!(beginning, Beginning::Alone),
+        }))
+    }
+
+    /// Begins another drive, if a line says so, and judges that.
+    fn begin<R: Threads>(
+        &mut self,
+        rt: &R,
+        beginning: Beginning,
+        line: &Line<'_>,
+        command: &Command<'_>,
+    ) -> Result<Option<Start>, Refusal> {
+        let started = match self.start_of(rt, beginning, command) {
+            Err(Refusal::NoMemory) => self.start_of(rt, beginning, command),
+            started => started,
+        };
+        match started {
+            Ok(Some(start)) => {
+                self.judge(line, "Done", true)?;
+                Ok(Some(start))
+            }
+            Ok(None) => Ok(self.break_off(line.text)),
+            Err(Refusal::NoMemory) => Err(Refusal::NoMemory),
+            Err(refusal) => {
+                let mut text = Text::new(self.alloc);
+                text.refusal(refusal);
+                let told = text.finish()?;
+                self.judge(line, told.as_str(), true)?;
+                Ok(None)
+            }
+        }
+    }
+
+    /// Plays a line, and gives what begins then.
+    fn play_line<D: Played, R: Threads>(
+        &mut self,
+        rt: &R,
+        drive: &mut D,
+        text: &[u8],
+    ) -> Result<Option<Start>, Refusal> {
+        if text.is_empty() || text.starts_with(b"#") {
+            if self.is_printed {
+                self.print(text);
+                self.report.text.mark("\n");
+            }
+            return Ok(None);
+        }
+        let Some(line) = line_of(self.alloc, text)? else {
+            return Ok(self.break_off(text));
+        };
+        if let [command] = line.commands.as_slice()
+            && let Verb::Begin(beginning) = command.verb
+        {
+            return self.begin(rt, beginning, &line, command);
+        }
+        let (told, is_whole) = do_line(rt, &mut self.stage, drive, &line)?;
+        self.judge(&line, told.as_str(), is_whole)?;
+        Ok(None)
+    }
+
+    /// Makes a drive and plays on over it, and gives what comes then.
+    fn play_start<R: Threads>(&mut self, rt: &R, start: Start) -> Result<Start, Refusal> {
+        match start {
+            Start::New {
+                frames,
+                window,
+                is_alone,
+            } => {
+                let plain = if is_alone {
+                    None
+                } else {
+                    Some(PlainDrive::new(self.alloc, window))
+                };
+                self.stage.begin(plain);
+                if !(FEWEST_FRAMES..=MOST_FRAMES).contains(&frames) {
+                    return Ok(Start::End);
+                }
+                play_new(rt, self.alloc, frames, window, self)
+            }
+            Start::Image => {
+                self.stage.begin(None);
+                let image = Vec::from_slice(self.alloc, self.stage.image.as_slice())?;
+                play_image(rt, self.alloc, image.as_slice(), self)
+            }
+            Start::End => Ok(Start::End),
+        }
+    }
+}
+
+impl<'a> Scene for Player<'a> {
+    type Outcome = Start;
+
+    fn play<D: Played, R: Threads>(&mut self, rt: &R, drive: &mut D) -> Result<Start, Refusal> {
+        come(&mut self.stage, drive, b"client", Role::Client)?;
+        come(&mut self.stage, drive, b"admin", Role::Admin)?;
+        let lines = self.lines;
+        for place in self.next..lines.len() {
+            self.next = place + 1;
+            if let Some(start) = self.play_line(rt, drive, lines[place])? {
+                return Ok(start);
+            }
+        }
+        Ok(Start::End)
+    }
+}
+
+/// The lines of a script, without spaces at their ends.
+fn lines_of<'a>(alloc: Global, script: &'a [u8]) -> Result<Vec<&'a [u8]>, Refusal> {
+    let mut lines = Vec::new(alloc);
+    for line in script.split(|byte| *byte == b'\n') {
+        lines.push(line.trim_ascii())?;
+    }
+    Ok(lines)
+}
+
+/// Plays a script. Until it begins a drive, one of 8 frames and a window of 100 moments is there.
+pub(crate) fn play_script<R: Threads>(
+    rt: &R,
+    alloc: Global,
+    name: &str,
+    script: &str,
+    is_printed: bool,
+) -> Result<Report, Refusal> {
+    let lines = lines_of(alloc, script.as_bytes())?;
+    let report = Report {
+        text: Text::new(alloc),
+        lines: 0,
+        differing: 0,
+        is_broken: false,
+    };
+    let mut player = Player {
+        alloc,
+        name,
+        lines: lines.as_slice(),
+        next: 0,
+        is_printed,
+        stage: Stage::new(alloc),
+        report,
+    };
+    let mut start = Start::New {
+        frames: FEWEST_FRAMES,
+        window: 100,
+        is_alone: false,
+    };
+    for _ in 0..=lines.len() {
+        start = player.play_start(rt, start)?;
+        if matches!(start, Start::End) {
+            break;
+        }
+    }
+    Ok(player.report)
+}

@@ -1,0 +1,83 @@
+//! Sessions come and go.
+use crate::commands::{Command, Sitting};
+use crate::party::Played;
+use crate::stage::Stage;
+use crate::text::Text;
+use s4_types::{Refusal, Role};
+
+/// A session comes; one of that name leaves first.
+pub(crate) fn come<D: Played>(
+    stage: &mut Stage,
+    drive: &mut D,
+    name: &[u8],
+    role: Role,
+) -> Result<(), Refusal> {
+    leave(stage, drive, name);
+    drive.come(role)?;
+    stage.sit(name, role)
+}
+
+/// A session leaves, if it is there.
+fn leave<D: Played>(stage: &mut Stage, drive: &mut D, name: &[u8]) -> bool {
+    let place = stage.place_of(name);
+    let is_there = place < stage.seats.len();
+    stage.rise(place);
+    drive.leave(place);
+    is_there
+}
+
+/// So many sessions come, named by a name and a number from 1 on.
+fn come_many<D: Played>(
+    stage: &mut Stage,
+    drive: &mut D,
+    command: &Command<'_>,
+    role: Role,
+) -> Result<(), Refusal> {
+    for number in 1..=command.numbers[0] {
+        let mut name = Vec::from_slice(stage.alloc, command.name)?;
+        let digits = format!(in stage.alloc; "{number}")?;
+        name.extend_from_slice(digits.as_bytes())?;
+        come(stage, drive, name.as_slice(), role)?;
+    }
+    Ok(())
+}
+
+/// A session ends beside another one.
+fn end_beside<D: Played>(
+    stage: &mut Stage,
+    drive: &mut D,
+    command: &Command<'_>,
+) -> Result<bool, Refusal> {
+    let (place, other) = (stage.place_of(command.name), stage.place_of(command.other));
+    let count = stage.seats.len();
+    if place >= count || other >= count || place == other {
+        return Ok(false);
+    }
+    drive.leave_beside(place, other)?;
+    stage.plan(other, None);
+    stage.rise(place);
+    Ok(true)
+}
+
+/// Done, or Idle.
+pub(crate) fn tell_done(text: &mut Text, is_done: bool) {
+    text.word(if is_done { "Done" } else { "Idle" });
+}
+
+/// Lets sessions come and go.
+pub(crate) fn perform_sitting<D: Played>(
+    stage: &mut Stage,
+    drive: &mut D,
+    sitting: Sitting,
+    command: &Command<'_>,
+    text: &mut Text,
+) -> Result<(), Refusal> {
+    let is_done = match sitting {
+        Sitting::Come(role) => come(stage, drive, command.name, role).map(|_| true)?,
+        Sitting::ComeMany(role) => come_many(stage, drive, command, role).map(|_| true)?,
+        Sitting::End => leave(stage, drive, command.name),
+        Sitting::EndBeside => end_beside(stage, drive, command)?,
+    };
+    tell_done(text, is_done);
+    Ok(())
+}

@@ -1,0 +1,296 @@
+//! What is beside the drive while a script is played: who sits at it, the plain drive, and an image.
+use crate::counting::Tally;
+use crate::text::Text;
+use interleaving::{Act, Answer, Step};
+use s4_model::PlainDrive;
+use s4_types::{Moment, ObjectId, Refusal, Reply, Request, Role};
+use std::alloc::Global;
+use std::mem;
+
+/// A session of a drive, and what the plan of a read that it has is to give.
+#[derive(Drop)]
+pub(crate) struct Seat {
+    name: Vec<u8>,
+    role: Role,
+    planned: Option<Reply>,
+}
+
+/// What is beside the drive.
+#[derive(Drop)]
+pub(crate) struct Stage {
+    pub(crate) alloc: Global,
+    pub(crate) seats: Vec<Seat>,
+    pub(crate) plain: Option<PlainDrive>,
+    /// What the plans of the pile are to give.
+    pub(crate) pile: Vec<Option<Reply>>,
+    /// Whether all is compared behind each step.
+    pub(crate) is_watched: bool,
+    /// Whether a command that is refused memory can't be done once more.
+    pub(crate) is_spent: bool,
+    /// What is wrong beside the answer; nothing where all is right.
+    pub(crate) remark: Text,
+    pub(crate) image: Vec<u8>,
+    pub(crate) kept: Vec<u8>,
+    pub(crate) tally: Tally,
+}
+
+impl Stage {
+    pub(crate) fn new(alloc: Global) -> Self {
+        Stage {
+            alloc,
+            seats: Vec::new(alloc),
+            plain: None,
+            pile: Vec::new(alloc),
+            is_watched: false,
+            is_spent: false,
+            remark: Text::new(alloc),
+            image: Vec::new(alloc),
+            kept: Vec::new(alloc),
+            tally: Tally::default(),
+        }
+    }
+
+    /// Another drive comes, with nobody, and with this plain drive beside it.
+    pub(crate) fn begin(&mut self, plain: Option<PlainDrive>) {
+        self.seats.clear();
+        self.pile.clear();
+        self.plain = plain;
+        self.is_watched = false;
+    }
+
+    /// Where somebody sits; behind all where nobody has that name.
+    pub(crate) fn place_of(&self, name: &[u8]) -> usize {
+        let found = self
+            .seats
+            .iter()
+            .position(|seat| seat.name.as_slice() == name);
+        found.unwrap_or(self.seats.len())
+    }
+
+    /// Somebody sits down behind the others.
+    pub(crate) fn sit(&mut self, name: &[u8], role: Role) -> Result<(), Refusal> {
+        let name = Vec::from_slice(self.alloc, name)?;
+        self.seats.push(Seat {
+            name,
+            role,
+            planned: None,
+        })?;
+        Ok(())
+    }
+
+    /// Somebody goes; those behind move up.
+    pub(crate) fn rise(&mut self, place: usize) {
+        if place < self.seats.len() {
+            drop(self.seats.remove(place));
+        }
+    }
+
+    /// What a plan of a read that somebody made is to give.
+    pub(crate) fn plan(&mut self, place: usize, told: Option<Reply>) {
+        if let Some(seat) = self.seats.get_mut(place) {
+            seat.planned = told;
+        }
+    }
+
+    /// What the plain drive replies to a request; none where there is no plain drive. NoMemory where it wants memory, and
+    /// what was asked can't be done once more then.
+    pub(crate) fn reply(
+        &mut self,
+        place: usize,
+        request: Request,
+        now: Moment,
+    ) -> Result<Option<Reply>, Refusal> {
+        let role = match self.seats.get(place) {
+            Some(seat) => seat.role,
+            None => Role::Admin,
+        };
+        let Some(plain) = &mut self.plain else {
+            return Ok(None);
+        };
+        match plain.request(role, request, now) {
+            Reply::Refused(Refusal::NoMemory) => {
+                self.is_spent = true;
+                Err(Refusal::NoMemory)
+            }
+            reply => Ok(Some(reply)),
+        }
+    }
+
+    /// What is wrong beside the answer, which is forgotten then.
+    pub(crate) fn take_remark(&mut self) -> Result<String, Refusal> {
+        mem::replace(&mut self.remark, Text::new(self.alloc)).finish()
+    }
+
+    /// Remarks what the plain drive tells.
+    fn remark_reply(&mut self, told: &Reply) {
+        self.remark.word("the plain drive tells");
+        tell_reply(&mut self.remark, told);
+    }
+
+    /// Compares the reply to a request.
+    fn compare_reply(
+        &mut self,
+        place: usize,
+        request: Request,
+        now: Moment,
+        answer: &Answer,
+    ) -> Result<(), Refusal> {
+        let Answer::Reply(given) = answer else {
+            return Ok(());
+        };
+        if is_for_want(given) {
+            let object = ObjectId::new(1);
+            self.reply(place, Request::GetAttr { object, at: None }, now)?;
+            return Ok(());
+        }
+        if let Some(told) = self.reply(place, request, now)?
+            && told != *given
+        {
+            self.remark_reply(&told);
+        }
+        Ok(())
+    }
+
+    /// Compares a plan that was made or refused with what the plain drive replied to the read.
+    pub(crate) fn compare_plan(&mut self, told: &Reply, answer: &Answer) {
+        let is_told = match (answer, told) {
+            (Answer::Done, Reply::Data(_)) => true,
+            (Answer::Refused(Refusal::Busy), _) => true,
+            (Answer::Refused(given), Reply::Refused(refusal)) => given == refusal,
+            _ => false,
+        };
+        if !is_told {
+            self.remark_reply(told);
+        }
+    }
+
+    /// Compares what a plan gave with what it was to give.
+    pub(crate) fn compare_bytes(&mut self, told: &Reply, given: &[u8]) {
+        let is_told = match told {
+            Reply::Data(bytes) => bytes.as_slice() == given,
+            _ => false,
+        };
+        if !is_told {
+            self.remark_reply(told);
+        }
+    }
+
+    /// Compares the answer to a plan of a read.
+    fn compare_resolve(
+        &mut self,
+        place: usize,
+        read: Request,
+        now: Moment,
+        answer: &Answer,
+    ) -> Result<(), Refusal> {
+        if let Some(told) = self.reply(place, read, now)? {
+            self.compare_plan(&told, answer);
+            if *answer == Answer::Done {
+                self.plan(place, Some(told));
+            }
+        }
+        Ok(())
+    }
+
+    /// Compares what a fetch gave.
+    fn compare_fetch(&mut self, place: usize, answer: &Answer) {
+        let planned = match self.seats.get_mut(place) {
+            Some(seat) => seat.planned.take(),
+            None => None,
+        };
+        if let (Some(told), Answer::Bytes(given)) = (planned, answer) {
+            self.compare_bytes(&told, given.as_slice());
+        }
+    }
+
+    /// Compares the answer to what somebody did.
+    fn compare_act(&mut self, place: usize, act: Act, answer: &Answer) -> Result<(), Refusal> {
+        match act {
+            Act::Request { request, now } => self.compare_reply(place, request, now, answer),
+            Act::Resolve {
+                object,
+                offset,
+                length,
+                at,
+                now,
+            } => {
+                let read = Request::Read {
+                    object,
+                    offset,
+                    length,
+                    at,
+                };
+                self.compare_resolve(place, read, now, answer)
+            }
+            Act::Fetch => {
+                self.compare_fetch(place, answer);
+                Ok(())
+            }
+            _ => Ok(()),
+        }
+    }
+
+    /// Compares the answer to a step with what the plain drive tells.
+    pub(crate) fn compare(&mut self, step: Step, answer: &Answer) -> Result<(), Refusal> {
+        match step {
+            Step::By { actor, act } if actor < self.seats.len() => {
+                self.compare_act(actor, act, answer)
+            }
+            _ => Ok(()),
+        }
+    }
+}
+
+/// Whether a request was refused for want of room or readers, as a plain drive never does.
+fn is_for_want(reply: &Reply) -> bool {
+    matches!(
+        reply,
+        Reply::Refused(Refusal::NoSpace | Refusal::ChainFull | Refusal::Busy)
+    )
+}
+
+/// Tells a reply.
+pub(crate) fn tell_reply(text: &mut Text, reply: &Reply) {
+    match reply {
+        Reply::Refused(refusal) => text.refusal(*refusal),
+        Reply::Changed(moment) => {
+            text.word("Changed");
+            text.number(moment.number());
+        }
+        Reply::Created(object, moment) => {
+            text.word("Created");
+            text.number(object.number());
+            text.number(moment.number());
+        }
+        Reply::Data(bytes) => {
+            text.word("Data");
+            text.bytes(bytes.as_slice());
+        }
+        Reply::Attr {
+            size,
+            created,
+            changed,
+            attribute,
+        } => {
+            text.word("Attr");
+            text.number(*size as u64);
+            text.number(created.number());
+            text.number(changed.number());
+            text.bytes(attribute.as_slice());
+        }
+    }
+}
+
+/// Tells an answer.
+pub(crate) fn tell_answer(text: &mut Text, answer: &Answer) {
+    match answer {
+        Answer::Reply(reply) => tell_reply(text, reply),
+        Answer::Bytes(bytes) => {
+            text.word("Bytes");
+            text.bytes(bytes.as_slice());
+        }
+        Answer::Done => text.word("Done"),
+        Answer::Refused(refusal) => text.refusal(*refusal),
+        Answer::Idle => text.word("Idle"),
+    }
+}
