@@ -146,6 +146,8 @@ pub(crate) fn take<D: Played>(
     if lacks_memory(&answer) {
         return Err(Refusal::NoMemory);
     }
+    // (what was done isn't done once more where memory to tell of it is refused)
+    stage.is_spent = true;
     stage.compare(step, &answer)?;
     Ok(answer)
 }
