@@ -1,16 +1,12 @@
 //! Sessions on threads, held at a gate until others have come so far.
-ghost use Rattle.std.specs.Prelude.{◌≡◌};
-ghost use Rattle.s4_model.specs.State.{new_base};
-
-use crate::tests::{TURNS, await_flag, has_written, joined};
-use crate::{Client, Gate, Locked, Open, Outcome, run_sessions};
-use drive::{Drive, NewDrive};
+use crate::tests::{Scene, TURNS, await_flag, has_written, joined, play};
+use drive::Drive;
 use s4_types::Refusal::Busy;
 use s4_types::{Bytes, Moment, ObjectId, Request, Role};
 use segment_word::Naming;
+use server::{Client, Gate, Locked, Open, Outcome, run_sessions};
 use serving::{Backend, MemorySink, MemorySource, ServeEnd};
 use std::alloc::Global;
-use std::marker::Brand;
 use std::process::Abort;
 use std::sync::atomic::{AtomicBool, AtomicUsize, Ordering};
 use std::sync::{Mutex, Wait};
@@ -34,37 +30,6 @@ static DATA: [u8; 5] = *b"\0\0\x1a\x01\x03";
 
 /// The frame of the reply to the Write, at moment 5.
 static CHANGED: [u8; 13] = *b"\0\0\0\x09\x01\0\0\0\0\0\0\0\x05";
-
-/// What a test does with a new drive of 16 frames.
-#[derive(Drop)]
-enum Scene {
-    Held,
-    Sixteen,
-    Crowded,
-}
-
-fn play_named<J: Naming + Send + Sync, R: Abort + Threads + Wait + Sync>(
-    rt: &R,
-    alloc: Global,
-    made: NewDrive,
-    scene: Scene,
-) -> Result<(), Fail>
-    requires frames { made.store.table.drive.table ≡ J.frames }
-    requires accepts { made.accepts ≡ J.accepts }
-    requires base { new_base made.window ≡ J.base }
-{
-    let drive = made.named::<J>();
-    match scene {
-        Scene::Held => hold(rt, alloc, drive),
-        Scene::Sixteen => gather(rt, alloc, drive),
-        Scene::Crowded => crowd_out(rt, alloc, drive),
-    }
-}
-
-fn play<R: Abort + Threads + Wait + Sync>(rt: &R, alloc: Global, scene: Scene) -> Result<(), Fail> {
-    let made = NewDrive::new(alloc, 16, 100)?;
-    play_named::<Brand, R>(rt, alloc, made, scene)
-}
 
 /// The first session's read is held once it is planned, until the second's change is answered; the second session's first read is
 /// held until then.
@@ -132,13 +97,12 @@ fn fill<J: Naming, R: Wait>(rt: &R, alloc: Global, drive: &Mutex<Drive<J>>) -> R
 }
 
 /// A read of sealed bytes is held until another session has changed them, and gives what was there.
-fn hold<J: Naming + Send + Sync, R: Abort + Threads + Wait + Sync>(
+pub(super) fn hold<J: Naming + Send + Sync, R: Abort + Threads + Wait + Sync>(
     rt: &R,
     alloc: Global,
-    drive: Drive<J>,
+    drive: &Mutex<Drive<J>>,
 ) -> Result<(), Fail> {
-    let drive = Mutex::new(drive);
-    fill(rt, alloc, &drive)?;
+    fill(rt, alloc, drive)?;
     let turns = Turns {
         planned: AtomicBool::new(false),
         changed: AtomicBool::new(false),
@@ -148,7 +112,7 @@ fn hold<J: Naming + Send + Sync, R: Abort + Threads + Wait + Sync>(
     let old = joined(alloc, &[&DATA, &SEALED])?;
     let old_and_changed = joined(alloc, &[&DATA, &SEALED, &CHANGED])?;
     let mut clients = [client!(alloc, &READ_ALL), client!(alloc, &both)];
-    run_sessions(rt, alloc, &drive, &turns, Moment::new(2), 1, &mut clients);
+    run_sessions(rt, alloc, drive, &turns, Moment::new(2), 1, &mut clients);
     assert!(rt; !turns.given_up.load(Ordering::SeqCst), "both came so far");
     assert!(rt; has_written(&clients[0], &old), "as it was planned");
     assert!(rt;
@@ -160,17 +124,16 @@ fn hold<J: Naming + Send + Sync, R: Abort + Threads + Wait + Sync>(
 
 #[test]
 fn a_read_is_fetched_after_its_bytes_were_changed(rt: HostRuntime) -> Result<(), Fail> {
-    play(&rt, rt.alloc(), Scene::Held)
+    play(&rt, rt.alloc(), 100, Scene::Held)
 }
 
 /// 16 sessions at once, each held in its first read until all are there. Each is asked once.
-fn gather<J: Naming + Send + Sync, R: Abort + Threads + Wait + Sync>(
+pub(super) fn gather<J: Naming + Send + Sync, R: Abort + Threads + Wait + Sync>(
     rt: &R,
     alloc: Global,
-    drive: Drive<J>,
+    drive: &Mutex<Drive<J>>,
 ) -> Result<(), Fail> {
-    let drive = Mutex::new(drive);
-    fill(rt, alloc, &drive)?;
+    fill(rt, alloc, drive)?;
     let crowd = Crowd {
         there: AtomicUsize::new(0),
         answered: AtomicUsize::new(0),
@@ -195,7 +158,7 @@ fn gather<J: Naming + Send + Sync, R: Abort + Threads + Wait + Sync>(
         client!(alloc, &READ_ALL),
         client!(alloc, &READ_ALL),
     ];
-    run_sessions(rt, alloc, &drive, &crowd, Moment::new(2), 1, &mut clients);
+    run_sessions(rt, alloc, drive, &crowd, Moment::new(2), 1, &mut clients);
     assert!(rt; !crowd.given_up.load(Ordering::SeqCst), "all came");
     assert!(rt;
         crowd.there.load(Ordering::SeqCst) == 16,
@@ -211,7 +174,7 @@ fn gather<J: Naming + Send + Sync, R: Abort + Threads + Wait + Sync>(
 
 #[test]
 fn sixteen_sessions_are_held_at_once(rt: HostRuntime) -> Result<(), Fail> {
-    play(&rt, rt.alloc(), Scene::Sixteen)
+    play(&rt, rt.alloc(), 100, Scene::Sixteen)
 }
 
 /// Sessions that keep all seats of a drive.
@@ -227,34 +190,51 @@ fn all_seats<'a, J: Naming, R: Wait>(
     Ok(seats)
 }
 
-/// A session that the drive refuses is told so, and nothing of it is read or written.
-fn crowd_out<J: Naming + Send + Sync, R: Abort + Threads + Wait + Sync>(
+/// Two sessions that read all bytes, served at once.
+fn serve_two<J: Naming + Send + Sync, R: Threads + Wait + Sync>(
     rt: &R,
     alloc: Global,
-    drive: Drive<J>,
+    drive: &Mutex<Drive<J>>,
+) -> [Client<MemorySource<'static>, MemorySink>; 2] {
+    let mut clients = [client!(alloc, &READ_ALL), client!(alloc, &READ_ALL)];
+    run_sessions(rt, alloc, drive, &Open, Moment::new(2), 1, &mut clients);
+    clients
+}
+
+/// Whether each session was refused as Busy, and nothing was written to it.
+fn are_refused(clients: &[Client<MemorySource<'_>, MemorySink>]) -> bool {
+    for client in clients {
+        if client.outcome != Outcome::Refused(Busy) || !client.writer.as_slice().is_empty() {
+            return false;
+        }
+    }
+    true
+}
+
+/// Whether each session was served to its end.
+fn are_served(clients: &[Client<MemorySource<'_>, MemorySink>]) -> bool {
+    for client in clients {
+        if client.outcome != Outcome::Served(ServeEnd::Ended) {
+            return false;
+        }
+    }
+    true
+}
+
+/// A session that the drive refuses is told so, and nothing of it is read or written.
+pub(super) fn crowd_out<J: Naming + Send + Sync, R: Abort + Threads + Wait + Sync>(
+    rt: &R,
+    alloc: Global,
+    drive: &Mutex<Drive<J>>,
 ) -> Result<(), Fail> {
-    let drive = Mutex::new(drive);
-    let seats = all_seats(rt, alloc, &drive)?;
-    let mut clients = [client!(alloc, &READ_ALL), client!(alloc, &READ_ALL)];
-    run_sessions(rt, alloc, &drive, &Open, Moment::new(2), 1, &mut clients);
-    assert!(rt;
-        clients
-            .iter()
-            .all(|client| client.outcome == Outcome::Refused(Busy))
-    );
-    assert!(rt;
-        clients
-            .iter()
-            .all(|client| client.writer.as_slice().is_empty())
-    );
+    let seats = all_seats(rt, alloc, drive)?;
+    assert!(rt; are_refused(&serve_two(rt, alloc, drive)), "no seat is free");
     drop(seats);
-    let mut clients = [client!(alloc, &READ_ALL), client!(alloc, &READ_ALL)];
-    run_sessions(rt, alloc, &drive, &Open, Moment::new(2), 1, &mut clients);
-    assert!(rt; clients.iter().all(|client| client.outcome == Outcome::Served(ServeEnd::Ended)));
+    assert!(rt; are_served(&serve_two(rt, alloc, drive)), "all seats are free");
     Ok(())
 }
 
 #[test]
 fn a_session_without_a_seat_is_refused(rt: HostRuntime) -> Result<(), Fail> {
-    play(&rt, rt.alloc(), Scene::Crowded)
+    play(&rt, rt.alloc(), 100, Scene::Crowded)
 }

@@ -1,16 +1,14 @@
 //! Sessions on threads, with the history cleaner and the segment copier beside them.
 ghost use Rattle.std.specs.Prelude.{◌≡◌, ◌+◌, ◌^◌, ◌<◌, ◌≤◌, All, vec_len};
-ghost use Rattle.s4_model.specs.State.{new_base};
 
-use crate::tests::{await_flag, has_written, joined};
-use crate::{Client, Gate, Locked, Moves, Open, Outcome, Upkeep, run_sessions, run_with_upkeep};
-use drive::{Drive, NewDrive};
+use crate::tests::{Scene, await_flag, has_written, joined, play};
+use drive::Drive;
 use history_cleaner::full_pass;
 use s4_types::{Bytes, Moment, ObjectId, Reply, Request, Role};
 use segment_word::Naming;
+use server::{Client, Gate, Locked, Moves, Open, Outcome, run_sessions, run_with_upkeep};
 use serving::{Backend, MemorySink, MemorySource};
 use std::alloc::Global;
-use std::marker::Brand;
 use std::process::Abort;
 use std::sync::atomic::{AtomicBool, Ordering};
 use std::sync::{Mutex, Wait};
@@ -55,40 +53,6 @@ static OF_THE_LAST: [&[u8]; 2] = [
     b"\0\0\0\x11\x02\0\0\0\0\0\0\0\x03\0\0\0\0\0\0\0\x07",
 ];
 
-/// What a test does with a new drive of 16 frames.
-#[derive(Drop)]
-enum Scene {
-    Passing { is_kept_up: bool },
-    Sparse,
-}
-
-fn play_named<J: Naming + Send + Sync, R: Abort + Threads + Wait + Clock + Sync>(
-    rt: &R,
-    alloc: Global,
-    made: NewDrive,
-    scene: Scene,
-) -> Result<(), Fail>
-    requires frames { made.store.table.drive.table ≡ J.frames }
-    requires accepts { made.accepts ≡ J.accepts }
-    requires base { new_base made.window ≡ J.base }
-{
-    let drive = made.named::<J>();
-    match scene {
-        Scene::Passing { is_kept_up } => pass(rt, alloc, drive, is_kept_up),
-        Scene::Sparse => empty_out(rt, alloc, drive),
-    }
-}
-
-fn play<R: Abort + Threads + Wait + Clock + Sync>(
-    rt: &R,
-    alloc: Global,
-    window: u64,
-    scene: Scene,
-) -> Result<(), Fail> {
-    let made = NewDrive::new(alloc, 16, window)?;
-    play_named::<Brand, R>(rt, alloc, made, scene)
-}
-
 /// The second session's read is held until the first has been told all.
 #[derive(Drop)]
 struct Behind {
@@ -125,10 +89,12 @@ fn asks_for_both(alloc: Global) -> Result<Vec<u8>, Fail> {
     )
 }
 
-/// Whether the dead objects' rows are gone, and the one that lives has its row.
-fn is_cleaned<J: Naming>(drive: &Drive<J>) -> bool {
-    let is_there = |object: u64| drive.row(ObjectId::new(object)).is_some();
-    !is_there(1) && !is_there(2) && is_there(3)
+/// Whether the dead objects' rows are gone and the one that lives has its row, and whether all frames but one are free.
+fn is_cleaned<J: Naming, R: Wait>(rt: &R, drive: &Mutex<Drive<J>>) -> (bool, bool) {
+    let drive = drive.lock(rt);
+    let is_left = drive.row(ObjectId::new(1)).is_some() || drive.row(ObjectId::new(2)).is_some();
+    let is_there = drive.row(ObjectId::new(3)).is_some();
+    (!is_left && is_there, 165 <= drive.room())
 }
 
 /// Both are served, with upkeep or without it.
@@ -159,13 +125,12 @@ fn serve_both<'a, J: Naming + Send + Sync, R: Abort + Threads + Wait + Clock + S
 /// Two sessions make, write and delete two objects that fill a frame each, and make a third, with which the floor passes both deaths.
 /// They are told the same with upkeep and without it. With it the dead objects' rows are gone once all have ended, and all frames
 /// are free but one.
-fn pass<J: Naming + Send + Sync, R: Abort + Threads + Wait + Clock + Sync>(
+pub(super) fn pass<J: Naming + Send + Sync, R: Abort + Threads + Wait + Clock + Sync>(
     rt: &R,
     alloc: Global,
-    drive: Drive<J>,
+    drive: &Mutex<Drive<J>>,
     is_kept_up: bool,
 ) -> Result<(), Fail> {
-    let drive = Mutex::new(drive);
     let behind = Behind {
         told: AtomicBool::new(false),
         given_up: AtomicBool::new(false),
@@ -173,7 +138,7 @@ fn pass<J: Naming + Send + Sync, R: Abort + Threads + Wait + Clock + Sync>(
     let first = asks_for_both(alloc)?;
     let second = joined(alloc, &[&READ, &CREATE])?;
     let both = vec![in alloc; client!(alloc, &first), client!(alloc, &second)]?;
-    let clients = serve_both(rt, alloc, &drive, &behind, both, is_kept_up);
+    let clients = serve_both(rt, alloc, drive, &behind, both, is_kept_up);
     assert!(rt;
         !behind.given_up.load(Ordering::SeqCst),
         "the first was told all"
@@ -182,20 +147,18 @@ fn pass<J: Naming + Send + Sync, R: Abort + Threads + Wait + Clock + Sync>(
     assert!(rt; has_written(&clients[0], &both), "both objects");
     let last = joined(alloc, &OF_THE_LAST)?;
     assert!(rt; has_written(&clients[1], &last), "the last one");
-    let drive = drive.into_inner();
-    assert!(rt; is_cleaned(&drive) == is_kept_up, "rows");
-    assert!(rt; (165 <= drive.room()) == is_kept_up, "frames");
+    assert!(rt; is_cleaned(rt, drive) == (is_kept_up, is_kept_up), "rows and frames");
     Ok(())
 }
 
 #[test]
 fn what_died_is_gone_once_sessions_with_upkeep_have_ended(rt: HostRuntime) -> Result<(), Fail> {
-    play(&rt, rt.alloc(), 1, Scene::Passing { is_kept_up: true })
+    play(&rt, rt.alloc(), 1, Scene::KeptUp)
 }
 
 #[test]
 fn sessions_without_upkeep_are_told_the_same(rt: HostRuntime) -> Result<(), Fail> {
-    play(&rt, rt.alloc(), 1, Scene::Passing { is_kept_up: false })
+    play(&rt, rt.alloc(), 1, Scene::NotKeptUp)
 }
 
 /// A Write at an object's beginning.
@@ -263,27 +226,26 @@ fn left_behind<J: Naming, R: Wait>(rt: &R, drive: &Mutex<Drive<J>>) -> Result<us
 
 /// Object 1 leaves the first frame, in which it holds one block, by the first step of the copier; the frame is free then, and the
 /// object's versions are as before.
-fn empty_out<J: Naming + Send + Sync, R: Abort + Threads + Wait + Clock + Sync>(
+pub(super) fn empty_out<J: Naming + Send + Sync, R: Abort + Threads + Wait + Clock + Sync>(
     rt: &R,
     alloc: Global,
-    drive: Drive<J>,
+    drive: &Mutex<Drive<J>>,
 ) -> Result<(), Fail> {
-    let drive = Mutex::new(drive);
-    thin_out(rt, alloc, &drive)?;
+    thin_out(rt, alloc, drive)?;
     let passed = full_pass(alloc, &mut drive.lock(rt))?;
     assert!(rt; passed.removed == 1, "object 2 is gone");
-    assert!(rt; left_behind(rt, &drive)? == 1, "the first bytes");
-    assert!(rt; reads_both(rt, alloc, &drive)?, "both versions");
+    assert!(rt; left_behind(rt, drive)? == 1, "the first bytes");
+    assert!(rt; reads_both(rt, alloc, drive)?, "both versions");
     let nobody: Vec<Client<MemorySource<'_>, MemorySink>> = Vec::new(alloc);
     let start = Moment::new(200);
-    let (_, upkeep) = run_with_upkeep(rt, alloc, &drive, &Open, start, 0, nobody);
+    let (_, upkeep) = run_with_upkeep(rt, alloc, drive, &Open, start, 0, nobody);
     let one = Moves {
         planned: 1,
         moved: 1,
     };
     assert!(rt; upkeep.moves == Ok(one), "one move");
-    assert!(rt; left_behind(rt, &drive)? == 0, "nothing there");
-    assert!(rt; reads_both(rt, alloc, &drive)?, "both as before");
+    assert!(rt; left_behind(rt, drive)? == 0, "nothing there");
+    assert!(rt; reads_both(rt, alloc, drive)?, "both as before");
     assert!(rt; 165 <= drive.lock(rt).room(), "one frame more is free");
     Ok(())
 }

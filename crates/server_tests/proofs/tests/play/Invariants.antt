@@ -1,5 +1,5 @@
 use Rattle.s4_model.specs.State.{new_base}
-use Rattle.server.proofs.tests.held.play.Given as goal
+use Rattle.server_tests.proofs.tests.play.Given as goal
 
 -- the drive that was just made
 abbrev pub ghosts-play_named : goal.ghosts-play_named
