@@ -2,7 +2,7 @@ use Rattle.std.proofs.Common.{◌≡◌, ℕ, ◌<◌, Some, IsSome}
 use Rattle.s4_types.specs.Pointer.{Place}
 use Rattle.codec.specs.Checkpoint.{pointer_at}
 use Rattle.segment_table.specs.Table.{held_at}
-use Rattle.log_tests.proofs.tests.subject.leads.Given as goal
+use Rattle.log_tests.proofs.tests.plans.leads.Given as goal
 
 abbrev pub invariant-loop-pointer : goal.invariant-loop-pointer
 invariant-loop-pointer l = record {
