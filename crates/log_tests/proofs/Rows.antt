@@ -13,8 +13,7 @@ use Rattle.inode.specs.Contents.{byte_in, byte_of, contents_of}
 use Rattle.inode.specs.Tidiness.{PointersHeld}
 use Rattle.object_map.specs.declared.map.Row.{Row}
 use Rattle.object_map.specs.Rows.{fresh_row}
-use Rattle.journal_chain.specs.Chain.{ChainFields, Holds, entries_held}
-use Rattle.time_read.specs.Rows.{IsRow, chain_of, entries_of, inode_of, last_inode}
+use Rattle.time_read.specs.Rows.{IsRow, entries_of, inode_of, last_inode}
 use Rattle.row_changes.specs.Recent.{IsBy}
 use Rattle.log_tests.specs.Subject.{IsRecorded, IsPresent}
 
@@ -66,10 +65,6 @@ fresh_as held row inode latest created law none row_is inode_is latest_is =
     (subst (λ (i : Inode). IsPresent held (fresh_row created) i latest) (sym inode_is)
     (subst (λ (n : ℕ). IsPresent held (fresh_row created) (blank created) n) (sym latest_is) (fresh_present held created law none)))
 
--- a row's chain is held
-pub chain_held : (held : Place → Option Stored) (row : Row) (chain : ChainFields) → IsRow held 1 row → chain ≡ chain_of 1 row → Holds held chain (entries_held held chain)
-chain_held held row chain r is = subst (λ (c : ChainFields). Holds held c (entries_held held c)) (sym is) r.chain
-
 -- what a row tells after a change
 pub changed : (later : Place → Option Stored) (o : ℕ) (row : Row) (next other : Inode) (m : ℕ) → o ≡ 1
     → IsRow later o row → IsBy later o row m → inode_of later o row m ≡ cond (leb m m) next other → IsRecorded later row next m
@@ -77,16 +72,6 @@ changed later o row next other m one stands by is = record {
   stands = subst (λ (n : ℕ). IsRow later n row) one stands;
   by = subst (λ (n : ℕ). IsBy later n row m) one by;
   present = sym (cond-true (leb m m) next other (le-leb m m (omega arith))) ∙ sym is ∙ ap (λ (n : ℕ). inode_of later n row m) one;
-}
-
--- what a row tells after a checkpoint
-pub checked : (held later : Place → Option Stored) (o : ℕ) (row row2 : Row) (inode : Inode) (latest m : ℕ) → o ≡ 1
-    → IsRow later o row2 → IsBy later o row2 m → inode_of later o row2 m ≡ inode_of held o row m
-    → inode_of held 1 row m ≡ inode_of held 1 row latest → inode ≡ inode_of held 1 row latest → IsRecorded later row2 inode m
-checked held later o row row2 inode latest m one stands by is stays present = record {
-  stands = subst (λ (n : ℕ). IsRow later n row2) one stands;
-  by = subst (λ (n : ℕ). IsBy later n row2 m) one by;
-  present = present ∙ sym stays ∙ sym (ap (λ (n : ℕ). inode_of held n row m) one) ∙ sym is ∙ ap (λ (n : ℕ). inode_of later n row2 m) one;
 }
 
 -- from the moment on by which all is told, the inode behind all entries is current

@@ -19,6 +19,3 @@ pub use locked::Locked;
 pub use moving::{MoveStep, Moves};
 pub use running::{Client, MOST_SESSIONS, Outcome, run_sessions};
 pub use upkeep::{Round, Upkeep, run_with_upkeep};
-
-#[cfg(test)]
-mod tests;

@@ -2,7 +2,6 @@
 use crate::tests::records::{MADE, POINTER, WRITTEN};
 use codec::{Attribute, Entry, JournalBytes, Pair, Status, Triples, decode_entry};
 use s4_types::{Moment, ObjectId, Ptr};
-use std::test::Fail;
 
 /// Entries of object 1, which has no earlier journal block: two, of 85 bytes.
 const HEAD_OF_TWO: [u8; 24] = [
@@ -60,13 +59,20 @@ fn made_and_written() -> Option<JournalBytes> {
     with(JournalBytes::of(*first.as_bytes()), &written)
 }
 
+/// Whether the block of both is of object 1, has no earlier one, and is spelled so.
+fn are_both_spelled() -> bool {
+    let Some(journal) = made_and_written() else {
+        return false;
+    };
+    journal.object() == ObjectId::new(1)
+        && journal.previous().is_none()
+        && journal.entry_bytes() == 85
+        && journal.as_bytes().as_slice() == two_entries().as_slice()
+}
+
 #[test]
-fn an_entry_is_spelled_behind_another(rt: HostRuntime) -> Result<(), Fail> {
-    let journal = made_and_written().ok_or("a block")?;
-    assert!(rt; journal.object() == ObjectId::new(1) && journal.previous().is_none());
-    assert!(rt; journal.entry_bytes() == 85);
-    assert!(rt; journal.as_bytes().as_slice() == two_entries().as_slice());
-    Ok(())
+fn an_entry_is_spelled_behind_another(rt: HostRuntime) {
+    assert!(rt; are_both_spelled());
 }
 
 fn named() -> Option<Entry> {
@@ -96,13 +102,21 @@ fn filled() -> Option<JournalBytes> {
     with(journal, &named()?)
 }
 
+/// Whether the block of fourteen is of object 7, behind another block, and is full and spelled so.
+fn is_filled() -> bool {
+    let Some(journal) = filled() else {
+        return false;
+    };
+    journal.object() == ObjectId::new(7)
+        && journal.previous() == Ptr::new(0, 2, 1)
+        && journal.entry_bytes() == 488
+        && !journal.fits(&Entry::default())
+        && journal.as_bytes().as_slice() == fourteen_entries().as_slice()
+}
+
 #[test]
-fn a_block_is_filled_to_its_last_byte(rt: HostRuntime) -> Result<(), Fail> {
-    let journal = filled().ok_or("a block")?;
-    assert!(rt; journal.object() == ObjectId::new(7) && journal.previous() == Ptr::new(0, 2, 1));
-    assert!(rt; journal.entry_bytes() == 488 && !journal.fits(&Entry::default()));
-    assert!(rt; journal.as_bytes().as_slice() == fourteen_entries().as_slice());
-    Ok(())
+fn a_block_is_filled_to_its_last_byte(rt: HostRuntime) {
+    assert!(rt; is_filled());
 }
 
 /// A block of as many of the shortest entries as fit, at most twenty.
@@ -117,11 +131,17 @@ fn packed() -> Option<JournalBytes> {
     Some(journal)
 }
 
+/// Whether fourteen of the shortest fit.
+fn is_packed() -> bool {
+    match packed() {
+        Some(journal) => journal.entry_bytes() == 476 && journal.as_bytes()[1] == 14,
+        None => false,
+    }
+}
+
 #[test]
-fn fourteen_of_the_shortest_fit(rt: HostRuntime) -> Result<(), Fail> {
-    let journal = packed().ok_or("a block")?;
-    assert!(rt; journal.entry_bytes() == 476 && journal.as_bytes()[1] == 14);
-    Ok(())
+fn fourteen_of_the_shortest_fit(rt: HostRuntime) {
+    assert!(rt; is_packed());
 }
 
 #[test]

@@ -5,8 +5,6 @@ use codec::{
     decode_ptr, encode_checkpoint, encode_entry, encode_journal, encode_ptr,
 };
 use s4_types::{ObjectId, Ptr};
-use std::process::Abort;
-use std::test::Fail;
 
 /// In front of both, as the entries of object 1, which has no earlier journal block.
 const HEADER: [u8; 24] = [
@@ -44,14 +42,33 @@ fn is_told(read: &JournalBlock, both: &[Entry]) -> bool {
         && read.previous().is_none()
 }
 
+/// Whether the block is read, and tells these entries.
+fn is_read(both: &[Entry]) -> bool {
+    match decode_journal(&journal_bytes()) {
+        Some(read) => is_told(&read, both),
+        None => false,
+    }
+}
+
+/// Whether a block is made of these entries, and spelled so.
+fn is_spelled(both: Entries) -> bool {
+    match JournalBlock::new(ObjectId::new(1), None, both) {
+        Some(made) => encode_journal(&made).as_slice() == journal_bytes().as_slice(),
+        None => false,
+    }
+}
+
+/// Whether the block of both is read and spelled so.
+fn are_both() -> bool {
+    match both() {
+        Some(entries) => is_read(entries.as_slice()) && is_spelled(entries),
+        None => false,
+    }
+}
+
 #[test]
-fn a_journal_block_is_spelled_and_read(rt: HostRuntime) -> Result<(), Fail> {
-    let entries = both().ok_or("entries")?;
-    let read = decode_journal(&journal_bytes()).ok_or("read")?;
-    assert!(rt; is_told(&read, entries.as_slice()));
-    let made = JournalBlock::new(ObjectId::new(1), None, entries).ok_or("a block")?;
-    assert!(rt; encode_journal(&made).as_slice() == journal_bytes().as_slice());
-    Ok(())
+fn a_journal_block_is_spelled_and_read(rt: HostRuntime) {
+    assert!(rt; are_both());
 }
 
 /// Fourteen of the shortest entries.
@@ -68,14 +85,20 @@ fn begins_filled(block: &[u8; 512]) -> bool {
     block[..4] == [1, 14, 1, 0xdc][..] && block[15] == 7 && block[16..24] == POINTER[..]
 }
 
+/// Whether a block is made of fourteen of the shortest entries, and begins so.
+fn is_filled() -> bool {
+    match JournalBlock::new(ObjectId::new(7), Ptr::new(0, 2, 1), filled()) {
+        Some(journal) => {
+            journal.entries().len() == 14 && begins_filled(&encode_journal(&journal))
+        }
+        None => false,
+    }
+}
+
 /// Fourteen of the shortest entries have 476 bytes.
 #[test]
-fn fourteen_entries_fill_a_block(rt: HostRuntime) -> Result<(), Fail> {
-    let journal = JournalBlock::new(ObjectId::new(7), Ptr::new(0, 2, 1), filled()).ok_or(
-        "a block",
-    )?;
-    assert!(rt; journal.entries().len() == 14 && begins_filled(&encode_journal(&journal)));
-    Ok(())
+fn fourteen_entries_fill_a_block(rt: HostRuntime) {
+    assert!(rt; is_filled());
 }
 
 #[derive(Clone, Copy)]
@@ -140,64 +163,83 @@ fn spell_again(kind: Kind, bytes: &[u8], out: &mut Writing) -> Option<()> {
     }
 }
 
-/// Whether a record with one byte changed is taken. If so, it is the one record that is spelled by these bytes.
-fn is_taken(rt: &impl Abort, kind: Kind, record: &[u8], place: usize, value: u8) -> bool {
+/// The record with one byte changed.
+fn changed(record: &[u8], place: usize, value: u8) -> Writing {
     let mut changed = Writing::new();
     write_out(&mut changed, record);
     if let Some(byte) = changed.get_mut(place) {
         *byte = value;
     }
-    let mut again = Writing::new();
-    if spell_again(kind, changed.as_slice(), &mut again).is_none() {
-        return false;
-    }
-    assert!(rt;
-        again.as_slice() == changed.as_slice(),
-        "{value} at {place}"
-    );
-    true
+    changed
 }
 
-/// Changes each of these bytes in turn to every other value, and answers how many changes are taken.
-fn count_taken(rt: &impl Abort, kind: Kind, record: &[u8], first: usize, end: usize) -> u64 {
+/// Whether bytes are taken. If so, they are the spelling of the one record that they are read as; None where they aren't.
+fn is_taken(kind: Kind, bytes: &[u8]) -> Option<bool> {
+    let mut again = Writing::new();
+    if spell_again(kind, bytes, &mut again).is_none() {
+        return Some(false);
+    }
+    if again.as_slice() != bytes {
+        return None;
+    }
+    Some(true)
+}
+
+/// Changes a byte in turn to every other value, and answers how many changes are taken.
+fn count_at(kind: Kind, record: &[u8], place: usize) -> Option<u64> {
     let mut taken = 0u64;
-    for place in first..end {
-        for value in 0..=255u8 {
-            if record.get(place) != Some(&value) && is_taken(rt, kind, record, place, value) {
-                taken = taken.saturating_add(1);
-            }
+    for value in 0..=255u8 {
+        if record.get(place) != Some(&value)
+            && is_taken(kind, changed(record, place, value).as_slice())?
+        {
+            taken = taken.saturating_add(1);
         }
     }
-    taken
+    Some(taken)
+}
+
+/// Changes each of these bytes in turn to every other value, and answers how many changes are taken. None where one is taken that
+/// is spelled otherwise.
+fn count_taken(kind: Kind, record: &[u8], first: usize, end: usize) -> Option<u64> {
+    let mut taken = 0u64;
+    for place in first..end {
+        taken = taken.saturating_add(count_at(kind, record, place)?);
+    }
+    Some(taken)
 }
 
 /// Which bytes of a record are changed, and how many changes of one byte are taken. That was counted from the tables of the
 /// format alone: of a pointer the frame may be any other, the block one of fourteen, and so on.
 type Counted = (usize, usize, u64);
 
-fn check_counted(rt: &impl Abort, kind: Kind, record: &[u8], rows: &[Counted]) {
+fn are_counted(kind: Kind, record: &[u8], rows: &[Counted]) -> bool {
     for (first, end, taken) in rows {
-        assert!(rt; count_taken(rt, kind, record, *first, *end) == *taken);
+        if count_taken(kind, record, *first, *end) != Some(*taken) {
+            return false;
+        }
     }
+    true
 }
 
 #[test]
 fn every_byte_of_a_pointer_and_of_entries(rt: HostRuntime) {
-    check_counted(&rt, Kind::Pointer, &POINTER, &[(0, 8, 1543)]);
-    check_counted(&rt, Kind::Entry, &MADE, &[(0, 34, 352)]);
-    check_counted(&rt, Kind::Entry, &WRITTEN, &[(0, 51, 4332)]);
+    assert!(rt; are_counted(Kind::Pointer, &POINTER, &[(0, 8, 1543)]));
+    assert!(rt; are_counted(Kind::Entry, &MADE, &[(0, 34, 352)]));
+    assert!(rt; are_counted(Kind::Entry, &WRITTEN, &[(0, 51, 4332)]));
 }
 
 /// The fields, and the pointers but for the first.
+static OF_A_CHECKPOINT: [Counted; 2] = [(0, 112, 10_622), (112, 512, 0)];
+
 #[test]
 fn every_byte_of_a_checkpoint(rt: HostRuntime) {
-    let rows = [(0, 112, 10_622), (112, 512, 0)];
-    check_counted(&rt, Kind::Checkpoint, &CHECKPOINT, &rows);
+    assert!(rt; are_counted(Kind::Checkpoint, &CHECKPOINT, &OF_A_CHECKPOINT));
 }
 
 /// The head and the entries, and what stands behind them.
+static OF_A_JOURNAL: [Counted; 2] = [(0, 109, 6722), (109, 512, 0)];
+
 #[test]
 fn every_byte_of_a_journal_block(rt: HostRuntime) {
-    let rows = [(0, 109, 6722), (109, 512, 0)];
-    check_counted(&rt, Kind::Journal, &journal_bytes(), &rows);
+    assert!(rt; are_counted(Kind::Journal, &journal_bytes(), &OF_A_JOURNAL));
 }

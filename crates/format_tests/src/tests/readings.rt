@@ -4,8 +4,6 @@ use codec::{
     Triples,
 };
 use s4_types::{Moment, ObjectId, Ptr};
-use std::process::Abort;
-use std::test::Fail;
 
 /// An entry's moment, whether its attribute changed, from 64 bytes to 64 others, and how many pointers changed. So it has 34
 /// bytes, 130 more with attributes, and 17 more for each pointer.
@@ -99,14 +97,17 @@ static RULES: [(u64, &[Shape], bool); 6] = [
     (1, &[(1, false, 13), (2, false, 12)], false),
 ];
 
+/// Whether entries of these shapes can be a journal block of an object. None where they are no entries.
+fn can_be_a_block(object: u64, shapes: &[Shape]) -> Option<bool> {
+    let entries = entries_of(shapes)?;
+    Some(JournalBlock::new(ObjectId::new(object), None, entries).is_some())
+}
+
 #[test]
-fn rules_of_a_journal_block(rt: HostRuntime) -> Result<(), Fail> {
-    for (object, shapes, is_kept) in RULES {
-        let entries = entries_of(shapes).ok_or("entries")?;
-        let made = JournalBlock::new(ObjectId::new(object), None, entries);
-        assert!(rt; made.is_some() == is_kept);
+fn rules_of_a_journal_block(rt: HostRuntime) {
+    for (object, shapes, is_kept) in &RULES {
+        assert!(rt; can_be_a_block(*object, shapes) == Some(*is_kept));
     }
-    Ok(())
 }
 
 /// The journal block of these entries, where all fit.
@@ -122,34 +123,51 @@ fn journal_of(entries: &[Entry]) -> Option<JournalBytes> {
     Some(journal)
 }
 
+/// Whether a reader gives this entry.
+fn pops(reader: &mut EntryReader, entry: &Entry) -> bool {
+    match reader.pop() {
+        Some(given) => given == *entry,
+        None => false,
+    }
+}
+
 /// Whether a reader gives these entries from the last to the first, and nothing more.
 fn gives(reader: &mut EntryReader, entries: &[Entry]) -> bool {
     for entry in entries.iter().rev() {
-        let is_empty = reader.is_empty();
-        match reader.pop() {
-            Some(given) if !is_empty && given == *entry => {}
-            _ => return false,
+        if reader.is_empty() || !pops(reader, entry) {
+            return false;
         }
     }
     reader.is_empty() && reader.pop().is_none()
 }
 
-/// Looks at a block of these entries, which have so many bytes together.
-fn check_given(rt: &impl Abort, shapes: &[Shape], bytes: usize) -> Result<(), Fail> {
-    let entries = entries_of(shapes).ok_or("entries")?;
-    let journal = journal_of(entries.as_slice()).ok_or("a block")?;
+/// Whether a block has so many bytes of entries, and gives them.
+fn has_entries(journal: &JournalBytes, entries: &[Entry], bytes: usize) -> bool {
     let mut reader = EntryReader::new(*journal.as_bytes());
-    assert!(rt; journal.entry_bytes() == bytes && reader.previous() == Ptr::new(3, 2, 1));
-    assert!(rt; gives(&mut reader, entries.as_slice()));
-    Ok(())
+    journal.entry_bytes() == bytes
+        && reader.previous() == Ptr::new(3, 2, 1)
+        && gives(&mut reader, entries)
 }
 
-#[test]
-fn entries_are_given_from_the_last(rt: HostRuntime) -> Result<(), Fail> {
-    for (shapes, bytes) in [(FOURTEEN.as_slice(), 476), (&THREE, 487), (&LONGEST, 436)] {
-        check_given(&rt, shapes, bytes)?;
+/// Whether a block of entries of these shapes, which have so many bytes together, gives them.
+fn are_given(shapes: &[Shape], bytes: usize) -> bool {
+    let Some(entries) = entries_of(shapes) else {
+        return false;
+    };
+    match journal_of(entries.as_slice()) {
+        Some(journal) => has_entries(&journal, entries.as_slice(), bytes),
+        None => false,
     }
-    Ok(())
+}
+
+/// Shapes of entries, and how many bytes these have together.
+static GIVEN: [(&[Shape], usize); 3] = [(&FOURTEEN, 476), (&THREE, 487), (&LONGEST, 436)];
+
+#[test]
+fn entries_are_given_from_the_last(rt: HostRuntime) {
+    for (shapes, bytes) in &GIVEN {
+        assert!(rt; are_given(shapes, *bytes));
+    }
 }
 
 #[test]

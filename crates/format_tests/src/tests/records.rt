@@ -4,7 +4,6 @@ use codec::{
     decode_entry, decode_ptr, encode_checkpoint, encode_entry, encode_ptr,
 };
 use s4_types::{Moment, ObjectId, Ptr};
-use std::test::Fail;
 
 /// Block 2 of frame 0, at generation 1.
 pub(super) const POINTER: [u8; 8] = [0, 0, 2, 0, 0, 0, 0, 1];
@@ -109,18 +108,31 @@ fn is_written(entry: &Entry) -> bool {
         && entry.triples() == [triple()].as_slice()
 }
 
-#[test]
-fn entries_are_spelled(rt: HostRuntime) -> Result<(), Fail> {
-    assert!(rt; is_spelling(&made().ok_or("made")?, &MADE));
-    assert!(rt; is_spelling(&written().ok_or("written")?, &WRITTEN));
-    Ok(())
+/// Whether there is an entry, which is spelled so.
+fn is_entry(entry: Option<Entry>, bytes: &[u8]) -> bool {
+    match entry {
+        Some(entry) => is_spelling(&entry, bytes),
+        None => false,
+    }
 }
 
 #[test]
-fn an_entry_is_read(rt: HostRuntime) -> Result<(), Fail> {
-    let (read, rest) = decode_entry(&WRITTEN).ok_or("read")?;
-    assert!(rt; rest.is_empty() && is_written(&read));
-    Ok(())
+fn entries_are_spelled(rt: HostRuntime) {
+    assert!(rt; is_entry(made(), &MADE));
+    assert!(rt; is_entry(written(), &WRITTEN));
+}
+
+/// Whether the entry of the write is read, and nothing stands behind it.
+fn is_written_read() -> bool {
+    match decode_entry(&WRITTEN) {
+        Some((read, rest)) => rest.is_empty() && is_written(&read),
+        None => false,
+    }
+}
+
+#[test]
+fn an_entry_is_read(rt: HostRuntime) {
+    assert!(rt; is_written_read());
 }
 
 fn put_entry(entry: &Entry, out: &mut Writing) {
@@ -176,12 +188,31 @@ fn is_told(read: &Checkpoint, inode: &Inode) -> bool {
     read.object() == ObjectId::new(1) && read.moment() == Moment::new(12) && read.inode() == inode
 }
 
+/// Whether a checkpoint of an inode is spelled so.
+fn is_checkpoint_spelled(inode: Inode) -> bool {
+    match Checkpoint::new(ObjectId::new(1), Moment::new(12), inode) {
+        Some(made) => encode_checkpoint(&made).as_slice() == CHECKPOINT.as_slice(),
+        None => false,
+    }
+}
+
+/// Whether it is read, and tells the inode.
+fn is_checkpoint_read(inode: &Inode) -> bool {
+    match decode_checkpoint(&CHECKPOINT) {
+        Some(read) => is_told(&read, inode),
+        None => false,
+    }
+}
+
+/// Whether the inode's checkpoint is spelled and read so.
+fn is_checkpoint() -> bool {
+    match inode() {
+        Some(inode) => is_checkpoint_spelled(inode) && is_checkpoint_read(&inode),
+        None => false,
+    }
+}
+
 #[test]
-fn checkpoints(rt: HostRuntime) -> Result<(), Fail> {
-    let inode = inode().ok_or("an attribute")?;
-    let made = Checkpoint::new(ObjectId::new(1), Moment::new(12), inode).ok_or("a checkpoint")?;
-    assert!(rt; encode_checkpoint(&made).as_slice() == CHECKPOINT.as_slice());
-    let read = decode_checkpoint(&CHECKPOINT).ok_or("read")?;
-    assert!(rt; is_told(&read, &inode));
-    Ok(())
+fn checkpoints(rt: HostRuntime) {
+    assert!(rt; is_checkpoint());
 }

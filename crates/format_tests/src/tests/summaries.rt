@@ -3,7 +3,6 @@ use block_log::{Block, BlockKind};
 use codec::{Part, Parts, Summary, decode_summary, encode_summary};
 use s4_types::ObjectId;
 use sha2::{Digest, Sha256};
-use std::test::Fail;
 
 /// The digest of frame 0 at generation 1 with three used blocks, made by another program.
 const DIGEST: [u8; 32] = [
@@ -65,13 +64,35 @@ fn is_told(summary: &Summary, frame: u16, generation: u32, parts: &[Part]) -> bo
     summary.frame() == frame && summary.generation() == generation && summary.parts() == parts
 }
 
+/// Whether the summary of three parts is spelled so.
+fn is_three_spelled(payload: &[Block; 15]) -> bool {
+    match Summary::new(0, 1, three_parts()) {
+        Some(summary) => {
+            encode_summary(&summary, payload).as_slice() == three_block().as_slice()
+        }
+        None => false,
+    }
+}
+
+/// Whether a block is read as the summary of a frame.
+fn is_summary(
+    block: &Block,
+    payload: &[Block; 15],
+    frame: u16,
+    generation: u32,
+    parts: &[Part],
+) -> bool {
+    match decode_summary(block, payload) {
+        Some(read) => is_told(&read, frame, generation, parts),
+        None => false,
+    }
+}
+
 #[test]
-fn three_used(rt: HostRuntime) -> Result<(), Fail> {
-    let summary = Summary::new(0, 1, three_parts()).ok_or("a summary")?;
-    assert!(rt; encode_summary(&summary, &payload_of(3)).as_slice() == three_block().as_slice());
-    let read = decode_summary(&three_block(), &payload_of(3)).ok_or("read")?;
-    assert!(rt; is_told(&read, 0, 1, three_parts().as_slice()));
-    Ok(())
+fn three_used(rt: HostRuntime) {
+    let payload = payload_of(3);
+    assert!(rt; is_three_spelled(&payload));
+    assert!(rt; is_summary(&three_block(), &payload, 0, 1, three_parts().as_slice()));
 }
 
 /// Parts of each kind in turn, of the last objects.
@@ -93,15 +114,18 @@ fn is_of_all(block: &Block) -> bool {
         && block[480..] == FULL_DIGEST[..]
 }
 
+/// Whether the summary of the last frame, of all parts, is spelled and read so.
+fn are_all_used(payload: &[Block; 15]) -> bool {
+    let Some(summary) = Summary::new(65535, 4294967294, all_parts()) else {
+        return false;
+    };
+    let block = encode_summary(&summary, payload);
+    is_of_all(&block) && is_summary(&block, payload, 65535, 4294967294, summary.parts())
+}
+
 #[test]
-fn all_used(rt: HostRuntime) -> Result<(), Fail> {
-    assert!(rt; all_parts().len() == 15);
-    let summary = Summary::new(65535, 4294967294, all_parts()).ok_or("a summary")?;
-    let block = encode_summary(&summary, &payload_of(15));
-    assert!(rt; is_of_all(&block));
-    let read = decode_summary(&block, &payload_of(15)).ok_or("read")?;
-    assert!(rt; is_told(&read, 65535, 4294967294, summary.parts()));
-    Ok(())
+fn all_used(rt: HostRuntime) {
+    assert!(rt; all_parts().len() == 15 && are_all_used(&payload_of(15)));
 }
 
 /// Three parts, and one of no object behind them.
@@ -111,19 +135,25 @@ fn bad_parts() -> Parts {
     parts
 }
 
+/// Generations, and whether a summary has them.
+static GENERATIONS: [(u32, bool); 4] = [
+    (0, false),
+    (1, true),
+    (u32::MAX - 1, true),
+    (u32::MAX, false),
+];
+
+/// Whether parts can be a summary's.
+fn is_kept_of(generation: u32, parts: Parts) -> bool {
+    Summary::new(0, generation, parts).is_some()
+}
+
 #[test]
 fn rules(rt: HostRuntime) {
-    for (generation, kept) in [
-        (0, false),
-        (1, true),
-        (u32::MAX - 1, true),
-        (u32::MAX, false),
-    ] {
-        assert!(rt; Summary::new(0, generation, three_parts()).is_some() == kept);
+    for (generation, kept) in &GENERATIONS {
+        assert!(rt; is_kept_of(*generation, three_parts()) == *kept);
     }
-    for parts in [Parts::new(), bad_parts()] {
-        assert!(rt; Summary::new(0, 1, parts).is_none());
-    }
+    assert!(rt; !is_kept_of(1, Parts::new()) && !is_kept_of(1, bad_parts()));
 }
 
 fn is_read(block: &Block, payload: &[Block; 15]) -> bool {
@@ -141,18 +171,38 @@ fn is_kept(block: &Block, payload: &[Block; 15], place: usize, value: u8) -> boo
     is_read(&changed, payload) == is_same
 }
 
+/// The same of each value of one byte.
+fn are_kept(block: &Block, payload: &[Block; 15], place: usize) -> bool {
+    for value in 0..=255u8 {
+        if !is_kept(block, payload, place, value) {
+            return false;
+        }
+    }
+    true
+}
+
 #[test]
 fn changed_bytes(rt: HostRuntime) {
     let block = three_block();
     let payload = payload_of(3);
     for place in 0..512 {
-        for value in 0..=255u8 {
-            assert!(rt;
-                is_kept(&block, &payload, place, value),
-                "{value} at {place}"
-            );
-        }
+        assert!(rt; are_kept(&block, &payload, place));
     }
+}
+
+/// Whether the block is refused beside a payload with one bit of each byte of a block changed in turn.
+fn is_each_refused(block: &Block, payload: &mut [Block; 15], changed: usize) -> bool {
+    if changed >= 15 {
+        return false;
+    }
+    for place in 0..512 {
+        payload[changed][place] ^= 1;
+        if is_read(block, payload) {
+            return false;
+        }
+        payload[changed][place] ^= 1;
+    }
+    true
 }
 
 #[test]
@@ -160,11 +210,7 @@ fn changed_payload(rt: HostRuntime) {
     let block = three_block();
     let mut payload = payload_of(3);
     for changed in 0..15 {
-        for place in 0..512 {
-            payload[changed][place] ^= 1;
-            assert!(rt; !is_read(&block, &payload));
-            payload[changed][place] ^= 1;
-        }
+        assert!(rt; is_each_refused(&block, &mut payload, changed));
     }
     assert!(rt; is_read(&block, &payload));
 }
@@ -199,14 +245,25 @@ fn resealed(payload: &[Block; 15], place: usize, value: u8) -> Block {
     sealed(&block, payload)
 }
 
+/// The same of the block of three with each value of one byte.
+fn are_written_so(payload: &[Block; 15], place: usize) -> bool {
+    for value in 0..=255u8 {
+        if !is_written_so(&resealed(payload, place, value), payload) {
+            return false;
+        }
+    }
+    true
+}
+
+/// Places of the head, of parts and of zeros.
+static RESEALED: [usize; 14] = [3, 4, 5, 6, 7, 8, 11, 15, 16, 17, 24, 43, 44, 479];
+
 /// What is read from bytes with the right digest is written as those bytes.
 #[test]
 fn sealed_bytes(rt: HostRuntime) {
     let payload = payload_of(3);
-    for place in [3, 4, 5, 6, 7, 8, 11, 15, 16, 17, 24, 43, 44, 479] {
-        for value in 0..=255u8 {
-            assert!(rt; is_written_so(&resealed(&payload, place, value), &payload));
-        }
+    for place in &RESEALED {
+        assert!(rt; are_written_so(&payload, *place));
     }
 }
 
@@ -240,20 +297,21 @@ fn unused_changed(block: usize, place: usize) -> [Block; 15] {
     payload
 }
 
+/// Blocks that are not used, and places of them.
+static UNUSED: [(usize, usize); 4] = [(3, 0), (3, 511), (14, 0), (14, 511)];
+
+/// Whether the block of three, under the right digest, is read beside a payload.
+fn is_read_beside(payload: &[Block; 15]) -> bool {
+    is_read(&sealed(&three_block(), payload), payload)
+}
+
 #[test]
 fn sealed_against_the_rules(rt: HostRuntime) {
     let payload = payload_of(3);
-    for (place, value) in AGAINST_THE_RULES {
-        assert!(rt;
-            !is_read(&resealed(&payload, place, value), &payload),
-            "{value} at {place}"
-        );
+    for (place, value) in &AGAINST_THE_RULES {
+        assert!(rt; !is_read(&resealed(&payload, *place, *value), &payload));
     }
-    for (block, place) in [(3, 0), (3, 511), (14, 0), (14, 511)] {
-        let payload = unused_changed(block, place);
-        assert!(rt;
-            !is_read(&sealed(&three_block(), &payload), &payload),
-            "{place} of {block}"
-        );
+    for (block, place) in &UNUSED {
+        assert!(rt; !is_read_beside(&unused_changed(*block, *place)));
     }
 }

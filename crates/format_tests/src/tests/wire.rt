@@ -1,5 +1,5 @@
 //! Spellings of requests and replies, and what a reader makes of a stream cut anywhere.
-ghost use Rattle.std.specs.Prelude.{◌<◌, ◌≤◌, length, IfOk};
+ghost use Rattle.std.specs.Prelude.{◌<◌, ◌≤◌, length, IfSome};
 ghost use Rattle.rpc.specs.Spelling.{RequestFits};
 ghost use Rattle.s4_types.specs.Sizes.{ReplyFits};
 
@@ -10,8 +10,6 @@ use rpc::{
 };
 use s4_types::{Bytes, Moment, ObjectId, Refusal, Reply, Request};
 use std::alloc::Global;
-use std::process::Abort;
-use std::test::Fail;
 
 /// A frame of each request in the order of their first bytes, with two bad frames between them: an empty one
 /// in front of the Flush, and a body that is one byte short behind it.
@@ -36,40 +34,77 @@ static STREAM: [u8; 223] = [
 static ENDS: [usize; 13] = [8, 21, 55, 78, 94, 115, 129, 144, 157, 161, 182, 194, 223];
 
 /// A short text: 64 bytes at most.
-fn text(alloc: Global, bytes: &[u8]) -> Result<Bytes, Fail>
-    ensures { IfOk result (λ made. length made ≤ 64) }
+fn text(alloc: Global, bytes: &[u8]) -> Option<Bytes>
+    ensures { IfSome result (λ made. length made ≤ 64) }
 {
     if bytes.len() > 64 {
-        return Err(Fail::from("a long text"));
+        return None;
     }
-    Ok(Bytes::from_slice(alloc, bytes)?)
+    match Bytes::from_slice(alloc, bytes) {
+        Ok(made) => Some(made),
+        Err(_) => None,
+    }
 }
 
-fn frame_of(alloc: Global, body: &[u8]) -> Result<Vec<u8>, Fail> {
-    let mut frame = Vec::new(alloc);
-    frame.extend_from_slice(&u32::try_from(body.len())?.to_be_bytes())?;
-    frame.extend_from_slice(body)?;
-    Ok(frame)
+/// Whether a frame is this body's.
+fn is_frame(frame: &[u8], body: &[u8]) -> bool {
+    let Ok(length) = u32::try_from(body.len()) else {
+        return false;
+    };
+    match frame.strip_prefix(length.to_be_bytes().as_slice()) {
+        Some(behind) => behind == body,
+        None => false,
+    }
 }
 
-/// The request has this spelling, and the spelling is read as the request.
-fn spells_request(rt: &impl Abort, alloc: Global, request: Request, body: &[u8]) -> Result<(), Fail>
+/// Whether a request has this spelling.
+fn is_request_spelled(alloc: Global, request: &Request, body: &[u8]) -> bool
+    requires { RequestFits request.now }
+{
+    match encode_request(alloc, request) {
+        Ok(frame) => is_frame(frame.as_slice(), body),
+        Err(_) => false,
+    }
+}
+
+/// Whether a body is read as a request.
+fn is_request_read(alloc: Global, request: &Request, body: &[u8]) -> bool {
+    match decode_request(alloc, body) {
+        Ok(read) => read == *request,
+        Err(_) => false,
+    }
+}
+
+/// Whether a request has this spelling, and the spelling is read as the request.
+fn spells_request(alloc: Global, request: Request, body: &[u8]) -> bool
     requires { RequestFits request }
 {
-    let frame = encode_request(alloc, &request)?;
-    assert!(rt; frame.as_slice() == frame_of(alloc, body)?.as_slice());
-    assert!(rt; decode_request(alloc, body)? == request);
-    Ok(())
+    is_request_spelled(alloc, &request, body) && is_request_read(alloc, &request, body)
 }
 
-/// The reply has this spelling, and the spelling is read as the reply.
-fn spells_reply(rt: &impl Abort, alloc: Global, reply: Reply, body: &[u8]) -> Result<(), Fail>
+/// Whether a reply has this spelling.
+fn is_reply_spelled(alloc: Global, reply: &Reply, body: &[u8]) -> bool
+    requires { ReplyFits reply.now }
+{
+    match encode_reply(alloc, reply) {
+        Ok(frame) => is_frame(frame.as_slice(), body),
+        Err(_) => false,
+    }
+}
+
+/// Whether a body is read as a reply.
+fn is_reply_read(alloc: Global, reply: &Reply, body: &[u8]) -> bool {
+    match decode_reply(alloc, body) {
+        Ok(read) => read == *reply,
+        Err(_) => false,
+    }
+}
+
+/// Whether a reply has this spelling, and the spelling is read as the reply.
+fn spells_reply(alloc: Global, reply: Reply, body: &[u8]) -> bool
     requires { ReplyFits reply }
 {
-    let frame = encode_reply(alloc, &reply)?;
-    assert!(rt; frame.as_slice() == frame_of(alloc, body)?.as_slice());
-    assert!(rt; decode_reply(alloc, body)? == reply);
-    Ok(())
+    is_reply_spelled(alloc, &reply, body) && is_reply_read(alloc, &reply, body)
 }
 
 const OBJECT: u64 = 0x0102_0304_0506_0708;
@@ -123,13 +158,19 @@ static TEXTED: [(Texted, &[u8], &[u8]); 4] = [
     (Texted::SetAttr, b"x", &[8, 1, 2, 3, 4, 5, 6, 7, 8, 1, 0x78]),
 ];
 
-#[test]
-fn requests_with_a_text(rt: HostRuntime) -> Result<(), Fail> {
-    for (kind, bytes, body) in TEXTED {
-        let text = text(rt.alloc(), bytes)?;
-        spells_request(&rt, rt.alloc(), request_with(kind, text), body)?;
+/// Whether the request of this kind with a text has this spelling.
+fn is_texted(alloc: Global, kind: Texted, bytes: &[u8], body: &[u8]) -> bool {
+    match text(alloc, bytes) {
+        Some(text) => spells_request(alloc, request_with(kind, text), body),
+        None => false,
     }
-    Ok(())
+}
+
+#[test]
+fn requests_with_a_text(rt: HostRuntime) {
+    for (kind, bytes, body) in &TEXTED {
+        assert!(rt; is_texted(rt.alloc(), *kind, bytes, body));
+    }
 }
 
 /// The requests of numbers alone.
@@ -205,11 +246,10 @@ static NUMBERED: [(Numbered, &[u8]); 7] = [
 ];
 
 #[test]
-fn requests_of_numbers(rt: HostRuntime) -> Result<(), Fail> {
-    for (kind, body) in NUMBERED {
-        spells_request(&rt, rt.alloc(), request_of(kind), body)?;
+fn requests_of_numbers(rt: HostRuntime) {
+    for (kind, body) in &NUMBERED {
+        assert!(rt; spells_request(rt.alloc(), request_of(*kind), body));
     }
-    Ok(())
 }
 
 /// Replies of each kind, and three refusals.
@@ -267,23 +307,38 @@ static REPLIES: [(Told, &[u8], &[u8]); 7] = [
     ),
 ];
 
-#[test]
-fn replies(rt: HostRuntime) -> Result<(), Fail> {
-    for (kind, bytes, body) in REPLIES {
-        let text = text(rt.alloc(), bytes)?;
-        spells_reply(&rt, rt.alloc(), reply_of(kind, text), body)?;
+/// Whether the reply of this kind with a text has this spelling.
+fn is_told(alloc: Global, kind: Told, bytes: &[u8], body: &[u8]) -> bool {
+    match text(alloc, bytes) {
+        Some(text) => spells_reply(alloc, reply_of(kind, text), body),
+        None => false,
     }
-    Ok(())
 }
 
-/// Whether a body is refused, as a reply's or as a request's.
-fn is_bad(alloc: Global, is_reply: bool, front: &[u8], count: usize) -> Result<bool, Fail> {
-    let body = body_of(alloc, front, count)?;
-    Ok(if is_reply {
-        matches!(decode_reply(alloc, &body), Err(Refusal::BadFrame))
-    } else {
-        matches!(decode_request(alloc, &body), Err(Refusal::BadFrame))
-    })
+#[test]
+fn replies(rt: HostRuntime) {
+    for (kind, bytes, body) in &REPLIES {
+        assert!(rt; is_told(rt.alloc(), *kind, bytes, body));
+    }
+}
+
+/// Whether a body is refused as a request's.
+fn is_bad_request(alloc: Global, body: &[u8]) -> bool {
+    matches!(decode_request(alloc, body), Err(Refusal::BadFrame))
+}
+
+/// Whether a body is refused as a reply's.
+fn is_bad_reply(alloc: Global, body: &[u8]) -> bool {
+    matches!(decode_reply(alloc, body), Err(Refusal::BadFrame))
+}
+
+/// Whether a body is refused, as a reply's or as a request's. None where there is no memory for it.
+fn is_bad(alloc: Global, is_reply: bool, front: &[u8], count: usize) -> Option<bool> {
+    match body_of(alloc, front, count) {
+        Ok(body) if is_reply => Some(is_bad_reply(alloc, &body)),
+        Ok(body) => Some(is_bad_request(alloc, &body)),
+        Err(_) => None,
+    }
 }
 
 /// The front of a body, how many bytes stand behind it, and whether it is bad.
@@ -328,22 +383,16 @@ static REPLY_BODIES: [Body; 8] = [
 ];
 
 #[test]
-fn bad_bodies(rt: HostRuntime) -> Result<(), Fail> {
-    for (is_reply, bodies) in [
-        (false, REQUEST_BODIES.as_slice()),
-        (true, REPLY_BODIES.as_slice()),
-    ] {
-        for (front, count, bad) in bodies {
-            assert!(rt;
-                is_bad(rt.alloc(), is_reply, front, *count)? == *bad,
-                "{front:?} {count}"
-            );
-        }
+fn bad_bodies(rt: HostRuntime) {
+    for (front, count, bad) in &REQUEST_BODIES {
+        assert!(rt; is_bad(rt.alloc(), false, front, *count) == Some(*bad));
     }
-    Ok(())
+    for (front, count, bad) in &REPLY_BODIES {
+        assert!(rt; is_bad(rt.alloc(), true, front, *count) == Some(*bad));
+    }
 }
 
-fn pieces_of(alloc: Global, stream: &[u8], size: usize) -> Result<Vec<Vec<u8>>, Fail>
+fn pieces_of(alloc: Global, stream: &[u8], size: usize) -> Result<Vec<Vec<u8>>, Refusal>
     requires { 0 < size }
 {
     let mut pieces = Vec::new(alloc);
@@ -358,11 +407,12 @@ fn read_in_pieces(
     alloc: Global,
     stream: &[u8],
     size: usize,
-) -> Result<(Vec<Item<Request>>, FrameReader), Fail> {
+) -> Result<(Vec<Item<Request>>, FrameReader), Refusal> {
     if size == 0 {
-        return Err(Fail::from("empty pieces"));
+        return Err(Refusal::BadFrame);
     }
-    Ok(read_all(alloc, &pieces_of(alloc, stream, size)?)?)
+    let pieces = pieces_of(alloc, stream, size)?;
+    read_all(alloc, &pieces)
 }
 
 /// Whether the items are those of the whole stream: all whole but the tenth and the twelfth.
@@ -379,53 +429,63 @@ fn are_all(items: &[Item<Request>]) -> bool {
 
 /// Whether a prefix of the stream, in pieces of this size, gives the items of its whole frames, and leaves the reader between
 /// frames exactly where it ends with one.
-fn is_read_so(
-    alloc: Global,
-    all: &[Item<Request>],
-    prefix: &[u8],
-    size: usize,
-) -> Result<bool, Fail> {
-    let (items, reader) = read_in_pieces(alloc, prefix, size)?;
-    let whole = ENDS.iter().filter(|end| **end <= prefix.len()).count();
-    let is_between = prefix.is_empty() || ENDS.contains(&prefix.len());
-    Ok(
-        whole <= all.len()
-            && items.as_slice() == &all[..whole]
-            && reader.is_between_frames() == is_between
-            && !reader.has_failed(),
-    )
+fn is_read_so(alloc: Global, all: &[Item<Request>], prefix: &[u8], size: usize) -> bool {
+    match read_in_pieces(alloc, prefix, size) {
+        Ok((items, reader)) => {
+            are_whole(items.as_slice(), all, prefix.len()) && is_left_so(&reader, prefix.len())
+        }
+        Err(_) => false,
+    }
 }
 
-/// Looks at what is read of a prefix of the stream, in pieces of three sizes.
-fn check_prefix(
-    rt: &impl Abort,
-    alloc: Global,
-    all: &[Item<Request>],
-    prefix: &[u8],
-) -> Result<(), Fail> {
-    for size in [1, 7, STREAM.len()] {
-        assert!(rt;
-            is_read_so(alloc, all, prefix, size)?,
-            "{} {size}",
-            prefix.len()
-        );
-    }
-    Ok(())
+/// Whether items are those of the whole frames of so many bytes of the stream.
+fn are_whole(items: &[Item<Request>], all: &[Item<Request>], length: usize) -> bool {
+    let whole = whole_frames(length);
+    whole <= all.len() && items == &all[..whole]
 }
 
-/// Looks at the items of the whole stream, and at what is read of each prefix.
-fn check_prefixes(rt: &impl Abort, alloc: Global, all: &[Item<Request>]) -> Result<(), Fail> {
-    assert!(rt; are_all(all));
-    for len in 0..=STREAM.len() {
-        check_prefix(rt, alloc, all, &STREAM[..len])?;
+/// How many frames of the stream end within so many bytes.
+fn whole_frames(length: usize) -> usize {
+    let mut whole = 0usize;
+    for end in &ENDS {
+        if *end <= length {
+            whole = whole.saturating_add(1);
+        }
     }
-    Ok(())
+    whole
+}
+
+/// Whether a reader of so many bytes of the stream is between frames exactly where one ends, and has not failed.
+fn is_left_so(reader: &FrameReader, length: usize) -> bool {
+    let is_between = length == 0 || ENDS.contains(&length);
+    reader.is_between_frames() == is_between && !reader.has_failed()
+}
+
+/// Whether each prefix of the stream is read so, in pieces of three sizes.
+fn are_prefixes_read(alloc: Global, all: &[Item<Request>]) -> bool {
+    for length in 0..=STREAM.len() {
+        let prefix = &STREAM[..length];
+        if !is_read_so(alloc, all, prefix, 1)
+            || !is_read_so(alloc, all, prefix, 7)
+            || !is_read_so(alloc, all, prefix, STREAM.len())
+        {
+            return false;
+        }
+    }
+    true
+}
+
+/// Whether the items of the whole stream are as they must be, and each prefix is read so.
+fn is_stream_read(alloc: Global) -> bool {
+    match read_in_pieces(alloc, &STREAM, STREAM.len()) {
+        Ok((all, _)) => are_all(all.as_slice()) && are_prefixes_read(alloc, all.as_slice()),
+        Err(_) => false,
+    }
 }
 
 #[test]
-fn prefixes(rt: HostRuntime) -> Result<(), Fail> {
-    let (all, _) = read_in_pieces(rt.alloc(), &STREAM, STREAM.len())?;
-    check_prefixes(&rt, rt.alloc(), all.as_slice())
+fn prefixes(rt: HostRuntime) {
+    assert!(rt; is_stream_read(rt.alloc()));
 }
 
 /// What is fed to a reader, how many items it gives, and whether the reader has failed then.
@@ -446,12 +506,21 @@ static TOO_LONG: [Fed; 3] = [
     (&[1], 1, true),
 ];
 
-fn feeds(rt: &impl Abort, reader: &mut FrameReader, rows: &[Fed]) -> Result<(), Fail> {
-    for (bytes, count, has_failed) in rows {
-        let items = reader.feed::<Request>(bytes)?;
-        assert!(rt; items.len() == *count && reader.has_failed() == *has_failed);
+/// How many items a reader gives that is fed bytes.
+fn fed(reader: &mut FrameReader, bytes: &[u8]) -> Option<usize> {
+    match reader.feed::<Request>(bytes) {
+        Ok(items) => Some(items.len()),
+        Err(_) => None,
     }
-    Ok(())
+}
+
+fn feeds(reader: &mut FrameReader, rows: &[Fed]) -> bool {
+    for (bytes, count, has_failed) in rows {
+        if fed(reader, bytes) != Some(*count) || reader.has_failed() != *has_failed {
+            return false;
+        }
+    }
+    true
 }
 
 fn is_ended(reader: &mut FrameReader, bytes: &[u8]) -> bool {
@@ -462,8 +531,9 @@ fn are_bad_and_flush(items: &[Item<Request>]) -> bool {
     matches!(items, [Item::BadFrame, Item::Whole(Request::Flush { .. })])
 }
 
-fn flush(alloc: Global) -> Result<Vec<u8>, Fail> {
-    let mut stream = frame_of(alloc, &[])?;
+/// The frame of an empty body, and the one of a Flush.
+fn flush(alloc: Global) -> Result<Vec<u8>, Refusal> {
+    let mut stream = Vec::from_slice(alloc, &[0; 4])?;
     let flush = Request::Flush {
         first: Moment::new(1),
         last: Moment::new(2),
@@ -472,29 +542,53 @@ fn flush(alloc: Global) -> Result<Vec<u8>, Fail> {
     Ok(stream)
 }
 
-#[test]
-fn an_empty_frame_and_a_flush(rt: HostRuntime) -> Result<(), Fail> {
-    let stream = flush(rt.alloc())?;
-    assert!(rt; stream.as_slice() == TWO_FRAMES.as_slice());
-    let (items, _) = read_in_pieces(rt.alloc(), &TWO_FRAMES, 25)?;
-    assert!(rt; are_bad_and_flush(items.as_slice()));
-    Ok(())
-}
-
-#[test]
-fn the_longest_body_is_awaited(rt: HostRuntime) -> Result<(), Fail> {
-    let mut reader = FrameReader::new(rt.alloc())?;
-    feeds(&rt, &mut reader, LONGEST.as_slice())
-}
-
-#[test]
-fn a_longer_body_ends_the_stream(rt: HostRuntime) -> Result<(), Fail> {
-    let mut reader = FrameReader::new(rt.alloc())?;
-    feeds(&rt, &mut reader, TOO_LONG.as_slice())?;
-    for bytes in [TWO_FRAMES.as_slice(), &[]] {
-        assert!(rt; is_ended(&mut reader, bytes));
+fn is_flush_pushed(alloc: Global) -> bool {
+    match flush(alloc) {
+        Ok(stream) => stream.as_slice() == TWO_FRAMES.as_slice(),
+        Err(_) => false,
     }
-    Ok(())
+}
+
+fn is_flush_read(alloc: Global) -> bool {
+    match read_in_pieces(alloc, &TWO_FRAMES, 25) {
+        Ok((items, _)) => are_bad_and_flush(items.as_slice()),
+        Err(_) => false,
+    }
+}
+
+#[test]
+fn an_empty_frame_and_a_flush(rt: HostRuntime) {
+    assert!(rt; is_flush_pushed(rt.alloc()) && is_flush_read(rt.alloc()));
+}
+
+/// Whether a new reader is fed so.
+fn is_fed(alloc: Global, rows: &[Fed]) -> bool {
+    match new_reader(alloc) {
+        Ok(mut reader) => feeds(&mut reader, rows),
+        Err(_) => false,
+    }
+}
+
+#[test]
+fn the_longest_body_is_awaited(rt: HostRuntime) {
+    assert!(rt; is_fed(rt.alloc(), &LONGEST));
+}
+
+/// Whether a new reader is fed so, and takes nothing more.
+fn is_fed_and_ended(alloc: Global, rows: &[Fed]) -> bool {
+    match new_reader(alloc) {
+        Ok(mut reader) => {
+            feeds(&mut reader, rows)
+                && is_ended(&mut reader, &TWO_FRAMES)
+                && is_ended(&mut reader, &[])
+        }
+        Err(_) => false,
+    }
+}
+
+#[test]
+fn a_longer_body_ends_the_stream(rt: HostRuntime) {
+    assert!(rt; is_fed_and_ended(rt.alloc(), &TOO_LONG));
 }
 
 /// Feeds the piece, and once more if memory is refused.
@@ -505,20 +599,26 @@ fn feed_again(reader: &mut FrameReader, piece: &[u8]) -> Result<Vec<Item<Request
     }
 }
 
-/// Whether a reader that is fed a piece gives the next of these items, counted from the number on.
-fn goes_on(
+/// Whether items are these from a number on, and the number of the one behind them.
+fn goes_on(items: &[Item<Request>], whole: &[Item<Request>], count: usize) -> Option<usize> {
+    let end = count.saturating_add(items.len());
+    if end > whole.len() || count > end || items != &whole[count..end] {
+        return None;
+    }
+    Some(end)
+}
+
+/// Feeds a piece, and tells the number of the item behind those that it gives, where they are these from a number on.
+fn feed_on(
     reader: &mut FrameReader,
     piece: &[u8],
     whole: &[Item<Request>],
-    count: &mut usize,
-) -> Result<bool, Refusal> {
-    for item in &feed_again(reader, piece)? {
-        if *count >= whole.len() || *item != whole[*count] {
-            return Ok(false);
-        }
-        *count += 1;
+    count: usize,
+) -> Option<usize> {
+    match feed_again(reader, piece) {
+        Ok(items) => goes_on(items.as_slice(), whole, count),
+        Err(_) => None,
     }
-    Ok(true)
 }
 
 fn new_reader(alloc: Global) -> Result<FrameReader, Refusal> {
@@ -528,25 +628,35 @@ fn new_reader(alloc: Global) -> Result<FrameReader, Refusal> {
     }
 }
 
-/// Feeds the stream once more, in pieces, and looks whether the same items are read.
-fn check_again(
-    rt: &impl Abort,
-    reader: &mut FrameReader,
-    whole: &[Item<Request>],
-) -> Result<(), Fail> {
+/// Feeds the stream once more, in pieces, and tells how many items are read, where they are the same.
+fn count_again(reader: &mut FrameReader, whole: &[Item<Request>]) -> Option<usize> {
     let mut count = 0;
     for piece in STREAM.chunks(7) {
-        assert!(rt; goes_on(reader, piece, whole, &mut count)?);
+        count = feed_on(reader, piece, whole, count)?;
     }
-    assert!(rt; count == ENDS.len() && reader.is_between_frames());
-    Ok(())
+    Some(count)
+}
+
+/// Feeds the stream, and once more in pieces, and tells how many items are read each time.
+fn counts(reader: &mut FrameReader) -> Option<(usize, usize)> {
+    match feed_again(reader, &STREAM) {
+        Ok(whole) => Some((whole.len(), count_again(reader, whole.as_slice())?)),
+        Err(_) => None,
+    }
+}
+
+/// Whether a reader reads the stream twice, and is between frames then.
+fn is_read_twice(alloc: Global) -> bool {
+    match new_reader(alloc) {
+        Ok(mut reader) => {
+            counts(&mut reader) == Some((ENDS.len(), ENDS.len())) && reader.is_between_frames()
+        }
+        Err(_) => false,
+    }
 }
 
 /// Run with each allocation refused in turn, it still reads the same items: nothing was taken.
 #[test]
-fn memory_refused(rt: HostRuntime) -> Result<(), Fail> {
-    let mut reader = new_reader(rt.alloc())?;
-    let whole = feed_again(&mut reader, &STREAM)?;
-    assert!(rt; whole.len() == ENDS.len());
-    check_again(&rt, &mut reader, whole.as_slice())
+fn memory_refused(rt: HostRuntime) {
+    assert!(rt; is_read_twice(rt.alloc()));
 }

@@ -12,9 +12,7 @@ use object_map::Row;
 use plain_log::PlainLog;
 use row_changes::laws::{a_fresh_row_stands, a_row_is_by_later_moments};
 use row_changes::{record_change, record_checkpoint};
-use s4_types::{Moment, ObjectId, Ptr};
-use std::process::Abort;
-use std::test::Fail;
+use s4_types::{Moment, ObjectId, Ptr, Refusal};
 use time_read::inode_at;
 use time_read::laws::the_last_inode_is_current;
 use undo_redo::blank;
@@ -69,7 +67,7 @@ fn resized<B: Blocks>(
     subject: &Subject,
     moment: u64,
     size: u32,
-) -> Result<Subject, Fail>
+) -> Result<Subject, Refusal>
     requires row { IsRow (B.log table.old).held OBJECT subject.now.row }
     requires earlier { IsBy (B.log table.old).held OBJECT subject.now.row (moment - 1) }
     requires present { subject.now.inode ≡ last_inode (B.log table.old).held OBJECT subject.now.row }
@@ -79,14 +77,18 @@ fn resized<B: Blocks>(
 {
     the_last_inode_is_current();
     let Subject { row, inode } = subject;
-    let after = sized(inode, moment, size).ok_or("no entry")?;
+    let after = sized(inode, moment, size).ok_or(Refusal::NoObject)?;
     let moment = Moment::new(moment);
     let row = record_change(table, ObjectId::new(OBJECT), row, inode, &after, moment)?;
     Ok(Subject { row, inode: after })
 }
 
 /// The object after its present inode was written as a checkpoint of a moment.
-fn checkpointed<B: Blocks>(table: &mut B, subject: &Subject, moment: u64) -> Result<Subject, Fail>
+fn checkpointed<B: Blocks>(
+    table: &mut B,
+    subject: &Subject,
+    moment: u64,
+) -> Result<Subject, Refusal>
     requires row { IsRow (B.log table.old).held OBJECT subject.now.row }
     requires latest { IsBy (B.log table.old).held OBJECT subject.now.row moment }
     requires present { subject.now.inode ≡ last_inode (B.log table.old).held OBJECT subject.now.row }
@@ -97,7 +99,7 @@ fn checkpointed<B: Blocks>(table: &mut B, subject: &Subject, moment: u64) -> Res
     the_last_inode_is_current();
     let object = ObjectId::new(OBJECT);
     let moment = Moment::new(moment);
-    let made = Checkpoint::new(object, moment, subject.inode).ok_or("no checkpoint")?;
+    let made = Checkpoint::new(object, moment, subject.inode).ok_or(Refusal::NoObject)?;
     let row = record_checkpoint(table, object, &subject.row, made.inode(), moment)?;
     Ok(Subject {
         row,
@@ -116,26 +118,25 @@ fn size_at<B: Blocks>(table: &mut B, subject: &Subject, at: u64) -> Option<u32>
     told.alive.then_some(told.size)
 }
 
-/// Looks at the sizes that the object has at moments, where it is alive.
-fn check_sizes<B: Blocks>(
-    rt: &impl Abort,
-    table: &mut B,
-    subject: &Subject,
-    told: &[(u64, Option<u32>)],
-)
+/// Whether the object has these sizes at moments, where it is alive.
+fn has_sizes<B: Blocks>(table: &mut B, subject: &Subject, told: &[(u64, Option<u32>)]) -> bool
     requires row { IsRow (B.log table.old).held OBJECT subject.now.row }
     requires present { subject.now.inode ≡ last_inode (B.log table.old).held OBJECT subject.now.row }
 {
     for (at, size) in told {
-        assert!(rt; size_at(table, subject, *at) == *size, "{at}");
+        if size_at(table, subject, *at) != *size {
+            return false;
+        }
     }
+    true
 }
 
-/// Looks at the blocks of a row: the frames of its checkpoint and of its journal's head, and the checkpoint's moment.
-fn check_places(rt: &impl Abort, row: &Row, checkpoint: Option<u16>, moment: u64, head: u16) {
-    let place = checkpoint.and_then(|frame| Ptr::new(frame, 1, 1));
-    assert!(rt; row.checkpoint == place && row.checkpoint_moment == Moment::new(moment));
-    assert!(rt; row.head == Ptr::new(head, 1, 1) && row.stamp == 0);
+/// Whether a row has these blocks: its checkpoint's and its journal's head, and the checkpoint's moment.
+fn has_places(row: &Row, checkpoint: Option<Ptr>, moment: u64, head: Option<Ptr>) -> bool {
+    row.checkpoint == checkpoint
+        && row.checkpoint_moment == Moment::new(moment)
+        && row.head == head
+        && row.stamp == 0
 }
 
 #[test]
@@ -145,19 +146,26 @@ fn an_object_is_nothing_before_its_making(rt: HostRuntime) {
     assert!(rt; size_at(&mut table, &none, 10) == None);
 }
 
-/// The object made at moment 10, and given a size at two later moments; looks at its sizes, its row and its blocks.
-fn check_changes<B: Blocks>(rt: &impl Abort, table: &mut B) -> Result<(), Fail>
+/// Whether a row has no checkpoint, and a journal of so many bytes in one block, of frame 2.
+fn has_journal(row: &Row, bytes: u16) -> bool {
+    has_places(row, None, 0, Ptr::new(2, 1, 1))
+        && row.journal_bytes == bytes
+        && row.head_bytes == bytes
+}
+
+/// Whether the object that is made at moment 10, and given a size at two later moments, has its sizes, its row and its blocks.
+fn is_changed<B: Blocks>(table: &mut B) -> Result<bool, Refusal>
     requires { (p : Place) → (B.log table.old).held p ≡ None }
 {
     let none = begun(table);
     let first = resized(table, &none, 10, 0)?;
     let second = resized(table, &first, 11, 3)?;
     let third = resized(table, &second, 12, 5)?;
-    check_sizes(rt, table, &third, &CHANGED);
-    check_places(rt, &third.row, None, 0, 2);
-    assert!(rt; third.row.journal_bytes == 102 && third.row.head_bytes == 102);
-    assert!(rt; table.blocks_left() == 12);
-    Ok(())
+    Ok(
+        has_sizes(table, &third, &CHANGED)
+            && has_journal(&third.row, 102)
+            && table.blocks_left() == 12,
+    )
 }
 
 static CHANGED: [(u64, Option<u32>); 6] = [
@@ -170,15 +178,15 @@ static CHANGED: [(u64, Option<u32>); 6] = [
 ];
 
 #[test]
-fn a_change_is_told_from_its_moment_on(rt: HostRuntime) -> Result<(), Fail> {
-    check_changes(&rt, &mut PlainLog::new(15))
+fn a_change_is_told_from_its_moment_on(rt: HostRuntime) {
+    assert!(rt; matches!(is_changed(&mut PlainLog::new(15)), Ok(true)));
 }
 
 static CHECKPOINTED: [(u64, Option<u32>); 3] = [(9, None), (10, Some(7)), (11, Some(3))];
 
-/// The object made with a size and checkpointed, and given another size; answers its row, and the one after a second
-/// checkpoint.
-fn check_checkpoints<B: Blocks>(rt: &impl Abort, table: &mut B) -> Result<[Row; 2], Fail>
+/// Whether the object that is made with a size and checkpointed, and given another size, has its row, and its sizes and its row
+/// after a second checkpoint.
+fn is_checkpointed<B: Blocks>(table: &mut B) -> Result<bool, Refusal>
     requires { (p : Place) → (B.log table.old).held p ≡ None }
 {
     let none = begun(table);
@@ -186,16 +194,15 @@ fn check_checkpoints<B: Blocks>(rt: &impl Abort, table: &mut B) -> Result<[Row; 
     let second = checkpointed(table, &first, 10)?;
     let third = resized(table, &second, 11, 3)?;
     let fourth = checkpointed(table, &third, 11)?;
-    check_sizes(rt, table, &fourth, &CHECKPOINTED);
-    Ok([third.row, fourth.row])
+    Ok(
+        has_sizes(table, &fourth, &CHECKPOINTED)
+            && has_places(&third.row, Ptr::new(1, 1, 1), 10, Ptr::new(2, 1, 1))
+            && has_places(&fourth.row, Ptr::new(3, 1, 1), 11, Ptr::new(2, 1, 1))
+            && table.blocks_left() == 11,
+    )
 }
 
 #[test]
-fn a_checkpoint_changes_no_inode(rt: HostRuntime) -> Result<(), Fail> {
-    let mut table = PlainLog::new(15);
-    let [before, after] = check_checkpoints(&rt, &mut table)?;
-    check_places(&rt, &before, Some(1), 10, 2);
-    check_places(&rt, &after, Some(3), 11, 2);
-    assert!(rt; table.blocks_left() == 11);
-    Ok(())
+fn a_checkpoint_changes_no_inode(rt: HostRuntime) {
+    assert!(rt; matches!(is_checkpointed(&mut PlainLog::new(15)), Ok(true)));
 }

@@ -9,11 +9,14 @@ fn an_empty_chain_has_nothing(rt: HostRuntime) {
     assert!(rt; chain.bytes() == 0 && chain.filled() == 0);
 }
 
+/// Numbers of bytes, and whether they are too many for it.
+static ROOM: [(usize, bool); 4] = [(0, false), (488, false), (11_712, false), (11_713, true)];
+
 #[test]
 fn an_empty_chain_has_room_for_24_full_blocks(rt: HostRuntime) {
     let chain = Chain::empty(ObjectId::new(1));
-    for (bytes, full) in [(0, false), (488, false), (11_712, false), (11_713, true)] {
-        assert!(rt; chain.is_full_for(bytes) == full, "{bytes}");
+    for (bytes, full) in &ROOM {
+        assert!(rt; chain.is_full_for(*bytes) == *full);
     }
 }
 
@@ -29,7 +32,7 @@ static SIZES: [(&[usize], usize); 5] = [
 #[test]
 fn blocks_are_counted_by_sizes(rt: HostRuntime) {
     let chain = Chain::empty(ObjectId::new(1));
-    for (sizes, blocks) in SIZES {
-        assert!(rt; chain.blocks_needed(sizes) == blocks, "{sizes:?}");
+    for (sizes, blocks) in &SIZES {
+        assert!(rt; chain.blocks_needed(sizes) == *blocks);
     }
 }

@@ -12,12 +12,21 @@ fn a_marked_frame_waits_for_its_reader(rt: HostRuntime) -> Result<(), Fail> {
     let mut pin = frames.seat()?;
     pin.add(drive.frame(0))?;
     drive.mark(0);
-    assert!(rt; drive.state(0) == 0x0000_0001_0000_0007);
-    assert!(rt; drive.release(0) == Err(Refusal::InUse));
-    assert!(rt; drive.state(0) == 0x0000_0001_0000_0007);
+    let marked = drive.state(0);
+    let refused = drive.release(0);
+    let kept = drive.state(0);
     drop(pin);
-    assert!(rt; drive.release(0).is_ok());
-    assert!(rt; drive.state(0) == 0x0000_0002_0000_0000);
+    let released = drive.release(0);
+    let words = [marked, kept, drive.state(0)];
+    assert!(rt;
+        words
+            == [
+                0x0000_0001_0000_0007,
+                0x0000_0001_0000_0007,
+                0x0000_0002_0000_0000
+            ]
+    );
+    assert!(rt; refused == Err(Refusal::InUse) && released.is_ok());
     assert!(rt; drive.release(0) == Err(Refusal::InUse));
     Ok(())
 }

@@ -3,7 +3,6 @@ use crate::between::{can_be_earlier, told_between};
 use codec::{Attribute, Entry, Inode, decode_entry};
 use s4_types::{Moment, Ptr};
 use std::alloc::Global;
-use std::test::Fail;
 use undo_redo::{
     Entries, blank, compose, entries_between, entry_sizes, redo, redo_all, undo, undo_all,
 };
@@ -30,9 +29,9 @@ fn written(moment: u64, size: u32, count: usize, frame: u16) -> Inode {
     inode
 }
 
-fn read(bytes: &[u8]) -> Result<Entry, Fail> {
-    let (entry, _) = decode_entry(bytes).ok_or("no entry")?;
-    Ok(entry)
+fn read(bytes: &[u8]) -> Option<Entry> {
+    let (entry, _) = decode_entry(bytes)?;
+    Some(entry)
 }
 
 /// The entries of an object's deletion.
@@ -45,50 +44,69 @@ fn told_deletion(before: &Inode, moment: u64) -> Option<Entries> {
     Some(entries_between(before, &after, Moment::new(moment)))
 }
 
-const CREATE: [u8; 34] = [
+static CREATE: [u8; 34] = [
     0, 0, 0, 0, 0, 0, 0, 10, 2, 0, 0, 0, 0, 0, 0, 0, 0, 0, 0, 0, 0, 0, 0, 0, 0, 0, 0, 0, 0, 0, 0,
     0, 0, 10,
 ];
 
-const WRITE: [u8; 51] = [
+static WRITE: [u8; 51] = [
     0, 0, 0, 0, 0, 0, 0, 11, 3, 1, 0, 0, 0, 0, 0, 0, 0, 3, 0, 0, 0, 0, 0, 0, 0, 10, 0, 0, 0, 0, 0,
     0, 0, 11, 0, 0, 0, 0, 0, 0, 0, 0, 0, 0, 0, 2, 0, 0, 0, 0, 1,
 ];
 
-#[test]
-fn bytes_of_a_log_lead_from_inode_to_inode(rt: HostRuntime) -> Result<(), Fail> {
-    let create = read(CREATE.as_slice())?;
-    let write = read(WRITE.as_slice())?;
-    let mut inode = blank(Moment::new(10));
-    redo(&create, &mut inode);
-    assert!(rt; inode == made());
-    redo(&write, &mut inode);
-    assert!(rt; inode == written(11, 3, 1, 0));
-    undo(&write, &mut inode);
-    assert!(rt; inode == made());
-    undo(&create, &mut inode);
-    assert!(rt; inode == blank(Moment::new(10)));
-    Ok(())
+/// Whether an entry whose bytes these are leads from an inode to another, and back.
+fn is_step(bytes: &[u8], before: &Inode, after: &Inode) -> bool {
+    let Some(entry) = read(bytes) else {
+        return false;
+    };
+    let mut inode = *before;
+    redo(&entry, &mut inode);
+    let is_redone = inode == *after;
+    undo(&entry, &mut inode);
+    is_redone && inode == *before
 }
 
 #[test]
-fn a_making_is_the_entry_of_a_create(rt: HostRuntime) -> Result<(), Fail> {
-    let entries = told_between(&blank(Moment::new(10)), &made(), 10).ok_or("refused")?;
-    assert!(rt; entries.len() == 1);
+fn bytes_of_a_log_lead_from_inode_to_inode(rt: HostRuntime) {
+    assert!(rt; is_step(&CREATE, &blank(Moment::new(10)), &made()));
+    assert!(rt; is_step(&WRITE, &made(), &written(11, 3, 1, 0)));
+}
+
+/// Whether the making is told by one entry, which leads to what is made.
+fn is_making_told() -> bool {
     let mut inode = blank(Moment::new(10));
-    redo_all(entries.as_slice(), &mut inode);
-    assert!(rt; inode == made());
-    Ok(())
+    match told_between(&inode, &made(), 10) {
+        Some(entries) => {
+            redo_all(entries.as_slice(), &mut inode);
+            entries.len() == 1 && inode == made()
+        }
+        None => false,
+    }
+}
+
+#[test]
+fn a_making_is_the_entry_of_a_create(rt: HostRuntime) {
+    assert!(rt; is_making_told());
 }
 
 /// Whether entries of a moment have these numbers of pointers, and the sizes that are told of as many pointers.
 fn have(entries: &[Entry], moment: u64, triples: &[usize], sizes: &[usize]) -> bool {
-    let as_told = entries.iter().zip(sizes).zip(triples).all(|((entry, size), wanted)| {
-        entry.triples().len() == *wanted
-            && entry.byte_count() == *size
-            && entry.moment().number() == moment
-    });
-    as_told && entries.len() == triples.len() && sizes.len() == triples.len()
+    if entries.len() != triples.len() || sizes.len() != triples.len() {
+        return false;
+    }
+    for k in 0..entries.len() {
+        if !has(&entries[k], moment, triples[k], sizes[k]) {
+            return false;
+        }
+    }
+    true
+}
+
+/// Whether an entry of a moment has so many pointers, and so many bytes.
+fn has(entry: &Entry, moment: u64, triples: usize, size: usize) -> bool {
+    entry.triples().len() == triples
+        && entry.byte_count() == size
+        && entry.moment().number() == moment
 }
 
 /// Whether entries lead from an inode to another, and back.
@@ -122,75 +140,112 @@ fn rewritten(before: &Inode, count: usize) -> Inode {
     after
 }
 
-#[test]
-fn pointers_stand_sixteen_in_an_entry(rt: HostRuntime) -> Result<(), Fail> {
-    let before = written(11, 24_576, 48, 1);
-    for (count, triples) in COUNTS {
-        let after = rewritten(&before, count);
-        let entries = told_between(&before, &after, 12).ok_or("refused")?;
-        let sizes = entry_sizes(count.min(48), 0);
-        assert!(rt;
-            have(entries.as_slice(), 12, triples, sizes.as_slice()),
-            "{count}"
-        );
-        assert!(rt; lead(entries.as_slice(), &before, &after), "{count}");
+/// Whether entries of moment 12 lead between two inodes, with these numbers of pointers and the sizes that are told of as many.
+fn are_told(before: &Inode, after: &Inode, count: usize, triples: &[usize]) -> bool {
+    match told_between(before, after, 12) {
+        Some(entries) => {
+            have(
+                entries.as_slice(),
+                12,
+                triples,
+                entry_sizes(count.min(48), 0).as_slice(),
+            ) && lead(entries.as_slice(), before, after)
+        }
+        None => false,
     }
-    Ok(())
 }
 
 #[test]
-fn a_pair_takes_its_bytes(rt: HostRuntime) -> Result<(), Fail> {
-    let before = made();
-    let mut after = made();
-    after.changed = Moment::new(12);
-    after.attribute = Attribute::new(b"abc").ok_or("attribute")?;
-    let entries = told_between(&before, &after, 12).ok_or("refused")?;
-    let sizes = entry_sizes(0, 5);
-    assert!(rt; sizes.as_slice() == [39].as_slice());
-    assert!(rt;
-        entries
-            .as_slice()
-            .iter()
-            .all(|entry| entry.byte_count() == 39)
-    );
-    Ok(())
+fn pointers_stand_sixteen_in_an_entry(rt: HostRuntime) {
+    let before = written(11, 24_576, 48, 1);
+    for (count, triples) in &COUNTS {
+        assert!(rt; are_told(&before, &rewritten(&before, *count), *count, triples));
+    }
 }
 
-/// Entries, one after the other.
-fn joined(alloc: Global, parts: [Entries; 2]) -> Result<Vec<Entry>, Fail> {
-    let mut run = Vec::new(alloc);
-    for entries in parts {
-        for entry in entries {
-            run.push(entry)?;
+/// The object made at moment 10 and named at moment 12.
+fn named() -> Option<Inode> {
+    let mut inode = made();
+    inode.changed = Moment::new(12);
+    inode.attribute = Attribute::new(b"abc")?;
+    Some(inode)
+}
+
+/// Whether the entries to it have 39 bytes each, as is told.
+fn is_pair_sized() -> Option<bool> {
+    let entries = told_between(&made(), &named()?, 12)?;
+    for entry in entries.as_slice() {
+        if entry.byte_count() != 39 {
+            return Some(false);
         }
     }
-    Ok(run)
+    Some(entry_sizes(0, 5).as_slice() == [39].as_slice())
 }
 
 #[test]
-fn three_entries_become_one(rt: HostRuntime) -> Result<(), Fail> {
+fn a_pair_takes_its_bytes(rt: HostRuntime) {
+    assert!(rt; is_pair_sized() == Some(true));
+}
+
+/// Puts entries behind others, and tells whether there was memory for them.
+fn push_all(run: &mut Vec<Entry>, entries: Entries) -> bool {
+    for entry in entries {
+        if run.push(entry).is_err() {
+            return false;
+        }
+    }
+    true
+}
+
+/// What two changes come to together, the outer None where there is no memory or no entry of one.
+fn composed(alloc: Global, one: Option<Entries>, two: Option<Entries>) -> Option<Option<Entries>> {
+    let mut run = Vec::new(alloc);
+    if !push_all(&mut run, one?) || !push_all(&mut run, two?) {
+        return None;
+    }
+    Some(compose(run.as_slice()))
+}
+
+/// Whether two changes, of which the second takes one pointer back, become one entry.
+fn is_composed(alloc: Global) -> bool {
     let first = written(11, 512, 1, 1);
     let second = written(12, 1024, 2, 2);
     let mut third = written(13, 1024, 2, 3);
     third.pointers[0] = first.pointers[0];
-    let one = told_between(&first, &second, 12).ok_or("refused")?;
-    let two = told_between(&second, &third, 13).ok_or("refused")?;
-    let run = joined(rt.alloc(), [one, two])?;
-    let composed = compose(run.as_slice()).ok_or("refused")?;
-    assert!(rt; have(composed.as_slice(), 13, &[1], &[51]));
-    assert!(rt; lead(composed.as_slice(), &first, &third));
-    assert!(rt; compose(&[]).is_none());
-    Ok(())
+    let one = told_between(&first, &second, 12);
+    match composed(alloc, one, told_between(&second, &third, 13)) {
+        Some(Some(entries)) => {
+            have(entries.as_slice(), 13, &[1], &[51]) && lead(entries.as_slice(), &first, &third)
+        }
+        _ => false,
+    }
 }
 
 #[test]
-fn a_write_and_a_delete_have_no_entry(rt: HostRuntime) -> Result<(), Fail> {
-    let first = written(11, 512, 1, 1);
+fn three_entries_become_one(rt: HostRuntime) {
+    assert!(rt; is_composed(rt.alloc()) && compose(&[]).is_none());
+}
+
+/// Whether the deletion of an inode alone is told by an entry.
+fn is_deletion_told(inode: &Inode) -> bool {
+    match told_deletion(inode, 13) {
+        Some(entries) => compose(entries.as_slice()).is_some(),
+        None => false,
+    }
+}
+
+/// Whether a write and a deletion behind it have no entry together.
+fn has_no_entry(alloc: Global, first: &Inode, second: &Inode) -> bool {
+    let write = told_between(first, second, 12);
+    matches!(
+        composed(alloc, write, told_deletion(second, 13)),
+        Some(None)
+    )
+}
+
+#[test]
+fn a_write_and_a_delete_have_no_entry(rt: HostRuntime) {
     let second = written(12, 1024, 2, 2);
-    let one = told_between(&first, &second, 12).ok_or("refused")?;
-    let two = told_deletion(&second, 13).ok_or("refused")?;
-    assert!(rt; compose(two.as_slice()).is_some());
-    let run = joined(rt.alloc(), [one, two])?;
-    assert!(rt; compose(run.as_slice()).is_none());
-    Ok(())
+    assert!(rt; is_deletion_told(&second));
+    assert!(rt; has_no_entry(rt.alloc(), &written(11, 512, 1, 1), &second));
 }

@@ -37,14 +37,14 @@ fn a_memory_outlives_its_pin(rt: HostRuntime) -> Result<(), Fail> {
     let mut pin = frames.seat()?;
     pin.add(drive.frame(0))?;
     let mut memory = pin.remember();
-    assert!(rt; drive.state(0) == 0x0000_0001_0000_0006);
+    let pinned = drive.state(0);
     drop(pin);
-    assert!(rt; drive.state(0) == 0x0000_0001_0000_0002);
+    assert!(rt; [pinned, drive.state(0)] == [0x0000_0001_0000_0006, 0x0000_0001_0000_0002]);
     assert!(rt; recalled(&mut drive, &mut memory, 0, 1, 15) == Some(pattern(0, 15)));
     drive.mark(0);
     assert!(rt; recalled(&mut drive, &mut memory, 0, 1, 0) == Some(pattern(0, 0)));
-    assert!(rt; drive.release(0).is_ok());
-    assert!(rt; recalled(&mut drive, &mut memory, 0, 1, 0).is_none());
+    let is_released = drive.release(0).is_ok();
+    assert!(rt; is_released && recalled(&mut drive, &mut memory, 0, 1, 0).is_none());
     Ok(())
 }
 

@@ -3,6 +3,7 @@ ghost use Rattle.admission.specs.Later.{IsWithin, IsOfVersions};
 
 use admission::{check, check_clock, judge, object_of};
 use s4_types::{Bytes, Change, Moment, ObjectId, Refusal, Request, Role};
+use std::alloc::{AllocError, Global};
 use std::test::Fail;
 
 /// How a request is refused for what it says itself, if it is.
@@ -26,38 +27,51 @@ static RANGES: [(u64, u32, Option<Refusal>); 3] = [
     (u64::MAX, 1, Some(Refusal::TooLarge)),
 ];
 
+/// How the making of an object with an attribute is refused.
+fn refused_making(alloc: Global, attribute: &[u8]) -> Result<Option<Refusal>, AllocError> {
+    let attribute = Bytes::from_slice(alloc, attribute)?;
+    Ok(refused(Role::Client, Request::Create { attribute }))
+}
+
+/// How a write of a byte at an offset is refused.
+fn refused_write(alloc: Global, offset: u64) -> Result<Option<Refusal>, AllocError> {
+    let write = Request::Write {
+        object: ObjectId::new(1),
+        offset,
+        bytes: Bytes::from_slice(alloc, b"x")?,
+    };
+    Ok(refused(Role::Client, write))
+}
+
+/// How a read of the newest version is refused.
+fn refused_read(offset: u64, length: u32) -> Option<Refusal> {
+    let read = Request::Read {
+        object: ObjectId::new(1),
+        offset,
+        length,
+        at: None,
+    };
+    refused(Role::Client, read)
+}
+
 #[test]
 fn what_a_request_decides_itself(rt: HostRuntime) -> Result<(), Fail> {
-    for (attribute, told) in ATTRIBUTES {
-        let attribute = Bytes::from_slice(rt.alloc(), attribute)?;
-        assert!(rt; refused(Role::Client, Request::Create { attribute }) == told);
+    for (attribute, told) in &ATTRIBUTES {
+        assert!(rt; refused_making(rt.alloc(), attribute)? == *told);
     }
-    for (offset, told) in OFFSETS {
-        let bytes = Bytes::from_slice(rt.alloc(), b"x")?;
-        let object = ObjectId::new(1);
-        let write = Request::Write {
-            object,
-            offset,
-            bytes,
-        };
-        assert!(rt; refused(Role::Client, write) == told, "{offset}");
+    for (offset, told) in &OFFSETS {
+        assert!(rt; refused_write(rt.alloc(), *offset)? == *told);
     }
     Ok(())
 }
 
 #[test]
 fn what_a_read_and_a_role_decide(rt: HostRuntime) {
-    for (role, told) in [(Role::Client, Some(Refusal::NotAdmin)), (Role::Admin, None)] {
-        assert!(rt; refused(role, Request::SetWindow { window: 5 }) == told);
-    }
-    for (offset, length, told) in RANGES {
-        let read = Request::Read {
-            object: ObjectId::new(1),
-            offset,
-            length,
-            at: None,
-        };
-        assert!(rt; refused(Role::Client, read) == told, "{offset} {length}");
+    let by_client = refused(Role::Client, Request::SetWindow { window: 5 });
+    let by_admin = refused(Role::Admin, Request::SetWindow { window: 5 });
+    assert!(rt; (by_client, by_admin) == (Some(Refusal::NotAdmin), None));
+    for (offset, length, told) in &RANGES {
+        assert!(rt; refused_read(*offset, *length) == *told);
     }
 }
 
@@ -86,26 +100,27 @@ fn what_the_state_decides(rt: HostRuntime) {
     assert!(rt; comes_to(None, create, created));
 }
 
+/// Whether an Append of two bytes to an object of a size comes to this.
+fn appends(alloc: Global, size: u64, told: Result<Change, Refusal>) -> Result<bool, AllocError> {
+    let object = ObjectId::new(2);
+    let bytes = Bytes::from_slice(alloc, b"ab")?;
+    Ok(comes_to(Some(size), Request::Append { object, bytes }, told))
+}
+
+/// Whether it comes to a write of them at offset 5.
+fn appends_behind_five(alloc: Global) -> Result<bool, AllocError> {
+    let written = Change::Write {
+        object: ObjectId::new(2),
+        offset: 5,
+        bytes: Bytes::from_slice(alloc, b"ab")?,
+    };
+    appends(alloc, 5, Ok(written))
+}
+
 #[test]
 fn what_the_size_decides(rt: HostRuntime) -> Result<(), Fail> {
-    for (size, offset) in [(5, Some(5)), (24_575, None)] {
-        let object = ObjectId::new(2);
-        let bytes = Bytes::from_slice(rt.alloc(), b"ab")?;
-        let told = match offset {
-            Some(offset) => {
-                Ok(Change::Write {
-                    object,
-                    offset,
-                    bytes: Bytes::from_slice(rt.alloc(), b"ab")?,
-                })
-            }
-            None => Err(Refusal::TooLarge),
-        };
-        assert!(rt;
-            comes_to(Some(size), Request::Append { object, bytes }, told),
-            "{size}"
-        );
-    }
+    assert!(rt; appends_behind_five(rt.alloc())?);
+    assert!(rt; appends(rt.alloc(), 24_575, Err(Refusal::TooLarge))?);
     Ok(())
 }
 

@@ -49,23 +49,33 @@ fn is_intact(mut pin: Pin, frame: usize) -> bool
     true
 }
 
+/// The word of a frame that is opened and sealed, counted on twice, once, and no more.
+const WORDS: [u64; 5] = [
+    0x0000_0001_0000_0001,
+    0x0000_0001_0000_0002,
+    0x0000_0001_0000_000a,
+    0x0000_0001_0000_0006,
+    0x0000_0001_0000_0002,
+];
+
 #[test]
 fn state_words_of_frame_0(rt: HostRuntime) -> Result<(), Fail> {
     let (frames, mut drive) = Frames::new(rt.alloc(), 8)?;
     drive.open(0);
-    assert!(rt; drive.state(0) == 0x0000_0001_0000_0001);
+    let opened = drive.state(0);
     drive.seal(0);
-    assert!(rt; drive.state(0) == 0x0000_0001_0000_0002);
+    let sealed = drive.state(0);
     let mut one = frames.seat()?;
     one.add(drive.frame(0))?;
     let mut two = frames.seat()?;
     two.add(drive.frame(0))?;
     two.add(drive.frame(0))?;
-    assert!(rt; drive.state(0) == 0x0000_0001_0000_000a);
+    let counted = drive.state(0);
     drop(one);
-    assert!(rt; drive.state(0) == 0x0000_0001_0000_0006);
+    let left = drive.state(0);
     drop(two);
-    assert!(rt; drive.state(0) == 0x0000_0001_0000_0002);
+    let words = [opened, sealed, counted, left, drive.state(0)];
+    assert!(rt; words == WORDS);
     Ok(())
 }
 
@@ -103,8 +113,7 @@ fn reads_while_another_frame_is_written(rt: HostRuntime) -> Result<(), Fail> {
     );
     assert!(rt; intact);
     assert!(rt; drive.load(0, 15) == pattern(0, 15) && drive.load(1, 15) == pattern(1, 15));
-    assert!(rt; drive.state(0) == 0x0000_0001_0000_0002);
-    assert!(rt; drive.state(1) == 0x0000_0001_0000_0002);
+    assert!(rt; [drive.state(0), drive.state(1)] == [0x0000_0001_0000_0002; 2]);
     Ok(())
 }
 

@@ -3,8 +3,7 @@ ghost use Rattle.std.specs.Prelude.{◌≤◌};
 
 use crate::between::told_between;
 use codec::{Attribute, Entry, Inode};
-use s4_types::{Moment, Ptr};
-use std::test::Fail;
+use s4_types::{Moment, Ptr, Refusal};
 use undo_index::UndoIndex;
 use undo_redo::{blank, undo};
 
@@ -49,25 +48,56 @@ fn undone(entries: &[Entry], present: &Inode, at: u64) -> Inode {
     inode
 }
 
-#[test]
-fn an_index_finds_each_moment_of_344_entries(rt: HostRuntime) -> Result<(), Fail> {
-    let mut entries = Vec::new(rt.alloc());
-    let mut index = UndoIndex::new(rt.alloc());
-    let mut present = blank(Moment::new(10));
-    for moment in 10..316u64 {
-        let later = changed(&present, moment);
-        let told = told_between(&present, &later, moment).ok_or("refused")?;
-        index.push(told.as_slice())?;
-        for entry in told.as_slice() {
-            entries.push(entry.clone()?)?;
-        }
-        present = later;
-    }
-    assert!(rt; entries.len() == 344);
-    for at in 0..320u64 {
-        let mut found = present;
-        index.undo_past(Moment::new(at), &mut found);
-        assert!(rt; found == undone(entries.as_slice(), &present, at));
+/// Puts entries behind others.
+fn keep(entries: &mut Vec<Entry>, told: &[Entry]) -> Result<(), Refusal> {
+    for entry in told {
+        entries.push(entry.clone()?)?;
     }
     Ok(())
+}
+
+/// Puts the entries of a change into the index and behind the others, and tells the inode behind it.
+fn change(
+    entries: &mut Vec<Entry>,
+    index: &mut UndoIndex,
+    present: &Inode,
+    moment: u64,
+) -> Result<Inode, Refusal> {
+    let later = changed(present, moment);
+    let told = told_between(present, &later, moment).ok_or(Refusal::NoObject)?;
+    index.push(told.as_slice())?;
+    keep(entries, told.as_slice())?;
+    Ok(later)
+}
+
+/// Makes the changes of all moments from 10 to 315, and tells the inode behind them.
+fn change_all(entries: &mut Vec<Entry>, index: &mut UndoIndex) -> Result<Inode, Refusal> {
+    let mut present = blank(Moment::new(10));
+    for moment in 10..316u64 {
+        present = change(entries, index, &present, moment)?;
+    }
+    Ok(present)
+}
+
+/// Whether the index finds at each moment what undoing the entries comes to.
+fn finds_all(entries: &[Entry], index: &UndoIndex, present: &Inode) -> bool {
+    for at in 0..320u64 {
+        let mut found = *present;
+        index.undo_past(Moment::new(at), &mut found);
+        if found != undone(entries, present, at) {
+            return false;
+        }
+    }
+    true
+}
+
+#[test]
+fn an_index_finds_each_moment_of_344_entries(rt: HostRuntime) {
+    let mut entries = Vec::new(rt.alloc());
+    let mut index = UndoIndex::new(rt.alloc());
+    let is_so = match change_all(&mut entries, &mut index) {
+        Ok(present) => finds_all(entries.as_slice(), &index, &present),
+        Err(_) => false,
+    };
+    assert!(rt; is_so && entries.len() == 344);
 }

@@ -1,6 +1,7 @@
 //! Windows of a drive: what is done with one in tables, each step with what the window must tell.
 use s4_types::Refusal::{BadSpan, Expired, Flushed, Future, TooManySpans};
 use s4_types::{Moment, ObjectId, Refusal, Span};
+use std::alloc::Global;
 use std::process::Abort;
 use window::Window;
 
@@ -87,15 +88,15 @@ fn is_so(window: &mut Window, step: Step) -> bool {
     }
 }
 
-/// Takes all steps of a list, and tells its name where one isn't so.
-fn play(rt: &impl Abort, window: &mut Window, list: &str, steps: &[Step]) {
+/// Takes all steps of a list.
+fn play(rt: &impl Abort, window: &mut Window, steps: &[Step]) {
     for (i, step) in steps.iter().enumerate() {
-        assert!(rt; is_so(window, *step), "{list}: {i}");
+        assert!(rt; is_so(window, *step), "step {i}");
     }
 }
 
 /// Both ends are hidden, and a span must be in order and past.
-static ENDS: [Step; 9] = [
+const ENDS: [Step; 9] = [
     Step::See(10, 0),
     Step::Hide(0, 5, 10, Ok(11)),
     Step::Hide(0, 5, 12, Err(BadSpan)),
@@ -108,7 +109,7 @@ static ENDS: [Step; 9] = [
 ];
 
 /// A span that reaches below the floor counts from the floor on, and one that lies below it hides nothing more.
-static FLOOR_CUTS: [Step; 10] = [
+const FLOOR_CUTS: [Step; 10] = [
     Step::See(200, 100),
     Step::Hide(0, 90, 105, Ok(201)),
     Step::Look(1, 100, Err(Expired)),
@@ -122,7 +123,7 @@ static FLOOR_CUTS: [Step; 10] = [
 ];
 
 /// Spans that overlap or touch leave nothing between them, and one between two fills what is.
-static JOINED: [Step; 9] = [
+const JOINED: [Step; 9] = [
     Step::See(50, 0),
     Step::Hide(0, 10, 12, Ok(51)),
     Step::Hide(0, 13, 15, Ok(52)),
@@ -135,7 +136,7 @@ static JOINED: [Step; 9] = [
 ];
 
 /// A span of one object hides that object's moments alone.
-static OF_ONE: [Step; 8] = [
+const OF_ONE: [Step; 8] = [
     Step::See(50, 0),
     Step::Hide(1, 30, 39, Ok(51)),
     Step::Look(1, 29, Ok(())),
@@ -147,7 +148,7 @@ static OF_ONE: [Step; 8] = [
 ];
 
 /// A smaller window raises the floor, a larger one leaves it.
-static LARGER_WINDOW: [Step; 8] = [
+const LARGER_WINDOW: [Step; 8] = [
     Step::See(20, 0),
     Step::Set(10, 100, 100, 90),
     Step::Look(1, 90, Ok(())),
@@ -159,7 +160,7 @@ static LARGER_WINDOW: [Step; 8] = [
 ];
 
 /// A change comes after the clock, also where the server's clock stands still or goes back.
-static STAMPS: [Step; 5] = [
+const STAMPS: [Step; 5] = [
     Step::See(150, 50),
     Step::Stamp(150, 151, 51),
     Step::Stamp(0, 152, 52),
@@ -168,7 +169,7 @@ static STAMPS: [Step; 5] = [
 ];
 
 /// What is seen between two moments: both lists, the floor, the clock and both ends count.
-static SEES: [Step; 18] = [
+const SEES: [Step; 18] = [
     Step::See(50, 0),
     Step::Hide(0, 10, 19, Ok(51)),
     Step::Hide(1, 20, 29, Ok(52)),
@@ -189,19 +190,20 @@ static SEES: [Step; 18] = [
     Step::Sees(1, 0, u64::MAX, true),
 ];
 
+static LISTS: [&[Step]; 7] = [
+    &ENDS,
+    &FLOOR_CUTS,
+    &JOINED,
+    &OF_ONE,
+    &LARGER_WINDOW,
+    &STAMPS,
+    &SEES,
+];
+
 #[test]
 fn moments_that_can_be_read(rt: HostRuntime) {
-    for (list, steps) in [
-        ("ends", ENDS.as_slice()),
-        ("floor cuts", FLOOR_CUTS.as_slice()),
-        ("joined", JOINED.as_slice()),
-        ("of one", OF_ONE.as_slice()),
-        ("larger window", LARGER_WINDOW.as_slice()),
-        ("stamps", STAMPS.as_slice()),
-        ("sees", SEES.as_slice()),
-    ] {
-        let mut window = Window::new(rt.alloc(), 100);
-        play(&rt, &mut window, list, steps);
+    for steps in &LISTS {
+        play(&rt, &mut Window::new(rt.alloc(), 100), steps);
     }
 }
 
@@ -250,18 +252,28 @@ fn are_hidden(window: &mut Window, spans: &[Hidden]) -> bool {
     true
 }
 
+/// A window of 1,000 moments that has seen moment 500.
+fn observed(alloc: Global) -> Window {
+    let mut window = Window::new(alloc, 1000);
+    window.observe(Moment::new(500));
+    window
+}
+
+/// Whether spans are hidden, and a list has so many runs then.
+fn makes_runs(alloc: Global, spans: &[Hidden], list: u64, count: u64) -> bool {
+    let mut window = observed(alloc);
+    are_hidden(&mut window, spans) && has_runs(&mut window, list, count)
+}
+
 #[test]
 fn runs_of_a_list(rt: HostRuntime) {
-    for (i, (spans, list, count)) in RUNS.iter().enumerate() {
-        let mut window = Window::new(rt.alloc(), 1000);
-        window.observe(Moment::new(500));
-        assert!(rt; are_hidden(&mut window, spans), "{i}");
-        assert!(rt; has_runs(&mut window, *list, *count), "{i}");
+    for (spans, list, count) in &RUNS {
+        assert!(rt; makes_runs(rt.alloc(), spans, *list, *count));
     }
 }
 
 /// The 65th run of a list is refused and moves nothing; a span that joins two makes room for it.
-static FULL: [Step; 5] = [
+const FULL: [Step; 5] = [
     Step::Hide(0, 130, 130, Err(TooManySpans)),
     Step::Stamp(0, 565, 0),
     Step::Hide(0, 3, 3, Ok(566)),
@@ -270,7 +282,7 @@ static FULL: [Step; 5] = [
 ];
 
 /// An object's list is full by itself.
-static FULL_OF_ONE: [Step; 5] = [
+const FULL_OF_ONE: [Step; 5] = [
     Step::Hide(1, 130, 130, Err(TooManySpans)),
     Step::Hide(0, 130, 130, Ok(565)),
     Step::Hide(2, 130, 130, Ok(566)),
@@ -279,7 +291,7 @@ static FULL_OF_ONE: [Step; 5] = [
 ];
 
 /// What falls below the floor makes room.
-static FALLEN: [Step; 5] = [
+const FALLEN: [Step; 5] = [
     Step::Hide(0, 130, 130, Err(TooManySpans)),
     Step::Set(562, 0, 565, 3),
     Step::Hide(0, 130, 130, Ok(566)),
@@ -297,20 +309,21 @@ fn fill(window: &mut Window, list: u64) -> bool {
     true
 }
 
-/// Lists that are filled, what is done with them then, and how many runs another list has at last.
+/// Lists that are filled, what is done with them then, another list, and how many runs that has at last.
+static FULL_LISTS: [(u64, &[Step], u64, u64); 4] = [
+    (0, &FULL, 1, 0),
+    (1, &FULL_OF_ONE, 0, 1),
+    (1, &FULL_OF_ONE, 2, 1),
+    (0, &FALLEN, 1, 0),
+];
+
 #[test]
 fn full_lists(rt: HostRuntime) {
-    for (list, steps, other, count) in [
-        (0, FULL.as_slice(), 1, 0),
-        (1, FULL_OF_ONE.as_slice(), 0, 1),
-        (1, FULL_OF_ONE.as_slice(), 2, 1),
-        (0, FALLEN.as_slice(), 1, 0),
-    ] {
-        let mut window = Window::new(rt.alloc(), 1000);
-        window.observe(Moment::new(500));
-        assert!(rt; fill(&mut window, list));
-        play(&rt, &mut window, "full", steps);
-        assert!(rt; has_runs(&mut window, other, count));
+    for (list, steps, other, count) in &FULL_LISTS {
+        let mut window = observed(rt.alloc());
+        assert!(rt; fill(&mut window, *list));
+        play(&rt, &mut window, steps);
+        assert!(rt; has_runs(&mut window, *other, *count));
     }
 }
 
@@ -339,14 +352,22 @@ fn agrees_from(window: &Window, object: u64, first: u64) -> bool {
     true
 }
 
+/// The same from each moment on.
+fn agrees(window: &Window, object: u64) -> bool {
+    for first in 0..60u64 {
+        if !agrees_from(window, object, first) {
+            return false;
+        }
+    }
+    true
+}
+
 #[test]
 fn sees_what_a_scan_sees(rt: HostRuntime) {
     let mut window = Window::new(rt.alloc(), 40);
     window.observe(Moment::new(45));
     assert!(rt; are_hidden(&mut window, &SCANNED));
     for object in 1..4u64 {
-        for first in 0..60u64 {
-            assert!(rt; agrees_from(&window, object, first), "{object} {first}");
-        }
+        assert!(rt; agrees(&window, object), "{object}");
     }
 }

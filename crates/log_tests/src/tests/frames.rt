@@ -1,4 +1,6 @@
 //! The table over its frames: what is done with it in tables, each row with what it must tell.
+ghost use Rattle.s4_types.specs.Sizes.{IsFrameCount};
+
 use crate::expected::block_of;
 use crate::tests::tables::{held_bytes, new_table, read_blocks};
 use block_log::{Block, BlockKind, Blocks};
@@ -6,8 +8,6 @@ use codec::{Part, decode_summary, encode_ptr};
 use s4_types::{ObjectId, Ptr, Refusal};
 use segment_table::SegmentTable;
 use std::alloc::Global;
-use std::process::Abort;
-use std::test::Fail;
 
 /// The digest of a full frame whose block i is of kind i - 1 in the list below, of object i, and full of bytes i. Made by
 /// another program.
@@ -68,9 +68,9 @@ fn part(kind: BlockKind, object: u64) -> Part {
     }
 }
 
-fn pointer(place: Place) -> Result<Ptr, Fail> {
+fn pointer(place: Place) -> Result<Ptr, Refusal> {
     let (frame, block, generation) = place;
-    Ok(Ptr::new(frame, block, generation).ok_or("a pointer")?)
+    Ptr::new(frame, block, generation).ok_or(Refusal::NoObject)
 }
 
 fn append(
@@ -85,9 +85,12 @@ fn append(
     table.append(kind, ObjectId::new(object), block)
 }
 
-fn is_appended(table: &mut SegmentTable, told: Told, spelled: [u8; 8]) -> Result<bool, Fail> {
+fn is_appended(table: &mut SegmentTable, told: Told, spelled: [u8; 8]) -> Result<bool, Refusal> {
     let (kind, object, bytes) = told;
-    let place = append(table, kind, object, &block_of(bytes).ok_or("a block")?)?;
+    let Some(block) = block_of(bytes) else {
+        return Ok(false);
+    };
+    let place = append(table, kind, object, &block)?;
     Ok(encode_ptr(Some(place)) == spelled)
 }
 
@@ -129,14 +132,19 @@ fn read_twice(table: &mut SegmentTable, place: Ptr) -> Result<Option<[Block; 2]>
     Ok(Some([block, pinned]))
 }
 
-fn is_read(table: &mut SegmentTable, place: Ptr, told: Option<&[u8]>) -> Result<bool, Fail> {
+/// Whether both blocks have these bytes.
+fn are_both(blocks: &[Block; 2], bytes: &[u8]) -> bool {
+    let block = block_of(bytes);
+    Some(blocks[0]) == block && Some(blocks[1]) == block
+}
+
+fn is_read(table: &mut SegmentTable, place: Ptr, told: Option<&[u8]>) -> Result<bool, Refusal> {
     let read = read_twice(table, place)?;
-    let pinned = pinned_blocks(table, place)?;
-    let Some(bytes) = told else {
-        return Ok(read.is_none() && pinned.is_none());
-    };
-    let block = block_of(bytes).ok_or("a block")?;
-    Ok(pinned.is_some() && read == Some([block, block]))
+    let is_pinned = pinned_blocks(table, place)?.is_some();
+    Ok(match (read, told) {
+        (Some(blocks), Some(bytes)) => is_pinned && are_both(&blocks, bytes),
+        (read, told) => read.is_none() && told.is_none() && !is_pinned,
+    })
 }
 
 /// Decodes the summary of a pinned frame, and tells whether its parts and its digest are these.
@@ -155,21 +163,28 @@ fn summary_is(blocks: &[Block; 16], parts: &[(BlockKind, u64)], digest: &[u8; 32
 }
 
 fn have_parts(found: &[Part], told: &[(BlockKind, u64)]) -> bool {
-    let same = found
-        .iter()
-        .zip(told)
-        .all(|(found, (kind, object))| *found == part(*kind, *object));
-    same && found.len() == told.len()
+    if found.len() != told.len() {
+        return false;
+    }
+    for k in 0..found.len() {
+        let (kind, object) = told[k];
+        if found[k] != part(kind, object) {
+            return false;
+        }
+    }
+    true
 }
 
 fn is_summed(
     table: &mut SegmentTable,
     parts: &[(BlockKind, u64)],
     digest: &[u8; 32],
-) -> Result<bool, Fail> {
+) -> Result<bool, Refusal> {
     let place = pointer((0, 2, 1))?;
-    let blocks = pinned_blocks(table, place)?.ok_or("sealed")?;
-    Ok(summary_is(&blocks, parts, digest))
+    match pinned_blocks(table, place)? {
+        Some(blocks) => Ok(summary_is(&blocks, parts, digest)),
+        None => Ok(false),
+    }
 }
 
 /// The pointers to an object's blocks in a frame, asked for once more where memory was refused.
@@ -188,12 +203,18 @@ fn held_in(
 
 /// Whether these are pointers to exactly these blocks of a frame, at generation 1.
 fn lead_to(found: &[Ptr], frame: u16, blocks: &[u8]) -> bool {
-    let same = found.iter().zip(blocks).all(|(place, block)| Ptr::new(frame, *block, 1)
-        == Some(*place));
-    same && found.len() == blocks.len()
+    if found.len() != blocks.len() {
+        return false;
+    }
+    for k in 0..found.len() {
+        if Ptr::new(frame, blocks[k], 1) != Some(found[k]) {
+            return false;
+        }
+    }
+    true
 }
 
-fn holds(alloc: Global, table: &mut SegmentTable, act: Act) -> Result<bool, Fail> {
+fn holds(alloc: Global, table: &mut SegmentTable, act: Act) -> Result<bool, Refusal> {
     match act {
         Act::Appends(told, spelled) => is_appended(table, told, spelled),
         Act::Drops(place) => {
@@ -222,17 +243,22 @@ fn holds(alloc: Global, table: &mut SegmentTable, act: Act) -> Result<bool, Fail
     }
 }
 
-/// Does all of a list.
-fn play(
-    rt: &impl Abort,
-    alloc: Global,
-    table: &mut SegmentTable,
-    acts: &[Act],
-) -> Result<(), Fail> {
-    for (i, act) in acts.iter().enumerate() {
-        assert!(rt; holds(alloc, table, *act)?, "{i}");
+/// Does all of a list, and tells whether all is so.
+fn play(alloc: Global, table: &mut SegmentTable, acts: &[Act]) -> Result<bool, Refusal> {
+    for act in acts {
+        if !holds(alloc, table, *act)? {
+            return Ok(false);
+        }
     }
-    Ok(())
+    Ok(true)
+}
+
+/// The same in a new table.
+fn played(alloc: Global, frames: usize, acts: &[Act]) -> Result<bool, Refusal>
+    requires { IsFrameCount frames }
+{
+    let mut table = new_table(alloc, frames)?;
+    play(alloc, &mut table, acts)
 }
 
 static WORKED: [Act; 17] = [
@@ -263,9 +289,8 @@ static WORKED: [Act; 17] = [
 ];
 
 #[test]
-fn worked_bytes(rt: HostRuntime) -> Result<(), Fail> {
-    let mut table = new_table(rt.alloc(), 16)?;
-    play(&rt, rt.alloc(), &mut table, WORKED.as_slice())
+fn worked_bytes(rt: HostRuntime) {
+    assert!(rt; played(rt.alloc(), 16, &WORKED) == Ok(true));
 }
 
 /// Pointers beside the one that is held, to other blocks, frames and lives.
@@ -308,16 +333,13 @@ static SHOWN: [Act; 14] = [
 ];
 
 #[test]
-fn lives_and_shown_facts(rt: HostRuntime) -> Result<(), Fail> {
-    for acts in [OTHER_LIVES.as_slice(), SHOWN.as_slice()] {
-        let mut table = new_table(rt.alloc(), 8)?;
-        play(&rt, rt.alloc(), &mut table, acts)?;
-    }
-    Ok(())
+fn lives_and_shown_facts(rt: HostRuntime) {
+    assert!(rt; played(rt.alloc(), 8, &OTHER_LIVES) == Ok(true));
+    assert!(rt; played(rt.alloc(), 8, &SHOWN) == Ok(true));
 }
 
 /// Appends a block full of a byte, and tells whether its place is the next one and leads to it.
-fn fill_next(table: &mut SegmentTable, number: u8) -> Result<bool, Fail> {
+fn fill_next(table: &mut SegmentTable, number: u8) -> Result<bool, Refusal> {
     let left = table.blocks_left();
     let block = [number; 512];
     let place = append(table, BlockKind::Data, number as u64 + 1, &block)?;
@@ -336,14 +358,25 @@ fn is_full(table: &mut SegmentTable) -> bool {
     table.blocks_left() == 0 && told == Err(Refusal::NoSpace)
 }
 
-#[test]
-fn eight_frames(rt: HostRuntime) -> Result<(), Fail> {
-    let mut table = new_table(rt.alloc(), 8)?;
+/// Whether all places are filled in order, and then none is left.
+fn fill_all(table: &mut SegmentTable) -> Result<bool, Refusal> {
     for number in 0..120u8 {
-        assert!(rt; fill_next(&mut table, number)?, "{number}");
+        if !fill_next(table, number)? {
+            return Ok(false);
+        }
     }
-    assert!(rt; is_full(&mut table));
-    Ok(())
+    Ok(is_full(table))
+}
+
+/// The same in a new table.
+fn fills_all(alloc: Global) -> Result<bool, Refusal> {
+    let mut table = new_table(alloc, 8)?;
+    fill_all(&mut table)
+}
+
+#[test]
+fn eight_frames(rt: HostRuntime) {
+    assert!(rt; fills_all(rt.alloc()) == Ok(true));
 }
 
 /// What the blocks of a full frame are for.
@@ -365,7 +398,7 @@ static FULL: [(BlockKind, u64); 15] = [
     (BlockKind::Data, 15),
 ];
 
-fn fill(table: &mut SegmentTable, parts: &[(BlockKind, u64)]) -> Result<(), Fail> {
+fn fill(table: &mut SegmentTable, parts: &[(BlockKind, u64)]) -> Result<(), Refusal> {
     for (kind, object) in parts {
         append(table, *kind, *object, &[(*object & 0xff) as u8; 512])?;
     }
@@ -373,22 +406,33 @@ fn fill(table: &mut SegmentTable, parts: &[(BlockKind, u64)]) -> Result<(), Fail
 }
 
 /// Whether each used block is full of its number.
-fn are_filled(table: &mut SegmentTable) -> Result<bool, Fail> {
-    let blocks = pinned_blocks(table, pointer((0, 15, 1))?)?.ok_or("sealed")?;
+fn are_filled(table: &mut SegmentTable) -> Result<bool, Refusal> {
+    let place = pointer((0, 15, 1))?;
+    match pinned_blocks(table, place)? {
+        Some(blocks) => Ok(are_numbered(&blocks)),
+        None => Ok(false),
+    }
+}
+
+fn are_numbered(blocks: &[Block; 16]) -> bool {
     for i in 1..16 {
         if blocks[i] != [i as u8; 512] {
-            return Ok(false);
+            return false;
         }
     }
-    Ok(true)
+    true
+}
+
+/// Whether a frame that is filled has its blocks and its summary.
+fn fills_a_frame(alloc: Global) -> Result<bool, Refusal> {
+    let mut table = new_table(alloc, 8)?;
+    fill(&mut table, &FULL)?;
+    Ok(are_filled(&mut table)? && is_summed(&mut table, &FULL, &FULL_DIGEST)?)
 }
 
 #[test]
-fn full_frame(rt: HostRuntime) -> Result<(), Fail> {
-    let mut table = new_table(rt.alloc(), 8)?;
-    fill(&mut table, FULL.as_slice())?;
-    assert!(rt; are_filled(&mut table)? && is_summed(&mut table, FULL.as_slice(), &FULL_DIGEST)?);
-    Ok(())
+fn full_frame(rt: HostRuntime) {
+    assert!(rt; fills_a_frame(rt.alloc()) == Ok(true));
 }
 
 static OF_TWO_OBJECTS: [Act; 12] = [
@@ -406,18 +450,23 @@ static OF_TWO_OBJECTS: [Act; 12] = [
     Act::Finds(2, u16::MAX, &[]),
 ];
 
-fn fill_in_turn(table: &mut SegmentTable) -> Result<(), Fail> {
+fn fill_in_turn(table: &mut SegmentTable) -> Result<(), Refusal> {
     for i in 0..15usize {
         append(table, KINDS[i % 3], (i % 2) as u64 + 1, &[0; 512])?;
     }
     Ok(())
 }
 
-#[test]
-fn pointers_of_two_objects(rt: HostRuntime) -> Result<(), Fail> {
-    let mut table = new_table(rt.alloc(), 8)?;
+/// Whether the pointers of two objects are found whose blocks stand in turn.
+fn finds_both(alloc: Global) -> Result<bool, Refusal> {
+    let mut table = new_table(alloc, 8)?;
     fill_in_turn(&mut table)?;
-    play(&rt, rt.alloc(), &mut table, OF_TWO_OBJECTS.as_slice())
+    play(alloc, &mut table, &OF_TWO_OBJECTS)
+}
+
+#[test]
+fn pointers_of_two_objects(rt: HostRuntime) {
+    assert!(rt; finds_both(rt.alloc()) == Ok(true));
 }
 
 /// A frame that is sealed with one block in it.
@@ -432,38 +481,46 @@ static AS_BEFORE: [Act; 2] = [
     Act::Left(105),
 ];
 
-/// A table, or none where memory alone was refused.
-fn table_or_none(alloc: Global) -> Result<Option<SegmentTable>, Refusal> {
-    match SegmentTable::new(alloc, 8) {
-        Ok(table) => Ok(Some(table)),
-        Err(Refusal::NoMemory) => Ok(None),
-        Err(refusal) => Err(refusal),
-    }
-}
-
 /// The same of the blocks of frame 0.
-fn blocks_or_none(table: &mut SegmentTable) -> Result<Option<[Block; 16]>, Fail> {
+fn blocks_or_none(table: &mut SegmentTable) -> Result<Option<[Block; 16]>, Refusal> {
     let place = pointer((0, 1, 1))?;
     match pinned_blocks(table, place) {
         Err(Refusal::NoMemory) => Ok(None),
-        blocks => Ok(blocks?),
+        blocks => blocks,
     }
+}
+
+/// The blocks of frame 0, and all as before where memory was refused for a pin, and the blocks then.
+fn blocks_at_last(alloc: Global, table: &mut SegmentTable) -> Result<Option<[Block; 16]>, Refusal> {
+    let first = blocks_or_none(table)?;
+    if !play(alloc, table, &AS_BEFORE)? {
+        return Ok(None);
+    }
+    match first {
+        Some(blocks) => Ok(Some(blocks)),
+        None => blocks_or_none(table),
+    }
+}
+
+/// Whether a frame with one block is sealed, and read through a pin.
+fn is_sealed(alloc: Global, table: &mut SegmentTable) -> Result<bool, Refusal> {
+    if !play(alloc, table, &SEALED)? {
+        return Ok(false);
+    }
+    match blocks_at_last(alloc, table)? {
+        Some(blocks) => Ok(Some(blocks[1]) == block_of(b"abc") && blocks[2] == [0; 512]),
+        None => Ok(false),
+    }
+}
+
+/// The same in a new table.
+fn seals(alloc: Global) -> Result<bool, Refusal> {
+    let mut table = new_table(alloc, 8)?;
+    is_sealed(alloc, &mut table)
 }
 
 // Passes under each single refusal of memory: what was refused has changed nothing, and is asked for once more.
 #[test]
-fn memory_refused_in_turn(rt: HostRuntime) -> Result<(), Fail> {
-    let mut table = match table_or_none(rt.alloc())? {
-        Some(table) => table,
-        None => SegmentTable::new(rt.alloc(), 8)?,
-    };
-    play(&rt, rt.alloc(), &mut table, SEALED.as_slice())?;
-    let first = blocks_or_none(&mut table)?;
-    play(&rt, rt.alloc(), &mut table, AS_BEFORE.as_slice())?;
-    let blocks = match first {
-        Some(blocks) => blocks,
-        None => blocks_or_none(&mut table)?.ok_or("sealed")?,
-    };
-    assert!(rt; Some(blocks[1]) == block_of(b"abc") && blocks[2] == [0; 512]);
-    Ok(())
+fn memory_refused_in_turn(rt: HostRuntime) {
+    assert!(rt; seals(rt.alloc()) == Ok(true));
 }

@@ -18,209 +18,179 @@ use journal_chain::Chain;
 use s4_types::Refusal;
 use segment_table::SegmentTable;
 use std::alloc::Global;
-use std::process::Abort;
-use std::test::Fail;
 
-/// Looks at the number of a chain's bytes, and of those in its head.
-fn check_bytes(rt: &impl Abort, chain: &Chain, bytes: usize, filled: usize) {
-    assert!(rt; (chain.bytes(), chain.filled()) == (bytes, filled));
+/// Whether a chain has so many bytes, so many of them in its head, and its head at the place of this number.
+fn is_chain(chain: &Chain, bytes: usize, filled: usize, number: usize) -> bool {
+    (chain.bytes(), chain.filled()) == (bytes, filled) && chain.head() == place(number)
 }
 
-/// Looks at the number of the place of a chain's head, and at how many blocks are left.
-fn check_head(rt: &impl Abort, chain: &Chain, blocks_left: usize, number: usize, left: usize) {
-    assert!(rt; (chain.head(), blocks_left) == (place(number), left));
-}
-
-/// Pushes 48 entries of moments 1 to 48, each of 244 bytes, two at a time: each push fills a block.
-fn fill<B: Blocks>(rt: &impl Abort, table: &mut B, chain: &mut Chain) -> Result<(), Fail>
+/// Pushes 48 entries of moments 1 to 48, each of 244 bytes, two at a time: each push fills a block. Stale where that isn't so.
+fn fill<B: Blocks>(table: &mut B, chain: &mut Chain) -> Result<(), Refusal>
     requires { Holds (B.log table.old).held chain.old (entries_held (B.log table.old).held chain.old) }
     ensures { OnOk result (Holds (B.log table.new).held chain.new (entries_held (B.log table.new).held chain.new)) }
 {
     for k in 0..24usize {
-        assert!(rt; !chain.is_full_for(488));
-        let both = long_entries(2 * k as u64 + 1).ok_or("entries")?;
+        let was_full = chain.is_full_for(488);
+        let both = long_entries(2 * k as u64 + 1).ok_or(Refusal::BadAttr)?;
         push(table, chain, &both)?;
-        check_bytes(rt, chain, 488 * (k + 1), 488);
-        check_head(rt, chain, table.blocks_left(), k, 119 - k);
+        if was_full || !is_chain(chain, 488 * (k + 1), 488, k) || table.blocks_left() != 119 - k {
+            return Err(Refusal::Stale);
+        }
     }
     Ok(())
 }
 
 /// A chain with 48 entries, over a table that holds nothing.
-fn full_chain<B: Blocks>(rt: &impl Abort, table: &mut B) -> Result<Chain, Fail>
+fn full_chain<B: Blocks>(table: &mut B) -> Result<Chain, Refusal>
     requires { (p : Place) → (B.log table.old).held p ≡ None }
     ensures { IfOk result (λ chain. Holds (B.log table.new).held chain (entries_held (B.log table.new).held chain)) }
 {
     let mut chain = empty_chain(table);
-    fill(rt, table, &mut chain)?;
+    fill(table, &mut chain)?;
     Ok(chain)
 }
 
-/// Looks at one of the 48 entries.
-fn check_entry(rt: &impl Abort, entry: &Entry, moment: u64) {
-    assert!(rt; Some(entry) == long_entry(moment).as_ref(), "{moment}");
+/// Whether these are the 48 entries, oldest first.
+fn are_entries(entries: &[Entry]) -> bool {
+    for (entry, moment) in entries.iter().zip(1..49u64) {
+        if Some(entry) != long_entry(moment).as_ref() {
+            return false;
+        }
+    }
+    entries.len() == 48
 }
 
-/// Looks at the 48 entries, oldest first.
-fn check_entries<B: Blocks>(
-    rt: &impl Abort,
-    alloc: Global,
-    table: &mut B,
-    chain: &Chain,
-) -> Result<(), Fail>
+/// Whether a chain has the 48 entries.
+fn has_entries<B: Blocks>(alloc: Global, table: &mut B, chain: &Chain) -> Result<bool, Refusal>
     requires { Holds (B.log table.old).held chain.now (entries_held (B.log table.old).held chain.now) }
 {
     let entries = entries(alloc, table, chain)?;
-    assert!(rt; entries.len() == 48);
-    for (entry, moment) in entries.iter().zip(1..49u64) {
-        check_entry(rt, entry, moment);
-    }
-    Ok(())
+    Ok(are_entries(entries.as_slice()))
 }
 
-/// Fills a chain, and looks at its entries from either end.
-fn fill_and_read<B: Blocks>(
-    rt: &impl Abort,
-    alloc: Global,
-    table: &mut B,
-    told: &mut [(u64, usize)],
-) -> Result<Chain, Fail>
-    requires { (p : Place) → (B.log table.old).held p ≡ None }
-{
-    let chain = full_chain(rt, table)?;
-    read_back(table, &chain, told);
-    check_entries(rt, alloc, table, &chain)?;
-    Ok(chain)
-}
-
-/// Looks at a chain that has all its bytes, and at what was told of its 48 entries.
-fn check_filled(rt: &impl Abort, chain: &Chain, told: &[(u64, usize)]) {
-    assert!(rt; chain.bytes() == 11_712 && chain.is_full_for(1) && !chain.is_full_for(0));
+/// Whether this was told of 48 entries from the newest on, and of no more.
+fn are_told(told: &[(u64, usize)]) -> bool {
     for (k, (moment, pointers)) in told.iter().enumerate() {
         let expected = if k < 48 { (48 - k as u64, 12) } else { (0, 0) };
-        assert!(rt; (*moment, *pointers) == expected);
+        if (*moment, *pointers) != expected {
+            return false;
+        }
     }
+    true
 }
 
-/// Fills a chain, and looks at all that is told of it.
-fn fill_and_look<B: Blocks>(rt: &impl Abort, alloc: Global, table: &mut B) -> Result<(), Fail>
+/// Whether a chain that is filled has all its bytes, and its entries from either end.
+fn fills<B: Blocks>(alloc: Global, table: &mut B) -> Result<bool, Refusal>
     requires { (p : Place) → (B.log table.old).held p ≡ None }
 {
     let mut told = [(0, 0); 49];
-    let chain = fill_and_read(rt, alloc, table, &mut told)?;
-    check_filled(rt, &chain, &told);
-    Ok(())
+    let chain = full_chain(table)?;
+    read_back(table, &chain, &mut told);
+    let is_full = chain.bytes() == 11_712 && chain.is_full_for(1) && !chain.is_full_for(0);
+    Ok(has_entries(alloc, table, &chain)? && is_full && are_told(&told))
+}
+
+/// The same in a new table.
+fn is_filled(alloc: Global) -> Result<bool, Refusal> {
+    let mut table = new_table(alloc, 8)?;
+    fills(alloc, &mut table)
 }
 
 #[test]
-fn a_chain_with_all_its_bytes(rt: HostRuntime) -> Result<(), Fail> {
-    let mut table = new_table(rt.alloc(), 8)?;
-    fill_and_look(&rt, rt.alloc(), &mut table)
+fn a_chain_with_all_its_bytes(rt: HostRuntime) {
+    assert!(rt; is_filled(rt.alloc()) == Ok(true));
 }
 
-/// Fills a chain, and pushes an entry of 34 bytes, and none, behind that.
-fn fill_and_push<B: Blocks>(rt: &impl Abort, table: &mut B) -> Result<(), Fail>
+/// Whether an entry of 34 bytes is refused behind a full chain, and none is taken; both leave all.
+fn refuses_more<B: Blocks>(table: &mut B) -> Result<bool, Refusal>
     requires { (p : Place) → (B.log table.old).held p ≡ None }
 {
-    let mut chain = full_chain(rt, table)?;
+    let mut chain = full_chain(table)?;
     let before = chain;
-    let short = [short_entry(49).ok_or("an entry")?];
-    assert!(rt; short[0].byte_count() == 34);
-    assert!(rt; push(table, &mut chain, &short) == Err(Refusal::ChainFull));
-    assert!(rt; chain == before && table.blocks_left() == 96);
-    assert!(rt; push(table, &mut chain, &[]) == Ok(()));
-    assert!(rt; chain == before && table.blocks_left() == 96);
-    Ok(())
+    let short = [short_entry(49).ok_or(Refusal::BadAttr)?];
+    let refused = push(table, &mut chain, &short) == Err(Refusal::ChainFull);
+    let is_left = chain == before && table.blocks_left() == 96;
+    let is_taken = push(table, &mut chain, &[]) == Ok(());
+    let is_same = chain == before && table.blocks_left() == 96;
+    Ok(short[0].byte_count() == 34 && refused && is_left && is_taken && is_same)
 }
 
 /// The blocks of a table with a full chain.
-fn blocks_of_full_chain(rt: &impl Abort, alloc: Global) -> Result<[Option<Block>; 120], Fail> {
+fn blocks_of_full_chain(alloc: Global) -> Result<[Option<Block>; 120], Refusal> {
     let mut table = new_table(alloc, 8)?;
-    full_chain(rt, &mut table)?;
+    full_chain(&mut table)?;
     Ok(held_blocks(&mut table))
 }
 
-/// Looks at which blocks are held: those from a number on, up to another.
-fn check_held(rt: &impl Abort, blocks: &[Option<Block>; 120], first: usize, end: usize) {
+/// Whether those blocks are held that are from a number on, up to another.
+fn are_held(blocks: &[Option<Block>; 120], first: usize, end: usize) -> bool {
     for (k, block) in blocks.iter().enumerate() {
-        assert!(rt; block.is_some() == (first <= k && k < end), "{k}");
+        if block.is_some() != (first <= k && k < end) {
+            return false;
+        }
     }
+    true
 }
 
-/// Looks at the blocks of a full chain, which are as those of another.
-fn check_full(rt: &impl Abort, blocks: &[Option<Block>; 120], others: &[Option<Block>; 120]) {
-    assert!(rt; *blocks == *others);
-    check_held(rt, blocks, 0, 24);
+/// Whether the blocks are as those of another full chain after a push to one.
+fn is_left(alloc: Global) -> Result<bool, Refusal> {
+    let others = blocks_of_full_chain(alloc)?;
+    let mut table = new_table(alloc, 8)?;
+    let is_refused = refuses_more(&mut table)?;
+    let blocks = held_blocks(&mut table);
+    Ok(is_refused && blocks == others && are_held(&blocks, 0, 24))
 }
 
 #[test]
-fn a_push_to_a_full_chain(rt: HostRuntime) -> Result<(), Fail> {
-    let others = blocks_of_full_chain(&rt, rt.alloc())?;
-    let mut table = new_table(rt.alloc(), 8)?;
-    fill_and_push(&rt, &mut table)?;
-    check_full(&rt, &held_blocks(&mut table), &others);
-    Ok(())
+fn a_push_to_a_full_chain(rt: HostRuntime) {
+    assert!(rt; is_left(rt.alloc()) == Ok(true));
 }
 
-/// Fills a chain, and writes it afresh with two entries.
-fn fill_and_shorten<B: Blocks>(rt: &impl Abort, alloc: Global, table: &mut B) -> Result<Chain, Fail>
+/// Whether a full chain that is written afresh with two entries has them.
+fn shortens<B: Blocks>(alloc: Global, table: &mut B) -> Result<bool, Refusal>
     requires { (p : Place) → (B.log table.old).held p ≡ None }
 {
-    let mut chain = full_chain(rt, table)?;
+    let mut chain = full_chain(table)?;
     let both = [
-        short_entry(4).ok_or("an entry")?,
-        long_entry(9).ok_or("an entry")?,
+        short_entry(4).ok_or(Refusal::BadAttr)?,
+        long_entry(9).ok_or(Refusal::BadAttr)?,
     ];
     rewrite(table, &mut chain, &both)?;
     let entries = entries(alloc, table, &chain)?;
-    assert!(rt; entries.as_slice() == both.as_slice());
-    Ok(chain)
+    let is_so = is_chain(&chain, 278, 278, 24) && table.blocks_left() == 95;
+    Ok(entries.as_slice() == both.as_slice() && is_so)
 }
 
-/// Fills a chain, writes it afresh with two entries, and looks at what it has then.
-fn check_shortened<B: Blocks>(rt: &impl Abort, alloc: Global, table: &mut B) -> Result<(), Fail>
-    requires { (p : Place) → (B.log table.old).held p ≡ None }
-{
-    let chain = fill_and_shorten(rt, alloc, table)?;
-    check_bytes(rt, &chain, 278, 278);
-    check_head(rt, &chain, table.blocks_left(), 24, 95);
-    Ok(())
+/// The same in a new table, where its one block alone is held.
+fn is_shortened(alloc: Global) -> Result<bool, Refusal> {
+    let mut table = new_table(alloc, 8)?;
+    Ok(shortens(alloc, &mut table)? && are_held(&held_blocks(&mut table), 24, 25))
 }
 
 #[test]
-fn a_chain_written_afresh(rt: HostRuntime) -> Result<(), Fail> {
-    let mut table = new_table(rt.alloc(), 8)?;
-    check_shortened(&rt, rt.alloc(), &mut table)?;
-    check_held(&rt, &held_blocks(&mut table), 24, 25);
-    Ok(())
+fn a_chain_written_afresh(rt: HostRuntime) {
+    assert!(rt; is_shortened(rt.alloc()) == Ok(true));
 }
 
-/// Fills a chain, and writes it afresh with its own entries.
-fn fill_and_rewrite<B: Blocks>(rt: &impl Abort, alloc: Global, table: &mut B) -> Result<Chain, Fail>
+/// Whether a full chain that is written afresh with its own entries has them.
+fn rewrites<B: Blocks>(alloc: Global, table: &mut B) -> Result<bool, Refusal>
     requires { (p : Place) → (B.log table.old).held p ≡ None }
 {
-    let mut chain = full_chain(rt, table)?;
+    let mut chain = full_chain(table)?;
     rewrite_whole(alloc, table, &mut chain)?;
-    check_entries(rt, alloc, table, &chain)?;
-    Ok(chain)
+    let is_so = is_chain(&chain, 11_712, 488, 47) && table.blocks_left() == 72;
+    Ok(has_entries(alloc, table, &chain)? && is_so)
 }
 
-/// Fills a chain, writes it afresh with its own entries, and looks at what it has then.
-fn check_rewritten<B: Blocks>(rt: &impl Abort, alloc: Global, table: &mut B) -> Result<(), Fail>
-    requires { (p : Place) → (B.log table.old).held p ≡ None }
-{
-    let chain = fill_and_rewrite(rt, alloc, table)?;
-    check_bytes(rt, &chain, 11_712, 488);
-    check_head(rt, &chain, table.blocks_left(), 47, 72);
-    Ok(())
+/// The same in a new table, where its blocks alone are held.
+fn is_rewritten(alloc: Global) -> Result<bool, Refusal> {
+    let mut table = new_table(alloc, 8)?;
+    Ok(rewrites(alloc, &mut table)? && are_held(&held_blocks(&mut table), 24, 48))
 }
 
 #[test]
-fn a_whole_chain_written_afresh(rt: HostRuntime) -> Result<(), Fail> {
-    let mut table = new_table(rt.alloc(), 8)?;
-    check_rewritten(&rt, rt.alloc(), &mut table)?;
-    check_held(&rt, &held_blocks(&mut table), 24, 48);
-    Ok(())
+fn a_whole_chain_written_afresh(rt: HostRuntime) {
+    assert!(rt; is_rewritten(rt.alloc()) == Ok(true));
 }
 
 /// The object with an attribute since a moment.
@@ -229,7 +199,6 @@ const FIRST: Version = Version {
     size: 0,
     changed: 10,
     name: b"",
-    runs: &[],
 };
 
 const SECOND: Version = Version {
@@ -237,7 +206,6 @@ const SECOND: Version = Version {
     size: 0,
     changed: 11,
     name: &[b'c'; 31],
-    runs: &[],
 };
 
 const THIRD: Version = Version {
@@ -245,7 +213,6 @@ const THIRD: Version = Version {
     size: 0,
     changed: 12,
     name: &[b'a'; 64],
-    runs: &[],
 };
 
 const LAST_BUT_ONE: Version = Version {
@@ -253,7 +220,6 @@ const LAST_BUT_ONE: Version = Version {
     size: 0,
     changed: 81,
     name: &[b'b'; 64],
-    runs: &[],
 };
 
 const LAST: Version = Version {
@@ -261,7 +227,6 @@ const LAST: Version = Version {
     size: 0,
     changed: 82,
     name: &[b'a'; 64],
-    runs: &[],
 };
 
 const VERSIONS: [(u64, Version); 5] = [
@@ -291,15 +256,42 @@ fn is_refused(subject: &mut Subject<SegmentTable>, moment: u64) -> bool
     answer == Err(Refusal::ChainFull) && subject.row() == row && subject.blocks_left() == left
 }
 
+/// The blocks behind the list.
+fn blocks_behind(alloc: Global) -> Result<[Option<Block>; 120], Refusal> {
+    let subject = played(alloc, 8, &FULL_JOURNAL)?;
+    Ok(held_blocks(&mut subject.into_table()))
+}
+
+/// The blocks behind a deletion that is refused.
+fn blocks_refused(alloc: Global) -> Result<[Option<Block>; 120], Refusal> {
+    let mut subject = played(alloc, 8, &FULL_JOURNAL)?;
+    if !is_refused(&mut subject, 83) {
+        return Err(Refusal::Stale);
+    }
+    Ok(held_blocks(&mut subject.into_table()))
+}
+
+/// How many blocks are held.
+fn count_held(blocks: &[Option<Block>; 120]) -> usize {
+    let mut held = 0usize;
+    for block in blocks {
+        if block.is_some() {
+            held = held.saturating_add(1);
+        }
+    }
+    held
+}
+
+/// Whether both are the same 36 blocks.
+fn are_same(alloc: Global) -> Result<bool, Refusal> {
+    let others = blocks_behind(alloc)?;
+    let blocks = blocks_refused(alloc)?;
+    Ok(blocks == others && count_held(&blocks) == 36)
+}
+
 #[test]
-fn a_change_of_an_object_with_a_full_chain(rt: HostRuntime) -> Result<(), Fail> {
-    let other = played(&rt, rt.alloc(), 8, FULL_JOURNAL.as_slice())?;
-    let mut subject = played(&rt, rt.alloc(), 8, FULL_JOURNAL.as_slice())?;
-    assert!(rt; is_refused(&mut subject, 83));
-    let blocks = held_blocks(&mut subject.into_table());
-    assert!(rt; blocks == held_blocks(&mut other.into_table()));
-    assert!(rt; blocks.iter().filter(|block| block.is_some()).count() == 36);
-    Ok(())
+fn a_change_of_an_object_with_a_full_chain(rt: HostRuntime) {
+    assert!(rt; are_same(rt.alloc()) == Ok(true));
 }
 
 /// The checkpoint stands at the first place ahead, and the 36 blocks of the journal behind it.
@@ -320,12 +312,16 @@ fn has_no_room(alloc: Global, subject: &mut Subject<SegmentTable>) -> bool
     answer == Err(Refusal::NoRoom) && subject.row() == row && subject.blocks_left() == left
 }
 
+/// Whether an object with a full chain is written anew, and then has no room for that.
+fn is_anew(alloc: Global) -> Result<bool, Refusal> {
+    let mut subject = played(alloc, 8, &FULL_JOURNAL)?;
+    let is_so = play(alloc, &mut subject, &REWRITTEN)?;
+    let has_none = has_no_room(alloc, &mut subject);
+    let blocks = held_blocks(&mut subject.into_table());
+    Ok(is_so && has_none && are_held(&blocks, 73, 110))
+}
+
 #[test]
-fn an_object_with_a_full_chain_written_anew(rt: HostRuntime) -> Result<(), Fail> {
-    let alloc = rt.alloc();
-    let mut subject = played(&rt, alloc, 8, FULL_JOURNAL.as_slice())?;
-    play(&rt, alloc, &mut subject, REWRITTEN.as_slice())?;
-    assert!(rt; has_no_room(alloc, &mut subject));
-    check_held(&rt, &held_blocks(&mut subject.into_table()), 73, 110);
-    Ok(())
+fn an_object_with_a_full_chain_written_anew(rt: HostRuntime) {
+    assert!(rt; is_anew(rt.alloc()) == Ok(true));
 }

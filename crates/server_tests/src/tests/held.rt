@@ -1,0 +1,240 @@
+//! Sessions on threads, held at a gate until others have come so far.
+use crate::tests::{Scene, TURNS, await_flag, has_written, joined, play};
+use drive::Drive;
+use s4_types::Refusal::Busy;
+use s4_types::{Bytes, Moment, ObjectId, Request, Role};
+use segment_word::Naming;
+use server::{Client, Gate, Locked, Open, Outcome, run_sessions};
+use serving::{Backend, MemorySink, MemorySource, ServeEnd};
+use std::alloc::Global;
+use std::process::Abort;
+use std::sync::atomic::{AtomicBool, AtomicUsize, Ordering};
+use std::sync::{Mutex, Wait};
+use std::test::Fail;
+use std::thread::{Threads, yield_now};
+
+/// Bytes of 13 blocks: with the creation's and one of the journal they fill a frame, which is sealed then.
+static SEALED: [u8; 6656] = [b'a'; 6656];
+
+/// What they are replaced by.
+static OTHERS: [u8; 6656] = [b'b'; 6656];
+
+/// The frame of a Read of all of them, of object 1.
+static READ_ALL: [u8; 26] = *b"\0\0\0\x16\x03\0\0\0\0\0\0\0\x01\0\0\0\0\0\0\0\0\0\0\x1a\0\0";
+
+/// The frame of a Write of as many bytes to object 1, up to those.
+static WRITE_ALL: [u8; 21] = *b"\0\0\x1a\x11\x04\0\0\0\0\0\0\0\x01\0\0\0\0\0\0\0\0";
+
+/// The frame of the reply to the Read, up to its bytes.
+static DATA: [u8; 5] = *b"\0\0\x1a\x01\x03";
+
+/// The frame of the reply to the Write, at moment 5.
+static CHANGED: [u8; 13] = *b"\0\0\0\x09\x01\0\0\0\0\0\0\0\x05";
+
+/// The first session's read is held once it is planned, until the second's change is answered; the second session's first read is
+/// held until then.
+#[derive(Drop)]
+struct Turns {
+    planned: AtomicBool,
+    changed: AtomicBool,
+    given_up: AtomicBool,
+}
+
+impl Gate for Turns {
+    fn between(&self, session: usize, _call: u64) {
+        if session == 1 {
+            self.planned.store(true, Ordering::SeqCst);
+            await_flag(&self.changed, &self.given_up);
+        } else {
+            await_flag(&self.planned, &self.given_up);
+        }
+    }
+
+    fn answered(&self, session: usize, call: u64) {
+        if session == 2 && call == 2 {
+            self.changed.store(true, Ordering::SeqCst);
+        }
+    }
+}
+
+/// Each session is held in its read until 16 are there. It counts the replies too.
+#[derive(Drop)]
+struct Crowd {
+    there: AtomicUsize,
+    answered: AtomicUsize,
+    given_up: AtomicBool,
+}
+
+impl Gate for Crowd {
+    fn between(&self, _session: usize, _call: u64) {
+        self.there.fetch_add(1, Ordering::SeqCst);
+        for _ in 0..TURNS {
+            if self.there.load(Ordering::SeqCst) >= 16 {
+                return;
+            }
+            yield_now();
+        }
+        self.given_up.store(true, Ordering::SeqCst);
+    }
+
+    fn answered(&self, _session: usize, _call: u64) {
+        self.answered.fetch_add(1, Ordering::SeqCst);
+    }
+}
+
+/// The sealed bytes are made, by a session at which nobody waits.
+fn fill<J: Naming, R: Wait>(rt: &R, alloc: Global, drive: &Mutex<Drive<J>>) -> Result<(), Fail> {
+    let mut writer = Locked::new(rt, alloc, drive, Role::Client, &Open, 1)?;
+    let attribute = Bytes::from_slice(alloc, b"")?;
+    writer.request(Request::Create { attribute }, Moment::new(1));
+    let write = Request::Write {
+        object: ObjectId::new(1),
+        offset: 0,
+        bytes: Bytes::from_slice(alloc, &SEALED)?,
+    };
+    writer.request(write, Moment::new(2));
+    Ok(())
+}
+
+/// A read of sealed bytes is held until another session has changed them, and gives what was there.
+pub(super) fn hold<J: Naming + Send + Sync, R: Abort + Threads + Wait + Sync>(
+    rt: &R,
+    alloc: Global,
+    drive: &Mutex<Drive<J>>,
+) -> Result<(), Fail> {
+    fill(rt, alloc, drive)?;
+    let turns = Turns {
+        planned: AtomicBool::new(false),
+        changed: AtomicBool::new(false),
+        given_up: AtomicBool::new(false),
+    };
+    let both = joined(alloc, &[&READ_ALL, &WRITE_ALL, &OTHERS])?;
+    let old = joined(alloc, &[&DATA, &SEALED])?;
+    let old_and_changed = joined(alloc, &[&DATA, &SEALED, &CHANGED])?;
+    let mut clients = [client!(alloc, &READ_ALL), client!(alloc, &both)];
+    run_sessions(rt, alloc, drive, &turns, Moment::new(2), 1, &mut clients);
+    assert!(rt; !turns.given_up.load(Ordering::SeqCst), "both came so far");
+    assert!(rt; has_written(&clients[0], &old), "as it was planned");
+    assert!(rt;
+        has_written(&clients[1], &old_and_changed),
+        "changed meanwhile"
+    );
+    Ok(())
+}
+
+#[test]
+fn a_read_is_fetched_after_its_bytes_were_changed(rt: HostRuntime) -> Result<(), Fail> {
+    play(&rt, rt.alloc(), 100, Scene::Held)
+}
+
+/// 16 sessions at once, each held in its first read until all are there. Each is asked once.
+pub(super) fn gather<J: Naming + Send + Sync, R: Abort + Threads + Wait + Sync>(
+    rt: &R,
+    alloc: Global,
+    drive: &Mutex<Drive<J>>,
+) -> Result<(), Fail> {
+    fill(rt, alloc, drive)?;
+    let crowd = Crowd {
+        there: AtomicUsize::new(0),
+        answered: AtomicUsize::new(0),
+        given_up: AtomicBool::new(false),
+    };
+    let old = joined(alloc, &[&DATA, &SEALED])?;
+    let mut clients = [
+        client!(alloc, &READ_ALL),
+        client!(alloc, &READ_ALL),
+        client!(alloc, &READ_ALL),
+        client!(alloc, &READ_ALL),
+        client!(alloc, &READ_ALL),
+        client!(alloc, &READ_ALL),
+        client!(alloc, &READ_ALL),
+        client!(alloc, &READ_ALL),
+        client!(alloc, &READ_ALL),
+        client!(alloc, &READ_ALL),
+        client!(alloc, &READ_ALL),
+        client!(alloc, &READ_ALL),
+        client!(alloc, &READ_ALL),
+        client!(alloc, &READ_ALL),
+        client!(alloc, &READ_ALL),
+        client!(alloc, &READ_ALL),
+    ];
+    run_sessions(rt, alloc, drive, &crowd, Moment::new(2), 1, &mut clients);
+    assert!(rt; !crowd.given_up.load(Ordering::SeqCst), "all came");
+    assert!(rt;
+        crowd.there.load(Ordering::SeqCst) == 16,
+        "each passed the gate once"
+    );
+    assert!(rt;
+        crowd.answered.load(Ordering::SeqCst) == 16,
+        "and answered once"
+    );
+    assert!(rt; clients.iter().all(|client| has_written(client, &old)));
+    Ok(())
+}
+
+#[test]
+fn sixteen_sessions_are_held_at_once(rt: HostRuntime) -> Result<(), Fail> {
+    play(&rt, rt.alloc(), 100, Scene::Sixteen)
+}
+
+/// Sessions that keep all seats of a drive.
+fn all_seats<'a, J: Naming, R: Wait>(
+    rt: &'a R,
+    alloc: Global,
+    drive: &'a Mutex<Drive<J>>,
+) -> Result<Vec<Locked<'a, J, R, Open>>, Fail> {
+    let mut seats = Vec::new(alloc);
+    for number in 1..=64 {
+        seats.push(Locked::new(rt, alloc, drive, Role::Client, &Open, number)?)?;
+    }
+    Ok(seats)
+}
+
+/// Two sessions that read all bytes, served at once.
+fn serve_two<J: Naming + Send + Sync, R: Threads + Wait + Sync>(
+    rt: &R,
+    alloc: Global,
+    drive: &Mutex<Drive<J>>,
+) -> [Client<MemorySource<'static>, MemorySink>; 2] {
+    let mut clients = [client!(alloc, &READ_ALL), client!(alloc, &READ_ALL)];
+    run_sessions(rt, alloc, drive, &Open, Moment::new(2), 1, &mut clients);
+    clients
+}
+
+/// Whether each session was refused as Busy, and nothing was written to it.
+fn are_refused(clients: &[Client<MemorySource<'_>, MemorySink>]) -> bool {
+    for client in clients {
+        if client.outcome != Outcome::Refused(Busy) || !client.writer.as_slice().is_empty() {
+            return false;
+        }
+    }
+    true
+}
+
+/// Whether each session was served to its end.
+fn are_served(clients: &[Client<MemorySource<'_>, MemorySink>]) -> bool {
+    for client in clients {
+        if client.outcome != Outcome::Served(ServeEnd::Ended) {
+            return false;
+        }
+    }
+    true
+}
+
+/// A session that the drive refuses is told so, and nothing of it is read or written.
+pub(super) fn crowd_out<J: Naming + Send + Sync, R: Abort + Threads + Wait + Sync>(
+    rt: &R,
+    alloc: Global,
+    drive: &Mutex<Drive<J>>,
+) -> Result<(), Fail> {
+    let seats = all_seats(rt, alloc, drive)?;
+    assert!(rt; are_refused(&serve_two(rt, alloc, drive)), "no seat is free");
+    drop(seats);
+    assert!(rt; are_served(&serve_two(rt, alloc, drive)), "all seats are free");
+    Ok(())
+}
+
+#[test]
+fn a_session_without_a_seat_is_refused(rt: HostRuntime) -> Result<(), Fail> {
+    play(&rt, rt.alloc(), 100, Scene::Crowded)
+}
