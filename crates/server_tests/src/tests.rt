@@ -17,7 +17,6 @@ macro_rules! client {
 mod clocks;
 mod held;
 mod kept_up;
-mod shared;
 
 use drive::NewDrive;
 use segment_word::Naming;
@@ -35,7 +34,6 @@ use std::time::Clock;
 /// What a test does with a new drive of 16 frames.
 #[derive(Clone, Copy)]
 enum Scene {
-    Shared,
     Held,
     Sixteen,
     Crowded,
@@ -57,7 +55,6 @@ fn play_named<J: Naming + Send + Sync, R: Abort + Threads + Wait + Clock + Sync>
 {
     let drive = Mutex::new(made.named::<J>());
     match scene {
-        Scene::Shared => shared::share(rt, alloc, &drive),
         Scene::Held => held::hold(rt, alloc, &drive),
         Scene::Sixteen => held::gather(rt, alloc, &drive),
         Scene::Crowded => held::crowd_out(rt, alloc, &drive),
