@@ -498,18 +498,18 @@ static CHECKPOINTS: [(bool, u64, u64, bool); 8] = [
     (false, 9, 9, false),
 ];
 
-/// What the present is beside a checkpoint, the outer None where it isn't put or memory was refused.
-fn present_beside(
+/// Whether the present is so beside a checkpoint.
+fn is_present_beside(
     alloc: Global,
     has_grown: bool,
     told: u64,
     kept: u64,
-) -> Option<Option<(u64, usize)>> {
+    present: Option<(u64, usize)>,
+) -> bool {
     let mut image = empty_image();
-    let row = put_with_checkpoint(&mut image, told, kept, has_grown)?;
-    match present_at(alloc, &image, &row) {
-        Ok(present) => Some(present),
-        Err(_) => None,
+    match put_with_checkpoint(&mut image, told, kept, has_grown) {
+        Some(row) => present_at(alloc, &image, &row) == Ok(present),
+        None => false,
     }
 }
 
@@ -518,7 +518,7 @@ fn a_checkpoint_has_its_place(rt: HostRuntime) {
     for (has_grown, told, kept, stands) in &CHECKPOINTS {
         let present = if *stands { Some((12, 1)) } else { None };
         assert!(rt;
-            present_beside(rt.alloc(), *has_grown, *told, *kept) == Some(present),
+            is_present_beside(rt.alloc(), *has_grown, *told, *kept, present),
             "{told} in the block, {kept} in the row"
         );
     }

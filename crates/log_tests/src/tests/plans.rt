@@ -172,14 +172,13 @@ fn is_range(
 }
 
 /// Plans and fetches each of them, and tells whether all are so.
-fn are_ranges(alloc: Global, table: &mut SegmentTable) -> Result<bool, Refusal> {
-    let inode = across(table)?;
+fn are_ranges(alloc: Global, table: &mut SegmentTable, inode: &Inode) -> Result<bool, Refusal> {
     for (offset, wanted, counted, told) in &RANGES {
         let range = Range {
             offset: *offset,
             wanted: *wanted,
         };
-        if !is_range(alloc, table, &inode, range, *counted, told)? {
+        if !is_range(alloc, table, inode, range, *counted, told)? {
             return Ok(false);
         }
     }
@@ -189,7 +188,10 @@ fn are_ranges(alloc: Global, table: &mut SegmentTable) -> Result<bool, Refusal> 
 /// The same in a new table.
 fn has_ranges(alloc: Global) -> Result<bool, Refusal> {
     let mut table = new_table(alloc, 16)?;
-    are_ranges(alloc, &mut table)
+    match across(&mut table) {
+        Ok(inode) => are_ranges(alloc, &mut table, &inode),
+        Err(refusal) => Err(refusal),
+    }
 }
 
 #[test]
@@ -220,23 +222,29 @@ fn are_full_of(bytes: &[u8], told: u8) -> bool {
 }
 
 /// Whether a plan of the 13 blocks of the sealed frame gives what was there, once as many others are appended.
-fn gives_what_was_there(alloc: Global, table: &mut SegmentTable) -> Result<bool, Refusal> {
+fn gives_what_was_there(
+    alloc: Global,
+    table: &mut SegmentTable,
+    before: &Inode,
+) -> Result<bool, Refusal> {
     let range = Range {
         offset: 0,
         wanted: 6656,
     };
-    let before = filled(table, b'a')?;
-    let plan = planned(alloc, table, &before, range)?;
+    let plan = planned(alloc, table, before, range)?;
     let is_pinned = kinds(&plan) == [0, 0, 13];
-    filled(table, b'b')?;
-    let bytes = fetched(alloc, table, plan, &before, range)?;
-    Ok(is_pinned && are_full_of(bytes.as_slice(), b'a'))
+    let is_filled = filled(table, b'b').is_ok();
+    let bytes = fetched(alloc, table, plan, before, range)?;
+    Ok(is_pinned && is_filled && are_full_of(bytes.as_slice(), b'a'))
 }
 
 /// The same in a new table.
 fn is_kept(alloc: Global) -> Result<bool, Refusal> {
     let mut table = new_table(alloc, 16)?;
-    gives_what_was_there(alloc, &mut table)
+    match filled(&mut table, b'a') {
+        Ok(inode) => gives_what_was_there(alloc, &mut table, &inode),
+        Err(refusal) => Err(refusal),
+    }
 }
 
 #[test]
