@@ -83,12 +83,20 @@ fn put_hex(bytes: &mut Vec<u8>, part: &[u8]) -> Result<bool, Refusal> {
     Ok(true)
 }
 
-/// Puts a byte so often behind others, each greater by a step than the one before.
-fn put_times(bytes: &mut Vec<u8>, first: u8, step: u8, count: u64) -> Result<bool, Refusal> {
+/// Puts so many bytes behind others, each greater by one than the one before, and 0 behind the last.
+fn put_ascending(bytes: &mut Vec<u8>, first: u8, last: u8, count: u64) -> Result<bool, Refusal> {
     let mut byte = first;
     for _ in 0..count {
         bytes.push(byte)?;
-        byte = byte.wrapping_add(step);
+        byte = if byte >= last { 0 } else { byte + 1 };
+    }
+    Ok(true)
+}
+
+/// Puts a byte so often behind others.
+fn put_times(bytes: &mut Vec<u8>, byte: u8, count: u64) -> Result<bool, Refusal> {
+    for _ in 0..count {
+        bytes.push(byte)?;
     }
     Ok(true)
 }
@@ -106,25 +114,32 @@ fn put_text(bytes: &mut Vec<u8>, part: &[u8]) -> Result<bool, Refusal> {
 fn put_part(bytes: &mut Vec<u8>, part: &[u8]) -> Result<bool, Refusal> {
     match part {
         [b'"', ..] => put_text(bytes, part),
-        [high, low, b'.', b'.', b'*', count @ ..] => put_many(
-            bytes,
-            byte_of(*high, *low),
-            1,
-            count,
-        ),
-        [high, low, b'*', count @ ..] => put_many(bytes, byte_of(*high, *low), 0, count),
+        [high, low, b'.', b'.', b'*', count @ ..] => {
+            put_round(bytes, byte_of(*high, *low), Some(u8::MAX), count)
+        }
+        [high, low, b'.', b'.', top, end, b'*', count @ ..] => {
+            put_round(bytes, byte_of(*high, *low), byte_of(*top, *end), count)
+        }
+        [high, low, b'*', count @ ..] => put_many(bytes, byte_of(*high, *low), count),
         _ => put_hex(bytes, part),
     }
 }
 
-fn put_many(
+fn put_many(bytes: &mut Vec<u8>, byte: Option<u8>, count: &[u8]) -> Result<bool, Refusal> {
+    match (byte, number_of(count)) {
+        (Some(byte), Some(count)) => put_times(bytes, byte, count),
+        _ => Ok(false),
+    }
+}
+
+fn put_round(
     bytes: &mut Vec<u8>,
     first: Option<u8>,
-    step: u8,
+    last: Option<u8>,
     count: &[u8],
 ) -> Result<bool, Refusal> {
-    match (first, number_of(count)) {
-        (Some(first), Some(count)) => put_times(bytes, first, step, count),
+    match (first, last, number_of(count)) {
+        (Some(first), Some(last), Some(count)) => put_ascending(bytes, first, last, count),
         _ => Ok(false),
     }
 }
@@ -152,13 +167,17 @@ fn is_alike(alloc: Global, one: &[u8], other: &[u8]) -> Result<bool, Refusal> {
     }
 }
 
-/// Whether what is told is what these words say.
-pub(crate) fn is_said(alloc: Global, told: &[u8], words: &[&[u8]]) -> Result<bool, Refusal> {
+/// Whether what is told is what is expected, word by word.
+pub(crate) fn is_said(alloc: Global, told: &[u8], expected: &[u8]) -> Result<bool, Refusal> {
+    if told == expected {
+        return Ok(true);
+    }
     let told = parts_of(alloc, told, b' ')?;
-    if told.len() != words.len() {
+    let expected = parts_of(alloc, expected, b' ')?;
+    if told.len() != expected.len() {
         return Ok(false);
     }
-    for (one, other) in told.iter().zip(words.iter()) {
+    for (one, other) in told.iter().zip(expected.iter()) {
         if !is_alike(alloc, one, other)? {
             return Ok(false);
         }
