@@ -15,13 +15,18 @@ pub(crate) fn frame_of(number: u64) -> u16 {
 }
 
 /// The request that a command spells.
-fn request_of(alloc: Global, asking: Asking, command: &Command<'_>) -> Result<Request, Refusal> {
+fn request_of(
+    alloc: Global,
+    asking: Asking,
+    command: &Command<'_>,
+    clock: u64,
+) -> Result<Request, Refusal> {
     let bytes = Bytes::from_slice(alloc, command.bytes.as_slice())?;
-    Ok(request_with(asking, command, bytes))
+    Ok(request_with(asking, command, clock, bytes))
 }
 
 /// The request that a command spells, with its bytes.
-fn request_with(asking: Asking, command: &Command<'_>, bytes: Bytes) -> Request {
+fn request_with(asking: Asking, command: &Command<'_>, clock: u64, bytes: Bytes) -> Request {
     let [number, second, _] = command.numbers;
     let object = ObjectId::new(number);
     match asking {
@@ -36,12 +41,12 @@ fn request_with(asking: Asking, command: &Command<'_>, bytes: Bytes) -> Request 
             object,
             attribute: bytes,
         },
-        _ => request_without(asking, command),
+        _ => request_without(asking, command, clock),
     }
 }
 
 /// The request that a command spells, of those that have no bytes.
-fn request_without(asking: Asking, command: &Command<'_>) -> Request {
+fn request_without(asking: Asking, command: &Command<'_>, clock: u64) -> Request {
     let [number, second, third] = command.numbers;
     let object = ObjectId::new(number);
     match asking {
@@ -62,20 +67,20 @@ fn request_without(asking: Asking, command: &Command<'_>) -> Request {
         },
         Asking::GetAttr => Request::GetAttr {
             object,
-            at: command.at.map(Moment::new),
+            at: command.moment(clock),
         },
-        _ => read_of(&reading_of(command)),
+        _ => read_of(&reading_of(command, clock)),
     }
 }
 
 /// The read that a command spells.
-fn reading_of(command: &Command<'_>) -> Reading {
+fn reading_of(command: &Command<'_>, clock: u64) -> Reading {
     let [number, offset, length] = command.numbers;
     Reading {
         object: ObjectId::new(number),
         offset,
         length: u32::try_from(length).unwrap_or(u32::MAX),
-        at: command.at.map(Moment::new),
+        at: command.moment(clock),
         now: Moment::new(command.now),
     }
 }
@@ -100,9 +105,9 @@ fn resolve_of(reading: &Reading) -> Act {
 }
 
 /// The act that a command spells, which is no request.
-fn act_of(acting: Acting, command: &Command<'_>) -> Act {
+fn act_of(acting: Acting, command: &Command<'_>, clock: u64) -> Act {
     match acting {
-        Acting::Resolve => resolve_of(&reading_of(command)),
+        Acting::Resolve => resolve_of(&reading_of(command, clock)),
         Acting::Fetch => Act::Fetch,
         Acting::Meet => Act::Meet,
         Acting::Plan => Act::Plan {
@@ -174,7 +179,7 @@ pub(crate) fn perform_asking<D: Played>(
     command: &Command<'_>,
     text: &mut Text,
 ) -> Result<(), Refusal> {
-    let request = request_of(stage.alloc, asking, command)?;
+    let request = request_of(stage.alloc, asking, command, drive.clock())?;
     let now = Moment::new(command.now);
     act_by(
         stage,
@@ -194,7 +199,8 @@ pub(crate) fn perform_acting<D: Played>(
     text: &mut Text,
 ) -> Result<(), Refusal> {
     stage.is_spent = matches!(acting, Acting::Fetch | Acting::Copy | Acting::Commit);
-    act_by(stage, drive, command.name, act_of(acting, command), text)
+    let act = act_of(acting, command, drive.clock());
+    act_by(stage, drive, command.name, act, text)
 }
 
 /// A step of the drive.
@@ -286,7 +292,7 @@ fn keep<D: Played>(
         text.word("Idle");
         return Ok(());
     }
-    let reading = reading_of(command);
+    let reading = reading_of(command, drive.clock());
     let planned = drive.keep(place, &reading);
     stage.plan(place, None);
     let answer = match planned {

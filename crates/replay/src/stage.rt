@@ -192,14 +192,20 @@ impl Stage {
         Ok(())
     }
 
-    /// Compares what a fetch gave.
+    /// Compares what a fetch gave, where there is a plain drive.
     fn compare_fetch(&mut self, place: usize, answer: &Answer) {
         let planned = match self.seats.get_mut(place) {
             Some(seat) => seat.planned.take(),
             None => None,
         };
-        if let (Some(told), Answer::Bytes(given)) = (planned, answer) {
-            self.compare_bytes(&told, given.as_slice());
+        if self.plain.is_none() {
+            return;
+        }
+        match (planned, answer) {
+            (Some(told), Answer::Bytes(given)) => self.compare_bytes(&told, given.as_slice()),
+            (Some(told), _) => self.remark_reply(&told),
+            (None, Answer::Idle) => {}
+            (None, _) => self.remark.word("the plain drive has no plan"),
         }
     }
 
