@@ -260,24 +260,32 @@ fn pass<D: Played>(stage: &mut Stage, drive: &mut D, text: &mut Text) -> Result<
     Ok(())
 }
 
+/// The number of the object whose turn it was; 0 at a round's end.
+fn number_of(turn: Turn) -> u64 {
+    match turn {
+        Turn::Cleaned(object) => object.number(),
+        Turn::PassedOver(object, _) => object.number(),
+        Turn::Ended => 0,
+    }
+}
+
 /// Turns up to the next one of an object that was passed over: it waits for the next round.
-fn turn_again<D: Played>(drive: &mut D, object: ObjectId) -> Turn {
+fn turn_again<D: Played>(drive: &mut D, object: u64) -> Turn {
     // (between stand a turn of each other object and the round's end)
     for _ in 0..drive.next() {
-        match drive.turn() {
-            Turn::Ended => {}
-            Turn::Cleaned(other) | Turn::PassedOver(other, _) if other != object => {}
-            turn => return turn,
+        let turn = drive.turn();
+        if number_of(turn) == object {
+            return turn;
         }
     }
-    drive.turn()
+    Turn::Ended
 }
 
 /// A turn of the cleaner's rounds. Where memory is refused the same object's next turn is the one that is told.
 fn turn<D: Played>(stage: &mut Stage, drive: &mut D, text: &mut Text) -> Result<(), Refusal> {
     stage.is_spent = true;
     let turn = match drive.turn() {
-        Turn::PassedOver(object, Refusal::NoMemory) => turn_again(drive, object),
+        Turn::PassedOver(object, Refusal::NoMemory) => turn_again(drive, object.number()),
         turn => turn,
     };
     match turn {
