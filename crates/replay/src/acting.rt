@@ -15,13 +15,18 @@ pub(crate) fn frame_of(number: u64) -> u16 {
 }
 
 /// The request that a command spells.
-fn request_of(alloc: Global, asking: Asking, command: &Command<'_>) -> Result<Request, Refusal> {
+fn request_of(
+    alloc: Global,
+    asking: Asking,
+    command: &Command<'_>,
+    clock: u64,
+) -> Result<Request, Refusal> {
     let bytes = Bytes::from_slice(alloc, command.bytes.as_slice())?;
-    Ok(request_with(asking, command, bytes))
+    Ok(request_with(asking, command, clock, bytes))
 }
 
 /// The request that a command spells, with its bytes.
-fn request_with(asking: Asking, command: &Command<'_>, bytes: Bytes) -> Request {
+fn request_with(asking: Asking, command: &Command<'_>, clock: u64, bytes: Bytes) -> Request {
     let [number, second, _] = command.numbers;
     let object = ObjectId::new(number);
     match asking {
@@ -36,12 +41,12 @@ fn request_with(asking: Asking, command: &Command<'_>, bytes: Bytes) -> Request 
             object,
             attribute: bytes,
         },
-        _ => request_without(asking, command),
+        _ => request_without(asking, command, clock),
     }
 }
 
 /// The request that a command spells, of those that have no bytes.
-fn request_without(asking: Asking, command: &Command<'_>) -> Request {
+fn request_without(asking: Asking, command: &Command<'_>, clock: u64) -> Request {
     let [number, second, third] = command.numbers;
     let object = ObjectId::new(number);
     match asking {
@@ -62,20 +67,20 @@ fn request_without(asking: Asking, command: &Command<'_>) -> Request {
         },
         Asking::GetAttr => Request::GetAttr {
             object,
-            at: command.at.map(Moment::new),
+            at: command.moment(clock),
         },
-        _ => read_of(&reading_of(command)),
+        _ => read_of(&reading_of(command, clock)),
     }
 }
 
 /// The read that a command spells.
-fn reading_of(command: &Command<'_>) -> Reading {
+fn reading_of(command: &Command<'_>, clock: u64) -> Reading {
     let [number, offset, length] = command.numbers;
     Reading {
         object: ObjectId::new(number),
         offset,
         length: u32::try_from(length).unwrap_or(u32::MAX),
-        at: command.at.map(Moment::new),
+        at: command.moment(clock),
         now: Moment::new(command.now),
     }
 }
@@ -100,9 +105,9 @@ fn resolve_of(reading: &Reading) -> Act {
 }
 
 /// The act that a command spells, which is no request.
-fn act_of(acting: Acting, command: &Command<'_>) -> Act {
+fn act_of(acting: Acting, command: &Command<'_>, clock: u64) -> Act {
     match acting {
-        Acting::Resolve => resolve_of(&reading_of(command)),
+        Acting::Resolve => resolve_of(&reading_of(command, clock)),
         Acting::Fetch => Act::Fetch,
         Acting::Meet => Act::Meet,
         Acting::Plan => Act::Plan {
@@ -174,7 +179,7 @@ pub(crate) fn perform_asking<D: Played>(
     command: &Command<'_>,
     text: &mut Text,
 ) -> Result<(), Refusal> {
-    let request = request_of(stage.alloc, asking, command)?;
+    let request = request_of(stage.alloc, asking, command, drive.clock())?;
     let now = Moment::new(command.now);
     act_by(
         stage,
@@ -185,7 +190,29 @@ pub(crate) fn perform_asking<D: Played>(
     )
 }
 
-/// Somebody does something else. What spends a plan can't be done once more.
+/// Somebody fetches, copies or commits. Where the drive refuses memory the plan is spent, so that this is told and not done once
+/// more.
+fn spend<D: Played>(
+    stage: &mut Stage,
+    drive: &mut D,
+    name: &[u8],
+    act: Act,
+    text: &mut Text,
+) -> Result<(), Refusal> {
+    let is_move = !matches!(act, Act::Fetch);
+    let step = Step::By {
+        actor: stage.place_of(name),
+        act,
+    };
+    let answer = drive.take(&step)?;
+    stage.is_spent = true;
+    stage.excuse(is_move, &answer);
+    stage.compare(step, &answer)?;
+    tell_answer(text, &answer);
+    Ok(())
+}
+
+/// Somebody does something else.
 pub(crate) fn perform_acting<D: Played>(
     stage: &mut Stage,
     drive: &mut D,
@@ -193,8 +220,13 @@ pub(crate) fn perform_acting<D: Played>(
     command: &Command<'_>,
     text: &mut Text,
 ) -> Result<(), Refusal> {
-    stage.is_spent = matches!(acting, Acting::Fetch | Acting::Copy | Acting::Commit);
-    act_by(stage, drive, command.name, act_of(acting, command), text)
+    let act = act_of(acting, command, drive.clock());
+    match acting {
+        Acting::Fetch | Acting::Copy | Acting::Commit => {
+            spend(stage, drive, command.name, act, text)
+        }
+        _ => act_by(stage, drive, command.name, act, text),
+    }
 }
 
 /// A step of the drive.
@@ -210,10 +242,17 @@ pub(crate) fn perform_upkeep<D: Played>(
     Ok(())
 }
 
-/// A full pass of the cleaner.
+/// A full pass of the cleaner. Where memory is refused it is done once more, and counts what the first one left.
 fn pass<D: Played>(stage: &mut Stage, drive: &mut D, text: &mut Text) -> Result<(), Refusal> {
     stage.is_spent = true;
-    let report = drive.pass()?;
+    let report = match drive.pass() {
+        Err(Refusal::NoMemory) => {
+            let report = drive.pass()?;
+            stage.is_partial = true;
+            report
+        }
+        report => report?,
+    };
     text.word("Passed");
     text.number(report.rewritten as u64);
     text.number(report.removed as u64);
@@ -221,10 +260,35 @@ fn pass<D: Played>(stage: &mut Stage, drive: &mut D, text: &mut Text) -> Result<
     Ok(())
 }
 
-/// A turn of the cleaner's rounds.
+/// The number of the object whose turn it was; 0 at a round's end.
+fn number_of(turn: Turn) -> u64 {
+    match turn {
+        Turn::Cleaned(object) => object.number(),
+        Turn::PassedOver(object, _) => object.number(),
+        Turn::Ended => 0,
+    }
+}
+
+/// Turns up to the next one of an object that was passed over: it waits for the next round.
+fn turn_again<D: Played>(drive: &mut D, object: u64) -> Turn {
+    // (between stand a turn of each other object and the round's end)
+    for _ in 0..drive.next() {
+        let turn = drive.turn();
+        if number_of(turn) == object {
+            return turn;
+        }
+    }
+    Turn::Ended
+}
+
+/// A turn of the cleaner's rounds. Where memory is refused the same object's next turn is the one that is told.
 fn turn<D: Played>(stage: &mut Stage, drive: &mut D, text: &mut Text) -> Result<(), Refusal> {
     stage.is_spent = true;
-    match drive.turn() {
+    let turn = match drive.turn() {
+        Turn::PassedOver(object, Refusal::NoMemory) => turn_again(drive, object.number()),
+        turn => turn,
+    };
+    match turn {
         Turn::Cleaned(object) => {
             text.word("Cleaned");
             text.number(object.number());
@@ -286,7 +350,7 @@ fn keep<D: Played>(
         text.word("Idle");
         return Ok(());
     }
-    let reading = reading_of(command);
+    let reading = reading_of(command, drive.clock());
     let planned = drive.keep(place, &reading);
     stage.plan(place, None);
     let answer = match planned {
@@ -294,6 +358,7 @@ fn keep<D: Played>(
         Err(Refusal::NoMemory) => return Err(Refusal::NoMemory),
         Err(refusal) => Answer::Refused(refusal),
     };
+    stage.is_spent = true;
     let told = stage.reply(place, read_of(&reading), reading.now)?;
     if let Some(told) = &told {
         stage.compare_plan(told, &answer);
@@ -305,18 +370,20 @@ fn keep<D: Played>(
     Ok(())
 }
 
-/// The last plan of the pile is fetched.
+/// The last plan of the pile is fetched. It is spent then, also where memory is refused.
 fn take_last<D: Played>(stage: &mut Stage, drive: &mut D, text: &mut Text) -> Result<(), Refusal> {
     stage.is_spent = true;
-    let Some(bytes) = drive.fetch()? else {
-        text.word("Idle");
-        return Ok(());
+    let told = stage.pile.pop();
+    let answer = match drive.fetch() {
+        Ok(Some(bytes)) => Answer::Bytes(Bytes::from_vec(bytes)),
+        Ok(None) => Answer::Idle,
+        Err(refusal) => Answer::Refused(refusal),
     };
-    if let Some(Some(told)) = stage.pile.pop() {
+    stage.excuse(false, &answer);
+    if let (Some(Some(told)), Answer::Bytes(bytes)) = (told, &answer) {
         stage.compare_bytes(&told, bytes.as_slice());
     }
-    text.word("Bytes");
-    text.bytes(bytes.as_slice());
+    tell_answer(text, &answer);
     Ok(())
 }
 

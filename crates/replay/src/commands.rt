@@ -1,6 +1,6 @@
 //! The commands of a script.
 use crate::words::{bytes_of, number_of, parts_of};
-use s4_types::{Refusal, Role};
+use s4_types::{Moment, Refusal, Role};
 use std::alloc::Global;
 
 /// What a session asks.
@@ -234,6 +234,7 @@ struct Given {
     numbers: [u64; 3],
     counted: usize,
     at: Option<u64>,
+    is_back: bool,
     now: Option<u64>,
 }
 
@@ -245,8 +246,23 @@ pub(crate) struct Command<'a> {
     pub(crate) other: &'a [u8],
     pub(crate) numbers: [u64; 3],
     pub(crate) bytes: Vec<u8>,
+    /// A moment, or how far before the clock it is.
     pub(crate) at: Option<u64>,
+    pub(crate) is_back: bool,
     pub(crate) now: u64,
+}
+
+impl<'a> Command<'a> {
+    /// The moment that is told, where the clock is this.
+    pub(crate) fn moment(&self, clock: u64) -> Option<Moment> {
+        let at = self.at?;
+        let number = if self.is_back {
+            clock.saturating_sub(at)
+        } else {
+            at
+        };
+        Some(Moment::new(number))
+    }
 }
 
 /// The place of a word that isn't there.
@@ -262,6 +278,7 @@ impl Given {
             numbers: [0, 0, 0],
             counted: 0,
             at: None,
+            is_back: false,
             now: None,
         }
     }
@@ -301,29 +318,48 @@ impl Given {
         self.pass()
     }
 
-    /// Takes a word and a number, if that word comes next.
-    fn take_moment(&mut self, name: &[u8], words: &[&[u8]]) -> Option<u64> {
+    /// The word behind another one, if that comes next; both are taken.
+    fn take_behind<'b>(&mut self, name: &[u8], words: &[&'b [u8]]) -> Option<&'b [u8]> {
         let taken = self.taken;
         match words.get(taken..) {
             Some([first, second, ..]) if *first == name => {
                 self.taken = taken.saturating_add(2);
-                number_of(second)
+                Some(second)
             }
             _ => None,
         }
     }
 
+    /// Takes the moment that is looked at, where one is told. Whether it is a number, or one with `-` before it.
+    fn take_at(&mut self, words: &[&[u8]]) -> bool {
+        let Some(word) = self.take_behind(b"at", words) else {
+            return true;
+        };
+        let digits = match word {
+            [b'-', digits @ ..] => {
+                self.is_back = true;
+                digits
+            }
+            _ => word,
+        };
+        self.at = number_of(digits);
+        self.at.is_some()
+    }
+
+    /// Takes the moment of the server's clock, where one is told. Whether it is a number.
+    fn take_now(&mut self, words: &[&[u8]]) -> bool {
+        let Some(word) = self.take_behind(b"now", words) else {
+            return true;
+        };
+        self.now = number_of(word);
+        self.now.is_some()
+    }
+
     /// Takes what a part of a pattern stands for. Whether it is there.
     fn take(&mut self, part: &[u8], words: &[&[u8]]) -> bool {
         match part {
-            [b'[', b'a', ..] => {
-                self.at = self.take_moment(b"at", words);
-                true
-            }
-            [b'[', ..] => {
-                self.now = self.take_moment(b"now", words);
-                true
-            }
+            [b'[', b'a', ..] => self.take_at(words),
+            [b'[', ..] => self.take_now(words),
             _ => match words.get(self.taken) {
                 Some(word) => self.take_word(part, word),
                 None => false,
@@ -390,32 +426,54 @@ fn command_of<'a>(alloc: Global, words: &[&'a [u8]]) -> Result<Option<Command<'a
         numbers,
         bytes,
         at: given.at,
+        is_back: given.is_back,
         now: given.now.unwrap_or(0),
     }))
 }
 
-/// A line of a script: its commands, which are done so often in turn, and the words of the answer that must come.
+/// A command, and the answer that must come.
+#[derive(Drop)]
+pub(crate) struct Part<'a> {
+    pub(crate) command: Command<'a>,
+    pub(crate) expected: Option<&'a [u8]>,
+}
+
+/// A line of a script: commands that are done in turn, so often, and the line as it stands before its last answer.
 #[derive(Drop)]
 pub(crate) struct Line<'a> {
     pub(crate) times: u64,
-    pub(crate) commands: Vec<Command<'a>>,
-    pub(crate) expected: Option<&'a [u8]>,
+    pub(crate) parts: Vec<Part<'a>>,
     pub(crate) text: &'a [u8],
 }
 
-/// Where the arrow before an answer stands: the first one outside of quotes, with a space on both sides.
-fn find_arrow(line: &[u8]) -> Option<usize> {
+/// The arrow before an answer.
+const ARROW: &[u8] = b" -> ";
+
+/// Where the arrow before an answer stands: the first one outside of quotes.
+fn find_arrow(part: &[u8]) -> Option<usize> {
     let mut is_quoted = false;
-    for place in 0..line.len() {
-        is_quoted = is_quoted != (line[place] == b'"');
-        if !is_quoted && line.get(place..).unwrap_or(&[]).starts_with(b" -> ") {
+    for place in 0..part.len() {
+        is_quoted = is_quoted != (part[place] == b'"');
+        if !is_quoted && part.get(place..).unwrap_or(&[]).starts_with(ARROW) {
             return Some(place);
         }
     }
     None
 }
 
-/// How often a line's commands are done, and their words.
+/// What stands before the arrow, and the answer behind it, if there is one.
+fn cut_answer(part: &[u8]) -> (&[u8], Option<&[u8]>) {
+    let Some(place) = find_arrow(part) else {
+        return (part, None);
+    };
+    let (text, rest) = part.split_at(place.min(part.len()));
+    match rest.get(ARROW.len()..) {
+        Some(answer) => (text, Some(answer.trim_ascii())),
+        None => (text, None),
+    }
+}
+
+/// How often a line's commands are done, and the words behind that.
 fn times_of<'a, 'b>(words: &'b [&'a [u8]]) -> (u64, &'b [&'a [u8]]) {
     if let [count, times, rest @ ..] = words
         && *times == b"times".as_slice()
@@ -426,36 +484,41 @@ fn times_of<'a, 'b>(words: &'b [&'a [u8]]) -> (u64, &'b [&'a [u8]]) {
     (1, words)
 }
 
-/// The commands that words spell, with `;` between two of them. None where some of them spell none.
-fn commands_of<'a>(alloc: Global, words: &[&'a [u8]]) -> Result<Option<Vec<Command<'a>>>, Refusal> {
-    let mut commands = Vec::new(alloc);
-    for part in words.split(|word| *word == b";".as_slice()) {
-        match command_of(alloc, part)? {
-            Some(command) => commands.push(command)?,
-            None => return Ok(None),
-        }
-    }
-    Ok(Some(commands))
-}
-
-/// What a line says, if it spells commands.
-pub(crate) fn line_of<'a>(alloc: Global, line: &'a [u8]) -> Result<Option<Line<'a>>, Refusal> {
-    let (text, expected) = match find_arrow(line) {
-        Some(place) => (
-            line.get(..place).unwrap_or(line),
-            line.get(place.saturating_add(4)..),
-        ),
-        None => (line, None),
-    };
+/// Puts what a part says behind other parts, and how often it says that they are done. None where it spells no command.
+fn push_part<'a>(
+    alloc: Global,
+    parts: &mut Vec<Part<'a>>,
+    part: &'a [u8],
+) -> Result<Option<u64>, Refusal> {
+    let (text, expected) = cut_answer(part);
     let words = parts_of(alloc, text, b' ')?;
     let (times, words) = times_of(words.as_slice());
-    let Some(commands) = commands_of(alloc, words)? else {
+    let Some(command) = command_of(alloc, words)? else {
         return Ok(None);
     };
+    parts.push(Part { command, expected })?;
+    Ok(Some(times))
+}
+
+/// What a line says, if it spells commands. Only its first part can say how often.
+pub(crate) fn line_of<'a>(alloc: Global, line: &'a [u8]) -> Result<Option<Line<'a>>, Refusal> {
+    let mut parts = Vec::new(alloc);
+    let mut times = 1;
+    let spelled = parts_of(alloc, line, b';')?;
+    for (number, part) in spelled.iter().enumerate() {
+        match push_part(alloc, &mut parts, part)? {
+            Some(count) if number == 0 => times = count,
+            Some(1) => {}
+            _ => return Ok(None),
+        }
+    }
+    let last = spelled.last().copied().unwrap_or(line);
+    let (text, _) = cut_answer(last);
+    let behind = last.len().saturating_sub(text.len());
+    let text = line.get(..line.len().saturating_sub(behind));
     Ok(Some(Line {
         times,
-        commands,
-        expected,
-        text,
+        parts,
+        text: text.unwrap_or(line),
     }))
 }

@@ -1,6 +1,6 @@
 //! A script is played line by line.
 use crate::acting::{perform_acting, perform_asking, perform_tidying, perform_upkeep};
-use crate::commands::{Beginning, Command, Line, Verb, line_of};
+use crate::commands::{Beginning, Command, Line, Part, Verb, line_of};
 use crate::comparing::{perform_comparing, watch};
 use crate::imaging::perform_imaging;
 use crate::looking::perform_look;
@@ -8,7 +8,7 @@ use crate::party::{Played, Scene, play_image, play_new};
 use crate::sitting::{come, perform_sitting};
 use crate::stage::Stage;
 use crate::text::Text;
-use crate::words::{is_said, parts_of};
+use crate::words::is_said;
 use s4_model::PlainDrive;
 use s4_types::limits::{FEWEST_FRAMES, MOST_FRAMES};
 use s4_types::{Refusal, Role};
@@ -98,7 +98,7 @@ fn do_command<D: Played, R: Threads>(
     drive: &mut D,
     command: &Command<'_>,
 ) -> Result<String, Refusal> {
-    stage.is_spent = false;
+    stage.begin_command();
     match try_command(rt, stage, drive, command) {
         Err(Refusal::NoMemory) if !stage.is_spent => try_command(rt, stage, drive, command),
         told => told,
@@ -110,23 +110,64 @@ fn is_good(told: &str) -> bool {
     !told.starts_with("Refused ") && !told.starts_with("Damaged ") && told != "Idle"
 }
 
-/// What a line is answered, and whether all before its last answer went well.
-fn do_line<D: Played, R: Threads>(
+/// What a line is answered: its last answer, or the first that isn't right, with what is expected there.
+#[derive(Drop)]
+struct Outcome<'a> {
+    told: String,
+    expected: Option<&'a [u8]>,
+    is_right: bool,
+}
+
+/// What a part is answered, and whether that is right. Where it is done once more, what its line ends with may come the last time
+/// alone.
+fn do_part<'a, D: Played, R: Threads>(
     rt: &R,
     stage: &mut Stage,
     drive: &mut D,
-    line: &Line<'_>,
-) -> Result<(String, bool), Refusal> {
-    let mut told = String::new(stage.alloc);
-    for _ in 0..line.times {
-        for command in line.commands.as_slice() {
-            if !is_good(told.as_str()) {
-                return Ok((told, false));
+    part: &Part<'a>,
+    is_awaited: bool,
+) -> Result<Outcome<'a>, Refusal> {
+    let told = do_command(rt, stage, drive, &part.command)?;
+    let expected = if is_awaited { part.expected } else { None };
+    let is_right = match expected {
+        Some(expected) => { stage.is_partial || is_said(stage.alloc, told.as_bytes(), expected)? }
+        None => stage.is_excused || is_good(told.as_str()),
+    };
+    Ok(Outcome {
+        told,
+        expected,
+        is_right,
+    })
+}
+
+/// What a line is answered.
+fn do_line<'a, D: Played, R: Threads>(
+    rt: &R,
+    stage: &mut Stage,
+    drive: &mut D,
+    line: &Line<'a>,
+) -> Result<Outcome<'a>, Refusal> {
+    let mut outcome = done(stage.alloc)?;
+    let last = line.parts.len().saturating_sub(1);
+    for time in 1..=line.times {
+        for (number, part) in line.parts.iter().enumerate() {
+            let is_awaited = number < last || time == line.times;
+            outcome = do_part(rt, stage, drive, part, is_awaited)?;
+            if !outcome.is_right || !stage.remark.is_empty() {
+                return Ok(outcome);
             }
-            told = do_command(rt, stage, drive, command)?;
         }
     }
-    Ok((told, true))
+    Ok(outcome)
+}
+
+/// What is answered where nothing is in the way.
+fn done<'a>(alloc: Global) -> Result<Outcome<'a>, Refusal> {
+    Ok(Outcome {
+        told: String::from_str(alloc, "Done")?,
+        expected: None,
+        is_right: true,
+    })
 }
 
 impl<'a> Player<'a> {
@@ -156,46 +197,35 @@ impl<'a> Player<'a> {
     }
 
     /// Says how a line differs.
-    fn print_differing(&mut self, line: &Line<'_>, told: &str, remark: &str) {
+    fn print_differing(&mut self, line: &Line<'_>, outcome: &Outcome<'_>, remark: &str) {
         self.report.differing = self.report.differing.saturating_add(1);
         self.print_place();
         self.print(line.text);
         self.report.text.mark(" -> ");
-        self.report.text.mark(told);
+        self.report.text.mark(outcome.told.as_str());
         if !remark.is_empty() {
             self.report.text.mark(", and ");
             self.report.text.mark(remark);
         }
-        if let Some(expected) = line.expected {
+        if let Some(expected) = outcome.expected {
             self.report.text.mark(", and not ");
             self.print(expected);
         }
         self.report.text.mark("\n");
     }
 
-    /// Whether an answer is the one that must come.
-    fn is_right(&self, line: &Line<'_>, told: &str) -> Result<bool, Refusal> {
-        match line.expected {
-            Some(expected) => {
-                let words = parts_of(self.alloc, expected, b' ')?;
-                is_said(self.alloc, told.as_bytes(), words.as_slice())
-            }
-            None => Ok(is_good(told)),
-        }
-    }
-
     /// Judges what a line was answered.
-    fn judge(&mut self, line: &Line<'_>, told: &str, is_whole: bool) -> Result<(), Refusal> {
+    fn judge(&mut self, line: &Line<'_>, outcome: &Outcome<'_>) -> Result<(), Refusal> {
         self.report.lines = self.report.lines.saturating_add(1);
         if self.is_printed {
             self.print(line.text);
             self.report.text.mark(" -> ");
-            self.report.text.mark(told);
+            self.report.text.mark(outcome.told.as_str());
             self.report.text.mark("\n");
         }
         let remark = self.stage.take_remark()?;
-        if !is_whole || !remark.is_empty() || !self.is_right(line, told)? {
-            self.print_differing(line, told, remark.as_str());
+        if !outcome.is_right || !remark.is_empty() {
+            self.print_differing(line, outcome, remark.as_str());
         }
         Ok(())
     }
@@ -222,30 +252,52 @@ impl<'a> Player<'a> {
         }))
     }
 
-    /// Begins another drive, if a line says so, and judges that.
+    /// Judges what a line that begins a drive was answered: Done, or a refusal.
+    fn judge_start(
+        &mut self,
+        line: &Line<'_>,
+        part: &Part<'_>,
+        refusal: Option<Refusal>,
+    ) -> Result<(), Refusal> {
+        let mut text = Text::new(self.alloc);
+        match refusal {
+            Some(refusal) => text.refusal(refusal),
+            None => text.word("Done"),
+        }
+        let told = text.finish()?;
+        let is_right = match part.expected {
+            Some(expected) => is_said(self.alloc, told.as_bytes(), expected)?,
+            None => refusal.is_none(),
+        };
+        let outcome = Outcome {
+            told,
+            expected: part.expected,
+            is_right,
+        };
+        self.judge(line, &outcome)
+    }
+
+    /// Begins another drive, and judges that.
     fn begin<R: Threads>(
         &mut self,
         rt: &R,
         beginning: Beginning,
         line: &Line<'_>,
-        command: &Command<'_>,
+        part: &Part<'_>,
     ) -> Result<Option<Start>, Refusal> {
-        let started = match self.start_of(rt, beginning, command) {
-            Err(Refusal::NoMemory) => self.start_of(rt, beginning, command),
+        let started = match self.start_of(rt, beginning, &part.command) {
+            Err(Refusal::NoMemory) => self.start_of(rt, beginning, &part.command),
             started => started,
         };
         match started {
-            Ok(Some(start)) => {
-                self.judge(line, "Done", true)?;
-                Ok(Some(start))
-            }
             Ok(None) => Ok(self.break_off(line.text)),
+            Ok(start) => {
+                self.judge_start(line, part, None)?;
+                Ok(start)
+            }
             Err(Refusal::NoMemory) => Err(Refusal::NoMemory),
             Err(refusal) => {
-                let mut text = Text::new(self.alloc);
-                text.refusal(refusal);
-                let told = text.finish()?;
-                self.judge(line, told.as_str(), true)?;
+                self.judge_start(line, part, Some(refusal))?;
                 Ok(None)
             }
         }
@@ -268,13 +320,13 @@ impl<'a> Player<'a> {
         let Some(line) = line_of(self.alloc, text)? else {
             return Ok(self.break_off(text));
         };
-        if let [command] = line.commands.as_slice()
-            && let Verb::Begin(beginning) = command.verb
+        if let [part] = line.parts.as_slice()
+            && let Verb::Begin(beginning) = part.command.verb
         {
-            return self.begin(rt, beginning, &line, command);
+            return self.begin(rt, beginning, &line, part);
         }
-        let (told, is_whole) = do_line(rt, &mut self.stage, drive, &line)?;
-        self.judge(&line, told.as_str(), is_whole)?;
+        let outcome = do_line(rt, &mut self.stage, drive, &line)?;
+        self.judge(&line, &outcome)?;
         Ok(None)
     }
 

@@ -167,13 +167,17 @@ fn is_alike(alloc: Global, one: &[u8], other: &[u8]) -> Result<bool, Refusal> {
     }
 }
 
-/// Whether what is told is what these words say.
-pub(crate) fn is_said(alloc: Global, told: &[u8], words: &[&[u8]]) -> Result<bool, Refusal> {
+/// Whether what is told is what is expected, word by word.
+pub(crate) fn is_said(alloc: Global, told: &[u8], expected: &[u8]) -> Result<bool, Refusal> {
+    if told == expected {
+        return Ok(true);
+    }
     let told = parts_of(alloc, told, b' ')?;
-    if told.len() != words.len() {
+    let expected = parts_of(alloc, expected, b' ')?;
+    if told.len() != expected.len() {
         return Ok(false);
     }
-    for (one, other) in told.iter().zip(words.iter()) {
+    for (one, other) in told.iter().zip(expected.iter()) {
         if !is_alike(alloc, one, other)? {
             return Ok(false);
         }
