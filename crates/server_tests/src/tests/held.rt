@@ -228,9 +228,15 @@ pub(super) fn crowd_out<J: Naming + Send + Sync, R: Abort + Threads + Wait + Syn
     drive: &Mutex<Drive<J>>,
 ) -> Result<(), Fail> {
     let seats = all_seats(rt, alloc, drive)?;
-    assert!(rt; are_refused(&serve_two(rt, alloc, drive)), "no seat is free");
+    assert!(rt;
+        are_refused(&serve_two(rt, alloc, drive)),
+        "no seat is free"
+    );
     drop(seats);
-    assert!(rt; are_served(&serve_two(rt, alloc, drive)), "all seats are free");
+    assert!(rt;
+        are_served(&serve_two(rt, alloc, drive)),
+        "all seats are free"
+    );
     Ok(())
 }
 

@@ -147,7 +147,10 @@ pub(super) fn pass<J: Naming + Send + Sync, R: Abort + Threads + Wait + Clock + 
     assert!(rt; has_written(&clients[0], &both), "both objects");
     let last = joined(alloc, &OF_THE_LAST)?;
     assert!(rt; has_written(&clients[1], &last), "the last one");
-    assert!(rt; is_cleaned(rt, drive) == (is_kept_up, is_kept_up), "rows and frames");
+    assert!(rt;
+        is_cleaned(rt, drive) == (is_kept_up, is_kept_up),
+        "rows and frames"
+    );
     Ok(())
 }
 
