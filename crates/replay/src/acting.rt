@@ -190,29 +190,7 @@ pub(crate) fn perform_asking<D: Played>(
     )
 }
 
-/// Somebody fetches, copies or commits. Where the drive refuses memory the plan is spent, so that this is told and not done once
-/// more.
-fn spend<D: Played>(
-    stage: &mut Stage,
-    drive: &mut D,
-    name: &[u8],
-    act: Act,
-    text: &mut Text,
-) -> Result<(), Refusal> {
-    let is_move = !matches!(act, Act::Fetch);
-    let step = Step::By {
-        actor: stage.place_of(name),
-        act,
-    };
-    let answer = drive.take(&step)?;
-    stage.is_spent = true;
-    stage.excuse(is_move, &answer);
-    stage.compare(step, &answer)?;
-    tell_answer(text, &answer);
-    Ok(())
-}
-
-/// Somebody does something else.
+/// Somebody does something else. What spends a plan can't be done once more.
 pub(crate) fn perform_acting<D: Played>(
     stage: &mut Stage,
     drive: &mut D,
@@ -220,13 +198,9 @@ pub(crate) fn perform_acting<D: Played>(
     command: &Command<'_>,
     text: &mut Text,
 ) -> Result<(), Refusal> {
+    stage.is_spent = matches!(acting, Acting::Fetch | Acting::Copy | Acting::Commit);
     let act = act_of(acting, command, drive.clock());
-    match acting {
-        Acting::Fetch | Acting::Copy | Acting::Commit => {
-            spend(stage, drive, command.name, act, text)
-        }
-        _ => act_by(stage, drive, command.name, act, text),
-    }
+    act_by(stage, drive, command.name, act, text)
 }
 
 /// A step of the drive.
@@ -242,17 +216,10 @@ pub(crate) fn perform_upkeep<D: Played>(
     Ok(())
 }
 
-/// A full pass of the cleaner. Where memory is refused it is done once more, and counts what the first one left.
+/// A full pass of the cleaner.
 fn pass<D: Played>(stage: &mut Stage, drive: &mut D, text: &mut Text) -> Result<(), Refusal> {
     stage.is_spent = true;
-    let report = match drive.pass() {
-        Err(Refusal::NoMemory) => {
-            let report = drive.pass()?;
-            stage.is_partial = true;
-            report
-        }
-        report => report?,
-    };
+    let report = drive.pass()?;
     text.word("Passed");
     text.number(report.rewritten as u64);
     text.number(report.removed as u64);
@@ -260,35 +227,10 @@ fn pass<D: Played>(stage: &mut Stage, drive: &mut D, text: &mut Text) -> Result<
     Ok(())
 }
 
-/// The number of the object whose turn it was; 0 at a round's end.
-fn number_of(turn: Turn) -> u64 {
-    match turn {
-        Turn::Cleaned(object) => object.number(),
-        Turn::PassedOver(object, _) => object.number(),
-        Turn::Ended => 0,
-    }
-}
-
-/// Turns up to the next one of an object that was passed over: it waits for the next round.
-fn turn_again<D: Played>(drive: &mut D, object: u64) -> Turn {
-    // (between stand a turn of each other object and the round's end)
-    for _ in 0..drive.next() {
-        let turn = drive.turn();
-        if number_of(turn) == object {
-            return turn;
-        }
-    }
-    Turn::Ended
-}
-
-/// A turn of the cleaner's rounds. Where memory is refused the same object's next turn is the one that is told.
+/// A turn of the cleaner's rounds.
 fn turn<D: Played>(stage: &mut Stage, drive: &mut D, text: &mut Text) -> Result<(), Refusal> {
     stage.is_spent = true;
-    let turn = match drive.turn() {
-        Turn::PassedOver(object, Refusal::NoMemory) => turn_again(drive, object.number()),
-        turn => turn,
-    };
-    match turn {
+    match drive.turn() {
         Turn::Cleaned(object) => {
             text.word("Cleaned");
             text.number(object.number());
@@ -358,7 +300,6 @@ fn keep<D: Played>(
         Err(Refusal::NoMemory) => return Err(Refusal::NoMemory),
         Err(refusal) => Answer::Refused(refusal),
     };
-    stage.is_spent = true;
     let told = stage.reply(place, read_of(&reading), reading.now)?;
     if let Some(told) = &told {
         stage.compare_plan(told, &answer);
@@ -370,20 +311,18 @@ fn keep<D: Played>(
     Ok(())
 }
 
-/// The last plan of the pile is fetched. It is spent then, also where memory is refused.
+/// The last plan of the pile is fetched.
 fn take_last<D: Played>(stage: &mut Stage, drive: &mut D, text: &mut Text) -> Result<(), Refusal> {
     stage.is_spent = true;
-    let told = stage.pile.pop();
-    let answer = match drive.fetch() {
-        Ok(Some(bytes)) => Answer::Bytes(Bytes::from_vec(bytes)),
-        Ok(None) => Answer::Idle,
-        Err(refusal) => Answer::Refused(refusal),
+    let Some(bytes) = drive.fetch()? else {
+        text.word("Idle");
+        return Ok(());
     };
-    stage.excuse(false, &answer);
-    if let (Some(Some(told)), Answer::Bytes(bytes)) = (told, &answer) {
+    if let Some(Some(told)) = stage.pile.pop() {
         stage.compare_bytes(&told, bytes.as_slice());
     }
-    tell_answer(text, &answer);
+    text.word("Bytes");
+    text.bytes(bytes.as_slice());
     Ok(())
 }
 

@@ -14,12 +14,7 @@ pub(crate) fn come<D: Played>(
 ) -> Result<(), Refusal> {
     leave(stage, drive, name);
     drive.come(role)?;
-    let seated = stage.sit(name, role);
-    if seated.is_err() {
-        // (both count their places alike)
-        drive.leave(stage.seats.len());
-    }
-    seated
+    stage.sit(name, role)
 }
 
 /// A session leaves, if it is there.
