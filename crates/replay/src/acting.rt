@@ -190,7 +190,29 @@ pub(crate) fn perform_asking<D: Played>(
     )
 }
 
-/// Somebody does something else. What spends a plan can't be done once more.
+/// Somebody fetches, copies or commits. Where the drive refuses memory the plan is spent, so that this is told and not done once
+/// more.
+fn spend<D: Played>(
+    stage: &mut Stage,
+    drive: &mut D,
+    name: &[u8],
+    act: Act,
+    text: &mut Text,
+) -> Result<(), Refusal> {
+    let is_move = !matches!(act, Act::Fetch);
+    let step = Step::By {
+        actor: stage.place_of(name),
+        act,
+    };
+    let answer = drive.take(&step)?;
+    stage.is_spent = true;
+    stage.excuse(is_move, &answer);
+    stage.compare(step, &answer)?;
+    tell_answer(text, &answer);
+    Ok(())
+}
+
+/// Somebody does something else.
 pub(crate) fn perform_acting<D: Played>(
     stage: &mut Stage,
     drive: &mut D,
@@ -198,9 +220,13 @@ pub(crate) fn perform_acting<D: Played>(
     command: &Command<'_>,
     text: &mut Text,
 ) -> Result<(), Refusal> {
-    stage.is_spent = matches!(acting, Acting::Fetch | Acting::Copy | Acting::Commit);
     let act = act_of(acting, command, drive.clock());
-    act_by(stage, drive, command.name, act, text)
+    match acting {
+        Acting::Fetch | Acting::Copy | Acting::Commit => {
+            spend(stage, drive, command.name, act, text)
+        }
+        _ => act_by(stage, drive, command.name, act, text),
+    }
 }
 
 /// A step of the drive.
@@ -216,10 +242,17 @@ pub(crate) fn perform_upkeep<D: Played>(
     Ok(())
 }
 
-/// A full pass of the cleaner.
+/// A full pass of the cleaner. Where memory is refused it is done once more, and counts what the first one left.
 fn pass<D: Played>(stage: &mut Stage, drive: &mut D, text: &mut Text) -> Result<(), Refusal> {
     stage.is_spent = true;
-    let report = drive.pass()?;
+    let report = match drive.pass() {
+        Err(Refusal::NoMemory) => {
+            let report = drive.pass()?;
+            stage.is_partial = true;
+            report
+        }
+        report => report?,
+    };
     text.word("Passed");
     text.number(report.rewritten as u64);
     text.number(report.removed as u64);
@@ -227,10 +260,24 @@ fn pass<D: Played>(stage: &mut Stage, drive: &mut D, text: &mut Text) -> Result<
     Ok(())
 }
 
-/// A turn of the cleaner's rounds.
+/// The first turn of the next round: an object that was passed over waits for that round.
+fn turn_again<D: Played>(drive: &mut D) -> Turn {
+    for _ in 0..drive.next() {
+        if matches!(drive.turn(), Turn::Ended) {
+            break;
+        }
+    }
+    drive.turn()
+}
+
+/// A turn of the cleaner's rounds. Where memory is refused the next round's first one is told.
 fn turn<D: Played>(stage: &mut Stage, drive: &mut D, text: &mut Text) -> Result<(), Refusal> {
     stage.is_spent = true;
-    match drive.turn() {
+    let turn = match drive.turn() {
+        Turn::PassedOver(_, Refusal::NoMemory) => turn_again(drive),
+        turn => turn,
+    };
+    match turn {
         Turn::Cleaned(object) => {
             text.word("Cleaned");
             text.number(object.number());
@@ -300,6 +347,7 @@ fn keep<D: Played>(
         Err(Refusal::NoMemory) => return Err(Refusal::NoMemory),
         Err(refusal) => Answer::Refused(refusal),
     };
+    stage.is_spent = true;
     let told = stage.reply(place, read_of(&reading), reading.now)?;
     if let Some(told) = &told {
         stage.compare_plan(told, &answer);
@@ -311,18 +359,20 @@ fn keep<D: Played>(
     Ok(())
 }
 
-/// The last plan of the pile is fetched.
+/// The last plan of the pile is fetched. It is spent then, also where memory is refused.
 fn take_last<D: Played>(stage: &mut Stage, drive: &mut D, text: &mut Text) -> Result<(), Refusal> {
     stage.is_spent = true;
-    let Some(bytes) = drive.fetch()? else {
-        text.word("Idle");
-        return Ok(());
+    let told = stage.pile.pop();
+    let answer = match drive.fetch() {
+        Ok(Some(bytes)) => Answer::Bytes(Bytes::from_vec(bytes)),
+        Ok(None) => Answer::Idle,
+        Err(refusal) => Answer::Refused(refusal),
     };
-    if let Some(Some(told)) = stage.pile.pop() {
+    stage.excuse(false, &answer);
+    if let (Some(Some(told)), Answer::Bytes(bytes)) = (told, &answer) {
         stage.compare_bytes(&told, bytes.as_slice());
     }
-    text.word("Bytes");
-    text.bytes(bytes.as_slice());
+    tell_answer(text, &answer);
     Ok(())
 }
 

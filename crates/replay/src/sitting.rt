@@ -14,7 +14,12 @@ pub(crate) fn come<D: Played>(
 ) -> Result<(), Refusal> {
     leave(stage, drive, name);
     drive.come(role)?;
-    stage.sit(name, role)
+    let seated = stage.sit(name, role);
+    if seated.is_err() {
+        // (both count their places alike)
+        drive.leave(stage.seats.len());
+    }
+    seated
 }
 
 /// A session leaves, if it is there.

@@ -27,6 +27,12 @@ pub(crate) struct Stage {
     pub(crate) is_watched: bool,
     /// Whether a command that is refused memory can't be done once more.
     pub(crate) is_spent: bool,
+    /// Whether an answer comes of memory that the drive was refused, and passes where none is told.
+    pub(crate) is_excused: bool,
+    /// Whether an answer counts a part of the work alone, as the rest was done before memory was refused, and passes whatever is told.
+    pub(crate) is_partial: bool,
+    /// Whether a move was lost since memory was refused, so that nothing may be left to copy or commit.
+    has_lost: bool,
     /// What is wrong beside the answer; nothing where all is right.
     pub(crate) remark: Text,
     pub(crate) image: Vec<u8>,
@@ -43,6 +49,9 @@ impl Stage {
             pile: Vec::new(alloc),
             is_watched: false,
             is_spent: false,
+            is_excused: false,
+            is_partial: false,
+            has_lost: false,
             remark: Text::new(alloc),
             image: Vec::new(alloc),
             kept: Vec::new(alloc),
@@ -56,6 +65,26 @@ impl Stage {
         self.pile.clear();
         self.plain = plain;
         self.is_watched = false;
+        self.has_lost = false;
+    }
+
+    /// A command begins.
+    pub(crate) fn begin_command(&mut self) {
+        self.is_spent = false;
+        self.is_excused = false;
+        self.is_partial = false;
+    }
+
+    /// Excuses what a plan was answered, where that comes of memory that was refused.
+    pub(crate) fn excuse(&mut self, is_move: bool, answer: &Answer) {
+        match answer {
+            Answer::Refused(Refusal::NoMemory) => {
+                self.is_excused = true;
+                self.has_lost = self.has_lost || is_move;
+            }
+            Answer::Idle => self.is_excused = is_move && self.has_lost,
+            _ => {}
+        }
     }
 
     /// Where somebody sits; behind all where nobody has that name.
@@ -203,8 +232,8 @@ impl Stage {
         }
         match (planned, answer) {
             (Some(told), Answer::Bytes(given)) => self.compare_bytes(&told, given.as_slice()),
+            (None, Answer::Idle) | (Some(_), Answer::Refused(Refusal::NoMemory)) => {}
             (Some(told), _) => self.remark_reply(&told),
-            (None, Answer::Idle) => {}
             (None, _) => self.remark.word("the plain drive has no plan"),
         }
     }

@@ -115,24 +115,17 @@ fn put_part(bytes: &mut Vec<u8>, part: &[u8]) -> Result<bool, Refusal> {
     match part {
         [b'"', ..] => put_text(bytes, part),
         [high, low, b'.', b'.', b'*', count @ ..] => {
-            put_round(bytes, byte_of(*high, *low), Some(u8::MAX), count)
+            put_from(bytes, byte_of(*high, *low), Some(u8::MAX), count)
         }
         [high, low, b'.', b'.', top, end, b'*', count @ ..] => {
-            put_round(bytes, byte_of(*high, *low), byte_of(*top, *end), count)
+            put_from(bytes, byte_of(*high, *low), byte_of(*top, *end), count)
         }
         [high, low, b'*', count @ ..] => put_many(bytes, byte_of(*high, *low), count),
         _ => put_hex(bytes, part),
     }
 }
 
-fn put_many(bytes: &mut Vec<u8>, byte: Option<u8>, count: &[u8]) -> Result<bool, Refusal> {
-    match (byte, number_of(count)) {
-        (Some(byte), Some(count)) => put_times(bytes, byte, count),
-        _ => Ok(false),
-    }
-}
-
-fn put_round(
+fn put_from(
     bytes: &mut Vec<u8>,
     first: Option<u8>,
     last: Option<u8>,
@@ -140,6 +133,13 @@ fn put_round(
 ) -> Result<bool, Refusal> {
     match (first, last, number_of(count)) {
         (Some(first), Some(last), Some(count)) => put_ascending(bytes, first, last, count),
+        _ => Ok(false),
+    }
+}
+
+fn put_many(bytes: &mut Vec<u8>, byte: Option<u8>, count: &[u8]) -> Result<bool, Refusal> {
+    match (byte, number_of(count)) {
+        (Some(byte), Some(count)) => put_times(bytes, byte, count),
         _ => Ok(false),
     }
 }
