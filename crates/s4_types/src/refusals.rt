@@ -4,10 +4,11 @@ ghost use Rattle.s4_types.specs.declared.refusals.Refusal.{Refusal as Refused};
 ghost use Rattle.s4_types.specs.declared.refusals.Refusal.TheVariants.{NoMemory};
 
 use std::alloc::{AllocError, AllocFailed};
-use thiserror::Error;
+use std::error::Error;
+use std::fmt::{self, Debug, Display, Formatter};
 
 /// Why bytes are no image: the first part of the format that they break.
-#[derive(Clone, Copy, Debug, PartialEq, Eq, Error)]
+#[derive(Clone, Copy, Debug, PartialEq, Eq, thiserror::Error)]
 pub enum Cause {
     #[error("header")]
     Header,
@@ -25,67 +26,59 @@ pub enum Cause {
     Chain,
 }
 
-/// Why a call or a request was refused. Each prints its name, `Damaged` its cause behind it.
-#[derive(Clone, Copy, Debug, PartialEq, Eq, Error)]
+/// Why a call or a request was refused. Each prints its name, `Damaged` its cause after it.
+#[derive(Clone, Copy, Debug, PartialEq, Eq)]
 pub enum Refusal {
     /// The object isn't there, now or at the moment that was asked for.
-    #[error("NoObject")]
     NoObject,
     /// A client asked for what administrators alone may do.
-    #[error("NotAdmin")]
     NotAdmin,
     /// The moment is below the floor.
-    #[error("Expired")]
     Expired,
     /// The moment is above the clock.
-    #[error("Future")]
     Future,
     /// A span hides the moment.
-    #[error("Flushed")]
     Flushed,
     /// An object or a read would be larger than the limit, or a read would end above 2^64 - 1.
-    #[error("TooLarge")]
     TooLarge,
     /// A span that doesn't end at or after its beginning and at or before the clock.
-    #[error("BadSpan")]
     BadSpan,
     /// The span would make more runs than a list, or all lists, may have.
-    #[error("TooManySpans")]
     TooManySpans,
     /// Too little room for the blocks that the change must append.
-    #[error("NoSpace")]
     NoSpace,
     /// A growth of memory was really refused.
-    #[error("NoMemory")]
     NoMemory,
     /// The clock, or the next object's number, is at its end.
-    #[error("ClockEnd")]
     ClockEnd,
     /// The object's chain would hold more bytes of entries than a chain may.
-    #[error("ChainFull")]
     ChainFull,
     /// An attribute longer than the limit.
-    #[error("BadAttr")]
     BadAttr,
     /// No seat, or no place in a frame's reader field, was to be had, or each try of a pin found the word changed.
-    #[error("Busy")]
     Busy,
     /// Bytes that spell no request.
-    #[error("BadFrame")]
     BadFrame,
     /// Bytes that are no image.
-    #[error("Damaged {0}")]
     Damaged(Cause),
     /// A move of an object that has changed since it was planned.
-    #[error("Stale")]
     Stale,
     /// Too little room for what the cleaner or the copier must write.
-    #[error("NoRoom")]
     NoRoom,
     /// A frame that can't be marked or released now.
-    #[error("InUse")]
     InUse,
 }
+
+impl Display for Refusal {
+    fn fmt<W: fmt::Write>(&self, f: &mut Formatter<W>) -> fmt::Result {
+        match self {
+            Refusal::Damaged(cause) => write!(f, "Damaged {cause}"),
+            named => Debug::fmt(named, f),
+        }
+    }
+}
+
+impl Error for Refusal {}
 
 impl Refusal {
     /// The refusal's number, from 1 to 19.
