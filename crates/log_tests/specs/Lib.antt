@@ -1,2 +1,0 @@
-pub mod Subject
-pub mod Places
