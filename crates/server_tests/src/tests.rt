@@ -16,7 +16,6 @@ macro_rules! client {
 
 mod clocks;
 mod held;
-mod kept_up;
 
 use drive::NewDrive;
 use segment_word::Naming;
@@ -29,21 +28,17 @@ use std::sync::atomic::{AtomicBool, Ordering};
 use std::sync::{Mutex, Wait};
 use std::test::Fail;
 use std::thread::{Threads, yield_now};
-use std::time::Clock;
 
-/// What a test does with a new drive of 16 frames.
+/// What a test does with a new drive of 16 frames, with a window of 100 moments.
 #[derive(Clone, Copy)]
 enum Scene {
     Held,
     Sixteen,
     Crowded,
-    KeptUp,
-    NotKeptUp,
-    Sparse,
 }
 
 /// Plays a scene. The drive is let go here alone, since that is proved anew in each function that does so.
-fn play_named<J: Naming + Send + Sync, R: Abort + Threads + Wait + Clock + Sync>(
+fn play_named<J: Naming + Send + Sync, R: Abort + Threads + Wait + Sync>(
     rt: &R,
     alloc: Global,
     made: NewDrive,
@@ -58,19 +53,11 @@ fn play_named<J: Naming + Send + Sync, R: Abort + Threads + Wait + Clock + Sync>
         Scene::Held => held::hold(rt, alloc, &drive),
         Scene::Sixteen => held::gather(rt, alloc, &drive),
         Scene::Crowded => held::crowd_out(rt, alloc, &drive),
-        Scene::KeptUp => kept_up::pass(rt, alloc, &drive, true),
-        Scene::NotKeptUp => kept_up::pass(rt, alloc, &drive, false),
-        Scene::Sparse => kept_up::empty_out(rt, alloc, &drive),
     }
 }
 
-fn play<R: Abort + Threads + Wait + Clock + Sync>(
-    rt: &R,
-    alloc: Global,
-    window: u64,
-    scene: Scene,
-) -> Result<(), Fail> {
-    let made = NewDrive::new(alloc, 16, window)?;
+fn play<R: Abort + Threads + Wait + Sync>(rt: &R, alloc: Global, scene: Scene) -> Result<(), Fail> {
+    let made = NewDrive::new(alloc, 16, 100)?;
     play_named::<Brand, R>(rt, alloc, made, scene)
 }
 

@@ -124,7 +124,7 @@ pub(super) fn hold<J: Naming + Send + Sync, R: Abort + Threads + Wait + Sync>(
 
 #[test]
 fn a_read_is_fetched_after_its_bytes_were_changed(rt: HostRuntime) -> Result<(), Fail> {
-    play(&rt, rt.alloc(), 100, Scene::Held)
+    play(&rt, rt.alloc(), Scene::Held)
 }
 
 /// 16 sessions at once, each held in its first read until all are there. Each is asked once.
@@ -174,7 +174,7 @@ pub(super) fn gather<J: Naming + Send + Sync, R: Abort + Threads + Wait + Sync>(
 
 #[test]
 fn sixteen_sessions_are_held_at_once(rt: HostRuntime) -> Result<(), Fail> {
-    play(&rt, rt.alloc(), 100, Scene::Sixteen)
+    play(&rt, rt.alloc(), Scene::Sixteen)
 }
 
 /// Sessions that keep all seats of a drive.
@@ -242,5 +242,5 @@ pub(super) fn crowd_out<J: Naming + Send + Sync, R: Abort + Threads + Wait + Syn
 
 #[test]
 fn a_session_without_a_seat_is_refused(rt: HostRuntime) -> Result<(), Fail> {
-    play(&rt, rt.alloc(), 100, Scene::Crowded)
+    play(&rt, rt.alloc(), Scene::Crowded)
 }
