@@ -1,15 +1,6 @@
-//! The layers, from frames up to the rows of objects.
-mod changes;
-mod checkpoint_blocks;
-mod cleaned_chains;
-mod empty_chains;
-mod emptying;
-mod inodes;
-mod links;
-mod maps;
-mod memories;
+//! The layers, from frames and records up to the wire.
 mod numbers;
-mod requests;
+mod records;
 mod seats;
-mod undoing;
-mod windows;
+mod summaries;
+mod wire;

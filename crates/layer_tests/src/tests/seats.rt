@@ -1,5 +1,5 @@
 //! Frames and pins, in one thread and in two.
-ghost use Rattle.std.specs.Prelude.{◌≡◌, ◌≢◌, ℕ, ◌+◌, ◌<◌, ◌≤◌, ◌^◌, length};
+ghost use Rattle.std.specs.Prelude.{◌≡◌, ◌≢◌, ℕ, ◌+◌, ◌<◌, ◌^◌, length};
 ghost use Rattle.segment_word.specs.Frames.Phase.{Free, Sealed};
 ghost use Rattle.segment_word.specs.Layout.{frame_at};
 ghost use Rattle.segment_word.specs.Counting.{pins_in};
@@ -9,8 +9,72 @@ use segment_word::{DriveSeat, Frames, Pin};
 use std::test::Fail;
 use std::thread::join;
 
+/// A pin that counts on frame 0, and was told so twice.
+fn pinned(frames: &Frames, drive: &mut DriveSeat) -> Result<Pin, Refusal>
+    requires table { drive.old.table ≡ frames.now }
+    requires inside { 0 < length drive.old.frames }
+    requires sealed { (frame_at drive.old.frames 0).phase ≡ Sealed }
+    ensures { drive.new ≡ drive.old }
+{
+    let mut pin = frames.seat()?;
+    pin.add(drive.frame(0))?;
+    pin.add(drive.frame(0))?;
+    Ok(pin)
+}
+
+/// The word of frame 0 when it is opened, sealed, counted on twice, once, marked, refused to its release, counted on no more,
+/// and released.
+const WORDS: [u64; 8] = [
+    0x0000_0001_0000_0001,
+    0x0000_0001_0000_0002,
+    0x0000_0001_0000_000a,
+    0x0000_0001_0000_0006,
+    0x0000_0001_0000_0007,
+    0x0000_0001_0000_0007,
+    0x0000_0001_0000_0003,
+    0x0000_0002_0000_0000,
+];
+
+/// The words of frame 0 through its life.
+fn words(frames: &Frames, drive: &mut DriveSeat) -> Result<[u64; 8], Refusal>
+    requires table { drive.old.table ≡ frames.now }
+    requires inside { 0 < length drive.old.frames }
+    requires free { (frame_at drive.old.frames 0).phase ≡ Free }
+    requires goes_on { (frame_at drive.old.frames 0).generation + 1 < 2 ^ 32 }
+{
+    drive.open(0);
+    let opened = drive.state(0);
+    drive.seal(0);
+    let sealed = drive.state(0);
+    let one = pinned(frames, drive)?;
+    let two = pinned(frames, drive)?;
+    let twice = drive.state(0);
+    drop(one);
+    let once = drive.state(0);
+    drive.mark(0);
+    let marked = drive.state(0);
+    let _ = drive.release(0);
+    let refused = drive.state(0);
+    drop(two);
+    let unread = drive.state(0);
+    let _ = drive.release(0);
+    let released = drive.state(0);
+    Ok([
+        opened, sealed, twice, once, marked, refused, unread, released,
+    ])
+}
+
+#[test]
+fn state_words_of_frame_0(rt: HostRuntime) {
+    let is_so = match Frames::new(rt.alloc(), 8) {
+        Ok((frames, mut drive)) => words(&frames, &mut drive) == Ok(WORDS),
+        Err(_) => false,
+    };
+    assert!(rt; is_so);
+}
+
 // 512 bytes that differ from block to block and from frame to frame.
-pub fn pattern(frame: usize, block: usize) -> [u8; 512]
+fn pattern(frame: usize, block: usize) -> [u8; 512]
     requires { (frame < 8) × (block < 16) }
 {
     let mut bytes = [0; 512];
@@ -21,7 +85,7 @@ pub fn pattern(frame: usize, block: usize) -> [u8; 512]
 }
 
 // A free frame is opened, filled with its pattern, and sealed.
-pub fn fill(drive: &mut DriveSeat, frame: usize)
+fn fill(drive: &mut DriveSeat, frame: usize)
     requires inside { (frame < length drive.old.frames) × (frame < 8) }
     requires free { (frame_at drive.old.frames frame).phase ≡ Free }
     requires goes_on { (frame_at drive.old.frames frame).generation + 1 < 2 ^ 32 }
@@ -49,49 +113,6 @@ fn is_intact(mut pin: Pin, frame: usize) -> bool
     true
 }
 
-/// The word of a frame that is opened and sealed, counted on twice, once, and no more.
-const WORDS: [u64; 5] = [
-    0x0000_0001_0000_0001,
-    0x0000_0001_0000_0002,
-    0x0000_0001_0000_000a,
-    0x0000_0001_0000_0006,
-    0x0000_0001_0000_0002,
-];
-
-#[test]
-fn state_words_of_frame_0(rt: HostRuntime) -> Result<(), Fail> {
-    let (frames, mut drive) = Frames::new(rt.alloc(), 8)?;
-    drive.open(0);
-    let opened = drive.state(0);
-    drive.seal(0);
-    let sealed = drive.state(0);
-    let mut one = frames.seat()?;
-    one.add(drive.frame(0))?;
-    let mut two = frames.seat()?;
-    two.add(drive.frame(0))?;
-    two.add(drive.frame(0))?;
-    let counted = drive.state(0);
-    drop(one);
-    let left = drive.state(0);
-    drop(two);
-    let words = [opened, sealed, counted, left, drive.state(0)];
-    assert!(rt; words == WORDS);
-    Ok(())
-}
-
-#[test]
-fn sixty_four_seats(rt: HostRuntime) -> Result<(), Fail> {
-    let (frames, _drive) = Frames::new(rt.alloc(), 8)?;
-    let mut pins = Vec::new(rt.alloc());
-    for _ in 0..64 {
-        pins.push(frames.seat()?)?;
-    }
-    assert!(rt; matches!(&frames.seat(), Err(Refusal::Busy)));
-    drop(pins.pop());
-    assert!(rt; frames.seat().is_ok());
-    Ok(())
-}
-
 #[test]
 fn reads_while_another_frame_is_written(rt: HostRuntime) -> Result<(), Fail> {
     let (frames, mut drive) = Frames::new(rt.alloc(), 8)?;
@@ -117,57 +138,34 @@ fn reads_while_another_frame_is_written(rt: HostRuntime) -> Result<(), Fail> {
     Ok(())
 }
 
-// Whether the last block of frame 7 is what its parts before and behind a place give.
-fn is_both_parts(pin: &mut Pin, at: usize, into: &mut Vec<u8>) -> Result<bool, Refusal>
-    requires { (0 < pins_in 7 pin.old.pins) × (at ≤ 512) }
-    ensures { pin.new ≡ pin.old }
+/// Whether frame 0 is counted on, or memory was refused and no reader is counted.
+fn is_counted_or_not(frames: &Frames, drive: &mut DriveSeat) -> bool
+    requires table { drive.old.table ≡ frames.now }
+    requires inside { 0 < length drive.old.frames }
+    requires sealed { (frame_at drive.old.frames 0).phase ≡ Sealed }
 {
-    into.clear();
-    pin.append_bytes(7, 15, 0, at, into)?;
-    pin.append_bytes(7, 15, at, 512, into)?;
-    Ok(into.as_slice() == pattern(7, 15).as_slice())
-}
-
-fn is_all_parts(mut pin: Pin, mut into: Vec<u8>) -> Result<bool, Refusal>
-    requires { 0 < pins_in 7 pin.pins }
-{
-    for at in 0..513usize {
-        if !is_both_parts(&mut pin, at, &mut into)? {
-            return Ok(false);
+    let Ok(mut pin) = frames.seat() else {
+        return false;
+    };
+    match pin.add(drive.frame(0)) {
+        Ok(()) => drive.state(0) == 0x0000_0001_0000_0006,
+        Err(refusal) => {
+            refusal == Refusal::NoMemory
+                && !pin.counts_on(0)
+                && drive.state(0) == 0x0000_0001_0000_0002
         }
     }
-    Ok(true)
-}
-
-#[test]
-fn parts_of_a_block(rt: HostRuntime) -> Result<(), Fail> {
-    let (frames, mut drive) = Frames::new(rt.alloc(), 8)?;
-    fill(&mut drive, 7);
-    let mut pin = frames.seat()?;
-    pin.add(drive.frame(7))?;
-    assert!(rt; is_all_parts(pin, Vec::new(rt.alloc()))?);
-    Ok(())
 }
 
 // Passes under each refusal of memory: `NoMemory` is the answer, and nothing has changed.
 #[test]
 fn refused_memory_changes_nothing(rt: HostRuntime) {
-    let (frames, mut drive) = match Frames::new(rt.alloc(), 8) {
-        Ok(made) => made,
-        Err(refusal) => {
-            assert!(rt; refusal == Refusal::NoMemory);
-            return;
+    let is_so = match Frames::new(rt.alloc(), 8) {
+        Ok((frames, mut drive)) => {
+            fill(&mut drive, 0);
+            is_counted_or_not(&frames, &mut drive)
         }
+        Err(refusal) => refusal == Refusal::NoMemory,
     };
-    fill(&mut drive, 0);
-    let Ok(mut pin) = frames.seat() else {
-        panic!(rt; "all seats are free")
-    };
-    match pin.add(drive.frame(0)) {
-        Ok(()) => assert!(rt; drive.state(0) == 0x0000_0001_0000_0006),
-        Err(refusal) => {
-            assert!(rt; refusal == Refusal::NoMemory && !pin.counts_on(0));
-            assert!(rt; drive.state(0) == 0x0000_0001_0000_0002);
-        }
-    }
+    assert!(rt; is_so);
 }
