@@ -5,7 +5,7 @@ use s4_types::limits::ATTRIBUTE_BYTES;
 use std::marker::Model;
 
 /// An attribute of an object, of at most 64 bytes. Contracts see the list of its bytes.
-#[derive(Clone, Copy, Debug, PartialEq, Eq)]
+#[derive(Clone, Copy, PartialEq, Eq)]
 pub struct Attribute {
     len: u8,
     // Zero behind the attribute.

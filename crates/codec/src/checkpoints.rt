@@ -17,7 +17,7 @@ use std::marker::Model;
 ///
 /// The object's number, both moments of its making and of the checkpoint are at least 1, the size is at most
 /// 24,576, and pointers past the size are holes.
-#[derive(Clone, Copy, Debug, PartialEq, Eq)]
+#[derive(Clone, Copy, PartialEq, Eq)]
 pub struct Checkpoint {
     object: ObjectId,
     moment: Moment,

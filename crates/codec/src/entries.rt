@@ -11,7 +11,7 @@ use s4_types::{Moment, Ptr};
 use std::marker::Model;
 
 /// What an entry tells of an inode in front of a moment, or behind it.
-#[derive(Clone, Copy, Debug, PartialEq, Eq)]
+#[derive(Clone, Copy, PartialEq, Eq)]
 pub struct Status {
     pub alive: bool,
     /// In bytes.
@@ -20,7 +20,7 @@ pub struct Status {
 }
 
 /// A pointer that changed: its index, what stood there and what stands there.
-#[derive(Clone, Copy, Debug, Default, PartialEq, Eq)]
+#[derive(Clone, Copy, Default, PartialEq, Eq)]
 pub struct Triple {
     pub index: u8,
     pub before: Option<Ptr>,
@@ -28,7 +28,7 @@ pub struct Triple {
 }
 
 /// An attribute that changed.
-#[derive(Clone, Copy, Debug, PartialEq, Eq)]
+#[derive(Clone, Copy, PartialEq, Eq)]
 pub struct Pair {
     pub before: Attribute,
     pub after: Attribute,
@@ -38,7 +38,7 @@ pub struct Pair {
 pub type Triples = ArrayVec<Triple, ENTRY_TRIPLES>;
 
 /// Which of its parts an entry has.
-#[derive(Clone, Copy, Debug)]
+#[derive(Clone, Copy)]
 pub(crate) struct Flags {
     pub(crate) before: bool,
     pub(crate) after: bool,
@@ -50,7 +50,7 @@ pub(crate) struct Flags {
 /// The rules of a single entry hold: the moment is at least 1, one of the two is alive, what was dead had no
 /// size and no moment of change, what is alive was changed at the moment, of what is dead the flag alone
 /// changed, the attributes of a pair differ, and so do the two pointers of a triple, whose indices ascend.
-#[derive(Clone, Debug, Drop, PartialEq, Eq)]
+#[derive(Clone, Drop, PartialEq, Eq)]
 pub struct Entry {
     moment: Moment,
     before: Status,

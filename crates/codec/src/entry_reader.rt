@@ -90,7 +90,7 @@ fn entry_from(block: &[u8], start: u16) -> Entry
 /// were given.
 ///
 /// It keeps the block's bytes, and decodes an entry when it is asked for.
-#[derive(Debug, Drop)]
+#[derive(Drop)]
 pub struct EntryReader {
     previous: Option<Ptr>,
     block: [u8; BLOCK_BYTES],

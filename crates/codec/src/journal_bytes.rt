@@ -24,7 +24,7 @@ const HEAD_BYTES: usize = 24;
 ///
 /// Contracts see the journal block that the bytes spell: the object's number is at least 1, and there are 1 to 14
 /// entries, of at most 488 bytes together.
-#[derive(Debug, Drop)]
+#[derive(Drop)]
 pub struct JournalBytes {
     block: [u8; BLOCK_BYTES],
 }

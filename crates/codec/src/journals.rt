@@ -15,7 +15,7 @@ pub type Entries = ArrayVec<Entry, JOURNAL_ENTRIES>;
 /// Entries of one object, the oldest first, and where its earlier ones stand, as a block of the log keeps them.
 ///
 /// The object's number is at least 1, and there are 1 to 14 entries, of at most 488 bytes together.
-#[derive(Debug, Drop)]
+#[derive(Drop)]
 pub struct JournalBlock {
     object: ObjectId,
     previous: Option<Ptr>,

@@ -20,7 +20,7 @@ pub(crate) const PARTS_AND_ZEROS: usize = 464;
 pub(crate) const PART_BYTES: usize = 9;
 
 /// What a used payload block is for, and whose it is.
-#[derive(Clone, Copy, Debug, PartialEq, Eq)]
+#[derive(Clone, Copy, PartialEq, Eq)]
 pub struct Part {
     pub kind: BlockKind,
     pub object: ObjectId,
@@ -44,7 +44,7 @@ pub type Parts = ArrayVec<Part, PAYLOAD_BLOCKS>;
 /// The summary of a frame at one of its generations: what its used payload blocks are.
 ///
 /// The generation is 1 to 2^32 - 2, one to 15 blocks are used, and the number of each block's object is at least 1.
-#[derive(Debug, Drop)]
+#[derive(Drop)]
 pub struct Summary {
     frame: u16,
     generation: u32,

@@ -12,7 +12,7 @@ use std::marker::Model;
 /// A reader of a chain's entries, the newest first.
 ///
 /// Each block is read once, an entry of it is decoded when it is asked for, and no memory is taken.
-#[derive(Debug, Drop)]
+#[derive(Drop)]
 pub struct EntriesBack {
     // The block before the one being read.
     previous: Option<Ptr>,

@@ -33,7 +33,7 @@ use std::marker::Model;
 const CHAIN_ENTRIES: usize = 344;
 
 /// What is kept of an object's chain of journal blocks beside the object's row.
-#[derive(Clone, Copy, Debug, PartialEq, Eq)]
+#[derive(Clone, Copy, PartialEq, Eq)]
 pub struct Chain {
     object: ObjectId,
     head: Option<Ptr>,

@@ -11,7 +11,7 @@ use std::mem;
 use std::ops::Bound;
 
 /// Where an object's versions stand.
-#[derive(Clone, Copy, Debug, PartialEq, Eq)]
+#[derive(Clone, Copy, PartialEq, Eq)]
 pub struct Row {
     /// The moment of the object's creation.
     pub created: Moment,

@@ -12,7 +12,7 @@ use s4_types::limits::FRAME_BODY_BYTES;
 use std::alloc::Global;
 
 /// A length that no body has.
-#[derive(Debug, Drop)]
+#[derive(Drop)]
 pub(crate) struct TooLong;
 
 /// The length of the body that the first four bytes tell.

@@ -8,7 +8,7 @@ use s4_types::{Refusal, Reply, Request};
 use std::alloc::Global;
 
 /// What a frame of a stream says.
-#[derive(Debug, Drop, PartialEq, Eq)]
+#[derive(Drop, PartialEq, Eq)]
 pub enum Item<T> {
     /// The value that the body spells.
     Whole(T),

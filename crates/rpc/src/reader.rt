@@ -69,7 +69,7 @@ fn read_piece<T: Message>(
 
 /// Takes a stream apart, however it comes in pieces. Contracts see the bytes of the frame that isn't whole yet, or
 /// None where an oversized length came. It holds at most one frame, in memory that is taken once.
-#[derive(Debug, Drop)]
+#[derive(Drop)]
 pub struct FrameReader {
     alloc: Global,
     held: Vec<u8>,

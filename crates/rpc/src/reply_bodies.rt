@@ -5,7 +5,34 @@ ghost use Rattle.s4_types.specs.Sizes.{ReplyFits};
 ghost use Rattle.s4_types.specs.declared.limits.TheConstants.{FRAME_BODY_BYTES};
 
 use crate::room::{put, put_bytes, put_moment, put_object, put_text, put_word};
-use s4_types::{Bytes, Moment, Reply};
+use s4_types::{Bytes, Moment, ObjectId, Reply};
+
+fn put_changed(out: &mut Vec<u8>, moment: Moment)
+    requires { HasRoom out.old (length (reply_spelling (Reply.Changed moment))) }
+    ensures bytes { Appended out.old out.new (reply_spelling (Reply.Changed moment)) }
+    ensures range { ReplyNumbers (Reply.Changed moment) }
+{
+    put(out, &[1]);
+    put_moment(out, moment);
+}
+
+fn put_created(out: &mut Vec<u8>, object: ObjectId, moment: Moment)
+    requires { HasRoom out.old (length (reply_spelling (Reply.Created object moment))) }
+    ensures bytes { Appended out.old out.new (reply_spelling (Reply.Created object moment)) }
+    ensures range { ReplyNumbers (Reply.Created object moment) }
+{
+    put(out, &[2]);
+    put_object(out, object);
+    put_moment(out, moment);
+}
+
+fn put_data(out: &mut Vec<u8>, bytes: &Bytes)
+    requires { HasRoom out.old (length (reply_spelling (Reply.Data bytes.now))) }
+    ensures { Appended out.old out.new (reply_spelling (Reply.Data bytes.now)) }
+{
+    put(out, &[3]);
+    put_bytes(out, bytes);
+}
 
 fn put_attr(out: &mut Vec<u8>, size: u32, created: Moment, changed: Moment, attribute: &Bytes)
     requires room { HasRoom out.old (length (reply_spelling (Reply.Attr size created changed attribute.now))) }
@@ -29,19 +56,9 @@ pub(crate) fn put_reply(out: &mut Vec<u8>, reply: &Reply)
 {
     match reply {
         Reply::Refused(refusal) => put(out, &[0, refusal.number()]),
-        Reply::Changed(moment) => {
-            put(out, &[1]);
-            put_moment(out, *moment);
-        }
-        Reply::Created(object, moment) => {
-            put(out, &[2]);
-            put_object(out, *object);
-            put_moment(out, *moment);
-        }
-        Reply::Data(bytes) => {
-            put(out, &[3]);
-            put_bytes(out, bytes);
-        }
+        Reply::Changed(moment) => put_changed(out, *moment),
+        Reply::Created(object, moment) => put_created(out, *object, *moment),
+        Reply::Data(bytes) => put_data(out, bytes),
         Reply::Attr {
             size,
             created,

@@ -4,7 +4,7 @@ ghost use Rattle.rpc.specs.declared.unread.Unread.TheVariants.{Memory};
 use std::alloc::{AllocError, AllocFailed};
 
 /// Why a body could not be read.
-#[derive(Debug, Drop)]
+#[derive(Drop)]
 pub enum Unread {
     /// A growth of memory was refused.
     Memory,
