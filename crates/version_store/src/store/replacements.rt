@@ -12,7 +12,7 @@ ghost use Rattle.row_changes.specs.Rewritten.{rewritten_blocks};
 ghost use Rattle.version_store.specs.private.Dropping.{leads_to, is_among};
 ghost use Rattle.version_store.specs.private.Replacing.{Removes, Replaces};
 
-use crate::data_blocks::{drop_all, drop_data, places_of, pointers_of, pointers_told};
+use crate::data_blocks::{drop_all, drop_data, places_told, pointers_of};
 use crate::laws::what_changes_rest_on;
 use crate::presents::{Present, index_of};
 use crate::store::Store;
@@ -93,6 +93,28 @@ impl<B: Blocks> Store<B> {
         self.objects.change(object, &next, beside);
     }
 
+    /// [`Store::replace`] of an object that has this row, where there is room.
+    fn replace_row(
+        &mut self,
+        object: ObjectId,
+        row: &Row,
+        present: &Inode,
+        entries: &[Entry],
+    ) -> Result<(), Refusal>
+        requires store { IsStore (fields_of B.log self.old) }
+        requires row { row_of self.old.rows object ≡ Some row.now }
+        requires can { CanReplace (fields_of B.log self.old) object row.now present.now entries.now }
+        requires room { rewritten_blocks entries.now ≤ length (B.log self.old.table).ahead }
+        ensures replaced { OnOk result (Replaces (fields_of B.log self.old) object row.now present.now entries.now (fields_of B.log self.new)) }
+        ensures refusal { IfErr result (λ e. e ≡ NoMemory) }
+        ensures unchanged { OnErr result (fields_of B.log self.new ≡ fields_of B.log self.old) }
+    {
+        let pointers = pointers_of(self.alloc, &mut self.table, object, row)?;
+        let kept = places_told(self.alloc, &present.pointers, entries)?;
+        self.put_replacement(object, row, present, entries, pointers.as_slice(), &kept);
+        Ok(())
+    }
+
     /// An object's journal becomes these entries, the oldest first, and its present inode this one, which is written as its
     /// checkpoint with the moment of the last entry that stood. Its data blocks that nothing of the new row leads to are
     /// dropped. So at each moment the object's inode is the one that the entries lead to, with the bytes that its blocks had.
@@ -126,10 +148,6 @@ impl<B: Blocks> Store<B> {
         let Some(row) = self.row(object) else {
             unreachable!()
         };
-        let pointers = pointers_of(self.alloc, &mut self.table, object, &row)?;
-        let told = pointers_told(self.alloc, &present.pointers, entries)?;
-        let kept = places_of(self.alloc, told.as_slice())?;
-        self.put_replacement(object, &row, present, entries, pointers.as_slice(), &kept);
-        Ok(())
+        self.replace_row(object, &row, present, entries)
     }
 }
