@@ -68,7 +68,7 @@ fn summary_of(number: u16, frame: &FramePart<'_>) -> Option<Summary>
 }
 
 /// What a frame of an image is.
-#[derive(Debug, Drop)]
+#[derive(Drop)]
 pub enum FrameRead {
     /// No block of it is used.
     Free,

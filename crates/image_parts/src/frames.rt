@@ -14,7 +14,7 @@ pub(crate) const WORD_BYTES: usize = 8;
 pub(crate) const CONTENTS_BYTES: usize = 8192;
 
 /// A frame of an image: its word, and its 16 blocks, or none where it is free.
-#[derive(Debug, Drop)]
+#[derive(Drop)]
 pub struct FramePart<'a> {
     word: u64,
     contents: &'a [u8],
@@ -98,7 +98,7 @@ pub(crate) fn behind_frames(count: u16, bytes: &[u8]) -> Option<&[u8]>
 }
 
 /// Frames that are given one by one, in their order.
-#[derive(Debug, Drop)]
+#[derive(Drop)]
 pub struct Frames<'a> {
     count: u16,
     bytes: &'a [u8],

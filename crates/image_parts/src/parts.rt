@@ -11,7 +11,7 @@ use crate::spans::{SPAN_BYTES, Spans};
 use std::marker::Model;
 
 /// The parts of an image, which stand in the bytes that they were read from.
-#[derive(Debug, Drop)]
+#[derive(Drop)]
 pub struct Parts<'a> {
     header: Header,
     frames: &'a [u8],

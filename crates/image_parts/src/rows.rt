@@ -15,7 +15,7 @@ pub(crate) const ROW_BYTES: usize = 40;
 
 /// A row of an image: an object, and where its checkpoint and its chain begin. The eight bytes of each pointer stand as a
 /// number: 0 is a hole, and not every other number spells a pointer.
-#[derive(Clone, Copy, Debug, PartialEq, Eq)]
+#[derive(Clone, Copy)]
 pub struct RowPart {
     pub object: ObjectId,
     pub created: Moment,
@@ -69,7 +69,7 @@ fn first_row(bytes: &[u8]) -> RowPart
 }
 
 /// Rows that are given one by one, in their order.
-#[derive(Debug, Drop)]
+#[derive(Drop)]
 pub struct Rows<'a> {
     count: u32,
     bytes: &'a [u8],

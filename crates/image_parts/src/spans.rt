@@ -23,7 +23,7 @@ fn first_span(bytes: &[u8]) -> Span
 }
 
 /// Spans that are given one by one, in their order.
-#[derive(Debug, Drop)]
+#[derive(Drop)]
 pub struct Spans<'a> {
     count: u32,
     bytes: &'a [u8],
