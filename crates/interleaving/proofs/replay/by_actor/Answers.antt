@@ -1,4 +1,4 @@
-use Rattle.std.proofs.Common.{Option, refl, sym, subst}
+use Rattle.std.proofs.Common.{Option, refl, sym, subst, arith}
 use Rattle.std.specs.Prelude.{slice_set}
 use Rattle.std.proofs.lemmas.Option.{slice_get-get_or}
 use Rattle.interleaving.specs.Actors.{ActorFields}
@@ -10,5 +10,5 @@ returns g c =
     let actors = c.args.actors.now in
     let number = c.args.number in
     let actor = c.index-actors-number.result in
-    subst (λ (there : Option ActorFields). GoesBy g.M.Moves.commits there number c.args.act c.args.drive.now actors c.act.result c.act.new.drive (slice_set actors number c.act.new.self)) (sym (slice_get-get_or actors number actor c.if-number-actors.false))
+    subst (λ (there : Option ActorFields). GoesBy g.M.Moves.commits there number c.args.act c.args.drive.now actors c.act.result c.act.new.drive (slice_set actors number c.act.new.self)) (sym (slice_get-get_or actors number actor (omega arith)))
     (record { actor = c.act.new.self; act = c.act.ensures; set = refl })
