@@ -10,7 +10,7 @@ use s4_types::{Moment, ObjectId};
 pub(crate) const HEADER_BYTES: usize = 512;
 
 /// The header of an image: the numbers of the drive, and how many parts follow.
-#[derive(Clone, Copy, PartialEq, Eq)]
+#[derive(Clone, Copy)]
 pub struct Header {
     pub frames: u16,
     pub clock: Moment,

@@ -15,7 +15,7 @@ pub(crate) const ROW_BYTES: usize = 40;
 
 /// A row of an image: an object, and where its checkpoint and its chain begin. The eight bytes of each pointer stand as a
 /// number: 0 is a hole, and not every other number spells a pointer.
-#[derive(Clone, Copy, PartialEq, Eq)]
+#[derive(Clone, Copy)]
 pub struct RowPart {
     pub object: ObjectId,
     pub created: Moment,

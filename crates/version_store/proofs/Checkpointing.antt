@@ -49,6 +49,11 @@ pub whole_left : (held : Place → Option Stored) (o : ℕ) (row : Row) (chain :
 whole_left held o row chain back walk is reads =
     subst (λ (found : Option (List EntryFields)). IsSome found) (sym (whole_is held o row chain back walk is reads)) walk
 
+pub none_last : (held : Place → Option Stored) (o : ℕ) (row : Row) (chain : ChainFields) (back : BackFields) (front : List EntryFields) (found : Option EntryFields) → IsSome (chain_entries held o row.head) → chain ≡ chain_of o row
+    → (IsSome (chain_entries held chain.object chain.head) → entries_left held back ≡ chain_entries held chain.object chain.head) → found ≡ None → left held back ≡ front ++ option_to_list found → IfNone found (left held back ≡ []) → 0 ≡ last_entry held o row
+none_last held o row chain back front found walk is reads there gives end =
+    read_last held o row back front None (whole_is held o row chain back walk is reads) (subst (λ (x : Option EntryFields). left held back ≡ front ++ option_to_list x) there gives) (subst (λ (x : Option EntryFields). IfNone x (left held back ≡ [])) there end)
+
 pub last_of : (held : Place → Option Stored) (o : ℕ) (row : Row) (chain : ChainFields) (back : BackFields) (front : List EntryFields) (found : Option EntryFields) (e : EntryFields) → IsSome (chain_entries held o row.head) → chain ≡ chain_of o row
     → (IsSome (chain_entries held chain.object chain.head) → entries_left held back ≡ chain_entries held chain.object chain.head) → found ≡ Some e → left held back ≡ front ++ option_to_list found → e.moment ≡ last_entry held o row
 last_of held o row chain back front found e walk is reads there gives =

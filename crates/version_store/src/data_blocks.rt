@@ -34,8 +34,7 @@ fn add_sides(pointers: &mut Vec<Option<Ptr>>, entry: &Entry) -> Result<(), Refus
     ensures refusal { IfErr result (λ e. e ≡ NoMemory) }
 {
     for triple in entry.triples() {
-        pointers.push(triple.before)?;
-        pointers.push(triple.after)?;
+        pointers.extend_from_slice(&[triple.before, triple.after])?;
     }
     Ok(())
 }
@@ -54,7 +53,7 @@ fn add_told(pointers: &mut Vec<Option<Ptr>>, entries: &[Entry]) -> Result<(), Re
 /// These pointers, and behind them both of each triple of entries.
 ///
 /// NoMemory alone, where the memory for them is refused.
-pub(crate) fn pointers_told(
+fn pointers_told(
     alloc: Global,
     pointers: &[Option<Ptr>],
     entries: &[Entry],
@@ -82,7 +81,7 @@ fn add_place(places: &mut HashSet<Ptr>, pointer: Option<Ptr>) -> Result<(), Refu
 /// The set of places that pointers lead to.
 ///
 /// NoMemory alone, where the memory for it is refused.
-pub(crate) fn places_of(alloc: Global, pointers: &[Option<Ptr>]) -> Result<HashSet<Ptr>, Refusal>
+fn places_of(alloc: Global, pointers: &[Option<Ptr>]) -> Result<HashSet<Ptr>, Refusal>
     ensures places { IfOk result (λ places. (p : Place) → is_among p places.keys ≡ leads_to p pointers.now) }
     ensures refusal { IfErr result (λ e. e ≡ NoMemory) }
 {
@@ -91,6 +90,21 @@ pub(crate) fn places_of(alloc: Global, pointers: &[Option<Ptr>]) -> Result<HashS
         add_place(&mut places, *pointer)?;
     }
     Ok(places)
+}
+
+/// The set of places that these pointers lead to, or either pointer of a triple of entries.
+///
+/// NoMemory alone, where the memory for the pointers or for the set is refused.
+pub(crate) fn places_told(
+    alloc: Global,
+    pointers: &[Option<Ptr>],
+    entries: &[Entry],
+) -> Result<HashSet<Ptr>, Refusal>
+    ensures places { IfOk result (λ places. (p : Place) → is_among p places.keys ≡ leads_to p (pointers.now ++ sides_told entries.now)) }
+    ensures refusal { IfErr result (λ e. e ≡ NoMemory) }
+{
+    let told = pointers_told(alloc, pointers, entries)?;
+    places_of(alloc, told.as_slice())
 }
 
 /// Drops the block that a pointer leads to, if it leads to one and that isn't kept.

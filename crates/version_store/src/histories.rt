@@ -68,6 +68,15 @@ pub(crate) fn read_history<B: Blocks>(
     Ok(History { kept, entries })
 }
 
+/// Renames the pointers of an inode, if there is one.
+fn rename_kept(kept: &mut Option<Inode>, renaming: &Renaming)
+    ensures { kept.new ≡ option_map (renamed_inode renaming.now) kept.old }
+{
+    if let Some(inode) = kept {
+        renaming.rename_inode(inode);
+    }
+}
+
 /// Renames all pointers of a history: none of the new places may be one of which it tells.
 fn rename(history: &mut History, renaming: &Renaming)
     requires distinct { HasDistinctPlaces renaming.now }
@@ -75,9 +84,7 @@ fn rename(history: &mut History, renaming: &Renaming)
     ensures kept { history.new.kept ≡ option_map (renamed_inode renaming.now) history.old.kept }
     ensures entries { history.new.entries.items ≡ renamed_entries renaming.now history.old.entries.items }
 {
-    if let Some(inode) = &mut history.kept {
-        renaming.rename_inode(inode);
-    }
+    rename_kept(&mut history.kept, renaming);
     renaming.rename_in_place(history.entries.as_mut_slice());
 }
 

@@ -1,5 +1,5 @@
 //! The relocation of an object's blocks: its data blocks out of one frame, its checkpoint and its journal.
-ghost use Rattle.std.specs.Prelude.{◌≡◌, ◌⊎◌, ℕ, ◌<◌, ◌≤◌, ◌==◌, if◌then◌else◌, Some, IsSome, IfSome, OnOk, OnErr, MatchResult, length, option_map};
+ghost use Rattle.std.specs.Prelude.{◌≡◌, ◌⊎◌, ℕ, ◌<◌, ◌≤◌, ◌==◌, if◌then◌else◌, Some, IsSome, IfSome, IfErr, OnOk, OnErr, MatchResult, length, option_map};
 ghost use Rattle.s4_types.specs.declared.refusals.Refusal.TheVariants.{NoMemory, NoRoom};
 ghost use Rattle.object_map.specs.Rows.{row_of};
 ghost use Rattle.chain_moving.specs.Renaming.{renamed_inode};
@@ -28,12 +28,12 @@ impl<B: Blocks> Store<B> {
         &mut self,
         object: ObjectId,
         row: &Row,
-        mut history: History,
+        history: &mut History,
         copies: &[CopiedBlock],
     )
         requires store { IsStore (fields_of B.log self.old) }
         requires row { row_of self.old.rows object ≡ Some row.now }
-        requires told { Tells (B.log self.old.table).held object row.now history }
+        requires told { Tells (B.log self.old.table).held object row.now history.old }
         requires copies { AreCopies (B.log self.old.table).held object copies.now }
         requires room { blocks_relocated (B.log self.old.table).held object row.now copies.now ≤ length (B.log self.old.table).ahead }
         ensures { RelocatesIn (fields_of B.log self.old) object row.now copies.now (fields_of B.log self.new) }
@@ -46,13 +46,33 @@ impl<B: Blocks> Store<B> {
         let Some(mut inode) = self.present(object).copied() else {
             unreachable!()
         };
-        let moved = relocate_blocks(&mut self.table, object, row, &mut history, copies);
+        let moved = relocate_blocks(&mut self.table, object, row, history, copies);
         moved.renaming.rename_inode(&mut inode);
         let beside = Present {
             inode,
             index: index_of(self.alloc, history.entries.as_slice()),
         };
         self.objects.change(object, &moved.row, beside);
+    }
+
+    /// [`Store::relocate`] of an object that has this row, where there is room.
+    fn relocate_row(
+        &mut self,
+        object: ObjectId,
+        row: &Row,
+        copies: &[CopiedBlock],
+    ) -> Result<(), Refusal>
+        requires store { IsStore (fields_of B.log self.old) }
+        requires row { row_of self.old.rows object ≡ Some row.now }
+        requires copies { AreCopies (B.log self.old.table).held object copies.now }
+        requires room { blocks_relocated (B.log self.old.table).held object row.now copies.now ≤ length (B.log self.old.table).ahead }
+        ensures relocated { OnOk result (RelocatesIn (fields_of B.log self.old) object row.now copies.now (fields_of B.log self.new)) }
+        ensures refusal { IfErr result (λ e. e ≡ NoMemory) }
+        ensures unchanged { OnErr result (fields_of B.log self.new ≡ fields_of B.log self.old) }
+    {
+        let mut history = read_history(self.alloc, &mut self.table, object, row)?;
+        self.put_relocation(object, row, &mut history, copies);
+        Ok(())
     }
 
     /// An object's blocks go to new places: these copies of its data blocks in one frame, in their order, then its checkpoint,
@@ -87,8 +107,6 @@ impl<B: Blocks> Store<B> {
         if left < blocks || left - blocks < copies.len() {
             return Err(Refusal::NoRoom);
         }
-        let history = read_history(self.alloc, &mut self.table, object, &row)?;
-        self.put_relocation(object, &row, history, copies);
-        Ok(())
+        self.relocate_row(object, &row, copies)
     }
 }

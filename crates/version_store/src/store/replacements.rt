@@ -1,10 +1,11 @@
 //! The removal of an object's row, and its replacement by one with another journal.
-ghost use Rattle.std.specs.Prelude.{◌≡◌, ◌⊎◌, ℕ, ◌<◌, ◌≤◌, ◌==◌, if◌then◌else◌, None, Some, IsSome, IfSome, IfErr, OnOk, OnErr, MatchResult, length};
+ghost use Rattle.std.specs.Prelude.{◌≡◌, ◌⊎◌, ℕ, ◌<◌, ◌≤◌, ◌==◌, if◌then◌else◌, None, Some, IsSome, IfSome, IfOk, IfErr, OnOk, OnErr, MatchResult, length};
 ghost use Rattle.s4_types.specs.Pointer.{Place};
 ghost use Rattle.s4_types.specs.declared.refusals.Refusal.TheVariants.{NoMemory, NoRoom};
 ghost use Rattle.s4_types.specs.declared.versions.Version.TheVariants.{Absent};
 ghost use Rattle.inode.specs.Contents.{contents_of, meaning};
 ghost use Rattle.object_map.specs.Rows.{row_of};
+ghost use Rattle.time_read.specs.Rows.{IsRow};
 ghost use Rattle.version_store.specs.Store.{fields_of, IsStore, pointers_of};
 ghost use Rattle.version_store.specs.Versions.{inode_in, version_in};
 ghost use Rattle.version_store.specs.Replacing.{CanReplace, IsRemoved, IsReplaced, inode_led, pointers_told};
@@ -12,7 +13,7 @@ ghost use Rattle.row_changes.specs.Rewritten.{rewritten_blocks};
 ghost use Rattle.version_store.specs.private.Dropping.{leads_to, is_among};
 ghost use Rattle.version_store.specs.private.Replacing.{Removes, Replaces};
 
-use crate::data_blocks::{drop_all, drop_data, places_of, pointers_of, pointers_told};
+use crate::data_blocks::{drop_all, drop_data, places_told, pointers_of};
 use crate::laws::what_changes_rest_on;
 use crate::presents::{Present, index_of};
 use crate::store::Store;
@@ -26,6 +27,28 @@ use std::collections::HashSet;
 use undo_redo::laws::{a_run_has_one_end_and_one_beginning, the_inode_at_a_moment};
 
 impl<B: Blocks> Store<B> {
+    /// All pointers to data that an object's row leads to.
+    ///
+    /// NoMemory alone, where the memory for them or for the entries of its journal is refused.
+    fn pointers(&mut self, object: ObjectId, row: &Row) -> Result<Vec<Option<Ptr>>, Refusal>
+        requires { IsRow (B.log self.old.table).held object row.now }
+        ensures pointers { IfOk result (λ pointers. pointers.items ≡ pointers_of (B.log self.old.table).held object row.now) }
+        ensures refusal { IfErr result (λ e. e ≡ NoMemory) }
+        ensures same { fields_of B.log self.new ≡ fields_of B.log self.old }
+    {
+        pointers_of(self.alloc, &mut self.table, object, row)
+    }
+
+    /// The set of places that an inode leads to, or either pointer of a triple of entries.
+    ///
+    /// NoMemory alone, where the memory for the pointers or for the set is refused.
+    fn places(&self, inode: &Inode, entries: &[Entry]) -> Result<HashSet<Ptr>, Refusal>
+        ensures places { IfOk result (λ places. (p : Place) → is_among p places.keys ≡ leads_to p (pointers_told inode.now entries.now)) }
+        ensures refusal { IfErr result (λ e. e ≡ NoMemory) }
+    {
+        places_told(self.alloc, &inode.pointers, entries)
+    }
+
     /// An object that has this row, which leads to its data by these pointers, has neither row nor block any more.
     fn forget(&mut self, object: ObjectId, row: &Row, pointers: &[Option<Ptr>])
         requires store { IsStore (fields_of B.log self.old) }
@@ -54,7 +77,7 @@ impl<B: Blocks> Store<B> {
         let Some(row) = self.row(object) else {
             return Ok(());
         };
-        let pointers = pointers_of(self.alloc, &mut self.table, object, &row)?;
+        let pointers = self.pointers(object, &row)?;
         self.forget(object, &row, pointers.as_slice());
         Ok(())
     }
@@ -93,6 +116,28 @@ impl<B: Blocks> Store<B> {
         self.objects.change(object, &next, beside);
     }
 
+    /// [`Store::replace`] of an object that has this row, where there is room.
+    fn replace_row(
+        &mut self,
+        object: ObjectId,
+        row: &Row,
+        present: &Inode,
+        entries: &[Entry],
+    ) -> Result<(), Refusal>
+        requires store { IsStore (fields_of B.log self.old) }
+        requires row { row_of self.old.rows object ≡ Some row.now }
+        requires can { CanReplace (fields_of B.log self.old) object row.now present.now entries.now }
+        requires room { rewritten_blocks entries.now ≤ length (B.log self.old.table).ahead }
+        ensures replaced { OnOk result (Replaces (fields_of B.log self.old) object row.now present.now entries.now (fields_of B.log self.new)) }
+        ensures refusal { IfErr result (λ e. e ≡ NoMemory) }
+        ensures unchanged { OnErr result (fields_of B.log self.new ≡ fields_of B.log self.old) }
+    {
+        let pointers = self.pointers(object, row)?;
+        let kept = self.places(present, entries)?;
+        self.put_replacement(object, row, present, entries, pointers.as_slice(), &kept);
+        Ok(())
+    }
+
     /// An object's journal becomes these entries, the oldest first, and its present inode this one, which is written as its
     /// checkpoint with the moment of the last entry that stood. Its data blocks that nothing of the new row leads to are
     /// dropped. So at each moment the object's inode is the one that the entries lead to, with the bytes that its blocks had.
@@ -126,10 +171,6 @@ impl<B: Blocks> Store<B> {
         let Some(row) = self.row(object) else {
             unreachable!()
         };
-        let pointers = pointers_of(self.alloc, &mut self.table, object, &row)?;
-        let told = pointers_told(self.alloc, &present.pointers, entries)?;
-        let kept = places_of(self.alloc, told.as_slice())?;
-        self.put_replacement(object, &row, present, entries, pointers.as_slice(), &kept);
-        Ok(())
+        self.replace_row(object, &row, present, entries)
     }
 }

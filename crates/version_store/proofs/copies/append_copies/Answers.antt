@@ -1,8 +1,25 @@
-use Rattle.std.proofs.Common.{◌+◌, ◌∷◌, List, drop, subst, sym, ap, ◌∙◌}
+use Rattle.std.proofs.Common.{◌≡◌, ◌+◌, [], ◌∷◌, List, length, drop, refl, subst, sym, ap, ◌∙◌}
 use Rattle.std.proofs.lemmas.List.{drop_more}
 use Rattle.version_store.specs.declared.copies.CopiedBlock.{CopiedBlock}
+use Rattle.chain_moving.specs.Renaming.{RenamingFields, no_moves}
+use Rattle.version_store.specs.Relocating.{frame_of_copies}
 use Rattle.version_store.specs.private.Relocating.{Appending}
+use Rattle.version_store.proofs.Appending.{begun}
 use Rattle.version_store.proofs.copies.append_copies.Goals as goal
+
+-- a renaming has a place for each block of a frame
+full : (copies : List CopiedBlock) → length (frame_of_copies copies).moves ≡ 15
+unfolding no_moves
+full [] = refl
+full (c ∷ copies) = refl
+
+pub loop-copy-init : goal.loop-copy-init
+loop-copy-init g c =
+    let log = g.B.Blocks.log c.args.table.now in
+    let o = c.args.object in
+    let copies = c.args.copies.now in
+    subst (λ (r : RenamingFields). Appending o copies log log r copies 0) (sym c.frame_of-renaming.ensures)
+    (begun c.moves_are_put_in_one_by_one.ensures.none c.moves_are_put_in_one_by_one.ensures.none_distinct o copies log (full copies) c.requires.copies)
 
 pub loop-copy-preserved : goal.loop-copy-preserved
 loop-copy-preserved g c =
