@@ -57,7 +57,7 @@ MayLackMemory why (Flush first last) = IsFoundLater why
 MayLackMemory why (FlushO object first last) = IsFoundLater why
 MayLackMemory why _ = ⊥
 
--- The bytes that a read asks for, of an object that is there at the moment asked for, need a block of a sealed frame.
+-- The bytes that a read asks for, of an object that is there at the moment asked for, need a block of a frame that isn't open.
 pub record NeedsPin (d : DriveFields) (object offset len : ℕ) (at : Option ℕ) : Type 0 where
   pub inode : Inode
   pub there : inode_in (store_of d) object (asked (state_in d) at) ≡ Some inode

@@ -135,8 +135,8 @@ impl<J: Naming> Drive<J> {
     }
 
     /// The inode of an object at a moment, and none where it has no row. For a moment before the drive's last change, of
-    /// whatever object, this object's journal is walked from its newest entry back to the first that isn't later; for any
-    /// other no block is read.
+    /// whatever object, this object's later changes are undone, the newest first: by the index that is kept in memory, or where
+    /// memory for that was refused by a walk of the journal. No block is read but by such a walk.
     pub fn inode_at(&mut self, object: ObjectId, at: Moment) -> Option<Inode>
         ensures inode { result ≡ inode_in (store_of self.old) object at }
         ensures ledger { self.new.ledger ≡ self.old.ledger }

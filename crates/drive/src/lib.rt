@@ -12,11 +12,11 @@
 //! Frames are marked and released, an object's row removed and its journal replaced, where every version that can be read
 //! stays; and it stays whatever they answer.
 //!
-//! A Read can be had as a plan, which is fetched without the drive; one that is asked as a request is planned and fetched at once.
+//! A Read can be had as a plan, which is fetched without the drive; one that is asked as a request is read at once, without a plan.
 //!
-//! A read of the present costs the blocks of its own bytes, and a change those, its journal's and the sealing of the frames
-//! that it fills, whatever else the drive has; a read of a moment before the drive's last change, of whatever object,
-//! costs one walk of its own object's journal besides.
+//! A read costs the blocks of its own bytes, and a change those, its journal's and the sealing of the frames that it fills,
+//! whatever else the drive has. A read of a moment before the drive's last change, of whatever object, undoes the later changes
+//! of its own object besides: by an index in memory, or by one walk of the journal where memory for the index was refused.
 //! Nothing here waits or knows of threads: whoever shares a drive holds it under a lock.
 #![tactic(auto)]
 

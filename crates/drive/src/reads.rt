@@ -47,7 +47,7 @@ impl<J: Naming> Drive<J> {
     }
 
     /// The inode of an object at a moment, where that can be read and the object is there. For a moment before the drive's last
-    /// change, of whatever object, this object's journal is walked back to the first entry that isn't later.
+    /// change, of whatever object, this object's later changes are undone, as [`Drive::inode_at`] says.
     fn live_inode(&mut self, object: ObjectId, at: Moment) -> Result<Inode, Refusal>
         ensures ledger { self.new.ledger ≡ self.old.ledger }
         ensures store { store_of self.new ≡ store_of self.old }

@@ -33,8 +33,8 @@ rest_of t f = let used = length (slots_at t.slots f) in places f (frame_at t.dri
 abbrev pub whole_of : Table → ℕ → List Place
 whole_of t f = places f (frame_at t.drive.frames f).generation 1 15
 
--- The places that the next appends take, in order: the unused blocks of the open frame, then all of the free frames by
--- ascending number.
+-- The places that the next appends take, in order: the unused blocks of the open frame, then all of the free
+-- frames that can be opened, by ascending number.
 abbrev pub places_ahead : Table → List Place
 places_ahead t = flat_map (rest_of t) (numbers is_filling 0 t.drive.frames) ++ flat_map (whole_of t) (numbers can_open 0 t.drive.frames)
 

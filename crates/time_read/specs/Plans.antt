@@ -48,7 +48,7 @@ byte_planned plan n = slice_index (piece_bytes (pins_held plan.pin) (slice_index
 abbrev pub bytes_planned : PlanFields → List ℕ
 bytes_planned plan = listed (byte_planned plan) plan.skip plan.length
 
--- where the bytes of the block behind a slot come from: a block of the open frame is copied, one of a sealed frame is pinned
+-- where the bytes of the block behind a slot come from: a block of the open frame is copied, one of any other frame is pinned
 abbrev pub piece_of : Table → Option Place → Piece
 piece_of t None = Hole
 piece_of t (Some p) = if is_open (frame_at t.drive.frames p.frame).phase then Copied (contents_of (held_at t) p) else Pinned p.frame p.block
