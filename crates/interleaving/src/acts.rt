@@ -6,7 +6,7 @@ ghost use Rattle.interleaving.specs.private.Copies.{has_bytes};
 use s4_types::{Moment, ObjectId, Refusal, Request};
 
 /// A step of an actor. Frames are numbered from 0 on; offsets and lengths are in bytes.
-#[derive(Debug, Drop, PartialEq, Eq)]
+#[derive(Drop, PartialEq, Eq)]
 pub enum Act {
     /// A request of the actor's session, at a moment of the server's clock.
     Request {

@@ -7,7 +7,7 @@ use s4_types::{ObjectId, Refusal};
 use std::alloc::Global;
 
 /// One step of a run: an actor's, or one of the drive alone. Frames are numbered from 0 on.
-#[derive(Debug, Drop, PartialEq, Eq)]
+#[derive(Drop, PartialEq, Eq)]
 pub enum Step {
     /// What an actor does, who is named by the place in the list of actors, from 0 on.
     By { actor: usize, act: Act },
