@@ -1,7 +1,7 @@
 use s4_types::{Moment, ObjectId, Ptr};
 
 /// What an image tells of an object's row.
-#[derive(Clone, Copy, Debug, PartialEq, Eq)]
+#[derive(Clone, Copy, PartialEq, Eq)]
 pub struct ImageRow {
     pub object: ObjectId,
     /// The moment of the object's creation.

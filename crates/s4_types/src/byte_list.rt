@@ -8,7 +8,7 @@ use std::marker::Model;
 
 /// A list of bytes that owns its memory. Contracts see the list alone, so that two are equal where their
 /// bytes are.
-#[derive(Debug, Drop)]
+#[derive(Drop)]
 pub struct Bytes {
     items: Vec<u8>,
 }

@@ -2,7 +2,7 @@ use crate::byte_list::Bytes;
 use crate::moments::{Moment, ObjectId};
 
 /// A change of the drive, as it stands in a history. An accepted Append is the write that it came to.
-#[derive(Debug, Drop, PartialEq, Eq)]
+#[derive(Drop, PartialEq, Eq)]
 pub enum Change {
     /// The object becomes live and empty, with this attribute.
     Create {
@@ -47,7 +47,7 @@ pub enum Change {
 }
 
 /// An accepted change: its number, counted from 1, the moment that it was stamped with, and the change.
-#[derive(Debug, Drop, PartialEq, Eq)]
+#[derive(Drop, PartialEq, Eq)]
 pub struct Accepted {
     pub number: u64,
     pub moment: Moment,

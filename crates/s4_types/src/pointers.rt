@@ -7,7 +7,7 @@ use std::marker::Model;
 ///
 /// Contracts see the record of the three numbers. A pointer to a hole is no pointer: what may be a hole is
 /// an `Option<Ptr>`.
-#[derive(Clone, Copy, Debug, PartialEq, Eq, Hash)]
+#[derive(Clone, Copy, PartialEq, Eq, Hash)]
 pub struct Ptr {
     frame: u16,
     block: u8,

@@ -3,7 +3,7 @@ use crate::moments::{Moment, ObjectId};
 use crate::refusals::Refusal;
 
 /// What the drive answers to a request.
-#[derive(Debug, Drop, PartialEq, Eq)]
+#[derive(Drop, PartialEq, Eq)]
 pub enum Reply {
     /// The request was refused.
     Refused(Refusal),

@@ -2,7 +2,7 @@ use crate::byte_list::Bytes;
 use crate::moments::{Moment, ObjectId};
 
 /// What a session may do, set by whoever opens it.
-#[derive(Clone, Copy, Debug, PartialEq, Eq)]
+#[derive(Clone, Copy, PartialEq, Eq)]
 pub enum Role {
     /// Reads and changes objects.
     Client,
@@ -11,7 +11,7 @@ pub enum Role {
 }
 
 /// What a session asks of the drive. Sizes, offsets and lengths are in bytes.
-#[derive(Debug, Drop, PartialEq, Eq)]
+#[derive(Drop, PartialEq, Eq)]
 pub enum Request {
     /// Makes the next object, empty, with this attribute.
     Create {

@@ -2,7 +2,7 @@ use crate::byte_list::Bytes;
 use crate::moments::Moment;
 
 /// What an object is at a moment.
-#[derive(Debug, Drop, PartialEq, Eq)]
+#[derive(Drop, PartialEq, Eq)]
 pub enum Version {
     /// It isn't there.
     Absent,
