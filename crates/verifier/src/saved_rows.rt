@@ -19,7 +19,6 @@ use segment_word::Naming;
 use std::alloc::Global;
 
 /// The number that a pointer's bytes, or those of a hole, stand for.
-#[tactic(auto, unfolding(codec::specs::Fields::number))]
 fn slot_number(ptr: Option<Ptr>) -> u64
     ensures { SpellsSlot (number w64 result) ptr }
 {
