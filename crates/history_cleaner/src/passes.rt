@@ -21,7 +21,7 @@ use std::alloc::Global;
 use version_store::laws::what_is_held_is_what_rows_name;
 
 /// What a full pass came to.
-#[derive(Clone, Copy, Debug, PartialEq, Eq)]
+#[derive(Clone, Copy)]
 pub struct PassReport {
     /// How many objects have a row with another stamp than before.
     pub rewritten: u32,
@@ -32,7 +32,7 @@ pub struct PassReport {
 }
 
 /// What became of the rows of all objects.
-#[derive(Clone, Copy, Debug, PartialEq, Eq)]
+#[derive(Clone, Copy)]
 struct Cleanings {
     /// How many objects have a row with another stamp.
     rewritten: u32,

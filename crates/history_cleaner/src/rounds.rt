@@ -14,7 +14,7 @@ use segment_word::Naming;
 use std::alloc::Global;
 
 /// What a turn came to.
-#[derive(Clone, Copy, Debug, PartialEq, Eq)]
+#[derive(Clone, Copy)]
 pub enum Turn {
     /// The next object was cleaned.
     Cleaned(ObjectId),
@@ -25,7 +25,7 @@ pub enum Turn {
 }
 
 /// A round over all objects by ascending number, and behind it another.
-#[derive(Clone, Copy, Debug, PartialEq, Eq)]
+#[derive(Clone, Copy)]
 pub struct Rounds {
     /// The last object of this round that had its turn; 0 before the first one.
     pub passed: ObjectId,
