@@ -23,7 +23,7 @@ pub const MOVE_BLOCKS: usize = PAYLOAD_BLOCKS + 1 + CHAIN_BLOCKS;
 pub const MOST_HELD: usize = 7;
 
 /// How many blocks of a frame are held, at least one, and the least object that one of them is of.
-#[derive(Clone, Copy, Debug)]
+#[derive(Clone, Copy)]
 pub(crate) struct Survey {
     frame: u16,
     count: usize,

@@ -1,14 +1,24 @@
 //! What an object holds in a frame.
 ghost use Rattle.std.specs.Prelude.{◌≡◌, ◌<◌, filter, take, IfOk, IfErr, MatchBool};
 ghost use Rattle.s4_types.specs.declared.refusals.Refusal.TheVariants.{NoMemory};
+ghost use Rattle.block_log.specs.Log.{same_kind};
+ghost use Rattle.block_log.specs.declared.kinds.BlockKind.TheVariants.{Data};
 ghost use Rattle.segment_table.specs.Table.{held_at};
 ghost use Rattle.segment_copier.specs.Moves.{is_data};
 
 use block_log::BlockKind;
+use codec::Part;
 use drive::Drive;
 use s4_types::{Ptr, Refusal};
 use segment_word::Naming;
 use std::alloc::Global;
+
+/// Whether a part is that of a data block.
+fn is_of_data(part: &Part) -> bool
+    ensures { result ≡ same_kind Data part.now.kind }
+{
+    matches!(part.kind, BlockKind::Data)
+}
 
 /// Whether a pointer leads to a held data block.
 fn leads_to_data<J: Naming>(drive: &mut Drive<J>, place: Ptr) -> bool
@@ -16,7 +26,7 @@ fn leads_to_data<J: Naming>(drive: &mut Drive<J>, place: Ptr) -> bool
     ensures same { drive.new ≡ drive.old }
 {
     match drive.part(place) {
-        Some(part) => part.kind == BlockKind::Data,
+        Some(part) => is_of_data(&part),
         None => false,
     }
 }
@@ -33,9 +43,10 @@ pub(crate) fn data_among<J: Naming>(
 {
     let mut places = Vec::with_capacity(alloc, pointers.len())?;
     for pointer in pointers {
-        if leads_to_data(drive, *pointer) {
-            places.push(*pointer)?;
+        if !leads_to_data(drive, *pointer) {
+            continue;
         }
+        places.push(*pointer)?;
     }
     Ok(places)
 }

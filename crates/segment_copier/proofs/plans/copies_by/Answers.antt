@@ -1,4 +1,4 @@
-use Rattle.std.proofs.Common.{◌≡◌, ◌<◌, ℕ, List, sym, ap, subst, ◌∙◌}
+use Rattle.std.proofs.Common.{◌≡◌, ◌<◌, ℕ, List, sym, ap, subst, ◌∙◌, arith}
 use Rattle.std.proofs.lemmas.List.Elements.{All-from_recursion, All-get_or}
 use Rattle.s4_types.specs.Pointer.{Place}
 use Rattle.segment_word.specs.Frames.{Pinned}
@@ -22,3 +22,19 @@ loop-place-preserved c =
       same = c.read_block-bytes.ensures.same ∙ c.loop-place.invariant.same;
       copied = c.in_ok-push.ensures.items ∙ one_more pins c.args.places.now c.loop-place.place-index p c.read_block-bytes.result c.loop-place.copies.items c.loop-place-test.true c.place-item.is c.loop-place.invariant.copied bytes;
     }
+
+pub read_block-bytes-requires-clause-counted : goal.read_block-bytes-requires-clause-counted
+read_block-bytes-requires-clause-counted c =
+    let p : Place = c.place-item.result in
+    let pins : List Pinned = c.args.pin.now.pins in
+    let IsCounted : Place → Type 0 = λ q. (0 < pins_in q.frame pins) × (q.block < 16) in
+    let counted : IsCounted p = subst IsCounted (sym c.place-item.is) (All-get_or IsCounted c.args.places.now c.loop-place.place-index p c.loop-place-test.true (All-from_recursion IsCounted c.args.places.now c.requires.inside)) in
+    subst (λ (held : Held). 0 < pins_in c.frame.result held.pins) (sym c.loop-place.invariant.same) (subst (λ (f : ℕ). 0 < pins_in f pins) (sym c.frame.ensures) counted.0)
+
+pub read_block-bytes-requires-clause-inside : goal.read_block-bytes-requires-clause-inside
+read_block-bytes-requires-clause-inside c =
+    let p : Place = c.place-item.result in
+    let pins : List Pinned = c.args.pin.now.pins in
+    let IsCounted : Place → Type 0 = λ q. (0 < pins_in q.frame pins) × (q.block < 16) in
+    let counted : IsCounted p = subst IsCounted (sym c.place-item.is) (All-get_or IsCounted c.args.places.now c.loop-place.place-index p c.loop-place-test.true (All-from_recursion IsCounted c.args.places.now c.requires.inside)) in
+    omega (arith, counted.1)

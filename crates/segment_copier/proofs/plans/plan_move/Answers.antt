@@ -1,4 +1,7 @@
-use Rattle.std.proofs.Common.{◌≡◌, ◌∷◌, [], sym, ap, subst, ◌∙◌, ℕ, filter, IsSome}
+use Rattle.std.proofs.Common.{◌≡◌, ◌∷◌, [], inl, inr, Option, refl, sym, ap, subst, ◌∙◌, ℕ, filter, IsSome}
+use Rattle.std.proofs.lemmas.Result.{err_from_is_err_and}
+use Rattle.object_map.specs.declared.map.Row.{Row}
+use Rattle.object_map.specs.Rows.{row_of}
 use Rattle.segment_word.specs.Frames.{Sealed}
 use Rattle.segment_word.specs.Handles.{pin_of}
 use Rattle.segment_word.specs.Layout.{frame_at}
@@ -41,3 +44,26 @@ returns-clause-pinned g c =
     let t : Table = c.args.drive.now.store.table in
     let first : IsListed t c.args.object c.args.frame c.in-Some-first.first.now = first_listed c.what_is_listed_is_held.ensures t c.args.object c.args.frame c.as_slice.result.now c.in-Some-first.first.now (c.as_slice.ensures.value ∙ c.in_ok-held.ensures.pointers) c.in-Some-first.ensures.value in
     (c.in_ok-pin.ensures.table, c.in_ok-pin.ensures.pinned ∙ ap (λ (d : DriveFields). pin_of d.store.table.drive.frames c.in-Some-first.first.now.frame ∷ []) c.held_in.ensures.same ∙ ap (λ (n : ℕ). pin_of t.drive.frames n ∷ []) first.frame)
+
+-- there is no row
+pub returns-in_default-clause-told : goal.returns-in_default-clause-told
+returns-in_default-clause-told g c = inl (refl, sym c.in_default.ensures)
+
+-- there is one, and what it was refused for was told by the call
+pub returns-in_err-held-clause-told : goal.returns-in_err-held-clause-told
+returns-in_err-held-clause-told g c =
+    let p = err_from_is_err_and c.from_residual.result c.from_residual.ensures.1 in
+    let there : IsSome (row_of c.args.drive.now.store.rows c.args.object) = subst (λ (r : Option Row). IsSome r) c.in-Some.ensures refl in
+    rw (p.1, p.2) (inr (inl c.in_err-held.ensures.refusal, there))
+
+pub returns-in_err-pin-clause-told : goal.returns-in_err-pin-clause-told
+returns-in_err-pin-clause-told g c =
+    let p = err_from_is_err_and c.from_residual-in_err-pin.result c.from_residual-in_err-pin.ensures.1 in
+    let there : IsSome (row_of c.args.drive.now.store.rows c.args.object) = subst (λ (r : Option Row). IsSome r) c.in-Some.ensures refl in
+    rw (p.1, p.2) (inr (c.in_err-pin.ensures.refusal, there))
+
+pub returns-in_err-places-clause-told : goal.returns-in_err-places-clause-told
+returns-in_err-places-clause-told g c =
+    let p = err_from_is_err_and c.from_residual-in_err-places.result c.from_residual-in_err-places.ensures.1 in
+    let there : IsSome (row_of c.args.drive.now.store.rows c.args.object) = subst (λ (r : Option Row). IsSome r) c.in-Some.ensures refl in
+    rw (p.1, p.2) (inr (inl c.in_err-places.ensures.refusal, there))
