@@ -14,7 +14,7 @@ pub trait Clock {
 }
 
 /// A clock that moves by one tick for each moment drawn, and stops at the last moment, 2^64 - 1.
-#[derive(Clone, Copy, Debug, PartialEq, Eq)]
+#[derive(Clone, Copy)]
 pub struct Ticking {
     present: u64,
     tick: u64,

@@ -4,7 +4,7 @@ use crate::streams::{Sink, Source, StreamFailed};
 use std::alloc::Global;
 
 /// A source over bytes in memory, which gives them in pieces of at most `piece` bytes.
-#[derive(Debug, Drop)]
+#[derive(Drop)]
 pub struct MemorySource<'a> {
     rest: &'a [u8],
     piece: usize,
@@ -44,7 +44,7 @@ impl Source for MemorySource<'_> {
 }
 
 /// A sink that keeps the bytes in memory. A growth that is refused is its failure.
-#[derive(Debug, Drop)]
+#[derive(Drop)]
 pub struct MemorySink {
     bytes: Vec<u8>,
     failures: u64,
