@@ -1,19 +1,9 @@
 -- Known bytes that are appended in parts.
-use Rattle.std.proofs.Common.{◌≡◌, ℕ, ◌+◌, ◌-◌, ◌≤◌, List, [], ◌++◌, length, take, drop, Option, Some, None, Result, Ok, Err, refl, sym, ap, ◌∙◌, append_assoc, append-nil, take-append-drop, take_all, take-add, length-drop, subst, arith}
-use Rattle.std.specs.Result.{OnErr}
+use Rattle.std.proofs.Common.{◌≡◌, ℕ, ◌+◌, ◌-◌, ◌≤◌, List, [], ◌++◌, length, take, drop, Option, Some, None, refl, sym, ap, ◌∙◌, append-nil, take-append-drop, take_all, take-add, length-drop, subst, arith}
 use Rattle.std.specs.Io.KnownBytes.{Appends, Keeps, append_known}
 use Rattle.std.proofs.KnownBytes.{Appends-nil, Appends-kept, Appends-trans, append_known-moved, append_known-grown, Keeps-refl}
 use Rattle.std.proofs.lemmas.List.{drop-append-le, drop-drop}
 use Rattle.serving.specs.Streams.{AppendsPart}
-
-pub at_err : {T E : Type 0} (r : Result T E) (P : Type 0) → P → OnErr r P
-at_err (Ok x) P p = tt
-at_err (Err e) P p = p
-
--- a part of the first bytes is a part of all
-pub AppendsPart-more : (a b : Option (List ℕ)) (n : ℕ) (bs : List ℕ) → AppendsPart a b (take n bs) → AppendsPart a b bs
-AppendsPart-more a b n bs h =
-    (h.0, h.1 ++ drop n bs, sym (take-append-drop n bs) ∙ ap (λ x. x ++ drop n bs) h.2 ∙ append_assoc h.0 h.1 (drop n bs), h.3)
 
 pub AppendsPart-first : (a b : Option (List ℕ)) (n : ℕ) (bs : List ℕ) → Appends a b (take n bs) → AppendsPart a b bs
 AppendsPart-first a b n bs h = (take n bs, drop n bs, sym (take-append-drop n bs), h)

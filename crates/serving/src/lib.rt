@@ -11,7 +11,6 @@
 mod backend;
 mod clock;
 mod ends;
-mod fail_after;
 mod memory;
 mod serving;
 mod std_streams;
@@ -20,7 +19,6 @@ mod streams;
 pub use backend::Backend;
 pub use clock::{Clock, Ticking};
 pub use ends::ServeEnd;
-pub use fail_after::FailAfter;
 pub use memory::{MemorySink, MemorySource};
 pub use serving::serve;
 pub use std_streams::{ReadSource, WriteSink};
