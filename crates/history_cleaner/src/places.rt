@@ -10,17 +10,19 @@ use s4_types::Ptr;
 fn leads_to_a_place(pointer: Option<Ptr>)
     ensures { IfSome pointer IsPlace }
 {
-    if let Some(place) = pointer {
-        let _block = place.block();
-    }
+    let Some(place) = pointer else {
+        return;
+    };
+    let _block = place.block();
 }
 
 /// Shows that the blocks that a row names, if there is one, are at places of frames.
 pub(crate) fn names_places(row: &Option<Row>)
     ensures { IfSome row.now NamesPlaces }
 {
-    if let Some(row) = row {
-        leads_to_a_place(row.checkpoint);
-        leads_to_a_place(row.head);
-    }
+    let Some(row) = row else {
+        return;
+    };
+    leads_to_a_place(row.checkpoint);
+    leads_to_a_place(row.head);
 }
