@@ -61,24 +61,23 @@ fn write_named<'a, J: Naming, W: Sink>(
 {
     let mut drive = opened.named::<J>();
     match drive.session(Role::Client) {
-        Ok(session) => write_parts(drive, session, asked, writer),
+        Ok(mut session) => write_parts(&mut drive, &mut session, asked, writer),
         Err(refusal) => Err(Fault::Refused(refusal)),
     }
 }
 
 // Reads the object's bytes at the moment, and writes each part before the next is read.
 fn write_parts<'a, J: Naming, W: Sink>(
-    drive: Drive<J>,
-    session: Session<J>,
+    drive: &mut Drive<J>,
+    session: &mut Session<J>,
     asked: At<'a>,
     writer: &mut W,
 ) -> Result<(), Fault<'a>>
     requires writer { W.failures writer.old + 1 < 2 ^ 64 }
     ensures passed { OnOk result (W.held writer.new ≡ []) }
 {
-    let (mut drive, mut session) = (drive, session);
     for part in 0..u64::MAX / READ_BYTES {
-        let bytes = match read_part(&mut drive, &mut session, asked, part * READ_BYTES) {
+        let bytes = match read_part(drive, session, asked, part * READ_BYTES) {
             Ok(bytes) => bytes,
             Err(refusal) => return Err(Fault::Refused(refusal)),
         };
