@@ -26,7 +26,7 @@ use std::time::{Clock, Duration};
 const REST: u64 = 100;
 
 /// A whole round of the cleaner over all objects of a drive, by ascending number.
-#[derive(Clone, Copy, Debug, PartialEq, Eq)]
+#[derive(Clone, Copy)]
 pub struct Round {
     /// All sessions had ended when it began, and the copier too.
     pub is_behind: bool,
@@ -35,7 +35,7 @@ pub struct Round {
 }
 
 /// What was done for a drive beside its sessions.
-#[derive(Clone, Copy, Debug, PartialEq, Eq)]
+#[derive(Clone, Copy)]
 pub struct Upkeep {
     /// The cleaner's last round.
     pub round: Round,
