@@ -1,7 +1,8 @@
 -- What a session was told after a plan, and after one that couldn't be fetched.
-use Rattle.std.proofs.Common.{◌≡◌, ℕ, List, Option, None, Result, Ok, Err, inl, inr, refl, sym, ap, subst, ◌∙◌}
+use Rattle.std.proofs.Common.{◌≡◌, ℕ, List, [], Option, None, Result, Ok, Err, inl, inr, refl, sym, ap, subst, ◌∙◌}
+use Rattle.std.specs.Prelude.{IfOk}
 use Rattle.std.proofs.lemmas.Option.{none-some}
-use Rattle.s4_types.specs.History.{Base, History}
+use Rattle.s4_types.specs.History.{Base, History, accepted}
 use Rattle.s4_types.specs.declared.requests.Role.{Role}
 use Rattle.s4_types.specs.declared.requests.Request.TheVariants.{Read}
 use Rattle.s4_types.specs.declared.replies.Reply.{Reply}
@@ -13,9 +14,9 @@ use Rattle.s4_model.specs.Refusals.{first_refusal}
 use Rattle.s4_model.specs.Step.{Step, Refuses, Serves, Alters, Reads, ForMemory, MayWantMemory, judged}
 use Rattle.segment_word.specs.AcceptViews.{Ledger, Told, caught_up}
 use Rattle.time_read.specs.Plans.{PlanFields, bytes_planned}
-use Rattle.drive.specs.Fields.{SessionFields}
+use Rattle.drive.specs.Fields.{DriveFields, SessionFields, history_of}
 use Rattle.drive.specs.Answering.{told_after, reply_planned}
-use Rattle.server.specs.Sharing.{SharedStep, IsFetched}
+use Rattle.server.specs.Sharing.{SharedStep, IsFetched, IsFresh}
 
 -- a plan accepts nothing
 pub planned_told : (planned : Result PlanFields Refusal) (l : Ledger) (t : Told) → told_after (reply_planned planned) l t ≡ caught_up l t
@@ -62,3 +63,9 @@ shared_fetched base old new o off len now at (Ok plan) reply s (inl is) = subst 
 shared_fetched base old new o off len now at (Ok plan) reply s (inr is) =
     subst (λ (r : Reply). SharedStep base old (Read o off len at) now r new) (sym is) (shared_unfetched base old new o off len now at (bytes_planned plan) s)
 shared_fetched base old new o off len now at (Err refusal) reply s is = subst (λ (r : Reply). SharedStep base old (Read o off len at) now r new) (sym is) s
+
+-- a session that was just had of a drive with this base
+pub shared_fresh : (base : Base) (role : Role) (d : DriveFields) (had : Result SessionFields Refusal) → (history_of d).base ≡ base → IfOk had (λ s. s.told.seen ≡ accepted d.ledger.history) → IfOk had (λ s. s.told.mine ≡ [])
+    → IfOk had (λ s. s.role ≡ role) → IfOk had (IsFresh base role)
+shared_fresh base role d (Ok session) begins seen mine role_is = record { ledger = d.ledger; begins = begins; seen = seen; mine = mine; role_is = role_is }
+shared_fresh base role d (Err refusal) begins seen mine role_is = tt

@@ -18,7 +18,7 @@ use std::time::{Clock, Duration};
 const REST: u64 = 1000;
 
 /// What a step of the copier came to.
-#[derive(Clone, Copy, Debug, PartialEq, Eq)]
+#[derive(Clone, Copy)]
 pub enum MoveStep {
     /// No object was to leave a frame.
     Idle,
@@ -31,7 +31,7 @@ pub enum MoveStep {
 }
 
 /// How many moves the copier made.
-#[derive(Clone, Copy, Debug, PartialEq, Eq)]
+#[derive(Clone, Copy, PartialEq, Eq)]
 pub struct Moves {
     /// How many were planned.
     pub planned: u64,

@@ -21,7 +21,7 @@ use std::thread::{Threads, for_each_mut};
 pub const MOST_SESSIONS: usize = 16;
 
 /// What became of a session.
-#[derive(Clone, Copy, Debug, PartialEq, Eq)]
+#[derive(Clone, Copy, PartialEq, Eq)]
 pub enum Outcome {
     /// It was not begun yet.
     Waiting,

@@ -26,7 +26,7 @@ use std::time::{Clock, Duration};
 const REST: u64 = 100;
 
 /// A whole round of the cleaner over all objects of a drive, by ascending number.
-#[derive(Clone, Copy, Debug, PartialEq, Eq)]
+#[derive(Clone, Copy)]
 pub struct Round {
     /// All sessions had ended when it began, and the copier too.
     pub is_behind: bool,
@@ -35,7 +35,7 @@ pub struct Round {
 }
 
 /// What was done for a drive beside its sessions.
-#[derive(Clone, Copy, Debug, PartialEq, Eq)]
+#[derive(Clone, Copy)]
 pub struct Upkeep {
     /// The cleaner's last round.
     pub round: Round,
@@ -89,65 +89,31 @@ fn keep_up<J: Naming, R: Wait + Clock>(
     unreachable!()
 }
 
-/// Serves sessions with the copier beside them, until both have ended.
-fn attend_with_copier<
-    J: Naming + Send + Sync,
-    R: Threads + Wait + Clock + Sync,
-    G: Gate + Sync,
-    S: Source + Send + Drop,
-    W: Sink + Send + Drop,
->(
+/// The cleaner and the copier beside sessions. The copier ends once all sessions have ended, and the cleaner with a whole round
+/// after that.
+fn keep_beside<J: Naming + Send + Sync, R: Threads + Wait + Clock + Sync>(
     rt: &R,
     alloc: Global,
     drive: &Mutex<Drive<J>>,
-    gate: &G,
-    start: Moment,
-    tick: u64,
-    clients: Vec<Client<S, W>>,
-) -> (Vec<Client<S, W>>, Result<Moves, Refusal>)
-    requires count { vec_len clients ≤ 16 }
-    requires readers { All (λ c. S.failures c.reader + 1 < 2 ^ 64) clients.items }
-    requires writers { All (λ c. W.failures c.writer + 1 < 2 ^ 64) clients.items }
-    ensures moves { MatchResult result.1 (IsMoving J.base) (λ e. e ≡ Busy) }
-    ensures count { vec_len result.0 ≡ vec_len clients }
-    // Each session was answered by steps of the shared drive, or the drive had no seat for it.
-    ensures attended { (i : ℕ) (d : _) → i < vec_len clients
-        → IsAttended J.base (record { start = start; tick = tick }) (slice_index_or clients.items i d).role (slice_index_or result.0.items i d).outcome
-        (S.remaining (slice_index_or clients.items i d).reader) (taken_by W.passed W.held (slice_index_or clients.items i d).writer)
-        (S.remaining (slice_index_or result.0.items i d).reader) (taken_by W.passed W.held (slice_index_or result.0.items i d).writer) }
-    ensures passed { (i : ℕ) (d : _) → i < vec_len clients → PassesOn (slice_index_or result.0.items i d).outcome (W.held (slice_index_or result.0.items i d).writer) }
-    ensures reading { (i : ℕ) (d : _) → i < vec_len clients
-        → S.failures (slice_index_or result.0.items i d).reader ≡ S.failures (slice_index_or clients.items i d).reader + failures_in reading_failures (slice_index_or result.0.items i d).outcome }
-    ensures writing { (i : ℕ) (d : _) → i < vec_len clients
-        → W.failures (slice_index_or result.0.items i d).writer ≡ W.failures (slice_index_or clients.items i d).writer + failures_in writing_failures (slice_index_or result.0.items i d).outcome }
+    attended: &AtomicBool,
+) -> Upkeep
+    ensures round { IsLastRound J.base result.round }
+    ensures moves { MatchResult result.moves (IsMoving J.base) (λ e. e ≡ Busy) }
 {
-    let attended = AtomicBool::new(false);
+    let ended = AtomicBool::new(false);
+    let clean = || -> Round
+        ensures { IsLastRound J.base result }
+    { keep_up(rt, alloc, drive, &ended) };
     let copy = || -> Result<Moves, Refusal>
         ensures moves { MatchResult result (IsMoving J.base) (λ e. e ≡ Busy) }
-    { keep_moving(rt, alloc, drive, &attended) };
-    let attend = || -> Vec<Client<S, W>>
-        requires count { vec_len clients ≤ 16 }
-        requires readers { All (λ c. S.failures c.reader + 1 < 2 ^ 64) clients.items }
-        requires writers { All (λ c. W.failures c.writer + 1 < 2 ^ 64) clients.items }
-        ensures count { vec_len result ≡ vec_len clients }
-        ensures attended { (i : ℕ) (d : _) → i < vec_len clients
-            → IsAttended J.base (record { start = start; tick = tick }) (slice_index_or clients.items i d).role (slice_index_or result.items i d).outcome
-            (S.remaining (slice_index_or clients.items i d).reader) (taken_by W.passed W.held (slice_index_or clients.items i d).writer)
-            (S.remaining (slice_index_or result.items i d).reader) (taken_by W.passed W.held (slice_index_or result.items i d).writer) }
-        ensures passed { (i : ℕ) (d : _) → i < vec_len clients → PassesOn (slice_index_or result.items i d).outcome (W.held (slice_index_or result.items i d).writer) }
-        ensures reading { (i : ℕ) (d : _) → i < vec_len clients
-            → S.failures (slice_index_or result.items i d).reader ≡ S.failures (slice_index_or clients.items i d).reader + failures_in reading_failures (slice_index_or result.items i d).outcome }
-        ensures writing { (i : ℕ) (d : _) → i < vec_len clients
-            → W.failures (slice_index_or result.items i d).writer ≡ W.failures (slice_index_or clients.items i d).writer + failures_in writing_failures (slice_index_or result.items i d).outcome }
     {
-        let mut clients = clients;
-        run_sessions(rt, alloc, drive, gate, start, tick, clients.as_mut_slice());
-        attended.store(true, Ordering::SeqCst);
-        clients
+        let moves = keep_moving(rt, alloc, drive, attended);
+        ended.store(true, Ordering::SeqCst);
+        moves
     };
-    // Where there is no thread for the first, it is called behind the second.
-    let (moves, clients) = join(rt, copy, attend);
-    (clients, moves)
+    // Where there is no thread for the first, it is called after the second.
+    let (round, moves) = join(rt, clean, copy);
+    Upkeep { round, moves }
 }
 
 /// Serves sessions of one drive at once, as [`run_sessions`] does, and beside them keeps the drive up, on two threads more: one cleans,
@@ -191,31 +157,32 @@ pub fn run_with_upkeep<
     ensures writing { (i : ℕ) (d : _) → i < vec_len clients
         → W.failures (slice_index_or result.0.items i d).writer ≡ W.failures (slice_index_or clients.items i d).writer + failures_in writing_failures (slice_index_or result.0.items i d).outcome }
 {
-    let ended = AtomicBool::new(false);
-    let clean = || -> Round
-        ensures { IsLastRound J.base result }
-    { keep_up(rt, alloc, drive, &ended) };
-    let attend = || -> (Vec<Client<S, W>>, Result<Moves, Refusal>)
+    let attended = AtomicBool::new(false);
+    let keep = || -> Upkeep
+        ensures round { IsLastRound J.base result.round }
+        ensures moves { MatchResult result.moves (IsMoving J.base) (λ e. e ≡ Busy) }
+    { keep_beside(rt, alloc, drive, &attended) };
+    let attend = || -> Vec<Client<S, W>>
         requires count { vec_len clients ≤ 16 }
         requires readers { All (λ c. S.failures c.reader + 1 < 2 ^ 64) clients.items }
         requires writers { All (λ c. W.failures c.writer + 1 < 2 ^ 64) clients.items }
-        ensures moves { MatchResult result.1 (IsMoving J.base) (λ e. e ≡ Busy) }
-        ensures count { vec_len result.0 ≡ vec_len clients }
+        ensures count { vec_len result ≡ vec_len clients }
         ensures attended { (i : ℕ) (d : _) → i < vec_len clients
-            → IsAttended J.base (record { start = start; tick = tick }) (slice_index_or clients.items i d).role (slice_index_or result.0.items i d).outcome
+            → IsAttended J.base (record { start = start; tick = tick }) (slice_index_or clients.items i d).role (slice_index_or result.items i d).outcome
             (S.remaining (slice_index_or clients.items i d).reader) (taken_by W.passed W.held (slice_index_or clients.items i d).writer)
-            (S.remaining (slice_index_or result.0.items i d).reader) (taken_by W.passed W.held (slice_index_or result.0.items i d).writer) }
-        ensures passed { (i : ℕ) (d : _) → i < vec_len clients → PassesOn (slice_index_or result.0.items i d).outcome (W.held (slice_index_or result.0.items i d).writer) }
+            (S.remaining (slice_index_or result.items i d).reader) (taken_by W.passed W.held (slice_index_or result.items i d).writer) }
+        ensures passed { (i : ℕ) (d : _) → i < vec_len clients → PassesOn (slice_index_or result.items i d).outcome (W.held (slice_index_or result.items i d).writer) }
         ensures reading { (i : ℕ) (d : _) → i < vec_len clients
-            → S.failures (slice_index_or result.0.items i d).reader ≡ S.failures (slice_index_or clients.items i d).reader + failures_in reading_failures (slice_index_or result.0.items i d).outcome }
+            → S.failures (slice_index_or result.items i d).reader ≡ S.failures (slice_index_or clients.items i d).reader + failures_in reading_failures (slice_index_or result.items i d).outcome }
         ensures writing { (i : ℕ) (d : _) → i < vec_len clients
-            → W.failures (slice_index_or result.0.items i d).writer ≡ W.failures (slice_index_or clients.items i d).writer + failures_in writing_failures (slice_index_or result.0.items i d).outcome }
+            → W.failures (slice_index_or result.items i d).writer ≡ W.failures (slice_index_or clients.items i d).writer + failures_in writing_failures (slice_index_or result.items i d).outcome }
     {
-        let both = attend_with_copier(rt, alloc, drive, gate, start, tick, clients);
-        ended.store(true, Ordering::SeqCst);
-        both
+        let mut clients = clients;
+        run_sessions(rt, alloc, drive, gate, start, tick, clients.as_mut_slice());
+        attended.store(true, Ordering::SeqCst);
+        clients
     };
-    // Where there is no thread for the first, it is called behind the second.
-    let (round, (clients, moves)) = join(rt, clean, attend);
-    (clients, Upkeep { round, moves })
+    // Where there is no thread for the first, it is called after the second.
+    let (upkeep, clients) = join(rt, keep, attend);
+    (clients, upkeep)
 }
