@@ -1,6 +1,6 @@
 //! What is looked at.
 use crate::acting::frame_of;
-use crate::commands::{Command, Look};
+use crate::commands::{Asked, Look};
 use crate::party::Played;
 use crate::text::Text;
 use codec::{Entry, Pair, Status, Triple};
@@ -213,10 +213,10 @@ fn look_at_drive<D: Played>(drive: &mut D, look: Look) -> u64 {
 fn look_at_object<D: Played>(
     drive: &mut D,
     look: Look,
-    command: &Command<'_>,
+    asked: &Asked<'_>,
     text: &mut Text,
 ) -> Result<(), Refusal> {
-    let [object, second, third] = command.numbers;
+    let [object, second, third] = asked.numbers;
     match look {
         Look::Sees => text.word(yes_or_no(drive.sees(object, second, third))),
         Look::Above => tell_number(text, drive.above(object).map(|next| next.number())),
@@ -235,7 +235,7 @@ fn look_at_object<D: Played>(
 pub(crate) fn perform_look<D: Played>(
     drive: &mut D,
     look: Look,
-    command: &Command<'_>,
+    asked: &Asked<'_>,
     text: &mut Text,
 ) -> Result<(), Refusal> {
     match look {
@@ -244,11 +244,11 @@ pub(crate) fn perform_look<D: Played>(
             Ok(())
         }
         Look::Frame => {
-            tell_frame(text, drive, command.numbers[0]);
+            tell_frame(text, drive, asked.numbers[0]);
             Ok(())
         }
         Look::Word => {
-            tell_word(text, drive, command.numbers[0]);
+            tell_word(text, drive, asked.numbers[0]);
             Ok(())
         }
         Look::Chosen => tell_chosen(text, drive),
@@ -257,6 +257,6 @@ pub(crate) fn perform_look<D: Played>(
             text.word("Done");
             Ok(())
         }
-        _ => look_at_object(drive, look, command, text),
+        _ => look_at_object(drive, look, asked, text),
     }
 }

@@ -9,12 +9,10 @@
 mod acting;
 mod commands;
 mod comparing;
-mod counting;
 mod imaging;
 mod looking;
 mod party;
 mod player;
-mod rolling;
 mod sitting;
 mod stage;
 mod text;
