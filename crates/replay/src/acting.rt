@@ -385,12 +385,11 @@ fn empty<D: Played>(drive: &mut D, text: &mut Text) -> Result<(), Refusal> {
 
 /// The last plan of the pile, or all, are given up.
 fn drop_plans<D: Played>(stage: &mut Stage, drive: &mut D, is_all: bool, text: &mut Text) {
+    drive.drop_plans(is_all);
     if is_all {
         stage.pile.clear();
-        drive.drop_all();
     } else {
         drop(stage.pile.pop());
-        drive.drop_last();
     }
     tell_done(text, true);
 }

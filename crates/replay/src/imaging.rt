@@ -35,8 +35,10 @@ fn put(image: &mut [u8], place: usize, new: &[u8]) -> bool {
     if end > image.len() {
         return false;
     }
-    for (old, byte) in image.iter_mut().skip(place).zip(new.iter()) {
-        *old = *byte;
+    for (offset, byte) in new.iter().enumerate() {
+        if let Some(old) = image.get_mut(place.saturating_add(offset)) {
+            *old = *byte;
+        }
     }
     true
 }

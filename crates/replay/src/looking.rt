@@ -6,14 +6,6 @@ use crate::text::Text;
 use codec::{Entry, Pair, Status, Triple};
 use s4_types::{Moment, Ptr, Refusal};
 
-/// Tells a moment or a place that may not be there.
-fn tell_number(text: &mut Text, number: Option<u64>) {
-    match number {
-        Some(number) => text.number(number),
-        None => text.word("none"),
-    }
-}
-
 fn tell_row<D: Played>(text: &mut Text, drive: &mut D, object: u64) {
     let Some(row) = drive.row(object) else {
         text.word("none");
@@ -24,7 +16,10 @@ fn tell_row<D: Played>(text: &mut Text, drive: &mut D, object: u64) {
     text.word("bytes");
     text.number(row.journal_bytes as u64);
     text.word("checkpoint");
-    tell_number(text, row.checkpoint.map(|_| row.checkpoint_moment.number()));
+    match row.checkpoint {
+        Some(_) => tell_moment(text, row.checkpoint_moment),
+        None => text.word("none"),
+    }
     text.word("head");
     tell_head(text, row.head);
     text.word("stamp");
@@ -117,6 +112,13 @@ fn tell_numbered<D: Played>(
     };
     tell_entry(text, entries.get(place));
     Ok(())
+}
+
+fn tell_above<D: Played>(text: &mut Text, drive: &mut D, object: u64) {
+    match drive.above(object) {
+        Some(next) => text.number(next.number()),
+        None => text.word("none"),
+    }
 }
 
 fn tell_inode<D: Played>(text: &mut Text, drive: &mut D, object: u64, at: u64) {
@@ -219,7 +221,7 @@ fn look_at_object<D: Played>(
     let [object, second, third] = asked.numbers;
     match look {
         Look::Sees => text.word(yes_or_no(drive.sees(object, second, third))),
-        Look::Above => tell_number(text, drive.above(object).map(|next| next.number())),
+        Look::Above => tell_above(text, drive, object),
         Look::Row => tell_row(text, drive, object),
         Look::Inode => tell_inode(text, drive, object, second),
         Look::Held => return tell_held(text, drive, object, second),

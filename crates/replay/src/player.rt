@@ -4,7 +4,7 @@ use crate::commands::{Beginning, Command, Line, Part, Verb, line_of};
 use crate::comparing::{perform_comparing, watch};
 use crate::imaging::perform_imaging;
 use crate::looking::perform_look;
-use crate::party::{Played, Scene, play_image, play_new};
+use crate::party::{Played, play_image, play_new};
 use crate::sitting::{come, perform_sitting};
 use crate::stage::Stage;
 use crate::text::Text;
@@ -19,7 +19,7 @@ use verifier::verify;
 
 /// What comes behind a drive: the script's end, a new drive, or the one of the image that is kept.
 #[derive(Clone, Copy)]
-enum Start {
+pub(crate) enum Start {
     End,
     New {
         frames: usize,
@@ -40,7 +40,7 @@ pub(crate) struct Report {
 
 /// A script that is played.
 #[derive(Drop)]
-struct Player<'a> {
+pub(crate) struct Player<'a> {
     alloc: Global,
     name: &'a str,
     lines: &'a [&'a [u8]],
@@ -365,12 +365,13 @@ impl<'a> Player<'a> {
             Start::End => Ok(Start::End),
         }
     }
-}
 
-impl<'a> Scene for Player<'a> {
-    type Outcome = Start;
-
-    fn play<D: Played, R: Threads>(&mut self, rt: &R, drive: &mut D) -> Result<Start, Refusal> {
+    /// Plays on over a drive, and gives what begins then.
+    pub(crate) fn play<D: Played, R: Threads>(
+        &mut self,
+        rt: &R,
+        drive: &mut D,
+    ) -> Result<Start, Refusal> {
         come(&mut self.stage, drive, b"client", Role::Client)?;
         come(&mut self.stage, drive, b"admin", Role::Admin)?;
         let lines = self.lines;

@@ -78,8 +78,14 @@ pub(crate) fn perform_sitting<D: Played>(
     text: &mut Text,
 ) -> Result<(), Refusal> {
     let is_done = match sitting {
-        Sitting::Come(role) => come(stage, drive, asked.name, role).map(|_| true)?,
-        Sitting::ComeMany(role) => come_many(stage, drive, asked, role).map(|_| true)?,
+        Sitting::Come(role) => {
+            come(stage, drive, asked.name, role)?;
+            true
+        }
+        Sitting::ComeMany(role) => {
+            come_many(stage, drive, asked, role)?;
+            true
+        }
         Sitting::End => leave(stage, drive, asked.name),
         Sitting::EndBeside => end_beside(stage, drive, asked)?,
     };

@@ -86,11 +86,13 @@ impl Stage {
 
     /// Where somebody sits; behind all where nobody has that name.
     pub(crate) fn place_of(&self, name: &[u8]) -> usize {
-        let found = self
-            .seats
-            .iter()
-            .position(|seat| seat.name.as_slice() == name);
-        found.unwrap_or(self.seats.len())
+        let seats = self.seats.as_slice();
+        for place in 0..seats.len() {
+            if seats[place].name.as_slice() == name {
+                return place;
+            }
+        }
+        seats.len()
     }
 
     /// Somebody sits down behind the others.

@@ -103,7 +103,12 @@ fn put_text(bytes: &mut Vec<u8>, part: &[u8]) -> Result<bool, Refusal> {
         return Ok(false);
     };
     bytes.extend_from_slice(signs)?;
-    Ok(signs.iter().all(|sign| is_text(*sign)))
+    for sign in signs {
+        if !is_text(*sign) {
+            return Ok(false);
+        }
+    }
+    Ok(true)
 }
 
 /// Puts the bytes that a part spells behind others. Whether it spells any.
