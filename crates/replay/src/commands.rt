@@ -219,12 +219,12 @@ static COMMANDS: [(&str, Verb); 74] = [
     ("$ Commit", Verb::Act(Acting::Commit)),
 ];
 
-/// A number that is told: itself, or how far it is before the drive's clock or behind it.
+/// A number as a word spells it: itself, or how far it is before or after the drive's clock.
 #[derive(Clone, Copy)]
 enum Number {
     Plain(u64),
     Before(u64),
-    Behind(u64),
+    After(u64),
 }
 
 impl Number {
@@ -233,7 +233,7 @@ impl Number {
         match self {
             Number::Plain(number) => number,
             Number::Before(count) => clock.saturating_sub(count),
-            Number::Behind(count) => clock.saturating_add(count),
+            Number::After(count) => clock.saturating_add(count),
         }
     }
 }
@@ -242,7 +242,7 @@ impl Number {
 fn number_of(word: &[u8]) -> Option<Number> {
     match word {
         [b'-', digits @ ..] => Some(Number::Before(count_of(digits)?)),
-        [b'+', digits @ ..] => Some(Number::Behind(count_of(digits)?)),
+        [b'+', digits @ ..] => Some(Number::After(count_of(digits)?)),
         _ => Some(Number::Plain(count_of(word)?)),
     }
 }
@@ -353,8 +353,8 @@ impl Given {
         self.pass()
     }
 
-    /// Takes a word and the number behind it, where they come next.
-    fn take_behind(&mut self, name: &str, words: &[&[u8]]) -> Option<Number> {
+    /// Takes a word and the number after it, where they come next.
+    fn take_after(&mut self, name: &str, words: &[&[u8]]) -> Option<Number> {
         if word_at(words, self.taken) != name.as_bytes() {
             return None;
         }
@@ -366,8 +366,8 @@ impl Given {
     /// Takes what a part of a pattern stands for. Whether it is there.
     fn take(&mut self, part: &[u8], words: &[&[u8]]) -> bool {
         match part {
-            [b'[', b'a', ..] => self.at = self.take_behind("at", words),
-            [b'[', ..] => self.now = self.take_behind("now", words),
+            [b'[', b'a', ..] => self.at = self.take_after("at", words),
+            [b'[', ..] => self.now = self.take_after("now", words),
             _ => return self.taken < words.len()
                 && self.take_word(part, word_at(words, self.taken)),
         }
