@@ -428,12 +428,13 @@ fn command_of<'a>(alloc: Global, words: &[&'a [u8]]) -> Result<Option<Command<'a
     let Some(bytes) = bytes_of(alloc, word_at(words, given.bytes))? else {
         return Ok(None);
     };
+    let numbers = given.numbers;
     Ok(Some(Command {
         verb,
         name: word_at(words, given.name),
         other: word_at(words, given.other),
         bytes,
-        numbers: given.numbers,
+        numbers,
         at: given.at,
         now: given.now,
     }))
