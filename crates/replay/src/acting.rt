@@ -1,12 +1,12 @@
 //! Steps of sessions and of the drive.
-use crate::commands::{Acting, Asking, Command, Tidying, Upkeep};
+use crate::commands::{Acting, Asked, Asking, Tidying, Upkeep};
 use crate::party::{Played, Reading};
 use crate::sitting::tell_done;
 use crate::stage::{Stage, tell_answer};
 use crate::text::Text;
 use history_cleaner::Turn;
 use interleaving::{Act, Answer, Step};
-use s4_types::{Bytes, Moment, ObjectId, Refusal, Reply, Request};
+use s4_types::{Bytes, Moment, ObjectId, Refusal, Reply, Request, Role};
 use std::alloc::Global;
 
 /// The number of a frame; of one that isn't there where the number is greater than any.
@@ -15,19 +15,14 @@ pub(crate) fn frame_of(number: u64) -> u16 {
 }
 
 /// The request that a command spells.
-fn request_of(
-    alloc: Global,
-    asking: Asking,
-    command: &Command<'_>,
-    clock: u64,
-) -> Result<Request, Refusal> {
-    let bytes = Bytes::from_slice(alloc, command.bytes.as_slice())?;
-    Ok(request_with(asking, command, clock, bytes))
+fn request_of(alloc: Global, asking: Asking, asked: &Asked<'_>) -> Result<Request, Refusal> {
+    let bytes = Bytes::from_slice(alloc, asked.bytes)?;
+    Ok(request_with(asking, asked, bytes))
 }
 
 /// The request that a command spells, with its bytes.
-fn request_with(asking: Asking, command: &Command<'_>, clock: u64, bytes: Bytes) -> Request {
-    let [number, second, _] = command.numbers;
+fn request_with(asking: Asking, asked: &Asked<'_>, bytes: Bytes) -> Request {
+    let [number, second, _] = asked.numbers;
     let object = ObjectId::new(number);
     match asking {
         Asking::Create => Request::Create { attribute: bytes },
@@ -41,13 +36,13 @@ fn request_with(asking: Asking, command: &Command<'_>, clock: u64, bytes: Bytes)
             object,
             attribute: bytes,
         },
-        _ => request_without(asking, command, clock),
+        _ => request_without(asking, asked),
     }
 }
 
 /// The request that a command spells, of those that have no bytes.
-fn request_without(asking: Asking, command: &Command<'_>, clock: u64) -> Request {
-    let [number, second, third] = command.numbers;
+fn request_without(asking: Asking, asked: &Asked<'_>) -> Request {
+    let [number, second, third] = asked.numbers;
     let object = ObjectId::new(number);
     match asking {
         Asking::Delete => Request::Delete { object },
@@ -67,21 +62,21 @@ fn request_without(asking: Asking, command: &Command<'_>, clock: u64) -> Request
         },
         Asking::GetAttr => Request::GetAttr {
             object,
-            at: command.moment(clock),
+            at: asked.at,
         },
-        _ => read_of(&reading_of(command, clock)),
+        _ => read_of(&reading_of(asked)),
     }
 }
 
 /// The read that a command spells.
-fn reading_of(command: &Command<'_>, clock: u64) -> Reading {
-    let [number, offset, length] = command.numbers;
+fn reading_of(asked: &Asked<'_>) -> Reading {
+    let [number, offset, length] = asked.numbers;
     Reading {
         object: ObjectId::new(number),
         offset,
         length: u32::try_from(length).unwrap_or(u32::MAX),
-        at: command.moment(clock),
-        now: Moment::new(command.now),
+        at: asked.at,
+        now: asked.now,
     }
 }
 
@@ -105,14 +100,14 @@ fn resolve_of(reading: &Reading) -> Act {
 }
 
 /// The act that a command spells, which is no request.
-fn act_of(acting: Acting, command: &Command<'_>, clock: u64) -> Act {
+fn act_of(acting: Acting, asked: &Asked<'_>) -> Act {
     match acting {
-        Acting::Resolve => resolve_of(&reading_of(command, clock)),
+        Acting::Resolve => resolve_of(&reading_of(asked)),
         Acting::Fetch => Act::Fetch,
         Acting::Meet => Act::Meet,
         Acting::Plan => Act::Plan {
-            frame: frame_of(command.numbers[0]),
-            object: ObjectId::new(command.numbers[1]),
+            frame: frame_of(asked.numbers[0]),
+            object: ObjectId::new(asked.numbers[1]),
         },
         Acting::Copy => Act::Copy,
         Acting::Commit => Act::Commit,
@@ -120,8 +115,8 @@ fn act_of(acting: Acting, command: &Command<'_>, clock: u64) -> Act {
 }
 
 /// The step of the drive that a command spells.
-fn step_of(upkeep: Upkeep, command: &Command<'_>) -> Step {
-    let number = command.numbers[0];
+fn step_of(upkeep: Upkeep, asked: &Asked<'_>) -> Step {
+    let number = asked.numbers[0];
     let object = ObjectId::new(number);
     let frame = frame_of(number);
     match upkeep {
@@ -176,15 +171,15 @@ pub(crate) fn perform_asking<D: Played>(
     stage: &mut Stage,
     drive: &mut D,
     asking: Asking,
-    command: &Command<'_>,
+    asked: &Asked<'_>,
     text: &mut Text,
 ) -> Result<(), Refusal> {
-    let request = request_of(stage.alloc, asking, command, drive.clock())?;
-    let now = Moment::new(command.now);
+    let request = request_of(stage.alloc, asking, asked)?;
+    let now = asked.now;
     act_by(
         stage,
         drive,
-        command.name,
+        asked.name,
         Act::Request { request, now },
         text,
     )
@@ -217,15 +212,15 @@ pub(crate) fn perform_acting<D: Played>(
     stage: &mut Stage,
     drive: &mut D,
     acting: Acting,
-    command: &Command<'_>,
+    asked: &Asked<'_>,
     text: &mut Text,
 ) -> Result<(), Refusal> {
-    let act = act_of(acting, command, drive.clock());
+    let act = act_of(acting, asked);
     match acting {
         Acting::Fetch | Acting::Copy | Acting::Commit => {
-            spend(stage, drive, command.name, act, text)
+            spend(stage, drive, asked.name, act, text)
         }
-        _ => act_by(stage, drive, command.name, act, text),
+        _ => act_by(stage, drive, asked.name, act, text),
     }
 }
 
@@ -234,10 +229,10 @@ pub(crate) fn perform_upkeep<D: Played>(
     stage: &mut Stage,
     drive: &mut D,
     upkeep: Upkeep,
-    command: &Command<'_>,
+    asked: &Asked<'_>,
     text: &mut Text,
 ) -> Result<(), Refusal> {
-    let answer = take(stage, drive, step_of(upkeep, command))?;
+    let answer = take(stage, drive, step_of(upkeep, asked))?;
     tell_answer(text, &answer);
     Ok(())
 }
@@ -301,45 +296,51 @@ fn move_chosen<D: Played>(
         text.word("Idle");
         return Ok(());
     };
-    drive.come(s4_types::Role::Admin)?;
+    drive.come(Role::Admin)?;
     let actor = stage.seats.len();
     let moved = move_by(drive, actor, chosen.frame, chosen.object);
     drive.leave(actor);
-    moved?;
-    text.word("Moved");
-    text.number(chosen.frame as u64);
-    text.number(chosen.object.number());
+    match moved? {
+        Answer::Done => {
+            text.word("Moved");
+            text.number(chosen.frame as u64);
+            text.number(chosen.object.number());
+        }
+        answer => tell_answer(text, &answer),
+    }
     Ok(())
 }
 
-/// An actor moves an object's blocks out of a frame.
+/// An actor moves an object's blocks out of a frame. The first answer that isn't Done ends that.
 fn move_by<D: Played>(
     drive: &mut D,
     actor: usize,
     frame: u16,
     object: ObjectId,
-) -> Result<(), Refusal> {
+) -> Result<Answer, Refusal> {
     for act in [Act::Plan { frame, object }, Act::Copy, Act::Commit] {
-        if let Answer::Refused(refusal) = drive.take(&Step::By { actor, act })? {
-            return Err(refusal);
+        match drive.take(&Step::By { actor, act })? {
+            Answer::Done => {}
+            Answer::Refused(Refusal::NoMemory) => return Err(Refusal::NoMemory),
+            answer => return Ok(answer),
         }
     }
-    Ok(())
+    Ok(Answer::Done)
 }
 
 /// A plan of a read is laid on the pile.
 fn keep<D: Played>(
     stage: &mut Stage,
     drive: &mut D,
-    command: &Command<'_>,
+    asked: &Asked<'_>,
     text: &mut Text,
 ) -> Result<(), Refusal> {
-    let place = stage.place_of(command.name);
+    let place = stage.place_of(asked.name);
     if place >= stage.seats.len() {
         text.word("Idle");
         return Ok(());
     }
-    let reading = reading_of(command, drive.clock());
+    let reading = reading_of(asked);
     let planned = drive.keep(place, &reading);
     stage.plan(place, None);
     let answer = match planned {
@@ -362,16 +363,14 @@ fn keep<D: Played>(
 /// The last plan of the pile is fetched. It is spent then, also where memory is refused.
 fn take_last<D: Played>(stage: &mut Stage, drive: &mut D, text: &mut Text) -> Result<(), Refusal> {
     stage.is_spent = true;
-    let told = stage.pile.pop();
+    let planned = stage.pile.pop().unwrap_or(None);
     let answer = match drive.fetch() {
         Ok(Some(bytes)) => Answer::Bytes(Bytes::from_vec(bytes)),
         Ok(None) => Answer::Idle,
         Err(refusal) => Answer::Refused(refusal),
     };
     stage.excuse(false, &answer);
-    if let (Some(Some(told)), Answer::Bytes(bytes)) = (told, &answer) {
-        stage.compare_bytes(&told, bytes.as_slice());
-    }
+    stage.compare_fetched(&planned, &answer);
     tell_answer(text, &answer);
     Ok(())
 }
@@ -386,12 +385,11 @@ fn empty<D: Played>(drive: &mut D, text: &mut Text) -> Result<(), Refusal> {
 
 /// The last plan of the pile, or all, are given up.
 fn drop_plans<D: Played>(stage: &mut Stage, drive: &mut D, is_all: bool, text: &mut Text) {
+    drive.drop_plans(is_all);
     if is_all {
         stage.pile.clear();
-        drive.drop_all();
     } else {
         drop(stage.pile.pop());
-        drive.drop_last();
     }
     tell_done(text, true);
 }
@@ -401,7 +399,7 @@ pub(crate) fn perform_tidying<D: Played>(
     stage: &mut Stage,
     drive: &mut D,
     tidying: Tidying,
-    command: &Command<'_>,
+    asked: &Asked<'_>,
     text: &mut Text,
 ) -> Result<(), Refusal> {
     match tidying {
@@ -409,7 +407,7 @@ pub(crate) fn perform_tidying<D: Played>(
         Tidying::Turn => turn(stage, drive, text),
         Tidying::Empty => empty(drive, text),
         Tidying::Move => move_chosen(stage, drive, text),
-        Tidying::Keep => keep(stage, drive, command, text),
+        Tidying::Keep => keep(stage, drive, asked, text),
         Tidying::Take => take_last(stage, drive, text),
         Tidying::Drop => {
             drop_plans(stage, drive, false, text);

@@ -1,5 +1,5 @@
 //! The commands of a script.
-use crate::words::{bytes_of, number_of, parts_of};
+use crate::words::{bytes_of, count_of, parts_of};
 use s4_types::{Moment, Refusal, Role};
 use std::alloc::Global;
 
@@ -81,8 +81,6 @@ pub(crate) enum Look {
 pub(crate) enum Beside {
     Alike,
     Watch,
-    Thrown,
-    Tally,
 }
 
 /// What is done with the image.
@@ -138,7 +136,7 @@ pub(crate) enum Verb {
 
 /// How commands are spelled: `$` stands for a name, `#` for a number, `%` for bytes, `[at]` and `[now]` for such a word and a
 /// number, or for none.
-static COMMANDS: [(&str, Verb); 76] = [
+static COMMANDS: [(&str, Verb); 74] = [
     ("drive # window #", Verb::Begin(Beginning::Drive)),
     ("drive # window # alone", Verb::Begin(Beginning::Alone)),
     ("open", Verb::Begin(Beginning::Open)),
@@ -186,8 +184,6 @@ static COMMANDS: [(&str, Verb); 76] = [
     ("rules", Verb::Look(Look::Rules)),
     ("alike", Verb::Compare(Beside::Alike)),
     ("watch", Verb::Compare(Beside::Watch)),
-    ("thrown # # #", Verb::Compare(Beside::Thrown)),
-    ("tally", Verb::Compare(Beside::Tally)),
     ("save", Verb::Hold(Imaging::Save)),
     ("saved", Verb::Hold(Imaging::Saved)),
     ("image #", Verb::Hold(Imaging::Zeros)),
@@ -223,7 +219,35 @@ static COMMANDS: [(&str, Verb); 76] = [
     ("$ Commit", Verb::Act(Acting::Commit)),
 ];
 
-/// What the words of a command give: the places of two names and of bytes among them, three numbers, and two moments.
+/// A number as a word spells it: itself, or how far it is before or after the drive's clock.
+#[derive(Clone, Copy)]
+enum Number {
+    Plain(u64),
+    Before(u64),
+    After(u64),
+}
+
+impl Number {
+    /// The number, where the clock is this.
+    fn at(self, clock: u64) -> u64 {
+        match self {
+            Number::Plain(number) => number,
+            Number::Before(count) => clock.saturating_sub(count),
+            Number::After(count) => clock.saturating_add(count),
+        }
+    }
+}
+
+/// The number that a word spells.
+fn number_of(word: &[u8]) -> Option<Number> {
+    match word {
+        [b'-', digits @ ..] => Some(Number::Before(count_of(digits)?)),
+        [b'+', digits @ ..] => Some(Number::After(count_of(digits)?)),
+        _ => Some(Number::Plain(count_of(word)?)),
+    }
+}
+
+/// What the words of a command give: the places of two names and of bytes among them, and numbers.
 #[derive(Clone, Copy)]
 struct Given {
     /// How many words were taken.
@@ -231,38 +255,56 @@ struct Given {
     name: usize,
     other: usize,
     bytes: usize,
-    numbers: [u64; 3],
+    numbers: [Number; 3],
     counted: usize,
-    at: Option<u64>,
-    is_back: bool,
-    now: Option<u64>,
+    at: Option<Number>,
+    now: Option<Number>,
 }
 
 /// A command that is done.
 #[derive(Drop)]
 pub(crate) struct Command<'a> {
     pub(crate) verb: Verb,
+    name: &'a [u8],
+    other: &'a [u8],
+    bytes: Vec<u8>,
+    numbers: [Number; 3],
+    at: Option<Number>,
+    now: Option<Number>,
+}
+
+/// What a command says beside its verb, where the drive's clock is known.
+#[derive(Clone, Copy)]
+pub(crate) struct Asked<'a> {
     pub(crate) name: &'a [u8],
     pub(crate) other: &'a [u8],
+    pub(crate) bytes: &'a [u8],
     pub(crate) numbers: [u64; 3],
-    pub(crate) bytes: Vec<u8>,
-    /// A moment, or how far before the clock it is.
-    pub(crate) at: Option<u64>,
-    pub(crate) is_back: bool,
-    pub(crate) now: u64,
+    /// The moment that is looked at; none for the present.
+    pub(crate) at: Option<Moment>,
+    /// The moment of the server's clock.
+    pub(crate) now: Moment,
 }
 
 impl<'a> Command<'a> {
-    /// The moment that is told, where the clock is this.
-    pub(crate) fn moment(&self, clock: u64) -> Option<Moment> {
-        let at = self.at?;
-        let number = if self.is_back {
-            clock.saturating_sub(at)
-        } else {
-            at
-        };
-        Some(Moment::new(number))
+    /// What it says, where the clock is this.
+    pub(crate) fn asked(&self, clock: u64) -> Asked<'_> {
+        let [first, second, third] = self.numbers;
+        let now = self.now.unwrap_or(Number::Plain(0));
+        Asked {
+            name: self.name,
+            other: self.other,
+            bytes: self.bytes.as_slice(),
+            numbers: [first.at(clock), second.at(clock), third.at(clock)],
+            at: moment_at(self.at, clock),
+            now: Moment::new(now.at(clock)),
+        }
     }
+}
+
+/// The moment that is told, where the clock is this.
+fn moment_at(number: Option<Number>, clock: u64) -> Option<Moment> {
+    Some(Moment::new(number?.at(clock)))
 }
 
 /// The place of a word that isn't there.
@@ -275,10 +317,9 @@ impl Given {
             name: NOWHERE,
             other: NOWHERE,
             bytes: NOWHERE,
-            numbers: [0, 0, 0],
+            numbers: [Number::Plain(0); 3],
             counted: 0,
             at: None,
-            is_back: false,
             now: None,
         }
     }
@@ -299,12 +340,6 @@ impl Given {
         self.pass()
     }
 
-    /// Takes bytes.
-    fn take_bytes(&mut self) -> bool {
-        self.bytes = self.taken;
-        self.pass()
-    }
-
     /// Takes one more number, if the word is one.
     fn take_number(&mut self, word: &[u8]) -> bool {
         let Some(number) = number_of(word) else {
@@ -318,53 +353,25 @@ impl Given {
         self.pass()
     }
 
-    /// The word behind another one, if that comes next; both are taken.
-    fn take_behind<'b>(&mut self, name: &[u8], words: &[&'b [u8]]) -> Option<&'b [u8]> {
-        let taken = self.taken;
-        match words.get(taken..) {
-            Some([first, second, ..]) if *first == name => {
-                self.taken = taken.saturating_add(2);
-                Some(second)
-            }
-            _ => None,
+    /// Takes a word and the number after it, where they come next.
+    fn take_after(&mut self, name: &str, words: &[&[u8]]) -> Option<Number> {
+        if word_at(words, self.taken) != name.as_bytes() {
+            return None;
         }
-    }
-
-    /// Takes the moment that is looked at, where one is told. Whether it is a number, or one with `-` before it.
-    fn take_at(&mut self, words: &[&[u8]]) -> bool {
-        let Some(word) = self.take_behind(b"at", words) else {
-            return true;
-        };
-        let digits = match word {
-            [b'-', digits @ ..] => {
-                self.is_back = true;
-                digits
-            }
-            _ => word,
-        };
-        self.at = number_of(digits);
-        self.at.is_some()
-    }
-
-    /// Takes the moment of the server's clock, where one is told. Whether it is a number.
-    fn take_now(&mut self, words: &[&[u8]]) -> bool {
-        let Some(word) = self.take_behind(b"now", words) else {
-            return true;
-        };
-        self.now = number_of(word);
-        self.now.is_some()
+        let number = number_of(word_at(words, self.taken.saturating_add(1)))?;
+        self.taken = self.taken.saturating_add(2);
+        Some(number)
     }
 
     /// Takes what a part of a pattern stands for. Whether it is there.
     fn take(&mut self, part: &[u8], words: &[&[u8]]) -> bool {
         match part {
-            [b'[', b'a', ..] => self.take_at(words),
-            [b'[', ..] => self.take_now(words),
-            _ => match words.get(self.taken) {
-                Some(word) => self.take_word(part, word),
-                None => false,
-            },
+            [b'[', b'a', ..] => self.at = self.take_after("at", words),
+            [b'[', ..] => self.now = self.take_after("now", words),
+            _ => return self.taken < words.len()
+                && self.take_word(part, word_at(words, self.taken)),
         }
+        true
     }
 
     /// Takes a word as a part of a pattern says. Whether it fits.
@@ -372,7 +379,10 @@ impl Given {
         match part {
             [b'$'] => self.take_name(),
             [b'#'] => self.take_number(word),
-            [b'%'] => self.take_bytes(),
+            [b'%'] => {
+                self.bytes = self.taken;
+                self.pass()
+            }
             _ => part == word && self.pass(),
         }
     }
@@ -381,8 +391,8 @@ impl Given {
 /// What words give where they fit a pattern.
 fn fit(pattern: &str, words: &[&[u8]]) -> Option<Given> {
     let mut given = Given::new();
-    for part in pattern.as_bytes().split(|byte| *byte == b' ') {
-        if !given.take(part, words) {
+    for part in pattern.split_whitespace() {
+        if !given.take(part.as_bytes(), words) {
             return None;
         }
     }
@@ -423,11 +433,10 @@ fn command_of<'a>(alloc: Global, words: &[&'a [u8]]) -> Result<Option<Command<'a
         verb,
         name: word_at(words, given.name),
         other: word_at(words, given.other),
-        numbers,
         bytes,
+        numbers,
         at: given.at,
-        is_back: given.is_back,
-        now: given.now.unwrap_or(0),
+        now: given.now,
     }))
 }
 
@@ -475,13 +484,13 @@ fn cut_answer(part: &[u8]) -> (&[u8], Option<&[u8]>) {
 
 /// How often a line's commands are done, and the words behind that.
 fn times_of<'a, 'b>(words: &'b [&'a [u8]]) -> (u64, &'b [&'a [u8]]) {
-    if let [count, times, rest @ ..] = words
-        && *times == b"times".as_slice()
-        && let Some(count) = number_of(count)
-    {
-        return (count, rest);
+    let Some(count) = count_of(word_at(words, 0)) else {
+        return (1, words);
+    };
+    if word_at(words, 1) != "times".as_bytes() {
+        return (1, words);
     }
-    (1, words)
+    (count, words.get(2..).unwrap_or(&[]))
 }
 
 /// Puts what a part says behind other parts, and how often it says that they are done. None where it spells no command.

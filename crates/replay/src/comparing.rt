@@ -1,18 +1,11 @@
 //! All that can be read, compared with what the plain drive tells.
-use crate::acting::take;
-use crate::commands::{Beside, Command};
-use crate::counting::{Tally, is_done};
-use crate::party::{Played, Scene, play_new};
-use crate::rolling::{Dice, LONGEST_WINDOW};
-use crate::sitting::come;
+use crate::commands::Beside;
+use crate::party::Played;
 use crate::stage::Stage;
 use crate::text::Text;
 use interleaving::{Act, Answer, Step};
-use s4_model::PlainDrive;
-use s4_types::limits::{FEWEST_FRAMES, READ_BYTES};
+use s4_types::limits::READ_BYTES;
 use s4_types::{Moment, ObjectId, Refusal, Reply, Request, Role};
-use std::alloc::Global;
-use std::thread::Threads;
 
 /// All bytes of an object at a moment, or its size, moments and attribute.
 fn question(object: u64, at: u64, is_read: bool) -> Request {
@@ -123,143 +116,18 @@ pub(crate) fn watch<D: Played>(stage: &mut Stage, drive: &mut D) -> Result<(), R
     Ok(())
 }
 
-/// Where a list went wrong: behind the step of this number, from 1 on, and at which object, if not in the answer.
-#[derive(Clone, Copy)]
-struct Fault {
-    step: u64,
-    object: Option<u64>,
-}
-
-/// A list of so many steps that look thrown.
-#[derive(Drop)]
-struct Thrown {
-    dice: Dice,
-    steps: u64,
-    stage: Stage,
-    tally: Tally,
-}
-
-/// How often each object's row was changed.
-fn stamps<D: Played>(drive: &D) -> [Option<u64>; 4] {
-    [1, 2, 3, 4].map(|object| drive.row(object).map(|row| row.stamp))
-}
-
-impl Thrown {
-    /// Takes a step, and counts it where it was done.
-    fn take<D: Played>(&mut self, drive: &mut D, step: Step) -> Result<(), Refusal> {
-        let mut counted = self.tally;
-        counted.count(&step);
-        let mut changed = counted;
-        changed.count_change(&step);
-        let before = stamps(drive);
-        let answer = take(&mut self.stage, drive, step)?;
-        if is_done(&answer) {
-            self.tally = if stamps(drive) == before {
-                counted
-            } else {
-                changed
-            };
-        }
-        Ok(())
-    }
-}
-
-impl Scene for Thrown {
-    type Outcome = Option<Fault>;
-
-    fn play<D: Played, R: Threads>(
-        &mut self,
-        _rt: &R,
-        drive: &mut D,
-    ) -> Result<Option<Fault>, Refusal> {
-        come(&mut self.stage, drive, b"0", Role::Admin)?;
-        come(&mut self.stage, drive, b"1", Role::Admin)?;
-        for number in 1..=self.steps {
-            let step = self.dice.step(self.stage.alloc, drive.clock())?;
-            self.take(drive, step)?;
-            let unlike = find_unlike(&mut self.stage, drive)?;
-            if unlike.is_some() || !self.stage.remark.is_empty() {
-                let object = unlike.map(|(object, _)| object);
-                return Ok(Some(Fault {
-                    step: number,
-                    object,
-                }));
-            }
-        }
-        Ok(None)
-    }
-}
-
-/// Plays the list of a seed over a drive of its own, and counts what is done.
-fn throw<R: Threads>(
-    rt: &R,
-    alloc: Global,
-    seed: u64,
-    steps: u64,
-    tally: &mut Tally,
-) -> Result<Option<Fault>, Refusal> {
-    let mut stage = Stage::new(alloc);
-    stage.begin(Some(PlainDrive::new(alloc, LONGEST_WINDOW)));
-    let mut thrown = Thrown {
-        dice: Dice::new(seed),
-        steps,
-        stage,
-        tally: *tally,
-    };
-    let fault = play_new(rt, alloc, FEWEST_FRAMES, LONGEST_WINDOW, &mut thrown)?;
-    *tally = thrown.tally;
-    Ok(fault)
-}
-
-fn tell_fault(text: &mut Text, seed: u64, fault: Fault) {
-    text.word("unlike");
-    text.number(seed);
-    text.number(fault.step);
-    match fault.object {
-        Some(object) => text.number(object),
-        None => text.word("none"),
-    }
-}
-
-/// Plays lists that look thrown, one for each seed, until one goes wrong.
-fn throw_all<R: Threads>(
-    rt: &R,
-    stage: &mut Stage,
-    command: &Command<'_>,
-    text: &mut Text,
-) -> Result<(), Refusal> {
-    let [first, count, steps] = command.numbers;
-    stage.tally = Tally::default();
-    for number in 0..count {
-        let seed = first.wrapping_add(number);
-        if let Some(fault) = throw(rt, stage.alloc, seed, steps, &mut stage.tally)? {
-            tell_fault(text, seed, fault);
-            return Ok(());
-        }
-    }
-    text.word("alike");
-    Ok(())
-}
-
 /// Compares what is asked for.
-pub(crate) fn perform_comparing<D: Played, R: Threads>(
-    rt: &R,
+pub(crate) fn perform_comparing<D: Played>(
     stage: &mut Stage,
     drive: &mut D,
     beside: Beside,
-    command: &Command<'_>,
     text: &mut Text,
 ) -> Result<(), Refusal> {
     match beside {
         Beside::Alike => tell_alike(stage, drive, text),
-        Beside::Thrown => throw_all(rt, stage, command, text),
         Beside::Watch => {
             stage.is_watched = true;
             text.word("Done");
-            Ok(())
-        }
-        Beside::Tally => {
-            stage.tally.tell(text);
             Ok(())
         }
     }

@@ -1,5 +1,5 @@
 //! The image that is kept.
-use crate::commands::{Command, Imaging};
+use crate::commands::{Asked, Imaging};
 use crate::party::Played;
 use crate::sitting::tell_done;
 use crate::stage::Stage;
@@ -35,8 +35,10 @@ fn put(image: &mut [u8], place: usize, new: &[u8]) -> bool {
     if end > image.len() {
         return false;
     }
-    for (old, byte) in image.iter_mut().skip(place).zip(new.iter()) {
-        *old = *byte;
+    for (offset, byte) in new.iter().enumerate() {
+        if let Some(old) = image.get_mut(place.saturating_add(offset)) {
+            *old = *byte;
+        }
     }
     true
 }
@@ -137,12 +139,12 @@ fn tell_turned<R: Threads>(
     rt: &R,
     alloc: Global,
     image: &[u8],
-    command: &Command<'_>,
+    asked: &Asked<'_>,
     is_signed: bool,
     text: &mut Text,
 ) -> Result<(), Refusal> {
-    let begin = place_of(command.numbers[0]);
-    let end = begin.saturating_add(place_of(command.numbers[1]));
+    let begin = place_of(asked.numbers[0]);
+    let end = begin.saturating_add(place_of(asked.numbers[1]));
     if begin >= end || end > image.len() {
         text.word("Idle");
         return Ok(());
@@ -190,21 +192,17 @@ fn cut(image: &mut Vec<u8>, count: u64) -> bool {
 }
 
 /// Does something with the image that is kept, which is told Done, or Idle where that isn't within it.
-fn change_image(
-    stage: &mut Stage,
-    imaging: Imaging,
-    command: &Command<'_>,
-) -> Result<bool, Refusal> {
-    let place = place_of(command.numbers[0]);
+fn change_image(stage: &mut Stage, imaging: Imaging, asked: &Asked<'_>) -> Result<bool, Refusal> {
+    let place = place_of(asked.numbers[0]);
     match imaging {
         Imaging::Put => {
             let image = stage.image.as_mut_slice();
-            return Ok(put(image, place, command.bytes.as_slice()));
+            return Ok(put(image, place, asked.bytes));
         }
-        Imaging::Cut => return Ok(cut(&mut stage.image, command.numbers[0])),
+        Imaging::Cut => return Ok(cut(&mut stage.image, asked.numbers[0])),
         Imaging::TurnBit => return Ok(turn_bit(stage.image.as_mut_slice(), place)),
-        Imaging::Zeros => stage.image = zeros(stage.alloc, command.numbers[0])?,
-        Imaging::Add => stage.image.extend_from_slice(command.bytes.as_slice())?,
+        Imaging::Zeros => stage.image = zeros(stage.alloc, asked.numbers[0])?,
+        Imaging::Add => stage.image.extend_from_slice(asked.bytes)?,
         Imaging::Keep => copy(stage.alloc, stage.image.as_slice(), &mut stage.kept)?,
         Imaging::Back => copy(stage.alloc, stage.kept.as_slice(), &mut stage.image)?,
         Imaging::SignAll => sign_all(stage.image.as_mut_slice()),
@@ -213,9 +211,9 @@ fn change_image(
     Ok(true)
 }
 
-fn tell_bytes(text: &mut Text, image: &[u8], command: &Command<'_>) {
-    let begin = place_of(command.numbers[0]);
-    let end = begin.saturating_add(place_of(command.numbers[1]));
+fn tell_bytes(text: &mut Text, image: &[u8], asked: &Asked<'_>) {
+    let begin = place_of(asked.numbers[0]);
+    let end = begin.saturating_add(place_of(asked.numbers[1]));
     match image.get(begin..end) {
         Some(bytes) => text.bytes(bytes),
         None => text.word("Idle"),
@@ -242,7 +240,7 @@ pub(crate) fn perform_imaging<D: Played, R: Threads>(
     stage: &mut Stage,
     drive: &mut D,
     imaging: Imaging,
-    command: &Command<'_>,
+    asked: &Asked<'_>,
     text: &mut Text,
 ) -> Result<(), Refusal> {
     let alloc = stage.alloc;
@@ -250,19 +248,19 @@ pub(crate) fn perform_imaging<D: Played, R: Threads>(
         Imaging::Save => save(stage, drive, text),
         Imaging::Saved => tell_saved(stage, drive, text),
         Imaging::Bytes => {
-            tell_bytes(text, stage.image.as_slice(), command);
+            tell_bytes(text, stage.image.as_slice(), asked);
             Ok(())
         }
         Imaging::Verify => {
             tell_image(text, &verify(rt, alloc, stage.image.as_slice())?);
             Ok(())
         }
-        Imaging::Turned => { tell_turned(rt, alloc, stage.image.as_slice(), command, false, text) }
+        Imaging::Turned => { tell_turned(rt, alloc, stage.image.as_slice(), asked, false, text) }
         Imaging::TurnedSigned => {
-            tell_turned(rt, alloc, stage.image.as_slice(), command, true, text)
+            tell_turned(rt, alloc, stage.image.as_slice(), asked, true, text)
         }
         _ => {
-            let is_done = change_image(stage, imaging, command)?;
+            let is_done = change_image(stage, imaging, asked)?;
             tell_done(text, is_done);
             Ok(())
         }

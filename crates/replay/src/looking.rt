@@ -1,18 +1,10 @@
 //! What is looked at.
 use crate::acting::frame_of;
-use crate::commands::{Command, Look};
+use crate::commands::{Asked, Look};
 use crate::party::Played;
 use crate::text::Text;
 use codec::{Entry, Pair, Status, Triple};
 use s4_types::{Moment, Ptr, Refusal};
-
-/// Tells a moment or a place that may not be there.
-fn tell_number(text: &mut Text, number: Option<u64>) {
-    match number {
-        Some(number) => text.number(number),
-        None => text.word("none"),
-    }
-}
 
 fn tell_row<D: Played>(text: &mut Text, drive: &mut D, object: u64) {
     let Some(row) = drive.row(object) else {
@@ -24,7 +16,10 @@ fn tell_row<D: Played>(text: &mut Text, drive: &mut D, object: u64) {
     text.word("bytes");
     text.number(row.journal_bytes as u64);
     text.word("checkpoint");
-    tell_number(text, row.checkpoint.map(|_| row.checkpoint_moment.number()));
+    match row.checkpoint {
+        Some(_) => tell_moment(text, row.checkpoint_moment),
+        None => text.word("none"),
+    }
     text.word("head");
     tell_head(text, row.head);
     text.word("stamp");
@@ -117,6 +112,13 @@ fn tell_numbered<D: Played>(
     };
     tell_entry(text, entries.get(place));
     Ok(())
+}
+
+fn tell_above<D: Played>(text: &mut Text, drive: &mut D, object: u64) {
+    match drive.above(object) {
+        Some(next) => text.number(next.number()),
+        None => text.word("none"),
+    }
 }
 
 fn tell_inode<D: Played>(text: &mut Text, drive: &mut D, object: u64, at: u64) {
@@ -213,13 +215,13 @@ fn look_at_drive<D: Played>(drive: &mut D, look: Look) -> u64 {
 fn look_at_object<D: Played>(
     drive: &mut D,
     look: Look,
-    command: &Command<'_>,
+    asked: &Asked<'_>,
     text: &mut Text,
 ) -> Result<(), Refusal> {
-    let [object, second, third] = command.numbers;
+    let [object, second, third] = asked.numbers;
     match look {
         Look::Sees => text.word(yes_or_no(drive.sees(object, second, third))),
-        Look::Above => tell_number(text, drive.above(object).map(|next| next.number())),
+        Look::Above => tell_above(text, drive, object),
         Look::Row => tell_row(text, drive, object),
         Look::Inode => tell_inode(text, drive, object, second),
         Look::Held => return tell_held(text, drive, object, second),
@@ -235,7 +237,7 @@ fn look_at_object<D: Played>(
 pub(crate) fn perform_look<D: Played>(
     drive: &mut D,
     look: Look,
-    command: &Command<'_>,
+    asked: &Asked<'_>,
     text: &mut Text,
 ) -> Result<(), Refusal> {
     match look {
@@ -244,11 +246,11 @@ pub(crate) fn perform_look<D: Played>(
             Ok(())
         }
         Look::Frame => {
-            tell_frame(text, drive, command.numbers[0]);
+            tell_frame(text, drive, asked.numbers[0]);
             Ok(())
         }
         Look::Word => {
-            tell_word(text, drive, command.numbers[0]);
+            tell_word(text, drive, asked.numbers[0]);
             Ok(())
         }
         Look::Chosen => tell_chosen(text, drive),
@@ -257,6 +259,6 @@ pub(crate) fn perform_look<D: Played>(
             text.word("Done");
             Ok(())
         }
-        _ => look_at_object(drive, look, command, text),
+        _ => look_at_object(drive, look, asked, text),
     }
 }

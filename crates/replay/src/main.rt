@@ -9,12 +9,10 @@
 mod acting;
 mod commands;
 mod comparing;
-mod counting;
 mod imaging;
 mod looking;
 mod party;
 mod player;
-mod rolling;
 mod sitting;
 mod stage;
 mod text;
@@ -48,8 +46,13 @@ fn count(rt: &HostRuntime, sum: &mut Sum, report: Report) -> Result<(), Fault> {
     sum.lines = sum.lines.saturating_add(report.lines);
     sum.differing = sum.differing.saturating_add(report.differing);
     sum.is_broken = sum.is_broken || report.is_broken;
-    let text = report.text.finish().map_err(|_| Fault::NoMemory)?;
-    print!(rt; "{text}").map_err(|_| Fault::NoOutput)
+    let Ok(text) = report.text.finish() else {
+        return Err(Fault::NoMemory);
+    };
+    match print!(rt; "{text}") {
+        Ok(()) => Ok(()),
+        Err(_) => Err(Fault::NoOutput),
+    }
 }
 
 /// Plays a script, and counts it.
@@ -121,10 +124,10 @@ fn perform<T: Threads>(threads: &T, rt: &HostRuntime, words: &[String]) -> Resul
     };
     play_all(threads, rt, &mut sum, files, is_printed)?;
     let mark = if is_printed { "# " } else { "" };
-    println!(rt; "{mark}{} lines, {} differ", sum.lines, sum.differing).map_err(
-        |_| Fault::NoOutput,
-    )?;
-    Ok(status_of(&sum))
+    match println!(rt; "{mark}{} lines, {} differ", sum.lines, sum.differing) {
+        Ok(()) => Ok(status_of(&sum)),
+        Err(_) => Err(Fault::NoOutput),
+    }
 }
 
 /// Says why scripts couldn't be played. There is nobody to tell where that can't be written.

@@ -6,6 +6,7 @@ ghost use Rattle.segment_table.specs.Room.{log_of};
 ghost use Rattle.version_store.specs.Store.{fields_of};
 ghost use Rattle.drive.specs.Opened.{base_of};
 
+use crate::player::{Player, Start};
 use codec::{Entry, Inode};
 use drive::{Drive, NewDrive, OpenedDrive};
 use history_cleaner::{Cleaner, PassReport, Rounds, Turn, empty_frames, full_pass};
@@ -52,11 +53,8 @@ pub(crate) trait Played {
     /// The last plan of the pile is fetched, if there is one.
     fn fetch(&mut self) -> Result<Option<Vec<u8>>, Refusal>;
 
-    /// The last plan of the pile is given up.
-    fn drop_last(&mut self);
-
-    /// All plans of the pile are.
-    fn drop_all(&mut self);
+    /// The last plan of the pile, or all, are given up.
+    fn drop_plans(&mut self, is_all: bool);
 
     fn pass(&mut self) -> Result<PassReport, Refusal>;
 
@@ -98,18 +96,6 @@ pub(crate) trait Played {
     fn rules(&self);
 
     fn save(&mut self) -> Result<Vec<u8>, Refusal>;
-}
-
-/// What is done with a drive.
-pub(crate) trait Scene {
-    /// What comes of it.
-    type Outcome: Drop;
-
-    fn play<D: Played, R: Threads>(
-        &mut self,
-        rt: &R,
-        drive: &mut D,
-    ) -> Result<Self::Outcome, Refusal>;
 }
 
 /// The drive with what is beside it.
@@ -191,12 +177,12 @@ impl<J: Naming> Played for Party<J> {
         }
     }
 
-    fn drop_last(&mut self) {
-        drop(self.pile.pop());
-    }
-
-    fn drop_all(&mut self) {
-        self.pile.clear();
+    fn drop_plans(&mut self, is_all: bool) {
+        if is_all {
+            self.pile.clear();
+        } else {
+            drop(self.pile.pop());
+        }
     }
 
     fn pass(&mut self) -> Result<PassReport, Refusal> {
@@ -284,41 +270,41 @@ impl<J: Naming> Played for Party<J> {
     }
 }
 
-/// Plays a scene over a drive, which ends behind it.
-fn play_over<J: Naming, R: Threads, S: Scene>(
+/// Plays on over a drive, which ends behind it.
+fn play_over<J: Naming, R: Threads>(
     rt: &R,
     alloc: Global,
     drive: Drive<J>,
-    scene: &mut S,
-) -> Result<S::Outcome, Refusal> {
+    player: &mut Player<'_>,
+) -> Result<Start, Refusal> {
     let mut party = Party::new(alloc, drive);
-    scene.play(rt, &mut party)
+    player.play(rt, &mut party)
 }
 
-fn play_made<J: Naming, R: Threads, S: Scene>(
+fn play_made<J: Naming, R: Threads>(
     rt: &R,
     alloc: Global,
     made: NewDrive,
-    scene: &mut S,
-) -> Result<S::Outcome, Refusal>
+    player: &mut Player<'_>,
+) -> Result<Start, Refusal>
     requires frames { made.store.table.drive.table ≡ J.frames }
     requires accepts { made.accepts ≡ J.accepts }
     requires base { new_base made.window ≡ J.base }
 {
-    play_over(rt, alloc, made.named::<J>(), scene)
+    play_over(rt, alloc, made.named::<J>(), player)
 }
 
-fn play_opened<J: Naming, R: Threads, S: Scene>(
+fn play_opened<J: Naming, R: Threads>(
     rt: &R,
     alloc: Global,
     opened: OpenedDrive,
-    scene: &mut S,
-) -> Result<S::Outcome, Refusal>
+    player: &mut Player<'_>,
+) -> Result<Start, Refusal>
     requires frames { opened.store.table.drive.table ≡ J.frames }
     requires accepts { opened.accepts ≡ J.accepts }
     requires base { base_of (fields_of log_of opened.store) opened.timeline opened.next ≡ J.base }
 {
-    play_over(rt, alloc, opened.named::<J>(), scene)
+    play_over(rt, alloc, opened.named::<J>(), player)
 }
 
 /// A new drive. What is refused for want of memory is asked for once more.
@@ -331,18 +317,18 @@ fn new_drive(alloc: Global, frames: usize, window: u64) -> Result<NewDrive, Refu
     }
 }
 
-/// Plays a scene over a new drive.
-pub(crate) fn play_new<R: Threads, S: Scene>(
+/// Plays on over a new drive.
+pub(crate) fn play_new<R: Threads>(
     rt: &R,
     alloc: Global,
     frames: usize,
     window: u64,
-    scene: &mut S,
-) -> Result<S::Outcome, Refusal>
+    player: &mut Player<'_>,
+) -> Result<Start, Refusal>
     requires { IsFrameCount frames }
 {
     let made = new_drive(alloc, frames, window)?;
-    play_made::<Brand, R, S>(rt, alloc, made, scene)
+    play_made::<Brand, R>(rt, alloc, made, player)
 }
 
 /// The drive of an image. What is refused for want of memory is asked for once more.
@@ -353,13 +339,13 @@ fn opened_drive<R: Threads>(rt: &R, alloc: Global, image: &[u8]) -> Result<Opene
     }
 }
 
-/// Plays a scene over the drive of an image.
-pub(crate) fn play_image<R: Threads, S: Scene>(
+/// Plays on over the drive of an image.
+pub(crate) fn play_image<R: Threads>(
     rt: &R,
     alloc: Global,
     image: &[u8],
-    scene: &mut S,
-) -> Result<S::Outcome, Refusal> {
+    player: &mut Player<'_>,
+) -> Result<Start, Refusal> {
     let opened = opened_drive(rt, alloc, image)?;
-    play_opened::<Brand, R, S>(rt, alloc, opened, scene)
+    play_opened::<Brand, R>(rt, alloc, opened, player)
 }

@@ -4,7 +4,7 @@ use crate::commands::{Beginning, Command, Line, Part, Verb, line_of};
 use crate::comparing::{perform_comparing, watch};
 use crate::imaging::perform_imaging;
 use crate::looking::perform_look;
-use crate::party::{Played, Scene, play_image, play_new};
+use crate::party::{Played, play_image, play_new};
 use crate::sitting::{come, perform_sitting};
 use crate::stage::Stage;
 use crate::text::Text;
@@ -19,7 +19,7 @@ use verifier::verify;
 
 /// What comes behind a drive: the script's end, a new drive, or the one of the image that is kept.
 #[derive(Clone, Copy)]
-enum Start {
+pub(crate) enum Start {
     End,
     New {
         frames: usize,
@@ -40,7 +40,7 @@ pub(crate) struct Report {
 
 /// A script that is played.
 #[derive(Drop)]
-struct Player<'a> {
+pub(crate) struct Player<'a> {
     alloc: Global,
     name: &'a str,
     lines: &'a [&'a [u8]],
@@ -58,19 +58,20 @@ fn perform<D: Played, R: Threads>(
     command: &Command<'_>,
     text: &mut Text,
 ) -> Result<(), Refusal> {
+    let asked = command.asked(drive.clock());
     match command.verb {
         Verb::Begin(_) => {
             text.word("Idle");
             return Ok(());
         }
-        Verb::Look(look) => return perform_look(drive, look, command, text),
-        Verb::Compare(beside) => return perform_comparing(rt, stage, drive, beside, command, text),
-        Verb::Hold(imaging) => return perform_imaging(rt, stage, drive, imaging, command, text),
-        Verb::Sit(sitting) => perform_sitting(stage, drive, sitting, command, text)?,
-        Verb::Ask(asking) => perform_asking(stage, drive, asking, command, text)?,
-        Verb::Act(acting) => perform_acting(stage, drive, acting, command, text)?,
-        Verb::Step(upkeep) => perform_upkeep(stage, drive, upkeep, command, text)?,
-        Verb::Tidy(tidying) => perform_tidying(stage, drive, tidying, command, text)?,
+        Verb::Look(look) => return perform_look(drive, look, &asked, text),
+        Verb::Compare(beside) => return perform_comparing(stage, drive, beside, text),
+        Verb::Hold(imaging) => return perform_imaging(rt, stage, drive, imaging, &asked, text),
+        Verb::Sit(sitting) => perform_sitting(stage, drive, sitting, &asked, text)?,
+        Verb::Ask(asking) => perform_asking(stage, drive, asking, &asked, text)?,
+        Verb::Act(acting) => perform_acting(stage, drive, acting, &asked, text)?,
+        Verb::Step(upkeep) => perform_upkeep(stage, drive, upkeep, &asked, text)?,
+        Verb::Tidy(tidying) => perform_tidying(stage, drive, tidying, &asked, text)?,
     }
     watch(stage, drive)
 }
@@ -118,6 +119,23 @@ struct Outcome<'a> {
     is_right: bool,
 }
 
+/// Whether an answer is the one that is expected, or passes where none is.
+fn judged<'a>(
+    alloc: Global,
+    told: String,
+    expected: Option<&'a [u8]>,
+) -> Result<Outcome<'a>, Refusal> {
+    let is_right = match expected {
+        Some(expected) => is_said(alloc, told.as_str(), expected)?,
+        None => is_good(told.as_str()),
+    };
+    Ok(Outcome {
+        told,
+        expected,
+        is_right,
+    })
+}
+
 /// What a part is answered, and whether that is right. Where it is done once more, what its line ends with may come the last time
 /// alone.
 fn do_part<'a, D: Played, R: Threads>(
@@ -129,15 +147,13 @@ fn do_part<'a, D: Played, R: Threads>(
 ) -> Result<Outcome<'a>, Refusal> {
     let told = do_command(rt, stage, drive, &part.command)?;
     let expected = if is_awaited { part.expected } else { None };
-    let is_right = match expected {
-        Some(expected) => { stage.is_partial || is_said(stage.alloc, told.as_bytes(), expected)? }
-        None => stage.is_excused || is_good(told.as_str()),
+    let is_excused = match expected {
+        Some(_) => stage.is_partial,
+        None => stage.is_excused,
     };
-    Ok(Outcome {
-        told,
-        expected,
-        is_right,
-    })
+    let mut outcome = judged(stage.alloc, told, expected)?;
+    outcome.is_right = outcome.is_right || is_excused;
+    Ok(outcome)
 }
 
 /// What a line is answered.
@@ -241,13 +257,14 @@ impl<'a> Player<'a> {
             verify(rt, self.alloc, self.stage.image.as_slice())?;
             return Ok(Some(Start::Image));
         }
-        let frames = usize::try_from(command.numbers[0]).unwrap_or(0);
+        let [frames, window, _] = command.asked(0).numbers;
+        let frames = usize::try_from(frames).unwrap_or(0);
         if !(FEWEST_FRAMES..=MOST_FRAMES).contains(&frames) {
             return Ok(None);
         }
         Ok(Some(Start::New {
             frames,
-            window: command.numbers[1],
+            window,
             is_alone: matches!(beginning, Beginning::Alone),
         }))
     }
@@ -264,16 +281,7 @@ impl<'a> Player<'a> {
             Some(refusal) => text.refusal(refusal),
             None => text.word("Done"),
         }
-        let told = text.finish()?;
-        let is_right = match part.expected {
-            Some(expected) => is_said(self.alloc, told.as_bytes(), expected)?,
-            None => refusal.is_none(),
-        };
-        let outcome = Outcome {
-            told,
-            expected: part.expected,
-            is_right,
-        };
+        let outcome = judged(self.alloc, text.finish()?, part.expected)?;
         self.judge(line, &outcome)
     }
 
@@ -357,12 +365,13 @@ impl<'a> Player<'a> {
             Start::End => Ok(Start::End),
         }
     }
-}
 
-impl<'a> Scene for Player<'a> {
-    type Outcome = Start;
-
-    fn play<D: Played, R: Threads>(&mut self, rt: &R, drive: &mut D) -> Result<Start, Refusal> {
+    /// Plays on over a drive, and gives what begins then.
+    pub(crate) fn play<D: Played, R: Threads>(
+        &mut self,
+        rt: &R,
+        drive: &mut D,
+    ) -> Result<Start, Refusal> {
         come(&mut self.stage, drive, b"client", Role::Client)?;
         come(&mut self.stage, drive, b"admin", Role::Admin)?;
         let lines = self.lines;
@@ -377,10 +386,10 @@ impl<'a> Scene for Player<'a> {
 }
 
 /// The lines of a script, without spaces at their ends.
-fn lines_of<'a>(alloc: Global, script: &'a [u8]) -> Result<Vec<&'a [u8]>, Refusal> {
+fn lines_of<'a>(alloc: Global, script: &'a str) -> Result<Vec<&'a [u8]>, Refusal> {
     let mut lines = Vec::new(alloc);
-    for line in script.split(|byte| *byte == b'\n') {
-        lines.push(line.trim_ascii())?;
+    for line in script.lines() {
+        lines.push(line.as_bytes().trim_ascii())?;
     }
     Ok(lines)
 }
@@ -393,7 +402,7 @@ pub(crate) fn play_script<R: Threads>(
     script: &str,
     is_printed: bool,
 ) -> Result<Report, Refusal> {
-    let lines = lines_of(alloc, script.as_bytes())?;
+    let lines = lines_of(alloc, script)?;
     let report = Report {
         text: Text::new(alloc),
         lines: 0,

@@ -1,5 +1,5 @@
 //! Sessions come and go.
-use crate::commands::{Command, Sitting};
+use crate::commands::{Asked, Sitting};
 use crate::party::Played;
 use crate::stage::Stage;
 use crate::text::Text;
@@ -35,11 +35,11 @@ fn leave<D: Played>(stage: &mut Stage, drive: &mut D, name: &[u8]) -> bool {
 fn come_many<D: Played>(
     stage: &mut Stage,
     drive: &mut D,
-    command: &Command<'_>,
+    asked: &Asked<'_>,
     role: Role,
 ) -> Result<(), Refusal> {
-    for number in 1..=command.numbers[0] {
-        let mut name = Vec::from_slice(stage.alloc, command.name)?;
+    for number in 1..=asked.numbers[0] {
+        let mut name = Vec::from_slice(stage.alloc, asked.name)?;
         let digits = format!(in stage.alloc; "{number}")?;
         name.extend_from_slice(digits.as_bytes())?;
         come(stage, drive, name.as_slice(), role)?;
@@ -51,9 +51,9 @@ fn come_many<D: Played>(
 fn end_beside<D: Played>(
     stage: &mut Stage,
     drive: &mut D,
-    command: &Command<'_>,
+    asked: &Asked<'_>,
 ) -> Result<bool, Refusal> {
-    let (place, other) = (stage.place_of(command.name), stage.place_of(command.other));
+    let (place, other) = (stage.place_of(asked.name), stage.place_of(asked.other));
     let count = stage.seats.len();
     if place >= count || other >= count || place == other {
         return Ok(false);
@@ -74,14 +74,20 @@ pub(crate) fn perform_sitting<D: Played>(
     stage: &mut Stage,
     drive: &mut D,
     sitting: Sitting,
-    command: &Command<'_>,
+    asked: &Asked<'_>,
     text: &mut Text,
 ) -> Result<(), Refusal> {
     let is_done = match sitting {
-        Sitting::Come(role) => come(stage, drive, command.name, role).map(|_| true)?,
-        Sitting::ComeMany(role) => come_many(stage, drive, command, role).map(|_| true)?,
-        Sitting::End => leave(stage, drive, command.name),
-        Sitting::EndBeside => end_beside(stage, drive, command)?,
+        Sitting::Come(role) => {
+            come(stage, drive, asked.name, role)?;
+            true
+        }
+        Sitting::ComeMany(role) => {
+            come_many(stage, drive, asked, role)?;
+            true
+        }
+        Sitting::End => leave(stage, drive, asked.name),
+        Sitting::EndBeside => end_beside(stage, drive, asked)?,
     };
     tell_done(text, is_done);
     Ok(())

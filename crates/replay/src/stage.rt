@@ -1,5 +1,4 @@
 //! What is beside the drive while a script is played: who sits at it, the plain drive, and an image.
-use crate::counting::Tally;
 use crate::text::Text;
 use interleaving::{Act, Answer, Step};
 use s4_model::PlainDrive;
@@ -37,7 +36,6 @@ pub(crate) struct Stage {
     pub(crate) remark: Text,
     pub(crate) image: Vec<u8>,
     pub(crate) kept: Vec<u8>,
-    pub(crate) tally: Tally,
 }
 
 impl Stage {
@@ -55,7 +53,6 @@ impl Stage {
             remark: Text::new(alloc),
             image: Vec::new(alloc),
             kept: Vec::new(alloc),
-            tally: Tally::default(),
         }
     }
 
@@ -89,11 +86,13 @@ impl Stage {
 
     /// Where somebody sits; behind all where nobody has that name.
     pub(crate) fn place_of(&self, name: &[u8]) -> usize {
-        let found = self
-            .seats
-            .iter()
-            .position(|seat| seat.name.as_slice() == name);
-        found.unwrap_or(self.seats.len())
+        let seats = self.seats.as_slice();
+        for place in 0..seats.len() {
+            if seats[place].name.as_slice() == name {
+                return place;
+            }
+        }
+        seats.len()
     }
 
     /// Somebody sits down behind the others.
@@ -164,16 +163,13 @@ impl Stage {
         now: Moment,
         answer: &Answer,
     ) -> Result<(), Refusal> {
-        let Answer::Reply(given) = answer else {
-            return Ok(());
-        };
-        if is_for_want(given) {
+        if is_for_want(answer) {
             let object = ObjectId::new(1);
             self.reply(place, Request::GetAttr { object, at: None }, now)?;
             return Ok(());
         }
         if let Some(told) = self.reply(place, request, now)?
-            && told != *given
+            && !is_reply(answer, &told)
         {
             self.remark_reply(&told);
         }
@@ -194,7 +190,7 @@ impl Stage {
     }
 
     /// Compares what a plan gave with what it was to give.
-    pub(crate) fn compare_bytes(&mut self, told: &Reply, given: &[u8]) {
+    fn compare_bytes(&mut self, told: &Reply, given: &[u8]) {
         let is_told = match told {
             Reply::Data(bytes) => bytes.as_slice() == given,
             _ => false,
@@ -221,19 +217,24 @@ impl Stage {
         Ok(())
     }
 
-    /// Compares what a fetch gave, where there is a plain drive.
+    /// Compares what the plan of somebody gave.
     fn compare_fetch(&mut self, place: usize, answer: &Answer) {
         let planned = match self.seats.get_mut(place) {
             Some(seat) => seat.planned.take(),
             None => None,
         };
+        self.compare_fetched(&planned, answer);
+    }
+
+    /// Compares what a plan gave with what it was to give, where there is a plain drive.
+    pub(crate) fn compare_fetched(&mut self, planned: &Option<Reply>, answer: &Answer) {
         if self.plain.is_none() {
             return;
         }
         match (planned, answer) {
-            (Some(told), Answer::Bytes(given)) => self.compare_bytes(&told, given.as_slice()),
+            (Some(told), Answer::Bytes(given)) => self.compare_bytes(told, given.as_slice()),
             (None, Answer::Idle) | (Some(_), Answer::Refused(Refusal::NoMemory)) => {}
-            (Some(told), _) => self.remark_reply(&told),
+            (Some(told), _) => self.remark_reply(told),
             (None, _) => self.remark.word("the plain drive has no plan"),
         }
     }
@@ -277,11 +278,19 @@ impl Stage {
 }
 
 /// Whether a request was refused for want of room or readers, as a plain drive never does.
-fn is_for_want(reply: &Reply) -> bool {
+fn is_for_want(answer: &Answer) -> bool {
     matches!(
-        reply,
-        Reply::Refused(Refusal::NoSpace | Refusal::ChainFull | Refusal::Busy)
+        answer,
+        Answer::Reply(Reply::Refused(Refusal::NoSpace | Refusal::ChainFull | Refusal::Busy))
     )
+}
+
+/// Whether an answer is this reply.
+fn is_reply(answer: &Answer, told: &Reply) -> bool {
+    match answer {
+        Answer::Reply(given) => given == told,
+        _ => false,
+    }
 }
 
 /// Tells a reply.

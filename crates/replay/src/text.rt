@@ -73,8 +73,8 @@ impl Text {
     /// A word of 16 hex digits.
     pub(crate) fn long_hex(&mut self, number: u64) {
         self.gap();
-        for byte in number.to_be_bytes() {
-            self.hex(byte);
+        if write!(self.words, "{number:016x}").is_err() {
+            self.is_cut = true;
         }
     }
 
@@ -112,7 +112,7 @@ impl Text {
             self.digits(piece.len() as u64);
         } else if is_text(*first) {
             self.mark("\"");
-            self.signs(piece);
+            self.joined_signs(piece);
             self.mark("\"");
         } else {
             for byte in piece {
@@ -121,13 +121,19 @@ impl Text {
         }
     }
 
-    /// Printable bytes as they are.
-    fn signs(&mut self, piece: &[u8]) {
-        for byte in piece {
-            if self.words.push(char::from(*byte)).is_err() {
+    /// Printable bytes as they are, without a space.
+    fn joined_signs(&mut self, signs: &[u8]) {
+        for sign in signs {
+            if self.words.push(char::from(*sign)).is_err() {
                 self.is_cut = true;
             }
         }
+    }
+
+    /// A word of printable bytes.
+    pub(crate) fn signs(&mut self, signs: &[u8]) {
+        self.gap();
+        self.joined_signs(signs);
     }
 
     /// Bytes, as they are spelled.
@@ -164,10 +170,12 @@ fn run_length(bytes: &[u8]) -> usize {
     let Some(first) = bytes.first() else {
         return 0;
     };
-    match bytes.iter().position(|byte| *byte != *first) {
-        Some(place) => place,
-        None => bytes.len(),
+    for place in 0..bytes.len() {
+        if bytes[place] != *first {
+            return place;
+        }
     }
+    bytes.len()
 }
 
 /// Whether a run begins with the first byte.

@@ -1,5 +1,5 @@
 //! Words of a script: numbers and bytes.
-use crate::text::is_text;
+use crate::text::{Text, is_text};
 use s4_types::Refusal;
 use std::alloc::Global;
 
@@ -34,7 +34,7 @@ fn push_part<'a>(parts: &mut Vec<&'a [u8]>, part: Option<&'a [u8]>) -> Result<()
 }
 
 /// The decimal number that a word spells.
-pub(crate) fn number_of(word: &[u8]) -> Option<u64> {
+pub(crate) fn count_of(word: &[u8]) -> Option<u64> {
     if word.is_empty() {
         return None;
     }
@@ -52,12 +52,8 @@ pub(crate) fn number_of(word: &[u8]) -> Option<u64> {
 
 /// What a hex digit tells.
 fn digit_of(sign: u8) -> Option<u8> {
-    match sign {
-        b'0'..=b'9' => Some(sign - b'0'),
-        b'a'..=b'f' => Some(sign - b'a' + 10),
-        b'A'..=b'F' => Some(sign - b'A' + 10),
-        _ => None,
-    }
+    let digit = char::from(sign).to_digit(16)?;
+    u8::try_from(digit).ok()
 }
 
 /// The byte that two hex digits tell.
@@ -107,7 +103,12 @@ fn put_text(bytes: &mut Vec<u8>, part: &[u8]) -> Result<bool, Refusal> {
         return Ok(false);
     };
     bytes.extend_from_slice(signs)?;
-    Ok(signs.iter().all(|sign| is_text(*sign)))
+    for sign in signs {
+        if !is_text(*sign) {
+            return Ok(false);
+        }
+    }
+    Ok(true)
 }
 
 /// Puts the bytes that a part spells behind others. Whether it spells any.
@@ -131,14 +132,14 @@ fn put_from(
     last: Option<u8>,
     count: &[u8],
 ) -> Result<bool, Refusal> {
-    match (first, last, number_of(count)) {
+    match (first, last, count_of(count)) {
         (Some(first), Some(last), Some(count)) => put_ascending(bytes, first, last, count),
         _ => Ok(false),
     }
 }
 
 fn put_many(bytes: &mut Vec<u8>, byte: Option<u8>, count: &[u8]) -> Result<bool, Refusal> {
-    match (byte, number_of(count)) {
+    match (byte, count_of(count)) {
         (Some(byte), Some(count)) => put_times(bytes, byte, count),
         _ => Ok(false),
     }
@@ -156,31 +157,25 @@ pub(crate) fn bytes_of(alloc: Global, word: &[u8]) -> Result<Option<Vec<u8>>, Re
     Ok(Some(bytes))
 }
 
-/// Whether two words are the same, or spell the same bytes.
-fn is_alike(alloc: Global, one: &[u8], other: &[u8]) -> Result<bool, Refusal> {
-    if one == other {
-        return Ok(true);
-    }
-    match (bytes_of(alloc, one)?, bytes_of(alloc, other)?) {
-        (Some(bytes), Some(others)) => Ok(bytes.as_slice() == others.as_slice()),
-        _ => Ok(false),
-    }
-}
-
-/// Whether what is told is what is expected, word by word.
-pub(crate) fn is_said(alloc: Global, told: &[u8], expected: &[u8]) -> Result<bool, Refusal> {
-    if told == expected {
-        return Ok(true);
-    }
-    let told = parts_of(alloc, told, b' ')?;
-    let expected = parts_of(alloc, expected, b' ')?;
-    if told.len() != expected.len() {
-        return Ok(false);
-    }
-    for (one, other) in told.iter().zip(expected.iter()) {
-        if !is_alike(alloc, one, other)? {
-            return Ok(false);
+/// Words, in which bytes are spelled as they are told.
+fn respelled(alloc: Global, words: &[u8]) -> Result<String, Refusal> {
+    let mut text = Text::new(alloc);
+    let words = parts_of(alloc, words, b' ')?;
+    for word in words.as_slice() {
+        match bytes_of(alloc, word)? {
+            Some(bytes) => text.bytes(bytes.as_slice()),
+            None => text.signs(word),
         }
     }
-    Ok(true)
+    text.finish()
+}
+
+/// Whether what is told is what is expected, word by word: `any` is everything.
+pub(crate) fn is_said(alloc: Global, told: &str, expected: &[u8]) -> Result<bool, Refusal> {
+    if told.as_bytes() == expected || "any".as_bytes() == expected {
+        return Ok(true);
+    }
+    let told = respelled(alloc, told.as_bytes())?;
+    let expected = respelled(alloc, expected)?;
+    Ok(told.as_str() == expected.as_str())
 }
