@@ -1,12 +1,14 @@
 //! What a line of words asks for, and the status of the program.
 ghost use Rattle.std.specs.Prelude.{◌≡◌, ◌+◌, ◌^◌, ◌<◌, ◌≤◌, [], map, Some, IfSome};
+ghost use Rattle.s4_types.specs.Sizes.{IsFrameCount};
 ghost use Rattle.serving.specs.Streams.{taken_by};
 ghost use Rattle.s4d.specs.Performing.{IsDone, IsUsage};
+ghost use Rattle.s4d.specs.Piping.{Pipes};
 
 use crate::piping::serve_pipe;
 use crate::running::run_file;
 use image_commands::{Fault, Files, make_file, verify_file, write_object};
-use s4d_command::{Command, CommandError, command_of};
+use s4d_command::{At, Command, CommandError, New, Pipe, Verify, command_of};
 use serving::{ServeEnd, Sink, Source};
 use std::alloc::Global;
 use std::convert::AsStr;
@@ -48,28 +50,11 @@ pub fn perform<T: Threads + Wait + Clock + Sync, F: Files, S: AsStr, R: Source, 
     ensures usage { result ≡ 2 → IsUsage (map S.text words.now) }
 {
     match command_of(alloc, words) {
-        Ok(Command::Pipe(pipe)) => match serve_pipe(alloc, pipe, reader, writer) {
-            Ok(ServeEnd::Ended) => DONE,
-            Ok(end) => fail(errors, end),
-            Err(refusal) => fail(errors, refusal),
-        },
-        Ok(Command::New(new)) => match make_file(alloc, files, new) {
-            Ok(()) => pass_on(writer, errors),
-            Err(fault) => fail(errors, fault),
-        },
-        Ok(Command::Verify(asked)) => match verify_file(rt, alloc, files, asked, writer) {
-            Ok(()) => DONE,
-            Err(fault) => fail(errors, fault),
-        },
-        Ok(Command::At(asked)) => match write_object(rt, alloc, files, asked, writer) {
-            Ok(()) => DONE,
-            Err(fault) => fail(errors, fault),
-        },
-        Ok(Command::Run(run)) => match run_file(rt, alloc, files, run, errors) {
-            Ok(true) => pass_on(writer, errors),
-            Ok(false) => FAILED,
-            Err(fault) => fail(errors, fault),
-        },
+        Ok(Command::Pipe(pipe)) => perform_session(alloc, pipe, reader, writer, errors),
+        Ok(Command::New(new)) => perform_new(alloc, files, new, writer, errors),
+        Ok(Command::Verify(asked)) => perform_verify(rt, alloc, files, asked, writer, errors),
+        Ok(Command::At(asked)) => perform_at(rt, alloc, files, asked, writer, errors),
+        Ok(Command::Run(run)) => end_run(run_file(rt, alloc, files, run, errors), writer, errors),
         Err(CommandError::NoMemory) => fail(errors, CommandError::NoMemory),
         Err(CommandError::Usage) => refuse(errors),
     }
@@ -94,14 +79,108 @@ pub fn perform_pipe<S: AsStr, R: Source, W: Sink, E: Write>(
     ensures usage { result ≡ Some 2 → IsUsage (map S.text words.now) }
 {
     match command_of(alloc, words) {
-        Ok(Command::Pipe(pipe)) => match serve_pipe(alloc, pipe, reader, writer) {
-            Ok(ServeEnd::Ended) => Some(DONE),
-            Ok(end) => Some(fail(errors, end)),
-            Err(refusal) => Some(fail(errors, refusal)),
-        },
+        Ok(Command::Pipe(pipe)) => Some(perform_session(alloc, pipe, reader, writer, errors)),
         Err(CommandError::NoMemory) => Some(fail(errors, CommandError::NoMemory)),
         Err(CommandError::Usage) => Some(refuse(errors)),
         Ok(_) => None,
+    }
+}
+
+// Serves a session of a new drive.
+fn perform_session<R: Source, W: Sink, E: Write>(
+    alloc: Global,
+    pipe: Pipe,
+    reader: &mut R,
+    writer: &mut W,
+    errors: &mut E,
+) -> u8
+    requires frames { IsFrameCount pipe.frames }
+    requires reader { R.failures reader.old + 1 < 2 ^ 64 }
+    requires writer { W.failures writer.old + 1 < 2 ^ 64 }
+    ensures status { result ≤ 1 }
+    ensures done { result ≡ 0 → Pipes pipe ServeEnd.Ended
+        (R.remaining reader.old) (taken_by W.passed W.held writer.old)
+        (R.remaining reader.new) (taken_by W.passed W.held writer.new) }
+    ensures passed { result ≡ 0 → W.held writer.new ≡ [] }
+{
+    match serve_pipe(alloc, pipe, reader, writer) {
+        Ok(ServeEnd::Ended) => DONE,
+        Ok(end) => fail(errors, end),
+        Err(refusal) => fail(errors, refusal),
+    }
+}
+
+// Writes the image of a new drive.
+fn perform_new<'a, F: Files, W: Sink, E: Write>(
+    alloc: Global,
+    files: &mut F,
+    new: New<'a>,
+    writer: &mut W,
+    errors: &mut E,
+) -> u8
+    requires frames { IsFrameCount new.frames }
+    requires writer { W.failures writer.old + 1 < 2 ^ 64 }
+    ensures status { result ≤ 1 }
+    ensures passed { result ≡ 0 → W.held writer.new ≡ [] }
+{
+    match make_file(alloc, files, new) {
+        Ok(()) => pass_on(writer, errors),
+        Err(fault) => fail(errors, fault),
+    }
+}
+
+// Writes the line of an image's numbers.
+fn perform_verify<'a, T: Threads, F: Files, W: Sink, E: Write>(
+    rt: &T,
+    alloc: Global,
+    files: &F,
+    asked: Verify<'a>,
+    writer: &mut W,
+    errors: &mut E,
+) -> u8
+    requires writer { W.failures writer.old + 1 < 2 ^ 64 }
+    ensures status { result ≤ 1 }
+    ensures passed { result ≡ 0 → W.held writer.new ≡ [] }
+{
+    match verify_file(rt, alloc, files, asked, writer) {
+        Ok(()) => DONE,
+        Err(fault) => fail(errors, fault),
+    }
+}
+
+// Writes what an object was.
+fn perform_at<'a, T: Threads, F: Files, W: Sink, E: Write>(
+    rt: &T,
+    alloc: Global,
+    files: &F,
+    asked: At<'a>,
+    writer: &mut W,
+    errors: &mut E,
+) -> u8
+    requires writer { W.failures writer.old + 1 < 2 ^ 64 }
+    ensures status { result ≤ 1 }
+    ensures passed { result ≡ 0 → W.held writer.new ≡ [] }
+{
+    match write_object(rt, alloc, files, asked, writer) {
+        Ok(()) => DONE,
+        Err(fault) => fail(errors, fault),
+    }
+}
+
+// The status of `run`: done only where each session came to the end of its input.
+fn end_run<W: Sink, E: Write>(
+    ended: Result<bool, Fault<'_>>,
+    writer: &mut W,
+    errors: &mut E,
+) -> u8
+    requires writer { W.failures writer.old + 1 < 2 ^ 64 }
+    ensures status { result ≤ 1 }
+    ensures passed { result ≡ 0 → W.held writer.new ≡ [] }
+{
+    match ended {
+        Ok(true) => pass_on(writer, errors),
+        Ok(false) => FAILED,
+        Err(fault) => fail(errors, fault),
     }
 }
 
