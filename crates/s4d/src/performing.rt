@@ -168,11 +168,7 @@ fn perform_at<'a, T: Threads, F: Files, W: Sink, E: Write>(
 }
 
 // The status of `run`: done only where each session came to the end of its input.
-fn end_run<W: Sink, E: Write>(
-    ended: Result<bool, Fault<'_>>,
-    writer: &mut W,
-    errors: &mut E,
-) -> u8
+fn end_run<W: Sink, E: Write>(ended: Result<bool, Fault<'_>>, writer: &mut W, errors: &mut E) -> u8
     requires writer { W.failures writer.old + 1 < 2 ^ 64 }
     ensures status { result ≤ 1 }
     ensures passed { result ≡ 0 → W.held writer.new ≡ [] }
