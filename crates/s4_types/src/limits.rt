@@ -3,37 +3,72 @@
 /// Bytes in a block. All records of the log are blocks.
 pub const BLOCK_BYTES: usize = 512;
 
-/// Blocks of the largest object: their pointers, of 8 bytes each, stand in one checkpoint block behind 104 bytes of
-/// other fields, and leave 24 bytes over.
+/// Bytes of a pointer's spelling: frame, block, a zero and generation.
+pub const POINTER_BYTES: usize = 8;
+
+/// Bytes of a checkpoint block in front of its pointers.
+pub const CHECKPOINT_HEAD_BYTES: usize = 104;
+
+/// Pointers of a checkpoint block. With the 104 bytes in front of them they leave 24 bytes over, which are zeros.
+pub const CHECKPOINT_POINTERS: usize = 48;
+
+/// Blocks of the largest object, and the pointers of each inode: as many as one checkpoint block holds.
 pub const OBJECT_BLOCKS: usize = 48;
 
-/// Bytes of the largest object: 48 blocks of 512.
-pub const OBJECT_BYTES: u64 = 24_576;
+/// Blocks of the longest checkpoint: one for each 48 pointers of the largest object.
+pub const CHECKPOINT_BLOCKS: usize = OBJECT_BLOCKS / CHECKPOINT_POINTERS;
 
-/// Bytes of the longest read: a whole object of the largest size.
+/// Bytes of the largest object: 48 blocks of 512.
+pub const OBJECT_BYTES: u64 = (OBJECT_BLOCKS * BLOCK_BYTES) as u64;
+
+/// Bytes of the longest read, and of the longest write. Chosen: a whole object of the largest size.
 pub const READ_BYTES: u64 = 24_576;
 
 /// Bytes of the longest attribute. Chosen, so that two of them fit a journal entry.
 pub const ATTRIBUTE_BYTES: usize = 64;
 
-/// Pointer changes in one journal entry: with two attributes of 64 bytes behind their lengths the longest
-/// entry has 34 + 2 * 65 + 16 * 17 = 436 bytes, so that each entry fits a journal block.
+/// Bytes of the longest pair of attributes in a journal entry: each stands behind a byte with its length.
+pub const ATTRIBUTE_PAIR_BYTES: usize = 2 * (1 + ATTRIBUTE_BYTES);
+
+/// Bytes of a pointer's index in a journal entry.
+pub const POINTER_INDEX_BYTES: usize = 1;
+
+/// Bytes of a pointer change in a journal entry: the index, and the pointers before and after.
+pub const TRIPLE_BYTES: usize = POINTER_INDEX_BYTES + 2 * POINTER_BYTES;
+
+/// Pointer changes in one journal entry. Chosen, so that the longest entry fits a journal block.
 pub const ENTRY_TRIPLES: usize = 16;
 
-/// Bytes of entries in a journal block: 512 less a header of 24.
-pub const JOURNAL_ENTRY_BYTES: usize = 488;
+/// Bytes of the header of a journal block.
+pub const JOURNAL_HEAD_BYTES: usize = 24;
+
+/// Bytes of entries in a journal block: 512 less the header.
+pub const JOURNAL_ENTRY_BYTES: usize = BLOCK_BYTES - JOURNAL_HEAD_BYTES;
 
 /// Bytes of the shortest entry: its fixed fields.
 pub const SHORTEST_ENTRY_BYTES: usize = 34;
 
-/// Bytes of the longest entry.
-pub const LONGEST_ENTRY_BYTES: usize = 436;
+/// Bytes of the longest entry that has no attributes: 306.
+pub const LONGEST_PLAIN_ENTRY_BYTES: usize = SHORTEST_ENTRY_BYTES + ENTRY_TRIPLES * TRIPLE_BYTES;
+
+/// Bytes of the longest entry: 436.
+pub const LONGEST_ENTRY_BYTES: usize = LONGEST_PLAIN_ENTRY_BYTES + ATTRIBUTE_PAIR_BYTES;
 
 /// Entries in a journal block: 14 of the shortest have 476 bytes, 15 would have 510.
-pub const JOURNAL_ENTRIES: usize = 14;
+pub const JOURNAL_ENTRIES: usize = JOURNAL_ENTRY_BYTES / SHORTEST_ENTRY_BYTES;
+
+/// Entries of one change at most: as many as hold the pointers of the largest object.
+pub const CHANGE_ENTRIES: usize = OBJECT_BLOCKS / ENTRY_TRIPLES;
+
+/// Bytes of the entries of one change at most, 1,048: the first alone has attributes.
+pub const CHANGE_ENTRY_BYTES: usize = CHANGE_ENTRIES * LONGEST_PLAIN_ENTRY_BYTES
+    + ATTRIBUTE_PAIR_BYTES;
 
 /// Bytes of all entries of a chain: as many as 24 full journal blocks hold.
-pub const CHAIN_ENTRY_BYTES: usize = 11_712;
+pub const CHAIN_ENTRY_BYTES: usize = 24 * JOURNAL_ENTRY_BYTES;
+
+/// Entries of a chain at most: 344 of the shortest.
+pub const CHAIN_ENTRIES: usize = CHAIN_ENTRY_BYTES / SHORTEST_ENTRY_BYTES;
 
 /// Journal blocks of a chain: of two neighbours the entries have more than 488 bytes together, so 48 blocks
 /// would have at least 24 * 489 = 11,736 bytes.
@@ -49,14 +84,20 @@ pub const RUNS_IN_ALL: usize = 65_536;
 pub const FRAME_BLOCKS: usize = 16;
 
 /// Payload blocks of a frame.
-pub const PAYLOAD_BLOCKS: usize = 15;
+pub const PAYLOAD_BLOCKS: usize = FRAME_BLOCKS - 1;
 
 /// Blocks kept back for cleaner and copier: the payload of four frames. A rewrite takes at most a checkpoint and
 /// 47 journal blocks; a move takes up to 15 data blocks more, and waits until there is room beyond the reserve.
-pub const RESERVE_BLOCKS: usize = 60;
+pub const RESERVE_BLOCKS: usize = 4 * PAYLOAD_BLOCKS;
+
+/// Blocks that a move takes at most, 63: the data blocks of a frame, a checkpoint and a chain.
+pub const MOVE_BLOCKS: usize = PAYLOAD_BLOCKS + CHECKPOINT_BLOCKS + CHAIN_BLOCKS;
 
 /// Frames of the smallest drive: the reserve's four, and as many beside it. Chosen.
 pub const FEWEST_FRAMES: usize = 8;
+
+/// Frames of a drive where nobody says how many. Chosen: twice the smallest.
+pub const DEFAULT_FRAMES: usize = 16;
 
 /// Frames of the largest drive, about 8 MiB of blocks. Chosen.
 pub const MOST_FRAMES: usize = 1024;
