@@ -26,4 +26,5 @@ pub mod Dropping
 pub mod Replacing
 pub mod Replaced
 pub mod Cutting
+pub mod Stamps
 pub mod Opening

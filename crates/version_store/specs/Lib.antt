@@ -10,4 +10,5 @@ pub mod Replacing
 pub mod Relocating
 pub mod Emptying
 pub mod Opening
+pub mod Stamps
 pub mod private

@@ -2,6 +2,7 @@
 
 ghost use Rattle.version_store.specs.Laws.{ObjectsStay, InodesStay, VersionsStay, ThePresentStays, ChangesBeginWithThePresent, ChangesBeginWithThePresentVersion, TheAliveAreThere, HeldIsWhatRowsName, EachHeldBlockIsNamed, InodesPointToWhatRowsName};
 ghost use Rattle.version_store.specs.Replacing.{AJournalCanBeCut, ACutJournalShowsTheSame};
+ghost use Rattle.version_store.specs.Stamps.{EachStepTells};
 ghost use Rattle.version_store.specs.private.Below.{ChangesStand};
 
 use block_log::laws::{one_place_has_one_name, places_taken_add_up};
@@ -64,6 +65,12 @@ pub fn what_is_held_is_what_rows_name()
 /// name more: a block that stands in no inode but between two entries of one moment.
 pub fn inodes_point_to_what_rows_name()
     ensures { InodesPointToWhatRowsName }
+{}
+
+/// A step of a store lowers no stamp, and where it leaves an object's stamp, it leaves all of the object's blocks. So while
+/// a row has its stamp, its object holds what it held.
+pub fn a_step_that_leaves_a_stamp_leaves_the_blocks()
+    ensures { EachStepTells }
 {}
 
 /// An object's journal can be replaced by its own later entries, where there are some, with the present inode as it is.
