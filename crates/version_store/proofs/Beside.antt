@@ -161,17 +161,6 @@ pub grown_indexed : (s : StoreFields) (log : Log) (object : ℕ) (blocks : List 
 grown_indexed s log object blocks values grows indexed =
     same_indexed s (record s { log = log }) values values (λ q. refl) (λ q. entries_stay s (record s { log = log }) q refl (growth_stays object blocks s.log log q grows).journal) indexed
 
--- what is held stays, and so do all rows
-pub held_beside : (s later : StoreFields) (values : List (ℕ × Present)) → later.rows ≡ s.rows → later.log.held ≡ s.log.held → later.latest ≡ s.latest → IsBeside values s → IsBeside values later
-held_beside s later values rows held latest beside = record {
-  inodes = λ q. beside.inodes q
-      ∙ sym (ap (λ (t : ℕ). inode_by later.log.held q t (row_of later.rows q)) latest
-      ∙ ap (λ (h : Place → Option Stored). inode_by h q s.latest (row_of later.rows q)) held
-      ∙ ap (λ (r : List (ℕ × Row)). inode_by s.log.held q s.latest (row_of r q)) rows);
-  indexes = same_indexed s later values values (λ q. refl)
-      (λ q. entries_stay s later q (ap (λ (r : List (ℕ × Row)). row_of r q) rows) (ap (of_kind Journal q) held)) beside.indexes;
-}
-
 -- ---- what is found of an object
 
 pub inode_kept : (values : List (ℕ × Present)) (s : StoreFields) (o : ℕ) (k : Present) → Some k ≡ value_of values o → IsBeside values s → Some k.inode ≡ inode_in s o s.latest

@@ -203,12 +203,6 @@ touched_tally offset len le =
       | inr none ↦ let count = touched_none offset len (omega arith) in omega (arith, all, count)
     ]
 
-pub touched_most : (offset len : ℕ) → offset + len ≤ 24576 → touched_count offset len ≤ 48
-touched_most offset len le =
-    let all = touched_tally offset len le in
-    let most = tally_most (is_touched offset len) 48 in
-    omega (arith, all, most)
-
 -- a write replaces the pointers of the blocks that it touches
 pub written_moves : OnePlace → (held : Place → Option Stored) (ahead : List Place) (moment offset len : ℕ) (i j : Inode) → offset + len ≤ 24576 → Written ahead moment offset len i j → touched_count offset len ≤ length ahead → Fresh held ahead (touched_count offset len) → PointersLead held i
     → length (triples_between i j) ≡ touched_count offset len

@@ -112,6 +112,3 @@ journal_stays object o held later only other = record {
   checkpoints = only Checkpoint o refl;
   kept = λ p there. ap (λ (view : Place → Option (List ℕ)). view p) (only Data o refl);
 }
-
-pub all_stays : (o : ℕ) (held : Place → Option Stored) → Stays o held held
-all_stays o held = record { journal = refl; checkpoints = refl; kept = λ p there. refl }

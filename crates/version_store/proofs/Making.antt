@@ -18,25 +18,19 @@ use Rattle.inode.specs.Changed.{Written, Truncated, listed_blocks, blocks_writte
 use Rattle.inode.specs.Growth.{GrowsBy, with_data}
 use Rattle.inode.specs.Laws.{HeldPointersLead}
 use Rattle.version_store.specs.Store.{StoreFields}
-use Rattle.version_store.specs.Costs.{subject_row, subject_inode, data_blocks, room}
+use Rattle.version_store.specs.Costs.{room}
 use Rattle.version_store.specs.Taking.{IsThere}
 use Rattle.version_store.specs.private.Turning.{CanTake}
 use Rattle.version_store.specs.private.Below.{OnePlace, FreshInode, BlankCount, BlankHoles}
 use Rattle.version_store.proofs.Counting.{Fresh, none_moved, written_moves, truncated_moves}
 use Rattle.version_store.proofs.Naming.{written_names, truncated_names}
 use Rattle.version_store.proofs.Across.{above_has_none}
-use Rattle.version_store.proofs.Subjects.{IsSubject, subject_of, free_of}
+use Rattle.version_store.proofs.Subjects.{IsSubject, subject_of}
 use Rattle.version_store.proofs.Kind.{Makes, grows_none, alive_leads, deleted_leads, created_leads, blank_subject}
 
 -- the object of a change that is there
 pub can_subject : (s : StoreFields) (change : Change) (m : ℕ) (i : Inode) → CanTake s change m i → IsThere s (object_of change) → IsSubject s (object_of change) m i
 can_subject s change m i can there = subject_of s (object_of change) m i can.store there can.begins
-
--- there are places for the data blocks
-pub can_append : (s : StoreFields) (change : Change) (m : ℕ) (i : Inode) → CanTake s change m i → data_blocks change i ≤ length s.log.ahead
-can_append s change m i can =
-    let blocks = (free_of (room s) change (subject_row s (object_of change) m) (subject_inode s (object_of change) m) can.free).blocks in
-    subst (λ (k : Inode). data_blocks change k ≤ length s.log.ahead) (sym can.begins) (omega (arith, blocks))
 
 -- ---- the changes without data
 

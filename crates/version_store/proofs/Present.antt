@@ -34,11 +34,6 @@ inode_by_present : LastInodeStays → (held : Place → Option Stored) (o latest
 inode_by_present last held o latest t None objects le = refl
 inode_by_present last held o latest t (Some row) objects le = ap (λ (i : Inode). Some i) (last held o row latest t (objects row refl).by le)
 
-pub present_stays : LastInodeStays → (s : StoreFields) (o t : ℕ) → IsStore s → s.latest ≤ t → (inode_in s o t ≡ inode_in s o s.latest) × (version_in s o t ≡ version_in s o s.latest)
-present_stays last s o t store le =
-    let same : inode_in s o t ≡ inode_in s o s.latest = inode_by_present last s.log.held o s.latest t (row_of s.rows o) (store.objects o) le in
-    (same, ap (version_by s.log.held) same)
-
 inode_by_subject : (held : Place → Option Stored) (o m latest : ℕ) (row : Option Row) (i : Inode) → inode_by held o latest row ≡ Some i → inode_of held o (row_or_fresh m row) latest ≡ i
 inode_by_subject held o m latest None i e = absurd (none-some i e)
 inode_by_subject held o m latest (Some row) i e = same_Some (inode_of held o row latest) i e

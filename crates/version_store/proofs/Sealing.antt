@@ -8,9 +8,7 @@ use Rattle.block_log.specs.Log.{Log, Stored}
 use Rattle.segment_table.specs.Table.{Table}
 use Rattle.segment_table.specs.Room.{is_filling, numbers, rest_of, places_ahead}
 use Rattle.segment_table.specs.Changes.{IsFilling, NoneIsFilling}
-use Rattle.object_map.specs.Rows.{row_of}
 use Rattle.version_store.specs.Store.{StoreFields, IsStore}
-use Rattle.version_store.specs.Versions.{inode_by, inode_in, version_by, version_in}
 
 fewer_by : (filling : List ℕ) (rest : ℕ → List Place) (before after : List Place) → length filling ≤ 1 → (filling ≡ [] → after ≡ before) → ((f : ℕ) → filling ≡ f ∷ [] → rest f ++ after ≡ before) → length after ≤ length before
 fewer_by [] rest before after one idle sealed =
@@ -48,12 +46,6 @@ store_over s log same spent bounded store =
 
 pub shrunk_store : (s : StoreFields) (log : Log) → log.held ≡ s.log.held → length log.ahead ≤ length s.log.ahead → log.spent ≡ s.log.spent → IsStore s → IsStore (over s log)
 shrunk_store s log same fewer spent store = let bound = store.bounded in store_over s log same (omega (arith, spent)) (omega (arith, fewer, spent, bound)) store
-
-pub same_inodes : (s : StoreFields) (log : Log) → log.held ≡ s.log.held → (o t : ℕ) → inode_in (over s log) o t ≡ inode_in s o t
-same_inodes s log same o t = ap (λ (h : Place → Option Stored). inode_by h o t (row_of s.rows o)) same
-
-pub same_versions : (s : StoreFields) (log : Log) → log.held ≡ s.log.held → (o t : ℕ) → version_in (over s log) o t ≡ version_in s o t
-same_versions s log same o t = ap (λ (h : Place → Option Stored). version_by h (inode_by h o t (row_of s.rows o))) same
 
 -- no fewer places were ever taken, whatever a release answers
 pub no_fewer_spent : {T E : Type 0} (r : Result T E) (old new : Log) → OnOk r (old.spent ≤ new.spent) → OnErr r (new ≡ old) → old.spent ≤ new.spent

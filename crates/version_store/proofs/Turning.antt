@@ -1,7 +1,7 @@
 -- The turn of an object to its next inode.
-use Rattle.std.proofs.Common.{◌≡◌, inl, inr, true, ℕ, ◌+◌, ◌-◌, ◌^◌, ◌<◌, ◌≤◌, ◌==◌, ◌++◌, nat_le, if◌then◌else◌, ltb, List, length, map, Option, Some, None, sym, ap, refl, subst, ◌∙◌, arith}
+use Rattle.std.proofs.Common.{◌≡◌, inl, inr, true, ℕ, ◌+◌, ◌-◌, ◌^◌, ◌<◌, ◌≤◌, ◌++◌, nat_le, if◌then◌else◌, ltb, List, length, map, Option, Some, None, sym, ap, refl, subst, ◌∙◌, arith}
 use Rattle.std.specs.List.{AllByRecursion}
-use Rattle.std.proofs.lemmas.Bool.{ltb-false, cond-true, eq-eqb, le-leb}
+use Rattle.std.proofs.lemmas.Bool.{ltb-false}
 use Rattle.std.proofs.lemmas.List.{length-map}
 use Rattle.std.proofs.lemmas.Option.{same_Some}
 use Rattle.s4_types.specs.Pointer.{Place}
@@ -22,7 +22,6 @@ use Rattle.time_read.specs.Rows.{IsRow, chain_of, entries_of, checkpoint_of, ino
 use Rattle.time_read.specs.Orderly.{IsOrderly}
 use Rattle.row_changes.specs.Recent.{IsBy}
 use Rattle.version_store.specs.Store.{StoreFields}
-use Rattle.version_store.specs.Versions.{inode_by}
 use Rattle.version_store.specs.Costs.{row_or_fresh, subject_row}
 use Rattle.version_store.specs.Taking.{RowChanges}
 use Rattle.version_store.specs.private.Turning.{CanTurn, Turns, blocks_turned}
@@ -113,12 +112,3 @@ turned orderly stands same by later_by matter are_some needed s later o m i j ro
     let least : 0 < blocks_needed row.head_bytes (map entry_length (entries_between i j m)) = needed row.head_bytes (map entry_length (entries_between i j m)) (omega (arith, count, entries)) in
     subst (λ (r : Row). Turns s o m j (pushed_blocks (chain_of o r) (entries_between i j m)) later) (sym know.subject)
     (recorded orderly stands same by later_by know.last matter s later o m (row.stamp + 1) (pushed_blocks (chain_of o row) (entries_between i j m)) row next j can.store there later_is latest records can.tidy can.pointers put refl takes (omega (arith, least)) few (changed s o m row next know.subject later.rows rest put))
-
--- from its moment on the object's inode is the new one
-pub present_after : (held later : Place → Option Stored) (o m : ℕ) (old : Row) (rows : List (ℕ × Row)) (olds : ℕ → Option Row) (next : Row) (j : Inode) (stamp : ℕ)
-    → inode_of later o next m ≡ (if nat_le m m then j else inode_of held o old m) → ((q : ℕ) → row_of rows q ≡ with_row olds o (record next { stamp = stamp }) q)
-    → inode_by later o m (row_of rows o) ≡ Some j
-unfolding inode_of
-present_after held later o m old rows olds next j stamp inode put =
-    ap (inode_by later o m) (put o ∙ cond-true (o == o) (Some (record next { stamp = stamp })) (olds o) (eq-eqb o o refl))
-    ∙ ap (λ (i : Inode). Some i) (inode ∙ cond-true (nat_le m m) j (inode_of held o old m) (le-leb m m (omega arith)))
