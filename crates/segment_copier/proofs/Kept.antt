@@ -2,9 +2,10 @@
 use Rattle.std.proofs.Common.{◌≡◌, inl, inr, ℕ, suc, ◌+◌, ◌<◌, ◌==◌, true, cond, List, [], ◌∷◌, ◌++◌, length, get_or, take, refl, sym, ap, subst, ◌∙◌, arith}
 use Rattle.std.specs.List.{AllByRecursion}
 use Rattle.std.proofs.lemmas.Bool.{cases_Bool, eqb-true, eq-eqb, cond-true, cond-false}
+use Rattle.std.proofs.lemmas.List.{take_more, map-append}
+use Rattle.std.proofs.lemmas.List.Elements.{All-from_recursion, All-get_or}
 use Rattle.s4_types.specs.Pointer.{Place}
 use Rattle.segment_word.specs.Frames.{Pinned}
-use Rattle.std.proofs.lemmas.List.{take_more, map-append}
 use Rattle.atomic_table.specs.Seated.{TableId}
 use Rattle.segment_word.specs.Handles.{Held, Remembered, IsAmong, pin_of}
 use Rattle.segment_word.specs.Layout.{block_bytes}
@@ -65,6 +66,13 @@ one_contents q f e =
     cond-true (q.number == f) q.contents (contents_pinned f []) here
 
 -- ---- places
+
+-- of places that are counted on, the one of an index is
+pub counted_at : (pins : List Pinned) (places : List Place) (i : ℕ) (p : Place) → AllByRecursion (λ q. (0 < pins_in q.frame pins) × (q.block < 16)) places → i < length places → p ≡ get_or places i p
+    → (0 < pins_in p.frame pins) × (p.block < 16)
+counted_at pins places i p all below at =
+    let IsCounted : Place → Type 0 = λ q. (0 < pins_in q.frame pins) × (q.block < 16) in
+    subst IsCounted (sym at) (All-get_or IsCounted places i p below (All-from_recursion IsCounted places all))
 
 pub all_counted : (q : Pinned) (pins : List Pinned) (places : List Place) → pins ≡ q ∷ [] → AllByRecursion (IsPlaceIn q) places
     → AllByRecursion (λ p. (0 < pins_in p.frame pins) × (p.block < 16)) places
