@@ -1,5 +1,6 @@
 pub mod Listed
 pub mod Kept
 pub mod Placed
+pub mod Staying
 pub mod Surveyed
 pub mod Chosen

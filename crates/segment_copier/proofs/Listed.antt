@@ -16,7 +16,7 @@ use Rattle.segment_copier.specs.Moves.{is_data, data_in, IsPlaceIn}
 
 -- ---- lists
 
-later_has : {X : Type 0} (y x : X) (xs : List X) → Contains xs x → Contains (y ∷ xs) x
+pub later_has : {X : Type 0} (y x : X) (xs : List X) → Contains xs x → Contains (y ∷ xs) x
 later_has y x xs (k, h, e) = (suc k, omega arith, e)
 
 first_or_later : {X : Type 0} (test : X → Bool) (x y : X) (ys : List X) → test y ≡ true → Contains (y ∷ filter test ys) x

@@ -185,10 +185,10 @@ kind_is Journal = inl refl
 kind_is Checkpoint = inr (inl refl)
 kind_is Data = inr (inr refl)
 
-seen : (kind : BlockKind) (o : ℕ) (block : Stored) → same_kind kind block.kind ≡ true → (block.object == o) ≡ true → IsSome (seen_as kind o (Some block))
+pub seen : (kind : BlockKind) (o : ℕ) (block : Stored) → same_kind kind block.kind ≡ true → (block.object == o) ≡ true → IsSome (seen_as kind o (Some block))
 seen kind o block is mine = subst (λ (b : Bool). IsSome (if b then Some block.bytes else None)) (sym (both_true _ _ is mine)) refl
 
-seen_of : (o : ℕ) (held : Option Stored) → is_of o held ≡ true → IsSome (seen_as Journal o held) ⊎ (IsSome (seen_as Checkpoint o held) ⊎ IsSome (seen_as Data o held))
+pub seen_of : (o : ℕ) (held : Option Stored) → is_of o held ≡ true → IsSome (seen_as Journal o held) ⊎ (IsSome (seen_as Checkpoint o held) ⊎ IsSome (seen_as Data o held))
 seen_of o None mine = absurd (cc)
 seen_of o (Some block) mine = elim (kind_is block.kind) [
   | inl is ↦ inl (seen Journal o block is mine)
@@ -196,10 +196,10 @@ seen_of o (Some block) mine = elim (kind_is block.kind) [
   | inr (inr is) ↦ inr (inr (seen Data o block is mine))
 ]
 
-abbrev none_of : Stored → Option (List ℕ)
+abbrev pub none_of : Stored → Option (List ℕ)
 none_of block = None
 
-data_seen : (o : ℕ) (held : Option Stored) → IsSome (seen_as Data o held) → (is_of o held ≡ true) × (is_data held ≡ true)
+pub data_seen : (o : ℕ) (held : Option Stored) → IsSome (seen_as Data o held) → (is_of o held ≡ true) × (is_data held ≡ true)
 data_seen o None some = absurd (cc)
 data_seen o (Some block) some = elim (cases_Bool (same_kind Data block.kind && block.object == o)) [
   | inl both ↦ (let parts = and_parts (same_kind Data block.kind) (block.object == o) both in (parts.1, parts.0))

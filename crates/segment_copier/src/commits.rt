@@ -42,7 +42,7 @@ fn are_there<J: Naming>(
     object: ObjectId,
     copies: &[CopiedBlock],
 ) -> Result<bool, Refusal>
-    ensures there { IfOk result (λ there. there ≡ true → AreStillThere drive.old.store.table frame object copies.now) }
+    ensures there { IfOk result (λ there. MatchBool there (AreStillThere drive.old.store.table frame object copies.now) (AreStillThere drive.old.store.table frame object copies.now → ⊥)) }
     ensures refusal { IfErr result (λ e. e ≡ NoMemory) }
     ensures same { drive.new ≡ drive.old }
 {
@@ -86,7 +86,8 @@ fn put<J: Naming>(
 /// nothing. Each version of each object is as it was at every moment, and so is the history, whatever is answered.
 ///
 /// Stale exactly where the row's stamp changed since the move was planned, or the row is gone, also of an empty move; else NoRoom
-/// where fewer places are ahead than must be written, NoMemory where memory is refused. Nothing has changed then.
+/// where fewer places are ahead than must be written, NoMemory where memory is refused, and where the object's data blocks in
+/// the frame aren't those that were copied, which no step brings about that leaves the stamp. Nothing has changed then.
 pub fn commit<J: Naming>(
     alloc: Global,
     drive: &mut Drive<J>,
@@ -119,8 +120,8 @@ pub fn commit<J: Naming>(
     let Some(mut memory) = memory else {
         return Ok(());
     };
-    // Each change of a row raises its stamp, and what it leads to stays held in a sealed frame: so with an equal stamp the blocks
-    // are there as they were when the move was planned. No contract carries that so far, and so it's looked at once more.
+    // With an equal stamp they are there, as `what_was_planned_is_still_there` says over the steps of a store: this tells it of a
+    // drive of which no contract says that it went on from the one that was planned of.
     if !are_there(alloc, drive, frame, object, copies.as_slice())? {
         return Err(Refusal::NoMemory);
     }

@@ -12,6 +12,7 @@ mod choices;
 mod commits;
 mod copier;
 mod held;
+pub mod laws;
 mod plans;
 
 pub use candidates::Candidate;

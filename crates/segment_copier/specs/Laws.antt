@@ -1,0 +1,19 @@
+-- When what was planned of a move is still there.
+use Rattle.std.specs.Prelude.{◌≡◌, ℕ, List, [], ◌∷◌, map}
+use Rattle.block_log.specs.declared.kinds.BlockKind.{BlockKind}
+use Rattle.block_log.specs.Log.{of_kind}
+use Rattle.segment_word.specs.FrameRule.{AllRemembered}
+use Rattle.segment_word.specs.Handles.{pin_of}
+use Rattle.segment_table.specs.Table.{Table, held_at}
+use Rattle.segment_table.specs.Room.{pointers_in}
+use Rattle.segment_table.specs.Used.{HoldsUsedBlocks}
+use Rattle.version_store.specs.declared.copies.CopiedBlock.{CopiedBlock}
+use Rattle.segment_copier.specs.Moves.{data_in}
+use Rattle.segment_copier.specs.Commits.{AreStillThere}
+
+-- An object held something in a frame that was sealed, and the copies are of its data blocks there. Where all of its blocks are as
+-- they were, and what a pin of the frame counted on is remembered, the copies are of its data blocks there still.
+abbrev pub WhatWasPlannedIsStillThere : Type 0
+WhatWasPlannedIsStillThere = (t later : Table) (f o : ℕ) (copies : List CopiedBlock) → (pointers_in t o f ≡ [] → ⊥) → map (λ c. c.place) copies ≡ data_in t o f
+    → ((kind : BlockKind) → of_kind kind o (held_at later) ≡ of_kind kind o (held_at t))
+    → AllRemembered later.drive.frames (pin_of t.drive.frames f ∷ []) → HoldsUsedBlocks later → AreStillThere later f o copies
