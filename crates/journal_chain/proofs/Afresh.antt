@@ -2,7 +2,7 @@
 use Rattle.std.proofs.Common.{◌≡◌, ℕ, ◌+◌, ◌≤◌, ◌<◌, List, [], ◌∷◌, ◌++◌, map, length, drop, get_or, Option, Some, None, IsSome, is_some, unwrap_or, refl, sym, ap, ◌∙◌, subst, arith}
 use Rattle.std.specs.List.{flat_map}
 use Rattle.std.specs.Option.{option_to_list}
-use Rattle.std.proofs.lemmas.List.{drop_more, drop_all}
+use Rattle.std.proofs.lemmas.List.{drop_more}
 use Rattle.s4_types.specs.Pointer.{Place}
 use Rattle.s4_types.specs.declared.limits.TheConstants.{CHAIN_BLOCKS, CHAIN_ENTRY_BYTES}
 use Rattle.block_log.specs.declared.kinds.BlockKind.TheVariants.{Journal}
@@ -48,17 +48,10 @@ drop_some log later p place o stale head entries is drops f =
     subst (λ (l : Log). Finished l.held o stale head entries × OnlyJournalChanged o log.held l.held) (sym drops)
     (drop_finished log.held o stale p head entries g, drop_changes_only log.held o stale p head entries g)
 
-pub drop_none : (held : Place → Option Stored) (place : Option Place) (o : ℕ) (stale : List Place) (head : Option Place) (entries : List EntryFields)
-    → place ≡ None → Finished held o (option_to_list place ++ stale) head entries → Finished held o stale head entries
-drop_none held place o stale head entries is f = subst (λ (x : Option Place). Finished held o (option_to_list x ++ stale) head entries) is f
-
 pub next_place : (places : List (Option Place)) (i : ℕ) (place : Option Place) → i < length places → place ≡ get_or places i place
     → flat_map option_to_list (drop i places) ≡ option_to_list place ++ flat_map option_to_list (drop (i + 1) places)
 next_place places i place lt is =
     ap (flat_map option_to_list) (drop_more places i place lt ∙ ap (λ x. x ∷ drop (i + 1) places) (sym is))
-
-pub last_place : (places : List (Option Place)) (i : ℕ) → length places ≤ i → flat_map option_to_list (drop i places) ≡ []
-last_place places i le = ap (flat_map option_to_list) (drop_all i places le)
 
 pub each_there : (places : List Place) → flat_map option_to_list (map Some places) ≡ places
 each_there [] = refl

@@ -1,6 +1,5 @@
 -- Reading blocks back, one after another.
-use Rattle.std.proofs.Common.{◌≡◌, ℕ, zero, suc, ◌≤◌, List, [], ◌∷◌, ◌++◌, length, Option, Some, None, IsSome, is_some, unwrap_or, refl, sym, ap, ◌∙◌, subst, arith, append-nil, append_assoc}
-use Rattle.std.specs.Option.{option_to_list}
+use Rattle.std.proofs.Common.{◌≡◌, ℕ, zero, suc, ◌≤◌, List, [], ◌∷◌, ◌++◌, length, Option, Some, None, IsSome, is_some, unwrap_or, refl, sym, ap, ◌∙◌, subst, arith, append-nil}
 use Rattle.std.proofs.lemmas.List.{length-map}
 use Rattle.std.proofs.lemmas.Option.{none-some, same_Some}
 use Rattle.s4_types.specs.Pointer.{Place}
@@ -8,7 +7,6 @@ use Rattle.s4_types.specs.declared.limits.TheConstants.{CHAIN_BLOCKS}
 use Rattle.block_log.specs.declared.kinds.BlockKind.TheVariants.{Journal}
 use Rattle.block_log.specs.Log.{Log, Stored, of_kind}
 use Rattle.codec.specs.Fields.{◌>>=◌}
-use Rattle.codec.specs.Entry.{EntryFields}
 use Rattle.codec.specs.Journal.{JournalFields}
 use Rattle.journal_chain.specs.Packing.{joined}
 use Rattle.journal_chain.specs.Chain.{Link, linked, links_from, chain_links, chain_entries, journal_in, places_of, blocks_of}
@@ -117,23 +115,6 @@ turned held back after p block there is none reads previous entries =
 pub all_given : (held : Place → Option Stored) (back : BackFields) → back.previous ≡ None → back.entries ≡ [] → left held back ≡ []
 unfolding links_back links_from joined
 all_given held back none given = ap (λ q. unwrap_or (links_back held q >>= λ links. Some (joined (blocks_of links) ++ back.entries)) []) none ∙ given
-
--- the last entry is given
-pub gives_last : (held : Place → Option Stored) (back after : BackFields) (given : Option EntryFields) → IsSome (entries_left held back)
-    → after.previous ≡ back.previous → back.entries ≡ after.entries ++ option_to_list given
-    → left held back ≡ left held after ++ option_to_list given
-gives_last held back after given there previous is =
-    let (links, walk) = links_there held back there in
-    let before = joined (blocks_of links) in
-    ap (λ o. unwrap_or (o >>= λ links. Some (joined (blocks_of links) ++ back.entries)) []) walk
-    ∙ ap (λ l. before ++ l) is
-    ∙ sym (append_assoc before after.entries (option_to_list given))
-    ∙ sym (ap (λ o. unwrap_or (o >>= λ links. Some (joined (blocks_of links) ++ after.entries)) [] ++ option_to_list given) (ap (links_back held) previous ∙ walk))
-
-pub still_there : (held : Place → Option Stored) (back after : BackFields) → IsSome (entries_left held back) → after.previous ≡ back.previous → IsSome (entries_left held after)
-still_there held back after there previous =
-    let (links, walk) = links_there held back there in
-    ap (λ o. is_some (o >>= λ links. Some (joined (blocks_of links) ++ after.entries))) (ap (links_back held) previous ∙ walk)
 
 -- ---- the places of the blocks, one after another
 

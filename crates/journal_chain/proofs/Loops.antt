@@ -1,6 +1,6 @@
 -- Entries one after another: what is taken already, and what is left.
-use Rattle.std.proofs.Common.{◌≡◌, ℕ, ◌+◌, ◌-◌, ◌≤◌, ◌<◌, cond, List, [], ◌∷◌, ◌++◌, map, length, get_or, take, drop, sym, ap, ◌∙◌, subst, arith, length-drop, length-take}
-use Rattle.std.proofs.lemmas.List.{drop_more, drop_all, map-append, length-map}
+use Rattle.std.proofs.Common.{◌≡◌, ℕ, ◌+◌, ◌-◌, ◌≤◌, ◌<◌, cond, List, [], ◌∷◌, ◌++◌, map, length, get_or, take, drop, sym, ap, ◌∙◌, subst, arith, length-drop}
+use Rattle.std.proofs.lemmas.List.{drop_more, drop_all}
 use Rattle.std.proofs.lemmas.Grind.{take_at_read}
 use Rattle.s4_types.specs.Pointer.{Place}
 use Rattle.block_log.specs.Log.{Log}
@@ -34,15 +34,6 @@ all_fit-append (x ∷ xs) ys a b = (a.0, all_fit-append xs ys a.1 b)
 
 -- ---- sizes
 
-pub sizes_more : (xs : List EntryFields) (i : ℕ) (e : EntryFields) → i < length xs → e ≡ get_or xs i e → map entry_length (take (i + 1) xs) ≡ map entry_length (take i xs) ++ entry_length e ∷ []
-sizes_more xs i e lt is = ap (map entry_length) (next_taken xs i e lt is) ∙ map-append entry_length (take i xs) (e ∷ [])
-
-pub sizes_few : (xs : List EntryFields) (i n : ℕ) (sizes : List ℕ) → sizes ≡ map entry_length (take i xs) → i < length xs → length xs ≤ n → length sizes < n
-sizes_few xs i n sizes is lt le =
-    let a : length sizes ≡ length (map entry_length (take i xs)) = ap length is in
-    let b : length (map entry_length (take i xs)) ≡ length (take i xs) = length-map (take i xs) entry_length in
-    omega (arith, length-take i xs)
-
 -- ---- blocks begun
 
 pub breaks_one : (filled size : ℕ) (rest : List ℕ) → breaks filled (size ∷ rest) ≡ breaks filled (size ∷ []) + breaks (filled_with filled size) rest
@@ -63,13 +54,6 @@ takes_more filled later xs i e log between after adds lt is filled_is one others
     ∙ sym (breaks_one filled (entry_length e) rest)
     ∙ ap (λ l. breaks filled (map entry_length l)) (sym (next_left xs i e lt is)) in
     subst (λ n. TakesPlaces n log after) sum (adds (breaks filled (entry_length e ∷ [])) (breaks later rest) log between after one others)
-
-pub room_first : (filled : ℕ) (xs : List EntryFields) (i : ℕ) (e : EntryFields) (room : ℕ)
-    → i < length xs → e ≡ get_or xs i e → breaks filled (map entry_length (drop i xs)) ≤ room → breaks filled (entry_length e ∷ []) ≤ room
-room_first filled xs i e room lt is le =
-    let whole : breaks filled (map entry_length (drop i xs)) ≡ breaks filled (entry_length e ∷ []) + breaks (filled_with filled (entry_length e)) (map entry_length (drop (i + 1) xs)) =
-    ap (λ l. breaks filled (map entry_length l)) (next_left xs i e lt is) ∙ breaks_one filled (entry_length e) (map entry_length (drop (i + 1) xs)) in
-    omega (arith, whole, le)
 
 pub room_more : (filled later : ℕ) (xs : List EntryFields) (i : ℕ) (e : EntryFields) (ahead after : List Place)
     → i < length xs → e ≡ get_or xs i e → later ≡ filled_with filled (entry_length e) → after ≡ drop (breaks filled (entry_length e ∷ [])) ahead

@@ -1,5 +1,5 @@
 -- Walking a chain finds the blocks that stand, and no others.
-use Rattle.std.proofs.Common.{◌≡◌, ℕ, zero, suc, ◌≤◌, true, ◌==◌, List, [], ◌∷◌, length, Option, Some, None, is_some, refl, ap, ◌∙◌, subst, arith}
+use Rattle.std.proofs.Common.{◌≡◌, ℕ, zero, suc, ◌≤◌, ◌==◌, List, [], ◌∷◌, length, Option, Some, None, refl, ap, ◌∙◌, subst, arith}
 use Rattle.std.proofs.lemmas.Bool.{eqb-true}
 use Rattle.std.proofs.lemmas.Option.{none-some, same_Some, cond_some}
 use Rattle.s4_types.specs.Pointer.{Place}
@@ -28,11 +28,6 @@ pub of_object_in : (o : ℕ) (view : BlockView) (p : Place) (j : JournalFields) 
 of_object_in o view p j h =
     let (bytes, (there, spells)) = bind_some (view p) (journal_of o) j h in
     of_object o bytes j spells
-
-pub there_in : (o : ℕ) (view : BlockView) (p : Place) (j : JournalFields) → journal_in o view p ≡ Some j → is_some (view p) ≡ true
-there_in o view p j h =
-    let (bytes, (there, spells)) = bind_some (view p) (journal_of o) j h in
-    ap is_some there
 
 -- the walk from the head of blocks that stand finds them
 pub walk_of_stands : (fuel o : ℕ) (view : BlockView) (links : List Link) → Stands o view links → length links ≤ fuel → links_from fuel (journal_in o view) (head_of links) ≡ Some links

@@ -7,7 +7,7 @@ use Rattle.codec.specs.Fields.{◌>>=◌, bit}
 use Rattle.codec.specs.Entry.{EntryFields}
 use Rattle.journal_chain.specs.Chain.{BlockView, Link, journal_of, places_of, times}
 use Rattle.journal_chain.specs.Writing.{fields_of_block, Stands, Standing}
-use Rattle.journal_chain.proofs.Places.{one_place, other_either_way, times-here, times-other, times-none, times-cons, bit-most}
+use Rattle.journal_chain.proofs.Places.{one_place, other_either_way, times-here, times-other, times-cons, bit-most}
 
 -- the views agree wherever one of these blocks is
 abbrev pub AgreeOn : List Link → BlockView → BlockView → Type 0
@@ -36,13 +36,6 @@ head_stale o view newest older s = record {
       let a : times p (newest.place ∷ places_of older) ≡ bit (same_place p newest.place) + times p (places_of older) = times-cons p newest.place (places_of older) in
       let b : times p (newest.place ∷ []) ≡ bit (same_place p newest.place) + times p [] = times-cons p newest.place [] in
       omega arith;
-}
-
--- the whole chain becomes stale
-pub all_stale : (o : ℕ) (view : BlockView) (links : List Link) → Standing o view links [] → Standing o view [] (places_of links)
-all_stale o view links s = record {
-  stands = tt;
-  once = λ p. let h = s.once p in let e : times p [] ≡ 0 = times-none p in omega arith;
 }
 
 -- a block is put in front
