@@ -1,5 +1,5 @@
 //! What a drive holds, for the layers above it.
-ghost use Rattle.std.specs.Prelude.{◌≡◌, ℕ, ◌<◌, ◌≤◌, [], length, drop, slice_index_or, None, MatchBool, IfSome, IfNone, IfOk, IfErr};
+ghost use Rattle.std.specs.Prelude.{◌≡◌, ℕ, ◌<◌, ◌≤◌, length, None, MatchBool, IfSome, IfNone, IfOk, IfErr};
 ghost use Rattle.s4_types.specs.Sizes.{IsFrameCount};
 ghost use Rattle.s4_types.specs.declared.refusals.Refusal.TheVariants.{NoMemory};
 ghost use Rattle.std.specs.List.{AllByRecursion};
@@ -11,11 +11,9 @@ ghost use Rattle.window.specs.Runs.{Ascend, AllBeginFrom, AllEndBefore, AreFewIn
 ghost use Rattle.window.specs.Timeline.{CoverAlike};
 ghost use Rattle.object_map.specs.Objects.{IsNextAbove};
 ghost use Rattle.object_map.specs.Rows.{row_of};
-ghost use Rattle.codec.specs.Summary.{SpellsSummary};
-ghost use Rattle.segment_word.specs.Frames.{code_of};
-ghost use Rattle.segment_word.specs.Layout.{word_of, frame_at, block_bytes};
+ghost use Rattle.segment_word.specs.Layout.{frame_at};
 ghost use Rattle.segment_table.specs.Room.{is_filling, numbers, pointers_in};
-ghost use Rattle.segment_table.specs.Sealing.{IsFit, IsPartFilled, summary_of};
+ghost use Rattle.segment_table.specs.Sealing.{IsFit, IsPartFilled};
 ghost use Rattle.segment_table.specs.Table.{slots_at, HoldsWholeBlocks};
 ghost use Rattle.segment_table.specs.Used.{HoldsUsedBlocks};
 ghost use Rattle.version_store.specs.Store.{IsStore};
@@ -26,10 +24,8 @@ ghost use Rattle.drive.specs.Keeping.{DecodesWhereVisible};
 ghost use Rattle.drive.specs.Opened.{NoneFrom};
 
 use crate::drive::Drive;
-use block_log::Block;
 use codec::{Entry, Inode};
 use object_map::Row;
-use s4_types::limits::FRAME_BLOCKS;
 use s4_types::{Moment, ObjectId, Ptr, Refusal, Span};
 use segment_word::Naming;
 
@@ -167,27 +163,5 @@ impl<J: Naming> Drive<J> {
         ensures same { self.new ≡ self.old }
     {
         self.store.held_in(object, frame)
-    }
-
-    /// The state word of a frame as it is saved: it counts no reader.
-    pub fn saved_word(&mut self, frame: u16) -> u64
-        requires { frame < length self.old.store.table.drive.frames }
-        ensures word { result ≡ word_of (frame_at self.old.store.table.drive.frames frame) 0 }
-        ensures same { self.new ≡ self.old }
-    {
-        self.store.saved_word(frame)
-    }
-
-    /// The 16 blocks of a frame that isn't free, as they are saved. Those of the open frame are what sealing it now would leave:
-    /// its summary first, and zeros in its unused blocks.
-    pub fn save_blocks(&mut self, frame: u16, blocks: &mut [Block; FRAME_BLOCKS])
-        requires inside { frame < length self.old.store.table.drive.frames }
-        requires used { 0 < code_of (frame_at self.old.store.table.drive.frames frame).phase }
-        ensures spelled { SpellsSummary (drop 1 blocks.new) (slice_index_or blocks.new 0 []) (summary_of frame (frame_at self.old.store.table.drive.frames frame) (slots_at self.old.store.table.slots frame)) }
-        ensures kept { (b : ℕ) → 1 ≤ b → b ≤ length (slots_at self.old.store.table.slots frame) → slice_index_or blocks.new b [] ≡ block_bytes (frame_at self.old.store.table.drive.frames frame).contents b }
-        ensures whole { 2 ≤ code_of (frame_at self.old.store.table.drive.frames frame).phase → (b : ℕ) → b < 16 → slice_index_or blocks.new b [] ≡ block_bytes (frame_at self.old.store.table.drive.frames frame).contents b }
-        ensures same { self.new ≡ self.old }
-    {
-        self.store.save_blocks(frame, blocks);
     }
 }

@@ -1,8 +1,8 @@
 //! Upkeep: what leaves the history and each version as they are, whatever it answers.
-ghost use Rattle.std.specs.Prelude.{◌≡◌, ◌≢◌, ℕ, ◌+◌, ◌^◌, ◌<◌, ◌≤◌, None, Some, ◌++◌, IfSome, IfErr, OnOk, OnErr, MatchResult, length};
+ghost use Rattle.std.specs.Prelude.{◌≡◌, ◌≢◌, ℕ, ◌+◌, ◌^◌, ◌<◌, ◌≤◌, None, Some, ◌++◌, IfSome, IfErr, OnOk, OnErr, MatchResult};
 ghost use Rattle.s4_types.specs.declared.refusals.Refusal.TheVariants.{InUse};
 ghost use Rattle.undo_redo.specs.Runs.{AllBy};
-ghost use Rattle.segment_word.specs.Frames.{Emptied, is_emptied};
+ghost use Rattle.segment_word.specs.Frames.{Emptied};
 ghost use Rattle.segment_word.specs.Layout.{frame_at};
 ghost use Rattle.segment_word.specs.Handles.{HasMissed};
 ghost use Rattle.segment_table.specs.Changes.{IsFilling, NoneIsFilling, IsSealedIn, IsMarked, IsReleased, IsAheadAgain};
@@ -52,21 +52,6 @@ impl<J: Naming> Drive<J> {
         ensures inodes { (o t : ℕ) → inode_in (store_of self.new) o t ≡ inode_in (store_of self.old) o t }
     {
         self.store.checkpoint(object)
-    }
-
-    /// How many frames there are.
-    pub fn frame_count(&self) -> u16
-        ensures { result ≡ length self.now.store.table.drive.frames }
-    {
-        self.store.frame_count()
-    }
-
-    /// Whether a frame is being emptied; one that isn't there is not.
-    pub fn is_emptied(&mut self, frame: u16) -> bool
-        ensures emptied { result ≡ is_emptied (frame_at self.old.store.table.drive.frames frame).phase }
-        ensures same { self.new ≡ self.old }
-    {
-        self.store.is_emptied(frame)
     }
 
     /// A sealed frame of which no block is held is being emptied from now on. Its readers and its pins stay, and so do all

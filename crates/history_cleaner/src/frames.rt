@@ -9,6 +9,7 @@ ghost use Rattle.history_cleaner.specs.private.Emptying.{ReleasedBelow, generati
 
 use drive::Drive;
 use s4_types::Refusal;
+use segment_table::OverFrames;
 use segment_word::Naming;
 use std::alloc::Global;
 

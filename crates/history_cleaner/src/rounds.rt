@@ -10,6 +10,7 @@ use crate::cleaning::clean_object;
 use crate::frames::mark_all;
 use drive::Drive;
 use s4_types::{ObjectId, Refusal};
+use segment_table::OverFrames;
 use segment_word::Naming;
 use std::alloc::Global;
 

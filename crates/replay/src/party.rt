@@ -14,6 +14,7 @@ use interleaving::{Actor, Answer, Step, run};
 use object_map::Row;
 use s4_types::{Moment, ObjectId, Ptr, Refusal, Role};
 use segment_copier::{Candidate, Copier, candidate};
+use segment_table::OverFrames;
 use segment_word::Naming;
 use std::alloc::Global;
 use std::marker::Brand;

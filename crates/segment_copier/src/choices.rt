@@ -13,6 +13,7 @@ use crate::candidates::Candidate;
 use drive::Drive;
 use s4_types::limits::{CHAIN_BLOCKS, PAYLOAD_BLOCKS};
 use s4_types::{ObjectId, Ptr, Refusal};
+use segment_table::OverFrames;
 use segment_table::laws::what_is_listed_is_held;
 use segment_word::Naming;
 

@@ -14,6 +14,7 @@ use crate::held::data_among;
 use crate::plans::Moved;
 use drive::Drive;
 use s4_types::{ObjectId, Ptr, Refusal};
+use segment_table::OverFrames;
 use segment_table::laws::{places_ahead_are_in_no_sealed_frame, what_is_listed_is_held};
 use segment_word::{Memory, Naming};
 use std::alloc::Global;

@@ -10,6 +10,7 @@ use block_log::BlockKind;
 use codec::Part;
 use drive::Drive;
 use s4_types::{Ptr, Refusal};
+use segment_table::OverFrames;
 use segment_word::Naming;
 use std::alloc::Global;
 

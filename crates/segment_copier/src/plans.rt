@@ -12,6 +12,7 @@ ghost use Rattle.segment_copier.specs.Moves.{data_in, copies_of, memory_of, Coun
 use crate::held::data_among;
 use drive::{Drive, Session};
 use s4_types::{ObjectId, Ptr, Refusal};
+use segment_table::OverFrames;
 use segment_table::laws::what_is_listed_is_held;
 use segment_word::{Memory, Naming, Pin};
 use std::alloc::Global;

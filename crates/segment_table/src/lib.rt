@@ -21,6 +21,7 @@
 #![tactic(auto)]
 
 pub mod laws;
+mod over_frames;
 mod parts;
 mod saving;
 mod seals;
@@ -28,6 +29,7 @@ mod segments;
 mod slots;
 mod table;
 
+pub use over_frames::OverFrames;
 pub use parts::{TableParts, UsedBlock};
 pub use slots::Slot;
 pub use table::SegmentTable;

@@ -1,42 +1,37 @@
 //! The frames of a drive and what their blocks are for, one step at a time.
-ghost use Rattle.std.specs.Prelude.{◌≡◌, ◌≢◌, ℕ, ◌+◌, ◌-◌, ◌^◌, ◌<◌, ◌≤◌, ◌⊎◌, ◌==◌, true, false, [], ◌∷◌, ◌++◌, length, map, drop, slice_index_or, Option, Some, None, IsSome, IfSome, IfNone, IfOk, IfErr, OnOk, OnErr, IsOk, MatchOption, MatchBool, option_map, vec_len, vec_capacity};
+ghost use Rattle.std.specs.Prelude.{◌≡◌, ◌≢◌, ℕ, ◌+◌, ◌-◌, ◌^◌, ◌<◌, ◌≤◌, ◌==◌, true, false, ◌++◌, length, map, Option, Some, None, IsSome, IfSome, IfNone, IfOk, IfErr, OnOk, OnErr, IsOk, MatchBool, option_map, vec_len, vec_capacity};
 ghost use Rattle.std.specs.Option.{option_to_list};
-ghost use Rattle.s4_types.specs.Sizes.{IsFrameCount};
-ghost use Rattle.s4_types.specs.declared.refusals.Refusal.TheVariants.{NoMemory, Busy, InUse};
+ghost use Rattle.s4_types.specs.declared.refusals.Refusal.TheVariants.{NoMemory, InUse};
 ghost use Rattle.block_log.specs.Log.{appended, dropped};
-ghost use Rattle.codec.specs.Summary.{SpellsSummary};
-ghost use Rattle.segment_word.specs.Frames.{Pinned, code_of, is_sealed, is_emptied};
-ghost use Rattle.segment_word.specs.Frames.Phase.{Open, Sealed, Emptied};
-ghost use Rattle.segment_word.specs.Layout.{word_of, frame_at, block_bytes};
-ghost use Rattle.segment_word.specs.Counting.{pins_in};
-ghost use Rattle.segment_word.specs.FrameRule.{AllAgree, AllRemembered};
-ghost use Rattle.segment_word.specs.Handles.{IsAmong, pin_of, HasMissed};
-ghost use Rattle.segment_table.specs.Table.{Table, slots_at, held_at, HoldsWholeBlocks, is_of, part_of};
-ghost use Rattle.segment_table.specs.Used.{HoldsUsedBlocks};
+ghost use Rattle.segment_word.specs.Frames.{is_sealed};
+ghost use Rattle.segment_word.specs.Frames.Phase.{Sealed, Emptied};
+ghost use Rattle.segment_word.specs.Layout.{frame_at};
+ghost use Rattle.segment_word.specs.Handles.{HasMissed};
+ghost use Rattle.segment_table.specs.Table.{Table, slots_at, held_at, is_of, part_of};
 ghost use Rattle.segment_table.specs.Room.{is_filling, numbers, rest_of, places_ahead, places_spent, log_of, pointers_in};
-ghost use Rattle.segment_table.specs.Sealing.{IsFit, IsSoundTable, IsPartFilled, summary_of};
+ghost use Rattle.segment_table.specs.Sealing.{IsSoundTable, IsPartFilled};
 ghost use Rattle.segment_table.specs.Changes.{IsFilling, NoneIsFilling, IsReadyFrame, IsPut, IsSealed, IsSealedIn, NoneHeld, IsMarked, IsReleased, IsAheadAgain};
 ghost use Rattle.segment_table.specs.private.Putting.{IsPutBetween};
 
+use crate::seals;
 use crate::slots::Slots;
-use crate::{saving, seals};
 use block_log::Block;
 use codec::Part;
-use s4_types::limits::{FRAME_BLOCKS, PAYLOAD_BLOCKS};
+use s4_types::limits::PAYLOAD_BLOCKS;
 use s4_types::{ObjectId, Ptr, Refusal};
-use segment_word::{DriveSeat, Memory, Pin};
+use segment_word::DriveSeat;
 use std::alloc::Global;
 use std::marker::Model;
 
 /// The frames of a drive, with the used blocks of each.
 #[derive(Drop)]
 pub struct Segments {
-    seat: DriveSeat,
-    slots: Vec<Slots>,
-    // the numbers of the free frames but the retired ones, the lowest last
-    free: Vec<u16>,
-    // the number of the open frame
-    current: Option<u16>,
+    pub seat: DriveSeat,
+    pub slots: Vec<Slots>,
+    /// The numbers of the free frames but the retired ones, the lowest last.
+    pub free: Vec<u16>,
+    /// The number of the open frame.
+    pub current: Option<u16>,
 }
 
 impl Model for Segments {
@@ -82,66 +77,11 @@ impl Segments {
         }
     }
 
-    /// Shows what holds of each frame between calls, that at most one is open, that each held block is whole and used, how many
-    /// frames there can be, and that the places that were ever taken and those ahead are fewer than 2^46.
-    pub fn rules(&self)
-        ensures fit { (f : ℕ) → f < length self.now.drive.frames → IsFit f (frame_at self.now.drive.frames f) (slots_at self.now.slots f) }
-        ensures one_open { length (numbers is_filling 0 self.now.drive.frames) ≤ 1 }
-        ensures whole { HoldsWholeBlocks self.now }
-        ensures used { HoldsUsedBlocks self.now }
-        ensures count { IsFrameCount (length self.now.drive.frames) }
-        ensures sizes { (length self.now.drive.frames ≤ 1024) × (length self.now.slots ≡ length self.now.drive.frames) }
-        ensures bounded { places_spent self.now + length (places_ahead self.now) < 2 ^ 46 }
-    {
-        let _ = &self.current;
-    }
-
-    /// How many frames there are.
-    pub fn count(&self) -> u16
-        ensures { result ≡ length self.now.drive.frames }
-    {
-        self.slots.len() as u16
-    }
-
     /// The number of the open frame.
     pub fn open_frame(&self) -> Option<u16>
         ensures { option_to_list result ≡ numbers is_filling 0 self.now.drive.frames }
     {
         self.current
-    }
-
-    // Whether a frame is the open one.
-    fn is_filling(&self, frame: u16) -> bool
-        requires { frame < length self.now.drive.frames }
-        ensures { MatchBool result ((frame_at self.now.drive.frames frame).phase ≡ Open) ((frame_at self.now.drive.frames frame).phase ≢ Open) }
-    {
-        match self.current {
-            Some(open) => open == frame,
-            None => false,
-        }
-    }
-
-    /// Whether a held block lies in the open frame; else its frame is sealed.
-    pub fn is_open(&self, place: Ptr) -> bool
-        requires { IsSome (held_at self.now place) }
-        ensures { MatchBool result ((frame_at self.now.drive.frames place.frame).phase ≡ Open) ((frame_at self.now.drive.frames place.frame).phase ≡ Sealed) }
-    {
-        match self.current {
-            Some(frame) => frame == place.frame(),
-            None => false,
-        }
-    }
-
-    /// How many blocks can be appended.
-    pub fn blocks_left(&self) -> usize
-        ensures count { result ≡ length (places_ahead self.now) }
-        ensures most { result ≤ 15360 }
-    {
-        let whole = PAYLOAD_BLOCKS * self.free.len();
-        match self.current {
-            Some(frame) => whole + (PAYLOAD_BLOCKS - self.slots[frame as usize].len()),
-            None => whole,
-        }
     }
 
     // Opens the free frame of the lowest number. None where there is none.
@@ -251,34 +191,8 @@ impl Segments {
             .load(place.frame() as usize, place.block() as usize)
     }
 
-    /// The state word of a frame as it is saved.
-    pub fn saved_word(&mut self, frame: u16) -> u64
-        requires { frame < length self.old.drive.frames }
-        ensures word { result ≡ word_of (frame_at self.old.drive.frames frame) 0 }
-        ensures same { self.new ≡ self.old }
-    {
-        self.seat.saved_state(frame as usize)
-    }
-
-    /// The blocks of a frame that isn't free, as they are saved: those of the open frame as sealing it now would leave them.
-    pub fn save_blocks(&mut self, frame: u16, blocks: &mut [Block; FRAME_BLOCKS])
-        requires inside { frame < length self.old.drive.frames }
-        requires used { 0 < code_of (frame_at self.old.drive.frames frame).phase }
-        requires part_filled { IsPartFilled self.old }
-        ensures spelled { SpellsSummary (drop 1 blocks.new) (slice_index_or blocks.new 0 []) (summary_of frame (frame_at self.old.drive.frames frame) (slots_at self.old.slots frame)) }
-        ensures kept { (b : ℕ) → 1 ≤ b → b ≤ length (slots_at self.old.slots frame) → slice_index_or blocks.new b [] ≡ block_bytes (frame_at self.old.drive.frames frame).contents b }
-        ensures whole { 2 ≤ code_of (frame_at self.old.drive.frames frame).phase → (b : ℕ) → b < 16 → slice_index_or blocks.new b [] ≡ block_bytes (frame_at self.old.drive.frames frame).contents b }
-        ensures same { self.new ≡ self.old }
-    {
-        if self.is_filling(frame) {
-            saving::save_sealed(&mut self.seat, frame, &self.slots[frame as usize], blocks);
-        } else {
-            saving::save_all(&mut self.seat, frame as usize, blocks);
-        }
-    }
-
-    // Whether the frame that a pointer names is at the pointer's generation.
-    fn is_current(&mut self, place: Ptr) -> bool
+    /// Whether the frame that a pointer names is at the pointer's generation.
+    pub fn is_current(&mut self, place: Ptr) -> bool
         ensures found { MatchBool result ((place.frame < length self.old.drive.frames) × ((frame_at self.old.drive.frames place.frame).generation ≡ place.generation)) (held_at self.old place ≡ None) }
         ensures same { self.new ≡ self.old }
     {
@@ -286,24 +200,13 @@ impl Segments {
         number < self.slots.len() && self.seat.generation(number) == place.generation()
     }
 
-    // What the block is for that a pointer at its frame's generation leads to, where it is held.
-    fn current_part(&self, place: Ptr) -> Option<Part>
+    /// What the block is for that a pointer at its frame's generation leads to, where it is held.
+    pub fn current_part(&self, place: Ptr) -> Option<Part>
         requires inside { place.frame < length self.now.drive.frames }
         requires current { (frame_at self.now.drive.frames place.frame).generation ≡ place.generation }
         ensures { result ≡ option_map part_of (held_at self.now place) }
     {
         self.slots[place.frame() as usize].held(place.block() as usize)
-    }
-
-    /// What the block is for that a pointer leads to, where it is held.
-    pub fn part(&mut self, place: Ptr) -> Option<Part>
-        ensures part { result ≡ option_map part_of (held_at self.old place) }
-        ensures same { self.new ≡ self.old }
-    {
-        if !self.is_current(place) {
-            return None;
-        }
-        self.current_part(place)
     }
 
     /// The pointer is held no longer. Where it wasn't, nothing changes.
@@ -332,38 +235,6 @@ impl Segments {
             return Some(self.seat.generation(number));
         }
         None
-    }
-
-    /// Whether a frame is being emptied; one that isn't there is not.
-    pub fn is_emptied(&mut self, frame: u16) -> bool
-        ensures emptied { result ≡ is_emptied (frame_at self.old.drive.frames frame).phase }
-        ensures same { self.new ≡ self.old }
-    {
-        let number = frame as usize;
-        number < self.slots.len() && self.seat.is_emptied(number)
-    }
-
-    /// The generation of a frame, and none where it isn't there.
-    pub fn generation(&mut self, frame: u16) -> Option<u32>
-        ensures inside { IfSome result (λ g. frame < length self.old.drive.frames) }
-        ensures generation { IfSome result (λ g. g ≡ (frame_at self.old.drive.frames frame).generation) }
-        ensures outside { IfNone result (length self.old.drive.frames ≤ frame) }
-        ensures same { self.new ≡ self.old }
-    {
-        let number = frame as usize;
-        if number < self.slots.len() {
-            return Some(self.seat.generation(number));
-        }
-        None
-    }
-
-    /// Shows what is true of what is remembered of these frames.
-    pub fn recall(&mut self, memory: &mut Memory)
-        requires { memory.old.table ≡ self.old.drive.table }
-        ensures remembered { AllRemembered self.old.drive.frames memory.old.remembered }
-        ensures same { (self.new ≡ self.old) × (memory.new ≡ memory.old) }
-    {
-        self.seat.recall(memory);
     }
 
     /// A sealed frame of which no block is held is being emptied from now on.
@@ -446,35 +317,5 @@ impl Segments {
             }
         }
         Ok(pointers)
-    }
-
-    /// The pin counts on the sealed frame of a held block from now on.
-    pub fn count_on(&mut self, pin: &mut Pin, place: Ptr) -> Result<(), Refusal>
-        requires table { pin.old.table ≡ self.old.drive.table }
-        requires held { IsSome (held_at self.old place) }
-        requires sealed { (frame_at self.old.drive.frames place.frame).phase ≡ Sealed }
-        ensures again { 0 < pins_in place.frame pin.old.pins → IsOk result × (pin.new ≡ pin.old) }
-        ensures pinned { pins_in place.frame pin.old.pins ≡ 0 → OnOk result (pin.new ≡ record pin.old { pins = pin_of self.old.drive.frames place.frame ∷ pin.old.pins }) }
-        ensures counted { OnOk result (0 < pins_in place.frame pin.new.pins) }
-        ensures bytes { OnOk result ((p : Pinned) → IsAmong p pin.new.pins → p.number ≡ place.frame → IfSome (held_at self.old place) (λ block. block_bytes p.contents place.block ≡ block.bytes)) }
-        ensures others { (p : Pinned) → IsAmong p pin.old.pins → IsAmong p pin.new.pins }
-        ensures table { pin.new.table ≡ pin.old.table }
-        ensures refused { OnErr result (pin.new ≡ pin.old) }
-        ensures refusal { IfErr result (λ e. (e ≡ NoMemory) ⊎ (e ≡ Busy)) }
-        ensures same { self.new ≡ self.old }
-    {
-        let number = place.frame() as usize;
-        pin.add(self.seat.frame(number))?;
-        pin.confirm(&mut self.seat);
-        Ok(())
-    }
-
-    /// Shows that each frame that the pin counts on has the pin's generation and contents.
-    pub fn confirm(&mut self, pin: &mut Pin)
-        requires { pin.old.table ≡ self.old.drive.table }
-        ensures agree { AllAgree self.old.drive.frames pin.old.pins }
-        ensures same { (self.new ≡ self.old) × (pin.new ≡ pin.old) }
-    {
-        pin.confirm(&mut self.seat);
     }
 }

@@ -1,28 +1,27 @@
 //! The segment table: blocks behind pointers, the sealing of frames, and pins that count on them.
-ghost use Rattle.std.specs.Prelude.{◌≡◌, ◌≢◌, ℕ, ◌+◌, ◌^◌, ◌<◌, ◌≤◌, ◌⊎◌, [], ◌∷◌, ◌++◌, length, map, drop, slice_index_or, replicate, Some, None, IsSome, IfSome, IfNone, IfOk, IfErr, OnOk, OnErr, IsOk, MatchBool, option_map};
+ghost use Rattle.std.specs.Prelude.{◌≡◌, ◌≢◌, ℕ, ◌+◌, ◌^◌, ◌<◌, ◌≤◌, ◌⊎◌, [], ◌∷◌, ◌++◌, length, map, replicate, Some, None, IsSome, IfSome, IfOk, IfErr, OnOk, OnErr, IsOk, MatchBool};
 ghost use Rattle.s4_types.specs.Sizes.{IsFrameCount};
-ghost use Rattle.s4_types.specs.Pointer.{Place};
 ghost use Rattle.s4_types.specs.declared.refusals.Refusal.TheVariants.{NoMemory, Busy, NoSpace, InUse};
-ghost use Rattle.block_log.specs.Log.{Log, appended, dropped};
-ghost use Rattle.codec.specs.Summary.{SpellsSummary};
-ghost use Rattle.segment_word.specs.Frames.{Pinned, code_of, is_emptied};
+ghost use Rattle.block_log.specs.Log.{appended, dropped};
+ghost use Rattle.segment_word.specs.Frames.{Pinned, is_emptied};
 ghost use Rattle.segment_word.specs.Frames.Phase.{Open, Sealed, Emptied};
-ghost use Rattle.segment_word.specs.Layout.{word_of, frame_at, block_bytes};
+ghost use Rattle.segment_word.specs.Layout.{frame_at, block_bytes};
 ghost use Rattle.segment_word.specs.Counting.{pins_in};
-ghost use Rattle.segment_word.specs.FrameRule.{AllAgree, AllRemembered};
+ghost use Rattle.segment_word.specs.FrameRule.{AllAgree};
 ghost use Rattle.segment_word.specs.Handles.{fresh_frame, IsAmong, pin_of, HasMissed};
-ghost use Rattle.segment_table.specs.Table.{Table, slots_at, held_at, HoldsWholeBlocks, part_of};
+ghost use Rattle.segment_table.specs.Table.{Table, slots_at, held_at, HoldsWholeBlocks};
 ghost use Rattle.segment_table.specs.Used.{HoldsUsedBlocks};
 ghost use Rattle.segment_table.specs.Room.{is_filling, numbers, rest_of, places_ahead, log_of, new_places, pointers_in};
-ghost use Rattle.segment_table.specs.Laws.{ListsAllHeld};
-ghost use Rattle.segment_table.specs.Sealing.{IsFit, IsPartFilled, summary_of};
+ghost use Rattle.segment_table.specs.Sealing.{IsFit, IsPartFilled};
 ghost use Rattle.segment_table.specs.Changes.{IsFilling, NoneIsFilling, IsAppended, IsSealedIn, NoneHeld, IsMarked, IsReleased, IsAheadAgain};
 
+use crate::over_frames::OverFrames;
 use crate::parts::TableParts;
+use crate::saving;
 use crate::segments::Segments;
 use block_log::{Block, BlockKind, Blocks};
 use codec::Part;
-use s4_types::limits::FRAME_BLOCKS;
+use s4_types::limits::{FRAME_BLOCKS, PAYLOAD_BLOCKS};
 use s4_types::{ObjectId, Ptr, Refusal};
 use segment_word::{Frames, Memory, Pin};
 use std::alloc::Global;
@@ -89,71 +88,7 @@ impl SegmentTable {
         ensures sizes { (length self.now.drive.frames ≤ 1024) × (length self.now.slots ≡ length self.now.drive.frames) }
         ensures bounded { (log_of self.now).spent + length (log_of self.now).ahead < 2 ^ 46 }
     {
-        self.segments.rules();
-    }
-
-    /// How many frames there are.
-    pub fn frame_count(&self) -> u16
-        ensures { result ≡ length self.now.drive.frames }
-    {
-        self.segments.count()
-    }
-
-    /// The state word of a frame as it is saved: it counts no reader.
-    pub fn saved_word(&mut self, frame: u16) -> u64
-        requires { frame < length self.old.drive.frames }
-        ensures word { result ≡ word_of (frame_at self.old.drive.frames frame) 0 }
-        ensures same { self.new ≡ self.old }
-    {
-        self.segments.saved_word(frame)
-    }
-
-    /// The 16 blocks of a frame that isn't free, as they are saved. Those of the open frame are what sealing it now would leave:
-    /// its summary first, and zeros in its unused blocks.
-    pub fn save_blocks(&mut self, frame: u16, blocks: &mut [Block; FRAME_BLOCKS])
-        requires inside { frame < length self.old.drive.frames }
-        requires used { 0 < code_of (frame_at self.old.drive.frames frame).phase }
-        ensures spelled { SpellsSummary (drop 1 blocks.new) (slice_index_or blocks.new 0 []) (summary_of frame (frame_at self.old.drive.frames frame) (slots_at self.old.slots frame)) }
-        ensures kept { (b : ℕ) → 1 ≤ b → b ≤ length (slots_at self.old.slots frame) → slice_index_or blocks.new b [] ≡ block_bytes (frame_at self.old.drive.frames frame).contents b }
-        ensures whole { 2 ≤ code_of (frame_at self.old.drive.frames frame).phase → (b : ℕ) → b < 16 → slice_index_or blocks.new b [] ≡ block_bytes (frame_at self.old.drive.frames frame).contents b }
-        ensures same { self.new ≡ self.old }
-    {
-        self.segments.save_blocks(frame, blocks);
-    }
-
-    /// Whether a frame is being emptied; one that isn't there is not.
-    pub fn is_emptied(&mut self, frame: u16) -> bool
-        ensures emptied { result ≡ is_emptied (frame_at self.old.drive.frames frame).phase }
-        ensures same { self.new ≡ self.old }
-    {
-        self.segments.is_emptied(frame)
-    }
-
-    /// Shows that `held_in` lists each held block of an object in a sealed frame.
-    pub fn listings(&self)
-        ensures { ListsAllHeld self.now }
-    {
-        self.segments.rules();
-    }
-
-    /// The generation of a frame, and none where it isn't there.
-    pub fn generation(&mut self, frame: u16) -> Option<u32>
-        ensures inside { IfSome result (λ g. frame < length self.old.drive.frames) }
-        ensures generation { IfSome result (λ g. g ≡ (frame_at self.old.drive.frames frame).generation) }
-        ensures outside { IfNone result (length self.old.drive.frames ≤ frame) }
-        ensures same { self.new ≡ self.old }
-    {
-        self.segments.generation(frame)
-    }
-
-    /// Shows what is true of what a memory of this table has: each of the frames has come to the generation that it had, and
-    /// while it is at that one, it is sealed or being emptied with the contents that it had.
-    pub fn recall(&mut self, memory: &mut Memory)
-        requires { memory.old.table ≡ self.old.drive.table }
-        ensures remembered { AllRemembered self.old.drive.frames memory.old.remembered }
-        ensures same { (self.new ≡ self.old) × (memory.new ≡ memory.old) }
-    {
-        self.segments.recall(memory);
+        let _ = &self.segments.current;
     }
 
     /// Seals the open frame: zeros are stored in its unused blocks, and its summary in block 0. Without effect where none
@@ -168,6 +103,17 @@ impl SegmentTable {
     {
         if let Some(frame) = self.segments.open_frame() {
             self.segments.seal(frame);
+        }
+    }
+
+    // Whether a frame is the open one.
+    fn is_filling(&self, frame: u16) -> bool
+        requires { frame < length self.now.drive.frames }
+        ensures { MatchBool result ((frame_at self.now.drive.frames frame).phase ≡ Open) ((frame_at self.now.drive.frames frame).phase ≢ Open) }
+    {
+        match self.segments.current {
+            Some(open) => open == frame,
+            None => false,
         }
     }
 
@@ -206,20 +152,15 @@ impl SegmentTable {
         self.segments.release(frame)
     }
 
-    /// What the block is for that a pointer leads to. None where the pointer isn't held.
-    pub fn part(&mut self, place: Ptr) -> Option<Part>
-        ensures part { result ≡ option_map part_of (held_at self.old place) }
-        ensures same { self.new ≡ self.old }
-    {
-        self.segments.part(place)
-    }
-
     /// Whether a held block lies in the open frame; else its frame is sealed.
     pub fn is_open(&self, place: Ptr) -> bool
         requires { IsSome (held_at self.now place) }
         ensures { MatchBool result ((frame_at self.now.drive.frames place.frame).phase ≡ Open) ((frame_at self.now.drive.frames place.frame).phase ≡ Sealed) }
     {
-        self.segments.is_open(place)
+        match self.segments.current {
+            Some(frame) => frame == place.frame(),
+            None => false,
+        }
     }
 
     /// The pointers to the held blocks of an object in a frame, by ascending block, and none where the frame isn't sealed or
@@ -239,8 +180,8 @@ impl SegmentTable {
         self.segments.held_in(alloc, object, frame)
     }
 
-    /// A pin without frames. Busy where all 64 seats are in use, or the count of those that share the memory is full.
-    pub fn pin(&self) -> Result<Pin, Refusal>
+    /// A pin without frames, which `count_on` gives some. Busy where all 64 seats are in use, or the count of those that share the memory is full.
+    pub fn new_pin(&self) -> Result<Pin, Refusal>
         ensures pin { IfOk result (λ p. (p.table ≡ self.now.drive.table) × (p.pins ≡ [])) }
         ensures busy { IfErr result (λ e. e ≡ Busy) }
     {
@@ -266,7 +207,10 @@ impl SegmentTable {
         ensures refusal { IfErr result (λ e. (e ≡ NoMemory) ⊎ (e ≡ Busy)) }
         ensures same { self.new ≡ self.old }
     {
-        self.segments.count_on(pin, place)
+        let number = place.frame() as usize;
+        pin.add(self.segments.seat.frame(number))?;
+        pin.confirm(&mut self.segments.seat);
+        Ok(())
     }
 
     /// Shows that each frame that a pin of this table counts on has the pin's generation and contents.
@@ -275,7 +219,69 @@ impl SegmentTable {
         ensures agree { AllAgree self.old.drive.frames pin.old.pins }
         ensures same { (self.new ≡ self.old) × (pin.new ≡ pin.old) }
     {
-        self.segments.confirm(pin);
+        pin.confirm(&mut self.segments.seat);
+    }
+}
+
+impl OverFrames for SegmentTable {
+    ghost name = { λ t. t.drive.table };
+
+    ghost table = { λ t. t };
+
+    fn frame_count(&self) -> u16 {
+        self.segments.slots.len() as u16
+    }
+
+    fn is_emptied(&mut self, frame: u16) -> bool {
+        let number = frame as usize;
+        number < self.segments.slots.len() && self.segments.seat.is_emptied(number)
+    }
+
+    fn generation(&mut self, frame: u16) -> Option<u32> {
+        let number = frame as usize;
+        if number < self.segments.slots.len() {
+            return Some(self.segments.seat.generation(number));
+        }
+        None
+    }
+
+    fn saved_word(&mut self, frame: u16) -> u64 {
+        self.segments.seat.saved_state(frame as usize)
+    }
+
+    fn save_blocks(&mut self, frame: u16, blocks: &mut [Block; FRAME_BLOCKS]) {
+        let number = frame as usize;
+        if self.is_filling(frame) {
+            let slots = &self.segments.slots[number];
+            saving::save_sealed(&mut self.segments.seat, frame, slots, blocks);
+        } else {
+            saving::save_all(&mut self.segments.seat, number, blocks);
+        }
+    }
+
+    fn listings(&self) {
+        self.rules();
+    }
+
+    fn part(&mut self, place: Ptr) -> Option<Part> {
+        if !self.segments.is_current(place) {
+            return None;
+        }
+        self.segments.current_part(place)
+    }
+
+    fn block(&mut self, place: Ptr) -> Block {
+        self.segments.get(place)
+    }
+
+    fn pin(&mut self, place: Ptr) -> Result<Pin, Refusal> {
+        let mut pin = self.new_pin()?;
+        self.count_on(&mut pin, place)?;
+        Ok(pin)
+    }
+
+    fn recall(&mut self, memory: &mut Memory) {
+        self.segments.seat.recall(memory);
     }
 }
 
@@ -320,6 +326,10 @@ impl Blocks for SegmentTable {
         ensures count { result ≡ length (log_of self.now).ahead }
         ensures most { result ≤ 15360 }
     {
-        self.segments.blocks_left()
+        let whole = PAYLOAD_BLOCKS * self.segments.free.len();
+        match self.segments.current {
+            Some(frame) => whole + (PAYLOAD_BLOCKS - self.segments.slots[frame as usize].len()),
+            None => whole,
+        }
     }
 }

@@ -191,7 +191,7 @@ fn pin_at(table: &SegmentTable, pin: Option<Pin>) -> Result<Pin, Refusal>
 {
     match pin {
         Some(pin) => Ok(pin),
-        None => table.pin(),
+        None => table.new_pin(),
     }
 }
 

@@ -10,6 +10,7 @@ use drive::Drive;
 use image_parts::push_frame;
 use s4_types::Refusal;
 use s4_types::limits::{BLOCK_BYTES, FRAME_BLOCKS};
+use segment_table::OverFrames;
 use segment_word::Naming;
 
 /// States of a frame, in the two low bits of its word: 0 is free.

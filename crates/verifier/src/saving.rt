@@ -10,6 +10,7 @@ use drive::Drive;
 use image_objects::saving_laws::a_store_stands_in_its_image;
 use image_parts::{Header, image_length, push_digest, push_header};
 use s4_types::Refusal;
+use segment_table::OverFrames;
 use segment_word::Naming;
 use std::alloc::Global;
 

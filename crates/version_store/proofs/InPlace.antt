@@ -1,5 +1,5 @@
 -- What is changed in a segment table stays in its drive's table of frames.
-use Rattle.std.proofs.Common.{◌≡◌, ℕ, ◌≤◌, List, [], ◌∷◌, length, refl, ap, arith}
+use Rattle.std.proofs.Common.{◌≡◌, ℕ, ◌≤◌, List, [], ◌∷◌, length, refl, sym, ap, subst, arith}
 use Rattle.std.specs.Prelude.{Result, Ok, Err, IfOk, OnErr}
 use Rattle.s4_types.specs.Pointer.{Place}
 use Rattle.s4_types.specs.declared.refusals.Refusal.{Refusal}
@@ -8,6 +8,14 @@ use Rattle.segment_word.specs.Handles.{Drive}
 use Rattle.segment_table.specs.Table.{Table}
 use Rattle.segment_table.specs.Room.{is_filling, numbers}
 use Rattle.segment_table.specs.Changes.{IsFilling, NoneIsFilling, IsAppended, IsSealedIn}
+
+-- what is equal is equal in each part
+pub along : {A B : Type 0} {x y : A} (p : x ≡ y) (f : A → B) → f x ≡ f y
+along p f = ap f p
+
+-- what holds of the one holds of the other
+pub across : {A : Type 0} {x y : A} (p : x ≡ y) (P : A → Type 0) → P y → P x
+across p P h = subst P (sym p) h
 
 pub appended_here : (r : Result Place Refusal) (part : Part) (block : List ℕ) (old new : Table) → IfOk r (λ p. IsAppended p part block old new) → OnErr r (new ≡ old) → new.drive.table ≡ old.drive.table
 appended_here (Ok p) part block old new exact same = ap (λ (d : Drive). d.table) exact.alone

@@ -14,10 +14,8 @@ mod checkpoints;
 mod emptying;
 mod frames;
 mod opening;
-mod pins;
 mod relocations;
 mod replacements;
-mod saving;
 mod seals;
 
 use crate::laws::the_present_stays;

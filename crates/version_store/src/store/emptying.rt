@@ -1,7 +1,7 @@
 //! The emptying of frames below a store: a frame that holds nothing more is marked, and released once no reader counts on it.
-ghost use Rattle.std.specs.Prelude.{◌≡◌, ◌≢◌, ℕ, ◌+◌, ◌^◌, ◌<◌, ◌≤◌, IfErr, OnOk, OnErr, MatchResult, length};
+ghost use Rattle.std.specs.Prelude.{◌≡◌, ◌≢◌, ℕ, ◌+◌, ◌^◌, ◌<◌, ◌≤◌, IfErr, OnOk, OnErr, MatchResult};
 ghost use Rattle.s4_types.specs.declared.refusals.Refusal.TheVariants.{InUse};
-ghost use Rattle.segment_word.specs.Frames.{Emptied, is_emptied};
+ghost use Rattle.segment_word.specs.Frames.{Emptied};
 ghost use Rattle.segment_word.specs.Layout.{frame_at};
 ghost use Rattle.segment_word.specs.Handles.{HasMissed};
 ghost use Rattle.segment_table.specs.Changes.{IsMarked, IsReleased, IsAheadAgain};
@@ -16,21 +16,6 @@ use s4_types::Refusal;
 use segment_word::Naming;
 
 impl<J: Naming> Store<NamedTable<J>> {
-    /// How many frames there are.
-    pub fn frame_count(&self) -> u16
-        ensures { result ≡ length self.now.table.drive.frames }
-    {
-        self.table.frame_count()
-    }
-
-    /// Whether a frame is being emptied; one that isn't there is not.
-    pub fn is_emptied(&mut self, frame: u16) -> bool
-        ensures emptied { result ≡ is_emptied (frame_at self.old.table.drive.frames frame).phase }
-        ensures same { self.new ≡ self.old }
-    {
-        self.table.is_emptied(frame)
-    }
-
     /// A sealed frame of which no block is held is being emptied from now on. Its readers and its pins stay, and so does
     /// all that the store holds.
     ///
@@ -41,7 +26,7 @@ impl<J: Naming> Store<NamedTable<J>> {
         ensures refused { OnErr result (self.new ≡ self.old) }
         ensures same { fields_of log_of self.new ≡ fields_of log_of self.old }
     {
-        self.table.mark(frame)
+        self.table.table.mark(frame)
     }
 
     /// A frame that is being emptied and has no reader is free at its next generation: its 15 payload blocks are ahead again,
@@ -68,8 +53,8 @@ impl<J: Naming> Store<NamedTable<J>> {
         ensures versions { (o t : ℕ) → version_in (fields_of log_of self.new) o t ≡ version_in (fields_of log_of self.old) o t }
         ensures inodes { (o t : ℕ) → inode_in (fields_of log_of self.new) o t ≡ inode_in (fields_of log_of self.old) o t }
     {
-        let answer = self.table.release(frame);
-        self.table.rules();
+        let answer = self.table.table.release(frame);
+        self.table.table.rules();
         answer
     }
 }

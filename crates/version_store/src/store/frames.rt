@@ -17,11 +17,13 @@ ghost use Rattle.version_store.specs.Versions.{inode_in};
 
 use crate::named_table::NamedTable;
 use crate::store::Store;
-use codec::Inode;
+use block_log::Block;
+use codec::{Inode, Part};
 use inode::laws::held_pointers_lead;
+use s4_types::limits::FRAME_BLOCKS;
 use s4_types::{Moment, ObjectId, Ptr, Refusal};
-use segment_table::SegmentTable;
-use segment_word::Naming;
+use segment_table::{OverFrames, SegmentTable};
+use segment_word::{Memory, Naming, Pin};
 use time_read::ReadPlan;
 
 impl Store<SegmentTable> {
@@ -58,7 +60,7 @@ impl<J: Naming> Store<NamedTable<J>> {
         ensures used { HoldsUsedBlocks self.now.table }
         ensures count { IsFrameCount (length self.now.table.drive.frames) }
     {
-        self.table.rules();
+        self.table.table.rules();
     }
 
     /// The pointers to the held blocks of an object in a frame, by ascending block, and none where the frame isn't sealed or
@@ -70,7 +72,7 @@ impl<J: Naming> Store<NamedTable<J>> {
         ensures refusal { IfErr result (λ e. e ≡ NoMemory) }
         ensures same { self.new ≡ self.old }
     {
-        self.table.held_in(self.alloc, object, frame)
+        self.table.table.held_in(self.alloc, object, frame)
     }
 
     /// A plan of reading the bytes of an object at a moment from an offset on, `wanted` of them or as many as there are; the
@@ -99,7 +101,7 @@ impl<J: Naming> Store<NamedTable<J>> {
         ensures same { self.new ≡ self.old }
     {
         held_pointers_lead();
-        self.table.plan(self.alloc, inode, offset, wanted)
+        time_read::plan(self.alloc, &mut self.table.table, inode, offset, wanted)
     }
 
     /// A plan of reading the bytes of an object that has a row, as they are now: [`Store::plan`] of its present inode, which
@@ -120,7 +122,58 @@ impl<J: Naming> Store<NamedTable<J>> {
         let Some(kept) = self.objects.get(object) else {
             unreachable!()
         };
-        self.table
-            .plan(self.alloc, &kept.value.inode, offset, wanted)
+        time_read::plan(
+            self.alloc,
+            &mut self.table.table,
+            &kept.value.inode,
+            offset,
+            wanted,
+        )
+    }
+}
+
+impl<J: Naming> OverFrames for Store<NamedTable<J>> {
+    ghost name = { λ s. J.frames };
+
+    ghost table = { λ s. s.table };
+
+    fn frame_count(&self) -> u16 {
+        self.table.table.frame_count()
+    }
+
+    fn is_emptied(&mut self, frame: u16) -> bool {
+        self.table.table.is_emptied(frame)
+    }
+
+    fn generation(&mut self, frame: u16) -> Option<u32> {
+        self.table.table.generation(frame)
+    }
+
+    fn saved_word(&mut self, frame: u16) -> u64 {
+        self.table.table.saved_word(frame)
+    }
+
+    fn save_blocks(&mut self, frame: u16, blocks: &mut [Block; FRAME_BLOCKS]) {
+        self.table.table.save_blocks(frame, blocks);
+    }
+
+    fn listings(&self) {
+        self.table.table.listings();
+    }
+
+    fn part(&mut self, place: Ptr) -> Option<Part> {
+        self.table.table.part(place)
+    }
+
+    fn block(&mut self, place: Ptr) -> Block {
+        self.table.table.block(place)
+    }
+
+    fn pin(&mut self, place: Ptr) -> Result<Pin, Refusal> {
+        self.table.table.pin(place)
+    }
+
+    fn recall(&mut self, memory: &mut Memory) {
+        self.table.table.recall(memory);
     }
 }

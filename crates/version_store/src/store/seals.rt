@@ -26,7 +26,7 @@ impl<J: Naming> Store<NamedTable<J>> {
         ensures versions { (o t : ℕ) → version_in (fields_of log_of self.new) o t ≡ version_in (fields_of log_of self.old) o t }
         ensures inodes { (o t : ℕ) → inode_in (fields_of log_of self.new) o t ≡ inode_in (fields_of log_of self.old) o t }
     {
-        self.table.rules();
-        self.table.seal_open();
+        self.table.table.rules();
+        self.table.table.seal_open();
     }
 }

@@ -1,13 +1,19 @@
-use Rattle.std.proofs.Common.{sym, subst}
+use Rattle.std.proofs.Common.{◌≡◌, sym, subst, ◌∙◌}
 use Rattle.segment_table.specs.Table.{Table}
 use Rattle.segment_table.specs.Room.{log_of}
 use Rattle.version_store.specs.Store.{StoreOf, StoreFields, IsStore, fields_of}
+use Rattle.version_store.proofs.InPlace.{along, sealed_here}
 use Rattle.version_store.proofs.Sealing.{fewer_ahead, shrunk_store}
 use Rattle.version_store.proofs.store.seals.Store+NamedTable+J.seal.Goals as goal
 
+pub invariant_of-self-inside : goal.invariant_of-self-inside
+invariant_of-self-inside g c = sealed_here c.self-inside.inside.0.1.1.0.table c.seal_open.new.self c.rules.ensures.one_open c.seal_open.ensures.idle c.seal_open.ensures.sealed ∙ c.self-inside.invariant
+
 pub returns-clause-store : goal.returns-clause-store
 returns-clause-store g c =
-    let s : StoreFields = record { rows = c.self.inside.objects.rows; log = log_of c.self.inside.table; latest = c.self.inside.latest } in
-    let store : IsStore s = subst (λ (v : StoreOf Table). IsStore (fields_of log_of v)) (sym c.self.view_is) c.requires in
+    let old : StoreOf Table = record { rows = c.self-inside.inside.0.1.0.rows; table = c.self-inside.inside.0.1.1.0.table; latest = c.self-inside.inside.0.1.1.1.0 } in
+    let is : old ≡ c.args.self.now = along {B = StoreOf Table} c.self-inside.view_is (λ i. record { rows = i.objects.rows; table = i.table; latest = i.latest }) ∙ c.self.view_is in
+    let s : StoreFields = fields_of log_of old in
+    let store : IsStore s = subst (λ (v : StoreOf Table). IsStore (fields_of log_of v)) (sym is) c.requires in
     let later = c.seal_open.new.self in
-    shrunk_store s (log_of later) c.seal_open.ensures.held (fewer_ahead c.self.inside.table later c.rules.ensures.one_open c.seal_open.ensures.idle c.seal_open.ensures.ahead) c.seal_open.ensures.spent store
+    shrunk_store s (log_of later) c.seal_open.ensures.held (fewer_ahead old.table later c.rules.ensures.one_open c.seal_open.ensures.idle c.seal_open.ensures.ahead) c.seal_open.ensures.spent store

@@ -2,7 +2,7 @@ use Rattle.std.proofs.Common.{inl, inr, suc, sym, subst, ◌∙◌, arith}
 use Rattle.std.proofs.lemmas.Bool.{cases_lt}
 use Rattle.segment_word.specs.Counting.{pins_in}
 use Rattle.segment_word.specs.Handles.{Held, IsAmong}
-use Rattle.segment_table.proofs.segments.Segments.count_on.Goals as goal
+use Rattle.segment_table.proofs.table.SegmentTable.count_on.Goals as goal
 
 pub returns-clause-others : goal.returns-clause-others
 returns-clause-others c = λ p among.

@@ -1,0 +1,54 @@
+//! The frames of a drive.
+use crate::drive::Drive;
+use block_log::Block;
+use codec::Part;
+use s4_types::limits::FRAME_BLOCKS;
+use s4_types::{Ptr, Refusal};
+use segment_table::OverFrames;
+use segment_word::{Memory, Naming, Pin};
+
+impl<J: Naming> OverFrames for Drive<J> {
+    ghost name = { λ d. J.frames };
+
+    ghost table = { λ d. d.store.table };
+
+    fn frame_count(&self) -> u16 {
+        self.store.frame_count()
+    }
+
+    fn is_emptied(&mut self, frame: u16) -> bool {
+        self.store.is_emptied(frame)
+    }
+
+    fn generation(&mut self, frame: u16) -> Option<u32> {
+        self.store.generation(frame)
+    }
+
+    fn saved_word(&mut self, frame: u16) -> u64 {
+        self.store.saved_word(frame)
+    }
+
+    fn save_blocks(&mut self, frame: u16, blocks: &mut [Block; FRAME_BLOCKS]) {
+        self.store.save_blocks(frame, blocks);
+    }
+
+    fn listings(&self) {
+        self.store.listings();
+    }
+
+    fn part(&mut self, place: Ptr) -> Option<Part> {
+        self.store.part(place)
+    }
+
+    fn block(&mut self, place: Ptr) -> Block {
+        self.store.block(place)
+    }
+
+    fn pin(&mut self, place: Ptr) -> Result<Pin, Refusal> {
+        self.store.pin(place)
+    }
+
+    fn recall(&mut self, memory: &mut Memory) {
+        self.store.recall(memory);
+    }
+}

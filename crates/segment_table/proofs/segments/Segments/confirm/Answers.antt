@@ -1,9 +1,0 @@
-use Rattle.std.proofs.Common.{subst}
-use Rattle.segment_word.specs.FrameRule.{AllAgree}
-use Rattle.segment_table.specs.Table.{Table}
-use Rattle.segment_table.proofs.segments.Segments.confirm.Goals as goal
-
-pub returns-clause-agree : goal.returns-clause-agree
-returns-clause-agree c =
-    let A : Table → Type 0 = λ t. AllAgree t.drive.frames c.args.pin.now.pins in
-    subst A c.self.view_is c.confirm.ensures.agree

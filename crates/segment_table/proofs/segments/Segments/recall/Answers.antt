@@ -1,9 +1,0 @@
-use Rattle.std.proofs.Common.{subst}
-use Rattle.segment_word.specs.FrameRule.{AllRemembered}
-use Rattle.segment_table.specs.Table.{Table}
-use Rattle.segment_table.proofs.segments.Segments.recall.Goals as goal
-
-pub returns-clause-remembered : goal.returns-clause-remembered
-returns-clause-remembered c =
-    let A : Table → Type 0 = λ t. AllRemembered t.drive.frames c.args.memory.now.remembered in
-    subst A c.self.view_is c.recall.ensures.remembered

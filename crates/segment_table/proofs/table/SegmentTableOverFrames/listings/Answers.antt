@@ -1,0 +1,5 @@
+use Rattle.segment_table.proofs.Listing.{lists_fit}
+use Rattle.segment_table.proofs.table.SegmentTableOverFrames.listings.Goals as goal
+
+pub returns : goal.returns
+returns c = lists_fit c.args.self.now c.rules.ensures.sizes.1 c.rules.ensures.fit
