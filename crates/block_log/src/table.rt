@@ -1,6 +1,7 @@
-ghost use Rattle.std.specs.Prelude.{◌≡◌, ◌≢◌, ℕ, ◌≤◌, length, Option, Some, None, IsSome, IfSome, IfOk, IfErr};
+ghost use Rattle.std.specs.Prelude.{◌≡◌, ◌≢◌, ℕ, ◌+◌, ◌-◌, ◌≤◌, ◌++◌, length, take, drop, Option, Some, None, IsSome, IfSome, IfOk, OnOk, IfErr};
 ghost use Rattle.s4_types.specs.Pointer.{IsPlace};
-ghost use Rattle.s4_types.specs.declared.refusals.Refusal.TheVariants.{NoSpace};
+ghost use Rattle.s4_types.specs.declared.limits.TheConstants.{BLOCK_BYTES};
+ghost use Rattle.s4_types.specs.declared.refusals.Refusal.TheVariants.{NoMemory, NoSpace};
 ghost use Rattle.block_log.specs.Log.{Log, Stored, appended, dropped};
 
 use crate::kinds::BlockKind;
@@ -28,6 +29,24 @@ pub trait Blocks {
     fn get(&mut self, place: Ptr) -> Block
         requires { IsSome ((log self.old).held place) }
         ensures bytes { IfSome ((log self.old).held place) (λ block. result ≡ block.bytes) }
+        ensures same { log self.new ≡ log self.old };
+
+    /// Adds the bytes `from..to` of the 512 of the block that a held pointer leads to.
+    ///
+    /// NoMemory alone, where `into` has no room and more is refused; it may have some of the bytes then. Where it has room,
+    /// nothing is asked for.
+    fn get_bytes(
+        &mut self,
+        place: Ptr,
+        from: usize,
+        to: usize,
+        into: &mut Vec<u8>,
+    ) -> Result<(), Refusal>
+        requires held { IsSome ((log self.old).held place) }
+        requires range { (from ≤ to) × (to ≤ BLOCK_BYTES) }
+        ensures bytes { OnOk result (IfSome ((log self.old).held place) (λ block. into.new.items ≡ into.old.items ++ take (to - from) (drop from block.bytes))) }
+        ensures added { OnOk result (length into.new.items ≡ length into.old.items + (to - from)) }
+        ensures refusal { IfErr result (λ e. e ≡ NoMemory) }
         ensures same { log self.new ≡ log self.old };
 
     /// The pointer is held no longer. Where it wasn't, nothing changes.

@@ -1,15 +1,48 @@
-ghost use Rattle.std.specs.Prelude.{◌≡◌, ◌+◌, ◌-◌, ◌<◌, ◌≤◌, ◌++◌, length, take, drop, IfOk, IfErr};
-ghost use Rattle.s4_types.specs.declared.limits.TheConstants.{OBJECT_BLOCKS, OBJECT_BYTES};
+ghost use Rattle.std.specs.Prelude.{◌≡◌, ◌+◌, ◌-◌, ◌<◌, ◌≤◌, ◌++◌, length, take, drop, Some, IsSome, IfOk, OnOk, IfErr};
+ghost use Rattle.s4_types.specs.Pointer.{Place};
+ghost use Rattle.s4_types.specs.declared.limits.TheConstants.{BLOCK_BYTES, OBJECT_BLOCKS, OBJECT_BYTES};
 ghost use Rattle.s4_types.specs.declared.refusals.Refusal.TheVariants.{NoMemory};
-ghost use Rattle.inode.specs.Contents.{contents_of, byte_of, bytes_of, listed};
+ghost use Rattle.codec.specs.Checkpoint.{pointer_at};
+ghost use Rattle.inode.specs.Contents.{contents_of, byte_in, byte_of, bytes_of, listed};
 ghost use Rattle.inode.specs.Tidiness.{PointersLead, Tidy};
 
-use crate::loads::load;
 use block_log::Blocks;
 use codec::Inode;
-use s4_types::Refusal;
 use s4_types::limits::BLOCK_BYTES;
+use s4_types::{Ptr, Refusal};
 use std::alloc::Global;
+
+/// Adds bytes of the block behind a slot, from one place of it on and up to another; zeros for a hole.
+fn append_slot<B: Blocks>(
+    table: &mut B,
+    slot: Option<Ptr>,
+    from: usize,
+    to: usize,
+    bytes: &mut Vec<u8>,
+) -> Result<(), Refusal>
+    requires held { (p : Place) → slot ≡ Some p → IsSome ((B.log table.old).held p) }
+    requires range { (from ≤ to) × (to ≤ BLOCK_BYTES) }
+    ensures bytes { OnOk result (bytes.new.items ≡ bytes.old.items ++ listed (byte_in (contents_of (B.log table.old).held) slot) from (to - from)) }
+    ensures err { IfErr result (λ refusal. refusal ≡ NoMemory) }
+    ensures same { B.log table.new ≡ B.log table.old }
+{
+    let Some(place) = slot else {
+        bytes.resize(bytes.len() + (to - from), 0)?;
+        return Ok(());
+    };
+    table.get_bytes(place, from, to, bytes)?;
+    Ok(())
+}
+
+/// The slot of a block's index.
+#[tactic(auto, using(crate::proofs::ReadBytes::slot_is))]
+fn slot_of(inode: &Inode, index: usize) -> Option<Ptr>
+    requires index { index < OBJECT_BLOCKS }
+    requires count { length inode.now.pointers ≡ OBJECT_BLOCKS }
+    ensures { result ≡ pointer_at inode.now index }
+{
+    inode.pointers[index]
+}
 
 /// Adds the bytes of an object from a place on, up to an end or to that of their block, and answers where they end.
 fn read_piece<B: Blocks>(
@@ -31,9 +64,14 @@ fn read_piece<B: Blocks>(
 {
     let index = at / BLOCK_BYTES;
     let start = index * BLOCK_BYTES;
-    let block = load(table, inode, index);
     let next = end.min(start + BLOCK_BYTES);
-    bytes.extend_from_slice(&block[at - start..next - start])?;
+    append_slot(
+        table,
+        slot_of(inode, index),
+        at - start,
+        next - start,
+        bytes,
+    )?;
     Ok(next)
 }
 

@@ -1,7 +1,8 @@
 //! The frames of a drive and what their blocks are for, one step at a time.
-ghost use Rattle.std.specs.Prelude.{◌≡◌, ◌≢◌, ℕ, ◌+◌, ◌-◌, ◌^◌, ◌<◌, ◌≤◌, ◌==◌, true, false, ◌++◌, length, map, Option, Some, None, IsSome, IfSome, IfNone, IfOk, IfErr, OnOk, OnErr, IsOk, MatchBool, option_map, vec_len, vec_capacity};
+ghost use Rattle.std.specs.Prelude.{◌≡◌, ◌≢◌, ℕ, ◌+◌, ◌-◌, ◌^◌, ◌<◌, ◌≤◌, ◌==◌, true, false, ◌++◌, length, map, take, drop, Option, Some, None, IsSome, IfSome, IfNone, IfOk, IfErr, OnOk, OnErr, IsOk, MatchBool, option_map, vec_len, vec_capacity};
 ghost use Rattle.std.specs.Option.{option_to_list};
 ghost use Rattle.s4_types.specs.declared.refusals.Refusal.TheVariants.{NoMemory, InUse};
+ghost use Rattle.s4_types.specs.declared.limits.TheConstants.{BLOCK_BYTES};
 ghost use Rattle.block_log.specs.Log.{appended, dropped};
 ghost use Rattle.segment_word.specs.Frames.{is_sealed};
 ghost use Rattle.segment_word.specs.Frames.Phase.{Sealed, Emptied};
@@ -189,6 +190,25 @@ impl Segments {
     {
         self.seat
             .load(place.frame() as usize, place.block() as usize)
+    }
+
+    /// Adds the bytes `from..to` of the block that a held pointer leads to.
+    pub fn get_bytes(
+        &mut self,
+        place: Ptr,
+        from: usize,
+        to: usize,
+        into: &mut Vec<u8>,
+    ) -> Result<(), Refusal>
+        requires held { IsSome (held_at self.old place) }
+        requires range { (from ≤ to) × (to ≤ BLOCK_BYTES) }
+        ensures bytes { OnOk result (IfSome (held_at self.old place) (λ block. into.new.items ≡ into.old.items ++ take (to - from) (drop from block.bytes))) }
+        ensures added { OnOk result (length into.new.items ≡ length into.old.items + (to - from)) }
+        ensures refusal { IfErr result (λ e. e ≡ NoMemory) }
+        ensures same { self.new ≡ self.old }
+    {
+        let (frame, block) = (place.frame() as usize, place.block() as usize);
+        self.seat.append_bytes(frame, block, from, to, into)
     }
 
     /// Whether the frame that a pointer names is at the pointer's generation.

@@ -1,6 +1,7 @@
 //! The segment table: blocks behind pointers, the sealing of frames, and pins that count on them.
-ghost use Rattle.std.specs.Prelude.{◌≡◌, ◌≢◌, ℕ, ◌+◌, ◌^◌, ◌<◌, ◌≤◌, ◌⊎◌, [], ◌∷◌, ◌++◌, length, map, replicate, Some, None, IsSome, IfSome, IfOk, IfErr, OnOk, OnErr, IsOk, MatchBool};
+ghost use Rattle.std.specs.Prelude.{◌≡◌, ◌≢◌, ℕ, ◌+◌, ◌-◌, ◌^◌, ◌<◌, ◌≤◌, ◌⊎◌, [], ◌∷◌, ◌++◌, length, map, take, drop, replicate, Some, None, IsSome, IfSome, IfOk, IfErr, OnOk, OnErr, IsOk, MatchBool};
 ghost use Rattle.s4_types.specs.Sizes.{IsFrameCount};
+ghost use Rattle.s4_types.specs.declared.limits.TheConstants.{BLOCK_BYTES};
 ghost use Rattle.s4_types.specs.declared.refusals.Refusal.TheVariants.{NoMemory, Busy, NoSpace, InUse};
 ghost use Rattle.block_log.specs.Log.{appended, dropped};
 ghost use Rattle.segment_word.specs.Frames.{Pinned, is_emptied};
@@ -311,6 +312,24 @@ impl Blocks for SegmentTable {
         ensures unchanged { self.new ≡ self.old }
     {
         self.segments.get(place)
+    }
+
+    fn get_bytes(
+        &mut self,
+        place: Ptr,
+        from: usize,
+        to: usize,
+        into: &mut Vec<u8>,
+    ) -> Result<(), Refusal>
+        requires held { IsSome ((log_of self.old).held place) }
+        requires range { (from ≤ to) × (to ≤ BLOCK_BYTES) }
+        ensures bytes { OnOk result (IfSome ((log_of self.old).held place) (λ block. into.new.items ≡ into.old.items ++ take (to - from) (drop from block.bytes))) }
+        ensures added { OnOk result (length into.new.items ≡ length into.old.items + (to - from)) }
+        ensures refusal { IfErr result (λ e. e ≡ NoMemory) }
+        ensures same { log_of self.new ≡ log_of self.old }
+        ensures unchanged { self.new ≡ self.old }
+    {
+        self.segments.get_bytes(place, from, to, into)
     }
 
     fn drop_block(&mut self, place: Ptr)

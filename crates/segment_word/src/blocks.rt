@@ -9,7 +9,7 @@ ghost use Rattle.segment_word.specs.Frames.Phase.{Open};
 ghost use Rattle.segment_word.specs.Layout.{frame_at, block_bytes, block_words, with_block};
 ghost use Rattle.segment_word.specs.Counting.{pins_in};
 ghost use Rattle.segment_word.specs.Steps.{with_frame, IsSameSeat};
-ghost use Rattle.segment_word.specs.private.Pins.{GrowsByPinned};
+ghost use Rattle.segment_word.specs.private.Pins.{GrowsByBlock, GrowsByPinned};
 
 use crate::layout::{BLOCK_WORDS, FRAME_WORDS, WORD_BYTES};
 use crate::steps::{Place, Words, look, read, store};
@@ -92,6 +92,18 @@ const RUN_WORDS: usize = 8;
 /// Bytes of so many words.
 const RUN_BYTES: usize = 64;
 
+/// Adds the bytes of eight words.
+fn append_words(words: &[u64; RUN_WORDS], into: &mut Vec<u8>) -> Result<(), Refusal>
+    ensures bytes { OnOk result (into.new.items ≡ into.old.items ++ flat_map (big_bytes 8) words.now) }
+    ensures added { OnOk result (length into.new.items ≡ length into.old.items + 64) }
+    ensures refusal { IfErr result (λ e. e ≡ NoMemory) }
+{
+    let mut bytes = [0; RUN_BYTES];
+    BigEndian::write_u64_into(words, &mut bytes);
+    into.extend_from_slice(&bytes)?;
+    Ok(())
+}
+
 /// Adds the bytes of eight words of a block from that of an index on, of a frame that the seat of a pin counts on.
 fn append_run(
     words: &Words,
@@ -115,9 +127,7 @@ fn append_run(
     for i in 0..RUN_WORDS {
         found[i] = read(words, seat, first + i);
     }
-    let mut bytes = [0; RUN_BYTES];
-    BigEndian::write_u64_into(&found, &mut bytes);
-    into.extend_from_slice(&bytes)?;
+    append_words(&found, into)?;
     Ok(())
 }
 
@@ -178,6 +188,100 @@ pub fn append_bytes(
     let mut at = from;
     while at < to {
         at = append_next(words, seat, frame, block, at, to, into)?;
+    }
+    Ok(())
+}
+
+/// Adds the bytes of eight words of a block from that of an index on, as the drive's seat finds them.
+fn load_run(
+    words: &Words,
+    seat: &mut Place,
+    frame: usize,
+    block: usize,
+    index: usize,
+    into: &mut Vec<u8>,
+) -> Result<(), Refusal>
+    requires table { seat.old.table_id ≡ words.now.table_id }
+    requires drive { seat.old.id ≡ 0 }
+    requires inside { (frame < length seat.old.me.0.frames) × (block < 16) }
+    requires sized { (words.now.table_id.words ≡ 1025 * length seat.old.me.0.frames) × (length seat.old.me.0.frames ≤ 1024) }
+    requires index { index ≤ 56 }
+    ensures seat { IsSameSeat seat.old seat.new }
+    ensures view { seat.new.me.0 ≡ seat.old.me.0 }
+    ensures bytes { OnOk result (GrowsByBlock (frame_at seat.old.me.0.frames frame).contents block (8 * index) (8 * index + 64) into.old.items into.new.items) }
+    ensures added { OnOk result (length into.new.items ≡ length into.old.items + 64) }
+    ensures refusal { IfErr result (λ e. e ≡ NoMemory) }
+{
+    let first = FRAME_WORDS * frame + 1 + BLOCK_WORDS * block + index;
+    let mut found = [0; RUN_WORDS];
+    for i in 0..RUN_WORDS {
+        found[i] = look(words, seat, first + i);
+    }
+    append_words(&found, into)?;
+    Ok(())
+}
+
+/// Adds the bytes of a block from one place on, as the drive's seat finds them: eight words where so many are whole, and else
+/// those up to an end or to that of their word. Answers where they end.
+fn load_next(
+    words: &Words,
+    seat: &mut Place,
+    frame: usize,
+    block: usize,
+    at: usize,
+    to: usize,
+    into: &mut Vec<u8>,
+) -> Result<usize, Refusal>
+    requires table { seat.old.table_id ≡ words.now.table_id }
+    requires drive { seat.old.id ≡ 0 }
+    requires inside { (frame < length seat.old.me.0.frames) × (block < 16) }
+    requires sized { (words.now.table_id.words ≡ 1025 * length seat.old.me.0.frames) × (length seat.old.me.0.frames ≤ 1024) }
+    requires range { (at < to) × (to ≤ 512) }
+    ensures seat { IsSameSeat seat.old seat.new }
+    ensures view { seat.new.me.0 ≡ seat.old.me.0 }
+    ensures later { IfOk result (λ next. at < next) }
+    ensures within { IfOk result (λ next. next ≤ to) }
+    ensures bytes { IfOk result (λ next. GrowsByBlock (frame_at seat.old.me.0.frames frame).contents block at next into.old.items into.new.items) }
+    ensures added { IfOk result (λ next. length into.new.items ≡ length into.old.items + (next - at)) }
+    ensures refusal { IfErr result (λ e. e ≡ NoMemory) }
+{
+    let index = at / WORD_BYTES;
+    let start = at % WORD_BYTES;
+    if start == 0 && to - at >= RUN_BYTES {
+        load_run(words, seat, frame, block, index, into)?;
+        return Ok(at + RUN_BYTES);
+    }
+    let first = FRAME_WORDS * frame + 1 + BLOCK_WORDS * block;
+    let word = look(words, seat, first + index);
+    let end = WORD_BYTES.min(start + (to - at));
+    append_word(word, start, end, into)?;
+    Ok(at + (end - start))
+}
+
+/// Adds the bytes of a block from one place on and up to another, as the drive's seat finds them.
+pub fn load_bytes(
+    words: &Words,
+    seat: &mut Place,
+    frame: usize,
+    block: usize,
+    from: usize,
+    to: usize,
+    into: &mut Vec<u8>,
+) -> Result<(), Refusal>
+    requires table { seat.old.table_id ≡ words.now.table_id }
+    requires drive { seat.old.id ≡ 0 }
+    requires inside { (frame < length seat.old.me.0.frames) × (block < 16) }
+    requires sized { (words.now.table_id.words ≡ 1025 * length seat.old.me.0.frames) × (length seat.old.me.0.frames ≤ 1024) }
+    requires range { (from ≤ to) × (to ≤ 512) }
+    ensures seat { IsSameSeat seat.old seat.new }
+    ensures view { seat.new.me.0 ≡ seat.old.me.0 }
+    ensures bytes { OnOk result (GrowsByBlock (frame_at seat.old.me.0.frames frame).contents block from to into.old.items into.new.items) }
+    ensures added { OnOk result (length into.new.items ≡ length into.old.items + (to - from)) }
+    ensures refusal { IfErr result (λ e. e ≡ NoMemory) }
+{
+    let mut next = from;
+    while next < to {
+        next = load_next(words, seat, frame, block, next, to, into)?;
     }
     Ok(())
 }

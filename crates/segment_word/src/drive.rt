@@ -1,6 +1,6 @@
 //! The drive's seat.
-ghost use Rattle.std.specs.Prelude.{◌≡◌, ◌≢◌, ℕ, ◌+◌, ◌*◌, ◌^◌, ◌<◌, ◌≤◌, length, OnOk, OnErr, IfErr};
-ghost use Rattle.s4_types.specs.declared.refusals.Refusal.TheVariants.{InUse};
+ghost use Rattle.std.specs.Prelude.{◌≡◌, ◌≢◌, ℕ, ◌+◌, ◌-◌, ◌*◌, ◌^◌, ◌<◌, ◌≤◌, ◌++◌, length, take, drop, OnOk, OnErr, IfErr};
+ghost use Rattle.s4_types.specs.declared.refusals.Refusal.TheVariants.{InUse, NoMemory};
 ghost use Rattle.segment_word.specs.Frames.{Frame, code_of, is_sealed, is_emptied};
 ghost use Rattle.segment_word.specs.Frames.Phase.{Free, Open, Sealed, Emptied};
 ghost use Rattle.segment_word.specs.Layout.{word_of, frame_at, block_bytes, with_block};
@@ -8,7 +8,7 @@ ghost use Rattle.segment_word.specs.FrameRule.{AllRemembered};
 ghost use Rattle.segment_word.specs.Steps.{raised, IsStateOf};
 ghost use Rattle.segment_word.specs.Handles.{with_changed, with_released, HasMissed};
 
-use crate::blocks::{load_block, store_block};
+use crate::blocks::{load_block, load_bytes, store_block};
 use crate::board::Board;
 use crate::layout::{EMPTIED, FRAME_WORDS, GENERATION_SHIFT, ONE_READER, SEALED};
 use crate::lending::recall;
@@ -119,6 +119,36 @@ impl DriveSeat {
         ensures same { self.new ≡ self.old }
     {
         load_block(&self.board.table.shared, &mut self.seat, frame, block)
+    }
+
+    /// Adds the bytes `from..to` of the 512 of block `block`, from 0 to 15, of any frame, as [`crate::Pin::append_bytes`] does.
+    ///
+    /// NoMemory alone, where `into` has no room and more is refused; it may have some of the bytes then. Where it has room,
+    /// nothing is asked for.
+    pub fn append_bytes(
+        &mut self,
+        frame: usize,
+        block: usize,
+        from: usize,
+        to: usize,
+        into: &mut Vec<u8>,
+    ) -> Result<(), Refusal>
+        requires inside { (frame < length self.old.frames) × (block < 16) }
+        requires range { (from ≤ to) × (to ≤ 512) }
+        ensures bytes { OnOk result (into.new.items ≡ into.old.items ++ take (to - from) (drop from (block_bytes (frame_at self.old.frames frame).contents block))) }
+        ensures added { OnOk result (length into.new.items ≡ length into.old.items + (to - from)) }
+        ensures refusal { IfErr result (λ e. e ≡ NoMemory) }
+        ensures same { self.new ≡ self.old }
+    {
+        load_bytes(
+            &self.board.table.shared,
+            &mut self.seat,
+            frame,
+            block,
+            from,
+            to,
+            into,
+        )
     }
 
     /// The state word of a frame.

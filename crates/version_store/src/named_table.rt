@@ -52,6 +52,16 @@ impl<J: Naming> Blocks for NamedTable<J> {
         self.table.get(place)
     }
 
+    fn get_bytes(
+        &mut self,
+        place: Ptr,
+        from: usize,
+        to: usize,
+        into: &mut Vec<u8>,
+    ) -> Result<(), Refusal> {
+        self.table.get_bytes(place, from, to, into)
+    }
+
     fn drop_block(&mut self, place: Ptr) {
         self.table.drop_block(place);
     }

@@ -1,4 +1,4 @@
--- What holds of a pin between calls, and what reading by it adds. No public clause cites this file.
+-- What holds of a pin between calls, and what reading adds. No public clause cites this file.
 use Rattle.std.specs.Prelude.{◌≡◌, ℕ, ◌-◌, ◌<◌, List, ◌++◌, take, drop}
 use mathlib.Core.Option.{some}
 use lib.ListN.{get_elem?}
@@ -15,8 +15,11 @@ abbrev pub IsSoundPin : TableId → Seat (Unit {0}) View → List ℕ → ℕ �
 IsSoundPin table seat numbers perch perches =
     (seat.table_id ≡ table) × IsPinSeat seat × (numbers ≡ numbers_of seat.me.0.pins) × AllInside seat.table_id seat.me.0.pins × (perch < perches)
 
--- Bytes grew by those of a block of a frame, from one place on and up to another, as each of the pins that counts on the
--- frame tells them.
+-- Bytes grew by those of a block of these contents, from one place on and up to another.
+abbrev pub GrowsByBlock : List ℕ → ℕ → ℕ → ℕ → List ℕ → List ℕ → Type 0
+GrowsByBlock contents block from to old new = new ≡ old ++ take (to - from) (drop from (block_bytes contents block))
+
+-- They did so as each of the pins that counts on the frame tells them.
 abbrev pub GrowsByPinned : List Pinned → ℕ → ℕ → ℕ → ℕ → List ℕ → List ℕ → Type 0
 GrowsByPinned pins frame block from to old new = (i : ℕ) (p : Pinned) → get_elem? pins i ≡ some p → p.number ≡ frame
-    → new ≡ old ++ take (to - from) (drop from (block_bytes p.contents block))
+    → GrowsByBlock p.contents block from to old new

@@ -1,4 +1,4 @@
-use Rattle.std.proofs.Common.{◌∙◌, ◌≡◌, ◌++◌, List, ℕ, ap, arith}
+use Rattle.std.proofs.Common.{◌≡◌, arith}
 use Rattle.segment_word.proofs.BlockParts.{run_added}
 use Rattle.segment_word.proofs.blocks.append_run.Goals as goal
 
@@ -7,4 +7,4 @@ returns-clause-bytes c j p e is =
     let v = c.loop-i.invariant in
     let all : c.loop-i.i ≡ 8 = omega arith in
     run_added p.contents c.args.into.now.items _ c.loop-i.found c.args.block c.args.index (v.whole j p e is (omega arith)) c.requires.inside.2 c.requires.index v.full (λ k h. v.done j p e is k (omega arith))
-    (c.in_ok-extend_from_slice.ensures.items ∙ ap (λ (l : List ℕ). c.args.into.now.items ++ l) c.write_u64_into.ensures)
+    c.in_ok-append_words.ensures.bytes
