@@ -6,6 +6,7 @@ ghost use Rattle.s4_types.specs.declared.requests.Request.TheVariants.{Read, Get
 ghost use Rattle.s4_types.specs.declared.refusals.Refusal.TheVariants.{NoMemory};
 ghost use Rattle.s4_model.specs.Refusals.{first_refusal, asked};
 ghost use Rattle.s4_model.specs.Step.{reply_to_read};
+ghost use Rattle.s4_model.specs.Visible.{IsVisible};
 ghost use Rattle.admission.specs.Later.{later_refusal, IsWithin};
 ghost use Rattle.version_store.specs.Versions.{inode_in};
 ghost use Rattle.drive.specs.Fields.{state_in, store_of};
@@ -21,7 +22,7 @@ use s4_types::{Bytes, Moment, ObjectId, Refusal, Reply, Request, Role};
 use segment_word::Naming;
 use std::alloc::Global;
 use time_read::ReadPlan;
-use version_store::laws::the_present_stays;
+use version_store::laws::{an_object_has_an_inode_at_all_moments_or_at_none, the_present_stays};
 
 /// The attributes that a live inode tells of its object.
 fn attributes_of(alloc: Global, inode: &Inode) -> Result<Reply, Refusal>
@@ -46,24 +47,38 @@ impl<J: Naming> Drive<J> {
         at.unwrap_or(self.window.clock())
     }
 
-    /// The inode of an object at a moment, where that can be read and the object is there. For a moment before the drive's last
-    /// change, of whatever object, this object's later changes are undone, as [`Drive::inode_at`] says.
-    fn live_inode(&mut self, object: ObjectId, at: Moment) -> Result<Inode, Refusal>
+    /// The present inode of an object that has a row, where a moment of it can be read.
+    fn known(&self, object: ObjectId, at: Moment) -> Result<&Inode, Refusal>
+        ensures visible { OnOk result (IsVisible (state_in self.now) object at) }
+        ensures present { IfOk result (λ inode. inode_in (store_of self.now) object (store_of self.now).latest ≡ Some inode.now) }
+        ensures refused { IfErr result (λ e. telling_refusal (state_in self.now) object at ≡ Some e) }
+    {
+        an_object_has_an_inode_at_all_moments_or_at_none();
+        self.window.visible(object, at)?;
+        let Some(inode) = self.store.present(object) else {
+            return Err(Refusal::NoObject);
+        };
+        Ok(inode)
+    }
+
+    /// Makes of an object's present inode the one at a moment that can be read, in its place, where the object is there then. For
+    /// a moment before the drive's last change, of whatever object, this object's later changes are undone, as [`Drive::inode_at`]
+    /// says.
+    fn lead_back(&mut self, object: ObjectId, at: Moment, inode: &mut Inode) -> Result<(), Refusal>
+        requires visible { IsVisible (state_in self.old) object at }
+        requires present { inode_in (store_of self.old) object (store_of self.old).latest ≡ Some inode.old }
         ensures ledger { self.new.ledger ≡ self.old.ledger }
         ensures store { store_of self.new ≡ store_of self.old }
         ensures free { OnOk result (telling_refusal (state_in self.old) object at ≡ None) }
-        ensures inode { IfOk result (λ inode. inode_in (store_of self.old) object at ≡ Some inode) }
-        ensures version { IfOk result (MeansVersion self.old object at) }
+        ensures inode { OnOk result (inode_in (store_of self.old) object at ≡ Some inode.new) }
+        ensures version { OnOk result (MeansVersion self.old object at inode.new) }
         ensures refused { IfErr result (λ e. telling_refusal (state_in self.old) object at ≡ Some e) }
     {
-        self.window.visible(object, at)?;
-        let Some(inode) = self.store.inode_at(object, at) else {
-            return Err(Refusal::NoObject);
-        };
+        self.store.lead_back(object, at, inode);
         if !inode.alive {
             return Err(Refusal::NoObject);
         }
-        Ok(inode)
+        Ok(())
     }
 
     /// The present inode of an object, where a moment from the drive's last change on can be read and the object is there.
@@ -106,7 +121,8 @@ impl<J: Naming> Drive<J> {
             self.live_present(object, moment)?;
             return self.store.plan_present(object, offset, u64::from(length));
         }
-        let inode = self.live_inode(object, moment)?;
+        let mut inode = *self.known(object, moment)?;
+        self.lead_back(object, moment, &mut inode)?;
         self.store
             .plan(object, moment, &inode, offset, u64::from(length))
     }
@@ -132,7 +148,8 @@ impl<J: Naming> Drive<J> {
             self.live_present(object, moment)?;
             return self.store.read_present(object, offset, u64::from(length));
         }
-        let inode = self.live_inode(object, moment)?;
+        let mut inode = *self.known(object, moment)?;
+        self.lead_back(object, moment, &mut inode)?;
         self.store
             .read(object, moment, &inode, offset, u64::from(length))
     }
@@ -169,7 +186,8 @@ impl<J: Naming> Drive<J> {
         if self.store.latest() <= moment {
             return attributes_of(self.alloc, self.live_present(object, moment)?);
         }
-        let inode = self.live_inode(object, moment)?;
+        let mut inode = *self.known(object, moment)?;
+        self.lead_back(object, moment, &mut inode)?;
         attributes_of(self.alloc, &inode)
     }
 

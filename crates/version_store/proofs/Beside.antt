@@ -192,3 +192,17 @@ undone_at end last s o t row present result undoings store there is told undo =
     ∙ last s.log.held o s.latest row object.by.entries ∙ sym (end first stands.last entries stands.run) in
     ap (λ (i : Inode). Some i) (undo first entries (sym same) stands.groups (subst (λ (i : Inode). Run first entries i) (sym at_end) stands.run))
     ∙ sym (ap (inode_by s.log.held o t) there)
+
+-- the present inode is the one behind all entries
+pub present_last : LastIsCurrent → (s : StoreFields) (o : ℕ) (row : Row) (present : Inode) → IsStore s → row_of s.rows o ≡ Some row → inode_in s o s.latest ≡ Some present → present ≡ last_inode s.log.held o row
+present_last last s o row present store there is =
+    same_Some present (inode_of s.log.held o row s.latest) (sym is ∙ ap (inode_by s.log.held o s.latest) there)
+    ∙ last s.log.held o s.latest row (store.objects o row there).by.entries
+
+-- an object without an inode at one moment has none at any
+none_by : (held : Place → Option Stored) (o t u : ℕ) (row : Option Row) → inode_by held o t row ≡ None → inode_by held o u row ≡ None
+none_by held o t u None none = refl
+none_by held o t u (Some row) none = cc
+
+pub none_at : (s : StoreFields) (o t u : ℕ) → inode_in s o t ≡ None → inode_in s o u ≡ None
+none_at s o t u none = none_by s.log.held o t u (row_of s.rows o) none

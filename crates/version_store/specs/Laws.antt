@@ -30,6 +30,10 @@ abbrev pub VersionsStay : Type 0
 VersionsStay = (s later : StoreFields) (o t : ℕ) → IsStore s → row_of later.rows o ≡ row_of s.rows o → Stays o s.log.held later.log.held
     → (inode_in later o t ≡ inode_in s o t) × (version_in later o t ≡ version_in s o t)
 
+-- an object that has no inode at one moment has none at any
+abbrev pub AnInodeAtAllMomentsOrNone : Type 0
+AnInodeAtAllMomentsOrNone = (s : StoreFields) (o t u : ℕ) → inode_in s o t ≡ None → inode_in s o u ≡ None
+
 -- from the last change on nothing changes
 abbrev pub ThePresentStays : Type 0
 ThePresentStays = (s : StoreFields) (o t : ℕ) → IsStore s → s.latest ≤ t → (inode_in s o t ≡ inode_in s o s.latest) × (version_in s o t ≡ version_in s o s.latest)

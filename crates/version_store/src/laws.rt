@@ -1,6 +1,6 @@
 //! Laws of stores, for the layers above: each function does nothing, and its contract is the law.
 
-ghost use Rattle.version_store.specs.Laws.{ObjectsStay, InodesStay, VersionsStay, ThePresentStays, ChangesBeginWithThePresent, ChangesBeginWithThePresentVersion, TheAliveAreThere, HeldIsWhatRowsName, EachHeldBlockIsNamed, InodesPointToWhatRowsName};
+ghost use Rattle.version_store.specs.Laws.{ObjectsStay, InodesStay, VersionsStay, ThePresentStays, AnInodeAtAllMomentsOrNone, ChangesBeginWithThePresent, ChangesBeginWithThePresentVersion, TheAliveAreThere, HeldIsWhatRowsName, EachHeldBlockIsNamed, InodesPointToWhatRowsName};
 ghost use Rattle.version_store.specs.Replacing.{AJournalCanBeCut, ACutJournalShowsTheSame};
 ghost use Rattle.version_store.specs.Stamps.{EachStepTells};
 ghost use Rattle.version_store.specs.private.Below.{ChangesStand};
@@ -36,6 +36,12 @@ pub fn the_present_stays()
 {
     the_last_inode_stays();
 }
+
+/// An object that has no inode at one moment has none at any.
+#[tactic(auto, using(crate::proofs::Beside::none_at))]
+pub fn an_object_has_an_inode_at_all_moments_or_at_none()
+    ensures { AnInodeAtAllMomentsOrNone }
+{}
 
 /// A change of an object begins with its present inode, and with the blank one where the object has no row.
 pub fn changes_begin_with_the_present()

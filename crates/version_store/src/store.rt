@@ -18,7 +18,7 @@ mod relocations;
 mod replacements;
 mod seals;
 
-use crate::laws::the_present_stays;
+use crate::laws::{an_object_has_an_inode_at_all_moments_or_at_none, the_present_stays};
 use crate::presents::Present;
 use block_log::Blocks;
 use codec::{Entry, Inode};
@@ -114,34 +114,41 @@ impl<B: Blocks> Store<B> {
         Some(&kept.value.inode)
     }
 
-    /// The inode of an object at a moment, and none where it has no row. Takes no memory. For a moment before the store's last
-    /// change, of whatever object, the object's later changes are undone, the newest first: by the index, or where memory for
-    /// that was refused by a walk of the journal. No block is read but by such a walk.
+    /// The inode of an object at a moment, and none where it has no row: the present one, led back.
     pub fn inode_at(&mut self, object: ObjectId, at: Moment) -> Option<Inode>
         requires { IsStore (fields_of B.log self.old) }
         ensures inode { result ≡ inode_in (fields_of B.log self.old) object at }
         ensures same { fields_of B.log self.new ≡ fields_of B.log self.old }
     {
+        an_object_has_an_inode_at_all_moments_or_at_none();
+        let mut inode = *self.present(object)?;
+        self.lead_back(object, at, &mut inode);
+        Some(inode)
+    }
+
+    /// Makes of an object's present inode the one at a moment, in its place. Takes no memory. For a moment before the store's last
+    /// change, of whatever object, the object's later changes are undone, the newest first: by the index, or where memory for
+    /// that was refused by a walk of the journal. No block is read but by such a walk.
+    pub fn lead_back(&mut self, object: ObjectId, at: Moment, inode: &mut Inode)
+        requires store { IsStore (fields_of B.log self.old) }
+        requires present { inode_in (fields_of B.log self.old) object self.old.latest ≡ Some inode.old }
+        ensures inode { inode_in (fields_of B.log self.old) object at ≡ Some inode.new }
+        ensures same { fields_of B.log self.new ≡ fields_of B.log self.old }
+    {
         the_last_inode_is_current();
         the_present_stays();
         a_run_has_one_end_and_one_beginning();
-        let kept = self.objects.get(object)?;
-        let present = &kept.value;
         if self.latest <= at {
-            return Some(present.inode);
+            return;
         }
-        let Some(index) = &present.index else {
-            return Some(time_read::inode_at(
-                &mut self.table,
-                object,
-                &kept.row,
-                &present.inode,
-                at,
-            ));
+        let Some(kept) = self.objects.get(object) else {
+            unreachable!()
         };
-        let mut inode = present.inode;
-        index.undo_past(at, &mut inode);
-        Some(inode)
+        let Some(index) = &kept.value.index else {
+            *inode = time_read::inode_at(&mut self.table, object, &kept.row, inode, at);
+            return;
+        };
+        index.undo_past(at, inode);
     }
 
     /// The journal entries of an object, the oldest first, and none where it has no row.

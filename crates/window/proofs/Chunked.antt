@@ -275,3 +275,19 @@ ordered_holder list (d ∷ cs) c ordered h = elim (cases_Bool (nat_lt d.up_to li
   | inl before ↦ ordered_holder list cs c (ordered_back d.runs.items (flat cs) ordered) (held_behind list d cs (Some c) before h)
   | inr here ↦ subst (λ (x : Chunk). Ascend x.runs.items) (held_here list d c cs here h) (ordered_front d.runs.items (flat cs) ordered)
 ]
+
+-- what holds of all runs holds of those of a chunk
+pub all_in_holder : (P : Span → Type 0) (list : ℕ) (cs : List Chunk) (c : Chunk) → AllByRecursion P (flat cs) → holder list cs ≡ Some c → AllByRecursion P c.runs.items
+all_in_holder P list [] c all h = cc
+all_in_holder P list (d ∷ cs) c all h = elim (cases_Bool (nat_lt d.up_to list)) [
+  | inl before ↦ all_in_holder P list cs c (all_back P d.runs.items (flat cs) all) (held_behind list d cs (Some c) before h)
+  | inr here ↦ subst (λ (x : Chunk). AllByRecursion P x.runs.items) (held_here list d c cs here h) (all_front P d.runs.items (flat cs) all)
+]
+
+-- and the runs of a chunk end from the moment on that it tells
+pub dated_holder : (list : ℕ) (cs : List Chunk) (c : Chunk) → AllDated cs → holder list cs ≡ Some c → AllEndFrom c.earliest c.runs.items
+dated_holder list [] c dated h = cc
+dated_holder list (d ∷ cs) c dated h = elim (cases_Bool (nat_lt d.up_to list)) [
+  | inl before ↦ dated_holder list cs c dated.1 (held_behind list d cs (Some c) before h)
+  | inr here ↦ subst (λ (x : Chunk). AllEndFrom x.earliest x.runs.items) (held_here list d c cs here h) dated.0
+]

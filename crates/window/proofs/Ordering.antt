@@ -1,7 +1,9 @@
 -- Runs in order, and what a span put in or runs left out leave of the order.
-use Rattle.std.proofs.Common.{◌≡◌, ◌⊎◌, inl, inr, ℕ, Bool, true, false, ◌==◌, ◌&&◌, ◌||◌, ◌+◌, ◌-◌, ◌<◌, ◌≤◌, nat_lt, List, [], ◌∷◌, filter, ◌∙◌, arith}
+use Rattle.std.proofs.Common.{◌≡◌, ◌⊎◌, inl, inr, ℕ, zero, suc, Bool, true, false, ◌==◌, ◌&&◌, ◌||◌, ◌+◌, ◌-◌, ◌<◌, ◌≤◌, nat_lt, min, List, [], ◌∷◌, ◌++◌, length, take, drop, get_or, filter, refl, sym, ap, subst, ◌∙◌, length-drop, arith}
 use Rattle.std.specs.List.{AllByRecursion}
+use Rattle.std.specs.List.Sorted.{IsPartitionPoint, IsPartitionedBy}
 use Rattle.std.proofs.lemmas.Bool.{and_parts, and_from, and_cases, or_cases, or_parts, or_left, or_right, ltb-true, ltb-false, lt-ltb, eqb-true, eq-eqb, cond_both, cond-true, cond-false, both_ways}
+use Rattle.std.proofs.lemmas.List.{take_all, drop_more}
 use Rattle.s4_types.specs.declared.spans.Span.{Span}
 use Rattle.window.specs.Runs.{is_before, IsBeforeAll, Ascend, joined_span, with_span}
 
@@ -126,3 +128,88 @@ with_span_before span run runs b c = cond-false (is_before run span) _ _ b ∙ c
 
 pub with_span_joined : (span run : Span) (runs : List Span) → is_before run span ≡ false → is_before span run ≡ false → with_span span (run ∷ runs) ≡ with_span (joined_span span run) runs
 with_span_joined span run runs b c = cond-false (is_before run span) _ _ b ∙ cond-false (is_before span run) _ _ c
+
+-- ---- where a span goes
+
+later_before : (span run : Span) (runs : List Span) → IsBeforeAll run runs → run.first ≤ run.last → Ascend runs → (k : ℕ) (d : Span) → k < length runs → is_before (get_or runs k d) span ≡ true → is_before run span ≡ true
+later_before span run [] all o h k d lt b = absurd (omega arith)
+later_before span run (next ∷ runs) all o h zero d lt b = before_trans run next span h.0 all.0 b
+later_before span run (next ∷ runs) all o h (suc k) d lt b = later_before span run runs all.1 o h.2 k d (omega arith) b
+
+-- the runs before a span stand in front of all others
+pub before_in_front : (span : Span) (runs : List Span) → Ascend runs → IsPartitionedBy (λ run. is_before run span) runs
+before_in_front span [] h i j d le lt b = absurd (omega arith)
+before_in_front span (run ∷ runs) h zero zero d le lt b = b
+before_in_front span (run ∷ runs) h zero (suc j) d le lt b = later_before span run runs h.1 h.0 h.2 j d (omega arith) b
+before_in_front span (run ∷ runs) h (suc i) zero d le lt b = absurd (omega arith)
+before_in_front span (run ∷ runs) h (suc i) (suc j) d le lt b = before_in_front span runs h.2 i j d (omega arith) (omega arith) b
+
+-- so a span goes past these
+pub span_behind : (span : Span) (runs : List Span) (i : ℕ) → IsPartitionPoint (λ run. is_before run span ≡ true) (λ run. is_before run span ≡ false) runs i → take i runs ++ with_span span (drop i runs) ≡ with_span span runs
+span_behind span [] zero point = refl
+span_behind span [] (suc i) point = refl
+span_behind span (run ∷ runs) zero point = refl
+span_behind span (run ∷ runs) (suc i) point =
+    ap (λ xs. run ∷ xs) (span_behind span runs i (λ k d low high. point.0 (suc k) d (omega arith) (omega arith), λ k d low high. point.1 (suc k) d (omega arith) (omega arith)))
+    ∙ sym (with_span_past span run runs (point.0 0 run (omega arith) (omega arith)))
+
+-- no run stands before a span
+abbrev pub NoneBefore : Span → List Span → Type 0
+NoneBefore span runs = AllByRecursion (λ run. is_before run span ≡ false) runs
+
+-- and none of those behind does
+pub none_before : (span : Span) (runs : List Span) (i : ℕ) → IsPartitionPoint (λ run. is_before run span ≡ true) (λ run. is_before run span ≡ false) runs i → NoneBefore span (drop i runs)
+none_before span [] zero point = tt
+none_before span [] (suc i) point = tt
+none_before span (run ∷ runs) zero point =
+    (point.1 0 run (omega arith) (omega arith), none_before span runs zero (λ k d low high. absurd (omega arith), λ k d low high. point.1 (suc k) d (omega arith) (omega arith)))
+none_before span (run ∷ runs) (suc i) point =
+    none_before span runs i (λ k d low high. point.0 (suc k) d (omega arith) (omega arith), λ k d low high. point.1 (suc k) d (omega arith) (omega arith))
+
+Before-joined : (next span run : Span) → Before next (joined_span span run) → Before next span
+Before-joined next span run (inl a) = inl a
+Before-joined next span run (inr a) = let gap : next.last + 1 < min span.first run.first = a.1 in inr (a.0, omega arith)
+
+not_before_joined : (next span run : Span) (b : Bool) → is_before next (joined_span span run) ≡ b → is_before next span ≡ false → b ≡ false
+not_before_joined next span run true is none = absurd (both_ways (is_before next span) none (before_from next span (Before-joined next span run (before_parts next (joined_span span run) is))))
+not_before_joined next span run false is none = refl
+
+-- nor does one stand before what the span and a run make
+pub none_before_joined : (span run : Span) (runs : List Span) → NoneBefore span runs → NoneBefore (joined_span span run) runs
+none_before_joined span run [] none = tt
+none_before_joined span run (next ∷ runs) none = (not_before_joined next span run (is_before next (joined_span span run)) refl none.0, none_before_joined span run runs none.1)
+
+-- so what is put before a span are the runs before it
+pub span_placed : (span : Span) (runs front back all : List Span) (i : ℕ) → IsPartitionPoint (λ run. is_before run span ≡ true) (λ run. is_before run span ≡ false) runs i → front ≡ take i runs → back ≡ drop i runs → all ≡ front
+    → (all ++ with_span span back ≡ with_span span runs) × NoneBefore span back
+span_placed span runs front back all i point in_front behind is = (
+  ap (λ xs. xs ++ with_span span back) (is ∙ in_front) ∙ ap (λ xs. take i runs ++ with_span span xs) behind ∙ span_behind span runs i point,
+  subst (NoneBefore span) (sym behind) (none_before span runs i point),
+)
+
+at_next : (behind : List Span) (i : ℕ) (run : Span) → i < length behind → run ≡ get_or behind i run → drop i behind ≡ run ∷ drop (i + 1) behind
+at_next behind i run lt is = drop_more behind i run lt ∙ ap (λ (x : Span). x ∷ drop (i + 1) behind) (sym is)
+
+-- a span before the next run stands before all that are left
+pub span_stops : (added span run : Span) (runs all behind : List Span) (i : ℕ) → i < length behind → run ≡ get_or behind i run → is_before span run ≡ true → all ++ with_span span (drop i behind) ≡ with_span added runs → NoneBefore span (drop i behind)
+    → all ++ span ∷ take (length behind - i) (drop i behind) ≡ with_span added runs
+span_stops added span run runs all behind i lt is before made none =
+    let next : drop i behind ≡ run ∷ drop (i + 1) behind = at_next behind i run lt is in
+    let later : NoneBefore span (run ∷ drop (i + 1) behind) = subst (NoneBefore span) next none in
+    ap (λ xs. all ++ span ∷ xs) (take_all (length behind - i) (drop i behind) (omega (arith, length-drop i behind)))
+    ∙ ap (λ xs. all ++ span ∷ xs) next
+    ∙ sym (ap (λ xs. all ++ xs) (ap (with_span span) next ∙ with_span_before span run (drop (i + 1) behind) later.0 before))
+    ∙ made
+
+-- and else it takes the run in
+pub span_takes : (added span run joined : Span) (runs all behind : List Span) (i : ℕ) → i < length behind → run ≡ get_or behind i run → is_before span run ≡ false → joined ≡ joined_span span run
+    → all ++ with_span span (drop i behind) ≡ with_span added runs → NoneBefore span (drop i behind)
+    → (all ++ with_span joined (drop (i + 1) behind) ≡ with_span added runs) × NoneBefore joined (drop (i + 1) behind)
+span_takes added span run joined runs all behind i lt is apart one made none =
+    let next : drop i behind ≡ run ∷ drop (i + 1) behind = at_next behind i run lt is in
+    let later : NoneBefore span (run ∷ drop (i + 1) behind) = subst (NoneBefore span) next none in
+    let P : Span → Type 0 = λ x. (all ++ with_span x (drop (i + 1) behind) ≡ with_span added runs) × NoneBefore x (drop (i + 1) behind) in
+    subst P (sym one) (
+      sym (ap (λ xs. all ++ xs) (ap (with_span span) next ∙ with_span_joined span run (drop (i + 1) behind) later.0 apart)) ∙ made,
+      none_before_joined span run (drop (i + 1) behind) later.1,
+    )

@@ -1,10 +1,11 @@
 -- How many runs each list has, with one more span and without what lies below the floor.
-use Rattle.std.proofs.Common.{◌≡◌, ◌≢◌, inl, inr, ℕ, Bool, true, false, ◌==◌, ◌&&◌, ◌+◌, ◌≤◌, nat_le, List, [], ◌∷◌, count_by, filter, refl, sym, ap, ◌∙◌, arith}
+use Rattle.std.proofs.Common.{◌≡◌, ◌≢◌, inl, inr, ℕ, Bool, true, false, ◌==◌, ◌&&◌, ◌+◌, ◌≤◌, nat_le, min, List, [], ◌∷◌, count_by, filter, refl, sym, ap, subst, ◌∙◌, arith}
 use Rattle.std.proofs.lemmas.Bool.{cond_both, cases_Bool, cases_eq, le-leb, ne_eqb}
 use Rattle.s4_types.specs.declared.spans.Span.{Span}
 use Rattle.s4_types.specs.declared.limits.TheConstants.{RUNS_IN_A_LIST}
-use Rattle.window.specs.Runs.{is_before, joined_span, with_span, AllEndFrom, AreFewInEachList, is_live, is_live_in, span_is_of}
-use Rattle.window.proofs.Ordering.{touch_from, with_span_past, with_span_before, with_span_joined}
+use Rattle.window.specs.Runs.{Ascend, is_before, joined_span, with_span, AllEndFrom, AreFewInEachList, is_live, is_live_in, span_is_of}
+use Rattle.window.proofs.Ordering.{touch_from, with_span_past, with_span_before, with_span_joined, all_with_span, all_filter, Ascend-with_span, Ascend-filter}
+use Rattle.window.proofs.Live.{live_from, from_later}
 use Rattle.window.proofs.Counting.{count_cons, tally}
 
 -- some of the runs are no more than all
@@ -78,3 +79,20 @@ few_with_span floor span runs all is live own few list = elim (cases_eq list spa
       let d : count_by (span_is_of list) runs ≤ RUNS_IN_A_LIST = few list in
       omega arith)
 ]
+
+-- ---- runs that reach the floor with a span
+
+-- all do where the span does
+pub live_with : (floor : ℕ) (span : Span) (runs all : List Span) → all ≡ with_span span runs → AllEndFrom floor runs → floor ≤ span.last → AllEndFrom floor all
+live_with floor span runs all is live le = subst (AllEndFrom floor) (sym is) (all_with_span (λ run. floor ≤ run.last) span runs (λ x y p q. omega arith) le live)
+
+pub live_ordered : (floor : ℕ) (span : Span) (runs all : List Span) → all ≡ filter (is_live floor) (with_span span runs) → span.first ≤ span.last → Ascend runs → Ascend all
+live_ordered floor span runs all is ordered h = subst Ascend (sym is) (Ascend-filter (is_live floor) (with_span span runs) (Ascend-with_span span runs ordered h))
+
+pub live_counted : (floor : ℕ) (span : Span) (runs all : List Span) → all ≡ filter (is_live floor) (with_span span runs) → count_by (span_is_of span.object) all ≡ count_by (is_live_in floor span.object) all
+live_counted floor span runs all is = sym (count_where_live floor span.object all (subst (AllEndFrom floor) (sym is) (live_from floor (with_span span runs))))
+
+pub live_dated : (floor from end : ℕ) (span : Span) (runs all : List Span) → all ≡ filter (is_live floor) (with_span span runs) → end ≡ min from span.last → AllEndFrom from runs → AllEndFrom end all
+live_dated floor from end span runs all is least dated =
+    let later : AllEndFrom end (with_span span runs) = all_with_span (λ run. end ≤ run.last) span runs (λ x y p q. omega arith) (omega arith) (from_later end from runs (omega arith) dated) in
+    subst (AllEndFrom end) (sym is) (all_filter (λ run. end ≤ run.last) (is_live floor) (with_span span runs) later)

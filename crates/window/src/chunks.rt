@@ -179,7 +179,7 @@ pub fn cut_runs(alloc: Global, chunks: &[Chunk], floor: Moment) -> Result<Vec<Sp
 
 /// A chunk of runs.
 #[tactic(auto, using(crate::proofs::Live::from_earliest))]
-pub fn new_chunk(up_to: ObjectId, runs: Vec<Span>) -> Chunk
+fn new_chunk(up_to: ObjectId, runs: Vec<Span>) -> Chunk
     ensures { (result.up_to ≡ up_to) × (result.runs ≡ runs) × AllEndFrom result.earliest runs.items }
 {
     let earliest = runs::earliest(runs.as_slice());

@@ -1,7 +1,8 @@
 //! Runs of hidden moments in order, of all lists in one slice.
-ghost use Rattle.std.specs.Prelude.{◌≡◌, ℕ, ◌==◌, ◌≤◌, ◌||◌, nat_le, nat_lt, count_by, false, ◌∷◌, ◌++◌, filter, map, IfOk, IfErr, MatchBool, MatchOption};
+ghost use Rattle.std.specs.Prelude.{◌≡◌, ℕ, ◌==◌, ◌≤◌, ◌||◌, nat_le, nat_lt, count_by, true, false, ◌∷◌, ◌++◌, filter, map, length, IfOk, IfErr, MatchBool, MatchOption};
+ghost use Rattle.std.specs.List.Sorted.{IsPartitionPoint};
 ghost use Rattle.s4_model.specs.Visible.{is_within};
-ghost use Rattle.window.specs.Runs.{is_before, Ascend, cut, joined_span, with_span, is_live, is_live_in, earliest, span_is_of, cover, BeginInOrder, IsLeft};
+ghost use Rattle.window.specs.Runs.{is_before, Ascend, AllEndFrom, cut, joined_span, with_span, is_live, earliest, span_is_of, cover, BeginInOrder, IsLeft};
 ghost use Rattle.s4_types.specs.declared.refusals.Refusal.TheVariants.{NoMemory};
 
 use s4_types::{Moment, ObjectId, Refusal, Span};
@@ -39,32 +40,33 @@ fn ended(mut all: Vec<Span>, span: Span, behind: &[Span]) -> Result<Vec<Span>, R
     Ok(all)
 }
 
-/// Runs with one more span, joined with those that it overlaps or touches. Linear in the runs.
+/// How many runs stand before a span. Logarithmic in the runs.
+fn count_before(runs: &[Span], span: &Span) -> usize
+    requires { Ascend runs.now }
+    ensures bound { result ≤ length runs.now }
+    ensures point { IsPartitionPoint (λ run. is_before run span.now ≡ true) (λ run. is_before run span.now ≡ false) runs.now result }
+{
+    runs.partition_point(|run| is_before(run, span))
+}
+
+/// Runs with one more span, joined with those that it overlaps or touches. The others are copied at once, and memory is taken
+/// once.
 pub fn with_span(alloc: Global, runs: &[Span], added: &Span) -> Result<Vec<Span>, Refusal>
+    requires { Ascend runs.now }
     ensures ok { IfOk result (λ all. all.items ≡ with_span added.now runs.now) }
     ensures err { IfErr result (λ refusal. refusal ≡ NoMemory) }
 {
+    let (before, behind) = runs.split_at(count_before(runs, added));
     let mut all = Vec::with_capacity(alloc, runs.len() + 1)?;
+    all.extend_from_slice(before)?;
     let mut span = *added;
-    for (i, run) in runs.iter().enumerate() {
-        if is_before(run, &span) {
-            all.push(*run)?;
-        } else if is_before(&span, run) {
-            return ended(all, span, &runs[i..]);
-        } else {
-            span = joined(&span, run);
+    for (i, run) in behind.iter().enumerate() {
+        if is_before(&span, run) {
+            return ended(all, span, &behind[i..]);
         }
+        span = joined(&span, run);
     }
     ended(all, span, &[])
-}
-
-/// How many runs of a list reach the floor.
-pub fn live_in(floor: Moment, list: ObjectId, runs: &[Span]) -> usize
-    ensures { result ≡ count_by (is_live_in floor list) runs.now }
-{
-    runs.iter()
-        .filter(|run| run.object == list && floor <= run.last)
-        .count()
 }
 
 /// Leaves out the runs that end below the floor.
@@ -73,6 +75,16 @@ pub fn sift(runs: &mut Vec<Span>, floor: Moment)
 {
     let lowest = floor.number();
     runs.retain(|run| lowest <= run.last.number());
+}
+
+/// Leaves out the runs that end below the floor: there is none where a span that was added to them reaches it.
+pub fn sift_with(runs: &mut Vec<Span>, added: &Span, floor: Moment)
+    requires { floor ≤ added.now.last → AllEndFrom floor runs.old.items }
+    ensures { runs.new.items ≡ filter (is_live floor) runs.old.items }
+{
+    if added.last.number() < floor.number() {
+        sift(runs, floor);
+    }
 }
 
 /// What is left of a run that reaches a floor without its moments below it.
@@ -140,6 +152,14 @@ pub fn of_list(runs: &[Span], list: ObjectId) -> &[Span]
     ensures { result.now ≡ filter (span_is_of list) runs.now }
 {
     up_to_list(from_list(runs, list), list)
+}
+
+/// How many runs there are of one list. Logarithmic in the runs.
+pub fn count_of_list(runs: &[Span], list: ObjectId) -> usize
+    requires { Ascend runs.now }
+    ensures { result ≡ count_by (span_is_of list) runs.now }
+{
+    of_list(runs, list).len()
 }
 
 /// Whether one of these runs, of whatever list, has the moment in it.

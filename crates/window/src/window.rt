@@ -270,13 +270,19 @@ impl Window {
         ensures err { IfErr result (λ refusal. refusal ≡ NoMemory) }
     {
         let mut runs = runs::with_span(self.alloc, chunk.runs.as_slice(), &span)?;
-        runs::sift(&mut runs, self.floor);
+        runs::sift_with(&mut runs, &span, self.floor);
         let others = self.count.saturating_sub(chunk.runs.len());
         let count = others.saturating_add(runs.len());
-        let own = runs::live_in(self.floor, span.object, runs.as_slice());
+        let own = runs::count_of_list(runs.as_slice(), span.object);
+        let earliest = chunk.earliest.min(span.last);
+        let fresh = Chunk {
+            up_to: chunk.up_to,
+            earliest,
+            runs,
+        };
         Ok(FlushPlan {
             span,
-            fresh: Fresh::One(chunks::new_chunk(chunk.up_to, runs)),
+            fresh: Fresh::One(fresh),
             count,
             own,
         })
@@ -289,7 +295,7 @@ impl Window {
     {
         let all = chunks::all_runs(self.alloc, self.chunks.as_slice())?;
         let mut runs = runs::with_span(self.alloc, all.as_slice(), span)?;
-        runs::sift(&mut runs, self.floor);
+        runs::sift_with(&mut runs, span, self.floor);
         Ok(runs)
     }
 
@@ -301,8 +307,8 @@ impl Window {
         ensures err { IfErr result (λ refusal. refusal ≡ NoMemory) }
     {
         let runs = self.live_with(&span)?;
-        let own = runs::live_in(self.floor, span.object, runs.as_slice());
         let fresh = Fresh::All(chunks::divide(self.alloc, runs.as_slice())?);
+        let own = runs::count_of_list(runs.as_slice(), span.object);
         Ok(FlushPlan {
             span,
             fresh,

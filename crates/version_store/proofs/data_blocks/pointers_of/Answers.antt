@@ -1,4 +1,4 @@
-use Rattle.std.proofs.Common.{◌≡◌, ◌++◌, List, Option, ap, ◌∙◌}
+use Rattle.std.proofs.Common.{◌++◌, List, Option, ap, ◌∙◌}
 use Rattle.s4_types.specs.Pointer.{Place}
 use Rattle.block_log.specs.Log.{Log}
 use Rattle.codec.specs.Entry.{EntryFields}
