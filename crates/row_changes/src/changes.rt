@@ -10,14 +10,14 @@ ghost use Rattle.row_changes.specs.Recent.{IsBy};
 
 use crate::laws::later_entries_join_a_row;
 use block_log::Blocks;
-use codec::Inode;
+use codec::{Entry, Inode};
 use journal_chain::Chain;
 use object_map::Row;
 use s4_types::{Moment, ObjectId, Refusal};
-use undo_redo::entries_between;
+use undo_redo::laws::the_entries_between_two_inodes;
 
-/// Appends to an object's journal what leads from its present inode to the next one, at a moment, and answers its row
-/// after that. The row of an object that is made at the moment is then in order, and one that was in order before the
+/// Appends to an object's journal the entries that lead from its present inode to the next one, at a moment, and answers its
+/// row after that. The row of an object that is made at the moment is then in order, and one that was in order before the
 /// change of a live object stays so.
 ///
 /// ChainFull exactly where the journal's entries would have more than 11,712 bytes, else NoSpace exactly where fewer
@@ -29,11 +29,13 @@ pub fn record_change<B: Blocks>(
     before: &Inode,
     after: &Inode,
     moment: Moment,
+    entries: &[Entry],
 ) -> Result<Row, Refusal>
     requires row { IsRow (B.log table.old).held object row.now }
     requires earlier { IsBy (B.log table.old).held object row.now (moment - 1) }
     requires before { before.now ≡ inode_of (B.log table.old).held object row.now (moment - 1) }
     requires lead { CanLead before.now after.now moment }
+    requires told { entries.now ≡ entries_between before.now after.now moment }
     ensures row { IfOk result (λ later. IsRow (B.log table.new).held object later) }
     ensures latest { IfOk result (λ later. IsBy (B.log table.new).held object later moment) }
     ensures inode { IfOk result (λ later. (t : ℕ) → inode_of (B.log table.new).held object later t ≡ (if nat_le moment t then after.now else inode_of (B.log table.old).held object row.now t)) }
@@ -49,9 +51,9 @@ pub fn record_change<B: Blocks>(
     ensures unchanged { OnErr result (B.log table.new ≡ B.log table.old) }
 {
     later_entries_join_a_row();
-    let entries = entries_between(before, after, moment);
+    the_entries_between_two_inodes();
     let mut chain = Chain::of(object, row.head, row.journal_bytes, row.head_bytes);
-    chain.push(table, entries.as_slice())?;
+    chain.push(table, entries)?;
     Ok(Row {
         head: chain.head(),
         journal_bytes: chain.bytes() as u16,

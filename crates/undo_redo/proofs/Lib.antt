@@ -6,4 +6,5 @@ pub mod LinkLaws
 pub mod RunLaws
 pub mod GroupLaws
 pub mod BetweenLaws
+pub mod Few
 pub mod ComposeLaws

@@ -1,4 +1,4 @@
-ghost use Rattle.std.specs.Prelude.{◌≡◌, ◌≤◌, ◌+◌, ◌*◌, ◌++◌, true, length, take};
+ghost use Rattle.std.specs.Prelude.{◌≡◌, ◌≤◌, ◌<◌, ◌+◌, ◌*◌, ◌++◌, [], ◌∷◌, true, IfSome, IfNone, length, take};
 ghost use Rattle.std.specs.List.{AllByRecursion};
 ghost use Rattle.s4_types.specs.declared.limits.TheConstants.{ENTRY_TRIPLES, OBJECT_BLOCKS};
 ghost use Rattle.codec.specs.Fields.{Reads};
@@ -8,9 +8,11 @@ ghost use Rattle.undo_redo.specs.Groups.{grouped};
 ghost use Rattle.undo_redo.specs.Between.{CanLead, triples_between, leading_entry, further_entry, later_entries, entries_between};
 ghost use Rattle.undo_redo.specs.private.Checking.{checked_between};
 
-use crate::pieces::{differing, first_piece, held, other_pieces, pair_between, status_of};
+use crate::pieces::{
+    differing, few_differing, first_piece, held, other_pieces, pair_between, status_of,
+};
 use arrayvec::ArrayVec;
-use codec::{Entry, Inode, Triple};
+use codec::{Entry, Inode, Triple, Triples};
 use s4_types::Moment;
 use s4_types::limits::{ENTRY_TRIPLES, OBJECT_BLOCKS};
 
@@ -33,13 +35,23 @@ pub fn entries_between(before: &Inode, after: &Inode, moment: Moment) -> Entries
     told_between(before, after, moment).unwrap()
 }
 
+/// The one entry of a moment that leads from an inode to another. None where it has no room for all pointers that differ.
+pub fn only_entry_between(before: &Inode, after: &Inode, moment: Moment) -> Option<Entry>
+    requires { CanLead before.now after.now moment }
+    ensures one { IfSome result (λ entry. entries_between before.now after.now moment ≡ entry ∷ []) }
+    ensures more { IfNone result (ENTRY_TRIPLES < length (triples_between before.now after.now)) }
+{
+    let triples = few_differing(before, after)?;
+    leading_entry(before, after, moment, triples)
+}
+
 /// The entries that lead from an inode to another. None where the first of them would break a rule of entries.
 pub(crate) fn told_between(before: &Inode, after: &Inode, moment: Moment) -> Option<Entries>
     ensures { Reads (λ entries. entries.items) result (checked_between before.now after.now moment) }
 {
     let triples = differing(before, after);
     let first = first_piece(triples.as_slice());
-    let Some(leading) = leading_entry(before, after, moment, first) else {
+    let Some(leading) = leading_entry(before, after, moment, held(first)) else {
         return None;
     };
     let mut entries = Entries::new();
@@ -54,19 +66,12 @@ pub(crate) fn told_between(before: &Inode, after: &Inode, moment: Moment) -> Opt
 }
 
 #[tactic(auto, unfolding(crate::specs::Between::leading_entry))]
-fn leading_entry(before: &Inode, after: &Inode, moment: Moment, triples: &[Triple]) -> Option<Entry>
-    requires few { length triples.now ≤ ENTRY_TRIPLES }
-    requires first { triples.now ≡ take ENTRY_TRIPLES (triples_between before.now after.now) }
+fn leading_entry(before: &Inode, after: &Inode, moment: Moment, triples: Triples) -> Option<Entry>
+    requires { triples.items ≡ take ENTRY_TRIPLES (triples_between before.now after.now) }
     ensures { Reads (λ entry. entry) result (checked_entry (leading_entry before.now after.now moment)) }
 {
     let pair = pair_between(before.attribute, after.attribute);
-    Entry::new(
-        moment,
-        status_of(before),
-        status_of(after),
-        pair,
-        held(triples),
-    )
+    Entry::new(moment, status_of(before), status_of(after), pair, triples)
 }
 
 /// Appends the entries of further pointers, one for each piece of them.

@@ -1,4 +1,4 @@
-ghost use Rattle.std.specs.Prelude.{◌≡◌, ◌<◌, ◌≤◌, ◌+◌, ◌++◌, [], ◌∷◌, if◌then◌else◌, length, take, drop};
+ghost use Rattle.std.specs.Prelude.{◌≡◌, ◌<◌, ◌≤◌, ◌+◌, ◌++◌, [], ◌∷◌, if◌then◌else◌, true, not, IsTrue, IfSome, IfNone, length, take, drop};
 ghost use Rattle.s4_types.specs.declared.limits.TheConstants.{ENTRY_TRIPLES, OBJECT_BLOCKS};
 ghost use Rattle.codec.specs.Entry.{same_slot};
 ghost use Rattle.undo_redo.specs.Linked.{status_of};
@@ -73,6 +73,39 @@ pub(crate) fn differing(before: &Inode, after: &Inode) -> Differing
         push_apart(&mut triples, triple_at(before, after, index));
     }
     triples
+}
+
+/// Appends the triple where its two pointers differ. Answers whether there was room for it.
+fn push_if_room(triples: &mut Triples, triple: Triple) -> bool
+    ensures pushed { IsTrue result → triples.new.items ≡ triples.old.items ++ (if tells_apart triple then triple ∷ [] else []) }
+    ensures room { length triples.old.items ≤ ENTRY_TRIPLES → length triples.new.items ≤ ENTRY_TRIPLES }
+    ensures full { IsTrue (not result) → ENTRY_TRIPLES ≤ length triples.old.items }
+    ensures apart { IsTrue (not result) → tells_apart triple ≡ true }
+{
+    if is_same_slot(triple.before, triple.after) {
+        return true;
+    }
+    if triples.len() >= ENTRY_TRIPLES {
+        return false;
+    }
+    triples.push(triple);
+    true
+}
+
+/// The pointers that differ, by ascending index, where one entry has room for them. None where more differ.
+#[tactic(auto, using(crate::proofs::Differing::below_none, crate::proofs::Differing::below_more, crate::proofs::Differing::below_all))]
+pub(crate) fn few_differing(before: &Inode, after: &Inode) -> Option<Triples>
+    ensures all { IfSome result (λ triples. triples.items ≡ triples_between before.now after.now) }
+    ensures few { IfSome result (λ _. length (triples_between before.now after.now) ≤ ENTRY_TRIPLES) }
+    ensures more { IfNone result (ENTRY_TRIPLES < length (triples_between before.now after.now)) }
+{
+    let mut triples = Triples::new();
+    for index in 0..OBJECT_BLOCKS {
+        if !push_if_room(&mut triples, triple_at(before, after, index)) {
+            return None;
+        }
+    }
+    Some(triples)
 }
 
 /// The first sixteen, or all where there are fewer.

@@ -74,13 +74,6 @@ pub subject_there : FreshInode → (s : StoreFields) (o m : ℕ) → IsThere s o
 subject_there fresh s o m =
     subst (λ (v : Version). (is_absent v ≡ false) ↔ ((subject_inode s o m).alive ≡ true)) (subject_version fresh s o m) (absent_by (contents_of s.log.held) (subject_inode s o m))
 
-no_row_by : (held : Place → Option Stored) (o t : ℕ) (row : Option Row) → inode_by held o t row ≡ None → row ≡ None
-no_row_by held o t None none = refl
-no_row_by held o t (Some row) none = absurd (none-some (inode_of held o row t) (sym none))
-
-pub no_row : (s : StoreFields) (o t : ℕ) → inode_in s o t ≡ None → row_of s.rows o ≡ None
-no_row s o t none = no_row_by s.log.held o t (row_of s.rows o) none
-
 -- ---- what is kept beside the rows
 
 -- of each object its present inode is kept

@@ -1,17 +1,15 @@
 //! What stands beside an object's row.
 ghost use Rattle.std.specs.Prelude.{◌≡◌, ℕ, ◌==◌, ◌++◌, false, List, IsSome};
 ghost use Rattle.codec.specs.Entry.{EntryFields};
-ghost use Rattle.undo_redo.specs.Between.{CanLead, entries_between};
 ghost use Rattle.object_map.specs.Objects.{value_of};
 ghost use Rattle.object_map.specs.Rows.{row_of};
 ghost use Rattle.version_store.specs.private.Beside.{Tells, TellsOf};
 
 use codec::{Entry, Inode};
 use object_map::ObjectMap;
-use s4_types::{Moment, ObjectId};
+use s4_types::ObjectId;
 use std::alloc::Global;
 use undo_index::UndoIndex;
-use undo_redo::entries_between;
 
 /// An object's present inode, and an index of what undoes the entries of its journal. Where the index's growth was refused there
 /// is none, and the journal is walked.
@@ -32,20 +30,18 @@ pub(crate) fn index_of(alloc: Global, entries: &[Entry]) -> Option<UndoIndex>
     }
 }
 
-/// Takes an object's index out of the map, and appends what undoes the entries of a change. None where there was none, or where
+/// Takes an object's index out of the map, and appends what undoes these entries. None where there was none, or where
 /// memory for it is refused.
 pub(crate) fn take_index(
     objects: &mut ObjectMap<Present>,
     object: ObjectId,
     before: &Inode,
-    after: &Inode,
-    moment: Moment,
+    entries: &[Entry],
 ) -> Option<UndoIndex>
-    requires there { IsSome (row_of objects.old.rows object) }
-    requires lead { CanLead before.now after.now moment }
+    requires { IsSome (row_of objects.old.rows object) }
     ensures rows { (q : ℕ) → row_of objects.new.rows q ≡ row_of objects.old.rows q }
     ensures others { (q : ℕ) → (object == q) ≡ false → value_of objects.new.values q ≡ value_of objects.old.values q }
-    ensures told { (entries : List EntryFields) → TellsOf (value_of objects.old.values object) entries → Tells result (entries ++ entries_between before.now after.now moment) }
+    ensures told { (older : List EntryFields) → TellsOf (value_of objects.old.values object) older → Tells result (older ++ entries.now) }
 {
     let bare = Present {
         inode: *before,
@@ -55,8 +51,7 @@ pub(crate) fn take_index(
         return None;
     };
     let mut index = index?;
-    let entries = entries_between(before, after, moment);
-    match index.push(entries.as_slice()) {
+    match index.push(entries) {
         Ok(()) => Some(index),
         Err(_) => None,
     }

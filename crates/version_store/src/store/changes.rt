@@ -3,6 +3,7 @@ ghost use Rattle.std.specs.Prelude.{◌≡◌, ◌⊎◌, ℕ, ◌<◌, ◌≤�
 ghost use Rattle.s4_types.specs.declared.changes.Change.TheVariants.{Create, Delete, Write, Truncate, SetAttr};
 ghost use Rattle.s4_types.specs.declared.refusals.Refusal.TheVariants.{NoMemory};
 ghost use Rattle.undo_redo.specs.Runs.{blank};
+ghost use Rattle.undo_redo.specs.Between.{entries_between};
 ghost use Rattle.object_map.specs.Rows.{row_of, with_row, fresh_row};
 ghost use Rattle.version_store.specs.Store.{fields_of, IsStore};
 ghost use Rattle.version_store.specs.Versions.{version_in, version_taken};
@@ -16,15 +17,16 @@ use crate::laws::{changes_begin_with_the_present, what_changes_rest_on};
 use crate::presents::{Present, take_index};
 use crate::store::Store;
 use block_log::Blocks;
-use codec::{Attribute, Inode};
+use codec::{Attribute, Entry, Inode};
 use inode::{created, deleted, truncate, with_attribute, write};
 use object_map::Row;
 use row_changes::laws::a_fresh_row_stands;
 use row_changes::record_change;
 use s4_types::{Change, Moment, ObjectId, Refusal};
+use std::slice::from_ref;
 use undo_index::UndoIndex;
-use undo_redo::blank;
 use undo_redo::laws::a_blank_inode_has_holes_alone;
+use undo_redo::{blank, entries_between, only_entry_between};
 
 /// An attribute of at most 64 bytes.
 fn attribute_of(bytes: &[u8]) -> Attribute
@@ -35,59 +37,82 @@ fn attribute_of(bytes: &[u8]) -> Attribute
 }
 
 impl<B: Blocks> Store<B> {
-    /// The row of an object, and that of its creation at this moment where it has none.
-    fn subject_row(&self, object: ObjectId, moment: Moment) -> Row
-        ensures { result ≡ subject_row (fields_of B.log self.now) object moment }
-    {
-        self.row(object).unwrap_or(Row::fresh(moment))
-    }
-
-    /// The inode that a change of an object at a moment begins with: its present one, and the blank one of the moment where
-    /// the object has no row.
-    pub fn subject(&self, object: ObjectId, moment: Moment) -> Inode
-        ensures { result ≡ subject_inode (fields_of B.log self.now) object moment }
+    /// The row and the inode that a change of an object at a moment begins with: its present ones, and a fresh row and the blank
+    /// inode of the moment where it has none. One search of the map finds both.
+    fn begun(&self, object: ObjectId, moment: Moment) -> (Row, Inode)
+        ensures row { result.0 ≡ subject_row (fields_of B.log self.now) object moment }
+        ensures inode { result.1 ≡ subject_inode (fields_of B.log self.now) object moment }
     {
         changes_begin_with_the_present();
-        match self.present(object) {
-            Some(inode) => *inode,
-            None => blank(moment),
+        match self.objects.get(object) {
+            Some(kept) => (kept.row, kept.value.inode),
+            None => (Row::fresh(moment), blank(moment)),
         }
     }
 
     /// ChainFull or NoSpace, where a change at a moment is refused.
-    fn check(&self, change: &Change, present: &Inode, moment: Moment) -> Result<(), Refusal>
+    fn check(
+        &self,
+        change: &Change,
+        row: &Row,
+        present: &Inode,
+        moment: Moment,
+    ) -> Result<(), Refusal>
         requires store { IsStore (fields_of B.log self.now) }
         requires takes { Takes (fields_of B.log self.now) change.now }
+        requires row { row.now ≡ subject_row (fields_of B.log self.now) (object_of change.now) moment }
         requires present { present.now ≡ subject_inode (fields_of B.log self.now) (object_of change.now) moment }
         ensures { MatchResult result (λ _. change_refusal (fields_of B.log self.now) change.now moment ≡ None)
             (λ e. change_refusal (fields_of B.log self.now) change.now moment ≡ Some e) }
     {
         a_fresh_row_stands();
         a_blank_inode_has_holes_alone();
-        let row = self.subject_row(object_of(change), moment);
-        refusal(self.room(), change, &row, present)
+        refusal(self.room(), change, row, present)
     }
 
-    /// From a moment on an object has another inode: what leads there is appended to its journal, and its row is changed.
-    fn turn(&mut self, object: ObjectId, before: &Inode, after: &Inode, moment: Moment)
-        requires { CanTurn (fields_of B.log self.old) object before.now after.now moment }
+    /// From a moment on an object has another inode: these entries, which lead there, are appended to its journal, and its row is
+    /// changed.
+    fn put_turn(
+        &mut self,
+        object: ObjectId,
+        before: &Inode,
+        after: &Inode,
+        moment: Moment,
+        entries: &[Entry],
+    )
+        requires can { CanTurn (fields_of B.log self.old) object before.now after.now moment }
+        requires told { entries.now ≡ entries_between before.now after.now moment }
         ensures { Turns (fields_of B.log self.old) object moment after.now (blocks_turned (fields_of B.log self.old) object before.now after.now moment) (fields_of B.log self.new) }
     {
         what_changes_rest_on();
         let Some(kept) = self.objects.get(object) else {
             unreachable!()
         };
-        let Ok(next) = record_change(&mut self.table, object, &kept.row, before, after, moment)
+        let row = &kept.row;
+        let Ok(next) = record_change(&mut self.table, object, row, before, after, moment, entries)
         else {
             unreachable!()
         };
-        let index = take_index(&mut self.objects, object, before, after, moment);
+        let index = take_index(&mut self.objects, object, before, entries);
         let present = Present {
             inode: *after,
             index,
         };
         self.objects.change(object, &next, present);
         self.latest = moment;
+    }
+
+    /// [`Store::put_turn`] with the entries that lead there.
+    fn turn(&mut self, object: ObjectId, before: &Inode, after: &Inode, moment: Moment)
+        requires { CanTurn (fields_of B.log self.old) object before.now after.now moment }
+        ensures { Turns (fields_of B.log self.old) object moment after.now (blocks_turned (fields_of B.log self.old) object before.now after.now moment) (fields_of B.log self.new) }
+    {
+        if let Some(entry) = only_entry_between(before, after, moment) {
+            self.put_turn(object, before, after, moment, from_ref(&entry));
+        } else {
+            let entries = entries_between(before, after, moment);
+            self.put_turn(object, before, after, moment, entries.as_slice());
+        }
     }
 
     /// Takes a deletion.
@@ -230,8 +255,8 @@ impl<B: Blocks> Store<B> {
         ensures memory { IfErr result (λ e. e ≡ NoMemory → (change_refusal (fields_of B.log self.old) change.now moment ≡ None) × (row_of self.old.rows (object_of change.now) ≡ None)) }
         ensures unchanged { OnErr result (fields_of B.log self.new ≡ fields_of B.log self.old) }
     {
-        let present = self.subject(object_of(change), moment);
-        self.check(change, &present, moment)?;
+        let (row, present) = self.begun(object_of(change), moment);
+        self.check(change, &row, &present, moment)?;
         self.perform(change, &present, moment)
     }
 }

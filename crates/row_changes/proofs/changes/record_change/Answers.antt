@@ -1,5 +1,8 @@
-use Rattle.std.proofs.Common.{◌++◌, rules, refl, ap, ◌∙◌}
+use Rattle.std.proofs.Common.{◌≤◌, ◌++◌, List, length, rules, refl, sym, ap, subst, ◌∙◌}
 use Rattle.block_log.specs.declared.kinds.BlockKind.TheVariants.{Checkpoint}
+use Rattle.codec.specs.Entry.{EntryFields}
+use Rattle.undo_redo.specs.Runs.{Run, AllAt}
+use Rattle.undo_redo.specs.Groups.{grouped}
 use Rattle.row_changes.proofs.OrderKept.{made_orderly, turned_orderly}
 use Rattle.time_read.specs.Rows.{entries_of}
 use Rattle.row_changes.proofs.Pushing.{Pushed, with_chain, holding, pushed_row, pushed_by, pushed_inode}
@@ -7,6 +10,10 @@ use Rattle.row_changes.proofs.changes.record_change.Goals as goal
 
 pub of-chain-requires-clause-one_block : goal.of-chain-requires-clause-one_block
 of-chain-requires-clause-one_block g c = c.later_entries_join_a_row.ensures.newest (g.B.Blocks.log c.args.table.now).held c.args.object c.args.row.now c.requires.row
+
+pub push-requires-clause-few : goal.push-requires-clause-few
+push-requires-clause-few g c =
+    subst (λ (es : List EntryFields). length es ≤ 3) (sym c.requires.told) (c.the_entries_between_two_inodes.ensures.count c.args.before.now c.args.after.now c.args.moment).1
 
 pub returns : goal.returns
 returns g c =
@@ -20,24 +27,26 @@ returns g c =
     let before = c.args.before.now in
     let after = c.args.after.now in
     let m = c.args.moment in
-    let new = c.entries_between-entries.result.items in
+    let new = c.args.entries.now in
+    let told = c.requires.told in
+    let between = c.the_entries_between_two_inodes.ensures in
     let laws = c.later_entries_join_a_row.ensures in
     let p : Pushed held later o row (with_chain row head bytes filled) before after m new = record {
       stands = c.requires.row;
       earlier = c.requires.earlier;
       before = c.requires.before;
       least = c.requires.lead.moment;
-      run = c.entries_between-entries.ensures.run;
-      group = c.entries_between-entries.ensures.group;
-      moments = c.entries_between-entries.ensures.moments;
-      chain = holding held later o row head bytes filled new c.as_slice.result.now c.of-chain.result c.push.new.self laws.chain c.of-chain.ensures c.push.ensures.object c.head.ensures c.bytes.ensures.bytes c.filled.ensures.filled c.as_slice.ensures.value c.in_ok-push.ensures.holds;
+      run = subst (λ (es : List EntryFields). Run before es after) (sym told) (between.run before after m c.requires.lead);
+      group = ap grouped told ∙ between.group before after m c.requires.lead;
+      moments = subst (λ (es : List EntryFields). AllAt m es) (sym told) (between.moments before after m);
+      chain = holding held later o row head bytes filled new new c.of-chain.result c.push.new.self laws.chain c.of-chain.ensures c.push.ensures.object c.head.ensures c.bytes.ensures.bytes c.filled.ensures.filled refl c.in_ok-push.ensures.holds;
       checkpoints = c.push.ensures.others Checkpoint o refl;
     } in
     record {
       row = pushed_row held later o row head bytes filled before after m new laws p;
       latest = pushed_by held later o row head bytes filled before after m new p;
       inode = λ t. pushed_inode held later o row head bytes filled before after m new t laws p;
-      entries = p.chain.entries ∙ ap (λ es. entries_of held o row ++ es) c.entries_between-entries.ensures.exact;
+      entries = p.chain.entries ∙ ap (λ es. entries_of held o row ++ es) told;
       made = made_orderly laws.end held later o row head bytes filled before after m new p c.requires.lead;
       orderly = turned_orderly laws.end laws.done held later o row head bytes filled before after m new p c.requires.lead;
       fields = search rules;
