@@ -57,9 +57,9 @@ impl<J: Naming> Drive<J> {
         ensures inodes { OnOk result ((q t : ℕ) → inode_in (store_of self.new) q t ≡ (if object == q then Some (inode_led present.now entries.now t) else inode_in (store_of self.old) q t)) }
         ensures versions { OnOk result ((q t : ℕ) → version_in (store_of self.new) q t
             ≡ (if object == q then meaning (contents_of (store_of self.old).log.held) (inode_led present.now entries.now t) else version_in (store_of self.old) q t)) }
-        ensures answer { MatchResult result (λ _. rewritten_blocks entries.now ≤ length (store_of self.old).log.ahead)
-            (λ e. ((e ≡ NoRoom) × (length (store_of self.old).log.ahead < rewritten_blocks entries.now))
-            ⊎ ((e ≡ NoMemory) × (rewritten_blocks entries.now ≤ length (store_of self.old).log.ahead))) }
+        ensures answer { MatchResult result (λ _. rewritten_blocks present.now entries.now ≤ length (store_of self.old).log.ahead)
+            (λ e. ((e ≡ NoRoom) × (length (store_of self.old).log.ahead < rewritten_blocks present.now entries.now))
+            ⊎ ((e ≡ NoMemory) × (rewritten_blocks present.now entries.now ≤ length (store_of self.old).log.ahead))) }
         ensures unchanged { OnErr result (store_of self.new ≡ store_of self.old) }
         ensures ledger { self.new.ledger ≡ self.old.ledger }
         ensures needed { KeepsVersions (state_in self.old) (store_of self.old) (store_of self.new) }

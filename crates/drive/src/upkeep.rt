@@ -36,11 +36,11 @@ impl<J: Naming> Drive<J> {
     }
 
     /// Sees to it that an object's checkpoint isn't older than its last journal entry: where it is, the object's present
-    /// inode is written as its checkpoint, which takes one block; else nothing is written. An object that is deleted and has
+    /// inode is written as its checkpoint, which takes room; else nothing is written. An object that is deleted and has
     /// a row still is like any other.
     ///
-    /// NoObject exactly where the object has no row; else NoSpace exactly where the checkpoint has to be written and there
-    /// is no room beside the reserve. Then nothing has changed.
+    /// NoObject exactly where the object has no row; else NoSpace exactly where the checkpoint has to be written and takes
+    /// more than the room beside the reserve. Then nothing has changed.
     pub fn checkpoint(&mut self, object: ObjectId) -> Result<(), Refusal>
         ensures checkpoint { OnOk result (Checkpoints (store_of self.old) object (store_of self.new)) }
         ensures current { OnOk result (IfSome (row_of self.new.store.rows object) (λ row. AllBy row.checkpoint_moment (entries_of (store_of self.new).log.held object row))) }

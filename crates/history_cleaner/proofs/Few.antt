@@ -19,9 +19,10 @@ use Rattle.journal_chain.specs.Chain.{BlockView, Link, journal_of, journal_in, l
 use Rattle.s4_types.specs.declared.limits.TheConstants.{CHAIN_BLOCKS}
 use Rattle.object_map.specs.declared.map.Row.{Row}
 use Rattle.object_map.specs.Rows.{row_of}
-use Rattle.time_read.specs.Rows.{entries_of}
+use Rattle.time_read.specs.Rows.{entries_of, checkpoint_places_of}
 use Rattle.time_read.specs.Orderly.{BeginsDead, IsFromTo}
 use Rattle.version_store.specs.Store.{IsStore}
+use Rattle.checkpoint.specs.Held.{checkpoint_places, places_named, of_checkpoints, is_one_of}
 use Rattle.version_store.specs.Laws.{HeldIsWhatRowsName}
 use Rattle.drive.specs.Fields.{DriveFields, store_of}
 use Rattle.history_cleaner.proofs.Emptied.{tally, count_first, count_alike}
@@ -193,15 +194,21 @@ block_at d o kind p place there =
 placed : (slot : Option Place) (p : Place) → slot ≡ Some p → IfSome slot IsPlace → IsPlace p
 placed slot p is h = subst (λ (x : Option Place). IfSome x IsPlace) is h
 
-row_block_at : HeldIsWhatRowsName → (d : DriveFields) (o : ℕ) (row : Row) (checkpoint : Option Place) → row.checkpoint ≡ checkpoint → IsStore (store_of d) → row_of d.store.rows o ≡ Some row
+-- The pointer that a checkpoint is told by leads to one of its blocks.
+abbrev pub LeadsToItsOwn : Type 0
+LeadsToItsOwn = (held : Place → Option Stored) (o : ℕ) (p : Place) → is_one_of (checkpoint_places held o p) p ≡ true
+
+row_block_at : HeldIsWhatRowsName → LeadsToItsOwn → (d : DriveFields) (o : ℕ) (row : Row) (checkpoint : Option Place) → row.checkpoint ≡ checkpoint → IsStore (store_of d) → row_of d.store.rows o ≡ Some row
     → MatchOption checkpoint (BeginsDead (entries_of (store_of d).log.held o row)) (λ p. IsFromTo row.created (store_of d).latest row.checkpoint_moment) → IfSome row.checkpoint IsPlace → IfSome row.head IsPlace → HasBlock d.store.table o
-row_block_at exact d o row None is store there begins first last =
+row_block_at exact own d o row None is store there begins first last =
     let chain = (store.objects o row there).stands.chain in
     let (p, (at, held)) = head_there (of_kind Journal o (store_of d).log.held) o row.head (entries_of (store_of d).log.held o row) chain.walk begins in
     block_at d o Journal p (placed row.head p at last) held
-row_block_at exact d o row (Some p) is store there begins first last =
-    block_at d o Checkpoint p (placed row.checkpoint p is first) ((exact (store_of d) o Checkpoint p store).1 (record { row = row; there = there; names = is }))
+row_block_at exact own d o row (Some p) is store there begins first last =
+    let held = (store_of d).log.held in
+    let named : is_one_of (checkpoint_places_of held o row) p ≡ true = ap (λ (c : Option Place). is_one_of (places_named (of_checkpoints o held) c) p) is ∙ own held o p in
+    block_at d o Checkpoint p (placed row.checkpoint p is first) ((exact (store_of d) o Checkpoint p store).1 (record { row = row; there = there; names = named }))
 
 -- an object with a row has a block
-pub row_block : HeldIsWhatRowsName → (d : DriveFields) (o : ℕ) (row : Row) → IsStore (store_of d) → row_of d.store.rows o ≡ Some row → IfSome row.checkpoint IsPlace → IfSome row.head IsPlace → HasBlock d.store.table o
-row_block exact d o row store there first last = row_block_at exact d o row row.checkpoint refl store there (store.orderly o row there).checkpoint first last
+pub row_block : HeldIsWhatRowsName → LeadsToItsOwn → (d : DriveFields) (o : ℕ) (row : Row) → IsStore (store_of d) → row_of d.store.rows o ≡ Some row → IfSome row.checkpoint IsPlace → IfSome row.head IsPlace → HasBlock d.store.table o
+row_block exact own d o row store there first last = row_block_at exact own d o row row.checkpoint refl store there (store.orderly o row there).checkpoint first last

@@ -165,7 +165,7 @@ after_nothing seen all s later state o entries left chain some now l same stays 
 
 -- the chain was replaced
 pub after_replacing : WhatIsLeftIsSeen → WhatIsLeftIsSeenThroughout → (s later : StoreFields) (state : State) (o : ℕ) (entries : List EntryFields) (left : Option KeptChain) (chain : KeptChain) → left ≡ Some chain → IsVisible state o state.clock → IsLeft s state o entries left → (chain.entries ≡ entries → ⊥)
-    → IfSome (row_of s.rows o) (λ row. IsReplaced s o row chain.last chain.entries later) → rewritten_blocks chain.entries ≤ length s.log.ahead → HasCleaned s later state o
+    → IfSome (row_of s.rows o) (λ row. IsReplaced s o row chain.last chain.entries later) → rewritten_blocks chain.last chain.entries ≤ length s.log.ahead → HasCleaned s later state o
 after_replacing seen all s later state o entries left chain some now l other replaced enough =
     let done : IsReplaced s o l.row chain.last chain.entries later = subst (λ (r : Option Row). IfSome r (λ row. IsReplaced s o row chain.last chain.entries later)) l.has.there replaced in
     let here : row_of later.rows o ≡ Some done.next = done.put o ∙ cond-true (o == o) (Some done.next) (row_of s.rows o) (eq-eqb o o refl) in
@@ -175,12 +175,12 @@ after_replacing seen all s later state o entries left chain some now l other rep
       gone = λ unseen. absurd (seen_where s state o entries left chain seen some now l unseen);
       room = λ n.
           let same : n.chain ≡ chain = same_Some n.chain chain (sym n.left ∙ ap (left_in s state o) (same_Some n.row l.row (sym n.there ∙ l.has.there)) ∙ l.left ∙ some) in
-          let few : length s.log.ahead < rewritten_blocks chain.entries = subst (λ (c : KeptChain). length s.log.ahead < rewritten_blocks c.entries) same n.room in
+          let few : length s.log.ahead < rewritten_blocks chain.last chain.entries = subst (λ (c : KeptChain). length s.log.ahead < rewritten_blocks c.last c.entries) same n.room in
           absurd (omega (arith, few, enough));
     }
 
 -- there was no room for it
-pub no_room : (s : StoreFields) (state : State) (o : ℕ) (entries : List EntryFields) (left : Option KeptChain) (chain : KeptChain) → left ≡ Some chain → IsLeft s state o entries left → (chain.entries ≡ entries → ⊥) → length s.log.ahead < rewritten_blocks chain.entries → HasNoRoom s state o
+pub no_room : (s : StoreFields) (state : State) (o : ℕ) (entries : List EntryFields) (left : Option KeptChain) (chain : KeptChain) → left ≡ Some chain → IsLeft s state o entries left → (chain.entries ≡ entries → ⊥) → length s.log.ahead < rewritten_blocks chain.last chain.entries → HasNoRoom s state o
 no_room s state o entries left chain some l other few = record {
   row = l.row;
   there = l.has.there;
@@ -254,7 +254,7 @@ removal_answered (Err e) s later state o entries left none l removed refused = a
 
 pub replacing_answered : (r : Result (Unit {0}) Refusal) → WhatIsLeftIsSeen → WhatIsLeftIsSeenThroughout → (s later : StoreFields) (state : State) (o : ℕ) (entries : List EntryFields) (left : Option KeptChain) (chain : KeptChain) → left ≡ Some chain → IsVisible state o state.clock → IsLeft s state o entries left → (chain.entries ≡ entries → ⊥)
     → OnOk r (IfSome (row_of s.rows o) (λ row. IsReplaced s o row chain.last chain.entries later))
-    → MatchResult r (λ _. rewritten_blocks chain.entries ≤ length s.log.ahead) (λ e. ((e ≡ NoRoom) × (length s.log.ahead < rewritten_blocks chain.entries)) ⊎ ((e ≡ NoMemory) × (rewritten_blocks chain.entries ≤ length s.log.ahead)))
+    → MatchResult r (λ _. rewritten_blocks chain.last chain.entries ≤ length s.log.ahead) (λ e. ((e ≡ NoRoom) × (length s.log.ahead < rewritten_blocks chain.last chain.entries)) ⊎ ((e ≡ NoMemory) × (rewritten_blocks chain.last chain.entries ≤ length s.log.ahead)))
     → Answered r s later state o
 replacing_answered (Ok u) seen all s later state o entries left chain some now l other replaced enough = answered_ok u s later state o (after_replacing seen all s later state o entries left chain some now l other replaced enough)
 replacing_answered (Err e) seen all s later state o entries left chain some now l other replaced why = answered_err e s later state o (elim why [

@@ -65,7 +65,7 @@ pub record HasNoRoom (s : StoreFields) (state : State) (o : ℕ) : Type 0 where
   pub chain : KeptChain
   pub left : left_in s state o row ≡ Some chain
   pub other : chain.entries ≡ entries_of s.log.held o row → ⊥
-  pub room : length s.log.ahead < rewritten_blocks chain.entries
+  pub room : length s.log.ahead < rewritten_blocks chain.last chain.entries
 
 -- What cleaning an object comes to, by the drive before it, the answer and the drive after it.
 pub record CleansObject (o : ℕ) (d : DriveFields) (result : Result (Unit {0}) Refusal) (later : DriveFields) : Type 0 where

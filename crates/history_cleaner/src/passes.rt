@@ -13,6 +13,7 @@ use crate::cleaning::clean_object;
 use crate::frames::{count_risen, empty_frames, note_generations};
 use crate::laws::held_is_what_is_reached;
 use crate::places::names_places;
+use checkpoint::laws::a_checkpoint_has_its_blocks;
 use drive::Drive;
 use object_map::Row;
 use s4_types::{ObjectId, Refusal};
@@ -102,6 +103,7 @@ fn clean_all<J: Naming>(alloc: Global, drive: &mut Drive<J>) -> Result<Cleanings
 {
     held_is_what_is_reached();
     what_is_held_is_what_rows_name();
+    a_checkpoint_has_its_blocks();
     drive.rules();
     let mut object = ObjectId::new(0);
     let mut cleanings = Cleanings {

@@ -1,8 +1,8 @@
 -- When the whole history of a row stands in an image: the chain, the checkpoint, and the inodes that the entries lead through.
-use Rattle.std.specs.Prelude.{ℕ, if◌then◌else◌, List, Option, Some, None}
+use Rattle.std.specs.Prelude.{ℕ, if◌then◌else◌, List, Option, None}
 use Rattle.s4_types.specs.Pointer.{Place}
-use Rattle.block_log.specs.Log.{Stored, of_kind, same_place}
-use Rattle.block_log.specs.declared.kinds.BlockKind.TheVariants.{Checkpoint}
+use Rattle.block_log.specs.Log.{Stored}
+use Rattle.checkpoint.specs.Held.{of_checkpoints, is_one_of}
 use Rattle.codec.specs.declared.inodes.Inode.{Inode}
 use Rattle.codec.specs.Entry.{entries_length}
 use Rattle.journal_chain.specs.Packing.{packed, filled_bytes}
@@ -12,7 +12,7 @@ use Rattle.undo_redo.specs.Runs.{Run, redone_all}
 use Rattle.time_read.specs.Orderly.{IsOrderlyChain}
 use Rattle.image_chains.specs.declared.rows.ImageRow.{ImageRow}
 use Rattle.image_chains.specs.Chains.{ChainStands, entries_used}
-use Rattle.image_chains.specs.Inodes.{BeginningStands, first_used}
+use Rattle.image_chains.specs.Inodes.{BeginningStands, first_used, checkpoint_places_used}
 
 -- the inode behind all entries of a row's chain: the present one
 abbrev pub present_used : (Place → Option Stored) → ImageRow → Inode
@@ -28,14 +28,13 @@ pub record HistoryStands (used : Place → Option Stored) (row : ImageRow) (cloc
   pub run : Run (first_used used row) (entries_used used row) (present_used used row)
   pub order : IsOrderlyChain row.created clock (first_used used row) (entries_used used row)
 
--- a view at one place alone, or at none
-abbrev pub named_at : Option Place → BlockView → Place → Option (List ℕ)
-named_at None view p = None
-named_at (Some q) view p = if same_place q p then view p else None
+-- a view at some places alone
+abbrev pub named_at : List Place → BlockView → Place → Option (List ℕ)
+named_at places view p = if is_one_of places p then view p else None
 
--- of an object's used checkpoints, the one alone that a row names
+-- of the used blocks of an object's checkpoints, those alone of the checkpoint that a row names
 abbrev pub checkpoint_view : (Place → Option Stored) → ImageRow → BlockView
-checkpoint_view used row = λ p. named_at row.checkpoint (of_kind Checkpoint row.object used) p
+checkpoint_view used row = λ p. named_at (checkpoint_places_used used row) (of_checkpoints row.object used) p
 
 -- the row that a drive keeps of a row of an image, with this stamp
 abbrev pub kept_row : (Place → Option Stored) → ImageRow → ℕ → Row

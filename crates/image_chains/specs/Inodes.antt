@@ -7,7 +7,7 @@ use Rattle.codec.specs.declared.inodes.Inode.{Inode}
 use Rattle.codec.specs.Entry.{EntryFields}
 use Rattle.codec.specs.Checkpoint.{CheckpointFields}
 use Rattle.undo_redo.specs.Runs.{undone_all, entries_by, inode_after}
-use Rattle.checkpoint.specs.Held.{checkpoint_held}
+use Rattle.checkpoint.specs.Held.{checkpoint_held, of_checkpoints, places_named}
 use Rattle.time_read.specs.Rows.{inode_before}
 use Rattle.time_read.specs.Orderly.{IsFromTo, BeginsDead}
 use Rattle.image_chains.specs.declared.rows.ImageRow.{ImageRow}
@@ -16,6 +16,10 @@ use Rattle.image_chains.specs.Chains.{entries_used}
 -- the checkpoint that a row names: none where it names none, or where none of the object is used there
 abbrev pub checkpoint_used : (Place → Option Stored) → ImageRow → Option CheckpointFields
 checkpoint_used used row = row.checkpoint >>= checkpoint_held used row.object
+
+-- the places of the blocks of the checkpoint that a row names
+abbrev pub checkpoint_places_used : (Place → Option Stored) → ImageRow → List Place
+checkpoint_places_used used row = places_named (of_checkpoints row.object used) row.checkpoint
 
 -- the inode before the first of these entries of a row
 abbrev pub first_before : (Place → Option Stored) → ImageRow → List EntryFields → Inode

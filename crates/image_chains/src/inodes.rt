@@ -18,6 +18,7 @@ use undo_redo::laws::a_blank_inode_has_holes_alone;
 use undo_redo::{blank, redo, undo};
 
 /// The object's checkpoint at a place. None where the image has no such used block there, or where it spells none.
+#[tactic(auto, unfolding(checkpoint::specs::Held::checkpoint_in))]
 pub fn read_checkpoint<U: UsedBlocks>(used: &U, object: ObjectId, place: Ptr) -> Option<Checkpoint>
     ensures exact { result ≡ checkpoint_held (U.used used.now) object place }
     ensures numbers { IfSome result (λ checkpoint. CheckpointNumbers checkpoint) }

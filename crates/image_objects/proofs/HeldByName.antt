@@ -4,21 +4,19 @@ use Rattle.std.specs.List.{Contains}
 use Rattle.std.proofs.lemmas.Bool.{cases_Bool, false≢true, and_from, and_parts, eq-eqb, eqb-true, lt-ltb, ltb-true, cond-true, cond-false}
 use Rattle.std.proofs.lemmas.Option.{none-some, same_Some}
 use Rattle.s4_types.specs.Pointer.{Place}
-use Rattle.block_log.specs.Log.{Stored, of_kind, seen_as, same_kind, same_place}
+use Rattle.block_log.specs.Log.{Stored, of_kind, seen_as, same_kind}
 use Rattle.block_log.specs.declared.kinds.BlockKind.{BlockKind}
 use Rattle.block_log.specs.declared.kinds.BlockKind.TheVariants.{Journal, Checkpoint, Data}
 use Rattle.journal_chain.specs.Chain.{BlockView, chain_places, times}
 use Rattle.image_chains.specs.declared.rows.ImageRow.{ImageRow}
 use Rattle.image_chains.specs.Chains.{chain_view}
+use Rattle.checkpoint.specs.Held.{is_one_of}
+use Rattle.image_chains.specs.Inodes.{checkpoint_places_used}
 use Rattle.image_chains.specs.History.{named_at, checkpoint_view}
 use Rattle.image_objects.specs.Objects.{pointers_used}
 use Rattle.image_objects.specs.Naming.{NamesUsed, IsNamedBy, HoldsWhatIsNamed}
 use Rattle.image_objects.specs.Rows.{RowsAscend}
 use Rattle.image_objects.proofs.Listed.{one_row}
-
--- places that the test finds to be one are equal
-abbrev pub OneName : Type 0
-OneName = (p q : Place) → same_place p q ≡ true → p ≡ q
 
 -- ---- a block that is seen as one of a kind and of an object
 
@@ -105,27 +103,18 @@ journal_held used held rows clock row ascend holds there p =
       | inr ne ↦ absurd (none-some x (sym (cond-false (ltb 0 count) here None ne) ∙ h))
     ])
 
-pub place_itself : (p : Place) → same_place p p ≡ true
-place_itself p =
-    and_from (p.frame == p.frame) (p.block == p.block && p.generation == p.generation) (eq-eqb p.frame p.frame refl)
-    (and_from (p.block == p.block) (p.generation == p.generation) (eq-eqb p.block p.block refl) (eq-eqb p.generation p.generation refl))
-
-named_there : OneName → (view : BlockView) (q : Option Place) (p : Place) (x : List ℕ) → named_at q view p ≡ Some x → (view p ≡ Some x) × (q ≡ Some p)
-named_there one view None p x h = absurd (none-some x h)
-named_there one view (Some q) p x h = elim (cases_Bool (same_place q p)) [
-  | inl is ↦ (sym (cond-true (same_place q p) (view p) None is) ∙ h, ap (λ (r : Place). Some r) (one q p is))
-  | inr ne ↦ absurd (none-some x (sym (cond-false (same_place q p) (view p) None ne) ∙ h))
+named_there : (view : BlockView) (places : List Place) (p : Place) (x : List ℕ) → named_at places view p ≡ Some x → (view p ≡ Some x) × (is_one_of places p ≡ true)
+named_there view places p x h = elim (cases_Bool (is_one_of places p)) [
+  | inl is ↦ (sym (cond-true (is_one_of places p) (view p) None is) ∙ h, is)
+  | inr ne ↦ absurd (none-some x (sym (cond-false (is_one_of places p) (view p) None ne) ∙ h))
 ]
 
-named_here : (view : BlockView) (q : Option Place) (p : Place) (x : List ℕ) → view p ≡ Some x → q ≡ Some p → named_at q view p ≡ Some x
-named_here view q p x h is = ap (λ (r : Option Place). named_at r view p) is ∙ cond-true (same_place p p) (view p) None (place_itself p) ∙ h
-
-pub checkpoint_held : OneName → (used held : Place → Option Stored) (rows : List ImageRow) (clock : ℕ) (row : ImageRow) → RowsAscend clock 0 0 rows → HoldsWhatIsNamed used held rows → Contains rows row
+pub checkpoint_held : (used held : Place → Option Stored) (rows : List ImageRow) (clock : ℕ) (row : ImageRow) → RowsAscend clock 0 0 rows → HoldsWhatIsNamed used held rows → Contains rows row
     → (p : Place) → of_kind Checkpoint row.object held p ≡ checkpoint_view used row p
-checkpoint_held one used held rows clock row ascend holds there p =
+checkpoint_held used held rows clock row ascend holds there p =
     same_options (of_kind Checkpoint row.object held p) (checkpoint_view used row p)
-    (λ x h. let (is, names) = held_named used held rows clock row Checkpoint p x ascend holds there h in named_here (of_kind Checkpoint row.object used) row.checkpoint p x is names)
-    (λ x h. let (is, names) = named_there one (of_kind Checkpoint row.object used) row.checkpoint p x h in named_held used held rows row Checkpoint p x holds there is names)
+    (λ x h. let (is, names) = held_named used held rows clock row Checkpoint p x ascend holds there h in cond-true (is_one_of (checkpoint_places_used used row) p) (of_kind Checkpoint row.object used p) None names ∙ is)
+    (λ x h. let (is, names) = named_there (of_kind Checkpoint row.object used) (checkpoint_places_used used row) p x h in named_held used held rows row Checkpoint p x holds there is names)
 
 pub data_held : (used held : Place → Option Stored) (rows : List ImageRow) (clock : ℕ) (row : ImageRow) → RowsAscend clock 0 0 rows → HoldsWhatIsNamed used held rows → Contains rows row
     → (p : Place) (bytes : List ℕ) → (of_kind Data row.object held p ≡ Some bytes) ↔ ((of_kind Data row.object used p ≡ Some bytes) × Contains (pointers_used used row) (Some p))

@@ -8,6 +8,7 @@ mod Kept
 mod Listed
 mod MomentsOnce
 mod Pointing
+mod Checkpoints
 mod SavedObject
 mod SavedRows
 mod SavedStore
@@ -16,3 +17,4 @@ mod Sorted
 mod Standing
 mod Storing
 mod Telling
+mod Using

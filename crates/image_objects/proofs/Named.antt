@@ -1,23 +1,24 @@
 -- The places that a row names, and what is at them.
-use Rattle.std.proofs.Common.{◌≡◌, ℕ, zero, suc, ◌+◌, ◌<◌, ◌==◌, ◌&&◌, true, inl, inr, List, [], ◌∷◌, ◌++◌, length, get_or, Option, Some, None, IsSome, is_some, refl, sym, ap, ◌∙◌, subst, arith}
+use Rattle.std.proofs.Common.{◌≡◌, ℕ, zero, suc, ◌+◌, ◌<◌, ◌==◌, ◌&&◌, ◌||◌, true, inl, inr, List, [], ◌∷◌, ◌++◌, length, get_or, Option, Some, None, IsSome, MatchOption, is_some, refl, sym, ap, ◌∙◌, subst, arith}
 use Rattle.std.specs.Prelude.{◌⊎◌}
 use Rattle.std.specs.List.{Contains}
 use Rattle.std.specs.Option.{option_to_list}
 use Rattle.std.proofs.lemmas.Bool.{cases_Bool, false≢true, and_from, eq-eqb}
 use Rattle.std.proofs.lemmas.List.Elements.{Contains-append_left, Contains-append_right, Contains-append_cases, Contains-push_cases, All-contains}
-use Rattle.std.proofs.lemmas.Option.{MatchOption-at_some}
+use Rattle.std.proofs.lemmas.List.Folds.{list_any_at}
 use Rattle.s4_types.specs.Pointer.{Place}
 use Rattle.block_log.specs.Log.{Stored, of_kind, seen_as, same_place}
 use Rattle.block_log.specs.declared.kinds.BlockKind.{BlockKind}
 use Rattle.block_log.specs.declared.kinds.BlockKind.TheVariants.{Journal, Checkpoint, Data}
 use Rattle.codec.specs.Fields.{bit}
-use Rattle.codec.specs.Checkpoint.{CheckpointFields}
+use Rattle.codec.specs.Entry.{EntryFields}
 use Rattle.journal_chain.specs.Chain.{times}
-use Rattle.checkpoint.specs.Held.{spelled_checkpoint}
+use Rattle.checkpoint.specs.Held.{checkpoint_held, is_one_of, HasItsBlocks}
+use Rattle.time_read.specs.Orderly.{BeginsDead}
 use Rattle.version_store.specs.Store.{IsLed}
 use Rattle.image_chains.specs.declared.rows.ImageRow.{ImageRow}
 use Rattle.image_chains.specs.Chains.{entries_used}
-use Rattle.image_chains.specs.Inodes.{CheckpointStands}
+use Rattle.image_chains.specs.Inodes.{CheckpointStands, checkpoint_places_used}
 use Rattle.image_objects.specs.Objects.{ObjectStands, pointers_used}
 use Rattle.image_objects.specs.Naming.{NamesUsed}
 use Rattle.image_objects.specs.private.Places.{places_in, places_of_chain, places_named}
@@ -85,15 +86,26 @@ there_once names (q ∷ places) p some = elim (cases_Bool (same_place p q)) [
       Contains-append_right (q ∷ []) places p (there_once names places p (omega (arith, counted p q places, none, some))))
 ]
 
+-- a place that is listed is found by the test, and one that the test finds is listed
+listed_one : (places : List Place) (p : Place) → Contains places p → is_one_of places p ≡ true
+listed_one places p listed = let (n, below, at) = listed in list_any_at (λ q. same_place q p) places n p below (ap (λ q. same_place q p) at ∙ place_itself p)
+
+one_listed : OneName → (places : List Place) (p : Place) → is_one_of places p ≡ true → Contains places p
+one_listed names [] p is = absurd (false≢true is)
+one_listed names (q ∷ places) p is = elim (cases_Bool (same_place q p)) [
+  | inl same ↦ Contains-append_left (q ∷ []) places p (0, omega arith, names q p same)
+  | inr other ↦ Contains-append_right (q ∷ []) places p (one_listed names places p (sym (ap (λ b. b || is_one_of places p) other) ∙ is))
+]
+
 -- ---- what a row names
 
 pub listed_is_named : (used : Place → Option Stored) (row : ImageRow) (p : Place) → Contains (places_named used row) p → (kind : BlockKind) × NamesUsed used row kind p
 listed_is_named used row p listed =
     let c = places_of_chain used row in
-    elim (Contains-append_cases (c ++ option_to_list row.checkpoint) (places_in (pointers_used used row)) p listed) [
-      | inl front ↦ (elim (Contains-append_cases c (option_to_list row.checkpoint) p front) [
+    elim (Contains-append_cases (c ++ checkpoint_places_used used row) (places_in (pointers_used used row)) p listed) [
+      | inl front ↦ (elim (Contains-append_cases c (checkpoint_places_used used row) p front) [
         | inl chain ↦ (Journal, once_there c chain.0 p chain.1 chain.2)
-        | inr checkpoint ↦ (Checkpoint, of_slot row.checkpoint p checkpoint)
+        | inr checkpoint ↦ (Checkpoint, listed_one (checkpoint_places_used used row) p checkpoint)
       ])
       | inr data_there ↦ (Data, listed_slot (pointers_used used row) p data_there)
     ]
@@ -101,25 +113,27 @@ listed_is_named used row p listed =
 pub named_is_listed : OneName → (used : Place → Option Stored) (row : ImageRow) (kind : BlockKind) (p : Place) → NamesUsed used row kind p → Contains (places_named used row) p
 named_is_listed names used row Journal p named =
     let c = places_of_chain used row in
-    Contains-append_left (c ++ option_to_list row.checkpoint) (places_in (pointers_used used row)) p (Contains-append_left c (option_to_list row.checkpoint) p (there_once names c p named))
+    Contains-append_left (c ++ checkpoint_places_used used row) (places_in (pointers_used used row)) p (Contains-append_left c (checkpoint_places_used used row) p (there_once names c p named))
 named_is_listed names used row Checkpoint p named =
     let c = places_of_chain used row in
-    Contains-append_left (c ++ option_to_list row.checkpoint) (places_in (pointers_used used row)) p (Contains-append_right c (option_to_list row.checkpoint) p (in_slot row.checkpoint p named))
+    Contains-append_left (c ++ checkpoint_places_used used row) (places_in (pointers_used used row)) p (Contains-append_right c (checkpoint_places_used used row) p (one_listed names (checkpoint_places_used used row) p named))
 named_is_listed names used row Data p named =
     let c = places_of_chain used row in
-    Contains-append_right (c ++ option_to_list row.checkpoint) (places_in (pointers_used used row)) p (slot_listed (pointers_used used row) named.0 p named.1 named.2)
+    Contains-append_right (c ++ checkpoint_places_used used row) (places_in (pointers_used used row)) p (slot_listed (pointers_used used row) named.0 p named.1 named.2)
 
-spelled : (bytes : Option (List ℕ)) (found : CheckpointFields) → spelled_checkpoint bytes ≡ Some found → IsSome bytes
-spelled None found is = absurd (false≢true (ap is_some is))
-spelled (Some bytes) found is = refl
+abbrev pub HasBlocks : Type 0
+HasBlocks = (held : Place → Option Stored) (o : ℕ) (p : Place) → IsSome (checkpoint_held held o p) → HasItsBlocks held o (Some p)
+
+stands_there : HasBlocks → (used : Place → Option Stored) (row : ImageRow) (clock : ℕ) (entries : List EntryFields) (N : Type 0) (c : Option Place) → MatchOption c N (λ q. CheckpointStands used row clock entries q) → HasItsBlocks used row.object c
+stands_there has used row clock entries N None h p is = absurd (false≢true is)
+stands_there has used row clock entries N (Some q) h p is = has used row.object q (ap is_some h.decodes) p is
 
 -- each named place has a used block of the object, of that kind
-pub named_is_used : OneName → (used : Place → Option Stored) (row : ImageRow) (clock : ℕ) (kind : BlockKind) (p : Place) → ObjectStands used row clock → NamesUsed used row kind p → IsSome (of_kind kind row.object used p)
-named_is_used names used row clock Journal p stands named = place_there used row p stands.history.chain.walk (there_once names (places_of_chain used row) p named)
-named_is_used names used row clock Checkpoint p stands named =
-    let c : CheckpointStands used row clock (entries_used used row) p = MatchOption-at_some _ (λ q. CheckpointStands used row clock (entries_used used row) q) p named stands.history.beginning in
-    spelled (of_kind Checkpoint row.object used p) c.found c.decodes
-named_is_used names used row clock Data p stands named = All-contains (IsLed used row.object) (pointers_used used row) (Some p) stands.led named
+pub named_is_used : OneName → HasBlocks → (used : Place → Option Stored) (row : ImageRow) (clock : ℕ) (kind : BlockKind) (p : Place) → ObjectStands used row clock → NamesUsed used row kind p → IsSome (of_kind kind row.object used p)
+named_is_used names has used row clock Journal p stands named = place_there used row p stands.history.chain.walk (there_once names (places_of_chain used row) p named)
+named_is_used names has used row clock Checkpoint p stands named =
+    stands_there has used row clock (entries_used used row) ((row.checkpoint_moment ≡ 0) × BeginsDead (entries_used used row)) row.checkpoint stands.history.beginning p named
+named_is_used names has used row clock Data p stands named = All-contains (IsLed used row.object) (pointers_used used row) (Some p) stands.led named
 
 pub is_used : (kind : BlockKind) (o : ℕ) (block : Option Stored) → IsSome (seen_as kind o block) → IsSome block
 is_used kind o None h = absurd (false≢true h)
@@ -139,8 +153,8 @@ all_named names used row before items is kind p named = subst (λ (l : List Plac
 pub all_kept : (used : Place → Option Stored) (row : ImageRow) (before items : List Place) → items ≡ before ++ places_named used row → (p : Place) → Contains before p → Contains items p
 all_kept used row before items is p old = subst (λ (l : List Place). Contains l p) (sym is) (Contains-append_left before (places_named used row) p old)
 
-pub only_used : OneName → (used : Place → Option Stored) (row : ImageRow) (clock : ℕ) (before items : List Place) → ObjectStands used row clock → items ≡ before ++ places_named used row → (p : Place) → Contains items p → Contains before p ⊎ IsSome (used p)
-only_used names used row clock before items stands is p listed = elim (only_named used row before items is p listed) [
+pub only_used : OneName → HasBlocks → (used : Place → Option Stored) (row : ImageRow) (clock : ℕ) (before items : List Place) → ObjectStands used row clock → items ≡ before ++ places_named used row → (p : Place) → Contains items p → Contains before p ⊎ IsSome (used p)
+only_used names has used row clock before items stands is p listed = elim (only_named used row before items is p listed) [
   | inl old ↦ inl old
-  | inr new ↦ inr (is_used new.0 row.object (used p) (named_is_used names used row clock new.0 p stands new.1))
+  | inr new ↦ inr (is_used new.0 row.object (used p) (named_is_used names has used row clock new.0 p stands new.1))
 ]

@@ -29,10 +29,13 @@ use Rattle.image_chains.specs.History.{HistoryStands}
 use Rattle.image_objects.specs.Objects.{ObjectStands}
 use Rattle.image_objects.specs.Saved.{saved_row, HoldsUsed, IsSavedAsHeld}
 use Rattle.image_objects.proofs.HeldByName.{Seen, seen}
-use Rattle.image_objects.proofs.Saving.{Walked, walked, same_blocks, checkpoint_too, used_too, saved_as_held}
+use Rattle.image_objects.proofs.Checkpoints.{CheckpointLaws, checkpoint_too}
+use Rattle.image_objects.proofs.Using.{used_too}
+use Rattle.image_objects.proofs.Saving.{Walked, walked, same_blocks, saved_as_held}
 
 -- what the crates below say of rows, chains and inodes
 pub record Laws : Type 0 where
+  pub checkpoints : CheckpointLaws
   pub packing : (entries : List EntryFields) → AllFit entries → KeepsTheRule (packed entries)
   pub end : (i j : Inode) (entries : List EntryFields) → Run i entries j → j ≡ redone_all entries i
   pub making : (held : Place → Option Stored) (o : ℕ) (row : Row) (t : ℕ) → IsRow held o row → (inode_of held o row t).created ≡ row.created
@@ -79,7 +82,7 @@ begins laws used held o row clock (Some p) holds stands is known within =
     let c = told held o row in
     record {
       found = c;
-      decodes = checkpoint_too used held o p c holds known;
+      decodes = checkpoint_too laws.checkpoints used held o p c holds known;
       tells = record { object = refl; moment = refl; within = within; created = laws.making held o row row.checkpoint_moment stands };
       place = has_its_place held o row (undone_all (entries_by row.checkpoint_moment (entries_of held o row)) c.inode) (first_is held o row p c is known);
     }
@@ -130,7 +133,7 @@ same_bytes used held o p holds some =
 pub object_stands : Laws → (used held : Place → Option Stored) (o latest clock : ℕ) (row : Row) → HoldsUsed used held → IsObject held o row latest → IsOrderly held o row latest → latest ≤ clock
     → ObjectStands used (saved_row o row) clock
 object_stands laws used held o latest clock row holds object orderly by =
-    let same : IsSavedAsHeld used held o row = saved_as_held used held o row holds object.stands in
+    let same : IsSavedAsHeld used held o row = saved_as_held laws.checkpoints used held o row holds object.stands in
     let agree : (t : ℕ) → AgreeAt (contents_of held) (contents_of used) (inode_of held o row t) = λ t k p at. same_bytes used held o p holds (object.pointers t k p at) in
     let tidy : (t : ℕ) → Tidy (contents_of used) (inode_of held o row t) = λ t. (laws.matter (contents_of held) (contents_of used) (inode_of held o row t) (agree t)).1 (object.tidy t) in
     record {

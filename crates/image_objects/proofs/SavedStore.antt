@@ -24,6 +24,8 @@ use Rattle.image_objects.specs.Rows.{RowsAscend, RowsShareNoMoment, RowsStand}
 use Rattle.image_objects.specs.Saved.{HoldsUsed, IsSavedAsHeld, ObjectsAscend, saved_row, saved_rows}
 use Rattle.image_objects.proofs.HeldByName.{Seen, seen}
 use Rattle.image_objects.proofs.SavedRows.{first_listed, listed_behind, object_from, listed_found, found_listed, is_saved, was_saved, all_saved, saved_ascend}
+use Rattle.checkpoint.specs.Held.{is_one_of}
+use Rattle.image_objects.proofs.Checkpoints.{CheckpointLaws, same_checkpoint_places}
 use Rattle.image_objects.proofs.Saving.{walked, same_places, saved_as_held}
 
 -- each object that is held stands: the law of one object
@@ -43,23 +45,23 @@ saved_apart used low (x ∷ rows) ascend apart =
     (first, saved_apart used (x.0 + 1) rows ascend.1 (λ a b one other less. apart a b (listed_behind x rows a one) (listed_behind x rows b other) less))
 
 -- a row that is listed tells over the used blocks what it told
-same_listed : (used : Place → Option Stored) (s : StoreFields) (low : ℕ) (e : ℕ × Row) → IsStore s → HoldsUsed used s.log.held → ObjectsAscend low s.rows → Contains s.rows e → IsSavedAsHeld used s.log.held e.0 e.1
-same_listed used s low e store holds ascend there = saved_as_held used s.log.held e.0 e.1 holds (store.objects e.0 e.1 (listed_found low s.rows e ascend there)).stands
+same_listed : CheckpointLaws → (used : Place → Option Stored) (s : StoreFields) (low : ℕ) (e : ℕ × Row) → IsStore s → HoldsUsed used s.log.held → ObjectsAscend low s.rows → Contains s.rows e → IsSavedAsHeld used s.log.held e.0 e.1
+same_listed laws used s low e store holds ascend there = saved_as_held laws used s.log.held e.0 e.1 holds (store.objects e.0 e.1 (listed_found low s.rows e ascend there)).stands
 
-chains_apart : (used : Place → Option Stored) (s : StoreFields) (low : ℕ) → IsStore s → HoldsUsed used s.log.held → ObjectsAscend low s.rows → SavedApart used s.rows
-chains_apart used s low store holds ascend a b first second less =
+chains_apart : CheckpointLaws → (used : Place → Option Stored) (s : StoreFields) (low : ℕ) → IsStore s → HoldsUsed used s.log.held → ObjectsAscend low s.rows → SavedApart used s.rows
+chains_apart laws used s low store holds ascend a b first second less =
     let apart = store.apart a.0 b.0 a.1 b.1 less (listed_found low s.rows a ascend first) (listed_found low s.rows b ascend second) in
-    let early : entries_of s.log.held a.0 a.1 ≡ entries_used used (saved_row a.0 a.1) = sym (same_listed used s low a store holds ascend first).entries in
-    let late : entries_of s.log.held b.0 b.1 ≡ entries_used used (saved_row b.0 b.1) = sym (same_listed used s low b store holds ascend second).entries in
+    let early : entries_of s.log.held a.0 a.1 ≡ entries_used used (saved_row a.0 a.1) = sym (same_listed laws used s low a store holds ascend first).entries in
+    let late : entries_of s.log.held b.0 b.1 ≡ entries_used used (saved_row b.0 b.1) = sym (same_listed laws used s low b store holds ascend second).entries in
     subst (λ (es : List EntryFields). ShareNoMoment (entries_used used (saved_row a.0 a.1)) es) late (subst (λ (es : List EntryFields). ShareNoMoment es (entries_of s.log.held b.0 b.1)) early apart)
 
-pub store_stands : EachStands → (used : Place → Option Stored) (s : StoreFields) (low clock : ℕ) → IsStore s → s.latest ≤ clock → HoldsUsed used s.log.held → ObjectsAscend low s.rows → RowsStand used (saved_rows s.rows) clock
-store_stands each used s low clock store by holds ascend =
+pub store_stands : CheckpointLaws → EachStands → (used : Place → Option Stored) (s : StoreFields) (low clock : ℕ) → IsStore s → s.latest ≤ clock → HoldsUsed used s.log.held → ObjectsAscend low s.rows → RowsStand used (saved_rows s.rows) clock
+store_stands laws each used s low clock store by holds ascend =
     let P : ImageRow → Type 0 = λ row. ObjectStands used row clock in
     record {
       objects = all_saved P s.rows
           (λ e there. let found = listed_found low s.rows e ascend there in each used s.log.held e.0 s.latest clock e.1 holds (store.objects e.0 e.1 found) (store.orderly e.0 e.1 found) by);
-      apart = saved_apart used low s.rows ascend (chains_apart used s low store holds ascend);
+      apart = saved_apart used low s.rows ascend (chains_apart laws used s low store holds ascend);
     }
 
 pub store_ascends : (used : Place → Option Stored) (s : StoreFields) (low clock : ℕ) → IsStore s → s.latest ≤ clock → HoldsUsed used s.log.held → ObjectsAscend low s.rows → RowsAscend clock 0 0 (saved_rows s.rows)
@@ -81,34 +83,34 @@ at_most_one true = omega arith
 at_most_one false = omega arith
 
 -- what a row names of what is held it names of what is used
-names_used : (used held : Place → Option Stored) (o : ℕ) (row : Row) (k : BlockKind) (p : Place) → HoldsUsed used held → IsRow held o row → Names held o row k p → NamesUsed used (saved_row o row) k p
-names_used used held o row Journal p holds stands names =
+names_used : CheckpointLaws → (used held : Place → Option Stored) (o : ℕ) (row : Row) (k : BlockKind) (p : Place) → HoldsUsed used held → IsRow held o row → Names held o row k p → NamesUsed used (saved_row o row) k p
+names_used laws used held o row Journal p holds stands names =
     let places : chain_places (of_kind Journal o used) o row.head ≡ chain_places (of_kind Journal o held) o row.head = same_places used held o row (walked used held o row holds stands) in
     let count : times p (chain_places (of_kind Journal o used) o row.head) ≡ 1 = ap (λ (ps : List Place). times p ps) places ∙ names in
     omega (arith, count)
-names_used used held o row Checkpoint p holds stands names = names
-names_used used held o row Data p holds stands names = subst (λ (slots : List (Option Place)). Contains slots (Some p)) (sym (saved_as_held used held o row holds stands).pointers) names
+names_used laws used held o row Checkpoint p holds stands names = ap (λ (places : List Place). is_one_of places p) (same_checkpoint_places laws used held o row holds stands) ∙ names
+names_used laws used held o row Data p holds stands names = subst (λ (slots : List (Option Place)). Contains slots (Some p)) (sym (saved_as_held laws used held o row holds stands).pointers) names
 
-names_held : (used held : Place → Option Stored) (o : ℕ) (row : Row) (k : BlockKind) (p : Place) → HoldsUsed used held → IsRow held o row → NamesUsed used (saved_row o row) k p → Names held o row k p
-names_held used held o row Journal p holds stands names =
+names_held : CheckpointLaws → (used held : Place → Option Stored) (o : ℕ) (row : Row) (k : BlockKind) (p : Place) → HoldsUsed used held → IsRow held o row → NamesUsed used (saved_row o row) k p → Names held o row k p
+names_held laws used held o row Journal p holds stands names =
     let places : chain_places (of_kind Journal o used) o row.head ≡ chain_places (of_kind Journal o held) o row.head = same_places used held o row (walked used held o row holds stands) in
     let count : times p (chain_places (of_kind Journal o used) o row.head) ≡ times p (chain_places (of_kind Journal o held) o row.head) = ap (λ (ps : List Place). times p ps) places in
     let there : Bool = is_some (of_kind Journal o held p) in
     let once : times p (chain_places (of_kind Journal o held) o row.head) ≡ bit there = stands.chain.once p in
     let few = at_most_one there in
     omega (arith, names, count, once, few)
-names_held used held o row Checkpoint p holds stands names = names
-names_held used held o row Data p holds stands names = subst (λ (slots : List (Option Place)). Contains slots (Some p)) (saved_as_held used held o row holds stands).pointers names
+names_held laws used held o row Checkpoint p holds stands names = sym (ap (λ (places : List Place). is_one_of places p) (same_checkpoint_places laws used held o row holds stands)) ∙ names
+names_held laws used held o row Data p holds stands names = subst (λ (slots : List (Option Place)). Contains slots (Some p)) (saved_as_held laws used held o row holds stands).pointers names
 
-named_by : EachHeldBlockIsNamed → (used : Place → Option Stored) (s : StoreFields) (p : Place) (block : Stored) → IsStore s → HoldsUsed used s.log.held → s.log.held p ≡ Some block → IsNamedBy used (saved_rows s.rows) p block
-named_by law used s p block store holds here =
+named_by : CheckpointLaws → EachHeldBlockIsNamed → (used : Place → Option Stored) (s : StoreFields) (p : Place) (block : Stored) → IsStore s → HoldsUsed used s.log.held → s.log.held p ≡ Some block → IsNamedBy used (saved_rows s.rows) p block
+named_by laws law used s p block store holds here =
     let n : IsNamed s block.object block.kind p = law s p block store here in
     let o = block.object in
     record {
       row = saved_row o n.row;
       listed = is_saved s.rows (o, n.row) (found_listed s.rows o n.row n.there);
       object = refl;
-      names = names_used used s.log.held o n.row block.kind p holds (store.objects o n.row n.there).stands n.names;
+      names = names_used laws used s.log.held o n.row block.kind p holds (store.objects o n.row n.there).stands n.names;
     }
 
 some_there : {X : Type 0} (found : Option X) → IsSome found → (x : X) × (found ≡ Some x)
@@ -116,26 +118,26 @@ some_there None some = absurd (false≢true some)
 some_there (Some x) some = (x, refl)
 
 -- a block is held where one that is used there is named by a row that is listed
-held_of : HeldIsWhatRowsName → (used : Place → Option Stored) (s : StoreFields) (low : ℕ) (e : ℕ × Row) (p : Place) (block : Stored) → IsStore s → HoldsUsed used s.log.held → ObjectsAscend low s.rows → Contains s.rows e
+held_of : CheckpointLaws → HeldIsWhatRowsName → (used : Place → Option Stored) (s : StoreFields) (low : ℕ) (e : ℕ × Row) (p : Place) (block : Stored) → IsStore s → HoldsUsed used s.log.held → ObjectsAscend low s.rows → Contains s.rows e
     → used p ≡ Some block → NamesUsed used (saved_row e.0 e.1) block.kind p → s.log.held p ≡ Some block
-held_of law used s low e p block store holds ascend there here names =
+held_of laws law used s low e p block store holds ascend there here names =
     let found : row_of s.rows e.0 ≡ Some e.1 = listed_found low s.rows e ascend there in
-    let n : IsNamed s e.0 block.kind p = record { row = e.1; there = found; names = names_held used s.log.held e.0 e.1 block.kind p holds (store.objects e.0 e.1 found).stands names } in
+    let n : IsNamed s e.0 block.kind p = record { row = e.1; there = found; names = names_held laws used s.log.held e.0 e.1 block.kind p holds (store.objects e.0 e.1 found).stands names } in
     let (bytes, is) = some_there (of_kind block.kind e.0 s.log.held p) ((law s e.0 block.kind p store).1 n) in
     let b : Seen block.kind e.0 (s.log.held p) bytes = seen block.kind e.0 (s.log.held p) bytes is in
     b.there ∙ sym (holds p b.block b.there) ∙ here
 
-held_by : HeldIsWhatRowsName → (used : Place → Option Stored) (s : StoreFields) (low : ℕ) (p : Place) (block : Stored) → IsStore s → HoldsUsed used s.log.held → ObjectsAscend low s.rows
+held_by : CheckpointLaws → HeldIsWhatRowsName → (used : Place → Option Stored) (s : StoreFields) (low : ℕ) (p : Place) (block : Stored) → IsStore s → HoldsUsed used s.log.held → ObjectsAscend low s.rows
     → used p ≡ Some block → IsNamedBy used (saved_rows s.rows) p block → s.log.held p ≡ Some block
-held_by law used s low p block store holds ascend here n =
+held_by laws law used s low p block store holds ascend here n =
     let (e, there, same) = was_saved s.rows n.row n.listed in
-    held_of law used s low e p block store holds ascend there here (subst (λ (r : ImageRow). NamesUsed used r block.kind p) (sym same) n.names)
+    held_of laws law used s low e p block store holds ascend there here (subst (λ (r : ImageRow). NamesUsed used r block.kind p) (sym same) n.names)
 
-pub holds_what_is_named : HeldIsWhatRowsName → EachHeldBlockIsNamed → (used : Place → Option Stored) (s : StoreFields) (low : ℕ) → IsStore s → HoldsUsed used s.log.held → ObjectsAscend low s.rows
+pub holds_what_is_named : CheckpointLaws → HeldIsWhatRowsName → EachHeldBlockIsNamed → (used : Place → Option Stored) (s : StoreFields) (low : ℕ) → IsStore s → HoldsUsed used s.log.held → ObjectsAscend low s.rows
     → HoldsWhatIsNamed used s.log.held (saved_rows s.rows)
-holds_what_is_named exact each used s low store holds ascend =
+holds_what_is_named laws exact each used s low store holds ascend =
     record {
       kept = holds;
-      named = λ p block here. named_by each used s p block store holds here;
-      all = λ p block here n. held_by exact used s low p block store holds ascend here n;
+      named = λ p block here. named_by laws each used s p block store holds here;
+      all = λ p block here n. held_by laws exact used s low p block store holds ascend here n;
     }

@@ -1,12 +1,10 @@
 -- Over the used blocks a row that is saved tells what it tells over those that are held.
 use Rattle.std.proofs.Common.{◌≡◌, ℕ, zero, suc, List, [], ◌++◌, Option, Some, None, unwrap_or, refl, sym, ap, ◌∙◌}
-use Rattle.std.specs.Prelude.{MatchOption}
 use Rattle.std.proofs.lemmas.Option.{none-some}
 use Rattle.s4_types.specs.Pointer.{Place}
 use Rattle.s4_types.specs.declared.limits.TheConstants.{CHAIN_BLOCKS}
 use Rattle.block_log.specs.Log.{Stored, of_kind}
-use Rattle.block_log.specs.declared.kinds.BlockKind.{BlockKind}
-use Rattle.block_log.specs.declared.kinds.BlockKind.TheVariants.{Journal, Checkpoint}
+use Rattle.block_log.specs.declared.kinds.BlockKind.TheVariants.{Journal}
 use Rattle.codec.specs.Fields.{◌>>=◌}
 use Rattle.codec.specs.declared.inodes.Inode.{Inode}
 use Rattle.codec.specs.Entry.{EntryFields, entries_length}
@@ -15,7 +13,6 @@ use Rattle.codec.specs.Checkpoint.{CheckpointFields}
 use Rattle.undo_redo.specs.Runs.{inode_after}
 use Rattle.journal_chain.specs.Packing.{joined, packed, filled_bytes}
 use Rattle.journal_chain.specs.Chain.{Link, linked, links_from, chain_links, chain_places, chain_entries, journal_in, journal_of, places_of, blocks_of}
-use Rattle.checkpoint.specs.Held.{checkpoint_held, spelled_checkpoint}
 use Rattle.object_map.specs.declared.map.Row.{Row}
 use Rattle.time_read.specs.Rows.{IsRow, inode_before, entries_of, checkpoint_of, first_of, inode_of}
 use Rattle.version_store.specs.Store.{pointers_kept, sides_told, pointers_of}
@@ -24,7 +21,8 @@ use Rattle.image_chains.specs.Inodes.{checkpoint_used, first_used}
 use Rattle.image_chains.specs.History.{kept_row}
 use Rattle.image_objects.specs.Objects.{pointers_used, inode_used}
 use Rattle.image_objects.specs.Saved.{saved_row, HoldsUsed, IsSavedAsHeld}
-use Rattle.image_objects.proofs.HeldByName.{Seen, seen, seen_here}
+use Rattle.image_objects.proofs.Checkpoints.{CheckpointLaws, same_checkpoint}
+use Rattle.image_objects.proofs.Using.{used_too}
 
 bind_some : {A B : Type 0} (o : Option A) (f : A → Option B) (y : B) → (o >>= f) ≡ Some y → (x : A) × ((o ≡ Some x) × (f x ≡ Some y))
 bind_some None f y h = absurd (none-some y h)
@@ -32,12 +30,6 @@ bind_some (Some x) f y h = (x, (refl, h))
 
 bind_is : {A B : Type 0} (o : Option A) (f : A → Option B) (x : A) → o ≡ Some x → (o >>= f) ≡ f x
 bind_is o f x h = ap (λ p. p >>= f) h
-
--- a block that is held as one of a kind and of an object is used as that
-pub used_too : (used held : Place → Option Stored) (k : BlockKind) (o : ℕ) (p : Place) (bytes : List ℕ) → HoldsUsed used held → of_kind k o held p ≡ Some bytes → of_kind k o used p ≡ Some bytes
-used_too used held k o p bytes holds h =
-    let s : Seen k o (held p) bytes = seen k o (held p) bytes h in
-    seen_here k o (used p) s.block (holds p s.block s.there) s.kind s.object ∙ ap (λ (b : List ℕ). Some b) s.same
 
 -- ---- the chain
 
@@ -93,27 +85,6 @@ same_chain used held o row w = ap (λ (ls : Option (List Link)). ls >>= λ links
 same_entries : (used held : Place → Option Stored) (o : ℕ) (row : Row) → Walked used held o row → entries_used used (saved_row o row) ≡ entries_of held o row
 same_entries used held o row w = ap (λ (es : Option (List EntryFields)). unwrap_or es []) (same_chain used held o row w)
 
--- ---- the checkpoint
-
-spelled_there : (b : Option (List ℕ)) (c : CheckpointFields) → spelled_checkpoint b ≡ Some c → (bytes : List ℕ) × ((b ≡ Some bytes) × (spelled_checkpoint (Some bytes) ≡ Some c))
-spelled_there None c h = absurd (none-some c h)
-spelled_there (Some bytes) c h = (bytes, (refl, h))
-
-pub checkpoint_too : (used held : Place → Option Stored) (o : ℕ) (p : Place) (c : CheckpointFields) → HoldsUsed used held → checkpoint_held held o p ≡ Some c → checkpoint_held used o p ≡ Some c
-checkpoint_too used held o p c holds h =
-    let (bytes, (here, spelled)) = spelled_there (of_kind Checkpoint o held p) c h in
-    ap spelled_checkpoint (used_too used held Checkpoint o p bytes holds here) ∙ spelled
-
-checkpoint_at : (used held : Place → Option Stored) (o : ℕ) (none : Type 0) (c : CheckpointFields) (q : Option Place) → HoldsUsed used held → MatchOption q none (λ p. checkpoint_held held o p ≡ Some c)
-    → (q >>= checkpoint_held used o) ≡ (q >>= checkpoint_held held o)
-checkpoint_at used held o none c None holds known = refl
-checkpoint_at used held o none c (Some p) holds known = checkpoint_too used held o p c holds known ∙ sym known
-
-same_checkpoint : (used held : Place → Option Stored) (o : ℕ) (row : Row) → HoldsUsed used held → IsRow held o row → checkpoint_used used (saved_row o row) ≡ checkpoint_of held o row
-same_checkpoint used held o row holds stands =
-    let c : CheckpointFields = record { object = o; moment = row.checkpoint_moment; inode = inode_of held o row row.checkpoint_moment } in
-    checkpoint_at used held o (row.checkpoint_moment ≡ 0) c row.checkpoint holds stands.checkpoint
-
 -- ---- the row
 
 same_first : (used held : Place → Option Stored) (o : ℕ) (row : Row) → entries_used used (saved_row o row) ≡ entries_of held o row → checkpoint_used used (saved_row o row) ≡ checkpoint_of held o row
@@ -145,10 +116,10 @@ same_row used held o row entries stands =
     ∙ ap (λ (n : ℕ). with_counts row n (filled_bytes (packed (entries_of held o row)))) (sym stands.chain.bytes)
     ∙ ap (λ (n : ℕ). with_counts row row.journal_bytes n) (sym stands.chain.filled)
 
-pub saved_as_held : (used held : Place → Option Stored) (o : ℕ) (row : Row) → HoldsUsed used held → IsRow held o row → IsSavedAsHeld used held o row
-saved_as_held used held o row holds stands =
+pub saved_as_held : CheckpointLaws → (used held : Place → Option Stored) (o : ℕ) (row : Row) → HoldsUsed used held → IsRow held o row → IsSavedAsHeld used held o row
+saved_as_held laws used held o row holds stands =
     let entries : entries_used used (saved_row o row) ≡ entries_of held o row = same_entries used held o row (walked used held o row holds stands) in
-    let checkpoint : checkpoint_used used (saved_row o row) ≡ checkpoint_of held o row = same_checkpoint used held o row holds stands in
+    let checkpoint : checkpoint_used used (saved_row o row) ≡ checkpoint_of held o row = same_checkpoint laws used held o row holds stands in
     let first : first_used used (saved_row o row) ≡ first_of held o row = same_first used held o row entries checkpoint in
     record {
       entries = entries;

@@ -1,17 +1,17 @@
 -- An object that stands in an image is held as it stands, where just what rows name is held.
-use Rattle.std.proofs.Common.{◌≡◌, ℕ, ◌≤◌, List, ◌++◌, get_or, Option, Some, None, IsSome, is_some, refl, sym, ap, ◌∙◌, subst}
+use Rattle.std.proofs.Common.{◌≡◌, ℕ, ◌≤◌, true, List, ◌++◌, get_or, Option, Some, None, IsSome, is_some, refl, sym, ap, ◌∙◌, subst}
 use Rattle.std.specs.List.{All, Contains}
 use Rattle.std.proofs.lemmas.Bool.{false≢true, cond-true}
 use Rattle.std.proofs.lemmas.List.Elements.{All-contains, All-from_recursion, Contains-get_or}
 use Rattle.s4_types.specs.Pointer.{Place}
-use Rattle.block_log.specs.Log.{Stored, of_kind, same_place}
+use Rattle.block_log.specs.Log.{Stored, of_kind}
 use Rattle.block_log.specs.declared.kinds.BlockKind.TheVariants.{Journal, Checkpoint, Data}
 use Rattle.codec.specs.Fields.{◌>>=◌}
 use Rattle.codec.specs.declared.inodes.Inode.{Inode}
 use Rattle.codec.specs.Entry.{EntryFields}
 use Rattle.codec.specs.Checkpoint.{CheckpointFields}
 use Rattle.undo_redo.specs.Runs.{redone_all, inode_after, AllBy}
-use Rattle.checkpoint.specs.Held.{checkpoint_held, spelled_checkpoint}
+use Rattle.checkpoint.specs.Held.{checkpoint_held, checkpoint_places, of_checkpoints, places_named, is_one_of}
 use Rattle.journal_chain.specs.Chain.{ChainFields, Holds, entries_held}
 use Rattle.inode.specs.Contents.{bytes_stored, contents_of, meaning}
 use Rattle.inode.specs.Tidiness.{Tidy, PointersHeld, AgreeAt}
@@ -30,20 +30,20 @@ use Rattle.image_objects.specs.Naming.{HoldsWhatIsNamed}
 use Rattle.image_objects.specs.Rows.{RowsAscend, RowsStand}
 use Rattle.image_objects.specs.Laws.{IsHeldAsUsed, InodesUsedPointToWhatRowsLeadTo}
 use Rattle.image_objects.proofs.Listed.{above, made_by}
-use Rattle.image_objects.proofs.HeldByName.{OneName, Seen, seen, held_named, named_held, journal_held, place_itself}
+use Rattle.image_objects.proofs.HeldByName.{Seen, seen, held_named, named_held, journal_held}
 use Rattle.image_objects.proofs.HeldByName.{checkpoint_held as checkpoints_held}
 
 -- of an object's journal blocks those of the row's chain alone are held
 abbrev pub JournalIsHeld : (Place → Option Stored) → (Place → Option Stored) → ImageRow → Type 0
 JournalIsHeld used held row = (p : Place) → of_kind Journal row.object held p ≡ chain_view used row p
 
--- and of its checkpoints the one that the row names
+-- and of its checkpoints' blocks those of the one that the row names
 abbrev pub CheckpointIsHeld : (Place → Option Stored) → (Place → Option Stored) → ImageRow → Type 0
 CheckpointIsHeld used held row = (p : Place) → of_kind Checkpoint row.object held p ≡ checkpoint_view used row p
 
 -- what the crates below say of rows, chains and inodes
 pub record Laws : Type 0 where
-  pub names : OneName
+  pub told : (held later : Place → Option Stored) (o : ℕ) (p : Place) → ((q : Place) → is_one_of (checkpoint_places held o p) q ≡ true → of_checkpoints o later q ≡ of_checkpoints o held q) → checkpoint_held later o p ≡ checkpoint_held held o p
   pub chain : (used held : Place → Option Stored) (row : ImageRow) (clock : ℕ) → ChainStands used row clock → JournalIsHeld used held row → Holds held (chain_fields used row) (entries_used used row)
   pub entries : (held : Place → Option Stored) (chain : ChainFields) (entries : List EntryFields) → Holds held chain entries → entries_held held chain ≡ entries
   pub row : (used held : Place → Option Stored) (row : ImageRow) (clock stamp : ℕ) → 1 ≤ row.object → HistoryStands used row clock → JournalIsHeld used held row → CheckpointIsHeld used held row
@@ -57,9 +57,9 @@ pub record Laws : Type 0 where
 
 -- ---- what a row tells over the held blocks is what it tells over the used ones
 
-same_checkpoint : (used held : Place → Option Stored) (o : ℕ) (q : Option Place) → ((p : Place) → of_kind Checkpoint o held p ≡ named_at q (of_kind Checkpoint o used) p) → (q >>= checkpoint_held held o) ≡ (q >>= checkpoint_held used o)
-same_checkpoint used held o None only = refl
-same_checkpoint used held o (Some p) only = ap spelled_checkpoint (only p ∙ cond-true (same_place p p) (of_kind Checkpoint o used p) None (place_itself p))
+same_checkpoint : Laws → (used held : Place → Option Stored) (o : ℕ) (c : Option Place) → ((p : Place) → of_checkpoints o held p ≡ named_at (places_named (of_checkpoints o used) c) (of_checkpoints o used) p) → (c >>= checkpoint_held held o) ≡ (c >>= checkpoint_held used o)
+same_checkpoint laws used held o None only = refl
+same_checkpoint laws used held o (Some p) only = laws.told used held o p (λ q is. only q ∙ cond-true (is_one_of (checkpoint_places used o p) q) (of_checkpoints o used q) None is)
 
 -- an object's row, and what it tells of journal and checkpoint
 record Same (used held : Place → Option Stored) (row : ImageRow) (clock stamp : ℕ) : Type 0 where
@@ -71,12 +71,12 @@ record Same (used held : Place → Option Stored) (row : ImageRow) (clock stamp 
 same : Laws → (used held : Place → Option Stored) (rows : List ImageRow) (row : ImageRow) (clock stamp : ℕ) → RowsAscend clock 0 0 rows → HoldsWhatIsNamed used held rows → Contains rows row → HistoryStands used row clock → Same used held row clock stamp
 same laws used held rows row clock stamp ascend holds there h =
     let journal : JournalIsHeld used held row = journal_held used held rows clock row ascend holds there in
-    let checkpoint : CheckpointIsHeld used held row = checkpoints_held laws.names used held rows clock row ascend holds there in
+    let checkpoint : CheckpointIsHeld used held row = checkpoints_held used held rows clock row ascend holds there in
     let (object, created) = above clock 0 0 rows row ascend there in
     let by : row.created ≤ clock = made_by clock 0 0 rows row ascend there in
     record {
       entries = laws.entries held (chain_fields used row) (entries_used used row) (laws.chain used held row clock h.chain journal);
-      checkpoint = same_checkpoint used held row.object row.checkpoint checkpoint;
+      checkpoint = same_checkpoint laws used held row.object row.checkpoint checkpoint;
       stands = laws.row used held row clock stamp object h journal checkpoint;
       orderly = laws.orderly used held row clock stamp (created, by) h journal checkpoint;
     }

@@ -5,7 +5,8 @@ ghost use Rattle.std.specs.List.Sorted.{IsPermutation, IsSorted};
 ghost use Rattle.std.specs.Ordering.{nat_cmp};
 ghost use Rattle.s4_types.specs.Pointer.{Place};
 ghost use Rattle.block_log.specs.Log.{Log, Stored, of_kind};
-ghost use Rattle.block_log.specs.declared.kinds.BlockKind.TheVariants.{Journal, Checkpoint, Data};
+ghost use Rattle.block_log.specs.declared.kinds.BlockKind.TheVariants.{Journal, Data};
+ghost use Rattle.checkpoint.specs.Held.{of_checkpoints};
 ghost use Rattle.codec.specs.Entry.{EntryFields};
 ghost use Rattle.undo_redo.specs.Groups.{grouped};
 ghost use Rattle.undo_redo.specs.Runs.{last_moment};
@@ -21,7 +22,7 @@ ghost use Rattle.image_objects.specs.Rows.{RowsAscend, RowsShareNoMoment, RowsSt
 ghost use Rattle.image_objects.specs.Moments.{moments_of_chain, moments_used, StandOnce};
 ghost use Rattle.image_objects.specs.Laws.{IsHeldAsUsed, InodesUsedPointToWhatRowsLeadTo};
 
-use block_log::laws::one_place_has_one_name;
+use checkpoint::laws::a_checkpoint_rests_on_its_blocks;
 use image_chains::laws::{a_chain_that_stands_is_held, a_history_that_stands_is_a_row};
 use inode::laws::only_its_blocks_matter;
 use journal_chain::laws::a_chain_has_its_entries;
@@ -31,17 +32,15 @@ use undo_redo::laws::groups_join_and_part;
 use version_store::laws::inodes_point_to_what_rows_name;
 
 /// Where just what rows name is held, these blocks are held of an object that has one of the rows, each as it is used: of its
-/// journal those of the row's chain, of its checkpoints the one that the row names, and of its data those that the row leads to.
+/// journal those of the row's chain, of its checkpoints those of the one that the row names, and of its data those that the row leads to.
 pub fn what_is_named_is_held_of_each()
     ensures journal { (used held : Place → Option Stored) (rows : List ImageRow) (clock : ℕ) (row : ImageRow) → RowsAscend clock 0 0 rows → HoldsWhatIsNamed used held rows → Contains rows row
         → (p : Place) → of_kind Journal row.object held p ≡ chain_view used row p }
     ensures checkpoint { (used held : Place → Option Stored) (rows : List ImageRow) (clock : ℕ) (row : ImageRow) → RowsAscend clock 0 0 rows → HoldsWhatIsNamed used held rows → Contains rows row
-        → (p : Place) → of_kind Checkpoint row.object held p ≡ checkpoint_view used row p }
+        → (p : Place) → of_checkpoints row.object held p ≡ checkpoint_view used row p }
     ensures data { (used held : Place → Option Stored) (rows : List ImageRow) (clock : ℕ) (row : ImageRow) → RowsAscend clock 0 0 rows → HoldsWhatIsNamed used held rows → Contains rows row
         → (p : Place) (bytes : List ℕ) → (of_kind Data row.object held p ≡ Some bytes) ↔ ((of_kind Data row.object used p ≡ Some bytes) × Contains (pointers_used used row) (Some p)) }
-{
-    one_place_has_one_name();
-}
+{}
 
 /// The rows that a drive keeps of an image's are found by their objects: each row of the image, and no other; so none of an object
 /// above all of them.
@@ -65,7 +64,7 @@ pub fn an_object_that_stands_is_held()
     ensures { (used held : Place → Option Stored) (rows : List ImageRow) (row : ImageRow) (clock stamp : ℕ) → RowsAscend clock 0 0 rows → RowsStand used rows clock → HoldsWhatIsNamed used held rows → Contains rows row
         → IsHeldAsUsed used held row clock stamp }
 {
-    one_place_has_one_name();
+    a_checkpoint_rests_on_its_blocks();
     a_chain_that_stands_is_held();
     a_chain_has_its_entries();
     a_history_that_stands_is_a_row();

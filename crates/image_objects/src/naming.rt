@@ -9,13 +9,14 @@ ghost use Rattle.block_log.specs.declared.kinds.BlockKind.{BlockKind};
 ghost use Rattle.version_store.specs.Store.{sides_of, sides_told, pointers_kept};
 ghost use Rattle.image_chains.specs.declared.rows.ImageRow.{ImageRow as RowFields};
 ghost use Rattle.image_chains.specs.Chains.{ChainStands, entries_used};
-ghost use Rattle.image_chains.specs.Inodes.{checkpoint_used};
+ghost use Rattle.image_chains.specs.Inodes.{checkpoint_used, checkpoint_places_used};
 ghost use Rattle.image_objects.specs.Objects.{ObjectStands};
 ghost use Rattle.image_objects.specs.Naming.{NamesUsed};
 ghost use Rattle.image_objects.specs.private.Places.{places_in, places_of_chain, places_named};
 
 use crate::pointers::checkpoint_of;
 use block_log::laws::one_place_has_one_name;
+use checkpoint::laws::a_checkpoint_has_its_blocks;
 use codec::{Entry, Triple};
 use image_chains::{ImageHistory, ImageRow, UsedBlocks, read_journal};
 use s4_types::limits::CHAIN_BLOCKS;
@@ -77,6 +78,18 @@ fn push_kept<U: UsedBlocks>(used: &U, row: &ImageRow, places: &mut Vec<Ptr>) -> 
     push_slots(&checkpoint.inode().pointers, places)
 }
 
+/// Adds the places of the blocks of a row's checkpoint.
+fn push_checkpoint<U: UsedBlocks>(
+    used: &U,
+    row: &ImageRow,
+    places: &mut Vec<Ptr>,
+) -> Result<(), Refusal>
+    ensures places { IfOk result (λ _. places.new.items ≡ places.old.items ++ checkpoint_places_used (U.used used.now) row.now) }
+    ensures refusal { IfErr result (λ e. e ≡ NoMemory) }
+{
+    push_slot(row.checkpoint, places)
+}
+
 /// Adds the places of the blocks of a row's chain, the newest first.
 fn push_chain<U: UsedBlocks>(used: &U, row: &ImageRow, places: &mut Vec<Ptr>) -> Result<(), Refusal>
     requires { (clock : ℕ) × ChainStands (U.used used.now) row.now clock }
@@ -110,7 +123,7 @@ fn push_all<U: UsedBlocks>(
     ensures refusal { IfErr result (λ e. e ≡ NoMemory) }
 {
     push_chain(used, row, places)?;
-    push_slot(row.checkpoint, places)?;
+    push_checkpoint(used, row, places)?;
     push_kept(used, row, places)?;
     push_entries(entries, places)
 }
@@ -135,6 +148,7 @@ pub fn push_named<U: UsedBlocks>(
     ensures refusal { IfErr result (λ e. e ≡ NoMemory) }
 {
     one_place_has_one_name();
+    a_checkpoint_has_its_blocks();
     push_all(used, row, history.chain.entries.as_slice(), places)
 }
 
@@ -144,4 +158,5 @@ pub fn what_a_row_names_is_used()
         → NamesUsed used row kind p → IsSome (of_kind kind row.object used p) }
 {
     one_place_has_one_name();
+    a_checkpoint_has_its_blocks();
 }

@@ -11,6 +11,7 @@ ghost use Rattle.image_objects.specs.Objects.{ObjectStands};
 ghost use Rattle.image_objects.specs.Rows.{RowsAscend, RowsStand};
 ghost use Rattle.image_objects.specs.Saved.{HoldsUsed, IsSavedAsHeld, ObjectsAscend, saved_row, saved_rows};
 
+use checkpoint::laws::{a_checkpoint_has_its_blocks, a_checkpoint_rests_on_its_blocks};
 use inode::laws::only_its_blocks_matter;
 use journal_chain::packing::laws::packing_keeps_the_rule;
 use row_changes::laws::a_row_keeps_the_making;
@@ -21,7 +22,10 @@ use version_store::laws::what_is_held_is_what_rows_name;
 /// Where what is held is used, a row of a drive that is saved as an image's tells the same as before.
 pub fn a_saved_row_tells_the_same()
     ensures { (used held : Place → Option Stored) (o : ℕ) (row : Row) → HoldsUsed used held → IsRow held o row → IsSavedAsHeld used held o row }
-{}
+{
+    a_checkpoint_rests_on_its_blocks();
+    a_checkpoint_has_its_blocks();
+}
 
 /// Where what is held is used, an object that is held stands in the image under the row that its own is saved as, up to each clock
 /// from the last change on.
@@ -29,7 +33,8 @@ pub fn a_row_that_is_held_stands()
     ensures { (used held : Place → Option Stored) (o latest clock : ℕ) (row : Row) → HoldsUsed used held → IsObject held o row latest → IsOrderly held o row latest → latest ≤ clock
         → ObjectStands used (saved_row o row) clock }
 {
-    a_saved_row_tells_the_same();
+    a_checkpoint_rests_on_its_blocks();
+    a_checkpoint_has_its_blocks();
     packing_keeps_the_rule();
     a_run_has_one_end_and_one_beginning();
     a_row_keeps_the_making();
@@ -45,7 +50,8 @@ pub fn a_store_stands_in_its_image()
     ensures ascend { (used : Place → Option Stored) (s : StoreFields) (low clock : ℕ) → IsStore s → s.latest ≤ clock → HoldsUsed used s.log.held → ObjectsAscend low s.rows
         → RowsAscend clock 0 0 (saved_rows s.rows) }
 {
-    a_saved_row_tells_the_same();
+    a_checkpoint_rests_on_its_blocks();
+    a_checkpoint_has_its_blocks();
     a_row_that_is_held_stands();
 }
 
@@ -54,6 +60,7 @@ pub fn what_is_held_is_what_saved_rows_name()
     ensures { (used : Place → Option Stored) (s : StoreFields) (low : ℕ) → IsStore s → HoldsUsed used s.log.held → ObjectsAscend low s.rows
         → HoldsWhatIsNamed used s.log.held (saved_rows s.rows) }
 {
-    a_saved_row_tells_the_same();
+    a_checkpoint_rests_on_its_blocks();
+    a_checkpoint_has_its_blocks();
     what_is_held_is_what_rows_name();
 }

@@ -9,28 +9,13 @@ use Rattle.codec.specs.Entry.{EntryFields}
 use Rattle.codec.specs.Checkpoint.{CheckpointFields}
 use Rattle.undo_redo.specs.Runs.{Run, AllBy, entry_is_by, entries_by, inode_after, redone_all, undone_all}
 use Rattle.undo_redo.specs.Groups.{grouped}
-use Rattle.checkpoint.specs.Held.{checkpoint_held, spelled_checkpoint, PutsCheckpoint}
+use Rattle.checkpoint.specs.Held.{checkpoint_held, checkpoint_places, of_checkpoints, is_one_of, DropsCheckpoint}
 use Rattle.object_map.specs.declared.map.Row.{Row}
 use Rattle.journal_chain.specs.Chain.{BlockView, IsChain, Holds}
 use Rattle.time_read.specs.Rows.{chain_of, entries_of, inode_before, first_of, inode_of, IsRow}
 use Rattle.row_changes.specs.Recent.{IsBy}
-use Rattle.row_changes.specs.Moved.{OnlyCheckpointChanged, is_at}
-use Rattle.row_changes.proofs.Places.{put_only, not_older, one_left}
+use Rattle.row_changes.proofs.Places.{Put, put_journal, told_on, new_alone}
 use Rattle.row_changes.proofs.Recently.{same_entries}
-
--- ---- the older checkpoint
-
-spelled_there : (block : Option (List ℕ)) → IsSome (spelled_checkpoint block) → IsSome block
-spelled_there None h = h
-spelled_there (Some block) h = refl
-
-told_there : (N : Type 0) (held : Place → Option Stored) (o : ℕ) (c : CheckpointFields) (older : Option Place) → MatchOption older N (λ p. checkpoint_held held o p ≡ Some c) → IfSome older (λ p. IsSome (of_kind Checkpoint o held p))
-told_there N held o c None h = tt
-told_there N held o c (Some p) h = spelled_there (of_kind Checkpoint o held p) (ap is_some h)
-
--- the checkpoint that a row names is held
-pub older_there : (held : Place → Option Stored) (o : ℕ) (row : Row) → IsRow held o row → IfSome row.checkpoint (λ p. IsSome (of_kind Checkpoint o held p))
-older_there held o row r = told_there (row.checkpoint_moment ≡ 0) held o (record { object = o; moment = row.checkpoint_moment; inode = inode_of held o row row.checkpoint_moment }) row.checkpoint r.checkpoint
 
 -- ---- the new one
 
@@ -43,34 +28,28 @@ pub record Laws : Type 0 where
   pub beginning : (i j : Inode) (entries : List EntryFields) → Run i entries j → i ≡ undone_all entries j
   pub done : (i : Inode) (entries : List EntryFields) (t : ℕ) → AllBy t entries → inode_after i entries t ≡ redone_all entries i
 
--- The inode that is current at a moment stands as a checkpoint at a place, and no other checkpoint of the object is held;
--- its journal is as it was.
+-- The inode that is current at a moment stands as a checkpoint at a place, and no block of another checkpoint of the object is
+-- held; its journal is as it was.
 pub record Written (held later : Place → Option Stored) (o : ℕ) (row : Row) (p : Place) (i : Inode) (m : ℕ) : Type 0 where
   pub stands : IsRow held o row
   pub latest : IsBy held o row m
   pub present : i ≡ inode_of held o row m
   pub told : checkpoint_held later o p ≡ Some (record { object = o; moment = m; inode = i })
   pub journal : of_kind Journal o later ≡ of_kind Journal o held
-  pub only : (q : Place) → IsSome (of_kind Checkpoint o later q) → Some p ≡ Some q
-
--- what is read at a place rests on what is held there
-told_still : (between later : Place → Option Stored) (o : ℕ) (p : Place) (c : CheckpointFields) → later p ≡ between p → checkpoint_held between o p ≡ Some c → checkpoint_held later o p ≡ Some c
-told_still between later o p c same told = ap (λ (there : Option Stored). spelled_checkpoint (seen_as Checkpoint o there)) same ∙ told
+  pub only : (q : Place) → IsSome (of_checkpoints o later q) → is_one_of (checkpoint_places later o p) q ≡ true
 
 -- the checkpoint was put, and then the older one was dropped
-pub written : (log between after : Log) (o : ℕ) (row : Row) (p : Place) (i : Inode) (m : ℕ) →
-    ((p q : Place) → same_place p q ≡ true → p ≡ q) →
-    IsRow log.held o row → IsBy log.held o row m → i ≡ inode_of log.held o row m →
-    PutsCheckpoint log o p between → checkpoint_held between.held o p ≡ Some (record { object = o; moment = m; inode = i }) →
-    IfSome row.checkpoint (λ q. after.held q ≡ None) → ((q : Place) → is_at row.checkpoint q ≡ false → after.held q ≡ between.held q) → OnlyCheckpointChanged o between.held after.held →
-    Written log.held after.held o row p i m
-written log between after o row p i m one r latest present put told gone kept only = record {
+pub written : (log between after : Place → Option Stored) (o : ℕ) (row : Row) (p : Place) (i : Inode) (m : ℕ) →
+    IsRow log o row → IsBy log o row m → i ≡ inode_of log o row m →
+    Put log between between o p row.checkpoint → DropsCheckpoint between o row.checkpoint after → checkpoint_held between o p ≡ Some (record { object = o; moment = m; inode = i }) →
+    Written log after o row p i m
+written log between after o row p i m r latest present s d told = record {
   stands = r;
   latest = latest;
   present = present;
-  told = told_still between.held after.held o p (record { object = o; moment = m; inode = i }) (kept p (not_older log between o p row.checkpoint one put (older_there log.held o row r))) told;
-  journal = put_only log between after o p put only Journal o refl;
-  only = one_left log between after o p row.checkpoint one put gone kept r.only;
+  told = told_on log between between after o p row.checkpoint (record { object = o; moment = m; inode = i }) s d told;
+  journal = d.others Journal o refl ∙ put_journal log between o p s.put;
+  only = new_alone log between between after o p row.checkpoint s d;
 }
 
 pub all_by : (t : ℕ) (entries : List EntryFields) → AllBy t entries → entries_by t entries ≡ entries

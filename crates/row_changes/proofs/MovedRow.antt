@@ -12,14 +12,14 @@ use Rattle.block_log.specs.declared.kinds.BlockKind.TheVariants.{Journal, Checkp
 use Rattle.codec.specs.declared.inodes.Inode.{Inode}
 use Rattle.codec.specs.Entry.{EntryFields}
 use Rattle.codec.specs.Checkpoint.{CheckpointFields}
+use Rattle.codec.specs.Fields.{◌>>=◌}
 use Rattle.undo_redo.specs.Runs.{Run, inode_after, redone_all}
 use Rattle.undo_redo.specs.Groups.{grouped}
-use Rattle.checkpoint.specs.Held.{checkpoint_held, spelled_checkpoint}
+use Rattle.checkpoint.specs.Held.{checkpoint_held, checkpoint_in, places_named, of_checkpoints, is_one_of, OnlyCheckpointChanged}
 use Rattle.object_map.specs.declared.map.Row.{Row}
 use Rattle.journal_chain.specs.Chain.{BlockView, ChainFields, Holds, OnlyJournalChanged}
 use Rattle.time_read.specs.Rows.{chain_of, entries_of, inode_before, first_of, inode_of, checkpoint_of, IsRow}
 use Rattle.time_read.specs.Orderly.{IsFromTo, IsOrderlyChain, IsOrderly, BeginsDead}
-use Rattle.row_changes.specs.Moved.{OnlyCheckpointChanged}
 use Rattle.row_changes.specs.Rewritten.{OnlyHistoryChanged}
 use Rattle.row_changes.specs.Moving.{CanTell, checkpoint_at, checkpoint_with, first_with}
 
@@ -28,13 +28,13 @@ abbrev pub with_moved : Row → Option Place → Option Place → ℕ → ℕ �
 with_moved row p head bytes filled = record { created = row.created; checkpoint = p; checkpoint_moment = row.checkpoint_moment; head = head; journal_bytes = bytes; head_bytes = filled; stamp = row.stamp }
 
 -- A history that an object's row can tell stands: its inode in a checkpoint at a place, if there is one, and its entries in a
--- chain; and no other checkpoint of the object is held.
+-- chain; and no block of another checkpoint of the object is held.
 pub record Stands (held later : Place → Option Stored) (o : ℕ) (row : Row) (kept : Option Inode) (entries : List EntryFields) (p h : Option Place) (b f : ℕ) : Type 0 where
   pub was : IsRow held o row
   pub tell : CanTell o row kept entries
   pub some : is_some p ≡ is_some row.checkpoint
   pub told : checkpoint_of later o (with_moved row p h b f) ≡ checkpoint_with o row kept
-  pub only : (q : Place) → IsSome (of_kind Checkpoint o later q) → p ≡ Some q
+  pub only : (q : Place) → IsSome (of_checkpoints o later q) → is_one_of (places_named (of_checkpoints o later) p) q ≡ true
   pub holds : Holds later (chain_of o (with_moved row p h b f)) entries
   pub found : entries_of later o (with_moved row p h b f) ≡ entries
 
@@ -129,11 +129,7 @@ holds_told later o row p h b f chain entries object head bytes filled holds = su
 -- what is told of checkpoints stays where journals alone change
 pub told_still : (between later : Place → Option Stored) (o : ℕ) (row : Row) (kept : Option Inode) (p h : Option Place) (b f : ℕ) → of_kind Checkpoint o later ≡ of_kind Checkpoint o between
     → checkpoint_of between o (record row { checkpoint = p }) ≡ checkpoint_with o row kept → checkpoint_of later o (with_moved row p h b f) ≡ checkpoint_with o row kept
-told_still between later o row kept None h b f same told = told
-told_still between later o row kept (Some q) h b f same told = same_spelling (of_kind Checkpoint o later) (of_kind Checkpoint o between) q same ∙ told
-  where
-    same_spelling : (v w : BlockView) (q : Place) → v ≡ w → spelled_checkpoint (v q) ≡ spelled_checkpoint (w q)
-    same_spelling v w q same = ap (λ (view : BlockView). spelled_checkpoint (view q)) same
+told_still between later o row kept p h b f same told = ap (λ (v : BlockView). p >>= λ q. checkpoint_in v q) same ∙ told
 
 -- a view that is of neither the journal nor the checkpoints is of no journal, and of no checkpoints
 no_journal : (kind : BlockKind) (same : Bool) → ((same_kind Journal kind || same_kind Checkpoint kind) && same) ≡ false → (same_kind Journal kind && same) ≡ false

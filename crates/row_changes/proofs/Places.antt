@@ -1,59 +1,167 @@
--- What a table shows where a checkpoint is put and an older one is dropped.
-use Rattle.std.proofs.Common.{◌≡◌, inl, inr, ℕ, false, ◌==◌, ◌&&◌, Option, Some, None, IsSome, IfSome, is_some, true, refl, sym, ap, subst, ◌∙◌}
-use Rattle.std.proofs.lemmas.Bool.{cases_Bool, both_ways, false≢true, and_from, eq-eqb}
+-- What a table shows where a checkpoint is put, the object's journal changes, and the older checkpoint is dropped.
+use Rattle.std.proofs.Common.{◌≡◌, inl, inr, ℕ, ◌+◌, Bool, true, false, ◌==◌, ◌&&◌, List, [], take, Option, Some, None, IsSome, MatchOption, is_some, refl, sym, ap, subst, ◌∙◌}
+use Rattle.std.specs.List.{Contains}
+use Rattle.std.proofs.lemmas.Bool.{cases_Bool, both_ways, false≢true}
 use Rattle.s4_types.specs.Pointer.{Place}
-use Rattle.block_log.specs.declared.kinds.BlockKind.{BlockKind}
-use Rattle.block_log.specs.declared.kinds.BlockKind.TheVariants.{Journal, Checkpoint, Data}
-use Rattle.block_log.specs.Log.{Log, Stored, same_kind, same_place, seen_as, of_kind}
-use Rattle.checkpoint.specs.Held.{PutsCheckpoint}
-use Rattle.row_changes.specs.Moved.{OnlyCheckpointChanged, is_at}
+use Rattle.block_log.specs.declared.kinds.BlockKind.TheVariants.{Journal, Checkpoint}
+use Rattle.block_log.specs.Log.{Log, Stored, seen_as, of_kind}
+use Rattle.block_log.specs.Taken.{TakesPlaces}
+use Rattle.codec.specs.Checkpoint.{CheckpointFields}
+use Rattle.checkpoint.specs.Held.{checkpoint_held, checkpoint_in, checkpoint_places, places_in, places_named, of_checkpoints, is_one_of, HasItsBlocks, OnlyCheckpointChanged, PutsCheckpoint, DropsCheckpoint}
+use Rattle.journal_chain.specs.Chain.{BlockView, OnlyJournalChanged}
+use Rattle.object_map.specs.declared.map.Row.{Row}
+use Rattle.time_read.specs.Rows.{IsRow, inode_of, checkpoint_places_of}
+use Rattle.row_changes.specs.Moved.{IsMoved}
 
-turned : (k : BlockKind) → same_kind k Checkpoint ≡ same_kind Checkpoint k
-turned Journal = refl
-turned Checkpoint = refl
-turned Data = refl
+-- ---- what is known of checkpoints
 
--- a checkpoint that is put, and what then changes checkpoints alone, changes these alone
-pub put_only : (before between after : Log) (o : ℕ) (p : Place) → PutsCheckpoint before o p between → OnlyCheckpointChanged o between.held after.held → OnlyCheckpointChanged o before.held after.held
-put_only before between after o p put only k other h =
-    let at : (q : Place) → of_kind k other between.held q ≡ of_kind k other before.held q = λ q. put.put.others k other q (ap (λ b. b && o == other) (turned k) ∙ h) in
-    only k other h ∙ λ i q. at q i
+-- the blocks of a checkpoint are as they were
+abbrev pub BlocksStay : (Place → Option Stored) → (Place → Option Stored) → ℕ → Place → Type 0
+BlocksStay held later o p = (q : Place) → is_one_of (checkpoint_places held o p) q ≡ true → of_checkpoints o later q ≡ of_checkpoints o held q
 
-pub same_place-self : (p : Place) → same_place p p ≡ true
-same_place-self p = and_from (p.frame == p.frame) (p.block == p.block && p.generation == p.generation) (eq-eqb p.frame p.frame refl) (and_from (p.block == p.block) (p.generation == p.generation) (eq-eqb p.block p.block refl) (eq-eqb p.generation p.generation refl))
+-- A checkpoint is a matter of its own blocks, and each of them is held.
+pub record CheckpointLaws : Type 0 where
+  pub told : (held later : Place → Option Stored) (o : ℕ) (p : Place) → BlocksStay held later o p → checkpoint_held later o p ≡ checkpoint_held held o p
+  pub places : (held later : Place → Option Stored) (o : ℕ) (p : Place) → BlocksStay held later o p → checkpoint_places later o p ≡ checkpoint_places held o p
+  pub held : (held : Place → Option Stored) (o : ℕ) (p : Place) → IsSome (checkpoint_held held o p) → HasItsBlocks held o (Some p)
+
+told_there : CheckpointLaws → (N : Type 0) (held : Place → Option Stored) (o : ℕ) (c : CheckpointFields) (older : Option Place) → MatchOption older N (λ p. checkpoint_held held o p ≡ Some c) → HasItsBlocks held o older
+told_there laws N held o c None h q is = absurd (false≢true is)
+told_there laws N held o c (Some p) h q is = laws.held held o p (ap is_some h) q is
+
+-- each block of the checkpoint that a row names is held
+pub older_there : CheckpointLaws → (held : Place → Option Stored) (o : ℕ) (row : Row) → IsRow held o row → HasItsBlocks held o row.checkpoint
+older_there laws held o row r =
+    told_there laws (row.checkpoint_moment ≡ 0) held o (record { object = o; moment = row.checkpoint_moment; inode = inode_of held o row row.checkpoint_moment }) row.checkpoint r.checkpoint
 
 -- where a checkpoint is seen, something is held
-pub held_there : (o : ℕ) (there : Option Stored) → IsSome (seen_as Checkpoint o there) → there ≡ None → ⊥
+held_there : (o : ℕ) (there : Option Stored) → IsSome (seen_as Checkpoint o there) → there ≡ None → ⊥
 held_there o there seen none = both_ways false refl (sym (ap (λ x. is_some (seen_as Checkpoint o x)) none) ∙ seen)
 
--- the new place, where nothing was held, is not the older one
-pub not_older : (before after : Log) (o : ℕ) (p : Place) (older : Option Place) →
-    ((p q : Place) → same_place p q ≡ true → p ≡ q) → PutsCheckpoint before o p after →
-    IfSome older (λ q. IsSome (of_kind Checkpoint o before.held q)) → is_at older p ≡ false
-not_older before after o p None one put there = refl
-not_older before after o p (Some q) one put there = elim (cases_Bool (same_place q p)) [
-  | inl e ↦ absurd (held_there o (before.held q) there (ap before.held (one q p e) ∙ put.put.fresh))
-  | inr ne ↦ ne
+-- ---- a checkpoint was put, and the journal has changed
+
+-- A checkpoint of the object was put, and then its journal alone has changed; each older block of a checkpoint was one of
+-- that which this pointer leads to, if there is one.
+pub record Put (log between chained : Place → Option Stored) (o : ℕ) (p : Place) (older : Option Place) : Type 0 where
+  pub laws : CheckpointLaws
+  pub there : HasItsBlocks log o older
+  pub only : (q : Place) → IsSome (of_checkpoints o log q) → is_one_of (places_named (of_checkpoints o log) older) q ≡ true
+  pub put : PutsCheckpoint log o p between
+  pub journal : OnlyJournalChanged o between chained
+
+-- the journal is as it was where a checkpoint is put
+pub put_journal : (log between : Place → Option Stored) (o : ℕ) (p : Place) → PutsCheckpoint log o p between → of_kind Journal o between ≡ of_kind Journal o log
+put_journal log between o p put = put.others Journal o refl
+
+-- no journal has changed
+pub no_journal_yet : (o : ℕ) (held : Place → Option Stored) → OnlyJournalChanged o held held
+no_journal_yet o held kind other h = refl
+
+-- the places of the new checkpoint, where nothing was held, are none of the older one
+apart : (log between chained : Place → Option Stored) (o : ℕ) (p : Place) (older : Option Place) → Put log between chained o p older
+    → (q : Place) → is_one_of (places_named (of_checkpoints o log) older) q ≡ true → is_one_of (checkpoint_places between o p) q ≡ false
+apart log between chained o p older s q old = elim (cases_Bool (is_one_of (checkpoint_places between o p) q)) [
+  | inl new ↦ absurd (held_there o (log q) (s.there q old) (s.put.fresh q new))
+  | inr beside ↦ beside
 ]
 
--- nothing is held at the older place, if there was one
-pub older_gone : (after : Log) (older : Option Place) (q : Place) → ((p q : Place) → same_place p q ≡ true → p ≡ q) → IfSome older (λ p. after.held p ≡ None) → is_at older q ≡ true → after.held q ≡ None
-older_gone after None q one gone at = absurd (false≢true at)
-older_gone after (Some p) q one gone at = sym (ap after.held (one p q at)) ∙ gone
+places_stay : CheckpointLaws → (log between : Place → Option Stored) (o : ℕ) (older : Option Place) → ((q : Place) → is_one_of (places_named (of_checkpoints o log) older) q ≡ true → between q ≡ log q)
+    → places_named (of_checkpoints o between) older ≡ places_named (of_checkpoints o log) older
+places_stay laws log between o None kept = refl
+places_stay laws log between o (Some r) kept = laws.places log between o r (λ q is. ap (seen_as Checkpoint o) (kept q is))
 
--- where a checkpoint was put and the older one was dropped, none but the new one is left
-pub one_left : (before between after : Log) (o : ℕ) (p : Place) (older : Option Place) →
-    ((p q : Place) → same_place p q ≡ true → p ≡ q) → PutsCheckpoint before o p between →
-    IfSome older (λ q. after.held q ≡ None) → ((q : Place) → is_at older q ≡ false → after.held q ≡ between.held q) →
-    ((q : Place) → IsSome (of_kind Checkpoint o before.held q) → older ≡ Some q) →
-    (q : Place) → IsSome (of_kind Checkpoint o after.held q) → Some p ≡ Some q
-one_left before between after o p older one put gone kept only q there = elim (cases_Bool (same_place p q)) [
-  | inl e ↦ ap (λ (place : Place). Some place) (one p q e)
-  | inr other ↦ elim (cases_Bool (is_at older q)) [
-    | inl at ↦ absurd (held_there o (after.held q) there (older_gone after older q one gone at))
+-- the older one is where it was
+pub older_places : (log between chained : Place → Option Stored) (o : ℕ) (p : Place) (older : Option Place) → Put log between chained o p older
+    → places_named (of_checkpoints o chained) older ≡ places_named (of_checkpoints o log) older
+older_places log between chained o p older s =
+    ap (λ (v : BlockView). places_named v older) (s.journal Checkpoint o refl)
+    ∙ places_stay s.laws log between o older (λ q old. s.put.kept q (apart log between chained o p older s q old))
+
+older_is : (log between chained : Place → Option Stored) (o : ℕ) (p : Place) (older : Option Place) → Put log between chained o p older
+    → (q : Place) (b : Bool) → is_one_of (places_named (of_checkpoints o chained) older) q ≡ b → is_one_of (places_named (of_checkpoints o log) older) q ≡ b
+older_is log between chained o p older s q b is = sym (ap (λ (places : List Place). is_one_of places q) (older_places log between chained o p older s)) ∙ is
+
+-- a block of a checkpoint beside the new one is as it was
+beside_new : (log between chained : Place → Option Stored) (o : ℕ) (p q : Place) (older : Option Place) → Put log between chained o p older → is_one_of (checkpoint_places between o p) q ≡ false → of_checkpoints o chained q ≡ of_checkpoints o log q
+beside_new log between chained o p q older s other =
+    ap (λ (v : BlockView). v q) (s.journal Checkpoint o refl) ∙ ap (seen_as Checkpoint o) (s.put.kept q other)
+
+-- the blocks of the older checkpoint are still there
+pub older_still : (log between chained : Place → Option Stored) (o : ℕ) (p : Place) (older : Option Place) → Put log between chained o p older → HasItsBlocks chained o older
+older_still log between chained o p older s q is =
+    let old = older_is log between chained o p older s q true is in
+    subst (λ b. IsSome b) (sym (beside_new log between chained o p q older s (apart log between chained o p older s q old))) (s.there q old)
+
+-- ---- the older one was dropped
+
+-- a place of the new checkpoint is none that was let go
+kept_new : (log between chained : Place → Option Stored) (o : ℕ) (p : Place) (older : Option Place) → Put log between chained o p older
+    → (q : Place) → is_one_of (checkpoint_places between o p) q ≡ true → is_one_of (places_named (of_checkpoints o chained) older) q ≡ false
+kept_new log between chained o p older s q new = elim (cases_Bool (is_one_of (places_named (of_checkpoints o chained) older) q)) [
+  | inl old ↦ absurd (false≢true (sym (apart log between chained o p older s q (older_is log between chained o p older s q true old)) ∙ new))
+  | inr other ↦ other
+]
+
+chained_places : (log between chained : Place → Option Stored) (o : ℕ) (p : Place) (older : Option Place) → Put log between chained o p older → checkpoint_places chained o p ≡ checkpoint_places between o p
+chained_places log between chained o p older s = ap (λ (v : BlockView). places_in v p) (s.journal Checkpoint o refl)
+
+new_stays : (log between chained after : Place → Option Stored) (o : ℕ) (p : Place) (older : Option Place) → Put log between chained o p older → DropsCheckpoint chained o older after → BlocksStay chained after o p
+new_stays log between chained after o p older s d q is =
+    let new = sym (ap (λ (places : List Place). is_one_of places q) (chained_places log between chained o p older s)) ∙ is in
+    ap (seen_as Checkpoint o) (d.kept q (kept_new log between chained o p older s q new))
+
+-- what is read of the new checkpoint stays
+pub told_on : (log between chained after : Place → Option Stored) (o : ℕ) (p : Place) (older : Option Place) (c : CheckpointFields) → Put log between chained o p older → DropsCheckpoint chained o older after
+    → checkpoint_held between o p ≡ Some c → checkpoint_held after o p ≡ Some c
+told_on log between chained after o p older c s d told =
+    s.laws.told chained after o p (new_stays log between chained after o p older s d) ∙ ap (λ (v : BlockView). checkpoint_in v p) (s.journal Checkpoint o refl) ∙ told
+
+-- and so do its places
+pub new_places : (log between chained after : Place → Option Stored) (o : ℕ) (p : Place) (older : Option Place) → Put log between chained o p older → DropsCheckpoint chained o older after → checkpoint_places after o p ≡ checkpoint_places between o p
+new_places log between chained after o p older s d = s.laws.places chained after o p (new_stays log between chained after o p older s d) ∙ chained_places log between chained o p older s
+
+new_is : (log between chained after : Place → Option Stored) (o : ℕ) (p : Place) (older : Option Place) → Put log between chained o p older → DropsCheckpoint chained o older after
+    → (q : Place) (b : Bool) → is_one_of (checkpoint_places after o p) q ≡ b → is_one_of (checkpoint_places between o p) q ≡ b
+new_is log between chained after o p older s d q b is = sym (ap (λ (places : List Place). is_one_of places q) (new_places log between chained after o p older s d)) ∙ is
+
+-- no block of a checkpoint but those of the new one is left
+pub new_alone : (log between chained after : Place → Option Stored) (o : ℕ) (p : Place) (older : Option Place) → Put log between chained o p older → DropsCheckpoint chained o older after
+    → (q : Place) → IsSome (of_checkpoints o after q) → is_one_of (checkpoint_places after o p) q ≡ true
+new_alone log between chained after o p older s d q there = elim (cases_Bool (is_one_of (checkpoint_places after o p) q)) [
+  | inl new ↦ new
+  | inr other ↦ elim (cases_Bool (is_one_of (places_named (of_checkpoints o chained) older) q)) [
+    | inl old ↦ absurd (held_there o (after q) there (d.gone q old))
     | inr beside ↦
-        let was : after.held q ≡ before.held q = kept q beside ∙ put.put.kept q other in
-        let older_is : older ≡ Some q = only q (subst (λ (there : Option Stored). IsSome (seen_as Checkpoint o there)) was there) in
-        absurd (false≢true (sym beside ∙ ap (λ (place : Option Place). is_at place q) older_is ∙ same_place-self q))
+        let was : of_checkpoints o after q ≡ of_checkpoints o log q =
+        ap (seen_as Checkpoint o) (d.kept q beside) ∙ beside_new log between chained o p q older s (new_is log between chained after o p older s d q false other) in
+        absurd (false≢true (sym (older_is log between chained o p older s q false beside) ∙ s.only q (subst (λ b. IsSome b) was there)))
   ]
 ]
+
+-- each of its blocks stands at a place that was taken
+pub new_among : (n : ℕ) (log between after : Log) (o : ℕ) (p : Place) (older : Option Place) → Put log.held between.held between.held o p older → DropsCheckpoint between.held o older after.held → TakesPlaces n log between
+    → (q : Place) → IsSome (of_checkpoints o after.held q) → Contains (take n log.ahead) q
+new_among n log between after o p older s d takes q there =
+    let new = new_is log.held between.held between.held after.held o p older s d q true (new_alone log.held between.held between.held after.held o p older s d q there) in
+    let same : after.held q ≡ between.held q = d.kept q (kept_new log.held between.held between.held o p older s q new) in
+    takes.among q (s.put.fresh q new) (subst (λ (x : Option Stored). IsSome x) same (something o (after.held q) there))
+  where
+    something : (o : ℕ) (there : Option Stored) → IsSome (seen_as Checkpoint o there) → IsSome there
+    something o None seen = seen
+    something o (Some block) seen = refl
+
+-- the checkpoint was moved, where nothing else has changed
+pub moved : (log between after : Place → Option Stored) (o : ℕ) (p : Place) (older : Option Place) → Put log between between o p older → DropsCheckpoint between o older after
+    → IsMoved log (places_named (of_checkpoints o log) older) (checkpoint_places after o p) after
+moved log between after o p older s d =
+    let still : (q : Place) (b : Bool) → is_one_of (places_named (of_checkpoints o log) older) q ≡ b → is_one_of (places_named (of_checkpoints o between) older) q ≡ b =
+    λ q b is. ap (λ (places : List Place). is_one_of places q) (older_places log between between o p older s) ∙ is in
+    record {
+      fresh = λ q new. s.put.fresh q (new_is log between between after o p older s d q true new);
+      gone = λ q old. d.gone q (still q true old);
+      kept = λ q old new. d.kept q (still q false old) ∙ s.put.kept q (new_is log between between after o p older s d q false new);
+    }
+
+-- a checkpoint that is put, and then one that is dropped, change checkpoints alone
+pub put_only : (before between after : Place → Option Stored) (o : ℕ) (p : Place) → PutsCheckpoint before o p between → OnlyCheckpointChanged o between after → OnlyCheckpointChanged o before after
+put_only before between after o p put only k other h = only k other h ∙ put.others k other h

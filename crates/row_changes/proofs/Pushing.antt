@@ -12,7 +12,7 @@ use Rattle.codec.specs.Entry.{EntryFields}
 use Rattle.codec.specs.Checkpoint.{CheckpointFields}
 use Rattle.undo_redo.specs.Runs.{Run, AllAt, AllBy, AllPast, entry_is_by, entries_by, inode_after, undone_all}
 use Rattle.undo_redo.specs.Groups.{grouped}
-use Rattle.checkpoint.specs.Held.{checkpoint_held, spelled_checkpoint}
+use Rattle.checkpoint.specs.Held.{checkpoint_held, checkpoint_in, places_named, is_one_of}
 use Rattle.object_map.specs.declared.map.Row.{Row}
 use Rattle.journal_chain.specs.Chain.{BlockView, ChainFields, Holds, entries_held}
 use Rattle.time_read.specs.Rows.{chain_of, entries_of, checkpoint_of, inode_before, first_of, inode_of, IsRow}
@@ -86,7 +86,7 @@ pub record Pushed (held later : Place → Option Stored) (o : ℕ) (row next : R
   pub checkpoints : of_kind Checkpoint o later ≡ of_kind Checkpoint o held
 
 same_checkpoint : (held later : Place → Option Stored) (o : ℕ) (place : Option Place) → of_kind Checkpoint o later ≡ of_kind Checkpoint o held → (place >>= checkpoint_held later o) ≡ (place >>= checkpoint_held held o)
-same_checkpoint held later o place same = ap (λ (v : BlockView). place >>= λ p. spelled_checkpoint (v p)) same
+same_checkpoint held later o place same = ap (λ (v : BlockView). place >>= λ p. checkpoint_in v p) same
 
 before_stays : (created t : ℕ) (front back : List EntryFields) (c : Option CheckpointFields) → AllPast t back → inode_before created t (front ++ back) c ≡ inode_before created t front c
 unfolding inode_before
@@ -171,7 +171,7 @@ pushed_row held later o row h b f i j m new laws p =
       last = j;
       run = subst (λ (es : List EntryFields). Run (first_of later o next) es j) (sym p.chain.entries) run;
       groups = ap grouped p.chain.entries ∙ laws.groups (m - 1) old new p.stands.groups p.group p.earlier.entries (at_past m (m - 1) new before p.moments);
-      checkpoint = carried (row.checkpoint_moment ≡ 0) row.checkpoint (checkpoint_held held o) (checkpoint_held later o) (record { object = o; moment = row.checkpoint_moment; inode = inode_of held o row row.checkpoint_moment }) (record { object = o; moment = row.checkpoint_moment; inode = inode_of later o next row.checkpoint_moment }) (λ q. ap (λ (v : BlockView). spelled_checkpoint (v q)) p.checkpoints) (ap (λ (k : Inode). record { object = o; moment = row.checkpoint_moment; inode = k }) inode) p.stands.checkpoint;
-      only = λ q there. p.stands.only q (subst (λ (v : BlockView). IsSome (v q)) p.checkpoints there);
+      checkpoint = carried (row.checkpoint_moment ≡ 0) row.checkpoint (checkpoint_held held o) (checkpoint_held later o) (record { object = o; moment = row.checkpoint_moment; inode = inode_of held o row row.checkpoint_moment }) (record { object = o; moment = row.checkpoint_moment; inode = inode_of later o next row.checkpoint_moment }) (λ q. ap (λ (v : BlockView). checkpoint_in v q) p.checkpoints) (ap (λ (k : Inode). record { object = o; moment = row.checkpoint_moment; inode = k }) inode) p.stands.checkpoint;
+      only = λ q there. ap (λ (v : BlockView). is_one_of (places_named v row.checkpoint) q) p.checkpoints ∙ p.stands.only q (subst (λ (v : BlockView). IsSome (v q)) p.checkpoints there);
       created = ap (λ (k : Inode). k.created) first ∙ p.stands.created;
     }

@@ -8,7 +8,7 @@ use Rattle.codec.specs.Entry.{EntryFields}
 use Rattle.codec.specs.Checkpoint.{CheckpointFields}
 use Rattle.undo_redo.specs.Runs.{Run, AllBy, inode_after, redone_all, undone_all}
 use Rattle.undo_redo.specs.Groups.{grouped}
-use Rattle.checkpoint.specs.Held.{checkpoint_held}
+use Rattle.checkpoint.specs.Held.{checkpoint_held, checkpoint_places, of_checkpoints, is_one_of}
 use Rattle.object_map.specs.declared.map.Row.{Row}
 use Rattle.journal_chain.specs.Chain.{BlockView, ChainFields, IsChain, Holds}
 use Rattle.time_read.specs.Rows.{chain_of, entries_of, inode_before, first_of, inode_of, last_inode, IsRow}
@@ -20,8 +20,8 @@ use Rattle.row_changes.proofs.CheckpointLemmas.{Laws, all_by, told_before}
 abbrev pub with_history : Row → Place → ℕ → Option Place → ℕ → ℕ → Row
 with_history row p m head bytes filled = record { created = row.created; checkpoint = Some p; checkpoint_moment = m; head = head; journal_bytes = bytes; head_bytes = filled; stamp = row.stamp }
 
--- An inode stands as the checkpoint of a moment at a place, and no other checkpoint of the object is held; a chain of
--- entries that lead to the inode is held.
+-- An inode stands as the checkpoint of a moment at a place, and no block of another checkpoint of the object is
+-- held; a chain of entries that lead to the inode is held.
 pub record Rewritten (later : Place → Option Stored) (o : ℕ) (row : Row) (p : Place) (i : Inode) (m : ℕ) (h : Option Place) (b f : ℕ) (entries : List EntryFields) : Type 0 where
   pub object : 1 ≤ o
   pub run : Run (undone_all entries i) entries i
@@ -29,7 +29,7 @@ pub record Rewritten (later : Place → Option Stored) (o : ℕ) (row : Row) (p 
   pub by : AllBy m entries
   pub created : i.created ≡ row.created
   pub told : checkpoint_held later o p ≡ Some (record { object = o; moment = m; inode = i })
-  pub only : (q : Place) → IsSome (of_kind Checkpoint o later q) → Some p ≡ Some q
+  pub only : (q : Place) → IsSome (of_checkpoints o later q) → is_one_of (checkpoint_places later o p) q ≡ true
   pub holds : Holds later (chain_of o (with_history row p m h b f)) entries
   pub found : entries_of later o (with_history row p m h b f) ≡ entries
 

@@ -3,6 +3,8 @@
 use Rattle.std.specs.Prelude.{◌≡◌, ℕ, ◌+◌, ◌≤◌, true, List, Option, Some, None, IfSome, is_some, option_map}
 use Rattle.s4_types.specs.Pointer.{Place}
 use Rattle.s4_types.specs.declared.limits.TheConstants.{CHAIN_ENTRY_BYTES}
+use Rattle.block_log.specs.Log.{Stored}
+use Rattle.checkpoint.specs.Held.{checkpoint_blocks}
 use Rattle.codec.specs.declared.inodes.Inode.{Inode}
 use Rattle.codec.specs.Entry.{EntryFields, entries_length}
 use Rattle.codec.specs.Checkpoint.{CheckpointFields, checkpoint_rules}
@@ -10,16 +12,24 @@ use Rattle.undo_redo.specs.Runs.{Run, redone_all, inode_after}
 use Rattle.undo_redo.specs.Groups.{grouped}
 use Rattle.object_map.specs.declared.map.Row.{Row}
 use Rattle.journal_chain.specs.Push.{whole_blocks}
-use Rattle.time_read.specs.Rows.{inode_before}
+use Rattle.time_read.specs.Rows.{inode_before, checkpoint_of, entries_of}
 
--- how many checkpoints stand where one is or none
-abbrev pub checkpoint_count : Option Place → ℕ
-checkpoint_count None = 0
-checkpoint_count (Some p) = 1
+-- how many blocks a checkpoint of an inode takes, where there is an inode
+abbrev pub kept_blocks : Option Inode → ℕ
+kept_blocks None = 0
+kept_blocks (Some i) = checkpoint_blocks i
 
--- how many blocks the checkpoint of a row, if it has one, and a whole chain of these entries are
-abbrev pub moved_blocks : Row → List EntryFields → ℕ
-moved_blocks row entries = checkpoint_count row.checkpoint + whole_blocks entries
+-- how many blocks a checkpoint of an inode, if there is one, and a whole chain of these entries are
+abbrev pub moved_blocks : Option Inode → List EntryFields → ℕ
+moved_blocks kept entries = kept_blocks kept + whole_blocks entries
+
+-- the inode in the checkpoint of an object's row, if it has one
+abbrev pub inode_kept : (Place → Option Stored) → ℕ → Row → Option Inode
+inode_kept held o row = option_map (λ c. c.inode) (checkpoint_of held o row)
+
+-- how many blocks the checkpoint of an object's row, if it has one, and its whole chain are
+abbrev pub row_blocks : (Place → Option Stored) → ℕ → Row → ℕ
+row_blocks held o row = moved_blocks (inode_kept held o row) (entries_of held o row)
 
 -- the checkpoint of an inode at the moment of an object's checkpoint
 abbrev pub checkpoint_at : ℕ → Row → Inode → CheckpointFields

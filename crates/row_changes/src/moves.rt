@@ -2,9 +2,9 @@
 ghost use Rattle.std.specs.Prelude.{◌≡◌, ℕ, ◌<◌, ◌≤◌, true, [], length, map, None, Some, IsSome, IfSome, IfOk, OnErr, MatchResult, MatchOption, is_some, option_copied, take};
 ghost use Rattle.std.specs.List.{Contains};
 ghost use Rattle.s4_types.specs.Pointer.{Place};
-ghost use Rattle.s4_types.specs.declared.limits.TheConstants.{CHAIN_ENTRY_BYTES, JOURNAL_ENTRY_BYTES};
+ghost use Rattle.s4_types.specs.declared.limits.TheConstants.{CHAIN_ENTRY_BYTES, CHECKPOINT_BLOCKS, JOURNAL_ENTRY_BYTES};
 ghost use Rattle.s4_types.specs.declared.refusals.Refusal.TheVariants.{NoRoom};
-ghost use Rattle.block_log.specs.declared.kinds.BlockKind.TheVariants.{Journal, Checkpoint};
+ghost use Rattle.block_log.specs.declared.kinds.BlockKind.TheVariants.{Journal};
 ghost use Rattle.block_log.specs.Log.{of_kind};
 ghost use Rattle.block_log.specs.Taken.{TakesPlaces};
 ghost use Rattle.codec.specs.Entry.{entry_length, entries_length};
@@ -12,30 +12,30 @@ ghost use Rattle.codec.specs.Checkpoint.{checkpoint_rules};
 ghost use Rattle.undo_redo.specs.Runs.{inode_after};
 ghost use Rattle.journal_chain.specs.Chain.{Holds, OnlyJournalChanged};
 ghost use Rattle.journal_chain.specs.Push.{whole_blocks};
-ghost use Rattle.checkpoint.specs.Held.{checkpoint_held};
+ghost use Rattle.checkpoint.specs.Held.{checkpoint_held, checkpoint_places, checkpoint_blocks, of_checkpoints, places_named, is_one_of, OnlyCheckpointChanged};
 ghost use Rattle.time_read.specs.Rows.{IsRow, chain_of, entries_of, first_of, checkpoint_of, inode_of};
 ghost use Rattle.time_read.specs.Orderly.{IsFromTo, IsOrderly, IsOrderlyChain, BeginsDead};
-ghost use Rattle.row_changes.specs.Moved.{OnlyCheckpointChanged};
 ghost use Rattle.row_changes.specs.Rewritten.{OnlyHistoryChanged};
-ghost use Rattle.row_changes.specs.Moving.{CanTell, checkpoint_count, checkpoint_at, checkpoint_with, first_with, moved_blocks};
+ghost use Rattle.row_changes.specs.Moving.{CanTell, kept_blocks, inode_kept, checkpoint_at, checkpoint_with, first_with, moved_blocks, row_blocks};
 
-use crate::checkpoints::{drop_older, put};
-use crate::rewrites::rewritten_blocks;
+use crate::checkpoints::put;
+use crate::rewrites::journal_blocks;
 use arrayvec::ArrayVec;
 use block_log::Blocks;
-use block_log::laws::{no_change_takes_no_place, one_place_has_one_name, places_taken_add_up};
+use block_log::laws::{no_change_takes_no_place, places_taken_add_up};
+use checkpoint::laws::{
+    a_checkpoint_has_its_blocks, a_checkpoint_rests_on_its_blocks, a_checkpoint_takes_its_blocks,
+};
+use checkpoint::{checkpoint_blocks, drop_checkpoint, placed_blocks};
 use codec::{Entry, Inode};
 use journal_chain::Chain;
 use journal_chain::laws::{a_chain_has_its_entries, a_chain_is_its_journal_blocks, changes_add_up};
 use journal_chain::packing::blocks_needed;
 use journal_chain::packing::laws::{chains_are_short, few_blocks_are_needed};
 use object_map::Row;
-use s4_types::limits::{CHAIN_ENTRY_BYTES, SHORTEST_ENTRY_BYTES};
+use s4_types::limits::CHAIN_ENTRIES;
 use s4_types::{ObjectId, Ptr, Refusal};
 use time_read::laws::a_row_tells_a_chain;
-
-// So many of the shortest entries have the most bytes that a chain may have.
-const CHAIN_ENTRIES: usize = CHAIN_ENTRY_BYTES / SHORTEST_ENTRY_BYTES;
 
 /// The bytes of each entry of an object's journal. It is walked from the newest entry back.
 fn sizes_told<B: Blocks>(
@@ -59,13 +59,29 @@ fn sizes_told<B: Blocks>(
     sizes
 }
 
-/// How many checkpoints a row names: one or none.
-fn checkpoint_count(row: &Row) -> usize
-    ensures { result ≡ checkpoint_count row.now.checkpoint }
+/// How many blocks the checkpoint of an inode takes, if there is one.
+fn kept_blocks(kept: Option<&Inode>) -> usize
+    ensures blocks { result ≡ kept_blocks (option_copied kept.entry) }
+    ensures few { result ≤ CHECKPOINT_BLOCKS }
 {
+    match kept {
+        None => 0,
+        Some(inode) => checkpoint_blocks(inode),
+    }
+}
+
+/// How many blocks the checkpoint of an object that has this row stands in, if it has one.
+fn standing_blocks<B: Blocks>(table: &mut B, object: ObjectId, row: &Row) -> usize
+    requires { IsRow (B.log table.old).held object row.now }
+    ensures blocks { result ≡ kept_blocks (inode_kept (B.log table.old).held object row.now) }
+    ensures few { result ≤ CHECKPOINT_BLOCKS }
+    ensures same { B.log table.new ≡ B.log table.old }
+{
+    a_checkpoint_has_its_blocks();
+    a_checkpoint_takes_its_blocks();
     match row.checkpoint {
         None => 0,
-        Some(_) => 1,
+        Some(place) => placed_blocks(table, object, place),
     }
 }
 
@@ -73,31 +89,32 @@ fn checkpoint_count(row: &Row) -> usize
 /// `move_row` counts before anything is written. Takes no memory.
 pub fn moved_blocks<B: Blocks>(table: &mut B, object: ObjectId, row: &Row) -> usize
     requires { IsRow (B.log table.old).held object row.now }
-    ensures blocks { result ≡ moved_blocks row.now (entries_of (B.log table.old).held object row.now) }
+    ensures blocks { result ≡ row_blocks (B.log table.old).held object row.now }
     ensures same { B.log table.new ≡ B.log table.old }
 {
     few_blocks_are_needed();
     let sizes = sizes_told(table, object, row);
-    checkpoint_count(row) + blocks_needed(0, sizes.as_slice())
+    standing_blocks(table, object, row) + blocks_needed(0, sizes.as_slice())
 }
 
-/// Puts a checkpoint of this inode in place of the one that an object's row names, if it names one, where a place is ahead.
+/// Puts a checkpoint of this inode in place of the one that an object's row names, if it names one, where there is room.
 fn put_anew<B: Blocks>(table: &mut B, object: ObjectId, row: &Row, inode: &Inode) -> Ptr
     requires row { IsRow (B.log table.old).held object row.now }
     requires rules { checkpoint_rules (checkpoint_at object row.now inode.now) ≡ true }
-    requires room { 0 < length (B.log table.old).ahead }
+    requires room { checkpoint_blocks inode.now ≤ length (B.log table.old).ahead }
     ensures told { checkpoint_held (B.log table.new).held object result ≡ Some (checkpoint_at object row.now inode.now) }
-    ensures only { (p : Place) → IsSome (of_kind Checkpoint object (B.log table.new).held p) → Some result ≡ Some p }
-    ensures place { Contains (take 1 (B.log table.old).ahead) result }
+    ensures only { (p : Place) → IsSome (of_checkpoints object (B.log table.new).held p) → is_one_of (checkpoint_places (B.log table.new).held object result) p ≡ true }
+    ensures places { (p : Place) → IsSome (of_checkpoints object (B.log table.new).held p) → Contains (take (checkpoint_blocks inode.now) (B.log table.old).ahead) p }
     ensures others { OnlyCheckpointChanged object (B.log table.old).held (B.log table.new).held }
-    ensures takes { TakesPlaces 1 (B.log table.old) (B.log table.new) }
+    ensures takes { TakesPlaces (checkpoint_blocks inode.now) (B.log table.old) (B.log table.new) }
 {
-    one_place_has_one_name();
+    a_checkpoint_rests_on_its_blocks();
+    a_checkpoint_has_its_blocks();
     places_taken_add_up();
     let Ok(place) = put(table, object, inode, row.checkpoint_moment) else {
         unreachable!()
     };
-    drop_older(table, object, row.checkpoint);
+    drop_checkpoint(table, object, row.checkpoint);
     place
 }
 
@@ -112,13 +129,13 @@ fn move_checkpoint<B: Blocks>(
     requires row { IsRow (B.log table.old).held object row.now }
     requires same { is_some (option_copied kept) ≡ is_some row.now.checkpoint }
     requires rules { IfSome (option_copied kept) (λ i. checkpoint_rules (checkpoint_at object row.now i) ≡ true) }
-    requires room { checkpoint_count row.now.checkpoint ≤ length (B.log table.old).ahead }
+    requires room { kept_blocks (option_copied kept) ≤ length (B.log table.old).ahead }
     ensures told { checkpoint_of (B.log table.new).held object (record row.now { checkpoint = result }) ≡ checkpoint_with object row.now (option_copied kept.entry) }
     ensures some { is_some result ≡ is_some row.now.checkpoint }
-    ensures only { (p : Place) → IsSome (of_kind Checkpoint object (B.log table.new).held p) → result ≡ Some p }
-    ensures places { (p : Place) → IsSome (of_kind Checkpoint object (B.log table.new).held p) → Contains (take (checkpoint_count row.now.checkpoint) (B.log table.old).ahead) p }
+    ensures only { (p : Place) → IsSome (of_checkpoints object (B.log table.new).held p) → is_one_of (places_named (of_checkpoints object (B.log table.new).held) result) p ≡ true }
+    ensures places { (p : Place) → IsSome (of_checkpoints object (B.log table.new).held p) → Contains (take (kept_blocks (option_copied kept.entry)) (B.log table.old).ahead) p }
     ensures others { OnlyCheckpointChanged object (B.log table.old).held (B.log table.new).held }
-    ensures takes { TakesPlaces (checkpoint_count row.now.checkpoint) (B.log table.old) (B.log table.new) }
+    ensures takes { TakesPlaces (kept_blocks (option_copied kept.entry)) (B.log table.old) (B.log table.new) }
 {
     no_change_takes_no_place();
     let inode = kept?;
@@ -202,20 +219,19 @@ pub fn move_row<B: Blocks>(
     }) }
     ensures some { IfOk result (λ later. is_some later.checkpoint ≡ is_some row.now.checkpoint) }
     ensures others { OnlyHistoryChanged object (B.log table.old).held (B.log table.new).held }
-    ensures takes { IfOk result (λ _. TakesPlaces (moved_blocks row.now entries.now) (B.log table.old) (B.log table.new)) }
-    ensures journal { IfOk result (λ _. (p : Place) → IsSome (of_kind Journal object (B.log table.new).held p) → Contains (take (moved_blocks row.now entries.now) (B.log table.old).ahead) p) }
-    ensures checkpoints { IfOk result (λ _. (p : Place) → IsSome (of_kind Checkpoint object (B.log table.new).held p) → Contains (take (moved_blocks row.now entries.now) (B.log table.old).ahead) p) }
+    ensures takes { IfOk result (λ _. TakesPlaces (moved_blocks (option_copied kept.entry) entries.now) (B.log table.old) (B.log table.new)) }
+    ensures journal { IfOk result (λ _. (p : Place) → IsSome (of_kind Journal object (B.log table.new).held p) → Contains (take (moved_blocks (option_copied kept.entry) entries.now) (B.log table.old).ahead) p) }
+    ensures checkpoints { IfOk result (λ _. (p : Place) → IsSome (of_checkpoints object (B.log table.new).held p) → Contains (take (moved_blocks (option_copied kept.entry) entries.now) (B.log table.old).ahead) p) }
     ensures answer { MatchResult result
-        (λ _. moved_blocks row.now entries.now ≤ length (B.log table.old).ahead)
-        (λ e. (e ≡ NoRoom) × (length (B.log table.old).ahead < moved_blocks row.now entries.now)) }
+        (λ _. moved_blocks (option_copied kept.entry) entries.now ≤ length (B.log table.old).ahead)
+        (λ e. (e ≡ NoRoom) × (length (B.log table.old).ahead < moved_blocks (option_copied kept.entry) entries.now)) }
     ensures unchanged { OnErr result (B.log table.new ≡ B.log table.old) }
 {
     places_taken_add_up();
     a_chain_has_its_entries();
     a_chain_is_its_journal_blocks();
     a_row_tells_a_chain();
-    let journal = rewritten_blocks(entries) - 1;
-    if table.blocks_left() < checkpoint_count(row) + journal {
+    if table.blocks_left() < kept_blocks(kept) + journal_blocks(entries) {
         return Err(Refusal::NoRoom);
     }
     let checkpoint = move_checkpoint(table, object, row, kept);

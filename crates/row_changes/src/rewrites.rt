@@ -1,5 +1,5 @@
 ghost use Rattle.std.specs.Prelude.{◌≡◌, ℕ, ◌<◌, ◌≤◌, true, length, map, Some, IsSome, IfOk, OnErr, MatchResult};
-ghost use Rattle.s4_types.specs.declared.limits.TheConstants.{CHAIN_ENTRY_BYTES, JOURNAL_ENTRY_BYTES};
+ghost use Rattle.s4_types.specs.declared.limits.TheConstants.{CHAIN_ENTRIES, CHAIN_ENTRY_BYTES, JOURNAL_ENTRY_BYTES};
 ghost use Rattle.s4_types.specs.declared.refusals.Refusal.TheVariants.{NoRoom};
 ghost use Rattle.block_log.specs.Taken.{TakesPlaces};
 ghost use Rattle.codec.specs.Entry.{entry_length, entries_length};
@@ -8,35 +8,34 @@ ghost use Rattle.undo_redo.specs.Runs.{AllBy, Run, inode_after, undone_all};
 ghost use Rattle.undo_redo.specs.Groups.{grouped};
 ghost use Rattle.journal_chain.specs.Chain.{Holds, OnlyJournalChanged};
 ghost use Rattle.journal_chain.specs.Push.{whole_blocks};
-ghost use Rattle.checkpoint.specs.Held.{checkpoint_held, PutsCheckpoint};
+ghost use Rattle.checkpoint.specs.Held.{checkpoint_held, checkpoint_blocks, PutsCheckpoint};
 ghost use Rattle.time_read.specs.Rows.{IsRow, chain_of, entries_of, first_of, inode_of, last_inode};
 ghost use Rattle.time_read.specs.Orderly.{IsFromTo, IsOrderly, IsOrderlyChain};
 ghost use Rattle.row_changes.specs.Recent.{IsBy};
 ghost use Rattle.row_changes.specs.Rewritten.{OnlyHistoryChanged, rewritten_blocks};
 
-use crate::checkpoints::{drop_older, put};
+use crate::checkpoints::put;
 use arrayvec::ArrayVec;
 use block_log::Blocks;
-use block_log::laws::{one_place_has_one_name, places_taken_add_up};
+use block_log::laws::places_taken_add_up;
+use checkpoint::laws::{a_checkpoint_has_its_blocks, a_checkpoint_rests_on_its_blocks};
+use checkpoint::{checkpoint_blocks, drop_checkpoint};
 use codec::{Entry, Inode};
 use journal_chain::Chain;
 use journal_chain::laws::{a_chain_has_its_entries, a_chain_is_its_journal_blocks};
 use journal_chain::packing::blocks_needed;
 use journal_chain::packing::laws::{chains_are_short, few_blocks_are_needed};
 use object_map::Row;
-use s4_types::limits::{CHAIN_ENTRY_BYTES, SHORTEST_ENTRY_BYTES};
+use s4_types::limits::CHAIN_ENTRIES;
 use s4_types::{Moment, ObjectId, Ptr, Refusal};
 use time_read::laws::a_row_tells_a_chain;
 use undo_redo::laws::{
     a_run_has_one_end_and_one_beginning, a_run_keeps_the_making, the_inode_at_a_moment,
 };
 
-// So many of the shortest entries have the most bytes that a chain may have.
-const CHAIN_ENTRIES: usize = CHAIN_ENTRY_BYTES / SHORTEST_ENTRY_BYTES;
-
 /// The bytes of each of the entries of a chain.
 fn sizes_of(entries: &[Entry]) -> ArrayVec<usize, CHAIN_ENTRIES>
-    requires { length entries.now ≤ 344 }
+    requires { length entries.now ≤ CHAIN_ENTRIES }
     ensures { result.items ≡ map entry_length entries.now }
 {
     let mut sizes = ArrayVec::new();
@@ -46,25 +45,34 @@ fn sizes_of(entries: &[Entry]) -> ArrayVec<usize, CHAIN_ENTRIES>
     sizes
 }
 
-/// How many places it takes to write an object's checkpoint and its whole journal anew with these entries, of at most
-/// 11,712 bytes: what `rewrite_row` counts before anything is written.
-pub fn rewritten_blocks(entries: &[Entry]) -> usize
+/// How many places it takes to write a whole journal of these entries anew.
+pub(crate) fn journal_blocks(entries: &[Entry]) -> usize
     requires { entries_length entries.now ≤ CHAIN_ENTRY_BYTES }
-    ensures { result ≡ rewritten_blocks entries.now }
+    ensures blocks { result ≡ whole_blocks entries.now }
+    ensures few { result ≤ CHAIN_ENTRIES }
 {
     chains_are_short();
     few_blocks_are_needed();
     let sizes = sizes_of(entries);
-    1 + blocks_needed(0, sizes.as_slice())
+    blocks_needed(0, sizes.as_slice())
 }
 
-/// Appends the checkpoint of an inode where a place is ahead.
+/// How many places it takes to write an object's checkpoint of an inode and its whole journal anew with these entries, of at
+/// most `CHAIN_ENTRY_BYTES`: what `rewrite_row` counts before anything is written.
+pub fn rewritten_blocks(present: &Inode, entries: &[Entry]) -> usize
+    requires { entries_length entries.now ≤ CHAIN_ENTRY_BYTES }
+    ensures { result ≡ rewritten_blocks present.now entries.now }
+{
+    checkpoint_blocks(present) + journal_blocks(entries)
+}
+
+/// Appends the checkpoint of an inode where there is room.
 fn put_ahead<B: Blocks>(table: &mut B, object: ObjectId, inode: &Inode, moment: Moment) -> Ptr
     requires rules { checkpoint_rules (record { object = object; moment = moment; inode = inode.now }) ≡ true }
-    requires room { 0 < length (B.log table.old).ahead }
+    requires room { checkpoint_blocks inode.now ≤ length (B.log table.old).ahead }
     ensures told { checkpoint_held (B.log table.new).held object result ≡ Some (record { object = object; moment = moment; inode = inode.now }) }
-    ensures takes { TakesPlaces 1 (B.log table.old) (B.log table.new) }
-    ensures growth { PutsCheckpoint (B.log table.old) object result (B.log table.new) }
+    ensures takes { TakesPlaces (checkpoint_blocks inode.now) (B.log table.old) (B.log table.new) }
+    ensures growth { PutsCheckpoint (B.log table.old).held object result (B.log table.new).held }
 {
     put(table, object, inode, moment).unwrap()
 }
@@ -88,7 +96,7 @@ fn write_chain<B: Blocks>(table: &mut B, object: ObjectId, row: &Row, entries: &
 }
 
 /// Writes an object's present inode as its checkpoint of a moment, and then its whole journal afresh with these entries,
-/// the oldest first and at most 11,712 bytes of them, in place of what stood; and answers its row after that. With no
+/// the oldest first and at most `CHAIN_ENTRY_BYTES` of them, in place of what stood; and answers its row after that. With no
 /// entry there is no journal, and the checkpoint alone tells the inode.
 ///
 /// At each moment the inode is then the one that the entries tell. A row whose new entries are in order is in order.
@@ -126,13 +134,14 @@ pub fn rewrite_row<B: Blocks>(
     }) }
     ensures some { IfOk result (λ later. IsSome later.checkpoint) }
     ensures others { OnlyHistoryChanged object (B.log table.old).held (B.log table.new).held }
-    ensures takes { IfOk result (λ _. TakesPlaces (rewritten_blocks entries.now) (B.log table.old) (B.log table.new)) }
+    ensures takes { IfOk result (λ _. TakesPlaces (rewritten_blocks present.now entries.now) (B.log table.old) (B.log table.new)) }
     ensures answer { MatchResult result
-        (λ _. rewritten_blocks entries.now ≤ length (B.log table.old).ahead)
-        (λ e. (e ≡ NoRoom) × (length (B.log table.old).ahead < rewritten_blocks entries.now)) }
+        (λ _. rewritten_blocks present.now entries.now ≤ length (B.log table.old).ahead)
+        (λ e. (e ≡ NoRoom) × (length (B.log table.old).ahead < rewritten_blocks present.now entries.now)) }
     ensures unchanged { OnErr result (B.log table.new ≡ B.log table.old) }
 {
-    one_place_has_one_name();
+    a_checkpoint_rests_on_its_blocks();
+    a_checkpoint_has_its_blocks();
     places_taken_add_up();
     a_chain_has_its_entries();
     a_chain_is_its_journal_blocks();
@@ -140,12 +149,12 @@ pub fn rewrite_row<B: Blocks>(
     a_run_has_one_end_and_one_beginning();
     a_run_keeps_the_making();
     the_inode_at_a_moment();
-    if table.blocks_left() < rewritten_blocks(entries) {
+    if table.blocks_left() < rewritten_blocks(present, entries) {
         return Err(Refusal::NoRoom);
     }
     let place = put_ahead(table, object, present, moment);
     let chain = write_chain(table, object, row, entries);
-    drop_older(table, object, row.checkpoint);
+    drop_checkpoint(table, object, row.checkpoint);
     Ok(Row {
         checkpoint: Some(place),
         checkpoint_moment: moment,

@@ -3,8 +3,7 @@ use Rattle.std.proofs.Common.{◌≡◌, ◌⊎◌, inl, inr, ℕ, zero, suc, �
 use Rattle.std.specs.Prelude.{IsSome, IfSome, IfErr, OnOk, MatchResult, Result, Ok, Err}
 use Rattle.s4_types.specs.declared.refusals.Refusal.{Refusal}
 use Rattle.s4_types.specs.declared.refusals.Refusal.TheVariants.{NoMemory, NoRoom}
-use Rattle.time_read.specs.Rows.{entries_of}
-use Rattle.row_changes.specs.Moving.{moved_blocks}
+use Rattle.row_changes.specs.Moving.{row_blocks}
 use Rattle.std.specs.List.{AllByRecursion, Contains}
 use Rattle.std.proofs.lemmas.Bool.{cases_Bool, and_parts, eq-eqb, le-leb, leb-true}
 use Rattle.std.proofs.lemmas.List.Elements.{All-from_recursion, All-contains}
@@ -261,7 +260,7 @@ Answers d o copies kept result = IfSome kept (λ row. MatchResult result
     ⊎ ((e ≡ NoMemory) × (blocks_relocated (store_of d).log.held o row copies ≤ length (store_of d).log.ahead))))
 
 blocks_same : (d : DriveFields) (f o : ℕ) (copies : List CopiedBlock) (row : Row) → AreStillThere d.store.table f o copies → blocks_relocated (store_of d).log.held o row copies ≡ blocks_moved d f o row
-blocks_same d f o copies row there = ap (λ (n : ℕ). n + moved_blocks row (entries_of (store_of d).log.held o row)) (as_many d.store.table f o copies there)
+blocks_same d f o copies row there = ap (λ (n : ℕ). n + row_blocks (store_of d).log.held o row) (as_many d.store.table f o copies there)
 
 pub moved_by : (d later : DriveFields) (f o : ℕ) (copies : List CopiedBlock) (kept : Option Row) (result : Result (Unit {0}) Refusal) → AreStillThere d.store.table f o copies → AreCopies (store_of d).log.held o copies
     → OnOk result (IfSome kept (λ row. IsRelocated (store_of d) o row copies (store_of later))) → Answers d o copies kept result

@@ -4,8 +4,7 @@ use Rattle.s4_types.specs.declared.refusals.Refusal.{Refusal}
 use Rattle.s4_types.specs.declared.refusals.Refusal.TheVariants.{NoRoom}
 use Rattle.object_map.specs.declared.map.Row.{Row}
 use Rattle.object_map.specs.Rows.{row_of}
-use Rattle.time_read.specs.Rows.{entries_of}
-use Rattle.row_changes.specs.Moving.{moved_blocks}
+use Rattle.row_changes.specs.Moving.{row_blocks}
 use Rattle.segment_table.specs.Table.{Table}
 use Rattle.segment_table.specs.Room.{pointers_in}
 use Rattle.version_store.specs.declared.copies.CopiedBlock.{CopiedBlock}
@@ -20,10 +19,10 @@ pub record AreStillThere (t : Table) (f o : ℕ) (copies : List CopiedBlock) : T
   pub some : pointers_in t o f ≡ [] → ⊥
   pub places : map (λ c. c.place) copies ≡ data_in t o f
 
--- how many blocks must be written to move an object of this row out of a frame: its data blocks there, its checkpoint, if it
--- has one, and its journal
+-- how many blocks must be written to move an object of this row out of a frame: its data blocks there, those of its
+-- checkpoint, if it has one, and those of its journal
 abbrev pub blocks_moved : DriveFields → ℕ → ℕ → Row → ℕ
-blocks_moved d f o row = length (data_in d.store.table o f) + moved_blocks row (entries_of (store_of d).log.held o row)
+blocks_moved d f o row = length (data_in d.store.table o f) + row_blocks (store_of d).log.held o row
 
 -- Copies of just the data blocks that an object of this row holds in a frame, with their bytes, were put in place of these, with its
 -- checkpoint and its journal.

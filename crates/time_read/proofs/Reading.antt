@@ -10,7 +10,7 @@ use Rattle.codec.specs.Checkpoint.{CheckpointFields}
 use Rattle.journal_chain.specs.Packing.{packed, filled_bytes, AllFit, KeepsTheRule}
 use Rattle.undo_redo.specs.Runs.{Run, blank, inode_after, moments_ascend_from}
 use Rattle.undo_redo.specs.Groups.{grouped}
-use Rattle.checkpoint.specs.Held.{checkpoint_held, spelled_checkpoint}
+use Rattle.checkpoint.specs.Held.{checkpoint_held}
 use Rattle.object_map.specs.declared.map.Row.{Row}
 use Rattle.journal_chain.specs.Chain.{chain_entries}
 use Rattle.time_read.specs.Rows.{entries_of, first_of, inode_before, inode_of, IsRow}
@@ -49,14 +49,6 @@ from_blank held o row t is =
 pub is_inode_of : (held : Place → Option Stored) (o : ℕ) (row : Row) (t : ℕ) → inode_of held o row t ≡ inode_after (first_of held o row) (entries_of held o row) t
 unfolding inode_of
 is_inode_of held o row t = refl
-
--- a checkpoint that is told is held
-there : (block : Option (List ℕ)) → IsSome (spelled_checkpoint block) → IsSome block
-there None h = h
-there (Some block) h = refl
-
-pub is_there : (held : Place → Option Stored) (o : ℕ) (p : Place) → IsSome (checkpoint_held held o p) → IsSome (of_kind kind.Checkpoint o held p)
-is_there held o p h = there (of_kind kind.Checkpoint o held p) h
 
 -- what is read where a checkpoint is told
 pub read_is : (told : Option CheckpointFields) (c : CheckpointFields) (i : Inode) → told ≡ Some c → IfSome told (λ d. i ≡ d.inode) → i ≡ c.inode

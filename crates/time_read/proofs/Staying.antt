@@ -9,7 +9,7 @@ use Rattle.codec.specs.Entry.{EntryFields}
 use Rattle.codec.specs.Checkpoint.{CheckpointFields}
 use Rattle.undo_redo.specs.Runs.{Run, inode_after}
 use Rattle.undo_redo.specs.Groups.{grouped}
-use Rattle.checkpoint.specs.Held.{checkpoint_held, spelled_checkpoint}
+use Rattle.checkpoint.specs.Held.{checkpoint_held, checkpoint_in, places_named, is_one_of}
 use Rattle.object_map.specs.declared.map.Row.{Row}
 use Rattle.journal_chain.specs.Chain.{BlockView, IsChain, Holds, chain_entries, entries_in}
 use Rattle.time_read.specs.Rows.{chain_of, entries_of, checkpoint_of, first_of, inode_before, inode_of, IsRow}
@@ -19,10 +19,10 @@ unfolding chain_entries
 same_entries held later o row same = ap (λ (v : BlockView). unwrap_or (entries_in v o row.head) []) same
 
 same_read : (held later : Place → Option Stored) (o : ℕ) (p : Place) → of_kind Checkpoint o later ≡ of_kind Checkpoint o held → checkpoint_held later o p ≡ checkpoint_held held o p
-same_read held later o p same = ap (λ (v : BlockView). spelled_checkpoint (v p)) same
+same_read held later o p same = ap (λ (v : BlockView). checkpoint_in v p) same
 
 same_checkpoint : (held later : Place → Option Stored) (o : ℕ) (row : Row) → of_kind Checkpoint o later ≡ of_kind Checkpoint o held → checkpoint_of later o row ≡ checkpoint_of held o row
-same_checkpoint held later o row same = ap (λ (v : BlockView). row.checkpoint >>= λ p. spelled_checkpoint (v p)) same
+same_checkpoint held later o row same = ap (λ (v : BlockView). row.checkpoint >>= λ p. checkpoint_in v p) same
 
 pub same_first : (held later : Place → Option Stored) (o : ℕ) (row : Row) → of_kind Journal o later ≡ of_kind Journal o held → of_kind Checkpoint o later ≡ of_kind Checkpoint o held → first_of later o row ≡ first_of held o row
 same_first held later o row journal checkpoint =
@@ -52,6 +52,6 @@ same_row held later o row journal checkpoint r =
       run = subst (λ (es : List EntryFields). Run (first_of later o row) es r.last) (sym entries) run;
       groups = subst (λ (es : List EntryFields). grouped es ≡ true) (sym entries) r.groups;
       checkpoint = carried (row.checkpoint_moment ≡ 0) row.checkpoint (checkpoint_held held o) (checkpoint_held later o) (record { object = o; moment = row.checkpoint_moment; inode = inode_of held o row row.checkpoint_moment }) (record { object = o; moment = row.checkpoint_moment; inode = inode_of later o row row.checkpoint_moment }) (λ p. same_read held later o p checkpoint) (ap (λ (i : Inode). record { object = o; moment = row.checkpoint_moment; inode = i }) (same_inode held later o row.checkpoint_moment row journal checkpoint)) r.checkpoint;
-      only = λ p there. r.only p (subst (λ (v : BlockView). IsSome (v p)) checkpoint there);
+      only = λ p there. ap (λ (v : BlockView). is_one_of (places_named v row.checkpoint) p) checkpoint ∙ r.only p (subst (λ (v : BlockView). IsSome (v p)) checkpoint there);
       created = subst (λ (i : Inode). i.created ≡ row.created) (sym first) r.created;
     }

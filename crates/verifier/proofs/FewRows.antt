@@ -1,8 +1,8 @@
 -- A drive has fewer rows than 2^20: each names a block of its own.
-use Rattle.std.proofs.Common.{◌≡◌, ◌⊎◌, inl, inr, ℕ, suc, Bool, true, false, cond, eqb, ◌==◌, ◌&&◌, ◌+◌, ◌*◌, ◌/◌, ◌%◌, ◌<◌, ◌≤◌, ◌^◌, List, [], ◌∷◌, length, Option, Some, None, refl, sym, ap, ◌∙◌, subst, arith}
+use Rattle.std.proofs.Common.{◌≡◌, ◌⊎◌, inl, inr, ℕ, suc, Bool, true, false, cond, eqb, ◌==◌, ◌&&◌, ◌+◌, ◌*◌, ◌/◌, ◌%◌, ◌<◌, ◌≤◌, ◌^◌, List, [], ◌∷◌, length, Option, Some, None, IsSome, is_some, refl, sym, ap, ◌∙◌, subst, arith}
 use Rattle.std.specs.Prelude.{IfSome, MatchOption, unwrap_or}
 use Rattle.std.specs.List.{AllByRecursion, IsDistinct, list_any}
-use Rattle.std.proofs.lemmas.Bool.{and_parts, or_cases, cases_Bool, cond-false, eqb-true, ne_eqb}
+use Rattle.std.proofs.lemmas.Bool.{and_parts, or_cases, cases_Bool, cond-false, eqb-true, ne_eqb, false≢true}
 use Rattle.std.proofs.lemmas.Option.{none-some, same_Some}
 use Rattle.std.proofs.lemmas.Map.Steps.{length-le_from_distinct_below}
 use Rattle.s4_types.specs.Pointer.{Place, IsPlace}
@@ -14,7 +14,7 @@ use Rattle.codec.specs.Entry.{EntryFields}
 use Rattle.codec.specs.Checkpoint.{CheckpointFields}
 use Rattle.journal_chain.specs.Packing.{joined}
 use Rattle.journal_chain.specs.Chain.{BlockView, linked, links_from, chain_links, chain_entries, journal_in, journal_of, blocks_of}
-use Rattle.checkpoint.specs.Held.{checkpoint_held, spelled_checkpoint}
+use Rattle.checkpoint.specs.Held.{checkpoint_held, checkpoint_places, of_checkpoints, is_one_of, HasItsBlocks}
 use Rattle.object_map.specs.declared.map.Row.{Row}
 use Rattle.time_read.specs.Rows.{IsRow, entries_of, inode_of}
 use Rattle.time_read.specs.Orderly.{IsOrderly, IsFromTo, BeginsDead}
@@ -63,20 +63,28 @@ headed held o (Some p) is dead =
       | inr some ↦ owns held Journal o p some.0 is some.1
     ]
 
-checkpointed : (held : Place → Option Stored) (o : ℕ) (p : Place) (c : CheckpointFields) → IsPlace p → checkpoint_held held o p ≡ Some c → Owns held o
-checkpointed held o p c is h = elim (some_or_none (of_kind Checkpoint o held p)) [
-  | inl none ↦ absurd (none-some c (sym (ap spelled_checkpoint none) ∙ h))
-  | inr some ↦ owns held Checkpoint o p some.0 is some.1
-]
+-- Where a checkpoint is told, each of its blocks is held, and the pointer that it is told by leads to one of them.
+pub record CheckpointLaws : Type 0 where
+  pub held : (held : Place → Option Stored) (o : ℕ) (p : Place) → IsSome (checkpoint_held held o p) → HasItsBlocks held o (Some p)
+  pub first : (held : Place → Option Stored) (o : ℕ) (p : Place) → is_one_of (checkpoint_places held o p) p ≡ true
 
-by_checkpoint : (held : Place → Option Stored) (o : ℕ) (hole dead : Type 0) (kept : Place → Type 0) (c : CheckpointFields) (q : Option Place) → IfSome q IsPlace → MatchOption q hole (λ p. checkpoint_held held o p ≡ Some c) → MatchOption q dead kept → (dead → Owns held o) → Owns held o
-by_checkpoint held o hole dead kept c None is stands orderly begins = begins orderly
-by_checkpoint held o hole dead kept c (Some p) is stands orderly begins = checkpointed held o p c is stands
+some_is : {A : Type 0} (x : Option A) → IsSome x → (a : A) × (x ≡ Some a)
+some_is None some = absurd (false≢true some)
+some_is (Some a) some = (a, refl)
+
+checkpointed : CheckpointLaws → (held : Place → Option Stored) (o : ℕ) (p : Place) (c : CheckpointFields) → IsPlace p → checkpoint_held held o p ≡ Some c → Owns held o
+checkpointed laws held o p c is h =
+    let some = some_is (of_checkpoints o held p) (laws.held held o p (ap is_some h) p (laws.first held o p)) in
+    owns held Checkpoint o p some.0 is some.1
+
+by_checkpoint : CheckpointLaws → (held : Place → Option Stored) (o : ℕ) (hole dead : Type 0) (kept : Place → Type 0) (c : CheckpointFields) (q : Option Place) → IfSome q IsPlace → MatchOption q hole (λ p. checkpoint_held held o p ≡ Some c) → MatchOption q dead kept → (dead → Owns held o) → Owns held o
+by_checkpoint laws held o hole dead kept c None is stands orderly begins = begins orderly
+by_checkpoint laws held o hole dead kept c (Some p) is stands orderly begins = checkpointed laws held o p c is stands
 
 -- a row names a block of its object: its checkpoint, or else the newest of its journal
-pub row_owns : (held : Place → Option Stored) (o latest : ℕ) (row : Row) → IfSome row.checkpoint IsPlace → IfSome row.head IsPlace → IsRow held o row → IsOrderly held o row latest → Owns held o
-row_owns held o latest row checkpoint head stands orderly =
-    by_checkpoint held o (row.checkpoint_moment ≡ 0) (BeginsDead (entries_of held o row)) (λ p. IsFromTo row.created latest row.checkpoint_moment)
+pub row_owns : CheckpointLaws → (held : Place → Option Stored) (o latest : ℕ) (row : Row) → IfSome row.checkpoint IsPlace → IfSome row.head IsPlace → IsRow held o row → IsOrderly held o row latest → Owns held o
+row_owns laws held o latest row checkpoint head stands orderly =
+    by_checkpoint laws held o (row.checkpoint_moment ≡ 0) (BeginsDead (entries_of held o row)) (λ p. IsFromTo row.created latest row.checkpoint_moment)
     (record { object = o; moment = row.checkpoint_moment; inode = inode_of held o row row.checkpoint_moment })
     row.checkpoint checkpoint stands.checkpoint orderly.checkpoint (headed held o row.head head)
 

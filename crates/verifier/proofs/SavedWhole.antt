@@ -40,7 +40,7 @@ use Rattle.verifier.specs.Saved.{AddsFrames, SpellsSaved}
 use Rattle.verifier.specs.SavedRows.{AreSaved}
 use Rattle.verifier.proofs.Lists.{all_both, all_weaker}
 use Rattle.verifier.proofs.ListedRows.{each_found}
-use Rattle.verifier.proofs.FewRows.{Owns, row_owns, few_rows}
+use Rattle.verifier.proofs.FewRows.{CheckpointLaws, Owns, row_owns, few_rows}
 use Rattle.verifier.proofs.SavedSpans.{spans_keep_rules, are_spans}
 
 -- ---- what is told of each row
@@ -123,12 +123,12 @@ as_many [] (e ∷ rows) spelled = absurd spelled
 as_many (part ∷ parts) [] spelled = absurd spelled
 as_many (part ∷ parts) (e ∷ rows) spelled = ap suc (as_many parts rows spelled.1)
 
-pub few_parts : (d : DriveFields) (parts : List RowPart) → IsStore (store_of d) → AreSaved d.store.rows parts → length parts ≤ 2 ^ 20
-few_parts d parts store saved =
+pub few_parts : CheckpointLaws → (d : DriveFields) (parts : List RowPart) → IsStore (store_of d) → AreSaved d.store.rows parts → length parts ≤ 2 ^ 20
+few_parts laws d parts store saved =
     let s : StoreFields = store_of d in
     let each : AllByRecursion (λ (e : ℕ × Row). Owns (held_at d.store.table) e.0) saved.rows =
     all_both (λ (e : ℕ × Row). IfSome e.1.checkpoint IsPlace × IfSome e.1.head IsPlace) (IsOfStore s) (λ (e : ℕ × Row). Owns (held_at d.store.table) e.0)
-    (λ e places of. row_owns s.log.held e.0 s.latest e.1 places.0 places.1 of.object.stands of.orderly)
+    (λ e places of. row_owns laws s.log.held e.0 s.latest e.1 places.0 places.1 of.object.stands of.orderly)
     saved.rows (spelled_places parts saved.rows saved.spelled) (of_store s saved.rows store saved.ascending saved.listed) in
     omega (arith, as_many parts saved.rows saved.spelled, few_rows d.store.table 1 saved.rows saved.ascending each)
 
@@ -195,10 +195,10 @@ front image h out same is =
     is ∙ append_assoc (header ++ frames) rows spans ∙ append_assoc header frames (rows ++ spans)
     ∙ ap (λ (x : Header). header_bytes x ++ (frames ++ (rows ++ spans))) same
 
-pub saves : (d : DriveFields) (rows : List RowPart) (spans : List Span) (h : Header) (after out : List ℕ) → Stand → Ascending → Shown d → AreSaved d.store.rows rows → SpansShown d spans → HeaderShown d (length rows) (length spans) h
+pub saves : (d : DriveFields) (rows : List RowPart) (spans : List Span) (h : Header) (after out : List ℕ) → CheckpointLaws → Stand → Ascending → Shown d → AreSaved d.store.rows rows → SpansShown d spans → HeaderShown d (length rows) (length spans) h
     → AddsFrames d.store.table ([] ++ header_bytes h) after → out ≡ (after ++ flat_map row_bytes rows) ++ flat_map span_bytes spans → SpellsSaved d (out ++ sha256 out)
 unfolding image_bytes
-saves d rows spans h after out stand ascending shown saved seen head adds parts =
+saves d rows spans h after out checkpoints stand ascending shown saved seen head adds parts =
     let s : State = state_in d in
     let t : Table = d.store.table in
     let image : Image = record { clock = s.clock; window = s.window; floor = s.floor; next = s.next; frames = adds.frames; rows = rows; spans = spans } in
@@ -206,7 +206,7 @@ saves d rows spans h after out stand ascending shown saved seen head adds parts 
     let same : h ≡ header_of image = same_header h (header_of image) (head.frames ∙ frames) head.clock head.window head.floor head.next head.row_count head.span_count in
     let listed : StoreFields = record { rows = saved.rows; log = log_of t; latest = d.store.latest } in
     let store : IsStore listed = listed_store (store_of d) saved.rows shown.store saved.listed in
-    let few : length rows ≤ 2 ^ 20 = few_parts d rows shown.store saved in
+    let few : length rows ≤ 2 ^ 20 = few_parts checkpoints d rows shown.store saved in
     let fronted : out ≡ front_bytes image = front image h out same (parts ∙ ap (λ l. (l ++ flat_map row_bytes rows) ++ flat_map span_bytes spans) adds.bytes) in
     let header : KeepsHeaderRules (header_of image) = record {
       frames = subst IsFrameCount frames shown.count;

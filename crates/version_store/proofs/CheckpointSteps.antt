@@ -12,21 +12,21 @@ use Rattle.codec.specs.Checkpoint.{holes_past, checkpoint_rules}
 use Rattle.codec.specs.Entry.{EntryFields}
 use Rattle.codec.specs.declared.inodes.Inode.{Inode}
 use Rattle.undo_redo.specs.Runs.{AllBy, moments_ascend_from, last_moment}
-use Rattle.checkpoint.specs.Held.{checkpoint_held}
+use Rattle.checkpoint.specs.Held.{checkpoint_held, checkpoint_blocks, places_named, of_checkpoints, OnlyCheckpointChanged}
 use Rattle.inode.specs.Contents.{contents_of, meaning}
 use Rattle.inode.specs.Tidiness.{Tidy, PointersHeld}
 use Rattle.inode.specs.Laws.{OnlyItsBlocksMatter}
 use Rattle.object_map.specs.declared.map.Row.{Row}
 use Rattle.object_map.specs.Rows.{row_of, with_row}
-use Rattle.time_read.specs.Rows.{IsRow, entries_of, inode_of}
+use Rattle.time_read.specs.Rows.{IsRow, entries_of, inode_of, checkpoint_places_of}
 use Rattle.time_read.specs.Orderly.{IsOrderly}
 use Rattle.row_changes.specs.Recent.{IsBy}
-use Rattle.row_changes.specs.Moved.{OnlyCheckpointChanged, IsMoved}
+use Rattle.row_changes.specs.Moved.{IsMoved}
 use Rattle.version_store.specs.Store.{StoreFields, IsStore, IsObject, DataIsNamed, pointers_of}
 use Rattle.version_store.specs.Versions.{Stays, inode_by, inode_in, version_by, version_in}
 use Rattle.version_store.specs.Checkpointing.{last_entry, is_behind, IsCheckpointed}
 use Rattle.version_store.specs.private.CheckpointSteps.{CanCheckpoint, Checkpointed}
-use Rattle.version_store.specs.private.Below.{OrderlyStays, RowStays, RowInodeStays, IsByStays, IsByLater, LastInodeStays, GroupsAscend, RowsKeepTheMaking}
+use Rattle.version_store.specs.private.Below.{OrderlyStays, RowStays, RowInodeStays, IsByStays, IsByLater, LastInodeStays, GroupsAscend, RowsKeepTheMaking, CheckpointsTakeBlocks}
 use Rattle.version_store.proofs.Frames.{DataStays, data_there, data_agree, data_pointers, stays_object, inode_in_stays, version_in_stays}
 use Rattle.version_store.proofs.Telling.{Moves, same_entries, leads_later, same_pointers, moved_leads_to, moved_leads}
 use Rattle.version_store.proofs.Across.{IsAcross, changed_across}
@@ -83,6 +83,20 @@ keeps_rules o m i object moment created size holes =
     (and_from (leb 1 i.created) (leb i.size 24576 && holes_past i.size i.pointers) (le-leb 1 i.created created)
     (and_from (leb i.size 24576) (holes_past i.size i.pointers) (le-leb i.size 24576 size) holes)))
 
+-- The moment of the last entry of an object's row covers all that the row tells, and is no later than the last change.
+pub record Covers (s : StoreFields) (o : ℕ) (row : Row) (m : ℕ) : Type 0 where
+  pub by : IsBy s.log.held o row m
+  pub upto : m ≤ s.latest
+
+pub covers : GroupsAscend → (s : StoreFields) (o : ℕ) (row : Row) (m : ℕ) → IsStore s → row_of s.rows o ≡ Some row → m ≡ last_entry s.log.held o row → is_behind s.log.held o row ≡ true → Covers s o row m
+covers ascend s o row m store there is behind =
+    let held = s.log.held in
+    let object = store.objects o row there in
+    let late : row.checkpoint_moment < last_entry held o row = ltb-true row.checkpoint_moment (last_entry held o row) behind in
+    let entries : AllBy m (entries_of held o row) = all_by_last 0 m (entries_of held o row) (ascend (entries_of held o row) object.stands.groups) (omega (arith, is)) in
+    let upto : last_entry held o row ≤ s.latest = last_by 0 s.latest (entries_of held o row) (omega arith) object.by.entries in
+    record { by = record { entries = entries; checkpoint = omega (arith, is, late) }; upto = omega (arith, is, upto) }
+
 -- what is known where a checkpoint can be written
 pub record Known (s : StoreFields) (o : ℕ) (row : Row) (i : Inode) (m : ℕ) : Type 0 where
   pub stands : IsRow s.log.held o row
@@ -91,10 +105,11 @@ pub record Known (s : StoreFields) (o : ℕ) (row : Row) (i : Inode) (m : ℕ) :
   pub rules : checkpoint_rules (record { object = o; moment = m; inode = i }) ≡ true
   pub upto : m ≤ s.latest
   pub stamp : row.stamp + 1 < 2 ^ 64
-  pub ahead : 1 ≤ length s.log.ahead
+  pub ahead : checkpoint_blocks (inode_of s.log.held o row m) ≤ length s.log.ahead
+  pub some : 1 ≤ checkpoint_blocks (inode_of s.log.held o row m)
 
-pub known : GroupsAscend → RowsKeepTheMaking → (s : StoreFields) (o : ℕ) (row : Row) (i : Inode) (m : ℕ) → CanCheckpoint s o row i m → Known s o row i m
-known ascend making s o row i m can =
+pub known : GroupsAscend → RowsKeepTheMaking → CheckpointsTakeBlocks → (s : StoreFields) (o : ℕ) (row : Row) (i : Inode) (m : ℕ) → CanCheckpoint s o row i m → Known s o row i m
+known ascend making takes s o row i m can =
     let held = s.log.held in
     let object = can.store.objects o row can.there in
     let made = (can.store.orderly o row can.there).made.0 in
@@ -103,20 +118,21 @@ known ascend making s o row i m can =
     let free = can.room in
     let is = can.moment in
     let behind : row.checkpoint_moment < last_entry held o row = ltb-true row.checkpoint_moment (last_entry held o row) can.behind in
-    let entries : AllBy m (entries_of held o row) = all_by_last 0 m (entries_of held o row) (ascend (entries_of held o row) object.stands.groups) (omega (arith, is)) in
-    let upto : last_entry held o row ≤ s.latest = last_by 0 s.latest (entries_of held o row) (omega arith) object.by.entries in
+    let covered : Covers s o row m = covers ascend s o row m can.store can.there is can.behind in
+    let same : checkpoint_blocks i ≡ checkpoint_blocks (inode_of held o row m) = ap checkpoint_blocks can.inode in
     let tidy = object.tidy m in
     let created : (inode_of held o row m).created ≡ row.created = making held o row m object.stands in
     let rules = keeps_rules o m (inode_of held o row m) object.stands.object (omega (arith, is, behind)) (omega (arith, created, made)) tidy.size
     (holes_all (inode_of held o row m).size (inode_of held o row m).pointers tidy.holes) in
     record {
       stands = object.stands;
-      by = record { entries = entries; checkpoint = omega (arith, is, behind) };
+      by = covered.by;
       inode = can.inode;
       rules = subst (λ (k : Inode). checkpoint_rules (record { object = o; moment = m; inode = k }) ≡ true) (sym can.inode) rules;
-      upto = omega (arith, is, upto);
+      upto = covered.upto;
       stamp = omega (arith, bound, most);
-      ahead = omega (arith, free);
+      ahead = omega (arith, free, same);
+      some = takes (inode_of held o row m);
     }
 
 -- ---- what a checkpoint leaves
@@ -128,10 +144,10 @@ pub record Rewrites (s : StoreFields) (log : Log) (o : ℕ) (row next : Row) (m 
   pub inode : (t : ℕ) → inode_of log.held o next t ≡ inode_of s.log.held o row t
   pub orderly : (latest : ℕ) → m ≤ latest → IsOrderly s.log.held o row latest → IsOrderly log.held o next latest
   pub fields : next ≡ record row { checkpoint = next.checkpoint; checkpoint_moment = m }
-  pub moved : IsMoved s.log.held row.checkpoint next.checkpoint log.held
+  pub moved : IsMoved s.log.held (checkpoint_places_of s.log.held o row) (checkpoint_places_of log.held o next) log.held
   pub some : IsSome next.checkpoint
   pub others : OnlyCheckpointChanged o s.log.held log.held
-  pub takes : TakesPlaces 1 s.log log
+  pub takes : TakesPlaces (checkpoint_blocks (inode_of s.log.held o row m)) s.log log
 
 -- the store with other rows and another log
 abbrev pub next_store : StoreFields → List (ℕ × Row) → Log → StoreFields
@@ -200,8 +216,9 @@ rewritten_across s rows log o row next i m can know writes put =
 rewritten_store : OrderlyStays → RowStays → RowInodeStays → IsByStays → IsByLater → OnlyItsBlocksMatter → (s : StoreFields) (rows : List (ℕ × Row)) (log : Log) (o : ℕ) (row next : Row) (i : Inode) (m : ℕ)
     → CanCheckpoint s o row i m → Known s o row i m → Rewrites s log o row next m → IsPut s rows o row next → IsStore (next_store s rows log)
 rewritten_store orderly stands same by later_by matter s rows log o row next i m can know writes put =
-    let sum = sum_stays 1 s.log log writes.takes know.ahead in
-    let more : log.spent ≡ 1 + s.log.spent = writes.takes.spent in
+    let some = know.some in
+    let sum = sum_stays (checkpoint_blocks (inode_of s.log.held o row m)) s.log log writes.takes know.ahead in
+    let more : log.spent ≡ checkpoint_blocks (inode_of s.log.held o row m) + s.log.spent = writes.takes.spent in
     let across = rewritten_across s rows log o row next i m can know writes put in
     record {
       objects = row_cases (row_of s.rows) (row_of rows) o (record next { stamp = row.stamp + 1 }) put (λ q r. IsObject log.held q r s.latest)
@@ -219,7 +236,7 @@ rewritten_store orderly stands same by later_by matter s rows log o row next i m
           let gone = none_cases (row_of s.rows) (row_of rows) o (record next { stamp = row.stamp + 1 }) put q none in
           ap (λ (view : Place → Option (List ℕ)). view p) (writes.others kind q (and_right (same_kind Checkpoint kind) (o == q) gone.0)) ∙ can.store.nothing q gone.1 kind p;
       stamps = row_cases (row_of s.rows) (row_of rows) o (record next { stamp = row.stamp + 1 }) put (λ q r. r.stamp ≤ log.spent)
-          (let bound = can.store.stamps o row can.there in omega (arith, bound, more))
+          (let bound = can.store.stamps o row can.there in omega (arith, bound, more, some))
           (λ q r other e. let bound = can.store.stamps q r e in omega (arith, bound, more));
       bounded = let bound = can.store.bounded in omega (arith, bound, sum);
       ascending = across.ascending;
@@ -290,9 +307,9 @@ rewritten_made last s rows log o row next i m can know writes put =
       place = p;
       put = λ q. put q ∙ ap (λ (r : Row). with_row (row_of s.rows) o r q) is;
       written = rewritten_told last s log o row next i m p can know writes at;
-      moved = subst (λ (c : Option Place). IsMoved s.log.held row.checkpoint c log.held) at writes.moved;
+      moved = subst (λ (c : Option Place). IsMoved s.log.held (checkpoint_places_of s.log.held o row) (places_named (of_checkpoints o log.held) c) log.held) at writes.moved;
       others = writes.others;
-      takes = writes.takes;
+      takes = subst (λ (j : Inode). TakesPlaces (checkpoint_blocks j) s.log log) (sym (last s.log.held o row m s.latest know.by know.upto)) writes.takes;
     }
 
 rewritten_current : (s : StoreFields) (rows : List (ℕ × Row)) (log : Log) (o : ℕ) (row next : Row) (m : ℕ) → Rewrites s log o row next m → IsPut s rows o row next

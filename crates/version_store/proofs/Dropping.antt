@@ -1,5 +1,5 @@
 -- What a table shows where data blocks of an object are dropped, and where all blocks of it are.
-use Rattle.std.proofs.Common.{◌≡◌, inl, inr, ℕ, true, false, ◌==◌, ◌&&◌, ◌||◌, not, cond, Bool, List, [], ◌∷◌, length, Option, Some, None, IsSome, IfSome, is_some, unwrap_or, ◌≤◌, refl, sym, ap, subst, ◌∙◌, arith}
+use Rattle.std.proofs.Common.{◌≡◌, inl, inr, ℕ, true, false, ◌==◌, ◌&&◌, ◌||◌, not, cond, Bool, List, [], ◌∷◌, length, Option, Some, None, IsSome, is_some, unwrap_or, ◌≤◌, refl, sym, ap, subst, ◌∙◌, arith}
 use Rattle.std.specs.List.{All, Contains}
 use Rattle.std.proofs.lemmas.Bool.{cases_Bool, cond-true, cond-false, and_from, and_parts, and_right, eqb-true, eq-eqb, false≢true}
 use Rattle.std.proofs.lemmas.List.Folds.{list_any_at}
@@ -13,13 +13,13 @@ use Rattle.block_log.specs.Log.{Stored, of_kind, seen_as, same_kind, same_place}
 use Rattle.codec.specs.Fields.{◌>>=◌, bit}
 use Rattle.codec.specs.Entry.{entries_length}
 use Rattle.journal_chain.specs.Chain.{ChainFields, Link, Holds, OnlyJournalChanged, times, places_of, blocks_of, chain_places, chain_links}
-use Rattle.row_changes.specs.Moved.{is_at, OnlyCheckpointChanged}
+use Rattle.checkpoint.specs.Held.{of_checkpoints, places_named, is_one_of, HasItsBlocks, OnlyCheckpointChanged, DropsCheckpoint}
 use Rattle.object_map.specs.declared.map.Row.{Row}
 use Rattle.time_read.specs.Rows.{IsRow}
 use Rattle.version_store.specs.Store.{IsLed, HasNothing}
 use Rattle.version_store.specs.Replacing.{OnlyDataChanged, OtherObjectsStay}
-use Rattle.version_store.specs.private.Dropping.{leads_to, is_among}
-use Rattle.version_store.specs.private.Below.{OnePlace}
+use Rattle.version_store.specs.private.Dropping.{is_at, leads_to, is_among}
+use Rattle.version_store.specs.private.Below.{OnePlace, CheckpointsHaveBlocks}
 use Rattle.version_store.proofs.Telling.{led_there, leads_later}
 use Rattle.version_store.proofs.Naming.{checkpoint_there}
 
@@ -115,17 +115,28 @@ no_bytes = omega arith
 
 -- ---- all blocks of an object are dropped: first its journal, then its checkpoint, then its data
 
-at_place : (held : Place → Option Stored) (o : ℕ) (row : Row) (place : Option Place) → IsRow held o row → row.checkpoint ≡ place → IfSome place (λ p. IsSome (of_kind Checkpoint o held p))
-at_place held o row None stands is = tt
-at_place held o row (Some p) stands is = checkpoint_there held o row p stands is
+-- the blocks of the checkpoint are where they were, once the journal was dropped
+pub checkpoint_stands : CheckpointsHaveBlocks → (held later : Place → Option Stored) (o : ℕ) (row : Row) → IsRow held o row → OnlyJournalChanged o held later → HasItsBlocks later o row.checkpoint
+checkpoint_stands law held later o row stands only =
+    subst (λ (view : Place → Option (List ℕ)). (q : Place) → is_one_of (places_named view row.checkpoint) q ≡ true → IsSome (view q)) (sym (only Checkpoint o refl)) (checkpoint_there law held o row stands)
 
-pub checkpoint_stands : (held later : Place → Option Stored) (o : ℕ) (row : Row) → IsRow held o row → OnlyJournalChanged o held later → IfSome row.checkpoint (λ p. IsSome (of_kind Checkpoint o later p))
-checkpoint_stands held later o row stands only =
-    subst (λ (view : Place → Option (List ℕ)). IfSome row.checkpoint (λ p. IsSome (view p))) (sym (only Checkpoint o refl)) (at_place held o row row.checkpoint stands refl)
+checkpoint_only : (held later : Place → Option Stored) (o : ℕ) (row : Row) → IsRow held o row → OnlyJournalChanged o held later → (p : Place) → IsSome (of_checkpoints o later p) → is_one_of (places_named (of_checkpoints o later) row.checkpoint) p ≡ true
+checkpoint_only held later o row stands only =
+    subst (λ (view : Place → Option (List ℕ)). (p : Place) → IsSome (view p) → is_one_of (places_named view row.checkpoint) p ≡ true) (sym (only Checkpoint o refl)) stands.only
 
-pub checkpoint_only : (held later : Place → Option Stored) (o : ℕ) (row : Row) → IsRow held o row → OnlyJournalChanged o held later → (p : Place) → IsSome (of_kind Checkpoint o later p) → row.checkpoint ≡ Some p
-checkpoint_only held later o row stands only p there =
-    stands.only p (subst (λ (view : Place → Option (List ℕ)). IsSome (view p)) (only Checkpoint o refl) there)
+none_there : (seen : Option (List ℕ)) → (IsSome seen → ⊥) → seen ≡ None
+none_there None not = refl
+none_there (Some bytes) not = absurd (not refl)
+
+-- no checkpoint is left, once that of the row was dropped
+pub checkpoint_gone : (held first second : Place → Option Stored) (o : ℕ) (row : Row) → IsRow held o row → OnlyJournalChanged o held first → DropsCheckpoint first o row.checkpoint second
+    → (p : Place) → of_kind Checkpoint o second p ≡ None
+checkpoint_gone held first second o row stands journal dropped p = elim (cases_Bool (is_one_of (places_named (of_checkpoints o first) row.checkpoint) p)) [
+  | inl is ↦ ap (seen_as Checkpoint o) (dropped.gone p is)
+  | inr beside ↦
+      let same : of_checkpoints o second p ≡ of_checkpoints o first p = ap (seen_as Checkpoint o) (dropped.kept p beside) in
+      none_there (of_checkpoints o second p) (λ there. false≢true (sym beside ∙ checkpoint_only held first o row stands journal p (subst (λ b. IsSome b) same there)))
+]
 
 same_data : (o : ℕ) (held first second : Place → Option Stored) → OnlyJournalChanged o held first → OnlyCheckpointChanged o first second → of_kind Data o second ≡ of_kind Data o held
 same_data o held first second journal checkpoint = checkpoint Data o refl ∙ journal Data o refl

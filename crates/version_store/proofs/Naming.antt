@@ -9,7 +9,7 @@ use Rattle.block_log.specs.Log.{Log, Stored, of_kind, seen_as, same_kind, same_p
 use Rattle.codec.specs.Fields.{bit}
 use Rattle.codec.specs.Checkpoint.{CheckpointFields, pointer_at}
 use Rattle.codec.specs.declared.inodes.Inode.{Inode}
-use Rattle.checkpoint.specs.Held.{checkpoint_held, spelled_checkpoint}
+use Rattle.checkpoint.specs.Held.{checkpoint_held, HasItsBlocks}
 use Rattle.inode.specs.Touched.{touched_count, is_touched, is_cut, cut_count}
 use Rattle.inode.specs.Changed.{Written, Truncated}
 use Rattle.inode.specs.Growth.{data_block, log_grown, grown_at, with_data}
@@ -19,7 +19,7 @@ use Rattle.time_read.specs.Rows.{IsRow, inode_of}
 use Rattle.version_store.specs.Store.{StoreFields, IsStore, IsObject, pointers_of, DataIsNamed, Names, IsNamed}
 use Rattle.version_store.specs.Versions.{inode_by, inode_in}
 use Rattle.version_store.specs.private.Turning.{LeadsTo}
-use Rattle.version_store.specs.private.Below.{OnePlace}
+use Rattle.version_store.specs.private.Below.{OnePlace, CheckpointsHaveBlocks}
 use Rattle.version_store.proofs.Telling.{inode_told, led_there}
 use Rattle.version_store.proofs.Counting.{past_uncut}
 
@@ -102,34 +102,33 @@ counted_there : (b : _) → bit b ≡ 1 → b ≡ true
 counted_there true one = refl
 counted_there false one = absurd (omega (arith, one))
 
-spelled_there : (block : Option (List ℕ)) (c : CheckpointFields) → spelled_checkpoint block ≡ Some c → IsSome block
-spelled_there None c told = absurd (none-some c told)
-spelled_there (Some block) c told = refl
+told_there : CheckpointsHaveBlocks → (N : Type 0) (held : Place → Option Stored) (o : ℕ) (c : CheckpointFields) (place : Option Place) → MatchOption place N (λ p. checkpoint_held held o p ≡ Some c) → HasItsBlocks held o place
+told_there law N held o c None h q is = absurd (false≢true is)
+told_there law N held o c (Some p) h q is = law held o p (ap is_some h) q is
 
--- the checkpoint that a row names is held
-pub checkpoint_there : (held : Place → Option Stored) (o : ℕ) (row : Row) (p : Place) → IsRow held o row → row.checkpoint ≡ Some p → IsSome (of_kind Checkpoint o held p)
-checkpoint_there held o row p r at =
-    let c : CheckpointFields = record { object = o; moment = row.checkpoint_moment; inode = inode_of held o row row.checkpoint_moment } in
-    spelled_there (of_kind Checkpoint o held p) c (subst (λ (place : Option Place). MatchOption place (row.checkpoint_moment ≡ 0) (λ q. checkpoint_held held o q ≡ Some c)) at r.checkpoint)
+-- each block of the checkpoint that a row names is held
+pub checkpoint_there : CheckpointsHaveBlocks → (held : Place → Option Stored) (o : ℕ) (row : Row) → IsRow held o row → HasItsBlocks held o row.checkpoint
+checkpoint_there law held o row r =
+    told_there law (row.checkpoint_moment ≡ 0) held o (record { object = o; moment = row.checkpoint_moment; inode = inode_of held o row row.checkpoint_moment }) row.checkpoint r.checkpoint
 
 held_named : (held : Place → Option Stored) (o : ℕ) (row : Row) (kind : BlockKind) (p : Place) → IsRow held o row → DataIsNamed held o row → IsSome (of_kind kind o held p) → Names held o row kind p
 held_named held o row Journal p r named there = r.chain.once p ∙ ap bit there
 held_named held o row Checkpoint p r named there = r.only p there
 held_named held o row Data p r named there = named p there
 
-named_held : (held : Place → Option Stored) (o : ℕ) (row : Row) (kind : BlockKind) (p : Place) (latest : ℕ) → IsObject held o row latest → Names held o row kind p → IsSome (of_kind kind o held p)
-named_held held o row Journal p latest object names = counted_there (is_some (of_kind Journal o held p)) (sym (object.stands.chain.once p) ∙ names)
-named_held held o row Checkpoint p latest object names = checkpoint_there held o row p object.stands names
-named_held held o row Data p latest object names = led_there held o (pointers_of held o row) p object.led names
+named_held : CheckpointsHaveBlocks → (held : Place → Option Stored) (o : ℕ) (row : Row) (kind : BlockKind) (p : Place) (latest : ℕ) → IsObject held o row latest → Names held o row kind p → IsSome (of_kind kind o held p)
+named_held law held o row Journal p latest object names = counted_there (is_some (of_kind Journal o held p)) (sym (object.stands.chain.once p) ∙ names)
+named_held law held o row Checkpoint p latest object names = checkpoint_there law held o row object.stands p names
+named_held law held o row Data p latest object names = led_there held o (pointers_of held o row) p object.led names
 
 row_there : (s : StoreFields) (o : ℕ) (kind : BlockKind) (p : Place) (row : Option Row) → row_of s.rows o ≡ row → IsStore s → IsSome (of_kind kind o s.log.held p) → IsNamed s o kind p
 row_there s o kind p None is store there = absurd (false≢true (sym (ap is_some (store.nothing o is kind p)) ∙ there))
 row_there s o kind p (Some row) is store there = record { row = row; there = is; names = held_named s.log.held o row kind p (store.objects o row is).stands (store.named o row is) there }
 
-pub held_is_named : (s : StoreFields) (o : ℕ) (kind : BlockKind) (p : Place) → IsStore s → IsSome (of_kind kind o s.log.held p) ↔ IsNamed s o kind p
-held_is_named s o kind p store = (
+pub held_is_named : CheckpointsHaveBlocks → (s : StoreFields) (o : ℕ) (kind : BlockKind) (p : Place) → IsStore s → IsSome (of_kind kind o s.log.held p) ↔ IsNamed s o kind p
+held_is_named law s o kind p store = (
   λ there. row_there s o kind p (row_of s.rows o) refl store there,
-  λ is. named_held s.log.held o is.row kind p s.latest (store.objects o is.row is.there) is.names,
+  λ is. named_held law s.log.held o is.row kind p s.latest (store.objects o is.row is.there) is.names,
 )
 
 kind_itself : (kind : BlockKind) → same_kind kind kind ≡ true
@@ -144,8 +143,8 @@ seen_itself there block is =
     ∙ ap is_some (cond-true (same_kind block.kind block.kind && block.object == block.object) (Some block.bytes) None
     (and_from (same_kind block.kind block.kind) (block.object == block.object) (kind_itself block.kind) (eq-eqb block.object block.object refl)))
 
-pub block_is_named : (s : StoreFields) (p : Place) (block : Stored) → IsStore s → s.log.held p ≡ Some block → IsNamed s block.object block.kind p
-block_is_named s p block store at = (held_is_named s block.object block.kind p store).0 (seen_itself (s.log.held p) block at)
+pub block_is_named : CheckpointsHaveBlocks → (s : StoreFields) (p : Place) (block : Stored) → IsStore s → s.log.held p ≡ Some block → IsNamed s block.object block.kind p
+block_is_named law s p block store at = (held_is_named law s block.object block.kind p store).0 (seen_itself (s.log.held p) block at)
 
 -- ---- what an inode points to is named
 

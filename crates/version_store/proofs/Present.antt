@@ -1,5 +1,5 @@
 -- The present of an object: from the last change on nothing changes, and a change begins with it.
-use Rattle.std.proofs.Common.{◌≡◌, ℕ, ◌<◌, ◌≤◌, ◌==◌, nat_le, if◌then◌else◌, true, false, ◌↔◌, List, Option, Some, None, refl, sym, ap, subst, ◌∙◌, inl, inr, arith}
+use Rattle.std.proofs.Common.{◌≡◌, ℕ, ◌≤◌, ◌==◌, nat_le, if◌then◌else◌, true, false, ◌↔◌, List, Option, Some, None, refl, sym, ap, subst, ◌∙◌, inl, inr, arith}
 use Rattle.std.proofs.lemmas.Bool.{cases_Bool, cond-true, cond-false, eqb-true, le-leb}
 use Rattle.std.proofs.lemmas.Option.{none-some, same_Some}
 use Rattle.s4_types.specs.Pointer.{Place}
@@ -20,15 +20,16 @@ use Rattle.version_store.specs.Store.{StoreFields, IsStore, IsObject}
 use Rattle.version_store.specs.Versions.{inode_by, inode_in, version_by, version_in}
 use Rattle.version_store.specs.Costs.{row_or_fresh, subject_inode, room}
 use Rattle.version_store.specs.Checkpointing.{last_entry, is_behind}
+use Rattle.checkpoint.specs.Held.{checkpoint_blocks}
 use Rattle.version_store.specs.private.CheckpointSteps.{CanCheckpoint}
 use Rattle.object_map.specs.Objects.{with_value}
-use Rattle.version_store.specs.private.Below.{RowInodeStays, LastInodeStays, FreshInode, BlankCount, BlankHoles, GroupsAscend, RowsKeepTheMaking}
+use Rattle.version_store.specs.private.Below.{RowInodeStays, LastInodeStays, FreshInode, BlankCount, BlankHoles, GroupsAscend}
 use Rattle.version_store.proofs.Frames.{growth_stays, journal_stays, inode_in_stays}
 use Rattle.version_store.specs.Taking.{IsThere}
 use Rattle.version_store.proofs.Steps.{blank_tidy, blank_means, row_here, row_beside}
 use Rattle.version_store.proofs.Subjects.{alive_by}
 use Rattle.version_store.proofs.Kind.{blank_subject}
-use Rattle.version_store.proofs.CheckpointSteps.{known}
+use Rattle.version_store.proofs.CheckpointSteps.{covers}
 
 inode_by_present : LastInodeStays → (held : Place → Option Stored) (o latest t : ℕ) (row : Option Row) → ((r : Row) → row ≡ Some r → IsObject held o r latest) → latest ≤ t → inode_by held o t row ≡ inode_by held o latest row
 inode_by_present last held o latest t None objects le = refl
@@ -123,16 +124,15 @@ turned_keeps same last s later o m stamp j row next kept after objects le inode 
 -- ---- the inode of a checkpoint
 
 -- the present inode is that of the last entry, so it can be written as the checkpoint where one has to be
-pub at_last : GroupsAscend → RowsKeepTheMaking → LastInodeStays → (s : StoreFields) (o : ℕ) (row : Row) (i : Inode) (m space : ℕ) → IsStore s → row_of s.rows o ≡ Some row → m ≡ last_entry s.log.held o row → is_behind s.log.held o row ≡ true
-    → space ≡ room s → (space ≡ 0 → ⊥) → Some i ≡ inode_in s o s.latest → CanCheckpoint s o row i m
-at_last ascend making last s o row i m space store there moment behind room_is some is =
-    let free : 0 < room s = omega (arith, some, room_is) in
-    let know = known ascend making s o row (inode_of s.log.held o row m) m (record { store = store; there = there; moment = moment; behind = behind; inode = refl; room = free }) in
+pub at_last : GroupsAscend → LastInodeStays → (s : StoreFields) (o : ℕ) (row : Row) (i : Inode) (m space : ℕ) → IsStore s → row_of s.rows o ≡ Some row → m ≡ last_entry s.log.held o row → is_behind s.log.held o row ≡ true
+    → space ≡ room s → checkpoint_blocks i ≤ space → Some i ≡ inode_in s o s.latest → CanCheckpoint s o row i m
+at_last ascend last s o row i m space store there moment behind room_is some is =
+    let covered = covers ascend s o row m store there moment behind in
     record {
       store = store;
       there = there;
       moment = moment;
       behind = behind;
-      inode = same_Some i (inode_of s.log.held o row s.latest) (is ∙ ap (inode_by s.log.held o s.latest) there) ∙ last s.log.held o row m s.latest know.by know.upto;
-      room = free;
+      inode = same_Some i (inode_of s.log.held o row s.latest) (is ∙ ap (inode_by s.log.held o s.latest) there) ∙ last s.log.held o row m s.latest covered.by covered.upto;
+      room = omega (arith, some, room_is);
     }

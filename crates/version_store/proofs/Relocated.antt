@@ -11,12 +11,12 @@ use Rattle.undo_redo.specs.Runs.{inode_after}
 use Rattle.object_map.specs.declared.map.Row.{Row}
 use Rattle.time_read.specs.Rows.{IsRow, entries_of, checkpoint_of, first_of, inode_of}
 use Rattle.time_read.specs.Orderly.{IsFromTo, IsOrderly, IsOrderlyChain, BeginsDead}
-use Rattle.row_changes.specs.Moving.{checkpoint_with, first_with, moved_blocks}
+use Rattle.row_changes.specs.Moving.{checkpoint_with, first_with, moved_blocks, row_blocks}
 use Rattle.row_changes.specs.Rewritten.{OnlyHistoryChanged}
 use Rattle.chain_moving.specs.Renaming.{RenamingFields, renamed_entries}
 use Rattle.chain_moving.specs.Laws.{RenamedEntriesStayInOrder, RenamedEntriesTakeAsManyBytes}
 use Rattle.version_store.specs.declared.copies.CopiedBlock.{CopiedBlock}
-use Rattle.version_store.specs.private.Below.{RowStays, RowInodeStays, PlacesAddUp}
+use Rattle.version_store.specs.private.Below.{RowStays, RowInodeStays, PlacesAddUp, HolesTellBlocks}
 use Rattle.version_store.specs.private.Relocating.{Relocates}
 use Rattle.version_store.proofs.Telling.{same_entries, same_checkpoint}
 use Rattle.version_store.proofs.RenamedHistory.{RenamingStands, kept_renamed, first_renamed, shown_renamed, checkpoint_renamed}
@@ -32,9 +32,9 @@ pub record Moved (between moved : Log) (o : ℕ) (row next : Row) (kept : Option
       → MatchOption row.checkpoint (BeginsDead entries) (λ p. IsFromTo row.created latest row.checkpoint_moment) → IsOrderly moved.held o next latest
   pub fields : next ≡ record row { checkpoint = next.checkpoint; head = next.head; journal_bytes = entries_length entries; head_bytes = next.head_bytes }
   pub history : OnlyHistoryChanged o between.held moved.held
-  pub takes : TakesPlaces (moved_blocks row entries) between moved
-  pub chains : (p : Place) → IsSome (of_kind Journal o moved.held p) → Contains (take (moved_blocks row entries) between.ahead) p
-  pub checkpoints : (p : Place) → IsSome (of_kind Checkpoint o moved.held p) → Contains (take (moved_blocks row entries) between.ahead) p
+  pub takes : TakesPlaces (moved_blocks kept entries) between moved
+  pub chains : (p : Place) → IsSome (of_kind Journal o moved.held p) → Contains (take (moved_blocks kept entries) between.ahead) p
+  pub checkpoints : (p : Place) → IsSome (of_kind Checkpoint o moved.held p) → Contains (take (moved_blocks kept entries) between.ahead) p
 
 -- rows in order rest on their own blocks
 abbrev pub OrderRestsOnBlocks : Type 0
@@ -54,17 +54,17 @@ order_renamed : RenamingStands → RenamedEntriesStayInOrder → (held : Place �
 order_renamed laws order held o latest row r chain =
     subst (λ (i : Inode). IsOrderlyChain row.created latest i (renamed_entries r (entries_of held o row))) (sym (first_renamed laws.blank laws.undo laws.by held o row r)) (order r row.created latest (first_of held o row) (entries_of held o row) chain)
 
-pub relocates : RenamingStands → RenamedEntriesStayInOrder → RenamedEntriesTakeAsManyBytes → RowStays → RowInodeStays → OrderRestsOnBlocks → PlacesAddUp
+pub relocates : RenamingStands → RenamedEntriesStayInOrder → RenamedEntriesTakeAsManyBytes → HolesTellBlocks → RowStays → RowInodeStays → OrderRestsOnBlocks → PlacesAddUp
     → (before between moved later : Log) (o : ℕ) (row next : Row) (copies : List CopiedBlock) (r : RenamingFields) → IsRow before.held o row
     → Moved between moved o row next (kept_renamed r (checkpoint_of before.held o row)) (renamed_entries r (entries_of before.held o row))
     → Dropped before between moved later o copies r → TakesPlaces 0 moved later → Relocates before o row copies next later r
-relocates laws order lengths row_stays inode_stays order_stays add_up before between moved later o row next copies r stands m d dropped =
+relocates laws order lengths holes row_stays inode_stays order_stays add_up before between moved later o row next copies r stands m d dropped =
     let entries : List EntryFields = entries_of before.held o row in
     let count : ℕ = length copies in
-    let blocks : ℕ = moved_blocks row entries in
+    let blocks : ℕ = row_blocks before.held o row in
     let journal : of_kind Journal o later.held ≡ of_kind Journal o moved.held = only_data before between moved later o copies r d Journal o refl in
     let checkpoints : of_kind Checkpoint o later.held ≡ of_kind Checkpoint o moved.held = only_data before between moved later o copies r d Checkpoint o refl in
-    let same : moved_blocks row (renamed_entries r entries) ≡ blocks = same_blocks lengths row r entries in
+    let same : moved_blocks (kept_renamed r (checkpoint_of before.held o row)) (renamed_entries r entries) ≡ blocks = same_blocks lengths holes r (checkpoint_of before.held o row) entries in
     let bytes : entries_length (renamed_entries r entries) ≡ row.journal_bytes = laws.bytes r entries ∙ sym stands.chain.bytes in
     record {
       exact = d.appended.exact;

@@ -1,29 +1,31 @@
 -- What became of an object's blocks where copies were appended, its history was written anew, and what was copied was dropped.
-use Rattle.std.proofs.Common.{◌≡◌, ◌↔◌, inl, inr, ℕ, zero, suc, ◌+◌, ◌==◌, ◌&&◌, ◌||◌, Bool, true, false, cond, List, [], ◌∷◌, length, take, drop, Option, Some, None, IsSome, is_some, refl, sym, ap, subst, ◌∙◌, arith}
+use Rattle.std.proofs.Common.{◌≡◌, ◌↔◌, inl, inr, ℕ, zero, suc, ◌+◌, ◌==◌, ◌&&◌, ◌||◌, Bool, true, false, cond, List, [], ◌∷◌, length, map, take, drop, Option, Some, None, IsSome, is_some, refl, sym, ap, subst, ◌∙◌, arith}
 use Rattle.std.specs.List.{AllByRecursion, Contains}
 use Rattle.std.proofs.lemmas.Bool.{cases_Bool, cond-true, cond-false, and_parts, and_right, eqb-true, eq-eqb, false≢true}
 use Rattle.std.proofs.lemmas.List.Folds.{list_any_at}
 use Rattle.std.proofs.lemmas.List.Elements.{Contains-append_right}
 use Rattle.std.proofs.lemmas.Option.{none-some}
 use Rattle.std.proofs.Math.Seq.{take-add}
+use Rattle.std.specs.Prelude.{option_map}
 use std.Path.{fun_ext}
 use Rattle.s4_types.specs.Pointer.{Place}
 use Rattle.block_log.specs.Log.{Log, Stored, of_kind, seen_as, same_kind, same_place}
 use Rattle.block_log.specs.Taken.{TakesPlaces}
 use Rattle.block_log.specs.declared.kinds.BlockKind.TheVariants.{Journal, Checkpoint, Data}
-use Rattle.codec.specs.Entry.{EntryFields}
+use Rattle.codec.specs.Checkpoint.{CheckpointFields}
+use Rattle.codec.specs.Entry.{EntryFields, entry_length}
 use Rattle.inode.specs.Growth.{data_block}
 use Rattle.journal_chain.specs.Sizes.{blocks_needed}
-use Rattle.object_map.specs.declared.map.Row.{Row}
-use Rattle.row_changes.specs.Moving.{checkpoint_count, moved_blocks}
+use Rattle.row_changes.specs.Moving.{kept_blocks, moved_blocks}
 use Rattle.row_changes.specs.Rewritten.{OnlyHistoryChanged}
-use Rattle.chain_moving.specs.Renaming.{RenamingFields, move_of, is_in, new_place, renamed_entries}
+use Rattle.chain_moving.specs.Renaming.{RenamingFields, move_of, is_in, new_place, renamed_slot, renamed_entries, renamed_inode}
 use Rattle.chain_moving.specs.Laws.{RenamedEntriesTakeAsManyBytes}
 use Rattle.version_store.specs.declared.copies.CopiedBlock.{CopiedBlock}
 use Rattle.version_store.specs.Replacing.{OnlyDataChanged, OtherObjectsStay}
 use Rattle.version_store.specs.Relocating.{AreCopies, IsCopied, frame_of_copies}
-use Rattle.version_store.specs.private.Below.{OnePlace, PlacesAddUp}
+use Rattle.version_store.specs.private.Below.{OnePlace, PlacesAddUp, HolesTellBlocks}
 use Rattle.version_store.specs.private.Relocating.{Appending, IsNewPlace, IsOldOrNew, stood_at}
+use Rattle.version_store.proofs.RenamedHistory.{kept_renamed}
 use Rattle.version_store.proofs.Spending.{not_both}
 use Rattle.version_store.proofs.CheckpointSteps.{some_place}
 use Rattle.version_store.proofs.Dropping.{same_place-self, seen_alone, seen_cond, none_either}
@@ -214,8 +216,21 @@ others_are before between moved later o copies r d kind other beside =
 
 -- ---- places
 
-pub same_blocks : RenamedEntriesTakeAsManyBytes → (row : Row) (r : RenamingFields) (entries : List EntryFields) → moved_blocks row (renamed_entries r entries) ≡ moved_blocks row entries
-same_blocks law row r entries = ap (λ (sizes : List ℕ). checkpoint_count row.checkpoint + blocks_needed 0 sizes) (law r entries)
+same_holes : (r : RenamingFields) (slots : List (Option Place)) → map is_some (map (renamed_slot r) slots) ≡ map is_some slots
+same_holes r [] = refl
+same_holes r (None ∷ slots) = ap (λ bs. false ∷ bs) (same_holes r slots)
+same_holes r (Some p ∷ slots) = ap (λ bs. true ∷ bs) (same_holes r slots)
+
+same_kept : HolesTellBlocks → (r : RenamingFields) (c : Option CheckpointFields) → kept_blocks (kept_renamed r c) ≡ kept_blocks (option_map (λ k. k.inode) c)
+same_kept holes r None = refl
+same_kept holes r (Some c) = holes (renamed_inode r c.inode) c.inode (same_holes r c.inode.pointers)
+
+-- a renamed history takes as many blocks
+pub same_blocks : RenamedEntriesTakeAsManyBytes → HolesTellBlocks → (r : RenamingFields) (c : Option CheckpointFields) (entries : List EntryFields)
+    → moved_blocks (kept_renamed r c) (renamed_entries r entries) ≡ moved_blocks (option_map (λ k. k.inode) c) entries
+same_blocks law holes r c entries =
+    ap (λ (sizes : List ℕ). kept_blocks (kept_renamed r c) + blocks_needed 0 sizes) (law r entries)
+    ∙ ap (λ (n : ℕ). n + blocks_needed 0 (map entry_length entries)) (same_kept holes r c)
 
 pub behind : (n m : ℕ) (first between : Log) (p : Place) → TakesPlaces n first between → Contains (take m between.ahead) p → Contains (take (n + m) first.ahead) p
 behind n m first between p takes at =

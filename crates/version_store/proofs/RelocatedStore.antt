@@ -10,6 +10,8 @@ use Rattle.block_log.specs.Taken.{TakesPlaces}
 use Rattle.block_log.specs.declared.kinds.BlockKind.TheVariants.{Journal, Checkpoint, Data}
 use Rattle.codec.specs.Checkpoint.{CheckpointFields, pointer_at}
 use Rattle.codec.specs.Entry.{EntryFields, entry_length}
+use Rattle.codec.specs.Fields.{◌>>=◌}
+use Rattle.checkpoint.specs.Held.{checkpoint_held, checkpoint_blocks}
 use Rattle.codec.specs.declared.inodes.Inode.{Inode}
 use Rattle.undo_redo.specs.Runs.{AllBy}
 use Rattle.inode.specs.Contents.{contents_of, meaning}
@@ -20,7 +22,7 @@ use Rattle.object_map.specs.Rows.{row_of}
 use Rattle.time_read.specs.Rows.{entries_of, checkpoint_of, inode_of}
 use Rattle.time_read.specs.Orderly.{IsOrderly, IsFromTo, BeginsDead}
 use Rattle.journal_chain.specs.Push.{whole_blocks}
-use Rattle.row_changes.specs.Moving.{checkpoint_count}
+use Rattle.row_changes.specs.Moving.{kept_blocks, moved_blocks}
 use Rattle.chain_moving.specs.Renaming.{RenamingFields, new_place, renamed, renamed_slot, renamed_entries, renamed_inode}
 use Rattle.chain_moving.specs.Apart.{Passes, HasCopies}
 use Rattle.chain_moving.specs.Places.{ARenamedChainTellsInOrder}
@@ -29,7 +31,7 @@ use Rattle.version_store.specs.declared.copies.CopiedBlock.{CopiedBlock}
 use Rattle.version_store.specs.Store.{StoreFields, IsStore, IsObject, DataIsNamed, IsLed, sides_told, pointers_kept, pointers_of}
 use Rattle.version_store.specs.Versions.{inode_by, inode_in, version_by, version_in}
 use Rattle.version_store.specs.Relocating.{IsRelocated, blocks_relocated, renaming_by, renamed_checkpoint}
-use Rattle.version_store.specs.private.Below.{OrderlyStays, RowStays, RowInodeStays, IsByStays, SomeBlocksAreNeeded}
+use Rattle.version_store.specs.private.Below.{OrderlyStays, RowStays, RowInodeStays, IsByStays, SomeBlocksAreNeeded, CheckpointsTakeBlocks}
 use Rattle.version_store.specs.private.Relocating.{Relocates, RelocatesIn, IsOldOrNew}
 use Rattle.version_store.proofs.Frames.{same_bytes, stays_object, inode_in_stays, version_in_stays}
 use Rattle.version_store.proofs.Telling.{Leads, same_entries}
@@ -54,6 +56,7 @@ pub record Laws : Type 0 where
   pub within : RenamedEntriesHaveOldMoments
   pub old : TheMomentsOfRenamedEntriesAreOld
   pub needed : SomeBlocksAreNeeded
+  pub takes : CheckpointsTakeBlocks
 
 -- ---- pointers
 
@@ -154,16 +157,17 @@ relocated_named laws before later o row next copies r w named p some =
 none_and_some : (n : ℕ) → 0 < n → 0 < 0 + n
 none_and_some n some = omega (arith, some)
 
-one_and_some : (n : ℕ) → 0 < 1 + n
-one_and_some n = omega arith
-
 suc_and_some : (n : ℕ) → 0 < suc n
 suc_and_some n = omega arith
 
-some_moved : SomeBlocksAreNeeded → (place : Option Place) (entries : List EntryFields) (A : Type 0) → MatchOption place (BeginsDead entries) (λ p. A) → 0 < checkpoint_count place + whole_blocks entries
-some_moved law None [] A dead = absurd dead
-some_moved law None (e ∷ entries) A dead = none_and_some (whole_blocks (e ∷ entries)) (law 0 (map entry_length (e ∷ entries)) (suc_and_some (length (map entry_length entries))))
-some_moved law (Some p) entries A h = one_and_some (whole_blocks entries)
+some_moved : SomeBlocksAreNeeded → CheckpointsTakeBlocks → (place : Option Place) (read : Place → Option CheckpointFields) (c : CheckpointFields) (entries : List EntryFields) (N A : Type 0)
+    → MatchOption place N (λ p. read p ≡ Some c) → MatchOption place (BeginsDead entries) (λ p. A) → 0 < moved_blocks (option_map (λ k. k.inode) (place >>= read)) entries
+some_moved law takes None read c [] N A told dead = absurd dead
+some_moved law takes None read c (e ∷ entries) N A told dead = none_and_some (whole_blocks (e ∷ entries)) (law 0 (map entry_length (e ∷ entries)) (suc_and_some (length (map entry_length entries))))
+some_moved law takes (Some p) read c entries N A told h =
+    let is : kept_blocks (option_map (λ k. k.inode) (read p)) ≡ checkpoint_blocks c.inode = ap (λ (found : Option CheckpointFields). kept_blocks (option_map (λ k. k.inode) found)) told in
+    let some = takes c.inode in
+    omega (arith, is, some)
 
 relocated_store : Laws → (s : StoreFields) (rows : List (ℕ × Row)) (log : Log) (o : ℕ) (row next : Row) (copies : List CopiedBlock) (r : RenamingFields) → IsStore s → row_of s.rows o ≡ Some row
     → Relocates s.log o row copies next log r → blocks_relocated s.log.held o row copies ≤ length s.log.ahead → IsPut s rows o row next → IsStore (next_store s rows log)
@@ -190,7 +194,9 @@ relocated_store laws s rows log o row next copies r store there w room put =
           ap (λ (view : Place → Option (List ℕ)). view p) (w.others kind q gone.0) ∙ store.nothing q gone.1 kind p;
       stamps = row_cases (row_of s.rows) (row_of rows) o (put_row row next) put (λ q x. x.stamp ≤ log.spent)
           (let bound = store.stamps o row there in
-          let some = some_moved laws.needed row.checkpoint (entries_of s.log.held o row) (IsFromTo row.created s.latest row.checkpoint_moment) orderly.checkpoint in
+          let stands = (store.objects o row there).stands in
+          let some = some_moved laws.needed laws.takes row.checkpoint (checkpoint_held s.log.held o) (record { object = o; moment = row.checkpoint_moment; inode = inode_of s.log.held o row row.checkpoint_moment }) (entries_of s.log.held o row)
+          (row.checkpoint_moment ≡ 0) (IsFromTo row.created s.latest row.checkpoint_moment) stands.checkpoint orderly.checkpoint in
           omega (arith, bound, more, some))
           (λ q x beside e. let bound = store.stamps q x e in omega (arith, bound, more));
       bounded = let bound = store.bounded in omega (arith, bound, sum);

@@ -27,7 +27,7 @@ use Rattle.version_store.specs.Versions.{inode_by, inode_in, version_by, version
 use Rattle.version_store.specs.Checkpointing.{last_entry}
 use Rattle.version_store.specs.Replacing.{IsMomentOf, OnlyDataChanged, OtherObjectsStay, CanReplace, IsReplaced, inode_led, pointers_told}
 use Rattle.row_changes.specs.Rewritten.{OnlyHistoryChanged, rewritten_blocks}
-use Rattle.version_store.specs.private.Below.{OnePlace, OrderlyStays, RowStays, RowInodeStays, IsByStays, IsByLater}
+use Rattle.version_store.specs.private.Below.{OnePlace, OrderlyStays, RowStays, RowInodeStays, IsByStays, IsByLater, CheckpointsTakeBlocks}
 use Rattle.version_store.specs.private.Dropping.{leads_to, is_among}
 use Rattle.version_store.specs.private.Replacing.{Replaces, AllAreDone, RunsEnd}
 use Rattle.version_store.proofs.Frames.{same_bytes, stays_object, inode_in_stays, version_in_stays}
@@ -207,12 +207,12 @@ replaced_object later_by matter s log o row next present entries m can know swap
 abbrev pub IsPut : StoreFields → List (ℕ × Row) → ℕ → Row → Row → Type 0
 IsPut s rows o row next = (q : ℕ) → row_of rows q ≡ with_row (row_of s.rows) o (put_row row next) q
 
-replaced_store : OrderlyStays → RowStays → RowInodeStays → IsByStays → IsByLater → OnlyItsBlocksMatter → (s : StoreFields) (rows : List (ℕ × Row)) (log : Log) (o : ℕ) (row next : Row) (present : Inode) (entries : List EntryFields) (m : ℕ)
+replaced_store : OrderlyStays → RowStays → RowInodeStays → IsByStays → IsByLater → OnlyItsBlocksMatter → CheckpointsTakeBlocks → (s : StoreFields) (rows : List (ℕ × Row)) (log : Log) (o : ℕ) (row next : Row) (present : Inode) (entries : List EntryFields) (m : ℕ)
     → IsStore s → CanReplace s o row present entries → Known s o row present entries m → Swaps s.log.held log.held o present entries → Rewrites log o row next present entries m
-    → TakesPlaces (rewritten_blocks entries) s.log log → rewritten_blocks entries ≤ length s.log.ahead → IsPut s rows o row next → IsStore (next_store s rows log)
-replaced_store orderly stands same by later_by matter s rows log o row next present entries m store can know swaps writes takes room put =
-    let sum = sum_stays (rewritten_blocks entries) s.log log takes room in
-    let more : log.spent ≡ rewritten_blocks entries + s.log.spent = takes.spent in
+    → TakesPlaces (rewritten_blocks present entries) s.log log → rewritten_blocks present entries ≤ length s.log.ahead → IsPut s rows o row next → IsStore (next_store s rows log)
+replaced_store orderly stands same by later_by matter some s rows log o row next present entries m store can know swaps writes takes room put =
+    let sum = sum_stays (rewritten_blocks present entries) s.log log takes room in
+    let more : log.spent ≡ rewritten_blocks present entries + s.log.spent = takes.spent in
     let across : IsAcross log.held rows = renewed_across s.rows rows s.log.held log.held o row (put_row row next) know.there put (ap (λ (r : Row). r.created) writes.fields)
     (subst (λ (es : List EntryFields). (e : EntryFields) → Contains es e → IsMomentOf (entries_of s.log.held o row) e.moment) (sym writes.entries_are) can.moments)
     (λ q r beside e. same_entries s.log.held log.held q r (swaps.others Journal q beside))
@@ -231,7 +231,7 @@ replaced_store orderly stands same by later_by matter s rows log o row next pres
           let gone = none_cases (row_of s.rows) (row_of rows) o (put_row row next) put q none in
           ap (λ (view : Place → Option (List ℕ)). view p) (swaps.others kind q gone.0) ∙ store.nothing q gone.1 kind p;
       stamps = row_cases (row_of s.rows) (row_of rows) o (put_row row next) put (λ q r. r.stamp ≤ log.spent)
-          (let bound = know.stamp in omega (arith, bound, more))
+          (let bound = know.stamp in let least = some present in omega (arith, bound, more, least))
           (λ q r beside e. let bound = store.stamps q r e in omega (arith, bound, more));
       bounded = let bound = store.bounded in omega (arith, bound, sum);
       ascending = across.ascending;
@@ -265,7 +265,7 @@ replaced_versions same matter s rows log o row next present entries m store can 
 
 replaced_made : (s : StoreFields) (rows : List (ℕ × Row)) (log : Log) (o : ℕ) (row next : Row) (present : Inode) (entries : List EntryFields) (m : ℕ)
     → Known s o row present entries m → m ≡ last_entry s.log.held o row → Swaps s.log.held log.held o present entries → Rewrites log o row next present entries m
-    → TakesPlaces (rewritten_blocks entries) s.log log → IsPut s rows o row next → IsReplaced s o row present entries (next_store s rows log)
+    → TakesPlaces (rewritten_blocks present entries) s.log log → IsPut s rows o row next → IsReplaced s o row present entries (next_store s rows log)
 replaced_made s rows log o row next present entries m know is swaps writes takes put = record {
   next = put_row row next;
   rest = ap (λ (r : Row). record r { stamp = row.stamp + 1; journal_bytes = next.journal_bytes }) writes.fields
@@ -280,11 +280,11 @@ replaced_made s rows log o row next present entries m know is swaps writes takes
   latest = refl;
 }
 
-pub replaced : OrderlyStays → RowStays → RowInodeStays → IsByStays → IsByLater → OnlyItsBlocksMatter → (s : StoreFields) (rows : List (ℕ × Row)) (log : Log) (o : ℕ) (row next : Row) (present : Inode) (entries : List EntryFields) (m : ℕ)
+pub replaced : OrderlyStays → RowStays → RowInodeStays → IsByStays → IsByLater → OnlyItsBlocksMatter → CheckpointsTakeBlocks → (s : StoreFields) (rows : List (ℕ × Row)) (log : Log) (o : ℕ) (row next : Row) (present : Inode) (entries : List EntryFields) (m : ℕ)
     → IsStore s → CanReplace s o row present entries → Known s o row present entries m → m ≡ last_entry s.log.held o row → Swaps s.log.held log.held o present entries → Rewrites log o row next present entries m
-    → TakesPlaces (rewritten_blocks entries) s.log log → rewritten_blocks entries ≤ length s.log.ahead → IsPut s rows o row next → Replaces s o row present entries (next_store s rows log)
-replaced orderly stands same by later_by matter s rows log o row next present entries m store can know is swaps writes takes room put = record {
-  store = replaced_store orderly stands same by later_by matter s rows log o row next present entries m store can know swaps writes takes room put;
+    → TakesPlaces (rewritten_blocks present entries) s.log log → rewritten_blocks present entries ≤ length s.log.ahead → IsPut s rows o row next → Replaces s o row present entries (next_store s rows log)
+replaced orderly stands same by later_by matter some s rows log o row next present entries m store can know is swaps writes takes room put = record {
+  store = replaced_store orderly stands same by later_by matter some s rows log o row next present entries m store can know swaps writes takes room put;
   replaced = replaced_made s rows log o row next present entries m know is swaps writes takes put;
   inodes = replaced_inodes same s rows log o row next present entries m swaps writes put;
   versions = replaced_versions same matter s rows log o row next present entries m store can know swaps writes put;

@@ -19,7 +19,7 @@ use Rattle.codec.specs.declared.inodes.Inode.{Inode}
 use Rattle.undo_redo.specs.Between.{AreOf}
 use Rattle.undo_redo.specs.Redone.{redone, undone, with_after, with_before}
 use Rattle.undo_redo.specs.Runs.{blank, redone_all, undone_all, entry_is_by, entries_by}
-use Rattle.checkpoint.specs.Held.{checkpoint_held, spelled_checkpoint}
+use Rattle.checkpoint.specs.Held.{checkpoint_held, checkpoint_in}
 use Rattle.journal_chain.specs.Chain.{BlockView, chain_entries, chain_links, links_from, entries_in}
 use Rattle.journal_chain.specs.Packing.{joined}
 use Rattle.inode.specs.Tidiness.{PointersHeld}
@@ -203,7 +203,7 @@ pub record Grows (held later : Place → Option Stored) (o : ℕ) (row next : Ro
   pub checkpoint : checkpoint_of later o next ≡ checkpoint_of held o row
 
 pub same_checkpoint : (held later : Place → Option Stored) (o : ℕ) (place : Option Place) → of_kind Checkpoint o later ≡ of_kind Checkpoint o held → (place >>= checkpoint_held later o) ≡ (place >>= checkpoint_held held o)
-same_checkpoint held later o place same = ap (λ (v : BlockView). place >>= λ p. spelled_checkpoint (v p)) same
+same_checkpoint held later o place same = ap (λ (v : BlockView). place >>= λ p. checkpoint_in v p) same
 
 grown_sides : (held later : Place → Option Stored) (o : ℕ) (row next : Row) (new : List EntryFields) → Grows held later o row next new → sides_told (entries_of later o next) ≡ sides_told (entries_of held o row) ++ sides_told new
 grown_sides held later o row next new grows = ap sides_told grows.entries ∙ flat_map-append (λ (e : EntryFields). sides_of e.triples) (entries_of held o row) new

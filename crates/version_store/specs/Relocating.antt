@@ -2,14 +2,15 @@
 use Rattle.std.specs.Prelude.{◌≡◌, ◌⊎◌, ◌↔◌, ℕ, suc, ◌+◌, Bool, true, ◌&&◌, nat_le, List, [], ◌∷◌, length, map, take, Option, Some, None, IsSome, option_map}
 use Rattle.std.specs.List.{AllByRecursion, Contains}
 use Rattle.s4_types.specs.Pointer.{Place}
-use Rattle.block_log.specs.declared.kinds.BlockKind.TheVariants.{Journal, Checkpoint, Data}
+use Rattle.block_log.specs.declared.kinds.BlockKind.TheVariants.{Journal, Data}
 use Rattle.block_log.specs.Log.{Stored, of_kind}
 use Rattle.block_log.specs.Taken.{TakesPlaces}
+use Rattle.checkpoint.specs.Held.{of_checkpoints}
 use Rattle.codec.specs.Checkpoint.{CheckpointFields}
 use Rattle.object_map.specs.declared.map.Row.{Row}
 use Rattle.object_map.specs.Rows.{row_of, with_row}
 use Rattle.time_read.specs.Rows.{entries_of, checkpoint_of}
-use Rattle.row_changes.specs.Moving.{moved_blocks}
+use Rattle.row_changes.specs.Moving.{row_blocks}
 use Rattle.chain_moving.specs.Renaming.{RenamingFields, renaming_of, with_move, is_in, new_place, renamed_slot, renamed_entries, renamed_inode}
 use Rattle.version_store.specs.declared.copies.CopiedBlock.{CopiedBlock}
 use Rattle.version_store.specs.Store.{StoreFields, pointers_of}
@@ -48,10 +49,10 @@ pub record AreCopies (held : Place → Option Stored) (o : ℕ) (copies : List C
 abbrev pub IsCopied : List CopiedBlock → Place → Type 0
 IsCopied copies p = (c : CopiedBlock) × (Contains copies c × (c.place ≡ p))
 
--- How many blocks it takes to relocate copies of an object of this row: as many as there are, its checkpoint, if it has one,
--- and the blocks of its journal.
+-- How many blocks it takes to relocate copies of an object of this row: as many as there are, those of its checkpoint, if it
+-- has one, and those of its journal.
 abbrev pub blocks_relocated : (Place → Option Stored) → ℕ → Row → List CopiedBlock → ℕ
-blocks_relocated held o row copies = length copies + moved_blocks row (entries_of held o row)
+blocks_relocated held o row copies = length copies + row_blocks held o row
 
 -- a checkpoint with its pointers renamed
 abbrev pub renamed_checkpoint : RenamingFields → CheckpointFields → CheckpointFields
@@ -78,7 +79,7 @@ pub record IsRelocated (s : StoreFields) (o : ℕ) (row : Row) (copies : List Co
   pub blocks : (p : Place) → IsSome (of_kind Data o later.log.held p)
       → (of_kind Data o later.log.held p ≡ of_kind Data o s.log.held p) ⊎ Contains (take (blocks_relocated s.log.held o row copies) s.log.ahead) p
   pub chains : (p : Place) → IsSome (of_kind Journal o later.log.held p) → Contains (take (blocks_relocated s.log.held o row copies) s.log.ahead) p
-  pub checkpoints : (p : Place) → IsSome (of_kind Checkpoint o later.log.held p) → Contains (take (blocks_relocated s.log.held o row copies) s.log.ahead) p
+  pub checkpoints : (p : Place) → IsSome (of_checkpoints o later.log.held p) → Contains (take (blocks_relocated s.log.held o row copies) s.log.ahead) p
   pub others : OtherObjectsStay o s.log.held later.log.held
   pub takes : TakesPlaces (blocks_relocated s.log.held o row copies) s.log later.log
   pub latest : later.latest ≡ s.latest

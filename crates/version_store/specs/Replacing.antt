@@ -86,7 +86,7 @@ pub record IsReplaced (s : StoreFields) (o : ℕ) (row : Row) (present : Inode) 
   pub kept : (p : Place) → Contains (pointers_told present entries) (Some p) → of_kind Data o later.log.held p ≡ of_kind Data o s.log.held p
   pub named : (p : Place) → IsSome (of_kind Data o later.log.held p) → Contains (pointers_told present entries) (Some p)
   pub others : OtherObjectsStay o s.log.held later.log.held
-  pub takes : TakesPlaces (rewritten_blocks entries) s.log later.log
+  pub takes : TakesPlaces (rewritten_blocks present entries) s.log later.log
   pub latest : later.latest ≡ s.latest
 
 -- An object's journal can be replaced by its own entries that are later than a moment, where there are some; its present inode

@@ -1,5 +1,5 @@
 -- What contracts see of a store of objects, and what holds of each store.
-use Rattle.std.specs.Prelude.{◌≡◌, ℕ, ◌+◌, ◌^◌, ◌<◌, ◌≤◌, List, [], ◌∷◌, ◌++◌, length, Option, Some, None, IsSome, IfSome}
+use Rattle.std.specs.Prelude.{◌≡◌, ℕ, ◌+◌, ◌^◌, ◌<◌, ◌≤◌, true, List, [], ◌∷◌, ◌++◌, length, Option, Some, None, IsSome, IfSome}
 use Rattle.std.specs.List.{All, Contains, flat_map}
 use Rattle.s4_types.specs.Pointer.{Place}
 use Rattle.block_log.specs.declared.kinds.BlockKind.{BlockKind}
@@ -11,7 +11,8 @@ use Rattle.codec.specs.declared.entries.Triple.{Triple}
 use Rattle.journal_chain.specs.Chain.{times, chain_places}
 use Rattle.object_map.specs.declared.map.Row.{Row}
 use Rattle.object_map.specs.Rows.{row_of}
-use Rattle.time_read.specs.Rows.{IsRow, inode_of, entries_of, checkpoint_of}
+use Rattle.checkpoint.specs.Held.{is_one_of}
+use Rattle.time_read.specs.Rows.{IsRow, inode_of, entries_of, checkpoint_of, checkpoint_places_of}
 use Rattle.time_read.specs.Orderly.{IsOrderly}
 use Rattle.row_changes.specs.Recent.{IsBy}
 use Rattle.inode.specs.Contents.{contents_of}
@@ -88,11 +89,11 @@ pub record IsStore (s : StoreFields) : Type 0 where
   pub ascending : MakingsAscend s.rows
   pub apart : ChainsShareNoMoment s.log.held s.rows
 
--- A row names an object's block of this kind at a place: it stands in the object's chain, once; or it is the checkpoint of
--- the row; or the checkpoint has a pointer to it, or a triple of the chain has, on either side.
+-- A row names an object's block of this kind at a place: it stands in the object's chain, once; or it is a block of the row's
+-- checkpoint; or the checkpoint has a pointer to it, or a triple of the chain has, on either side.
 abbrev pub Names : (Place → Option Stored) → ℕ → Row → BlockKind → Place → Type 0
 Names held o row Journal p = times p (chain_places (of_kind Journal o held) o row.head) ≡ 1
-Names held o row Checkpoint p = row.checkpoint ≡ Some p
+Names held o row Checkpoint p = is_one_of (checkpoint_places_of held o row) p ≡ true
 Names held o row Data p = Contains (pointers_of held o row) (Some p)
 
 -- an object has a row, which names its block of this kind at a place

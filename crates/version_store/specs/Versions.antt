@@ -5,8 +5,9 @@ use Rattle.s4_types.specs.declared.changes.Change.{Change}
 use Rattle.s4_types.specs.declared.versions.Version.{Version}
 use Rattle.s4_types.specs.declared.versions.Version.TheVariants.{Absent}
 use Rattle.s4_model.specs.Effect.{effect, is_change_of}
-use Rattle.block_log.specs.declared.kinds.BlockKind.TheVariants.{Journal, Checkpoint, Data}
+use Rattle.block_log.specs.declared.kinds.BlockKind.TheVariants.{Journal, Data}
 use Rattle.block_log.specs.Log.{Stored, of_kind}
+use Rattle.checkpoint.specs.Held.{of_checkpoints}
 use Rattle.codec.specs.declared.inodes.Inode.{Inode}
 use Rattle.codec.specs.Entry.{EntryFields}
 use Rattle.object_map.specs.declared.map.Row.{Row}
@@ -50,5 +51,5 @@ version_taken s change m o t = if is_change_of o change && nat_le m t then effec
 -- and each of its data blocks is still held.
 pub record Stays (o : ℕ) (held later : Place → Option Stored) : Type 0 where
   pub journal : of_kind Journal o later ≡ of_kind Journal o held
-  pub checkpoints : of_kind Checkpoint o later ≡ of_kind Checkpoint o held
+  pub checkpoints : of_checkpoints o later ≡ of_checkpoints o held
   pub kept : (p : Place) → IsSome (of_kind Data o held p) → of_kind Data o later p ≡ of_kind Data o held p

@@ -1,25 +1,24 @@
 //! The data blocks that pointers lead to: listed, told apart from those that stay, and dropped.
-ghost use Rattle.std.specs.Prelude.{◌≡◌, ℕ, ◌++◌, ◌&&◌, ◌||◌, ◌∷◌, [], not, if◌then◌else◌, List, Option, None, Some, IsSome, IfSome, IfOk, IfErr, OnOk};
+ghost use Rattle.std.specs.Prelude.{◌≡◌, ◌++◌, ◌&&◌, ◌||◌, ◌∷◌, [], not, if◌then◌else◌, Option, None, Some, IsSome, IfOk, IfErr, OnOk};
 ghost use Rattle.std.specs.HashSet.{keys};
 ghost use Rattle.std.specs.List.{All, Contains};
 ghost use Rattle.s4_types.specs.Pointer.{Place};
 ghost use Rattle.s4_types.specs.declared.refusals.Refusal.TheVariants.{NoMemory};
-ghost use Rattle.block_log.specs.declared.kinds.BlockKind.TheVariants.{Journal, Checkpoint, Data};
+ghost use Rattle.block_log.specs.declared.kinds.BlockKind.TheVariants.{Journal, Data};
 ghost use Rattle.block_log.specs.Log.{of_kind};
 ghost use Rattle.block_log.specs.Taken.{TakesPlaces};
 ghost use Rattle.journal_chain.specs.Chain.{OnlyJournalChanged};
-ghost use Rattle.row_changes.specs.Moved.{is_at, OnlyCheckpointChanged};
 ghost use Rattle.time_read.specs.Rows.{IsRow, checkpoint_of};
 ghost use Rattle.version_store.specs.Store.{IsLed, HasNothing, sides_of, sides_told, pointers_kept, pointers_of};
 ghost use Rattle.version_store.specs.Replacing.{OnlyDataChanged, OtherObjectsStay};
-ghost use Rattle.version_store.specs.private.Dropping.{leads_to, is_among};
+ghost use Rattle.version_store.specs.private.Dropping.{is_at, leads_to, is_among};
 
 use block_log::Blocks;
 use block_log::laws::{
-    a_drop_takes_no_place, a_drop_takes_one_block, no_change_takes_no_place,
-    one_place_has_one_name, places_taken_add_up,
+    a_drop_takes_no_place, no_change_takes_no_place, one_place_has_one_name, places_taken_add_up,
 };
-use checkpoint::read_checkpoint;
+use checkpoint::laws::a_checkpoint_has_its_blocks;
+use checkpoint::{drop_checkpoint, read_checkpoint};
 use codec::Entry;
 use journal_chain::Chain;
 use object_map::Row;
@@ -145,6 +144,7 @@ fn pointers_kept<B: Blocks>(
     ensures refusal { IfErr result (λ e. e ≡ NoMemory) }
     ensures same { B.log table.new ≡ B.log table.old }
 {
+    a_checkpoint_has_its_blocks();
     let mut kept = Vec::new(alloc);
     let Some(place) = row.checkpoint else {
         return Ok(kept);
@@ -207,22 +207,6 @@ fn drop_journal<B: Blocks>(table: &mut B, object: ObjectId, row: &Row)
     };
 }
 
-/// Drops the checkpoint of an object, if it has one: no other than the one at this place is held.
-fn drop_checkpoint<B: Blocks>(table: &mut B, object: ObjectId, place: Option<Ptr>)
-    requires there { IfSome place (λ p. IsSome (of_kind Checkpoint object (B.log table.old).held p)) }
-    requires only { (p : Place) → IsSome (of_kind Checkpoint object (B.log table.old).held p) → place ≡ Some p }
-    ensures gone { (p : Place) → of_kind Checkpoint object (B.log table.new).held p ≡ None }
-    ensures others { OnlyCheckpointChanged object (B.log table.old).held (B.log table.new).held }
-    ensures takes { TakesPlaces 0 (B.log table.old) (B.log table.new) }
-{
-    a_drop_takes_one_block();
-    a_drop_takes_no_place();
-    no_change_takes_no_place();
-    if let Some(place) = place {
-        table.drop_block(place);
-    }
-}
-
 /// Drops all blocks of an object, whose row leads to each of its data blocks by these pointers.
 pub(crate) fn drop_all<B: Blocks>(
     alloc: Global,
@@ -238,6 +222,7 @@ pub(crate) fn drop_all<B: Blocks>(
     ensures others { OtherObjectsStay object (B.log table.old).held (B.log table.new).held }
     ensures takes { TakesPlaces 0 (B.log table.old) (B.log table.new) }
 {
+    a_checkpoint_has_its_blocks();
     places_taken_add_up();
     drop_journal(table, object, row);
     drop_checkpoint(table, object, row.checkpoint);

@@ -21,6 +21,7 @@ use chain_moving::laws::{
     a_renamed_run_is_a_run, a_test_tells_a_renaming_apart, renamed_entries_stay_in_order,
     renaming_commutes_with_undo_and_redo, what_a_chain_tells,
 };
+use checkpoint::laws::{a_checkpoint_has_its_blocks, a_checkpoint_takes_its_blocks};
 use checkpoint::read_checkpoint;
 use codec::{Entry, Inode};
 use object_map::Row;
@@ -44,6 +45,7 @@ fn kept_inode<B: Blocks>(table: &mut B, object: ObjectId, row: &Row) -> Option<I
     ensures rules { IfSome (checkpoint_of (B.log table.old).held object row.now) (λ c. checkpoint_rules c ≡ true) }
     ensures same { B.log table.new ≡ B.log table.old }
 {
+    a_checkpoint_has_its_blocks();
     let place = row.checkpoint?;
     let checkpoint = read_checkpoint(table, object, place)?;
     Some(*checkpoint.inode())
@@ -118,6 +120,7 @@ pub(crate) fn relocate_blocks<B: Blocks>(
     a_row_is_its_own_blocks();
     an_orderly_row_stays();
     a_run_has_one_end_and_one_beginning();
+    a_checkpoint_takes_its_blocks();
     what_a_chain_tells();
     a_test_tells_a_renaming_apart();
     renaming_commutes_with_undo_and_redo();

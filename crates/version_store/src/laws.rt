@@ -6,6 +6,7 @@ ghost use Rattle.version_store.specs.Stamps.{EachStepTells};
 ghost use Rattle.version_store.specs.private.Below.{ChangesStand};
 
 use block_log::laws::{one_place_has_one_name, places_taken_add_up};
+use checkpoint::laws::{a_checkpoint_has_its_blocks, a_checkpoint_takes_its_blocks};
 use inode::laws::{held_pointers_lead, only_its_blocks_matter};
 use journal_chain::packing::laws::{bytes_add_up, few_blocks_are_needed};
 use row_changes::laws::{
@@ -59,13 +60,15 @@ pub fn changes_begin_with_the_present_version()
     a_fresh_row_stands();
 }
 
-/// What is held is exactly what rows name: an object's journal blocks are those of its chain, its one checkpoint is that of
-/// its row, and its data blocks are those that a pointer of that checkpoint, or either side of a triple of that chain, leads
-/// to. Nothing else is held, and no object without a row has a block.
+/// What is held is exactly what rows name: an object's journal blocks are those of its chain, its blocks of checkpoints are
+/// those of the one that its row names, and its data blocks are those that a pointer of that checkpoint, or either side of a
+/// triple of that chain, leads to. Nothing else is held, and no object without a row has a block.
 pub fn what_is_held_is_what_rows_name()
     ensures exact { HeldIsWhatRowsName }
     ensures block { EachHeldBlockIsNamed }
-{}
+{
+    a_checkpoint_has_its_blocks();
+}
 
 /// Each data block that an inode of an object points to, at whatever moment, is one that the object's row names. A row may
 /// name more: a block that stands in no inode but between two entries of one moment.
@@ -123,4 +126,5 @@ pub(crate) fn what_changes_rest_on()
     groups_join_and_part();
     bytes_add_up();
     few_blocks_are_needed();
+    a_checkpoint_takes_its_blocks();
 }

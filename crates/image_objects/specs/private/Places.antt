@@ -7,6 +7,7 @@ use Rattle.block_log.specs.Log.{Stored, of_kind}
 use Rattle.block_log.specs.declared.kinds.BlockKind.TheVariants.{Journal}
 use Rattle.journal_chain.specs.Chain.{chain_places}
 use Rattle.image_chains.specs.declared.rows.ImageRow.{ImageRow}
+use Rattle.image_chains.specs.Inodes.{checkpoint_places_used}
 use Rattle.image_objects.specs.Objects.{pointers_used}
 
 -- the places that slots lead to, in order
@@ -19,4 +20,4 @@ places_of_chain used row = chain_places (of_kind Journal row.object used) row.ob
 
 -- the row's chain, its checkpoint, and all that its pointers lead to
 abbrev pub places_named : (Place → Option Stored) → ImageRow → List Place
-places_named used row = places_of_chain used row ++ option_to_list row.checkpoint ++ places_in (pointers_used used row)
+places_named used row = places_of_chain used row ++ checkpoint_places_used used row ++ places_in (pointers_used used row)

@@ -1,5 +1,5 @@
 -- What the laws of the crates below say, as premises of lemmas. No public clause cites this file.
-use Rattle.std.specs.Prelude.{◌≡◌, ℕ, ◌+◌, ◌<◌, ◌≤◌, true, List, length, map, sum, Option, None}
+use Rattle.std.specs.Prelude.{◌≡◌, ℕ, ◌+◌, ◌<◌, ◌≤◌, true, List, length, map, sum, Option, Some, None, is_some, IsSome}
 use Rattle.std.specs.List.{AllByRecursion}
 use Rattle.codec.specs.Checkpoint.{pointer_at}
 use Rattle.codec.specs.Entry.{EntryFields, entry_length, entries_length, pair_length}
@@ -11,9 +11,10 @@ use Rattle.s4_types.specs.Pointer.{Place}
 use Rattle.s4_types.specs.declared.limits.TheConstants.{OBJECT_BLOCKS}
 use Rattle.block_log.specs.Log.{Log, Stored, of_kind, same_place}
 use Rattle.block_log.specs.Taken.{TakesPlaces}
-use Rattle.block_log.specs.declared.kinds.BlockKind.TheVariants.{Journal, Checkpoint}
+use Rattle.block_log.specs.declared.kinds.BlockKind.TheVariants.{Journal}
 use Rattle.undo_redo.specs.Runs.{blank, moments_ascend_from, AllAt}
 use Rattle.undo_redo.specs.Groups.{grouped}
+use Rattle.checkpoint.specs.Held.{checkpoint_held, checkpoint_blocks, HasItsBlocks, of_checkpoints}
 use Rattle.inode.specs.Laws.{OnlyItsBlocksMatter, HeldPointersLead}
 use Rattle.object_map.specs.declared.map.Row.{Row}
 use Rattle.object_map.specs.Rows.{fresh_row}
@@ -23,12 +24,12 @@ use Rattle.row_changes.specs.Recent.{IsBy}
 
 abbrev pub RowStays : Type 0
 RowStays = (held later : Place → Option Stored) (o : ℕ) (row : Row)
-    → of_kind Journal o later ≡ of_kind Journal o held → of_kind Checkpoint o later ≡ of_kind Checkpoint o held
+    → of_kind Journal o later ≡ of_kind Journal o held → of_checkpoints o later ≡ of_checkpoints o held
     → IsRow held o row → IsRow later o row
 
 abbrev pub RowInodeStays : Type 0
 RowInodeStays = (held later : Place → Option Stored) (o t : ℕ) (row : Row)
-    → of_kind Journal o later ≡ of_kind Journal o held → of_kind Checkpoint o later ≡ of_kind Checkpoint o held
+    → of_kind Journal o later ≡ of_kind Journal o held → of_checkpoints o later ≡ of_checkpoints o held
     → inode_of later o row t ≡ inode_of held o row t
 
 abbrev pub IsByLater : Type 0
@@ -41,7 +42,7 @@ abbrev pub LastInodeStays : Type 0
 LastInodeStays = (held : Place → Option Stored) (o : ℕ) (row : Row) (a t : ℕ) → IsBy held o row a → a ≤ t → inode_of held o row t ≡ inode_of held o row a
 
 abbrev pub FreshRowStands : Type 0
-FreshRowStands = (held : Place → Option Stored) (o created : ℕ) → 1 ≤ o → ((p : Place) → of_kind Journal o held p ≡ None) → ((p : Place) → of_kind Checkpoint o held p ≡ None) → IsRow held o (fresh_row created)
+FreshRowStands = (held : Place → Option Stored) (o created : ℕ) → 1 ≤ o → ((p : Place) → of_kind Journal o held p ≡ None) → ((p : Place) → of_checkpoints o held p ≡ None) → IsRow held o (fresh_row created)
 
 abbrev pub FreshRowIsBy : Type 0
 FreshRowIsBy = (held : Place → Option Stored) (o created : ℕ) → IsBy held o (fresh_row created) 0
@@ -87,13 +88,22 @@ RowsKeepTheMaking = (held : Place → Option Stored) (o : ℕ) (row : Row) (t : 
 
 -- Rows in order rest on their own blocks and not on their stamps, and stay in order.
 pub record OrderlyStays : Type 0 where
-  pub blocks : (held later : Place → Option Stored) (o latest : ℕ) (row : Row) → of_kind Journal o later ≡ of_kind Journal o held → of_kind Checkpoint o later ≡ of_kind Checkpoint o held → IsOrderly held o row latest → IsOrderly later o row latest
+  pub blocks : (held later : Place → Option Stored) (o latest : ℕ) (row : Row) → of_kind Journal o later ≡ of_kind Journal o held → of_checkpoints o later ≡ of_checkpoints o held → IsOrderly held o row latest → IsOrderly later o row latest
   pub stamp : (held : Place → Option Stored) (o latest n : ℕ) (row : Row) → IsOrderly held o row latest → IsOrderly held o (record row { stamp = n }) latest
   pub later : (held : Place → Option Stored) (o : ℕ) (row : Row) (a b : ℕ) → a ≤ b → IsOrderly held o row a → IsOrderly held o row b
 
+abbrev pub CheckpointsHaveBlocks : Type 0
+CheckpointsHaveBlocks = (held : Place → Option Stored) (o : ℕ) (p : Place) → IsSome (checkpoint_held held o p) → HasItsBlocks held o (Some p)
+
+abbrev pub CheckpointsTakeBlocks : Type 0
+CheckpointsTakeBlocks = (i : Inode) → 1 ≤ checkpoint_blocks i
+
+abbrev pub HolesTellBlocks : Type 0
+HolesTellBlocks = (i j : Inode) → map is_some i.pointers ≡ map is_some j.pointers → checkpoint_blocks i ≡ checkpoint_blocks j
+
 -- All that a change or a checkpoint of a whole store rests on: rows and inodes rest on their own blocks, and stay from their last
 -- entry on; a fresh row and a blank inode; the entries between two inodes, their sizes and the blocks that they need; the places
--- that two changes in turn take.
+-- that two changes in turn take, and those of a checkpoint.
 pub record ChangesStand : Type 0 where
   pub row : RowStays
   pub inode : RowInodeStays
@@ -118,3 +128,4 @@ pub record ChangesStand : Type 0 where
   pub sizes_add_up : SizesAddUp
   pub blocks_are_needed : SomeBlocksAreNeeded
   pub groups_ascend : GroupsAscend
+  pub checkpoint_blocks : CheckpointsTakeBlocks

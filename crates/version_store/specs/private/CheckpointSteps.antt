@@ -1,7 +1,8 @@
 -- What one checkpoint leaves of a whole store. No public clause cites this file.
-use Rattle.std.specs.Prelude.{◌≡◌, ℕ, ◌<◌, true, Some, IfSome, is_some}
+use Rattle.std.specs.Prelude.{◌≡◌, ℕ, ◌≤◌, true, Some, IfSome, is_some}
 use Rattle.codec.specs.declared.inodes.Inode.{Inode}
 use Rattle.undo_redo.specs.Runs.{AllBy}
+use Rattle.checkpoint.specs.Held.{checkpoint_blocks}
 use Rattle.object_map.specs.declared.map.Row.{Row}
 use Rattle.object_map.specs.Rows.{row_of}
 use Rattle.time_read.specs.Rows.{entries_of, inode_of}
@@ -18,7 +19,7 @@ pub record CanCheckpoint (s : StoreFields) (o : ℕ) (row : Row) (i : Inode) (m 
   pub moment : m ≡ last_entry s.log.held o row
   pub behind : is_behind s.log.held o row ≡ true
   pub inode : i ≡ inode_of s.log.held o row m
-  pub room : 0 < room s
+  pub room : checkpoint_blocks i ≤ room s
 
 -- All inodes and versions of a store are as they were, and the same objects have rows.
 pub record StandsAsBefore (s later : StoreFields) : Type 0 where

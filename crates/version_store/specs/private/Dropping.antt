@@ -1,9 +1,13 @@
 -- Which places a list of pointers leads to, and which a set of places has. No public clause cites this file.
-use Rattle.std.specs.Prelude.{Bool, List, Option}
+use Rattle.std.specs.Prelude.{Bool, false, List, Option, Some, None}
 use Rattle.std.specs.List.{list_any}
 use Rattle.s4_types.specs.Pointer.{Place}
 use Rattle.block_log.specs.Log.{same_place}
-use Rattle.row_changes.specs.Moved.{is_at}
+
+-- whether there is a place and it is this one
+abbrev pub is_at : Option Place → Place → Bool
+is_at None q = false
+is_at (Some p) q = same_place p q
 
 -- whether one of the pointers leads to this place
 abbrev pub leads_to : Place → List (Option Place) → Bool

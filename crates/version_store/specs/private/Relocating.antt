@@ -3,9 +3,10 @@ use Rattle.std.specs.Prelude.{◌≡◌, ◌⊎◌, ◌↔◌, ◌==◌, if◌th
 use Rattle.std.specs.List.{Contains, list_any}
 use Rattle.s4_types.specs.Pointer.{Place}
 use Rattle.s4_types.specs.declared.limits.TheConstants.{PAYLOAD_BLOCKS}
-use Rattle.block_log.specs.declared.kinds.BlockKind.TheVariants.{Journal, Checkpoint, Data}
+use Rattle.block_log.specs.declared.kinds.BlockKind.TheVariants.{Journal, Data}
 use Rattle.block_log.specs.Log.{Log, Stored, of_kind, same_place}
 use Rattle.block_log.specs.Taken.{TakesPlaces}
+use Rattle.checkpoint.specs.Held.{of_checkpoints}
 use Rattle.codec.specs.Checkpoint.{checkpoint_rules}
 use Rattle.object_map.specs.declared.map.Row.{Row}
 use Rattle.time_read.specs.Rows.{IsRow, entries_of, checkpoint_of, inode_of}
@@ -80,7 +81,7 @@ pub record Relocates (before : Log) (o : ℕ) (row : Row) (copies : List CopiedB
   pub blocks : (p : Place) → IsSome (of_kind Data o later.held p) → IsOldOrNew o r before.held later.held p
   pub from : (p : Place) → IsNewPlace r p → (q : Place) × (new_place r q ≡ Some p)
   pub chains : (p : Place) → IsSome (of_kind Journal o later.held p) → Contains (take (blocks_relocated before.held o row copies) before.ahead) p
-  pub checkpoints : (p : Place) → IsSome (of_kind Checkpoint o later.held p) → Contains (take (blocks_relocated before.held o row copies) before.ahead) p
+  pub checkpoints : (p : Place) → IsSome (of_checkpoints o later.held p) → Contains (take (blocks_relocated before.held o row copies) before.ahead) p
   pub others : OtherObjectsStay o before.held later.held
   pub takes : TakesPlaces (blocks_relocated before.held o row copies) before later
 

@@ -11,10 +11,11 @@ ghost use Rattle.version_store.specs.private.CheckpointSteps.{CanCheckpoint, Che
 use crate::laws::what_changes_rest_on;
 use crate::store::Store;
 use block_log::Blocks;
+use checkpoint::checkpoint_blocks;
 use codec::Inode;
 use journal_chain::Chain;
 use object_map::Row;
-use row_changes::laws::{a_row_keeps_the_making, the_last_inode_stays};
+use row_changes::laws::the_last_inode_stays;
 use row_changes::record_checkpoint;
 use s4_types::{Moment, ObjectId, Refusal};
 use time_read::laws::a_row_tells_a_chain;
@@ -66,12 +67,12 @@ impl<B: Blocks> Store<B> {
     }
 
     /// Sees to it that an object's checkpoint isn't older than its last journal entry: where it is, the object's present
-    /// inode is written as its checkpoint with the moment of that entry, in place of the older one, which takes one block;
+    /// inode is written as its checkpoint with the moment of that entry, in place of the older one, which takes room;
     /// else nothing is written. Each inode and each version is as it was, whatever is answered. An object that is deleted
     /// and has a row still is like any other.
     ///
-    /// NoObject exactly where the object has no row; else NoSpace exactly where the checkpoint has to be written and there
-    /// is no room beside the reserve. Then nothing has changed.
+    /// NoObject exactly where the object has no row; else NoSpace exactly where the checkpoint has to be written and takes
+    /// more than the room beside the reserve. Then nothing has changed.
     pub fn checkpoint(&mut self, object: ObjectId) -> Result<(), Refusal>
         requires { IsStore (fields_of B.log self.old) }
         ensures store { IsStore (fields_of B.log self.new) }
@@ -86,7 +87,6 @@ impl<B: Blocks> Store<B> {
         ensures unchanged { OnErr result (fields_of B.log self.new ≡ fields_of B.log self.old) }
     {
         groups_join_and_part();
-        a_row_keeps_the_making();
         the_last_inode_stays();
         let Some(row) = self.row(object) else {
             return Err(Refusal::NoObject);
@@ -94,13 +94,13 @@ impl<B: Blocks> Store<B> {
         let Some(moment) = self.entry_past_checkpoint(object, &row) else {
             return Ok(());
         };
-        if self.room() == 0 {
-            return Err(Refusal::NoSpace);
-        }
         let Some(present) = self.present(object) else {
             unreachable!()
         };
         let inode = *present;
+        if self.room() < checkpoint_blocks(&inode) {
+            return Err(Refusal::NoSpace);
+        }
         self.put_checkpoint(object, &row, &inode, moment);
         Ok(())
     }

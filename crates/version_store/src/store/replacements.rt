@@ -98,7 +98,7 @@ impl<B: Blocks> Store<B> {
         requires can { CanReplace (fields_of B.log self.old) object row.now present.now entries.now }
         requires pointers { pointers.now ≡ pointers_of (B.log self.old.table).held object row.now }
         requires kept { (p : Place) → is_among p kept.now.keys ≡ leads_to p (pointers_told present.now entries.now) }
-        requires room { rewritten_blocks entries.now ≤ length (B.log self.old.table).ahead }
+        requires room { rewritten_blocks present.now entries.now ≤ length (B.log self.old.table).ahead }
         ensures { Replaces (fields_of B.log self.old) object row.now present.now entries.now (fields_of B.log self.new) }
     {
         what_changes_rest_on();
@@ -127,7 +127,7 @@ impl<B: Blocks> Store<B> {
         requires store { IsStore (fields_of B.log self.old) }
         requires row { row_of self.old.rows object ≡ Some row.now }
         requires can { CanReplace (fields_of B.log self.old) object row.now present.now entries.now }
-        requires room { rewritten_blocks entries.now ≤ length (B.log self.old.table).ahead }
+        requires room { rewritten_blocks present.now entries.now ≤ length (B.log self.old.table).ahead }
         ensures replaced { OnOk result (Replaces (fields_of B.log self.old) object row.now present.now entries.now (fields_of B.log self.new)) }
         ensures refusal { IfErr result (λ e. e ≡ NoMemory) }
         ensures unchanged { OnErr result (fields_of B.log self.new ≡ fields_of B.log self.old) }
@@ -160,12 +160,12 @@ impl<B: Blocks> Store<B> {
         ensures inodes { OnOk result ((q t : ℕ) → inode_in (fields_of B.log self.new) q t ≡ (if object == q then Some (inode_led present.now entries.now t) else inode_in (fields_of B.log self.old) q t)) }
         ensures versions { OnOk result ((q t : ℕ) → version_in (fields_of B.log self.new) q t
             ≡ (if object == q then meaning (contents_of (B.log self.old.table).held) (inode_led present.now entries.now t) else version_in (fields_of B.log self.old) q t)) }
-        ensures answer { MatchResult result (λ _. rewritten_blocks entries.now ≤ length (B.log self.old.table).ahead)
-            (λ e. ((e ≡ NoRoom) × (length (B.log self.old.table).ahead < rewritten_blocks entries.now))
-            ⊎ ((e ≡ NoMemory) × (rewritten_blocks entries.now ≤ length (B.log self.old.table).ahead))) }
+        ensures answer { MatchResult result (λ _. rewritten_blocks present.now entries.now ≤ length (B.log self.old.table).ahead)
+            (λ e. ((e ≡ NoRoom) × (length (B.log self.old.table).ahead < rewritten_blocks present.now entries.now))
+            ⊎ ((e ≡ NoMemory) × (rewritten_blocks present.now entries.now ≤ length (B.log self.old.table).ahead))) }
         ensures unchanged { OnErr result (fields_of B.log self.new ≡ fields_of B.log self.old) }
     {
-        if self.table.blocks_left() < rewritten_blocks(entries) {
+        if self.table.blocks_left() < rewritten_blocks(present, entries) {
             return Err(Refusal::NoRoom);
         }
         let Some(row) = self.row(object) else {

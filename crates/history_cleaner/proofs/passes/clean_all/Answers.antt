@@ -17,7 +17,7 @@ loop-next-preserved g c =
       ledger = c.clean_counted.ensures.ledger;
       needed = c.clean_counted.ensures.needed;
     } in
-    passed c.what_is_held_is_what_rows_name.ensures.exact c.held_is_what_is_reached.ensures c.args.drive.now c.loop-next.drive c.clean_counted.new.drive c.loop-next.object c.in-Some.next c.loop-next.cleanings.rewritten c.loop-next.cleanings.removed
+    passed c.what_is_held_is_what_rows_name.ensures.exact c.a_checkpoint_has_its_blocks.ensures.first c.held_is_what_is_reached.ensures c.args.drive.now c.loop-next.drive c.clean_counted.new.drive c.loop-next.object c.in-Some.next c.loop-next.cleanings.rewritten c.loop-next.cleanings.removed
     c.clean_counted.new.cleanings.rewritten c.clean_counted.new.cleanings.removed c.rules.ensures.store c.loop-next.invariant c.in-Some.ensures.some c.clean_counted.ensures.places step
 
 pub returns-in_err-clean_counted-clause-refusal : goal.returns-in_err-clean_counted-clause-refusal

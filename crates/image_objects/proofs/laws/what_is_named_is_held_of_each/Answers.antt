@@ -5,7 +5,7 @@ pub returns-clause-journal : goal.returns-clause-journal
 returns-clause-journal c = journal_held
 
 pub returns-clause-checkpoint : goal.returns-clause-checkpoint
-returns-clause-checkpoint c = checkpoint_held c.one_place_has_one_name.ensures
+returns-clause-checkpoint c = checkpoint_held
 
 pub returns-clause-data : goal.returns-clause-data
 returns-clause-data c = data_held

@@ -41,4 +41,4 @@ returns-clause-used g c =
     let before = c.args.places.now.items in
     let items = c.push_all.new.places.items in
     IfOk-weaker c.push_all.result (λ _. items ≡ before ++ places_named used row) (λ _. (p : Place) → Contains items p → Contains before p ⊎ IsSome (used p))
-    (λ _ is. only_used c.one_place_has_one_name.ensures used row c.requires.stands.0 before items c.requires.stands.1 is) c.push_all.ensures.places
+    (λ _ is. only_used c.one_place_has_one_name.ensures c.a_checkpoint_has_its_blocks.ensures.held used row c.requires.stands.0 before items c.requires.stands.1 is) c.push_all.ensures.places

@@ -1,10 +1,11 @@
-use Rattle.std.proofs.Common.{refl, sym, subst, rules, List, IsSome, option_copied}
+use Rattle.std.proofs.Common.{refl, sym, ap, ◌∙◌, subst, rules, List, IsSome, option_copied}
 use Rattle.block_log.specs.declared.kinds.BlockKind.TheVariants.{Journal, Checkpoint}
 use Rattle.codec.specs.Entry.{EntryFields}
 use Rattle.time_read.specs.Rows.{chain_of, entries_of}
-use Rattle.journal_chain.specs.Chain.{Holds}
+use Rattle.checkpoint.specs.Held.{places_named, is_one_of}
+use Rattle.journal_chain.specs.Chain.{BlockView, Holds}
 use Rattle.journal_chain.specs.Push.{whole_blocks}
-use Rattle.row_changes.specs.Moving.{checkpoint_count}
+use Rattle.row_changes.specs.Moving.{kept_blocks}
 use Rattle.row_changes.proofs.Recently.{same_entries}
 use Rattle.row_changes.proofs.MovedRow.{Stands, with_moved, holds_told, told_still, moved_row, moved_first, moved_inode, moved_orderly, history_alone, among_first, among_later}
 use Rattle.row_changes.proofs.moves.move_row.Goals as goal
@@ -32,7 +33,7 @@ returns g c =
     let head = c.head.result in
     let bytes = c.bytes.result in
     let filled = c.filled.result in
-    let first = checkpoint_count row.checkpoint in
+    let first = kept_blocks kept in
     let then = whole_blocks entries in
     let same = c.move_chain-chain.ensures.others Checkpoint o refl in
     let holds = holds_told after.held o row place head bytes filled c.move_chain-chain.result entries c.move_chain-chain.ensures.object c.head.ensures c.bytes.ensures.bytes c.filled.ensures.filled c.move_chain-chain.ensures.holds in
@@ -41,7 +42,7 @@ returns g c =
       tell = c.requires.tell;
       some = c.move_checkpoint-checkpoint.ensures.some;
       told = told_still between.held after.held o row kept place head bytes filled same c.move_checkpoint-checkpoint.ensures.told;
-      only = λ q there. c.move_checkpoint-checkpoint.ensures.only q (subst (λ (v : _). IsSome (v q)) same there);
+      only = λ q there. ap (λ (v : BlockView). is_one_of (places_named v place) q) same ∙ c.move_checkpoint-checkpoint.ensures.only q (subst (λ (v : _). IsSome (v q)) same there);
       holds = holds;
       found = c.a_chain_has_its_entries.ensures after.held (chain_of o (with_moved row place head bytes filled)) entries holds;
     } in

@@ -1,7 +1,54 @@
-use Rattle.row_changes.proofs.Places.{put_only}
+use Rattle.checkpoint.specs.Held.{checkpoint_blocks}
+use Rattle.row_changes.proofs.Places.{CheckpointLaws, Put, older_there, older_still, no_journal_yet, told_on, new_alone, new_among, put_only}
+use Rattle.row_changes.proofs.RewrittenBlocks.{taken_first}
 use Rattle.row_changes.proofs.moves.put_anew.Goals as goal
 
-pub returns-clause-others : goal.returns-clause-others
-returns-clause-others g c =
-    let log = g.B.Blocks.log in
-    put_only (log c.args.table.now) (log c.put.new.table) (log c.drop_older.new.table) c.args.object c.in-Ok.place c.in-Ok.ensures.growth c.drop_older.ensures.others
+pub drop_checkpoint-requires : goal.drop_checkpoint-requires
+drop_checkpoint-requires g c =
+    let log = g.B.Blocks.log c.args.table.now in
+    let between = g.B.Blocks.log c.put.new.table in
+    let o = c.args.object in
+    let row = c.args.row.now in
+    let known : CheckpointLaws = record {
+      told = c.a_checkpoint_rests_on_its_blocks.ensures.told;
+      places = c.a_checkpoint_rests_on_its_blocks.ensures.places;
+      held = c.a_checkpoint_has_its_blocks.ensures.held;
+    } in
+    let s : Put log.held between.held between.held o c.in-Ok.place row.checkpoint = record {
+      laws = known;
+      there = older_there known log.held o row c.requires.row;
+      only = c.requires.row.only;
+      put = c.in-Ok.ensures.growth;
+      journal = no_journal_yet o between.held;
+    } in
+    record { held = older_still log.held between.held between.held o c.in-Ok.place row.checkpoint s }
+
+pub returns : goal.returns
+returns g c =
+    let log = g.B.Blocks.log c.args.table.now in
+    let between = g.B.Blocks.log c.put.new.table in
+    let after = g.B.Blocks.log c.drop_checkpoint.new.table in
+    let o = c.args.object in
+    let row = c.args.row.now in
+    let place = c.in-Ok.place in
+    let inode = c.args.inode.now in
+    let known : CheckpointLaws = record {
+      told = c.a_checkpoint_rests_on_its_blocks.ensures.told;
+      places = c.a_checkpoint_rests_on_its_blocks.ensures.places;
+      held = c.a_checkpoint_has_its_blocks.ensures.held;
+    } in
+    let s : Put log.held between.held between.held o place row.checkpoint = record {
+      laws = known;
+      there = older_there known log.held o row c.requires.row;
+      only = c.requires.row.only;
+      put = c.in-Ok.ensures.growth;
+      journal = no_journal_yet o between.held;
+    } in
+    let d = c.drop_checkpoint.ensures.dropped in
+    record {
+      told = told_on log.held between.held between.held after.held o place row.checkpoint (record { object = o; moment = row.checkpoint_moment; inode = inode }) s d c.in-Ok.ensures.told;
+      only = new_alone log.held between.held between.held after.held o place row.checkpoint s d;
+      places = new_among (checkpoint_blocks inode) log between after o place row.checkpoint s d c.in-Ok.ensures.takes;
+      others = put_only log.held between.held after.held o place c.in-Ok.ensures.growth d.others;
+      takes = taken_first log between after (checkpoint_blocks inode) c.places_taken_add_up.ensures c.in-Ok.ensures.takes c.drop_checkpoint.ensures.takes;
+    }

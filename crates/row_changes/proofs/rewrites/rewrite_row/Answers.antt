@@ -4,9 +4,11 @@ use Rattle.codec.specs.Entry.{EntryFields}
 use Rattle.time_read.specs.Rows.{chain_of, entries_of}
 use Rattle.journal_chain.specs.Chain.{Holds}
 use Rattle.journal_chain.specs.Push.{whole_blocks}
-use Rattle.row_changes.proofs.CheckpointLemmas.{Laws, older_there}
+use Rattle.checkpoint.specs.Held.{checkpoint_blocks}
+use Rattle.row_changes.proofs.CheckpointLemmas.{Laws}
+use Rattle.row_changes.proofs.Places.{CheckpointLaws, Put, older_there, put_journal, older_still, told_on, new_alone}
 use Rattle.row_changes.proofs.Recently.{same_entries}
-use Rattle.row_changes.proofs.RewrittenBlocks.{Put, Dropped, put_journal, older_still, told_on, new_alone, history_only, taken_together}
+use Rattle.row_changes.proofs.RewrittenBlocks.{history_only, taken_together}
 use Rattle.row_changes.proofs.RewrittenRow.{Rewritten, with_history, holds_on, rewritten_row, rewritten_by, rewritten_first, rewritten_inode, rewritten_last, rewritten_orderly}
 use Rattle.row_changes.proofs.rewrites.rewrite_row.Goals as goal
 
@@ -16,33 +18,38 @@ write_chain-chain-requires-clause-held g c =
     let between = (g.B.Blocks.log c.put_ahead-place.new.table).held in
     let o = c.args.object in
     let row = c.args.row.now in
-    let same = put_journal (g.B.Blocks.log c.args.table.now) (g.B.Blocks.log c.put_ahead-place.new.table) o c.put_ahead-place.result c.put_ahead-place.ensures.growth in
+    let same = put_journal held between o c.put_ahead-place.result c.put_ahead-place.ensures.growth in
     subst (λ (es : List EntryFields). Holds between (chain_of o row) es) (sym (same_entries held between o row same))
     (c.a_chain_is_its_journal_blocks.ensures held between (chain_of o row) (entries_of held o row) same c.requires.row.chain)
 
-pub drop_older-requires : goal.drop_older-requires
-drop_older-requires g c =
+pub drop_checkpoint-requires : goal.drop_checkpoint-requires
+drop_checkpoint-requires g c =
     let log = g.B.Blocks.log c.args.table.now in
     let between = g.B.Blocks.log c.put_ahead-place.new.table in
     let chained = g.B.Blocks.log c.write_chain-chain.new.table in
     let o = c.args.object in
     let row = c.args.row.now in
     let place = c.put_ahead-place.result in
-    let s : Put log between chained o place row.checkpoint = record {
-      one = c.one_place_has_one_name.ensures;
-      there = older_there log.held o row c.requires.row;
+    let known : CheckpointLaws = record {
+      told = c.a_checkpoint_rests_on_its_blocks.ensures.told;
+      places = c.a_checkpoint_rests_on_its_blocks.ensures.places;
+      held = c.a_checkpoint_has_its_blocks.ensures.held;
+    } in
+    let s : Put log.held between.held chained.held o place row.checkpoint = record {
+      laws = known;
+      there = older_there known log.held o row c.requires.row;
       only = c.requires.row.only;
       put = c.put_ahead-place.ensures.growth;
       journal = c.write_chain-chain.ensures.others;
     } in
-    older_still log between chained o place row.checkpoint s
+    record { held = older_still log.held between.held chained.held o place row.checkpoint s }
 
 pub returns : goal.returns
 returns g c =
     let log = g.B.Blocks.log c.args.table.now in
     let between = g.B.Blocks.log c.put_ahead-place.new.table in
     let chained = g.B.Blocks.log c.write_chain-chain.new.table in
-    let after = g.B.Blocks.log c.drop_older.new.table in
+    let after = g.B.Blocks.log c.drop_checkpoint.new.table in
     let o = c.args.object in
     let row = c.args.row.now in
     let place = c.put_ahead-place.result in
@@ -57,18 +64,19 @@ returns g c =
       beginning = c.a_run_has_one_end_and_one_beginning.ensures.beginning;
       done = c.the_inode_at_a_moment.ensures.done;
     } in
-    let s : Put log between chained o place row.checkpoint = record {
-      one = c.one_place_has_one_name.ensures;
-      there = older_there log.held o row c.requires.row;
+    let known : CheckpointLaws = record {
+      told = c.a_checkpoint_rests_on_its_blocks.ensures.told;
+      places = c.a_checkpoint_rests_on_its_blocks.ensures.places;
+      held = c.a_checkpoint_has_its_blocks.ensures.held;
+    } in
+    let s : Put log.held between.held chained.held o place row.checkpoint = record {
+      laws = known;
+      there = older_there known log.held o row c.requires.row;
       only = c.requires.row.only;
       put = c.put_ahead-place.ensures.growth;
       journal = c.write_chain-chain.ensures.others;
     } in
-    let d : Dropped chained after o row.checkpoint = record {
-      gone = c.drop_older.ensures.gone;
-      kept = c.drop_older.ensures.kept;
-      others = c.drop_older.ensures.others;
-    } in
+    let d = c.drop_checkpoint.ensures.dropped in
     let holds : Holds after.held (chain_of o (with_history row place m head bytes filled)) entries =
     holds_on chained.held after.held o row place m head bytes filled c.write_chain-chain.result entries c.write_chain-chain.ensures.object c.head.ensures c.bytes.ensures.bytes c.filled.ensures.filled (d.others Journal o refl) c.write_chain-chain.ensures.holds in
     let w : Rewritten after.held o row place inode m head bytes filled entries = record {
@@ -77,8 +85,8 @@ returns g c =
       groups = c.requires.groups;
       by = c.requires.latest;
       created = c.requires.created;
-      told = told_on log between chained after o place row.checkpoint (record { object = o; moment = m; inode = inode }) s d c.put_ahead-place.ensures.told;
-      only = new_alone log between chained after o place row.checkpoint s d;
+      told = told_on log.held between.held chained.held after.held o place row.checkpoint (record { object = o; moment = m; inode = inode }) s d c.put_ahead-place.ensures.told;
+      only = new_alone log.held between.held chained.held after.held o place row.checkpoint s d;
       holds = holds;
       found = c.a_chain_has_its_entries.ensures after.held (chain_of o (with_history row place m head bytes filled)) entries holds;
     } in
@@ -92,8 +100,8 @@ returns g c =
       orderly = λ latest. rewritten_orderly after.held o row place inode m head bytes filled entries latest w;
       fields = search rules;
       some = search rules;
-      others = history_only log between chained after o place row.checkpoint s d;
-      takes = taken_together log between chained after (whole_blocks entries) c.places_taken_add_up.ensures c.put_ahead-place.ensures.takes c.write_chain-chain.ensures.takes c.drop_older.ensures.takes;
+      others = history_only log.held between.held chained.held after.held o place row.checkpoint s d;
+      takes = taken_together log between chained after (checkpoint_blocks inode) (whole_blocks entries) c.places_taken_add_up.ensures c.put_ahead-place.ensures.takes c.write_chain-chain.ensures.takes c.drop_checkpoint.ensures.takes;
       answer = search rules;
       unchanged = search rules;
     }

@@ -2,8 +2,7 @@ use Rattle.std.proofs.Common.{◌≡◌, ℕ, ◌+◌, ◌<◌, ◌||◌, Bool, 
 use Rattle.std.proofs.lemmas.List.{take_all}
 use Rattle.std.proofs.lemmas.List.Folds.{list_any_more}
 use Rattle.s4_types.specs.Pointer.{Place}
-use Rattle.row_changes.specs.Moved.{is_at}
-use Rattle.version_store.specs.private.Dropping.{leads_to, is_among}
+use Rattle.version_store.specs.private.Dropping.{is_at, leads_to, is_among}
 use Rattle.version_store.proofs.data_blocks.places_of.Goals as goal
 
 turned : (a b : Bool) → (a || b) ≡ (b || a)

@@ -1,13 +1,16 @@
 use Rattle.version_store.proofs.Relocated.{Moved, relocates}
-use Rattle.version_store.proofs.RelocatedBlocks.{Dropped}
-use Rattle.std.proofs.Common.{List, Option, ◌≡◌, option_map, option_copied, refl, sym, subst, ap, ◌∙◌}
+use Rattle.version_store.proofs.RelocatedBlocks.{Dropped, same_blocks}
+use Rattle.version_store.proofs.Spending.{sum_stays}
+use Rattle.std.proofs.Common.{List, Option, ◌≡◌, ◌+◌, ◌<◌, ◌≤◌, length, MatchResult, option_map, option_copied, refl, sym, subst, ap, ◌∙◌, arith}
+use Rattle.s4_types.specs.declared.refusals.Refusal.TheVariants.{NoRoom}
+use Rattle.block_log.specs.Taken.{TakesPlaces}
 use Rattle.block_log.specs.declared.kinds.BlockKind.TheVariants.{Journal, Checkpoint}
 use Rattle.codec.specs.Entry.{EntryFields}
 use Rattle.codec.specs.declared.inodes.Inode.{Inode}
 use Rattle.chain_cleaning.specs.Laws.{TellsWithin}
 use Rattle.chain_moving.specs.Renaming.{renamed_entries, renamed_inode}
 use Rattle.chain_moving.specs.Apart.{IsNotNew}
-use Rattle.row_changes.specs.Moving.{CanTell}
+use Rattle.row_changes.specs.Moving.{CanTell, moved_blocks, row_blocks}
 use Rattle.std.specs.List.{AllByRecursion}
 use Rattle.time_read.specs.Rows.{entries_of, checkpoint_of}
 use Rattle.version_store.proofs.RenamedHistory.{RenamingStands, kept_renamed, told_apart, can_tell}
@@ -95,5 +98,28 @@ returns-clause-moved g c =
       history = c.in-Ok.ensures.others;
       dropped = c.drop_copies.ensures.held;
     } in
-    relocates laws c.renamed_entries_stay_in_order.ensures.order c.a_renamed_chain_takes_as_many_bytes.ensures.each c.a_row_is_its_own_blocks.ensures.row c.a_row_is_its_own_blocks.ensures.inode c.an_orderly_row_stays.ensures.blocks c.places_taken_add_up.ensures
+    relocates laws c.renamed_entries_stay_in_order.ensures.order c.a_renamed_chain_takes_as_many_bytes.ensures.each c.a_checkpoint_takes_its_blocks.ensures.holes c.a_row_is_its_own_blocks.ensures.row c.a_row_is_its_own_blocks.ensures.inode c.an_orderly_row_stays.ensures.blocks c.places_taken_add_up.ensures
     before between moved later o row next copies r c.requires.row m d c.drop_copies.ensures.takes
+
+-- there is room, so the checkpoint and the journal are written
+pub unreachable-requires : goal.unreachable-requires
+unreachable-requires g c =
+    let before = g.B.Blocks.log c.args.table.now in
+    let between = g.B.Blocks.log c.append_copies-renaming.new.table in
+    let o = c.args.object in
+    let row = c.args.row.now in
+    let r = c.append_copies-renaming.result in
+    let count = length c.args.copies.now in
+    let n = moved_blocks (option_copied c.as_ref-kept.result) c.as_slice.result.now in
+    let refused = subst (λ (x : _). MatchResult x (λ _. n ≤ length between.ahead) (λ e. (e ≡ NoRoom) × (length between.ahead < n))) c.in_default.is c.move_row.ensures.answer in
+    let few : length between.ahead < n = refused.1 in
+    let kept : option_copied c.as_ref-kept.result ≡ kept_renamed r (checkpoint_of before.held o row) = c.as_ref-kept.ensures.value ∙ c.rename.ensures.kept ∙ ap (option_map (renamed_inode r)) c.requires.told.inode in
+    let entries : c.as_slice.result.now ≡ renamed_entries r (entries_of before.held o row) = c.as_slice.ensures.value ∙ c.rename.ensures.entries ∙ ap (renamed_entries r) c.requires.told.journal in
+    let same : n ≡ row_blocks before.held o row =
+    ap (λ (i : Option Inode). moved_blocks i c.as_slice.result.now) kept ∙ ap (moved_blocks (kept_renamed r (checkpoint_of before.held o row))) entries
+    ∙ same_blocks c.a_renamed_chain_takes_as_many_bytes.ensures.each c.a_checkpoint_takes_its_blocks.ensures.holes r (checkpoint_of before.held o row) (entries_of before.held o row) in
+    let takes : TakesPlaces count before between = c.append_copies-renaming.ensures.takes in
+    let room : count + row_blocks before.held o row ≤ length before.ahead = c.requires.room in
+    let sum = sum_stays count before between takes (omega (arith, room)) in
+    let spent : between.spent ≡ count + before.spent = takes.spent in
+    absurd (omega (arith, few, same, room, sum, spent))

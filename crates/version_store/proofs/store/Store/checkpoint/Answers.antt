@@ -1,4 +1,4 @@
-use Rattle.std.proofs.Common.{sym, ap, subst, ◌∙◌}
+use Rattle.std.proofs.Common.{ℕ, ◌≤◌, sym, ap, subst, ◌∙◌}
 use Rattle.version_store.specs.Store.{StoreFields, fields_of}
 use Rattle.version_store.specs.Versions.{inode_in}
 use Rattle.version_store.specs.Costs.{room}
@@ -17,7 +17,7 @@ put_checkpoint-requires g c =
     let s : StoreFields = fields_of g.B.Blocks.log c.args.self.now in
     let same = c.entry_past_checkpoint.ensures.same in
     subst (λ (v : StoreFields). CanCheckpoint v c.args.object c.in-Some.row c.in-Some-present.present.now c.in-Some-entry_past_checkpoint.moment) (sym same)
-    (at_last c.groups_join_and_part.ensures.ascend c.a_row_keeps_the_making.ensures c.the_last_inode_stays.ensures s c.args.object c.in-Some.row c.in-Some-present.present.now c.in-Some-entry_past_checkpoint.moment c.room.result
+    (at_last c.groups_join_and_part.ensures.ascend c.the_last_inode_stays.ensures s c.args.object c.in-Some.row c.in-Some-present.present.now c.in-Some-entry_past_checkpoint.moment c.room.result
     c.requires (sym c.in-Some.ensures) c.in-Some-entry_past_checkpoint.ensures.moment c.in-Some-entry_past_checkpoint.ensures.behind
-    (c.room.ensures ∙ ap (λ (v : StoreFields). room v) same) c.if-room-eq0.false
+    (c.room.ensures ∙ ap (λ (v : StoreFields). room v) same) (subst (λ (n : ℕ). n ≤ c.room.result) c.checkpoint_blocks.ensures.blocks c.if-room-checkpoint_blocks.false)
     (c.in-Some-present.ensures ∙ ap (λ (v : StoreFields). inode_in v c.args.object v.latest) same))

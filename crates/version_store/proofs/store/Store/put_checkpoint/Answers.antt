@@ -1,6 +1,9 @@
 -- The row's facts are those of the opened store; what is to be shown is of the store as it was passed.
 use Rattle.std.proofs.Common.{◌+◌, Option, IfSome, sym, ap, subst, ◌∙◌}
 use Rattle.std.specs.Prelude.{option_map}
+use Rattle.block_log.specs.Taken.{TakesPlaces}
+use Rattle.codec.specs.declared.inodes.Inode.{Inode}
+use Rattle.checkpoint.specs.Held.{checkpoint_blocks}
 use Rattle.object_map.specs.declared.map.Row.{Row}
 use Rattle.object_map.specs.Objects.{PutsRow}
 use Rattle.version_store.specs.Store.{StoreOf, StoreFields, fields_of}
@@ -13,7 +16,7 @@ pub record_checkpoint-requires : goal.record_checkpoint-requires
 record_checkpoint-requires g c =
     let s : StoreFields = record { rows = c.self.inside.objects.rows; log = g.B.Blocks.log c.self.inside.table; latest = c.self.inside.latest } in
     let can = subst (λ (v : StoreOf _). CanCheckpoint (fields_of g.B.Blocks.log v) c.args.object c.args.row.now c.args.inode.now c.args.moment) (sym c.self.view_is) c.requires in
-    let know = known c.what_changes_rest_on.ensures.groups_ascend c.what_changes_rest_on.ensures.making s c.args.object c.args.row.now c.args.inode.now c.args.moment can in
+    let know = known c.what_changes_rest_on.ensures.groups_ascend c.what_changes_rest_on.ensures.making c.what_changes_rest_on.ensures.checkpoint_blocks s c.args.object c.args.row.now c.args.inode.now c.args.moment can in
     record { row = know.stands; latest = know.by; inode = know.inode; rules = know.rules }
 
 pub returns : goal.returns
@@ -21,7 +24,7 @@ returns g c =
     let s : StoreFields = record { rows = c.self.inside.objects.rows; log = g.B.Blocks.log c.self.inside.table; latest = c.self.inside.latest } in
     let log = g.B.Blocks.log c.record_checkpoint.new.table in
     let can = subst (λ (v : StoreOf _). CanCheckpoint (fields_of g.B.Blocks.log v) c.args.object c.args.row.now c.args.inode.now c.args.moment) (sym c.self.view_is) c.requires in
-    let know = known c.what_changes_rest_on.ensures.groups_ascend c.what_changes_rest_on.ensures.making s c.args.object c.args.row.now c.args.inode.now c.args.moment can in
+    let know = known c.what_changes_rest_on.ensures.groups_ascend c.what_changes_rest_on.ensures.making c.what_changes_rest_on.ensures.checkpoint_blocks s c.args.object c.args.row.now c.args.inode.now c.args.moment can in
     let writes : Rewrites s log c.args.object c.args.row.now c.in-Ok.next c.args.moment = record {
       stands = c.in-Ok.ensures.row;
       by = c.in-Ok.ensures.latest;
@@ -31,7 +34,7 @@ returns g c =
       moved = c.in-Ok.ensures.moved;
       some = c.in-Ok.ensures.some;
       others = c.in-Ok.ensures.others;
-      takes = c.in-Ok.ensures.takes;
+      takes = subst (λ (i : Inode). TakesPlaces (checkpoint_blocks i) s.log log) know.inode c.in-Ok.ensures.takes;
     } in
     let put = subst (λ (r : Option Row). IfSome r (λ old. PutsRow c.self.inside.objects c.args.object (record c.in-Ok.next { stamp = old.stamp + 1 }) c.change_row.new.self)) can.there c.change_row.ensures.changed in
     subst (λ (v : StoreOf _). Checkpointed (fields_of g.B.Blocks.log v) c.args.object c.args.row.now (record { rows = c.change_row.new.self.rows; log = log; latest = c.self.inside.latest })) c.self.view_is
@@ -43,7 +46,7 @@ invariant_of-self g c =
     let s : StoreFields = record { rows = c.self.inside.objects.rows; log = g.B.Blocks.log c.self.inside.table; latest = c.self.inside.latest } in
     let log = g.B.Blocks.log c.record_checkpoint.new.table in
     let can = subst (λ (v : StoreOf _). CanCheckpoint (fields_of g.B.Blocks.log v) c.args.object c.args.row.now c.args.inode.now c.args.moment) (sym c.self.view_is) c.requires in
-    let know = known c.what_changes_rest_on.ensures.groups_ascend c.what_changes_rest_on.ensures.making s c.args.object c.args.row.now c.args.inode.now c.args.moment can in
+    let know = known c.what_changes_rest_on.ensures.groups_ascend c.what_changes_rest_on.ensures.making c.what_changes_rest_on.ensures.checkpoint_blocks s c.args.object c.args.row.now c.args.inode.now c.args.moment can in
     let writes : Rewrites s log c.args.object c.args.row.now c.in-Ok.next c.args.moment = record {
       stands = c.in-Ok.ensures.row;
       by = c.in-Ok.ensures.latest;
@@ -53,7 +56,7 @@ invariant_of-self g c =
       moved = c.in-Ok.ensures.moved;
       some = c.in-Ok.ensures.some;
       others = c.in-Ok.ensures.others;
-      takes = c.in-Ok.ensures.takes;
+      takes = subst (λ (i : Inode). TakesPlaces (checkpoint_blocks i) s.log log) know.inode c.in-Ok.ensures.takes;
     } in
     let put = subst (λ (r : Option Row). IfSome r (λ old. PutsRow c.self.inside.objects c.args.object (record c.in-Ok.next { stamp = old.stamp + 1 }) c.change_row.new.self)) can.there c.change_row.ensures.changed in
     let made = rewritten c.what_changes_rest_on.ensures.orderly c.what_changes_rest_on.ensures.row c.what_changes_rest_on.ensures.inode c.what_changes_rest_on.ensures.journal c.what_changes_rest_on.ensures.later c.what_changes_rest_on.ensures.last c.what_changes_rest_on.ensures.meaning

@@ -43,6 +43,7 @@ returns g c =
       within = c.renamed_entries_keep_their_moments.ensures.within;
       old = c.renamed_entries_keep_their_moments.ensures.old;
       needed = rest.blocks_are_needed;
+      takes = rest.checkpoint_blocks;
     } in
     let made = relocated laws s c.change.new.self.rows log o row next copies r store there c.relocate_blocks-moved.ensures.moved room put.rows in
     subst (λ (v : StoreOf _). RelocatesIn (fields_of g.B.Blocks.log v) o row copies (next_store s c.change.new.self.rows log)) c.self.view_is made
@@ -74,6 +75,7 @@ invariant_of-self g c =
       within = c.renamed_entries_keep_their_moments.ensures.within;
       old = c.renamed_entries_keep_their_moments.ensures.old;
       needed = rest.blocks_are_needed;
+      takes = rest.checkpoint_blocks;
     } in
     let made = relocated laws s c.change.new.self.rows log o row next copies r store there c.relocate_blocks-moved.ensures.moved room put.rows in
     let by = renaming_by copies s.log.ahead in

@@ -78,11 +78,11 @@ returns g c =
       fields = c.in-Ok.ensures.fields;
       some = c.in-Ok.ensures.some;
     } in
-    let takes = subst (λ (n : ℕ). TakesPlaces n s.log log) (none_more (rewritten_blocks entries)) (c.what_changes_rest_on.ensures.places_add_up 0 (rewritten_blocks entries) s.log between log (subst (λ (l : Log). TakesPlaces 0 l between) c.last_entry-moment.ensures.same c.drop_data.ensures.takes) c.in-Ok.ensures.takes) in
-    let room = subst (λ (v : StoreOf _). rewritten_blocks entries ≤ length (g.B.Blocks.log v.table).ahead) (sym c.self.view_is) c.requires.room in
+    let takes = subst (λ (n : ℕ). TakesPlaces n s.log log) (none_more (rewritten_blocks present entries)) (c.what_changes_rest_on.ensures.places_add_up 0 (rewritten_blocks present entries) s.log between log (subst (λ (l : Log). TakesPlaces 0 l between) c.last_entry-moment.ensures.same c.drop_data.ensures.takes) c.in-Ok.ensures.takes) in
+    let room = subst (λ (v : StoreOf _). rewritten_blocks present entries ≤ length (g.B.Blocks.log v.table).ahead) (sym c.self.view_is) c.requires.room in
     let beside : Present = record { inode = present; index = c.index_of.result } in
     let put = subst (λ (r : Option Row). IfSome r (λ old. Puts c.self.inside.objects o (record c.in-Ok.next { stamp = old.stamp + 1 }) beside c.change.new.self)) there c.change.ensures.changed in
-    let made = replaced c.what_changes_rest_on.ensures.orderly c.what_changes_rest_on.ensures.row c.what_changes_rest_on.ensures.inode c.what_changes_rest_on.ensures.journal c.what_changes_rest_on.ensures.later c.what_changes_rest_on.ensures.meaning
+    let made = replaced c.what_changes_rest_on.ensures.orderly c.what_changes_rest_on.ensures.row c.what_changes_rest_on.ensures.inode c.what_changes_rest_on.ensures.journal c.what_changes_rest_on.ensures.later c.what_changes_rest_on.ensures.meaning c.what_changes_rest_on.ensures.checkpoint_blocks
     s c.change.new.self.rows log o row c.in-Ok.next present entries m store can know c.last_entry-moment.ensures.moment swaps writes takes room put.rows in
     subst (λ (v : StoreOf _). Replaces (fields_of g.B.Blocks.log v) o row present entries (next_store s c.change.new.self.rows log)) c.self.view_is made
 
@@ -114,11 +114,11 @@ invariant_of-self g c =
       fields = c.in-Ok.ensures.fields;
       some = c.in-Ok.ensures.some;
     } in
-    let takes = subst (λ (n : ℕ). TakesPlaces n s.log log) (none_more (rewritten_blocks entries)) (c.what_changes_rest_on.ensures.places_add_up 0 (rewritten_blocks entries) s.log between log (subst (λ (l : Log). TakesPlaces 0 l between) c.last_entry-moment.ensures.same c.drop_data.ensures.takes) c.in-Ok.ensures.takes) in
-    let room = subst (λ (v : StoreOf _). rewritten_blocks entries ≤ length (g.B.Blocks.log v.table).ahead) (sym c.self.view_is) c.requires.room in
+    let takes = subst (λ (n : ℕ). TakesPlaces n s.log log) (none_more (rewritten_blocks present entries)) (c.what_changes_rest_on.ensures.places_add_up 0 (rewritten_blocks present entries) s.log between log (subst (λ (l : Log). TakesPlaces 0 l between) c.last_entry-moment.ensures.same c.drop_data.ensures.takes) c.in-Ok.ensures.takes) in
+    let room = subst (λ (v : StoreOf _). rewritten_blocks present entries ≤ length (g.B.Blocks.log v.table).ahead) (sym c.self.view_is) c.requires.room in
     let beside : Present = record { inode = present; index = c.index_of.result } in
     let put = subst (λ (r : Option Row). IfSome r (λ old. Puts c.self.inside.objects o (record c.in-Ok.next { stamp = old.stamp + 1 }) beside c.change.new.self)) there c.change.ensures.changed in
-    let made = replaced c.what_changes_rest_on.ensures.orderly c.what_changes_rest_on.ensures.row c.what_changes_rest_on.ensures.inode c.what_changes_rest_on.ensures.journal c.what_changes_rest_on.ensures.later c.what_changes_rest_on.ensures.meaning
+    let made = replaced c.what_changes_rest_on.ensures.orderly c.what_changes_rest_on.ensures.row c.what_changes_rest_on.ensures.inode c.what_changes_rest_on.ensures.journal c.what_changes_rest_on.ensures.later c.what_changes_rest_on.ensures.meaning c.what_changes_rest_on.ensures.checkpoint_blocks
     s c.change.new.self.rows log o row c.in-Ok.next present entries m store can know c.last_entry-moment.ensures.moment swaps writes takes room put.rows in
     record {
       inodes = kept_beside o (inode_beside c.self.inside.objects.values) (inode_beside c.change.new.self.values) present c.self.inside.latest s (next_store s c.change.new.self.rows log) (λ t. inode_led present entries t)

@@ -1,0 +1,64 @@
+-- What is used tells the same of checkpoints as what is held, where all that is held is used.
+use Rattle.std.proofs.Common.{◌≡◌, ℕ, true, Option, Some, None, IsSome, MatchOption, is_some, refl, sym, ap, ◌∙◌}
+use Rattle.std.specs.Option.{option_to_list}
+use Rattle.std.proofs.lemmas.Bool.{false≢true}
+use Rattle.s4_types.specs.Pointer.{Place}
+use Rattle.block_log.specs.Log.{Stored}
+use Rattle.block_log.specs.declared.kinds.BlockKind.TheVariants.{Checkpoint}
+use Rattle.codec.specs.Checkpoint.{CheckpointFields}
+use Rattle.codec.specs.Fields.{◌>>=◌}
+use Rattle.checkpoint.specs.Held.{checkpoint_held, checkpoint_places, of_checkpoints, places_in, places_named, is_one_of, HasItsBlocks}
+use Rattle.journal_chain.specs.Chain.{BlockView}
+use Rattle.object_map.specs.declared.map.Row.{Row}
+use Rattle.time_read.specs.Rows.{IsRow, inode_of, checkpoint_of, checkpoint_places_of}
+use Rattle.image_chains.specs.Inodes.{checkpoint_used, checkpoint_places_used}
+use Rattle.image_objects.specs.Saved.{HoldsUsed, saved_row}
+use Rattle.image_objects.proofs.Using.{used_too}
+
+-- a checkpoint stands in one block, where its pointer leads to
+pub its_place : (view : BlockView) (c : Option Place) → option_to_list c ≡ places_named view c
+unfolding places_in
+its_place view None = refl
+its_place view (Some p) = refl
+
+-- the blocks of a checkpoint are as they were
+abbrev pub BlocksStay : (Place → Option Stored) → (Place → Option Stored) → ℕ → Place → Type 0
+BlocksStay held later o p = (q : Place) → is_one_of (checkpoint_places held o p) q ≡ true → of_checkpoints o later q ≡ of_checkpoints o held q
+
+-- A checkpoint is a matter of its own blocks, and each of them is held.
+pub record CheckpointLaws : Type 0 where
+  pub told : (held later : Place → Option Stored) (o : ℕ) (p : Place) → BlocksStay held later o p → checkpoint_held later o p ≡ checkpoint_held held o p
+  pub places : (held later : Place → Option Stored) (o : ℕ) (p : Place) → BlocksStay held later o p → checkpoint_places later o p ≡ checkpoint_places held o p
+  pub held : (held : Place → Option Stored) (o : ℕ) (p : Place) → IsSome (checkpoint_held held o p) → HasItsBlocks held o (Some p)
+
+some_there : {X : Type 0} (found : Option X) → IsSome found → (x : X) × (found ≡ Some x)
+some_there None some = absurd (false≢true some)
+some_there (Some x) some = (x, refl)
+
+same_blocks : CheckpointLaws → (used held : Place → Option Stored) (o : ℕ) (p : Place) (c : CheckpointFields) → HoldsUsed used held → checkpoint_held held o p ≡ Some c → BlocksStay held used o p
+same_blocks laws used held o p c holds h q is =
+    let (bytes, at) = some_there (of_checkpoints o held q) (laws.held held o p (ap is_some h) q is) in
+    used_too used held Checkpoint o q bytes holds at ∙ sym at
+
+pub checkpoint_too : CheckpointLaws → (used held : Place → Option Stored) (o : ℕ) (p : Place) (c : CheckpointFields) → HoldsUsed used held → checkpoint_held held o p ≡ Some c → checkpoint_held used o p ≡ Some c
+checkpoint_too laws used held o p c holds h = laws.told held used o p (same_blocks laws used held o p c holds h) ∙ h
+
+checkpoint_at : CheckpointLaws → (used held : Place → Option Stored) (o : ℕ) (none : Type 0) (c : CheckpointFields) (q : Option Place) → HoldsUsed used held → MatchOption q none (λ p. checkpoint_held held o p ≡ Some c)
+    → (q >>= checkpoint_held used o) ≡ (q >>= checkpoint_held held o)
+checkpoint_at laws used held o none c None holds known = refl
+checkpoint_at laws used held o none c (Some p) holds known = checkpoint_too laws used held o p c holds known ∙ sym known
+
+places_at : CheckpointLaws → (used held : Place → Option Stored) (o : ℕ) (none : Type 0) (c : CheckpointFields) (q : Option Place) → HoldsUsed used held → MatchOption q none (λ p. checkpoint_held held o p ≡ Some c)
+    → places_named (of_checkpoints o used) q ≡ places_named (of_checkpoints o held) q
+places_at laws used held o none c None holds known = refl
+places_at laws used held o none c (Some p) holds known = laws.places held used o p (same_blocks laws used held o p c holds known)
+
+pub same_checkpoint : CheckpointLaws → (used held : Place → Option Stored) (o : ℕ) (row : Row) → HoldsUsed used held → IsRow held o row → checkpoint_used used (saved_row o row) ≡ checkpoint_of held o row
+same_checkpoint laws used held o row holds stands =
+    let c : CheckpointFields = record { object = o; moment = row.checkpoint_moment; inode = inode_of held o row row.checkpoint_moment } in
+    checkpoint_at laws used held o (row.checkpoint_moment ≡ 0) c row.checkpoint holds stands.checkpoint
+
+pub same_checkpoint_places : CheckpointLaws → (used held : Place → Option Stored) (o : ℕ) (row : Row) → HoldsUsed used held → IsRow held o row → checkpoint_places_used used (saved_row o row) ≡ checkpoint_places_of held o row
+same_checkpoint_places laws used held o row holds stands =
+    let c : CheckpointFields = record { object = o; moment = row.checkpoint_moment; inode = inode_of held o row row.checkpoint_moment } in
+    places_at laws used held o (row.checkpoint_moment ≡ 0) c row.checkpoint holds stands.checkpoint
