@@ -6,7 +6,7 @@ use Rattle.std.specs.Cmp.Lexicographic.{pointwise}
 use Rattle.std.proofs.lemmas.Bool.{cases_Bool, cases_eq, or_parts, ne_eqb, and_from, eq-eqb}
 use lib.Pointwise.{bytes_decides}
 use Rattle.s4_types.specs.Pointer.{Place}
-use Rattle.s4_types.specs.declared.limits.TheConstants.{OBJECT_BLOCKS}
+use Rattle.s4_types.specs.declared.limits.TheConstants.{OBJECT_BLOCKS, ENTRY_TRIPLES, SHORTEST_ENTRY_BYTES, TRIPLE_BYTES}
 use Rattle.codec.specs.declared.inodes.Inode.{Inode}
 use Rattle.codec.specs.declared.entries.Pair.{Pair}
 use Rattle.codec.specs.declared.entries.Triple.{Triple}
@@ -184,20 +184,20 @@ abbrev total : List ℕ → ℕ
 total [] = 0
 total (n ∷ ns) = n + total ns
 
-later_total : (q n c : ℕ) → c ≤ 16 * q → total (later_sizes n c) ≤ 34 * q + 17 * c
+later_total : (q n c : ℕ) → c ≤ ENTRY_TRIPLES * q → total (later_sizes n c) ≤ SHORTEST_ENTRY_BYTES * q + TRIPLE_BYTES * c
 unfolding later_sizes
 later_total q zero c h = omega arith
 later_total q (suc n) zero h = omega arith
 later_total zero (suc n) (suc c) h = absurd (omega arith)
 later_total (suc q) (suc n) (suc c) h =
-    let rest = later_total q n (suc c - 16) (omega arith) in
+    let rest = later_total q n (suc c - ENTRY_TRIPLES) (omega arith) in
     omega (arith, rest)
 
-sizes_total : (k c bytes : ℕ) → 1 ≤ k → c ≤ 16 * k → total (entry_sizes c bytes) ≤ 34 * k + bytes + 17 * c
+sizes_total : (k c bytes : ℕ) → 1 ≤ k → c ≤ ENTRY_TRIPLES * k → total (entry_sizes c bytes) ≤ SHORTEST_ENTRY_BYTES * k + bytes + TRIPLE_BYTES * c
 unfolding entry_sizes
 sizes_total zero c bytes some h = absurd (omega arith)
 sizes_total (suc q) c bytes some h =
-    let rest = later_total q (c - 16) (c - 16) (omega arith) in
+    let rest = later_total q (c - ENTRY_TRIPLES) (c - ENTRY_TRIPLES) (omega arith) in
     omega (arith, rest)
 
 entries_total : (entries : List EntryFields) → entries_length entries ≡ total (map entry_length entries)
@@ -222,18 +222,18 @@ pub record Facts : Type 0 where
 record Carried (p i : Inode) (k bytes triples : ℕ) : Type 0 where
   pair : pair_length (pair_between p.attribute i.attribute) ≤ bytes
   pointers : length (triples_between p i) ≤ triples
-  most : triples ≤ 16 * k
+  most : triples ≤ ENTRY_TRIPLES * k
 
-carried_none : (p i : Inode) (k bytes triples : ℕ) → p.attribute ≡ i.attribute → p.pointers ≡ i.pointers → triples ≤ 16 * k → Carried p i k bytes triples
+carried_none : (p i : Inode) (k bytes triples : ℕ) → p.attribute ≡ i.attribute → p.pointers ≡ i.pointers → triples ≤ ENTRY_TRIPLES * k → Carried p i k bytes triples
 carried_none p i k bytes triples attribute pointers most =
     let pair = pair_none p.attribute i.attribute attribute in
-    let none = triples_none_of 48 refl p i (λ m. ap (λ (ps : List (Option Place)). slice_index_or ps m None) pointers) in
+    let none = triples_none_of OBJECT_BLOCKS refl p i (λ m. ap (λ (ps : List (Option Place)). slice_index_or ps m None) pointers) in
     record { pair = omega (arith, pair); pointers = omega (arith, none); most = most }
 
-carried_more : (p i j : Inode) (e : EntryFields) (k bytes triples : ℕ) → Carried p i k bytes triples → Linked i e j → length e.triples ≤ 16 → Carried p j (k + 1) (bytes + pair_length e.pair) (triples + length e.triples)
+carried_more : (p i j : Inode) (e : EntryFields) (k bytes triples : ℕ) → Carried p i k bytes triples → Linked i e j → length e.triples ≤ ENTRY_TRIPLES → Carried p j (k + 1) (bytes + pair_length e.pair) (triples + length e.triples)
 carried_more p i j e k bytes triples c l few =
     let pair = pair_more p.attribute i.attribute j.attribute e.pair l.attribute in
-    let told = triples_more_of 48 refl p i j e l in
+    let told = triples_more_of OBJECT_BLOCKS refl p i j e l in
     let old_pair = c.pair in
     let old_told = c.pointers in
     let most = c.most in
@@ -245,7 +245,7 @@ carried_led p i k bytes triples c = elim (cases_Bool i.alive) [
   | inr dead ↦ subst (λ (j : Inode). Carried p j k bytes triples) (sym (led_dead p i dead)) (carried_none p (record p { alive = false }) k bytes triples refl refl c.most)
 ]
 
-between_bytes : Facts → (p j : Inode) (m k bytes triples : ℕ) → 1 ≤ k → Carried p j k bytes triples → entries_length (entries_between p j m) ≤ 34 * k + bytes + 17 * triples
+between_bytes : Facts → (p j : Inode) (m k bytes triples : ℕ) → 1 ≤ k → Carried p j k bytes triples → entries_length (entries_between p j m) ≤ SHORTEST_ENTRY_BYTES * k + bytes + TRIPLE_BYTES * triples
 between_bytes f p j m k bytes triples some c =
     let count : ℕ = length (triples_between p j) in
     let pair : ℕ = pair_length (pair_between p.attribute j.attribute) in
@@ -260,20 +260,20 @@ none_long : entries_length [] ≡ 0
 unfolding entries_length
 none_long = refl
 
-step_bytes : Facts → (p : Inode) (s : Span) (k bytes triples : ℕ) → 1 ≤ k → Carried p s.inode k bytes triples → entries_length (step p s) ≤ 34 * k + bytes + 17 * triples
+step_bytes : Facts → (p : Inode) (s : Span) (k bytes triples : ℕ) → 1 ≤ k → Carried p s.inode k bytes triples → entries_length (step p s) ≤ SHORTEST_ENTRY_BYTES * k + bytes + TRIPLE_BYTES * triples
 step_bytes f p s k bytes triples some c =
-    of_step (λ es. entries_length es ≤ 34 * k + bytes + 17 * triples) p s (omega (arith, none_long)) (λ is. between_bytes f p (led p s.inode) s.from k bytes triples some (carried_led p s.inode k bytes triples c))
+    of_step (λ es. entries_length es ≤ SHORTEST_ENTRY_BYTES * k + bytes + TRIPLE_BYTES * triples) p s (omega (arith, none_long)) (λ is. between_bytes f p (led p s.inode) s.from k bytes triples some (carried_led p s.inode k bytes triples c))
 
 -- ---- the bytes of all steps
 
-one_long : (e : EntryFields) (entries : List EntryFields) → entries_length (e ∷ entries) ≡ (34 + pair_length e.pair + 17 * length e.triples) + entries_length entries
+one_long : (e : EntryFields) (entries : List EntryFields) → entries_length (e ∷ entries) ≡ (SHORTEST_ENTRY_BYTES + pair_length e.pair + TRIPLE_BYTES * length e.triples) + entries_length entries
 unfolding entries_length entry_length
 one_long e entries = refl
 
 abbrev Few : List EntryFields → Type 0
-Few entries = AllByRecursion (λ e. length e.triples ≤ 16) entries
+Few entries = AllByRecursion (λ e. length e.triples ≤ ENTRY_TRIPLES) entries
 
-over_bytes : Facts → (sees : ℕ → ℕ → Bool) (clock : ℕ) (p i : Inode) (from : ℕ) (entries : List EntryFields) (k bytes triples : ℕ) → 1 ≤ k → Carried p i k bytes triples → Onward i entries → Few entries → entries_length (entries_over p (kept sees clock i from entries)) ≤ (34 * k + bytes + 17 * triples) + entries_length entries
+over_bytes : Facts → (sees : ℕ → ℕ → Bool) (clock : ℕ) (p i : Inode) (from : ℕ) (entries : List EntryFields) (k bytes triples : ℕ) → 1 ≤ k → Carried p i k bytes triples → Onward i entries → Few entries → entries_length (entries_over p (kept sees clock i from entries)) ≤ (SHORTEST_ENTRY_BYTES * k + bytes + TRIPLE_BYTES * triples) + entries_length entries
 over_bytes f sees clock p i from [] k bytes triples some c o few =
     let last = step_bytes f p (span_of i from clock) k bytes triples some c in
     let whole = f.add (step p (span_of i from clock)) [] in

@@ -3,6 +3,7 @@ use Rattle.std.proofs.Common.{◌≡◌, ℕ, zero, suc, ◌+◌, ◌<◌, ◌�
 use Rattle.std.specs.Prelude.{◌||◌, IfSome}
 use Rattle.std.specs.List.{AllByRecursion}
 use Rattle.std.proofs.lemmas.Bool.{cases_Bool, and_parts, and_from, or_cases, or_right, le-leb, leb-true, eq-eqb, eqb-true, cond-true, cond-false, both_ways}
+use Rattle.s4_types.specs.declared.limits.TheConstants.{CHANGE_ENTRIES}
 use Rattle.codec.specs.declared.inodes.Inode.{Inode}
 use Rattle.codec.specs.Entry.{EntryFields, entry_rules}
 use Rattle.undo_redo.specs.Redone.{redone}
@@ -47,9 +48,9 @@ behind_live : (m count : ℕ) (e : EntryFields) (entries : List EntryFields) →
 behind_live m count e [] is at h = tt
 behind_live m count e (f ∷ entries) is at h =
     let same : (e.moment == f.moment) ≡ true = eq-eqb e.moment f.moment (is ∙ sym at.0) in
-    let whole : ((ltb count 3 && continues e f) && grouped_behind (count + 1) f entries) ≡ true = sym (cond-true (e.moment == f.moment) ((ltb count 3 && continues e f) && grouped_behind (count + 1) f entries) (ltb e.moment f.moment && grouped_behind 1 f entries) same) ∙ h in
-    let parts = and_parts (ltb count 3 && continues e f) (grouped_behind (count + 1) f entries) whole in
-    let on : continues e f ≡ true = (and_parts (ltb count 3) (continues e f) parts.0).1 in
+    let whole : ((ltb count CHANGE_ENTRIES && continues e f) && grouped_behind (count + 1) f entries) ≡ true = sym (cond-true (e.moment == f.moment) ((ltb count CHANGE_ENTRIES && continues e f) && grouped_behind (count + 1) f entries) (ltb e.moment f.moment && grouped_behind 1 f entries) same) ∙ h in
+    let parts = and_parts (ltb count CHANGE_ENTRIES && continues e f) (grouped_behind (count + 1) f entries) whole in
+    let on : continues e f ≡ true = (and_parts (ltb count CHANGE_ENTRIES) (continues e f) parts.0).1 in
     let both = and_parts (f.before.alive && f.after.alive) _ on in
     ((and_parts f.before.alive f.after.alive both.0).0, behind_live m (count + 1) f entries at.0 at.1 parts.1)
 

@@ -5,6 +5,7 @@ use Rattle.std.specs.List.{AllByRecursion}
 use Rattle.std.proofs.lemmas.Bool.{cases_Bool, and_parts, or_cases, leb-true, leb-false, le-leb, ltb-true, eqb-true, cond-true, cond-false, both_ways}
 use Rattle.std.proofs.lemmas.List.{nil_from_length}
 use Rattle.s4_types.specs.Pointer.{Place}
+use Rattle.s4_types.specs.declared.limits.TheConstants.{CHANGE_ENTRIES}
 use Rattle.codec.specs.declared.inodes.Inode.{Inode}
 use Rattle.codec.specs.declared.entries.Triple.{Triple}
 use Rattle.codec.specs.Checkpoint.{pointer_at}
@@ -62,19 +63,19 @@ same_pointers e i none = ap (λ (ts : List Triple). with_after ts i.pointers) no
 
 -- an entry that is in a group with the one before it
 abbrev InGroup : ℕ → EntryFields → EntryFields → List EntryFields → Bool
-InGroup count e f entries = (ltb count 3 && continues e f) && grouped_behind (count + 1) f entries
+InGroup count e f entries = (ltb count CHANGE_ENTRIES && continues e f) && grouped_behind (count + 1) f entries
 
 group_next : (count : ℕ) (e f : EntryFields) (entries : List EntryFields) → grouped_behind count e (f ∷ entries) ≡ true → (c : ℕ) × (grouped_behind c f entries ≡ true)
 group_next count e f entries h = elim (cases_Bool (e.moment == f.moment)) [
-  | inl same ↦ (count + 1, (and_parts (ltb count 3 && continues e f) (grouped_behind (count + 1) f entries) (sym (cond-true (e.moment == f.moment) (InGroup count e f entries) (ltb e.moment f.moment && grouped_behind 1 f entries) same) ∙ h)).1)
+  | inl same ↦ (count + 1, (and_parts (ltb count CHANGE_ENTRIES && continues e f) (grouped_behind (count + 1) f entries) (sym (cond-true (e.moment == f.moment) (InGroup count e f entries) (ltb e.moment f.moment && grouped_behind 1 f entries) same) ∙ h)).1)
   | inr later ↦ (1, (and_parts (ltb e.moment f.moment) (grouped_behind 1 f entries) (sym (cond-false (e.moment == f.moment) (InGroup count e f entries) (ltb e.moment f.moment && grouped_behind 1 f entries) later) ∙ h)).1)
 ]
 
 -- one behind which the inode is dead is of a later moment
 group_ends : (count : ℕ) (e f : EntryFields) (entries : List EntryFields) → grouped_behind count e (f ∷ entries) ≡ true → f.after.alive ≡ false → e.moment < f.moment
 group_ends count e f entries h dead = elim (cases_Bool (e.moment == f.moment)) [
-  | inl same ↦ (let parts = and_parts (ltb count 3 && continues e f) (grouped_behind (count + 1) f entries) (sym (cond-true (e.moment == f.moment) (InGroup count e f entries) (ltb e.moment f.moment && grouped_behind 1 f entries) same) ∙ h) in
-      let on : continues e f ≡ true = (and_parts (ltb count 3) (continues e f) parts.0).1 in
+  | inl same ↦ (let parts = and_parts (ltb count CHANGE_ENTRIES && continues e f) (grouped_behind (count + 1) f entries) (sym (cond-true (e.moment == f.moment) (InGroup count e f entries) (ltb e.moment f.moment && grouped_behind 1 f entries) same) ∙ h) in
+      let on : continues e f ≡ true = (and_parts (ltb count CHANGE_ENTRIES) (continues e f) parts.0).1 in
       let both = and_parts (f.before.alive && f.after.alive) _ on in
       absurd (both_ways f.after.alive dead (and_parts f.before.alive f.after.alive both.0).1))
   | inr later ↦ ltb-true e.moment f.moment (and_parts (ltb e.moment f.moment) (grouped_behind 1 f entries) (sym (cond-false (e.moment == f.moment) (InGroup count e f entries) (ltb e.moment f.moment && grouped_behind 1 f entries) later) ∙ h)).0

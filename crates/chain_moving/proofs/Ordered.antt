@@ -4,6 +4,7 @@ use Rattle.std.specs.Prelude.{is_none}
 use Rattle.std.specs.List.{AllByRecursion, list_all}
 use Rattle.std.proofs.lemmas.List.{length-map, get_or-map, get_or_default, take-map}
 use Rattle.std.proofs.lemmas.List.Folds.{list_all-map}
+use Rattle.s4_types.specs.declared.limits.TheConstants.{SHORTEST_ENTRY_BYTES, TRIPLE_BYTES, CHANGE_ENTRIES}
 use Rattle.codec.specs.declared.inodes.Inode.{Inode}
 use Rattle.codec.specs.declared.entries.Triple.{Triple}
 use Rattle.codec.specs.Entry.{EntryFields, entry_length, entries_length, pair_length}
@@ -38,7 +39,7 @@ moment_of_old r entries e (k, there, at) =
 
 length_renamed : (r : RenamingFields) (e : EntryFields) → entry_length (renamed_entry r e) ≡ entry_length e
 unfolding entry_length
-length_renamed r e = ap (λ n. 34 + pair_length e.pair + 17 * n) (length-map e.triples (renamed_triple r))
+length_renamed r e = ap (λ n. SHORTEST_ENTRY_BYTES + pair_length e.pair + TRIPLE_BYTES * n) (length-map e.triples (renamed_triple r))
 
 pub lengths_renamed : RenamedEntriesTakeAsManyBytes
 lengths_renamed r [] = refl
@@ -66,9 +67,9 @@ continues_renamed r e f =
 behind_renamed : (r : RenamingFields) (count : ℕ) (e : EntryFields) (entries : List EntryFields) → grouped_behind count (renamed_entry r e) (renamed_entries r entries) ≡ grouped_behind count e entries
 behind_renamed r count e [] = refl
 behind_renamed r count e (f ∷ entries) =
-    ap (λ b. cond (e.moment == f.moment) ((ltb count 3 && b) && grouped_behind (count + 1) (renamed_entry r f) (renamed_entries r entries)) (ltb e.moment f.moment && grouped_behind 1 (renamed_entry r f) (renamed_entries r entries))) (continues_renamed r e f)
-    ∙ ap (λ b. cond (e.moment == f.moment) ((ltb count 3 && continues e f) && b) (ltb e.moment f.moment && grouped_behind 1 (renamed_entry r f) (renamed_entries r entries))) (behind_renamed r (count + 1) f entries)
-    ∙ ap (λ b. cond (e.moment == f.moment) ((ltb count 3 && continues e f) && grouped_behind (count + 1) f entries) (ltb e.moment f.moment && b)) (behind_renamed r 1 f entries)
+    ap (λ b. cond (e.moment == f.moment) ((ltb count CHANGE_ENTRIES && b) && grouped_behind (count + 1) (renamed_entry r f) (renamed_entries r entries)) (ltb e.moment f.moment && grouped_behind 1 (renamed_entry r f) (renamed_entries r entries))) (continues_renamed r e f)
+    ∙ ap (λ b. cond (e.moment == f.moment) ((ltb count CHANGE_ENTRIES && continues e f) && b) (ltb e.moment f.moment && grouped_behind 1 (renamed_entry r f) (renamed_entries r entries))) (behind_renamed r (count + 1) f entries)
+    ∙ ap (λ b. cond (e.moment == f.moment) ((ltb count CHANGE_ENTRIES && continues e f) && grouped_behind (count + 1) f entries) (ltb e.moment f.moment && b)) (behind_renamed r 1 f entries)
 
 pub groups_renamed : (r : RenamingFields) (entries : List EntryFields) → grouped (renamed_entries r entries) ≡ grouped entries
 groups_renamed r [] = refl

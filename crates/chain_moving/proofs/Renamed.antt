@@ -3,6 +3,7 @@ use Rattle.std.proofs.Common.{◌≡◌, ℕ, zero, suc, replicate, ◌==◌, Bo
 use Rattle.std.proofs.Math.ListN.{set, get_or-map}
 use Rattle.std.proofs.lemmas.List.{map-set, length-map}
 use Rattle.s4_types.specs.Pointer.{Place}
+use Rattle.s4_types.specs.declared.limits.TheConstants.{OBJECT_BLOCKS}
 use Rattle.codec.specs.declared.inodes.Inode.{Inode}
 use Rattle.codec.specs.declared.entries.Triple.{Triple}
 use Rattle.codec.specs.Checkpoint.{pointer_at, holes}
@@ -101,4 +102,4 @@ holes_renamed r (suc n) = ap (λ ps. None ∷ ps) (holes_renamed r n)
 
 pub blank_renamed : ABlankInodeStays
 unfolding blank holes
-blank_renamed r created = ap (pointing (blank created)) (holes_renamed r 48)
+blank_renamed r created = ap (pointing (blank created)) (holes_renamed r OBJECT_BLOCKS)

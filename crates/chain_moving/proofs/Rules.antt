@@ -5,6 +5,7 @@ use Rattle.std.specs.List.{AllByRecursion}
 use Rattle.std.proofs.lemmas.List.{length-map}
 use Rattle.std.proofs.lemmas.Bool.{cases_Bool, and_parts, and_from, eqb-true, eq-eqb, cond-true, cond-false, both_ways}
 use Rattle.s4_types.specs.Pointer.{Place}
+use Rattle.s4_types.specs.declared.limits.TheConstants.{OBJECT_BLOCKS, OBJECT_BYTES}
 use Rattle.codec.specs.declared.entries.Status.{Status}
 use Rattle.codec.specs.declared.entries.Pair.{Pair}
 use Rattle.codec.specs.declared.entries.Triple.{Triple}
@@ -104,8 +105,8 @@ ascend_renamed : (r : RenamingFields) (low : ℕ) (triples : List Triple) → Ha
 unfolding ascend_from
 ascend_renamed r low [] distinct h = refl
 ascend_renamed r low (t ∷ triples) distinct h =
-    ap (λ same. (leb low t.index && (ltb t.index 48 && not same)) && ascend_from (t.index + 1) (map (renamed_triple r) triples)) (same_renamed r t.before t.after distinct h.0.0 h.0.1)
-    ∙ ap (λ rest. (leb low t.index && (ltb t.index 48 && not (same_slot t.before t.after))) && rest) (ascend_renamed r (t.index + 1) triples distinct h.1)
+    ap (λ same. (leb low t.index && (ltb t.index OBJECT_BLOCKS && not same)) && ascend_from (t.index + 1) (map (renamed_triple r) triples)) (same_renamed r t.before t.after distinct h.0.0 h.0.1)
+    ∙ ap (λ rest. (leb low t.index && (ltb t.index OBJECT_BLOCKS && not (same_slot t.before t.after))) && rest) (ascend_renamed r (t.index + 1) triples distinct h.1)
 
 changes_renamed : (r : RenamingFields) (e : EntryFields) → changes_now (renamed_entry r e) ≡ changes_now e
 changes_renamed r e =
@@ -114,8 +115,8 @@ changes_renamed r e =
 pub rules_renamed : (r : RenamingFields) (e : EntryFields) → HasDistinctPlaces r → TellsWithin (IsNotNew r) e → entry_rules (renamed_entry r e) ≡ entry_rules e
 unfolding entry_rules
 rules_renamed r e distinct h =
-    ap (λ now. leb 1 e.moment && ((e.before.alive || e.after.alive) && (leb e.before.size 24576 && (leb e.after.size 24576 && (was_nothing e.before && (now && (differs e.pair && ascend_from 0 (map (renamed_triple r) e.triples)))))))) (changes_renamed r e)
-    ∙ ap (λ rest. leb 1 e.moment && ((e.before.alive || e.after.alive) && (leb e.before.size 24576 && (leb e.after.size 24576 && (was_nothing e.before && (changes_now e && (differs e.pair && rest))))))) (ascend_renamed r 0 e.triples distinct h)
+    ap (λ now. leb 1 e.moment && ((e.before.alive || e.after.alive) && (leb e.before.size OBJECT_BYTES && (leb e.after.size OBJECT_BYTES && (was_nothing e.before && (now && (differs e.pair && ascend_from 0 (map (renamed_triple r) e.triples)))))))) (changes_renamed r e)
+    ∙ ap (λ rest. leb 1 e.moment && ((e.before.alive || e.after.alive) && (leb e.before.size OBJECT_BYTES && (leb e.after.size OBJECT_BYTES && (was_nothing e.before && (changes_now e && (differs e.pair && rest))))))) (ascend_renamed r 0 e.triples distinct h)
 
 pub all_rules : RenamedEntriesKeepTheRules
 all_rules r [] distinct told h = tt

@@ -4,6 +4,7 @@ use Rattle.std.specs.Prelude.{is_some}
 use Rattle.std.specs.Int.{w32, w64}
 use Rattle.std.specs.List.{flat_map}
 use Rattle.std.proofs.lemmas.Bool.{ltb-false, le-ltb, leb-true, le-leb}
+use Rattle.s4_types.specs.declared.limits.TheConstants.{ENTRY_TRIPLES}
 use Rattle.codec.specs.Fields.{◌>>=◌, kept, number, slot, bit, byte_at, bytes_at, slot_at, many_at}
 use Rattle.codec.specs.Entry.{EntryFields, EntryNumbers, IsEntry, IsPair, IsTriple, entry_rules, text, pair_spelling, triple_spelling, flags_byte, flags_of, entry_spelling, flags_at, text_at, pair_at, triple_at, triples_at, checked_entry, entry_at}
 use Rattle.codec.specs.declared.entries.Triple.{Triple}
@@ -128,19 +129,19 @@ triple_field : IsField triple_at triple_spelling IsTriple
 triple_field = record { whole = λ bytes x h e. (triple_takes bytes x h e).0; fits = λ bytes x h e. (triple_takes bytes x h e).1; again = triple_again }
 
 abbrev AreTriples : ℕ → List Triple → Type 0
-AreTriples count triples = (count ≤ 16) × AreMany IsTriple count triples
+AreTriples count triples = (count ≤ ENTRY_TRIPLES) × AreMany IsTriple count triples
 
-triples_takes : (count : ℕ) (bytes : List ℕ) (x : List Triple × List ℕ) → triples_at count bytes ≡ Some x → (count ≤ 16) × (many_at triple_at count bytes ≡ Some x)
+triples_takes : (count : ℕ) (bytes : List ℕ) (x : List Triple × List ℕ) → triples_at count bytes ≡ Some x → (count ≤ ENTRY_TRIPLES) × (many_at triple_at count bytes ≡ Some x)
 unfolding triples_at
-triples_takes count bytes x e = let p = passed (ltb 16 count) (many_at triple_at count bytes) x e in (ltb-false _ _ p.0, p.1)
+triples_takes count bytes x e = let p = passed (ltb ENTRY_TRIPLES count) (many_at triple_at count bytes) x e in (ltb-false _ _ p.0, p.1)
 
-pub triples_few : (count : ℕ) (bytes : List ℕ) → count ≤ 16 → triples_at count bytes ≡ many_at triple_at count bytes
+pub triples_few : (count : ℕ) (bytes : List ℕ) → count ≤ ENTRY_TRIPLES → triples_at count bytes ≡ many_at triple_at count bytes
 unfolding triples_at
-triples_few count bytes le = let few : ltb 16 count ≡ false = le-ltb _ _ le in rw few refl
+triples_few count bytes le = let few : ltb ENTRY_TRIPLES count ≡ false = le-ltb _ _ le in rw few refl
 
 triples_again : (count : ℕ) (triples : List Triple) (rest : List ℕ) → AreTriples count triples → triples_at count (flat_map triple_spelling triples ++ rest) ≡ Some (triples, rest)
 unfolding triples_at
-triples_again count triples rest h = let few : ltb 16 count ≡ false = le-ltb _ _ h.0 in rw few ((many_field triple_field count).again triples rest h.1)
+triples_again count triples rest h = let few : ltb ENTRY_TRIPLES count ≡ false = le-ltb _ _ h.0 in rw few ((many_field triple_field count).again triples rest h.1)
 
 triples_field : (count : ℕ) → IsField (triples_at count) (flat_map triple_spelling) (AreTriples count)
 triples_field count = record {

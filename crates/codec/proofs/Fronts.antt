@@ -3,6 +3,7 @@ use Rattle.std.proofs.Common.{◌≡◌, ℕ, ◌+◌, ◌*◌, ◌<◌, ◌≤�
 use Rattle.std.specs.List.{flat_map}
 use Rattle.std.proofs.lemmas.List.{get_or-drop}
 use Rattle.std.proofs.Math.Seq.{get_or-append_seam}
+use Rattle.s4_types.specs.declared.limits.TheConstants.{SHORTEST_ENTRY_BYTES, TRIPLE_BYTES}
 use Rattle.codec.specs.Fields.{number, bit}
 use Rattle.codec.specs.Entry.{EntryFields, BeginsWithEntry, entry_at, entry_spelling, entry_length, pair_length, pair_spelling, triple_spelling, text, flags_byte, flags_of}
 use Rattle.codec.specs.declared.entries.Pair.{Pair}
@@ -18,15 +19,15 @@ count_here : (e : EntryFields) (rest : List ℕ) → get_or (entry_spelling e ++
 unfolding entry_spelling number
 count_here e rest = refl
 
-first_here : (e : EntryFields) (rest : List ℕ) (p : Pair) → e.pair ≡ Some p → get_or (entry_spelling e ++ rest) 34 0 ≡ length p.before
+first_here : (e : EntryFields) (rest : List ℕ) (p : Pair) → e.pair ≡ Some p → get_or (entry_spelling e ++ rest) SHORTEST_ENTRY_BYTES 0 ≡ length p.before
 unfolding entry_spelling number pair_spelling text
 first_here e rest p h = ap (λ (q : Option Pair). get_or ((pair_spelling q ++ flat_map triple_spelling e.triples) ++ rest) 0 0) h
 
-second_here : (e : EntryFields) (rest : List ℕ) (p : Pair) → e.pair ≡ Some p → get_or (entry_spelling e ++ rest) (35 + length p.before) 0 ≡ length p.after
+second_here : (e : EntryFields) (rest : List ℕ) (p : Pair) → e.pair ≡ Some p → get_or (entry_spelling e ++ rest) ((SHORTEST_ENTRY_BYTES + 1) + length p.before) 0 ≡ length p.after
 unfolding entry_spelling number pair_spelling text
 second_here e rest p h =
     let triples = flat_map triple_spelling e.triples in
-    sym (get_or-drop 35 (entry_spelling e ++ rest) (length p.before) 0)
+    sym (get_or-drop (SHORTEST_ENTRY_BYTES + 1) (entry_spelling e ++ rest) (length p.before) 0)
     ∙ ap (λ (q : Option Pair). get_or (drop 1 ((pair_spelling q ++ triples) ++ rest)) (length p.before) 0) h
     ∙ ap (λ (l : List ℕ). get_or l (length p.before) 0) (append_assoc (p.before ++ (length p.after ∷ p.after)) triples rest ∙ append_assoc p.before (length p.after ∷ p.after) (triples ++ rest))
     ∙ get_or-append_seam p.before (length p.after) (p.after ++ (triples ++ rest)) 0
@@ -43,21 +44,21 @@ flags_paired : (e : EntryFields) (p : Pair) → e.pair ≡ Some p → 4 ≤ flag
 unfolding flags_byte
 flags_paired e p h = let yes : bit (is_some e.pair) ≡ 1 = ap (λ (q : Option Pair). bit (is_some q)) h in omega (arith)
 
-length_alone : (e : EntryFields) → e.pair ≡ None → entry_length e ≡ 34 + 17 * length e.triples
+length_alone : (e : EntryFields) → e.pair ≡ None → entry_length e ≡ SHORTEST_ENTRY_BYTES + TRIPLE_BYTES * length e.triples
 unfolding entry_length pair_length
 length_alone e h = let none : pair_length e.pair ≡ 0 = ap pair_length h in omega arith
 
-length_paired : (e : EntryFields) (p : Pair) → e.pair ≡ Some p → entry_length e ≡ 34 + 17 * length e.triples + (1 + length p.before) + (1 + length p.after)
+length_paired : (e : EntryFields) (p : Pair) → e.pair ≡ Some p → entry_length e ≡ SHORTEST_ENTRY_BYTES + TRIPLE_BYTES * length e.triples + (1 + length p.before) + (1 + length p.after)
 unfolding entry_length pair_length
 length_paired e p h = let two : pair_length e.pair ≡ (1 + length p.before) + (1 + length p.after) = ap pair_length h in omega arith
 
 -- what the bytes tell that an entry begins with
 pub record Front (bytes : List ℕ) (e : EntryFields) : Type 0 where
-  pub least : 34 ≤ entry_length e
+  pub least : SHORTEST_ENTRY_BYTES ≤ entry_length e
   pub long : entry_length e ≤ length bytes
-  pub alone : get_or bytes 8 0 < 4 → 34 + 17 * get_or bytes 9 0 ≡ entry_length e
-  pub within : 4 ≤ get_or bytes 8 0 → 36 + get_or bytes 34 0 ≤ entry_length e
-  pub paired : 4 ≤ get_or bytes 8 0 → 34 + 17 * get_or bytes 9 0 + (1 + get_or bytes 34 0) + (1 + get_or bytes (35 + get_or bytes 34 0) 0) ≡ entry_length e
+  pub alone : get_or bytes 8 0 < 4 → SHORTEST_ENTRY_BYTES + TRIPLE_BYTES * get_or bytes 9 0 ≡ entry_length e
+  pub within : 4 ≤ get_or bytes 8 0 → SHORTEST_ENTRY_BYTES + 2 + get_or bytes SHORTEST_ENTRY_BYTES 0 ≤ entry_length e
+  pub paired : 4 ≤ get_or bytes 8 0 → SHORTEST_ENTRY_BYTES + TRIPLE_BYTES * get_or bytes 9 0 + (1 + get_or bytes SHORTEST_ENTRY_BYTES 0) + (1 + get_or bytes ((SHORTEST_ENTRY_BYTES + 1) + get_or bytes SHORTEST_ENTRY_BYTES 0) 0) ≡ entry_length e
 
 front_by : (e : EntryFields) (rest : List ℕ) (pair : Option Pair) → e.pair ≡ pair → Front (entry_spelling e ++ rest) e
 front_by e rest None h =
@@ -72,8 +73,8 @@ front_by e rest None h =
 front_by e rest (Some p) h =
     let many : 4 ≤ get_or (entry_spelling e ++ rest) 8 0 = subst (λ (n : ℕ). 4 ≤ n) (sym (flags_here e rest)) (flags_paired e p h) in
     let first = first_here e rest p h in
-    let second : get_or (entry_spelling e ++ rest) (35 + get_or (entry_spelling e ++ rest) 34 0) 0 ≡ length p.after =
-    ap (λ (n : ℕ). get_or (entry_spelling e ++ rest) (35 + n) 0) first ∙ second_here e rest p h in
+    let second : get_or (entry_spelling e ++ rest) ((SHORTEST_ENTRY_BYTES + 1) + get_or (entry_spelling e ++ rest) SHORTEST_ENTRY_BYTES 0) 0 ≡ length p.after =
+    ap (λ (n : ℕ). get_or (entry_spelling e ++ rest) ((SHORTEST_ENTRY_BYTES + 1) + n) 0) first ∙ second_here e rest p h in
     record {
       least = entry_least e;
       long = omega (arith, length-append (entry_spelling e) rest, entry_is e);

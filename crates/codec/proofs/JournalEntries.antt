@@ -2,6 +2,7 @@
 use Rattle.std.proofs.Common.{◌≡◌, ℕ, zero, suc, ◌+◌, ◌-◌, ◌≤◌, ◌<◌, true, leb, ◌&&◌, List, [], ◌∷◌, ◌++◌, length, Option, get_or, take, refl, arith, add-one, length-append}
 use Rattle.std.proofs.lemmas.Bool.{leb-true, le-leb}
 use Rattle.s4_types.specs.Pointer.{Place}
+use Rattle.s4_types.specs.declared.limits.TheConstants.{JOURNAL_ENTRY_BYTES, JOURNAL_ENTRIES}
 use Rattle.std.specs.Int.{w16, w64}
 use Rattle.std.specs.List.{flat_map}
 use Rattle.codec.specs.Fields.{number, zeros, slot}
@@ -38,7 +39,7 @@ pub entries_next : (i : ℕ) (entries : List EntryFields) (e : EntryFields) → 
 entries_next i entries e lt is = rw add-one (entries_up_to i entries e lt is)
 
 -- where an entry fits, there are fewer than fourteen
-pub room : (front : List EntryFields) (e : EntryFields) → entries_length front + entry_length e ≤ 488 → length front < 14
+pub room : (front : List EntryFields) (e : EntryFields) → entries_length front + entry_length e ≤ JOURNAL_ENTRY_BYTES → length front < JOURNAL_ENTRIES
 room front e h = omega (arith, fourteen (front ++ e ∷ []) (omega (arith, entries_push front e, h)), length-append front (e ∷ []))
 
 -- one entry of several, with those before it, has no more bytes than all
@@ -52,13 +53,13 @@ entries_front (suc i) (x ∷ entries) e lt is = omega (arith, entries_front i en
 pub record Rules (j : JournalFields) : Type 0 where
   pub object : 1 ≤ j.object
   pub some : 1 ≤ length j.entries
-  pub fit : entries_length j.entries ≤ 488
+  pub fit : entries_length j.entries ≤ JOURNAL_ENTRY_BYTES
 
 pub rules_say : (j : JournalFields) → journal_rules j ≡ true → Rules j
 unfolding journal_rules
 rules_say j e =
-    let a = both (leb 1 j.object) (leb 1 (length j.entries) && leb (entries_length j.entries) 488) e in
-    let b = both (leb 1 (length j.entries)) (leb (entries_length j.entries) 488) a.1 in
+    let a = both (leb 1 j.object) (leb 1 (length j.entries) && leb (entries_length j.entries) JOURNAL_ENTRY_BYTES) e in
+    let b = both (leb 1 (length j.entries)) (leb (entries_length j.entries) JOURNAL_ENTRY_BYTES) a.1 in
     record { object = leb-true _ _ a.0; some = leb-true _ _ b.0; fit = leb-true _ _ b.1 }
 
 pub rules_object : (j : JournalFields) → journal_rules j ≡ true → 1 ≤ j.object
@@ -67,20 +68,20 @@ rules_object j e = (rules_say j e).object
 pub rules_some : (j : JournalFields) → journal_rules j ≡ true → 1 ≤ length j.entries
 rules_some j e = (rules_say j e).some
 
-pub rules_fit : (j : JournalFields) → journal_rules j ≡ true → entries_length j.entries ≤ 488
+pub rules_fit : (j : JournalFields) → journal_rules j ≡ true → entries_length j.entries ≤ JOURNAL_ENTRY_BYTES
 rules_fit j e = (rules_say j e).fit
 
-pub rules_hold : (j : JournalFields) → 1 ≤ j.object → 1 ≤ length j.entries → entries_length j.entries ≤ 488 → journal_rules j ≡ true
+pub rules_hold : (j : JournalFields) → 1 ≤ j.object → 1 ≤ length j.entries → entries_length j.entries ≤ JOURNAL_ENTRY_BYTES → journal_rules j ≡ true
 unfolding journal_rules
 rules_hold j object some fit =
     let a : leb 1 j.object ≡ true = le-leb _ _ object in
     let b : leb 1 (length j.entries) ≡ true = le-leb _ _ some in
-    let c : leb (entries_length j.entries) 488 ≡ true = le-leb _ _ fit in
+    let c : leb (entries_length j.entries) JOURNAL_ENTRY_BYTES ≡ true = le-leb _ _ fit in
     rw (a, b, c) refl
 
 -- a block with one entry more, where it fits
 pub rules_push : (object : ℕ) (previous : Option Place) (front : List EntryFields) (e : EntryFields) → journal_rules (record { object = object; previous = previous; entries = front }) ≡ true
-    → entries_length front + entry_length e ≤ 488 → journal_rules (record { object = object; previous = previous; entries = front ++ e ∷ [] }) ≡ true
+    → entries_length front + entry_length e ≤ JOURNAL_ENTRY_BYTES → journal_rules (record { object = object; previous = previous; entries = front ++ e ∷ [] }) ≡ true
 rules_push object previous front e h fit =
     let r = rules_say (record { object = object; previous = previous; entries = front }) h in
     rules_hold (record { object = object; previous = previous; entries = front ++ e ∷ [] }) r.object (omega (arith, length-append front (e ∷ []), r.some)) (omega (arith, entries_push front e, fit))
@@ -99,7 +100,7 @@ pub spelling_length : (j : JournalFields) → journal_rules j ≡ true → lengt
 unfolding journal_spelling
 spelling_length j e =
     let told = entries_length j.entries in
-    let r4 = flat_map entry_spelling j.entries ++ zeros (488 - told) in
+    let r4 = flat_map entry_spelling j.entries ++ zeros (JOURNAL_ENTRY_BYTES - told) in
     let r3 = slot j.previous ++ r4 in
     let r2 = number w64 j.object ++ r3 in
     let r1 = zeros 4 ++ r2 in
@@ -110,11 +111,11 @@ spelling_length j e =
       length-append (zeros 4) r2,
       length-append (number w64 j.object) r3,
       length-append (slot j.previous) r4,
-      length-append (flat_map entry_spelling j.entries) (zeros (488 - told)),
+      length-append (flat_map entry_spelling j.entries) (zeros (JOURNAL_ENTRY_BYTES - told)),
       short_length told,
       long_length j.object,
       slot_length j.previous,
       zeros_length 4,
-      zeros_length (488 - told),
+      zeros_length (JOURNAL_ENTRY_BYTES - told),
       entries_spelled j.entries,
     )

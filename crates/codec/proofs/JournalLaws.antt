@@ -4,6 +4,7 @@ use Rattle.std.specs.Int.{w16, w64}
 use Rattle.std.specs.List.{flat_map}
 use Rattle.std.proofs.lemmas.Bool.{ltb-false, le-ltb, eqb-true, eq-eqb}
 use Rattle.s4_types.specs.Pointer.{Place}
+use Rattle.s4_types.specs.declared.limits.TheConstants.{JOURNAL_ENTRIES, JOURNAL_ENTRY_BYTES}
 use Rattle.codec.specs.Fields.{number, zeros, slot, many_at}
 use Rattle.codec.specs.Checkpoint.{IsSlot}
 use Rattle.codec.specs.Entry.{EntryFields, IsEntry, entry_spelling, entry_at, entries_length}
@@ -18,15 +19,15 @@ use Rattle.codec.proofs.Lengths.{fourteen}
 -- ---- entries
 
 abbrev AreEntries : ℕ → List EntryFields → Type 0
-AreEntries count entries = (count ≤ 14) × AreMany IsEntry count entries
+AreEntries count entries = (count ≤ JOURNAL_ENTRIES) × AreMany IsEntry count entries
 
-entries_take : (count : ℕ) (bytes : List ℕ) (x : List EntryFields × List ℕ) → entries_at count bytes ≡ Some x → (count ≤ 14) × (many_at entry_at count bytes ≡ Some x)
+entries_take : (count : ℕ) (bytes : List ℕ) (x : List EntryFields × List ℕ) → entries_at count bytes ≡ Some x → (count ≤ JOURNAL_ENTRIES) × (many_at entry_at count bytes ≡ Some x)
 unfolding entries_at
-entries_take count bytes x e = let p = passed (ltb 14 count) (many_at entry_at count bytes) x e in (ltb-false _ _ p.0, p.1)
+entries_take count bytes x e = let p = passed (ltb JOURNAL_ENTRIES count) (many_at entry_at count bytes) x e in (ltb-false _ _ p.0, p.1)
 
-pub entries_few : (count : ℕ) (bytes : List ℕ) → count ≤ 14 → entries_at count bytes ≡ many_at entry_at count bytes
+pub entries_few : (count : ℕ) (bytes : List ℕ) → count ≤ JOURNAL_ENTRIES → entries_at count bytes ≡ many_at entry_at count bytes
 unfolding entries_at
-entries_few count bytes le = let few : ltb 14 count ≡ false = le-ltb _ _ le in rw few refl
+entries_few count bytes le = let few : ltb JOURNAL_ENTRIES count ≡ false = le-ltb _ _ le in rw few refl
 
 entries_field : (count : ℕ) → IsField (entries_at count) (flat_map entry_spelling) (AreEntries count)
 entries_field count = record {
@@ -65,20 +66,20 @@ Nothing _ = Unit {0}
 abbrev says : List ℕ → (JournalFields × List ℕ) → Type 0
 says =
     Then (λ _. 1 ∷ []) Nothing (λ _. Then (λ b. b ∷ []) (λ b. b < 256) (λ count. Then (number w16) (λ n. n < 2 ^ 16) (λ told. Then (λ _. zeros 4) Nothing (λ _.
-    Then (number w64) (λ n. n < 2 ^ 64) (λ object. Then slot IsSlot (λ previous. Then (flat_map entry_spelling) (AreEntries count) (λ entries. Then (λ _. zeros (488 - told)) Nothing (λ _.
+    Then (number w64) (λ n. n < 2 ^ 64) (λ object. Then slot IsSlot (λ previous. Then (flat_map entry_spelling) (AreEntries count) (λ entries. Then (λ _. zeros (JOURNAL_ENTRY_BYTES - told)) Nothing (λ _.
     Made (told_journal told (made_of object previous entries))))))))))
 
 exact : Exact journal_at says
 unfolding journal_at
 exact =
     then_exact (mark_field 1) (λ _. then_exact byte_field (λ count. then_exact short_field (λ told. then_exact (zeros_field 4) (λ _.
-    then_exact long_field (λ object. then_exact slot_field (λ previous. then_exact (entries_field count) (λ entries. then_exact (zeros_field (488 - told)) (λ _.
+    then_exact long_field (λ object. then_exact slot_field (λ previous. then_exact (entries_field count) (λ entries. then_exact (zeros_field (JOURNAL_ENTRY_BYTES - told)) (λ _.
     made_exact (told_journal told (made_of object previous entries))))))))))
 
 -- the fields, with what stands behind them
 abbrev before : ℕ → ℕ → ℕ → Option Place → List EntryFields → List ℕ → List ℕ
 before count told object previous entries rest =
-    1 ∷ count ∷ (number w16 told ++ (zeros 4 ++ (number w64 object ++ (slot previous ++ (flat_map entry_spelling entries ++ (zeros (488 - told) ++ rest))))))
+    1 ∷ count ∷ (number w16 told ++ (zeros 4 ++ (number w64 object ++ (slot previous ++ (flat_map entry_spelling entries ++ (zeros (JOURNAL_ENTRY_BYTES - told) ++ rest))))))
 
 spelled_before : (j : JournalFields) (rest : List ℕ) → journal_spelling j ++ rest ≡ before (length j.entries) (entries_length j.entries) j.object j.previous j.entries rest
 unfolding journal_spelling
@@ -96,7 +97,7 @@ takes bytes x h e =
     let j = made_of object.value previous.value entries.value in
     let t = told_takes told.value j x.0 end.after.is in
     let numbers : JournalNumbers j = record { object = object.fits; previous = previous.fits; entries = entries.fits.1.1 } in
-    let tail : told.rest ≡ zeros 4 ++ (number w64 object.value ++ (slot previous.value ++ (flat_map entry_spelling entries.value ++ (zeros (488 - told.value) ++ x.1)))) =
+    let tail : told.rest ≡ zeros 4 ++ (number w64 object.value ++ (slot previous.value ++ (flat_map entry_spelling entries.value ++ (zeros (JOURNAL_ENTRY_BYTES - told.value) ++ x.1)))) =
     rw (gap.whole, object.whole, previous.whole, entries.whole, end.whole, end.after.rest) refl in
     let head : bytes ≡ before count.value told.value object.value previous.value entries.value x.1 =
     (exact.found bytes x h e).whole ∙ ap (λ (r : List ℕ). 1 ∷ r) (count.whole ∙ ap (λ (r : List ℕ). count.value ∷ r) (told.whole ∙ ap (λ (r : List ℕ). number w16 told.value ++ r) tail)) in
@@ -109,9 +110,9 @@ takes bytes x h e =
 again : (j : JournalFields) (rest : List ℕ) → IsJournal j → journal_at (journal_spelling j ++ rest) ≡ Some (j, rest)
 again j rest h =
     let n = h.1 in
-    let few : length j.entries ≤ 14 = fourteen j.entries (rules_say j h.0).fit in
-    let fit : entries_length j.entries ≤ 488 = (rules_say j h.0).fit in
-    let r6 = zeros (488 - entries_length j.entries) ++ rest in
+    let few : length j.entries ≤ JOURNAL_ENTRIES = fourteen j.entries (rules_say j h.0).fit in
+    let fit : entries_length j.entries ≤ JOURNAL_ENTRY_BYTES = (rules_say j h.0).fit in
+    let r6 = zeros (JOURNAL_ENTRY_BYTES - entries_length j.entries) ++ rest in
     let r5 = flat_map entry_spelling j.entries ++ r6 in
     let r4 = slot j.previous ++ r5 in
     let r3 = number w64 j.object ++ r4 in

@@ -3,6 +3,7 @@ use Rattle.std.proofs.Common.{◌≡◌, ℕ, ◌*◌, ◌≤◌, List, [], ◌�
 use Rattle.std.specs.Int.{w32, w64}
 use Rattle.std.specs.List.{flat_map}
 use Rattle.s4_types.specs.Pointer.{Place}
+use Rattle.s4_types.specs.declared.limits.TheConstants.{TRIPLE_BYTES, SHORTEST_ENTRY_BYTES, ATTRIBUTE_PAIR_BYTES, LONGEST_ENTRY_BYTES, JOURNAL_ENTRY_BYTES, JOURNAL_ENTRIES}
 use Rattle.codec.specs.Fields.{number, zeros, slot}
 use Rattle.codec.specs.Entry.{EntryFields, IsEntry, IsPair, text, pair_spelling, triple_spelling, flags_byte, flags_of, entry_spelling, pair_length, entry_length, entries_length}
 use Rattle.codec.specs.declared.entries.Triple.{Triple}
@@ -33,11 +34,11 @@ unfolding pair_spelling pair_length text
 pair_is None = refl
 pair_is (Some p) = omega (arith, length-append (length p.before ∷ p.before) (length p.after ∷ p.after))
 
-triple_is : (t : Triple) → length (triple_spelling t) ≡ 17
+triple_is : (t : Triple) → length (triple_spelling t) ≡ TRIPLE_BYTES
 unfolding triple_spelling
 triple_is t = omega (arith, length-append (slot t.before) (slot t.after), slot_length t.before, slot_length t.after)
 
-triples_are : (triples : List Triple) → length (flat_map triple_spelling triples) ≡ 17 * length triples
+triples_are : (triples : List Triple) → length (flat_map triple_spelling triples) ≡ TRIPLE_BYTES * length triples
 triples_are [] = refl
 triples_are (t ∷ triples) = omega (arith, length-append (triple_spelling t) (flat_map triple_spelling triples), triple_is t, triples_are triples)
 
@@ -66,23 +67,23 @@ entry_is e =
       triples_are e.triples,
     )
 
-pub entry_least : (e : EntryFields) → 34 ≤ entry_length e
+pub entry_least : (e : EntryFields) → SHORTEST_ENTRY_BYTES ≤ entry_length e
 unfolding entry_length
 entry_least e = omega arith
 
-pair_most : (pair : Option Pair) → IsPair pair → pair_length pair ≤ 130
+pair_most : (pair : Option Pair) → IsPair pair → pair_length pair ≤ ATTRIBUTE_PAIR_BYTES
 unfolding pair_length
 pair_most None h = omega arith
 pair_most (Some p) h = omega (arith, h.0, h.1)
 
-pub entry_most : (e : EntryFields) → IsEntry e → entry_length e ≤ 436
+pub entry_most : (e : EntryFields) → IsEntry e → entry_length e ≤ LONGEST_ENTRY_BYTES
 unfolding entry_length
 entry_most e h = omega (arith, pair_most e.pair h.1.pair, h.1.count)
 
-entries_least : (entries : List EntryFields) → 34 * length entries ≤ entries_length entries
+entries_least : (entries : List EntryFields) → SHORTEST_ENTRY_BYTES * length entries ≤ entries_length entries
 unfolding entries_length
 entries_least [] = omega arith
 entries_least (e ∷ entries) = omega (arith, entry_least e, entries_least entries)
 
-pub fourteen : (entries : List EntryFields) → entries_length entries ≤ 488 → length entries ≤ 14
+pub fourteen : (entries : List EntryFields) → entries_length entries ≤ JOURNAL_ENTRY_BYTES → length entries ≤ JOURNAL_ENTRIES
 fourteen entries h = omega (arith, h, entries_least entries)

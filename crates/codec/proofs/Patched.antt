@@ -10,6 +10,7 @@ use Rattle.std.proofs.lemmas.Grind.{common_steps, flat_map-append}
 use Rattle.std.proofs.Math.Seq.{drop-append-add}
 use Rattle.std.proofs.lemmas.Slice.{between_to_end}
 use Rattle.std.specs.List.{between}
+use Rattle.s4_types.specs.declared.limits.TheConstants.{JOURNAL_ENTRY_BYTES, JOURNAL_HEAD_BYTES, JOURNAL_ENTRIES}
 use Rattle.codec.specs.Fields.{Reads, number, zeros, slot, mark_at, slot_at, number_at, all_of}
 use Rattle.codec.specs.Entry.{EntryFields, IsEntry, entry_spelling, entry_length, entries_length}
 use Rattle.codec.specs.Journal.{JournalFields, JournalNumbers, SpellsJournal, journal_spelling, journal_at}
@@ -57,7 +58,7 @@ told_at n t rest lt = big_number-reads_back 2 t rest lt
 pub told_is : (block : List ℕ) (j : JournalFields) → SpellsJournal block j → big_number 2 (drop 2 block) ≡ entries_length j.entries
 unfolding journal_spelling
 told_is block j h =
-    let fit : entries_length j.entries ≤ 488 = rules_fit j h.0.0 in
+    let fit : entries_length j.entries ≤ JOURNAL_ENTRY_BYTES = rules_fit j h.0.0 in
     ap (λ (b : List ℕ). big_number 2 (drop 2 b)) h.1 ∙ told_at (length j.entries) (entries_length j.entries) _ (omega arith)
 
 pub count_is : (block : List ℕ) (j : JournalFields) → SpellsJournal block j → get_or block 1 0 ≡ length j.entries
@@ -70,11 +71,11 @@ count_is block j h = ap (λ (b : List ℕ). get_or b 1 0) h.1
 abbrev pub front : ℕ → ℕ → JournalFields → List EntryFields → List ℕ
 front count told j entries = 1 ∷ count ∷ (number w16 told ++ (zeros 4 ++ (number w64 j.object ++ (slot j.previous ++ flat_map entry_spelling entries))))
 
-front_length : (count told : ℕ) (j : JournalFields) (entries : List EntryFields) → length (front count told j entries) ≡ 24 + entries_length entries
+front_length : (count told : ℕ) (j : JournalFields) (entries : List EntryFields) → length (front count told j entries) ≡ JOURNAL_HEAD_BYTES + entries_length entries
 unfolding zeros number
 front_length count told j entries = omega (arith, length-append (slot j.previous) (flat_map entry_spelling entries), slot_length j.previous, entries_spelled entries)
 
-front_spells : (j : JournalFields) → journal_spelling j ≡ front (length j.entries) (entries_length j.entries) j j.entries ++ zeros (488 - entries_length j.entries)
+front_spells : (j : JournalFields) → journal_spelling j ≡ front (length j.entries) (entries_length j.entries) j j.entries ++ zeros (JOURNAL_ENTRY_BYTES - entries_length j.entries)
 unfolding journal_spelling
 front_spells j = simp append_assoc
 
@@ -91,31 +92,31 @@ front_push count told j entries e =
     rw parts (simp append_assoc)
 
 -- with the bytes of the entry in place of zeros
-behind : (count told : ℕ) (j : JournalFields) (e : EntryFields) (block : List ℕ) (at size : ℕ) → told ≡ entries_length j.entries → at ≡ 24 + told → size ≡ length (entry_spelling e)
-    → block ≡ front count told j j.entries ++ zeros (488 - told)
-    → take at block ++ (entry_spelling e ++ drop (at + size) block) ≡ front count told j (j.entries ++ e ∷ []) ++ zeros (488 - (told + size))
+behind : (count told : ℕ) (j : JournalFields) (e : EntryFields) (block : List ℕ) (at size : ℕ) → told ≡ entries_length j.entries → at ≡ JOURNAL_HEAD_BYTES + told → size ≡ length (entry_spelling e)
+    → block ≡ front count told j j.entries ++ zeros (JOURNAL_ENTRY_BYTES - told)
+    → take at block ++ (entry_spelling e ++ drop (at + size) block) ≡ front count told j (j.entries ++ e ∷ []) ++ zeros (JOURNAL_ENTRY_BYTES - (told + size))
 behind count told j e block at size t a s whole =
     let f = front count told j j.entries in
     let len : length f ≡ at = omega (arith, front_length count told j j.entries) in
-    let first : take at (f ++ zeros (488 - told)) ≡ f = take_at f (zeros (488 - told)) at len in
-    let less : (488 - told) - size ≡ 488 - (told + size) = omega arith in
-    let rest : drop (at + size) (f ++ zeros (488 - told)) ≡ zeros (488 - (told + size)) =
-    subst (λ (n : ℕ). drop (n + size) (f ++ zeros (488 - told)) ≡ zeros (488 - (told + size))) len (drop-append-add f (zeros (488 - told)) size ∙ drop_zeros size (488 - told) ∙ ap zeros less) in
+    let first : take at (f ++ zeros (JOURNAL_ENTRY_BYTES - told)) ≡ f = take_at f (zeros (JOURNAL_ENTRY_BYTES - told)) at len in
+    let less : (JOURNAL_ENTRY_BYTES - told) - size ≡ JOURNAL_ENTRY_BYTES - (told + size) = omega arith in
+    let rest : drop (at + size) (f ++ zeros (JOURNAL_ENTRY_BYTES - told)) ≡ zeros (JOURNAL_ENTRY_BYTES - (told + size)) =
+    subst (λ (n : ℕ). drop (n + size) (f ++ zeros (JOURNAL_ENTRY_BYTES - told)) ≡ zeros (JOURNAL_ENTRY_BYTES - (told + size))) len (drop-append-add f (zeros (JOURNAL_ENTRY_BYTES - told)) size ∙ drop_zeros size (JOURNAL_ENTRY_BYTES - told) ∙ ap zeros less) in
     ap (λ (b : List ℕ). take at b ++ (entry_spelling e ++ drop (at + size) b)) whole
-    ∙ ap (λ (l : List ℕ). l ++ (entry_spelling e ++ drop (at + size) (f ++ zeros (488 - told)))) first
+    ∙ ap (λ (l : List ℕ). l ++ (entry_spelling e ++ drop (at + size) (f ++ zeros (JOURNAL_ENTRY_BYTES - told)))) first
     ∙ ap (λ (l : List ℕ). f ++ (entry_spelling e ++ l)) rest
-    ∙ sym (append_assoc f (entry_spelling e) (zeros (488 - (told + size))))
-    ∙ ap (λ (l : List ℕ). l ++ zeros (488 - (told + size))) (sym (front_push count told j j.entries e))
+    ∙ sym (append_assoc f (entry_spelling e) (zeros (JOURNAL_ENTRY_BYTES - (told + size))))
+    ∙ ap (λ (l : List ℕ). l ++ zeros (JOURNAL_ENTRY_BYTES - (told + size))) (sym (front_push count told j j.entries e))
 
-pub count_low : (block : List ℕ) (j : JournalFields) (e : EntryFields) → SpellsJournal block j → entries_length j.entries + entry_length e ≤ 488 → length j.entries < 14
+pub count_low : (block : List ℕ) (j : JournalFields) (e : EntryFields) → SpellsJournal block j → entries_length j.entries + entry_length e ≤ JOURNAL_ENTRY_BYTES → length j.entries < JOURNAL_ENTRIES
 count_low block j e h fit = room j.entries e fit
 
 numbers_push : (j : JournalFields) (e : EntryFields) → JournalNumbers j → IsEntry e → JournalNumbers (with_entry j e)
 numbers_push j e n h = record { object = n.object; previous = n.previous; entries = grind (arith, common_steps, n.entries, h) }
 
 -- the block with the entry behind the others and the counts raised
-pub patched : (block : List ℕ) (j : JournalFields) (e : EntryFields) (at size told count : ℕ) (mid spelled later counts : List ℕ) → SpellsJournal block j → IsEntry e → entries_length j.entries + entry_length e ≤ 488
-    → told ≡ entries_length j.entries → count ≡ length j.entries → at ≡ 24 + told → spelled ≡ entry_spelling e → size ≡ length spelled
+pub patched : (block : List ℕ) (j : JournalFields) (e : EntryFields) (at size told count : ℕ) (mid spelled later counts : List ℕ) → SpellsJournal block j → IsEntry e → entries_length j.entries + entry_length e ≤ JOURNAL_ENTRY_BYTES
+    → told ≡ entries_length j.entries → count ≡ length j.entries → at ≡ JOURNAL_HEAD_BYTES + told → spelled ≡ entry_spelling e → size ≡ length spelled
     → mid ≡ take at block ++ (spelled ++ drop (at + size) block)
     → counts ≡ (count + 1) ∷ number w16 (told + size)
     → later ≡ take 1 mid ++ (counts ++ drop 4 mid)
@@ -123,8 +124,8 @@ pub patched : (block : List ℕ) (j : JournalFields) (e : EntryFields) (at size 
 patched block j e at size told count mid spelled later counts h is fit t n a sp s m c l =
     let j2 = with_entry j e in
     let len : size ≡ length (entry_spelling e) = s ∙ ap length sp in
-    let whole : block ≡ front count told j j.entries ++ zeros (488 - told) = h.1 ∙ front_spells j ∙ ap (λ (k : ℕ). front k (entries_length j.entries) j j.entries ++ zeros (488 - entries_length j.entries)) (sym n) ∙ ap (λ (k : ℕ). front count k j j.entries ++ zeros (488 - k)) (sym t) in
-    let tail = zeros (488 - (told + size)) in
+    let whole : block ≡ front count told j j.entries ++ zeros (JOURNAL_ENTRY_BYTES - told) = h.1 ∙ front_spells j ∙ ap (λ (k : ℕ). front k (entries_length j.entries) j j.entries ++ zeros (JOURNAL_ENTRY_BYTES - entries_length j.entries)) (sym n) ∙ ap (λ (k : ℕ). front count k j j.entries ++ zeros (JOURNAL_ENTRY_BYTES - k)) (sym t) in
+    let tail = zeros (JOURNAL_ENTRY_BYTES - (told + size)) in
     let one : mid ≡ front count told j j2.entries ++ tail = m ∙ ap (λ (x : List ℕ). take at block ++ (x ++ drop (at + size) block)) sp ∙ behind count told j e block at size t a len whole in
     let two : later ≡ front (count + 1) (told + size) j j2.entries ++ tail =
     l ∙ ap (λ (x : List ℕ). take 1 x ++ (counts ++ drop 4 x)) one
@@ -132,8 +133,8 @@ patched block j e at size told count mid spelled later counts h is fit t n a sp 
     ∙ head_is count told (count + 1) (told + size) j j2.entries tail in
     let all : told + size ≡ entries_length j2.entries = omega (arith, entries_push j.entries e, entry_is e) in
     let more : count + 1 ≡ length j2.entries = omega (arith, length-append j.entries (e ∷ [])) in
-    let three : later ≡ front (length j2.entries) (entries_length j2.entries) j j2.entries ++ zeros (488 - entries_length j2.entries) =
-    two ∙ ap (λ (k : ℕ). front k (told + size) j j2.entries ++ tail) more ∙ ap (λ (k : ℕ). front (length j2.entries) k j j2.entries ++ zeros (488 - k)) all in
+    let three : later ≡ front (length j2.entries) (entries_length j2.entries) j j2.entries ++ zeros (JOURNAL_ENTRY_BYTES - entries_length j2.entries) =
+    two ∙ ap (λ (k : ℕ). front k (told + size) j j2.entries ++ tail) more ∙ ap (λ (k : ℕ). front (length j2.entries) k j j2.entries ++ zeros (JOURNAL_ENTRY_BYTES - k)) all in
     ((rules_push j.object j.previous j.entries e h.0.0 fit, numbers_push j e h.0.1 is), three ∙ sym (front_spells j2))
 
 -- ---- what else the head tells
@@ -149,20 +150,20 @@ previous_behind n told object rest = refl
 pub object_is : (block : List ℕ) (j : JournalFields) → SpellsJournal block j → number_at w64 (drop 8 block) ≡ Some (j.object, drop 16 block)
 unfolding journal_spelling
 object_is block j h =
-    let rest = slot j.previous ++ (flat_map entry_spelling j.entries ++ zeros (488 - entries_length j.entries)) in
+    let rest = slot j.previous ++ (flat_map entry_spelling j.entries ++ zeros (JOURNAL_ENTRY_BYTES - entries_length j.entries)) in
     let e : drop 8 block ≡ number w64 j.object ++ rest = ap (λ (b : List ℕ). drop 8 b) h.1 ∙ object_behind (length j.entries) (entries_length j.entries) j.object rest in
     let d : drop 16 block ≡ rest = ap (λ (b : List ℕ). drop 16 b) h.1 ∙ previous_behind (length j.entries) (entries_length j.entries) j.object rest in
     ap (number_at w64) e ∙ long_field.again j.object rest h.0.1.object ∙ ap (λ (r : List ℕ). Some (j.object, r)) (sym d)
 
-pub previous_is : (block : List ℕ) (j : JournalFields) → SpellsJournal block j → slot_at (drop 16 block) ≡ Some (j.previous, flat_map entry_spelling j.entries ++ zeros (488 - entries_length j.entries))
+pub previous_is : (block : List ℕ) (j : JournalFields) → SpellsJournal block j → slot_at (drop 16 block) ≡ Some (j.previous, flat_map entry_spelling j.entries ++ zeros (JOURNAL_ENTRY_BYTES - entries_length j.entries))
 unfolding journal_spelling
 previous_is block j h =
-    let rest = flat_map entry_spelling j.entries ++ zeros (488 - entries_length j.entries) in
+    let rest = flat_map entry_spelling j.entries ++ zeros (JOURNAL_ENTRY_BYTES - entries_length j.entries) in
     let d : drop 16 block ≡ slot j.previous ++ rest = ap (λ (b : List ℕ). drop 16 b) h.1 ∙ previous_behind (length j.entries) (entries_length j.entries) j.object (slot j.previous ++ rest) in
     ap slot_at d ∙ slot_field.again j.previous rest h.0.1.previous
 
 -- a single entry fits
-pub alone_fits : (entries : List EntryFields) (e : EntryFields) → entries ≡ e ∷ [] → entry_length e ≤ 488 → entries_length entries ≤ 488
+pub alone_fits : (entries : List EntryFields) (e : EntryFields) → entries ≡ e ∷ [] → entry_length e ≤ JOURNAL_ENTRY_BYTES → entries_length entries ≤ JOURNAL_ENTRY_BYTES
 alone_fits entries e is h = rw is (omega (arith, entries_one e))
 
 -- ---- a field that is read from the bytes

@@ -6,6 +6,7 @@ use Rattle.std.proofs.lemmas.Grind.{flat_map-append}
 use Rattle.std.proofs.lemmas.List.{append-nil, drop_at, drop-drop, drop_more, drop_all}
 use Rattle.std.proofs.lemmas.List.Concat.{flat_map-cons}
 use Rattle.s4_types.specs.Pointer.{Place}
+use Rattle.s4_types.specs.declared.limits.TheConstants.{JOURNAL_ENTRIES, JOURNAL_ENTRY_BYTES, JOURNAL_HEAD_BYTES}
 use Rattle.codec.specs.Fields.{◌>>=◌, number, zeros, slot, all_of}
 use Rattle.codec.specs.Entry.{EntryFields, IsEntry, BeginsWithEntry, entry_at, entry_spelling, entry_length, entries_length}
 use Rattle.codec.specs.Journal.{JournalFields, SpellsJournal, journal_at, journal_spelling}
@@ -49,30 +50,30 @@ count_there block j h = ap (λ (l : List ℕ). get_or l 1 0) h.1
 pub length_there : (block : List ℕ) (j : JournalFields) → SpellsJournal block j → length block ≡ 512
 length_there block j h = ap length h.1 ∙ spelling_length j h.0.0
 
-pub few_there : (block : List ℕ) (j : JournalFields) → SpellsJournal block j → get_or block 1 0 ≤ 14
+pub few_there : (block : List ℕ) (j : JournalFields) → SpellsJournal block j → get_or block 1 0 ≤ JOURNAL_ENTRIES
 few_there block j h = omega (arith, count_there block j h, fourteen j.entries (rules_say j h.0.0).fit)
 
 unfoldable pub behind : JournalFields → List ℕ
-behind j = flat_map entry_spelling j.entries ++ zeros (488 - entries_length j.entries)
+behind j = flat_map entry_spelling j.entries ++ zeros (JOURNAL_ENTRY_BYTES - entries_length j.entries)
 
 -- ---- the entries, one behind the other
 
 -- some entries of a journal block were found, and the others stand from a byte on
 pub record Scanned (block : List ℕ) (j : JournalFields) (starts : List ℕ) (at i : ℕ) : Type 0 where
   pub done : entries_begun_at block starts ++ drop i j.entries ≡ j.entries
-  pub behind : drop at block ≡ flat_map entry_spelling (drop i j.entries) ++ zeros (488 - entries_length j.entries)
+  pub behind : drop at block ≡ flat_map entry_spelling (drop i j.entries) ++ zeros (JOURNAL_ENTRY_BYTES - entries_length j.entries)
   pub spelled : AllByRecursion IsEntry (drop i j.entries)
   pub place : at + entries_length (drop i j.entries) ≤ length block
 
-first_behind : (j : JournalFields) → drop 24 (journal_spelling j) ≡ behind j
+first_behind : (j : JournalFields) → drop JOURNAL_HEAD_BYTES (journal_spelling j) ≡ behind j
 unfolding journal_spelling number zeros behind
 first_behind j = drop_at (slot j.previous) (behind j) 8 (slot_length j.previous)
 
-pub scan_begins : (block : List ℕ) (j : JournalFields) → SpellsJournal block j → Scanned block j [] 24 0
+pub scan_begins : (block : List ℕ) (j : JournalFields) → SpellsJournal block j → Scanned block j [] JOURNAL_HEAD_BYTES 0
 unfolding behind
 scan_begins block j h = record {
   done = refl;
-  behind = ap (drop 24) h.1 ∙ first_behind j;
+  behind = ap (drop JOURNAL_HEAD_BYTES) h.1 ∙ first_behind j;
   spelled = h.0.1.entries;
   place = omega (arith, (rules_say j h.0.0).fit, length_there block j h);
 }
@@ -91,7 +92,7 @@ record Standing (block : List ℕ) (j : JournalFields) (at i : ℕ) (e : EntryFi
   rest : List ℕ
   is : drop i j.entries ≡ e ∷ drop (i + 1) j.entries
   fits : AllByRecursion IsEntry (e ∷ drop (i + 1) j.entries)
-  rest_is : rest ≡ flat_map entry_spelling (drop (i + 1) j.entries) ++ zeros (488 - entries_length j.entries)
+  rest_is : rest ≡ flat_map entry_spelling (drop (i + 1) j.entries) ++ zeros (JOURNAL_ENTRY_BYTES - entries_length j.entries)
   stands : drop at block ≡ entry_spelling e ++ rest
   reads : entry_at (drop at block) ≡ Some (e, rest)
   place : at + (entry_length e + entries_length (drop (i + 1) j.entries)) ≤ length block
@@ -101,7 +102,7 @@ standing : (block : List ℕ) (j : JournalFields) (starts : List ℕ) (at i : �
 standing block j starts at i d s lt =
     let e = get_or j.entries i d in
     let es = drop (i + 1) j.entries in
-    let z = zeros (488 - entries_length j.entries) in
+    let z = zeros (JOURNAL_ENTRY_BYTES - entries_length j.entries) in
     let rest = flat_map entry_spelling es ++ z in
     let is : drop i j.entries ≡ e ∷ es = drop_more j.entries i d lt in
     let fits : AllByRecursion IsEntry (e ∷ es) = subst (AllByRecursion IsEntry) is s.spelled in
@@ -155,7 +156,7 @@ next_there block j starts at i s lt = there_by block j starts at i j.entries ref
 -- where another entry begins
 pub record Ready (block starts : List ℕ) (at i : ℕ) : Type 0 where
   pub here : BeginsAt block at
-  pub few : i < 14
+  pub few : i < JOURNAL_ENTRIES
   pub long : length block ≡ 512
 
 pub ready : (block starts : List ℕ) (at i : ℕ) → IsBytes block → IsSome (all_of journal_at block) → ((j : JournalFields) → SpellsJournal block j → Scanned block j starts at i)

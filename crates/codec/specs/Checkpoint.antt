@@ -4,6 +4,7 @@ use Rattle.std.specs.Int.{w32, w64}
 use Rattle.std.specs.List.{flat_map, AllByRecursion}
 use Rattle.s4_types.specs.Pointer.{Place, IsPlace}
 use Rattle.s4_types.specs.declared.limits.TheConstants.{OBJECT_BYTES, OBJECT_BLOCKS}
+use Rattle.codec.specs.declared.checkpoints.TheConstants.{CHECKPOINT_ZEROS}
 use Rattle.codec.specs.Fields.{◌>>=◌, number, zeros, slot, bit, padded, kept, byte_at, number_at, zeros_at, mark_at, flag_at, slot_at, many_at, padded_at}
 use Rattle.codec.specs.declared.inodes.Inode.{Inode}
 
@@ -53,7 +54,7 @@ pub record CheckpointNumbers (c : CheckpointFields) : Type 0 where
 -- the block of a checkpoint
 unfoldable pub checkpoint_spelling : CheckpointFields → List ℕ
 checkpoint_spelling c =
-    2 ∷ bit c.inode.alive ∷ length c.inode.attribute ∷ 0 ∷ (number w32 c.inode.size ++ (number w64 c.object ++ (number w64 c.moment ++ (number w64 c.inode.created ++ (number w64 c.inode.changed ++ (padded c.inode.attribute ++ (flat_map slot c.inode.pointers ++ zeros 24)))))))
+    2 ∷ bit c.inode.alive ∷ length c.inode.attribute ∷ 0 ∷ (number w32 c.inode.size ++ (number w64 c.object ++ (number w64 c.moment ++ (number w64 c.inode.created ++ (number w64 c.inode.changed ++ (padded c.inode.attribute ++ (flat_map slot c.inode.pointers ++ zeros CHECKPOINT_ZEROS)))))))
 
 -- the block spells this checkpoint
 abbrev pub SpellsCheckpoint : List ℕ → CheckpointFields → Type 0
@@ -68,7 +69,7 @@ abbrev pub behind_moments : Bool → ℕ → ℕ → ℕ → ℕ → ℕ → ℕ
 behind_moments alive len size object moment created changed bytes = do
   attribute ← padded_at len bytes
   pointers ← many_at slot_at OBJECT_BLOCKS attribute.1
-  end ← zeros_at 24 pointers.1
+  end ← zeros_at CHECKPOINT_ZEROS pointers.1
   made ← checked (record { object = object; moment = moment; inode = record { alive = alive; size = size; created = created; changed = changed; attribute = attribute.0; pointers = pointers.0 } })
   Some (made, end.1)
 

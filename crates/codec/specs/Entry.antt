@@ -4,7 +4,7 @@ use Rattle.std.specs.Int.{w32, w64}
 use Rattle.std.specs.List.{flat_map, AllByRecursion}
 use Rattle.std.specs.Cmp.Lexicographic.{pointwise}
 use Rattle.s4_types.specs.Pointer.{Place}
-use Rattle.s4_types.specs.declared.limits.TheConstants.{OBJECT_BYTES, OBJECT_BLOCKS}
+use Rattle.s4_types.specs.declared.limits.TheConstants.{OBJECT_BYTES, OBJECT_BLOCKS, ENTRY_TRIPLES, SHORTEST_ENTRY_BYTES, TRIPLE_BYTES}
 use Rattle.codec.specs.Fields.{◌>>=◌, number, slot, bit, kept, byte_at, bytes_at, number_at, slot_at, many_at}
 use Rattle.codec.specs.Checkpoint.{IsSlot}
 use Rattle.codec.specs.declared.entries.Status.{Status}
@@ -99,7 +99,7 @@ pub record EntryNumbers (e : EntryFields) : Type 0 where
   pub changed_before : e.before.changed < 2 ^ 64
   pub changed_after : e.after.changed < 2 ^ 64
   pub pair : IsPair e.pair
-  pub count : length e.triples ≤ 16
+  pub count : length e.triples ≤ ENTRY_TRIPLES
   pub triples : AllByRecursion IsTriple e.triples
 
 -- the entry has a spelling
@@ -138,7 +138,7 @@ triple_at bytes = do
   Some (record { index = index.0; before = before.0; after = after.0 }, after.1)
 
 unfoldable pub triples_at : ℕ → List ℕ → Option (List Triple × List ℕ)
-triples_at count bytes = if nat_lt 16 count then None else many_at triple_at count bytes
+triples_at count bytes = if nat_lt ENTRY_TRIPLES count then None else many_at triple_at count bytes
 
 -- an entry that keeps the rules
 abbrev pub checked_entry : EntryFields → Option EntryFields
@@ -176,7 +176,7 @@ pair_length (Some p) = (1 + length p.before) + (1 + length p.after)
 
 -- how many bytes an entry has
 unfoldable pub entry_length : EntryFields → ℕ
-entry_length e = 34 + pair_length e.pair + 17 * length e.triples
+entry_length e = SHORTEST_ENTRY_BYTES + pair_length e.pair + TRIPLE_BYTES * length e.triples
 
 -- how many bytes several entries have
 unfoldable pub entries_length : List EntryFields → ℕ

@@ -2,7 +2,7 @@
 use Rattle.std.specs.Prelude.{◌≡◌, ℕ, ◌-◌, ◌^◌, ◌<◌, Bool, true, List, ◌∷◌, ◌++◌, length, Option, Some, None, nat_lt, nat_le, ◌==◌, ◌&&◌, if◌then◌else◌}
 use Rattle.std.specs.Int.{w16, w64}
 use Rattle.std.specs.List.{flat_map, AllByRecursion}
-use Rattle.s4_types.specs.declared.limits.TheConstants.{JOURNAL_ENTRY_BYTES}
+use Rattle.s4_types.specs.declared.limits.TheConstants.{JOURNAL_ENTRY_BYTES, JOURNAL_ENTRIES}
 use Rattle.s4_types.specs.Pointer.{Place}
 use Rattle.codec.specs.Fields.{◌>>=◌, number, zeros, slot, kept, byte_at, number_at, zeros_at, mark_at, slot_at, many_at}
 use Rattle.codec.specs.Checkpoint.{IsSlot}
@@ -39,7 +39,7 @@ SpellsJournal block j = IsJournal j × (block ≡ journal_spelling j)
 
 -- so many entries, one behind the other: no more than a journal block can have
 unfoldable pub entries_at : ℕ → List ℕ → Option (List EntryFields × List ℕ)
-entries_at count bytes = if nat_lt 14 count then None else many_at entry_at count bytes
+entries_at count bytes = if nat_lt JOURNAL_ENTRIES count then None else many_at entry_at count bytes
 
 -- a journal block whose entries have the bytes that it tells, and that keeps the rules
 unfoldable pub told_journal : ℕ → JournalFields → Option JournalFields

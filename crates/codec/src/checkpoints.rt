@@ -9,9 +9,17 @@ use crate::fields::{
 use crate::inodes::Inode;
 use crate::pointers::{all_slots, put_slots, read_slots};
 use crate::writing::{Writing, bit_of, finished, put, put_byte, put_long, put_word, put_zeros};
-use s4_types::limits::{ATTRIBUTE_BYTES, BLOCK_BYTES, OBJECT_BYTES};
+use s4_types::limits::{
+    ATTRIBUTE_BYTES, BLOCK_BYTES, CHECKPOINT_HEAD_BYTES, CHECKPOINT_POINTERS, OBJECT_BYTES,
+    POINTER_BYTES,
+};
 use s4_types::{Moment, ObjectId, Ptr};
 use std::marker::Model;
+
+/// Bytes of a checkpoint block behind its pointers, which are zeros.
+pub(crate) const CHECKPOINT_ZEROS: usize = BLOCK_BYTES
+    - CHECKPOINT_HEAD_BYTES
+    - CHECKPOINT_POINTERS * POINTER_BYTES;
 
 /// An object's inode after all changes up to a moment, as a block of the log keeps it.
 ///
@@ -141,7 +149,7 @@ fn read_behind_moments(numbers: Numbers, bytes: &[u8]) -> Option<(Checkpoint, &[
     let Some((slots, rest)) = read_slots(rest) else {
         return None;
     };
-    let rest = read_zeros(24, rest)?;
+    let rest = read_zeros(CHECKPOINT_ZEROS, rest)?;
     let inode = Inode {
         alive: numbers.alive,
         size: numbers.size,
@@ -231,6 +239,6 @@ pub fn encode_checkpoint(checkpoint: &Checkpoint) -> [u8; BLOCK_BYTES]
     put(&mut out, attribute);
     put_zeros(&mut out, ATTRIBUTE_BYTES - attribute.len());
     put_slots(&mut out, &inode.pointers);
-    put_zeros(&mut out, 24);
+    put_zeros(&mut out, CHECKPOINT_ZEROS);
     finished(out)
 }

@@ -1,12 +1,14 @@
 ghost use Rattle.std.specs.Prelude.{◌≡◌, ℕ, ◌+◌, ◌*◌, ◌≤◌, ◌<◌, ◌++◌, IsTrue, Bool, true, false, List, [], length, Option, Some, None, IfSome, IfNone, IsSome, ◌&&◌, ◌||◌, not, nat_lt, nat_le};
 ghost use Rattle.std.specs.List.{flat_map, AllByRecursion};
-ghost use Rattle.s4_types.specs.declared.limits.TheConstants.{OBJECT_BLOCKS};
+ghost use Rattle.s4_types.specs.declared.limits.TheConstants.{OBJECT_BLOCKS, ENTRY_TRIPLES, ATTRIBUTE_PAIR_BYTES, SHORTEST_ENTRY_BYTES, LONGEST_ENTRY_BYTES};
 ghost use Rattle.codec.specs.Fields.{Reads, slot, bit};
 ghost use Rattle.codec.specs.Entry.{EntryFields, same_slot, ascend_from, was_nothing, changes_now, differs, entry_rules, checked_entry, pair_length, entry_length};
 
 use crate::attributes::Attribute;
 use arrayvec::ArrayVec;
-use s4_types::limits::{ENTRY_TRIPLES, OBJECT_BLOCKS, OBJECT_BYTES};
+use s4_types::limits::{
+    ENTRY_TRIPLES, OBJECT_BLOCKS, OBJECT_BYTES, SHORTEST_ENTRY_BYTES, TRIPLE_BYTES,
+};
 use s4_types::{Moment, Ptr};
 use std::marker::Model;
 
@@ -19,10 +21,13 @@ pub struct Status {
     pub changed: Moment,
 }
 
+/// The index of a pointer among those of an inode.
+pub type PointerIndex = u8;
+
 /// A pointer that changed: its index, what stood there and what stands there.
 #[derive(Clone, Copy, Default, PartialEq, Eq)]
 pub struct Triple {
-    pub index: u8,
+    pub index: PointerIndex,
     pub before: Option<Ptr>,
     pub after: Option<Ptr>,
 }
@@ -118,7 +123,7 @@ fn is_same_slot(one: Option<Ptr>, other: Option<Ptr>) -> bool
 }
 
 /// Whether a triple may stand where indices begin at `low`.
-fn may_stand(low: u8, triple: Triple) -> bool
+fn may_stand(low: PointerIndex, triple: Triple) -> bool
     ensures exact { result ≡ (nat_le low triple.index && (nat_lt triple.index OBJECT_BLOCKS && not (same_slot triple.before triple.after))) }
     ensures room { IsTrue result → triple.index < OBJECT_BLOCKS }
 {
@@ -158,7 +163,7 @@ fn differ(pair: &Option<Pair>) -> bool
 #[tactic(auto, unfolding(crate::specs::Entry::pair_length))]
 fn pair_bytes(pair: Option<Pair>) -> usize
     ensures exact { result ≡ pair_length pair }
-    ensures most { result ≤ 130 }
+    ensures most { result ≤ ATTRIBUTE_PAIR_BYTES }
 {
     match pair {
         None => 0,
@@ -253,7 +258,7 @@ impl Entry {
 
     pub fn triples(&self) -> &[Triple]
         ensures triples { result.now ≡ self.now.triples }
-        ensures count { length self.now.triples ≤ 16 }
+        ensures count { length self.now.triples ≤ ENTRY_TRIPLES }
         ensures rules { entry_rules self.now ≡ true }
     {
         self.triples.as_slice()
@@ -263,9 +268,9 @@ impl Entry {
     #[tactic(auto, unfolding(crate::specs::Entry::entry_length))]
     pub fn byte_count(&self) -> usize
         ensures exact { result ≡ entry_length self.now }
-        ensures least { 34 ≤ result }
-        ensures most { result ≤ 436 }
+        ensures least { SHORTEST_ENTRY_BYTES ≤ result }
+        ensures most { result ≤ LONGEST_ENTRY_BYTES }
     {
-        34 + pair_bytes(self.pair) + 17 * self.triples.len()
+        SHORTEST_ENTRY_BYTES + pair_bytes(self.pair) + TRIPLE_BYTES * self.triples.len()
     }
 }

@@ -11,11 +11,10 @@ use crate::entry_reading::read_entry;
 use crate::fields::read_slot;
 use arrayvec::ArrayVec;
 use s4_types::Ptr;
-use s4_types::limits::{BLOCK_BYTES, JOURNAL_ENTRIES, JOURNAL_ENTRY_BYTES, SHORTEST_ENTRY_BYTES};
+use s4_types::limits::{
+    BLOCK_BYTES, JOURNAL_ENTRIES, JOURNAL_HEAD_BYTES, SHORTEST_ENTRY_BYTES, TRIPLE_BYTES,
+};
 use std::marker::Model;
-
-// Of a pointer that changed, in an entry.
-const TRIPLE_BYTES: usize = 17;
 
 // Where entries begin in a block, in the order of their bytes.
 type Starts = ArrayVec<u16, JOURNAL_ENTRIES>;
@@ -30,8 +29,8 @@ fn front_bytes(bytes: &[u8]) -> usize
     if bytes[8] < 4 {
         return fixed;
     }
-    let before = bytes[34] as usize;
-    let after = bytes[35 + before] as usize;
+    let before = bytes[SHORTEST_ENTRY_BYTES] as usize;
+    let after = bytes[SHORTEST_ENTRY_BYTES + 1 + before] as usize;
     fixed + (1 + before) + (1 + after)
 }
 
@@ -52,7 +51,7 @@ fn starts_of(block: &[u8]) -> Starts
     ensures some { 1 ≤ length result.items }
 {
     let mut starts = Starts::new();
-    let mut at = BLOCK_BYTES - JOURNAL_ENTRY_BYTES;
+    let mut at = JOURNAL_HEAD_BYTES;
     let count = block[1];
     for _ in 0..count {
         starts.push(at as u16);

@@ -1,5 +1,6 @@
 ghost use Rattle.std.specs.Prelude.{◌≡◌, ℕ, ◌+◌, ◌*◌, ◌≤◌, ◌++◌, ◌∷◌, List, length, Option, Some, IfSome};
 ghost use Rattle.std.specs.List.{flat_map, AllByRecursion};
+ghost use Rattle.s4_types.specs.declared.limits.TheConstants.{TRIPLE_BYTES};
 ghost use Rattle.codec.specs.Fields.{Reads};
 ghost use Rattle.codec.specs.Entry.{EntryFields, IsEntry, IsTriple, IsPair, entry_at, flags_byte, text, pair_spelling, triple_spelling, entry_spelling, entry_length, pair_length, BeginsWithEntry};
 
@@ -43,9 +44,9 @@ fn put_pair(out: &mut Writing, pair: Option<Pair>)
 
 #[tactic(auto, unfolding(crate::specs::Entry::triple_spelling))]
 fn put_triple(out: &mut Writing, triple: Triple)
-    requires { length out.old.items + 17 ≤ 512 }
+    requires { length out.old.items + TRIPLE_BYTES ≤ 512 }
     ensures items { out.new.items ≡ out.old.items ++ triple_spelling triple }
-    ensures len { length out.new.items ≡ length out.old.items + 17 }
+    ensures len { length out.new.items ≡ length out.old.items + TRIPLE_BYTES }
     ensures range { IsTriple triple }
 {
     put_byte(out, triple.index);
@@ -54,9 +55,9 @@ fn put_triple(out: &mut Writing, triple: Triple)
 }
 
 fn put_triples(out: &mut Writing, triples: &[Triple])
-    requires { length out.old.items + 17 * length triples.now ≤ 512 }
+    requires { length out.old.items + TRIPLE_BYTES * length triples.now ≤ 512 }
     ensures items { out.new.items ≡ out.old.items ++ flat_map triple_spelling triples.now }
-    ensures len { length out.new.items ≡ length out.old.items + 17 * length triples.now }
+    ensures len { length out.new.items ≡ length out.old.items + TRIPLE_BYTES * length triples.now }
     ensures range { AllByRecursion IsTriple triples.now }
 {
     for triple in triples {

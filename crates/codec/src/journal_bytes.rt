@@ -12,13 +12,10 @@ use crate::fields::read_long;
 use crate::journal_writing::encode_entries;
 use crate::writing::Writing;
 use byteorder::{BigEndian, ByteOrder};
-use s4_types::limits::{BLOCK_BYTES, JOURNAL_ENTRY_BYTES};
+use s4_types::limits::{BLOCK_BYTES, JOURNAL_ENTRY_BYTES, JOURNAL_HEAD_BYTES};
 use s4_types::{ObjectId, Ptr};
 use std::marker::Model;
 use std::slice;
-
-// The head: a mark, two counts, the object and the place of its previous block.
-const HEAD_BYTES: usize = 24;
 
 /// A journal block as its 512 bytes, to which entries are added with no decoding of the others.
 ///
@@ -85,7 +82,7 @@ fn patch(block: &mut [u8; BLOCK_BYTES], entry: &Entry)
     let told = told_in(block);
     let count = count_in(block) + 1;
     let [high, low] = ((told + bytes.len()) as u16).to_be_bytes();
-    put_at(block, HEAD_BYTES + told, bytes);
+    put_at(block, JOURNAL_HEAD_BYTES + told, bytes);
     put_at(block, 1, &[count, high, low]);
 }
 

@@ -1,6 +1,7 @@
 //! Laws of journal blocks, for the layers above: each function does nothing, and its contract is the law.
 
 ghost use Rattle.std.specs.Prelude.{◌≡◌, ℕ, ◌+◌, ◌≤◌, ◌++◌, true, List, length, Some};
+ghost use Rattle.s4_types.specs.declared.limits.TheConstants.{JOURNAL_ENTRIES};
 ghost use Rattle.codec.specs.Fields.{all_of};
 ghost use Rattle.codec.specs.Entry.{EntryFields, entries_length};
 ghost use Rattle.codec.specs.Journal.{JournalFields, SpellsJournal, journal_at, journal_rules, journal_spelling};
@@ -22,7 +23,7 @@ pub fn entry_bytes_add_up()
 
 /// A journal block has 1 to 14 entries.
 pub fn a_journal_has_few_entries()
-    ensures { (j : JournalFields) → journal_rules j ≡ true → (1 ≤ length j.entries) × (length j.entries ≤ 14) }
+    ensures { (j : JournalFields) → journal_rules j ≡ true → (1 ≤ length j.entries) × (length j.entries ≤ JOURNAL_ENTRIES) }
 {}
 
 /// The spelling of a journal block is a block of 512 bytes.

@@ -1,4 +1,5 @@
-ghost use Rattle.std.specs.Prelude.{◌≡◌, ℕ, ◌≤◌, true, length, Option};
+ghost use Rattle.std.specs.Prelude.{◌≡◌, ℕ, ◌≤◌, ◌*◌, true, length, Option};
+ghost use Rattle.s4_types.specs.declared.limits.TheConstants.{JOURNAL_ENTRIES, LONGEST_ENTRY_BYTES};
 ghost use Rattle.codec.specs.Fields.{Reads, kept};
 ghost use Rattle.codec.specs.Entry.{EntryFields, entries_length};
 ghost use Rattle.codec.specs.Journal.{JournalFields, journal_rules};
@@ -36,9 +37,9 @@ impl Model for JournalBlock {
 /// How many bytes the spellings of these entries have together.
 #[tactic(auto, using(crate::proofs::JournalEntries::entries_next, crate::proofs::JournalEntries::entries_none))]
 pub(crate) fn byte_sum(entries: &[Entry]) -> usize
-    requires { length entries.now ≤ 14 }
+    requires { length entries.now ≤ JOURNAL_ENTRIES }
     ensures exact { result ≡ entries_length entries.now }
-    ensures most { result ≤ 6104 }
+    ensures most { result ≤ JOURNAL_ENTRIES * LONGEST_ENTRY_BYTES }
 {
     let mut bytes = 0;
     for entry in entries {
@@ -82,7 +83,7 @@ impl JournalBlock {
 
     pub fn entries(&self) -> &[Entry]
         ensures entries { result.now ≡ self.now.entries }
-        ensures count { length self.now.entries ≤ 14 }
+        ensures count { length self.now.entries ≤ JOURNAL_ENTRIES }
         ensures rules { journal_rules self.now ≡ true }
     {
         self.entries.as_slice()

@@ -1,7 +1,7 @@
 //! Laws of the spellings, for the layers above: each function does nothing, and its contract is the law.
 
 ghost use Rattle.std.specs.Prelude.{◌≡◌, ◌↔◌, ℕ, ◌≤◌, ◌++◌, true, List, length, Option, Some};
-ghost use Rattle.s4_types.specs.declared.limits.TheConstants.{JOURNAL_ENTRY_BYTES};
+ghost use Rattle.s4_types.specs.declared.limits.TheConstants.{JOURNAL_ENTRY_BYTES, JOURNAL_ENTRIES, SHORTEST_ENTRY_BYTES, LONGEST_ENTRY_BYTES};
 ghost use Rattle.s4_types.specs.Pointer.{Place};
 ghost use Rattle.codec.specs.Fields.{SpellsSlot, all_of};
 ghost use Rattle.codec.specs.Checkpoint.{CheckpointFields, SpellsCheckpoint, checkpoint_at};
@@ -32,13 +32,13 @@ pub fn one_entry_a_spelling()
 /// The length of an entry is that of its spelling, at least 34 and at most 436 bytes.
 pub fn entry_is_so_long()
     ensures exact { (e : EntryFields) → length (entry_spelling e) ≡ entry_length e }
-    ensures least { (e : EntryFields) → 34 ≤ entry_length e }
-    ensures most { (e : EntryFields) → IsEntry e → entry_length e ≤ 436 }
+    ensures least { (e : EntryFields) → SHORTEST_ENTRY_BYTES ≤ entry_length e }
+    ensures most { (e : EntryFields) → IsEntry e → entry_length e ≤ LONGEST_ENTRY_BYTES }
 {}
 
 /// At most 14 entries fit the 488 bytes of a journal block.
 pub fn fourteen_entries_fit()
-    ensures { (entries : List EntryFields) → entries_length entries ≤ JOURNAL_ENTRY_BYTES → length entries ≤ 14 }
+    ensures { (entries : List EntryFields) → entries_length entries ≤ JOURNAL_ENTRY_BYTES → length entries ≤ JOURNAL_ENTRIES }
 {}
 
 /// The rules of a summary are these: its generation is 1 to 2^32 - 2, one to 15 blocks are used, and each has an object.

@@ -31,7 +31,7 @@ mod writing;
 
 pub use attributes::Attribute;
 pub use checkpoints::{Checkpoint, decode_checkpoint, encode_checkpoint};
-pub use entries::{Entry, Pair, Status, Triple, Triples};
+pub use entries::{Entry, Pair, PointerIndex, Status, Triple, Triples};
 pub use entry_reader::EntryReader;
 pub use entry_writing::{decode_entry, encode_entry};
 pub use inodes::Inode;

@@ -1,7 +1,7 @@
 ghost use Rattle.std.specs.Prelude.{◌≡◌, ℕ, ◌+◌, ◌*◌, ◌≤◌, ◌++◌, [], ◌∷◌, List, length, Option, IfSome};
 ghost use Rattle.s4_types.specs.Pointer.{Place, IsPlace};
 ghost use Rattle.std.specs.List.{flat_map, AllByRecursion};
-ghost use Rattle.s4_types.specs.declared.limits.TheConstants.{OBJECT_BLOCKS};
+ghost use Rattle.s4_types.specs.declared.limits.TheConstants.{OBJECT_BLOCKS, POINTER_BYTES};
 ghost use Rattle.codec.specs.Checkpoint.{IsSlot};
 ghost use Rattle.codec.specs.Fields.{Reads, all_of, many_at, slot_at, slot, SpellsSlot};
 
@@ -9,13 +9,13 @@ use crate::fields::read_slot;
 use crate::writing::{Writing, put};
 use arrayvec::ArrayVec;
 use s4_types::Ptr;
-use s4_types::limits::OBJECT_BLOCKS;
+use s4_types::limits::{OBJECT_BLOCKS, POINTER_BYTES};
 
 /// Pointers of an inode, read one after the other.
 pub(crate) type Slots = ArrayVec<Option<Ptr>, OBJECT_BLOCKS>;
 
 #[tactic(auto, unfolding(crate::specs::Fields::slot, crate::specs::Fields::number))]
-fn place_bytes(ptr: Ptr) -> [u8; 8]
+fn place_bytes(ptr: Ptr) -> [u8; POINTER_BYTES]
     ensures { SpellsSlot result (Some ptr) }
 {
     let [frame_high, frame_low] = ptr.frame().to_be_bytes();
@@ -34,11 +34,11 @@ fn place_bytes(ptr: Ptr) -> [u8; 8]
 
 /// The spelling of a pointer, or of a hole where there is none.
 #[tactic(auto, unfolding(crate::specs::Fields::slot, crate::specs::Fields::zeros))]
-pub fn encode_ptr(ptr: Option<Ptr>) -> [u8; 8]
+pub fn encode_ptr(ptr: Option<Ptr>) -> [u8; POINTER_BYTES]
     ensures { SpellsSlot result ptr }
 {
     match ptr {
-        None => [0; 8],
+        None => [0; POINTER_BYTES],
         Some(ptr) => place_bytes(ptr),
     }
 }
@@ -56,7 +56,7 @@ fn slot_in(bytes: &[u8]) -> Option<Option<Ptr>>
 }
 
 /// The pointer, or the hole, whose spelling the bytes are. None where they are the spelling of neither.
-pub fn decode_ptr(bytes: &[u8; 8]) -> Option<Option<Ptr>>
+pub fn decode_ptr(bytes: &[u8; POINTER_BYTES]) -> Option<Option<Ptr>>
     ensures found { IfSome result (λ ptr. SpellsSlot bytes.now ptr) }
     ensures only { (ptr : Option Place) → SpellsSlot bytes.now ptr → result ≡ Some ptr }
 {
@@ -64,9 +64,9 @@ pub fn decode_ptr(bytes: &[u8; 8]) -> Option<Option<Ptr>>
 }
 
 pub(crate) fn put_slot(out: &mut Writing, ptr: Option<Ptr>)
-    requires { length out.old.items + 8 ≤ 512 }
+    requires { length out.old.items + POINTER_BYTES ≤ 512 }
     ensures items { out.new.items ≡ out.old.items ++ slot ptr }
-    ensures len { length out.new.items ≡ length out.old.items + 8 }
+    ensures len { length out.new.items ≡ length out.old.items + POINTER_BYTES }
     ensures range { IfSome ptr IsPlace }
 {
     put(out, &encode_ptr(ptr));
@@ -101,9 +101,9 @@ pub(crate) fn all_slots(slots: Slots) -> [Option<Ptr>; OBJECT_BLOCKS]
 }
 
 pub(crate) fn put_slots(out: &mut Writing, slots: &[Option<Ptr>; OBJECT_BLOCKS])
-    requires { length out.old.items + 384 ≤ 512 }
+    requires { length out.old.items + OBJECT_BLOCKS * POINTER_BYTES ≤ 512 }
     ensures items { out.new.items ≡ out.old.items ++ flat_map slot slots.now }
-    ensures len { length out.new.items ≡ length out.old.items + 384 }
+    ensures len { length out.new.items ≡ length out.old.items + OBJECT_BLOCKS * POINTER_BYTES }
     ensures count { length slots.now ≡ OBJECT_BLOCKS }
     ensures range { AllByRecursion IsSlot slots.now }
 {

@@ -5,9 +5,9 @@ ghost use Rattle.codec.specs.Entry.{EntryFields};
 ghost use Rattle.std.specs.List.{list_all};
 ghost use Rattle.undo_redo.specs.Groups.{above, continues, grouped, grouped_behind};
 
-use codec::{Entry, Triple};
+use codec::{Entry, PointerIndex, Triple};
 use s4_types::Moment;
-use undo_redo::CHANGE_ENTRIES;
+use s4_types::limits::CHANGE_ENTRIES;
 
 /// Whether each entry is of a moment from a first one to a last one.
 pub(crate) fn lie_from_to(entries: &[Entry], first: Moment, last: Moment) -> bool
@@ -19,7 +19,7 @@ pub(crate) fn lie_from_to(entries: &[Entry], first: Moment, last: Moment) -> boo
 }
 
 /// Whether an index is above that of each triple.
-fn is_above(lower: &[Triple], index: u8) -> bool
+fn is_above(lower: &[Triple], index: PointerIndex) -> bool
     ensures { result ≡ list_all (λ u. nat_lt u.index index) lower.now }
 {
     lower.iter().all(|triple| triple.index < index)

@@ -5,6 +5,7 @@ use Rattle.std.proofs.lemmas.List.{length-replicate, get_or-replicate, get_or_pa
 use Rattle.s4_types.specs.Pointer.{Place}
 use Rattle.s4_types.specs.declared.versions.Version.TheVariants.{Absent, Live}
 use Rattle.s4_types.specs.declared.changes.Change.TheVariants.{SetAttr}
+use Rattle.s4_types.specs.declared.limits.TheConstants.{OBJECT_BLOCKS}
 use Rattle.s4_model.specs.Effect.{effect}
 use Rattle.codec.specs.Checkpoint.{pointer_at, holes}
 use Rattle.codec.specs.declared.inodes.Inode.{Inode}
@@ -30,13 +31,13 @@ pub byte_of-hole : (contents : Place → List ℕ) (i : Inode) (n : ℕ) → poi
 unfolding byte_of
 byte_of-hole contents i n e = ap (λ s. byte_in contents s (n % 512)) e
 
-pub tidy_empty : (contents : Place → List ℕ) (i : Inode) → i.pointers ≡ holes 48 → i.size ≡ 0 → Tidy contents i
+pub tidy_empty : (contents : Place → List ℕ) (i : Inode) → i.pointers ≡ holes OBJECT_BLOCKS → i.size ≡ 0 → Tidy contents i
 unfolding holes
 tidy_empty contents i none size = record {
-  count = ap length none ∙ length-replicate {A = Option Place} 48 None;
+  count = ap length none ∙ length-replicate {A = Option Place} OBJECT_BLOCKS None;
   size = omega arith;
-  holes = λ k le. hole_at i.pointers 48 k none;
-  zeros = λ n le. byte_of-hole contents i n (hole_at i.pointers 48 (n / 512) none);
+  holes = λ k le. hole_at i.pointers OBJECT_BLOCKS k none;
+  zeros = λ n le. byte_of-hole contents i n (hole_at i.pointers OBJECT_BLOCKS (n / 512) none);
 }
 
 pub tidy_as_before : (contents : Place → List ℕ) (i : Inode) (alive : Bool) (created changed : ℕ) (attribute : List ℕ) → Tidy contents i

@@ -6,6 +6,7 @@ use Rattle.std.proofs.lemmas.Option.{none-some}
 use Rattle.s4_types.specs.Pointer.{Place}
 use Rattle.s4_types.specs.declared.changes.Change.TheVariants.{Truncate}
 use Rattle.s4_types.specs.declared.versions.Version.TheVariants.{Absent, Live}
+use Rattle.s4_types.specs.declared.limits.TheConstants.{OBJECT_BYTES, OBJECT_BLOCKS}
 use Rattle.s4_model.specs.Effect.{effect, resized}
 use Rattle.block_log.specs.Log.{Log}
 use Rattle.codec.specs.Checkpoint.{pointer_at}
@@ -143,7 +144,7 @@ truncate_means object moment size i j before after grows inode tidy leads =
     inode.attribute inode.created inode.changed
 
 pub truncate_tidy : (object moment size : ℕ) (i j : Inode) (before after : Log) → GrowsBy object (blocks_cut (contents_of before.held) i size) before after → Truncated before.ahead moment size i j
-    → Tidy (contents_of before.held) i → PointersLead before.held i → size ≤ 24576 → length j.pointers ≡ 48 → Tidy (contents_of after.held) j
+    → Tidy (contents_of before.held) i → PointersLead before.held i → size ≤ OBJECT_BYTES → length j.pointers ≡ OBJECT_BLOCKS → Tidy (contents_of after.held) j
 truncate_tidy object moment size i j before after grows inode tidy leads le count =
     let is_size : j.size ≡ size = inode.size in
     record {
@@ -220,7 +221,7 @@ other_pointer ahead i size k ne =
       | inr past ↦ cond-true (nat_le size (512 * k)) None (pointer_at i k) (le-leb size (512 * k) past) ∙ sym (pointer_past ahead i size k past)
     ]
 
-cut_length : (size count : ℕ) → 512 * (size / 512) < size → size ≤ 24576 → count ≡ 48 → size / 512 < count
+cut_length : (size count : ℕ) → 512 * (size / 512) < size → size ≤ OBJECT_BYTES → count ≡ OBJECT_BLOCKS → size / 512 < count
 cut_length size count low le e = omega arith
 
 cut_pointer : (ahead : List Place) (i : Inode) (size : ℕ) (pointers : List (Option Place)) (p : Place) (k : ℕ) → size / 512 < length pointers → ((k : ℕ) → get_or pointers k None ≡ cond (nat_le size (512 * k)) None (pointer_at i k))
@@ -249,7 +250,7 @@ whole_truncated ahead moment size i next rest pointers none = record {
 }
 
 -- and with the block that is cut
-pub cut_truncated : (ahead : List Place) (moment size : ℕ) (i next : Inode) (p : Place) → next ≡ record i { pointers = next.pointers } → length next.pointers ≡ 48 → size ≤ 24576 → ((k : ℕ) → pointer_at next k ≡ cond (nat_le size (512 * k)) None (pointer_at i k))
+pub cut_truncated : (ahead : List Place) (moment size : ℕ) (i next : Inode) (p : Place) → next ≡ record i { pointers = next.pointers } → length next.pointers ≡ OBJECT_BLOCKS → size ≤ OBJECT_BYTES → ((k : ℕ) → pointer_at next k ≡ cond (nat_le size (512 * k)) None (pointer_at i k))
     → (cut_count i size ≡ 0 → ⊥) → slice_get ahead 0 ≡ Some p → Truncated ahead moment size i (record next { size = size; changed = moment; pointers = set next.pointers (size / 512) (Some p) })
 cut_truncated ahead moment size i next p rest count le pointers some at = record {
   alive = ap alive_of rest;

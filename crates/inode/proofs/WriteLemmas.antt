@@ -4,6 +4,7 @@ use Rattle.std.proofs.lemmas.Bool.{cases_lt, cases_Bool, cond-true, cond-false, 
 use Rattle.s4_types.specs.Pointer.{Place}
 use Rattle.s4_types.specs.declared.changes.Change.TheVariants.{Write}
 use Rattle.s4_types.specs.declared.versions.Version.TheVariants.{Absent, Live}
+use Rattle.s4_types.specs.declared.limits.TheConstants.{OBJECT_BYTES, OBJECT_BLOCKS}
 use Rattle.s4_model.specs.Effect.{effect, written}
 use Rattle.block_log.specs.Log.{Log}
 use Rattle.codec.specs.Checkpoint.{pointer_at}
@@ -115,7 +116,7 @@ written_larger size offset len new e =
       | inr none ↦ let is = size_written-none size offset len (omega arith) in omega arith
     ]
 
-written_within : (size offset len new : ℕ) → new ≡ size_written size offset len → size ≤ 24576 → offset + len ≤ 24576 → new ≤ 24576
+written_within : (size offset len new : ℕ) → new ≡ size_written size offset len → size ≤ OBJECT_BYTES → offset + len ≤ OBJECT_BYTES → new ≤ OBJECT_BYTES
 written_within size offset len new e le end =
     elim (cases_lt 0 len) [
       | inl some ↦ let is = size_written-some size offset len some in omega arith
@@ -148,7 +149,7 @@ written_zeros contents i offset bytes n new e tidy le =
     ]
 
 pub write_tidy : (object moment offset : ℕ) (bytes : List ℕ) (i j : Inode) (before after : Log) → GrowsBy object (blocks_written (contents_of before.held) i offset bytes) before after
-    → Written before.ahead moment offset (length bytes) i j → Tidy (contents_of before.held) i → PointersLead before.held i → offset + length bytes ≤ 24576 → length j.pointers ≡ 48
+    → Written before.ahead moment offset (length bytes) i j → Tidy (contents_of before.held) i → PointersLead before.held i → offset + length bytes ≤ OBJECT_BYTES → length j.pointers ≡ OBJECT_BLOCKS
     → Tidy (contents_of after.held) j
 write_tidy object moment offset bytes i j before after grows inode tidy leads end count =
     let larger : i.size ≤ j.size = written_larger i.size offset (length bytes) j.size inode.size in

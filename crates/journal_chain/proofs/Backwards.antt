@@ -1,5 +1,5 @@
 -- Reading blocks back, one after another.
-use Rattle.std.proofs.Common.{◌≡◌, ℕ, zero, suc, ◌≤◌, List, [], ◌∷◌, ◌++◌, length, Option, Some, None, IsSome, is_some, unwrap_or, refl, sym, ap, ◌∙◌, subst, arith, append-nil}
+use Rattle.std.proofs.Common.{◌≡◌, ℕ, ◌-◌, zero, suc, ◌≤◌, List, [], ◌∷◌, ◌++◌, length, Option, Some, None, IsSome, is_some, unwrap_or, refl, sym, ap, ◌∙◌, subst, arith, append-nil}
 use Rattle.std.proofs.lemmas.List.{length-map}
 use Rattle.std.proofs.lemmas.Option.{none-some, same_Some}
 use Rattle.s4_types.specs.Pointer.{Place}
@@ -76,11 +76,11 @@ reader_begins held o head there =
 
 -- ---- a reader goes on to the block before
 
-back_step : (held : Place → Option Stored) (p : Place) (links : List Link) → links_back held (Some p) ≡ Some links → Step (λ q. spelled_journal (held q)) 46 p links
+back_step : (held : Place → Option Stored) (p : Place) (links : List Link) → links_back held (Some p) ≡ Some links → Step (λ q. spelled_journal (held q)) (CHAIN_BLOCKS - 1) p links
 unfolding links_back
-back_step held p links h = step 46 (λ q. spelled_journal (held q)) p links h
+back_step held p links h = step (CHAIN_BLOCKS - 1) (λ q. spelled_journal (held q)) p links h
 
-back_behind : (held : Place → Option Stored) (p : Place) (links : List Link) (s : Step (λ q. spelled_journal (held q)) 46 p links) → links_back held s.block.previous ≡ Some s.older
+back_behind : (held : Place → Option Stored) (p : Place) (links : List Link) (s : Step (λ q. spelled_journal (held q)) (CHAIN_BLOCKS - 1) p links) → links_back held s.block.previous ≡ Some s.older
 unfolding links_back
 back_behind held p links s = s.behind
 
@@ -93,7 +93,7 @@ links_there held back there =
 pub turn_reads : (held : Place → Option Stored) (back : BackFields) (p : Place) → IsSome (entries_left held back) → back.previous ≡ Some p → IsSome (spelled_journal (held p))
 turn_reads held back p there is =
     let (links, walk) = links_there held back there in
-    let s : Step (λ q. spelled_journal (held q)) 46 p links = back_step held p links (ap (links_back held) (sym is) ∙ walk) in
+    let s : Step (λ q. spelled_journal (held q)) (CHAIN_BLOCKS - 1) p links = back_step held p links (ap (links_back held) (sym is) ∙ walk) in
     ap is_some s.here
 
 pub turned : (held : Place → Option Stored) (back after : BackFields) (p : Place) (block : JournalFields) → IsSome (entries_left held back) → back.previous ≡ Some p → back.entries ≡ []
@@ -102,7 +102,7 @@ pub turned : (held : Place → Option Stored) (back after : BackFields) (p : Pla
 unfolding joined
 turned held back after p block there is none reads previous entries =
     let (links, walk) = links_there held back there in
-    let s : Step (λ q. spelled_journal (held q)) 46 p links = back_step held p links (ap (links_back held) (sym is) ∙ walk) in
+    let s : Step (λ q. spelled_journal (held q)) (CHAIN_BLOCKS - 1) p links = back_step held p links (ap (links_back held) (sym is) ∙ walk) in
     let same : s.block ≡ block = same_Some s.block block (sym s.here ∙ reads) in
     let behind : links_back held after.previous ≡ Some s.older = ap (links_back held) (previous ∙ sym (ap (λ (j : JournalFields). j.previous) same)) ∙ back_behind held p links s in
     bind_is (links_back held after.previous) (λ links. Some (joined (blocks_of links) ++ after.entries)) s.older behind
@@ -125,7 +125,7 @@ pub record PlaceStep (held : Place → Option Stored) (p : Place) (block : Journ
 pub place_step : (held : Place → Option Stored) (p : Place) (block : JournalFields) → IsSome (links_back held (Some p)) → spelled_journal (held p) ≡ Some block → PlaceStep held p block
 place_step held p block there reads =
     let (links, walk) = some_is (links_back held (Some p)) there in
-    let s : Step (λ q. spelled_journal (held q)) 46 p links = back_step held p links walk in
+    let s : Step (λ q. spelled_journal (held q)) (CHAIN_BLOCKS - 1) p links = back_step held p links walk in
     let same : s.block ≡ block = same_Some s.block block (sym s.here ∙ reads) in
     let behind : links_back held block.previous ≡ Some s.older = ap (λ (j : JournalFields). links_back held j.previous) (sym same) ∙ back_behind held p links s in
     record {
@@ -181,7 +181,7 @@ next_block log later from after p block is there reads same behind =
 pub some_places : (held : Place → Option Stored) (from : Option Place) (p : Place) → from ≡ Some p → IsSome (links_back held from) → 1 ≤ length (places_back held from)
 some_places held from p is there =
     let (links, walk) = some_is (links_back held (Some p)) (subst (λ f. IsSome (links_back held f)) is there) in
-    let s : Step (λ q. spelled_journal (held q)) 46 p links = back_step held p links walk in
+    let s : Step (λ q. spelled_journal (held q)) (CHAIN_BLOCKS - 1) p links = back_step held p links walk in
     let e : length (places_back held from) ≡ length (places_of (linked p s.block s.older)) =
     ap (λ f. length (places_back held f)) is ∙ ap (λ o. length (places_of (unwrap_or o []))) walk ∙ ap (λ l. length (places_of l)) (sym s.made) in
     omega (arith, e)

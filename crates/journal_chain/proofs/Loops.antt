@@ -3,6 +3,7 @@ use Rattle.std.proofs.Common.{◌≡◌, ℕ, ◌+◌, ◌-◌, ◌≤◌, ◌<�
 use Rattle.std.proofs.lemmas.List.{drop_more, drop_all}
 use Rattle.std.proofs.lemmas.Grind.{take_at_read}
 use Rattle.s4_types.specs.Pointer.{Place}
+use Rattle.s4_types.specs.declared.limits.TheConstants.{JOURNAL_ENTRY_BYTES, LONGEST_ENTRY_BYTES}
 use Rattle.block_log.specs.Log.{Log}
 use Rattle.block_log.specs.Taken.{TakesPlaces}
 use Rattle.codec.specs.Entry.{EntryFields, entry_length, entries_length}
@@ -21,11 +22,11 @@ next_left xs i e lt is = drop_more xs i e lt ∙ ap (λ x. x ∷ drop (i + 1) xs
 pub bytes_more : (xs : List EntryFields) (i : ℕ) (e : EntryFields) → i < length xs → e ≡ get_or xs i e → entries_length (take (i + 1) xs) ≡ entries_length (take i xs) + entry_length e
 bytes_more xs i e lt is = ap entries_length (next_taken xs i e lt is) ∙ entries_length-last (take i xs) e
 
-all_fit-last : (xs : List EntryFields) (e : EntryFields) → AllFit xs → entry_length e ≤ 488 → AllFit (xs ++ e ∷ [])
+all_fit-last : (xs : List EntryFields) (e : EntryFields) → AllFit xs → entry_length e ≤ JOURNAL_ENTRY_BYTES → AllFit (xs ++ e ∷ [])
 all_fit-last [] e a h = (h, tt)
 all_fit-last (x ∷ xs) e a h = (a.0, all_fit-last xs e a.1 h)
 
-pub fit_more : (xs : List EntryFields) (i : ℕ) (e : EntryFields) → i < length xs → e ≡ get_or xs i e → AllFit (take i xs) → entry_length e ≤ 436 → AllFit (take (i + 1) xs)
+pub fit_more : (xs : List EntryFields) (i : ℕ) (e : EntryFields) → i < length xs → e ≡ get_or xs i e → AllFit (take i xs) → entry_length e ≤ LONGEST_ENTRY_BYTES → AllFit (take (i + 1) xs)
 fit_more xs i e lt is a h = subst AllFit (sym (next_taken xs i e lt is)) (all_fit-last (take i xs) e a (omega arith))
 
 pub all_fit-append : (xs ys : List EntryFields) → AllFit xs → AllFit ys → AllFit (xs ++ ys)

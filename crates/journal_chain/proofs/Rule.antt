@@ -4,7 +4,7 @@ use Rattle.std.specs.List.{AllByRecursion}
 use Rattle.std.proofs.lemmas.Bool.{cases_Bool, leb-true, leb-false, le-leb, lt-leb}
 use Rattle.std.proofs.lemmas.List.Sums.{fold-append}
 use Rattle.std.proofs.lemmas.Grind.{common_steps}
-use Rattle.s4_types.specs.declared.limits.TheConstants.{JOURNAL_ENTRY_BYTES, CHAIN_ENTRY_BYTES, CHAIN_BLOCKS}
+use Rattle.s4_types.specs.declared.limits.TheConstants.{JOURNAL_ENTRY_BYTES, CHAIN_ENTRY_BYTES, CHAIN_BLOCKS, SHORTEST_ENTRY_BYTES, LONGEST_ENTRY_BYTES}
 use Rattle.codec.specs.Entry.{EntryFields, IsEntry, entry_length, entries_length}
 use Rattle.journal_chain.specs.Sizes.{fits}
 use Rattle.journal_chain.specs.Packing.{packed_with, added, packed, joined, first_length, IsBlock, IsBehind, KeepsTheRule, AllFit}
@@ -84,7 +84,7 @@ first_part (e ∷ entries) = omega arith
 pub neighbours : (newer previous : List EntryFields) (older : List (List EntryFields)) → KeepsTheRule (newer ∷ previous ∷ older) → JOURNAL_ENTRY_BYTES < entries_length newer + entries_length previous
 neighbours newer previous older h = let behind = h.1 in omega (arith, first_part newer)
 
-by_pairs : (blocks : List (List EntryFields)) → KeepsTheRule blocks → 489 * (length blocks / 2) ≤ entries_length (joined blocks)
+by_pairs : (blocks : List (List EntryFields)) → KeepsTheRule blocks → (JOURNAL_ENTRY_BYTES + 1) * (length blocks / 2) ≤ entries_length (joined blocks)
 unfolding joined
 by_pairs [] h = omega arith
 by_pairs (block ∷ []) h = omega arith
@@ -97,11 +97,11 @@ pub few_blocks : (blocks : List (List EntryFields)) → KeepsTheRule blocks → 
 few_blocks blocks h le = let pairs = by_pairs blocks h in omega arith
 
 -- entries of 34 bytes at least, in 11,712 bytes
-pub few_entries : ((e : EntryFields) → 34 ≤ entry_length e) → (entries : List EntryFields) → 34 * length entries ≤ entries_length entries
+pub few_entries : ((e : EntryFields) → SHORTEST_ENTRY_BYTES ≤ entry_length e) → (entries : List EntryFields) → SHORTEST_ENTRY_BYTES * length entries ≤ entries_length entries
 unfolding entries_length
 few_entries least [] = omega arith
 few_entries least (e ∷ entries) = let one = least e in let others = few_entries least entries in omega arith
 
-pub all_fit : ((e : EntryFields) → IsEntry e → entry_length e ≤ 436) → (entries : List EntryFields) → AllByRecursion IsEntry entries → AllFit entries
+pub all_fit : ((e : EntryFields) → IsEntry e → entry_length e ≤ LONGEST_ENTRY_BYTES) → (entries : List EntryFields) → AllByRecursion IsEntry entries → AllFit entries
 all_fit most [] h = tt
 all_fit most (e ∷ entries) h = let one = most e h.0 in (omega arith, all_fit most entries h.1)

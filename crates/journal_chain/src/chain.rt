@@ -1,6 +1,6 @@
 ghost use Rattle.std.specs.Prelude.{◌≡◌, ℕ, ◌+◌, ◌≤◌, ◌<◌, ◌++◌, List, [], ◌∷◌, length, map, nat_lt, None, Some, OnOk, OnErr, MatchResult, IsSome, Option};
 ghost use Rattle.std.specs.Option.{option_to_list};
-ghost use Rattle.s4_types.specs.declared.limits.TheConstants.{CHAIN_ENTRY_BYTES, JOURNAL_ENTRY_BYTES};
+ghost use Rattle.s4_types.specs.declared.limits.TheConstants.{CHAIN_ENTRY_BYTES, JOURNAL_ENTRY_BYTES, CHANGE_ENTRIES};
 ghost use Rattle.s4_types.specs.Pointer.{Place};
 ghost use Rattle.s4_types.specs.declared.refusals.Refusal.TheVariants.{NoMemory};
 ghost use Rattle.block_log.specs.declared.kinds.BlockKind.TheVariants.{Journal};
@@ -24,13 +24,10 @@ use arrayvec::ArrayVec;
 use block_log::Blocks;
 use block_log::laws::{no_change_takes_no_place, places_taken_add_up};
 use codec::{Entry, JournalBytes};
-use s4_types::limits::{CHAIN_ENTRY_BYTES, SHORTEST_ENTRY_BYTES};
+use s4_types::limits::{CHAIN_ENTRIES, CHAIN_ENTRY_BYTES, CHANGE_ENTRIES, SHORTEST_ENTRY_BYTES};
 use s4_types::{ObjectId, Ptr, Refusal};
 use std::alloc::Global;
 use std::marker::Model;
-
-// So many of the shortest entries have the most bytes that a chain may have.
-const CHAIN_ENTRIES: usize = 344;
 
 /// What is kept of an object's chain of journal blocks beside the object's row.
 #[derive(Clone, Copy, PartialEq, Eq)]
@@ -197,13 +194,13 @@ impl Chain {
         self.set_head(head, bytes, block.entry_bytes());
     }
 
-    /// Appends entries, at most three, which are those of one change.
+    /// Appends entries, which are those of one change.
     ///
     /// ChainFull exactly where the chain's entries would have more than 11,712 bytes, else NoSpace exactly where fewer
     /// places are ahead than the push appends blocks; then nothing has changed.
     pub fn push<B: Blocks>(&mut self, table: &mut B, entries: &[Entry]) -> Result<(), Refusal>
         requires held { Holds (B.log table.old).held self.old (entries_held (B.log table.old).held self.old) }
-        requires few { length entries.now ≤ 3 }
+        requires few { length entries.now ≤ CHANGE_ENTRIES }
         ensures holds { OnOk result (Holds (B.log table.new).held self.new (entries_held (B.log table.old).held self.old ++ entries.now)) }
         ensures others { OnlyJournalChanged self.old.object (B.log table.old).held (B.log table.new).held }
         ensures takes { OnOk result (TakesPlaces (pushed_blocks self.old entries.now) (B.log table.old) (B.log table.new)) }
@@ -216,7 +213,7 @@ impl Chain {
         if self.is_full_for(bytes) {
             return Err(Refusal::ChainFull);
         }
-        let sizes: ArrayVec<usize, 3> = sizes_of(entries);
+        let sizes: ArrayVec<usize, CHANGE_ENTRIES> = sizes_of(entries);
         if table.blocks_left() < self.blocks_needed(sizes.as_slice()) {
             return Err(Refusal::NoSpace);
         }

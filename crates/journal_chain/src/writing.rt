@@ -2,6 +2,7 @@
 ghost use Rattle.std.specs.Prelude.{◌≡◌, ℕ, ◌+◌, ◌≤◌, ◌<◌, ◌++◌, List, [], ◌∷◌, length, map, Option, Some, None};
 ghost use Rattle.std.specs.Option.{option_to_list};
 ghost use Rattle.s4_types.specs.Pointer.{Place};
+ghost use Rattle.s4_types.specs.declared.limits.TheConstants.{CHAIN_ENTRIES};
 ghost use Rattle.block_log.specs.Taken.{TakesPlaces};
 ghost use Rattle.codec.specs.Entry.{EntryFields, entry_length, entries_length};
 ghost use Rattle.journal_chain.specs.Sizes.{filled_with, filled_after, breaks};
@@ -30,7 +31,7 @@ pub(crate) fn sizes_of<const N: usize>(entries: &[Entry]) -> ArrayVec<usize, N>
 
 /// The bytes of all of the entries together.
 pub(crate) fn bytes_of(entries: &[Entry]) -> usize
-    requires { length entries.now ≤ 344 }
+    requires { length entries.now ≤ CHAIN_ENTRIES }
     ensures exact { result ≡ entries_length entries.now }
     ensures fit { AllFit entries.now }
 {

@@ -5,6 +5,7 @@ use Rattle.std.proofs.lemmas.Bool.{cases_Bool, and_from, and_parts, eqb-true, eq
 use Rattle.std.proofs.lemmas.List.{length-append, length-map, length-reverse}
 use Rattle.std.proofs.lemmas.Option.{none-some, same_Some}
 use Rattle.s4_types.specs.Pointer.{Place}
+use Rattle.s4_types.specs.declared.limits.TheConstants.{CHAIN_ENTRIES, CHAIN_ENTRY_BYTES}
 use Rattle.block_log.specs.declared.kinds.BlockKind.{BlockKind}
 use Rattle.block_log.specs.declared.kinds.BlockKind.TheVariants.{Journal, Checkpoint, Data}
 use Rattle.block_log.specs.Log.{Log, Stored, of_kind, seen_as, same_kind}
@@ -16,7 +17,7 @@ use Rattle.journal_chain.specs.Chain.{ChainFields, Link, Holds, OnlyJournalChang
 -- ---- few entries
 
 -- an entry that a walk back gives is one of those whose sizes are not taken yet
-pub few_sizes : (rest older : List EntryFields) (e : EntryFields) (all : List EntryFields) (sizes : List ℕ) → rest ≡ older ++ e ∷ [] → map entry_length rest ++ reverse sizes ≡ map entry_length all → length all ≤ 344 → length sizes < 344
+pub few_sizes : (rest older : List EntryFields) (e : EntryFields) (all : List EntryFields) (sizes : List ℕ) → rest ≡ older ++ e ∷ [] → map entry_length rest ++ reverse sizes ≡ map entry_length all → length all ≤ CHAIN_ENTRIES → length sizes < CHAIN_ENTRIES
 few_sizes rest older e all sizes gives whole few =
     let count : length (map entry_length rest ++ reverse sizes) ≡ length (map entry_length all) = ap length whole in
     let behind : length rest ≡ length older + 1 = ap length gives ∙ length-append older (e ∷ []) in
@@ -45,7 +46,7 @@ journal_gone held chain o object holds p =
     (none_seen (of_kind Journal chain.object held p)
     (sym (holds.once p) ∙ no_times p (chain_places (of_kind Journal chain.object held) chain.object chain.head) (no_places (chain_links (of_kind Journal chain.object held) chain.object chain.head) holds.blocks)))
 
-pub no_bytes : entries_length [] ≤ 11712
+pub no_bytes : entries_length [] ≤ CHAIN_ENTRY_BYTES
 unfolding entries_length
 no_bytes = omega arith
 

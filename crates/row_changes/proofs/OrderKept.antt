@@ -5,6 +5,7 @@ use Rattle.std.proofs.Math.Seq.{take-append-add, take-length}
 use Rattle.std.proofs.lemmas.List.{take-append-le, length-append}
 use Rattle.std.proofs.lemmas.Bool.{cases_Bool, cases_lt, cond-true, and_parts, eq-eqb, eqb-true, leb-true, le-leb, false≢true}
 use Rattle.s4_types.specs.Pointer.{Place}
+use Rattle.s4_types.specs.declared.limits.TheConstants.{CHANGE_ENTRIES}
 use Rattle.block_log.specs.Log.{Stored}
 use Rattle.codec.specs.declared.inodes.Inode.{Inode}
 use Rattle.codec.specs.declared.entries.Status.{Status}
@@ -59,9 +60,9 @@ continued e f i k h linked =
 same_moment : (count m : ℕ) (e f : EntryFields) (entries : List EntryFields) → e.moment ≡ m → f.moment ≡ m → grouped_behind count e (f ∷ entries) ≡ true → (continues e f ≡ true) × (grouped_behind (count + 1) f entries ≡ true)
 same_moment count m e f entries he hf h =
     let is : (e.moment == f.moment) ≡ true = eq-eqb e.moment f.moment (he ∙ sym hf) in
-    let whole : ((ltb count 3 && continues e f) && grouped_behind (count + 1) f entries) ≡ true = sym (cond-true (e.moment == f.moment) _ _ is) ∙ h in
-    let parts = and_parts (ltb count 3 && continues e f) (grouped_behind (count + 1) f entries) whole in
-    ((and_parts (ltb count 3) (continues e f) parts.0).1, parts.1)
+    let whole : ((ltb count CHANGE_ENTRIES && continues e f) && grouped_behind (count + 1) f entries) ≡ true = sym (cond-true (e.moment == f.moment) _ _ is) ∙ h in
+    let parts = and_parts (ltb count CHANGE_ENTRIES && continues e f) (grouped_behind (count + 1) f entries) whole in
+    ((and_parts (ltb count CHANGE_ENTRIES) (continues e f) parts.0).1, parts.1)
 
 -- the inode behind the first entry of a run is that entry redone
 behind_one : End → (i k : Inode) (e : EntryFields) → Linked i e k → k ≡ redone e i

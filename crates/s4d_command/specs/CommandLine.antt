@@ -1,6 +1,7 @@
 -- The program's command line in clap's own words, and which command the matches of a line spell.
 use Rattle.std.specs.Prelude.{◌≡◌, ◌≢◌, ◌≤◌, ◌<◌, ◌^◌, ◌↔◌, ℕ, List, [], ◌∷◌, ◌++◌, Option, Some, None, Result, IfOk, true, false, codes, All, length}
 use Rattle.std.specs.List.{AllZip}
+use Rattle.std.specs.Fmt.{decimal}
 use Rattle.std.specs.Str.Parse.{IsNumeral, digits_value, without_leading_plus}
 use Rattle.clap.specs.Walk.{Row, Rule, Text, all_of, first_of, one_of}
 use Rattle.clap.specs.declared.builder.command.Command.{Command as Made}
@@ -9,7 +10,7 @@ use Rattle.clap.specs.Simple.{App, app_of, new_app, new_rule, on_top, with_rule,
 use Rattle.clap.specs.declared.builder.action.ArgAction.TheVariants.{Set, SetTrue, Append}
 use Rattle.s4_types.specs.declared.requests.Role.{Role}
 use Rattle.s4_types.specs.declared.requests.Role.TheVariants.{Client, Admin}
-use Rattle.s4_types.specs.declared.limits.TheConstants.{FEWEST_FRAMES, MOST_FRAMES}
+use Rattle.s4_types.specs.declared.limits.TheConstants.{FEWEST_FRAMES, DEFAULT_FRAMES, MOST_FRAMES}
 use Rattle.s4d_command.specs.declared.Command.{Command}
 use Rattle.s4d_command.specs.declared.Command.TheVariants as command
 use Rattle.s4d_command.specs.declared.Pipe.{Pipe}
@@ -44,7 +45,7 @@ IsLine result app = IfOk result (λ c. (app_of c ≡ app) × ((fields_of c).has_
 -- `pipe [--frames N] [--window W] [--tick T] ROLE`
 abbrev pub pipe_line : App
 pipe_line = with_rule (with_rule (with_rule (with_rule (new_app (codes "pipe"))
-    (option_rule (codes "frames") (codes "16")))
+    (option_rule (codes "frames") (decimal DEFAULT_FRAMES)))
     (option_rule (codes "window") (codes "100")))
     (option_rule (codes "tick") (codes "1")))
     (operand_rule (codes "role"))

@@ -1,5 +1,7 @@
 //! The program's command line, as `clap` builds it.
 ghost use Rattle.std.specs.Prelude.{◌≡◌, IfOk, false};
+ghost use Rattle.std.specs.Fmt.{decimal};
+ghost use Rattle.s4_types.specs.declared.limits.TheConstants.{DEFAULT_FRAMES};
 ghost use Rattle.clap.specs.declared.builder.command.Command.TheViews.{out-Command as fields_of};
 ghost use Rattle.clap.specs.Walk.{rule_of};
 ghost use Rattle.clap.specs.Simple.{App, app_of, new_app, with_rule, with_subcommand};
@@ -92,10 +94,17 @@ fn named<'a>(alloc: Global, name: &'a str) -> Result<Command<'a>, AllocError>
     Ok(Command::new(alloc, name))
 }
 
+/// `DEFAULT_FRAMES` in decimal.
+fn default_frames() -> &'static str
+    ensures { result.now ≡ decimal DEFAULT_FRAMES }
+{
+    "16"
+}
+
 fn pipe_command<'a>(alloc: Global) -> Result<Command<'a>, AllocError>
     ensures { IsLine result pipe_line }
 {
-    let frames = with_option(alloc, named(alloc, "pipe"), "frames", "16");
+    let frames = with_option(alloc, named(alloc, "pipe"), "frames", default_frames());
     let window = with_option(alloc, frames, "window", "100");
     let tick = with_option(alloc, window, "tick", "1");
     with_operand(alloc, tick, "role")

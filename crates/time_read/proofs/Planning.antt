@@ -7,6 +7,7 @@ use Rattle.std.proofs.lemmas.List.{get_or_append_left, get_or-append_right, get_
 use Rattle.std.proofs.lemmas.List.FromFn.{map-range_with_len_more, length-map-range_with_len, get_or-map-range_with_len}
 use Rattle.std.proofs.lemmas.List.Folds.{list_any-append, list_any_at}
 use Rattle.s4_types.specs.Pointer.{Place}
+use Rattle.s4_types.specs.declared.limits.TheConstants.{OBJECT_BYTES, OBJECT_BLOCKS}
 use Rattle.codec.specs.Checkpoint.{pointer_at}
 use Rattle.codec.specs.declared.inodes.Inode.{Inode}
 use Rattle.codec.specs.Fields.{zeros}
@@ -174,7 +175,7 @@ pub passed : (count first behind index : ℕ) → behind ≡ first + count → b
 passed count first behind index is low high = omega arith
 
 -- a block that has a byte of an inode is one of its 48
-pub inside : (offset wanted size index : ℕ) → size ≤ 24576 → offset / 512 ≤ index → index < offset / 512 + touched_count offset (min wanted (size - offset)) → index < 48
+pub inside : (offset wanted size index : ℕ) → size ≤ OBJECT_BYTES → offset / 512 ≤ index → index < offset / 512 + touched_count offset (min wanted (size - offset)) → index < OBJECT_BLOCKS
 inside offset wanted size index most low below = elim (cases_lt 0 (min wanted (size - offset))) [
   | inl some ↦
       let blocks = touched offset (min wanted (size - offset)) some in

@@ -1,6 +1,7 @@
 -- What a row tells of its chain and its checkpoint.
 use Rattle.std.proofs.Common.{◌≡◌, ℕ, ◌≤◌, true, List, [], ◌∷◌, Option, Some, None, IsSome, IfSome, MatchOption, refl, sym, ap, subst, ◌∙◌, arith}
 use Rattle.s4_types.specs.Pointer.{Place}
+use Rattle.s4_types.specs.declared.limits.TheConstants.{CHAIN_ENTRY_BYTES, JOURNAL_ENTRY_BYTES}
 use Rattle.block_log.specs.Log.{Stored, of_kind}
 use Rattle.block_log.specs.declared.kinds.BlockKind.TheVariants as kind
 use Rattle.codec.specs.Fields.{◌>>=◌}
@@ -15,17 +16,17 @@ use Rattle.object_map.specs.declared.map.Row.{Row}
 use Rattle.journal_chain.specs.Chain.{chain_entries}
 use Rattle.time_read.specs.Rows.{entries_of, first_of, inode_before, inode_of, IsRow}
 
-pub few_bytes : (held : Place → Option Stored) (o : ℕ) (row : Row) → IsRow held o row → row.journal_bytes ≤ 11712
+pub few_bytes : (held : Place → Option Stored) (o : ℕ) (row : Row) → IsRow held o row → row.journal_bytes ≤ CHAIN_ENTRY_BYTES
 few_bytes held o row r = omega (arith, r.chain.bytes, r.chain.limit)
 
-few_newest : (blocks : List (List EntryFields)) → KeepsTheRule blocks → filled_bytes blocks ≤ 488
+few_newest : (blocks : List (List EntryFields)) → KeepsTheRule blocks → filled_bytes blocks ≤ JOURNAL_ENTRY_BYTES
 unfolding filled_bytes
 few_newest [] h = omega arith
 few_newest (newest ∷ older) h = h.0.few
 
-pub few_in_head : (held : Place → Option Stored) (o : ℕ) (row : Row) → ((entries : List EntryFields) → AllFit entries → KeepsTheRule (packed entries)) → IsRow held o row → row.head_bytes ≤ 488
+pub few_in_head : (held : Place → Option Stored) (o : ℕ) (row : Row) → ((entries : List EntryFields) → AllFit entries → KeepsTheRule (packed entries)) → IsRow held o row → row.head_bytes ≤ JOURNAL_ENTRY_BYTES
 few_in_head held o row law r =
-    let few : filled_bytes (packed (entries_of held o row)) ≤ 488 = few_newest (packed (entries_of held o row)) (law (entries_of held o row) r.chain.fit) in
+    let few : filled_bytes (packed (entries_of held o row)) ≤ JOURNAL_ENTRY_BYTES = few_newest (packed (entries_of held o row)) (law (entries_of held o row) r.chain.fit) in
     omega (arith, few, r.chain.filled)
 
 pub chain_is_there : (held : Place → Option Stored) (o : ℕ) (row : Row) → IsRow held o row → IsSome (chain_entries held o row.head)

@@ -1,7 +1,7 @@
 //! Plans of reads: where the bytes come from, and their fetching without the drive.
 ghost use Rattle.std.specs.Prelude.{◌≡◌, ℕ, ◌+◌, ◌-◌, ◌/◌, ◌<◌, ◌≤◌, ◌⊎◌, ◌↔◌, ◌++◌, [], ◌∷◌, length, take, drop, min, true, false, Option, Some, None, IsSome, IfOk, IfErr, OnOk, OnErr, slice_index_or};
 ghost use Rattle.std.specs.List.{list_any};
-ghost use Rattle.s4_types.specs.declared.limits.TheConstants.{OBJECT_BLOCKS, OBJECT_BYTES, READ_BYTES};
+ghost use Rattle.s4_types.specs.declared.limits.TheConstants.{BLOCK_BYTES, OBJECT_BLOCKS, OBJECT_BYTES};
 ghost use Rattle.s4_types.specs.Pointer.{Place};
 ghost use Rattle.s4_types.specs.declared.refusals.Refusal.TheVariants.{NoMemory, Busy};
 ghost use Rattle.inode.specs.Contents.{contents_of, bytes_of, listed};
@@ -173,14 +173,14 @@ pub struct ReadPlan {
 
 impl Model for ReadPlan {
     ghost use Rattle.std.specs.Prelude.{◌<◌, ◌≤◌};
-    ghost use Rattle.s4_types.specs.declared.limits.TheConstants.{READ_BYTES};
+    ghost use Rattle.s4_types.specs.declared.limits.TheConstants.{OBJECT_BYTES};
     ghost use Rattle.time_read.specs.Plans.{PlanFields, AllCounted, pins_held};
 
     ghost Value = { PlanFields };
 
     ghost view = { λ p. record { pieces = p.pieces.items; skip = p.skip; length = p.length; pin = p.pin } };
 
-    ghost invariant = { λ p. AllCounted (pins_held p.pin) p.pieces.items × (p.skip < 512) × (p.length ≤ READ_BYTES) };
+    ghost invariant = { λ p. AllCounted (pins_held p.pin) p.pieces.items × (p.skip < 512) × (p.length ≤ OBJECT_BYTES) };
 }
 
 // The pin that a plan has, or a new one without frames.
@@ -226,7 +226,7 @@ impl ReadPlan {
     // Adds the bytes of one piece, from a place on and up to an end or to that of the piece, and answers where they end.
     fn fetch_piece(&mut self, at: usize, end: usize, bytes: &mut Vec<u8>) -> Result<usize, Refusal>
         requires start { at < end }
-        requires end { end ≤ 25088 }
+        requires end { end ≤ OBJECT_BYTES + BLOCK_BYTES }
         ensures later { IfOk result (λ next. at < next) }
         ensures within { IfOk result (λ next. next ≤ end) }
         ensures bytes { IfOk result (λ next. bytes.new.items ≡ bytes.old.items ++ listed (byte_planned self.old) at (next - at)) }
@@ -321,7 +321,7 @@ impl ReadPlan {
 
 // The index behind the last block that has one of so many bytes from a place on; the place's own index where there are none.
 fn block_behind(start: usize, count: usize) -> usize
-    requires { 0 < count → start + count ≤ READ_BYTES }
+    requires { 0 < count → start + count ≤ OBJECT_BYTES }
     ensures { result ≡ start / 512 + touched_count start count }
 {
     if count == 0 {
@@ -349,6 +349,7 @@ pub fn plan(
     requires count { length inode.now.pointers ≡ OBJECT_BLOCKS }
     requires lead { PointersLead (held_at table.old) inode.now }
     ensures pieces { IfOk result (λ plan. plan.pieces ≡ pieces_of table.old inode.now offset (min wanted (inode.now.size - offset))) }
+    ensures length { IfOk result (λ plan. plan.length ≡ min wanted (inode.now.size - offset)) }
     ensures bytes { IfOk result (λ plan. bytes_planned plan ≡ take wanted (drop offset (bytes_of (contents_of (held_at table.old)) inode.now))) }
     ensures pins { IfOk result (λ plan. (f : ℕ) → (0 < pins_in f (pins_held plan.pin)) ↔ (list_any (is_pinned_in f) plan.pieces ≡ true)) }
     ensures seat { IfOk result (λ plan. list_any is_pinned plan.pieces ≡ false → plan.pin ≡ None) }

@@ -8,6 +8,7 @@ use Rattle.std.proofs.lemmas.Bool.{and_parts, false≢true, ltb-true, leb-true, 
 use Rattle.std.proofs.lemmas.List.{append-nil, map-append, reverse-append, reverse-reverse, take-append-drop, drop-drop, drop_all, drop_more, drop_at, drop-append-le, take-append-le, take_all, length-append, length-drop, length_push, get_or_append_left, get_or_at, get_or_default, get_or_past, same_from_push, map_push, map_more}
 use Rattle.std.proofs.lemmas.List.Elements.{All-from_recursion, All-pop}
 use Rattle.s4_types.specs.Pointer.{Place}
+use Rattle.s4_types.specs.declared.limits.TheConstants.{OBJECT_BLOCKS, OBJECT_BYTES}
 use Rattle.codec.specs.declared.inodes.Inode.{Inode}
 use Rattle.codec.specs.declared.entries.Status.{Status}
 use Rattle.codec.specs.declared.entries.Pair.{Pair}
@@ -42,30 +43,30 @@ undoes e j =
 
 -- ---- the indices of an entry's triples are below 48
 
-ascend_parts : (low : ℕ) (t : Triple) (triples : List Triple) → ascend_from low (t ∷ triples) ≡ true → ((leb low t.index && (ltb t.index 48 && not (same_slot t.before t.after))) ≡ true) × (ascend_from (t.index + 1) triples ≡ true)
+ascend_parts : (low : ℕ) (t : Triple) (triples : List Triple) → ascend_from low (t ∷ triples) ≡ true → ((leb low t.index && (ltb t.index OBJECT_BLOCKS && not (same_slot t.before t.after))) ≡ true) × (ascend_from (t.index + 1) triples ≡ true)
 unfolding ascend_from
-ascend_parts low t triples h = and_parts (leb low t.index && (ltb t.index 48 && not (same_slot t.before t.after))) (ascend_from (t.index + 1) triples) h
+ascend_parts low t triples h = and_parts (leb low t.index && (ltb t.index OBJECT_BLOCKS && not (same_slot t.before t.after))) (ascend_from (t.index + 1) triples) h
 
-low_all : (low : ℕ) (triples : List Triple) → ascend_from low triples ≡ true → AllByRecursion (λ t. t.index < 48) triples
+low_all : (low : ℕ) (triples : List Triple) → ascend_from low triples ≡ true → AllByRecursion (λ t. t.index < OBJECT_BLOCKS) triples
 low_all low [] h = tt
 low_all low (t ∷ triples) h =
     let parts = ascend_parts low t triples h in
-    let tests = and_parts (leb low t.index) (ltb t.index 48 && not (same_slot t.before t.after)) parts.0 in
-    (ltb-true t.index 48 (and_parts (ltb t.index 48) (not (same_slot t.before t.after)) tests.1).0, low_all (t.index + 1) triples parts.1)
+    let tests = and_parts (leb low t.index) (ltb t.index OBJECT_BLOCKS && not (same_slot t.before t.after)) parts.0 in
+    (ltb-true t.index OBJECT_BLOCKS (and_parts (ltb t.index OBJECT_BLOCKS) (not (same_slot t.before t.after)) tests.1).0, low_all (t.index + 1) triples parts.1)
 
 ascends : (e : EntryFields) → entry_rules e ≡ true → ascend_from 0 e.triples ≡ true
 unfolding entry_rules
 ascends e h =
     let a = and_parts (leb 1 e.moment) _ h in
     let b = and_parts _ _ a.1 in
-    let c = and_parts (leb e.before.size 24576) _ b.1 in
-    let d = and_parts (leb e.after.size 24576) _ c.1 in
+    let c = and_parts (leb e.before.size OBJECT_BYTES) _ b.1 in
+    let d = and_parts (leb e.after.size OBJECT_BYTES) _ c.1 in
     let f = and_parts (was_nothing e.before) _ d.1 in
     let g = and_parts (changes_now e) _ f.1 in
     (and_parts (differs e.pair) (ascend_from 0 e.triples) g.1).1
 
-pub are_low : (e : EntryFields) → entry_rules e ≡ true → All (λ t. t.index < 48) e.triples
-are_low e h = All-from_recursion (λ (t : Triple). t.index < 48) e.triples (low_all 0 e.triples (ascends e h))
+pub are_low : (e : EntryFields) → entry_rules e ≡ true → All (λ t. t.index < OBJECT_BLOCKS) e.triples
+are_low e h = All-from_recursion (λ (t : Triple). t.index < OBJECT_BLOCKS) e.triples (low_all 0 e.triples (ascends e h))
 
 -- ---- lists that begin with others
 

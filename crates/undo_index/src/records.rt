@@ -6,7 +6,7 @@ ghost use Rattle.s4_types.specs.declared.limits.TheConstants.{OBJECT_BLOCKS};
 ghost use Rattle.s4_types.specs.declared.refusals.Refusal.TheVariants.{NoMemory};
 ghost use Rattle.undo_index.specs.Undoings.{Extends, Spans, earlier_of, undoing_of, put_back, undone_from, undoing_in};
 
-use codec::{Attribute, Entry, Inode, Pair, Status, Triple};
+use codec::{Attribute, Entry, Inode, Pair, PointerIndex, Status, Triple};
 use s4_types::limits::OBJECT_BLOCKS;
 use s4_types::{Moment, Ptr, Refusal};
 use std::marker::Model;
@@ -14,7 +14,7 @@ use std::marker::Model;
 /// A pointer's index and what stood there before an entry.
 #[derive(Clone, Copy)]
 pub(crate) struct EarlierPointer {
-    index: u8,
+    index: PointerIndex,
     before: Option<Ptr>,
 }
 

@@ -5,6 +5,7 @@ use Rattle.std.proofs.lemmas.List.{length-replicate}
 use Rattle.std.proofs.lemmas.Option.{same_Some, none-some}
 use Rattle.std.proofs.lemmas.Bool.{both_ways}
 use Rattle.s4_types.specs.Pointer.{Place}
+use Rattle.s4_types.specs.declared.limits.TheConstants.{OBJECT_BLOCKS, ENTRY_TRIPLES}
 use Rattle.codec.specs.declared.inodes.Inode.{Inode}
 use Rattle.codec.specs.declared.entries.Status.{Status}
 use Rattle.codec.specs.declared.entries.Pair.{Pair}
@@ -123,11 +124,11 @@ run_pair i j k entries r =
       | inr same ↦ pair_none (undone_all entries k).attribute (redone_all entries (undone_all entries k)).attribute (sym (told_end ∙ same.forth_same (undone_all entries k).attribute)) ∙ sym (pair_none i.attribute j.attribute (sym (end ∙ same.forth_same i.attribute)))
     ]
 
-run_count : (i j : Inode) (entries : List EntryFields) → Run i entries j → length i.pointers ≡ 48 → length j.pointers ≡ 48
-run_count i j [] r c = subst (λ (x : Inode). length x.pointers ≡ 48) r c
+run_count : (i j : Inode) (entries : List EntryFields) → Run i entries j → length i.pointers ≡ OBJECT_BLOCKS → length j.pointers ≡ OBJECT_BLOCKS
+run_count i j [] r c = subst (λ (x : Inode). length x.pointers ≡ OBJECT_BLOCKS) r c
 run_count i j (e ∷ entries) r c = run_count r.0 j entries r.2 r.1.count_after
 
-first_count : (i j : Inode) (entries : List EntryFields) → 0 < length entries → Run i entries j → length i.pointers ≡ 48
+first_count : (i j : Inode) (entries : List EntryFields) → 0 < length entries → Run i entries j → length i.pointers ≡ OBJECT_BLOCKS
 first_count i j [] some r = absurd (omega arith)
 first_count i j (e ∷ entries) some r = r.1.count_before
 
@@ -158,7 +159,7 @@ run_agrees i j k entries n r in_i in_j in_k =
       | inr same ↦ inr (sym (told_end ∙ same.forth_same (pointer_at (undone_all entries k) n)), sym (end ∙ same.forth_same (pointer_at i n)))
     ]
 
-pub run_triples : (i j k : Inode) (entries : List EntryFields) → 0 < length entries → Run i entries j → length k.pointers ≡ 48 → triples_between (undone_all entries k) (redone_all entries (undone_all entries k)) ≡ triples_between i j
+pub run_triples : (i j k : Inode) (entries : List EntryFields) → 0 < length entries → Run i entries j → length k.pointers ≡ OBJECT_BLOCKS → triples_between (undone_all entries k) (redone_all entries (undone_all entries k)) ≡ triples_between i j
 run_triples i j k entries some r count =
     let in_i = first_count i j entries some r in
     let in_j = run_count i j entries r in_i in
@@ -175,7 +176,7 @@ leading_parts b c a d p q t u m e f g h = cc
 leading_same : (i j k l : Inode) (m : ℕ) → status_of i ≡ status_of k → status_of j ≡ status_of l → pair_between i.attribute j.attribute ≡ pair_between k.attribute l.attribute → triples_between i j ≡ triples_between k l → leading_entry i j m ≡ leading_entry k l m
 unfolding leading_entry leading_of
 leading_same i j k l m before after pair triples =
-    leading_parts (status_of i) (status_of k) (status_of j) (status_of l) (pair_between i.attribute j.attribute) (pair_between k.attribute l.attribute) (take 16 (triples_between i j)) (take 16 (triples_between k l)) m before after pair (ap (take 16) triples)
+    leading_parts (status_of i) (status_of k) (status_of j) (status_of l) (pair_between i.attribute j.attribute) (pair_between k.attribute l.attribute) (take ENTRY_TRIPLES (triples_between i j)) (take ENTRY_TRIPLES (triples_between k l)) m before after pair (ap (take ENTRY_TRIPLES) triples)
 
 further_same : (j l : Inode) (m : ℕ) → status_of j ≡ status_of l → (ps : List (List Triple)) → map (further_entry j m) ps ≡ map (further_entry l m) ps
 further_same j l m e [] = refl
@@ -185,12 +186,12 @@ further_same j l m e (p ∷ ps) =
 entries_same : (i j k l : Inode) (m : ℕ) → status_of i ≡ status_of k → status_of j ≡ status_of l → pair_between i.attribute j.attribute ≡ pair_between k.attribute l.attribute → triples_between i j ≡ triples_between k l → entries_between i j m ≡ entries_between k l m
 unfolding entries_between later_entries
 entries_same i j k l m before after pair triples =
-    ap (λ (e : EntryFields). e ∷ later_entries j m (drop 16 (triples_between i j))) (leading_same i j k l m before after pair triples)
-    ∙ ap (λ (es : List EntryFields). leading_entry k l m ∷ es) (further_same j l m after (pieces (length (drop 16 (triples_between i j))) (drop 16 (triples_between i j))) ∙ ap (λ (ts : List Triple). later_entries l m (drop 16 ts)) triples)
+    ap (λ (e : EntryFields). e ∷ later_entries j m (drop ENTRY_TRIPLES (triples_between i j))) (leading_same i j k l m before after pair triples)
+    ∙ ap (λ (es : List EntryFields). leading_entry k l m ∷ es) (further_same j l m after (pieces (length (drop ENTRY_TRIPLES (triples_between i j))) (drop ENTRY_TRIPLES (triples_between i j))) ∙ ap (λ (ts : List Triple). later_entries l m (drop ENTRY_TRIPLES ts)) triples)
 
-pub blank_count : (created : ℕ) → length (blank created).pointers ≡ 48
+pub blank_count : (created : ℕ) → length (blank created).pointers ≡ OBJECT_BLOCKS
 unfolding blank holes
-blank_count created = length-replicate {A = Option Place} 48 None
+blank_count created = length-replicate {A = Option Place} OBJECT_BLOCKS None
 
 abbrev hole : Option Place
 hole = None
@@ -202,7 +203,7 @@ replicate_none (suc count) (suc n) = replicate_none count n
 
 pub blank_holes : (created n : ℕ) → pointer_at (blank created) n ≡ None
 unfolding blank holes
-blank_holes created n = replicate_none 48 n
+blank_holes created n = replicate_none OBJECT_BLOCKS n
 
 -- what the entries tell of the ends is what leads between them
 pub told_leading : (i j : Inode) (entries : List EntryFields) (m : ℕ) → 0 < length entries → Run i entries j → leading_entry (told_first entries) (told_last entries) m ≡ leading_entry i j m

@@ -5,6 +5,7 @@ use Rattle.std.specs.List.{filter, range_with_len}
 use Rattle.std.proofs.lemmas.List.FromFn.{filter_of_map_range_with_len_more}
 use Rattle.std.proofs.lemmas.Bool.{cases_Bool, cases_eq, cases_lt, and_from, lt-ltb, eqb-true, eq-eqb, ne_eqb, not_from_true, not_from_false, cond_both}
 use Rattle.s4_types.specs.Pointer.{Place}
+use Rattle.s4_types.specs.declared.limits.TheConstants.{OBJECT_BLOCKS}
 use Rattle.codec.specs.declared.inodes.Inode.{Inode}
 use Rattle.codec.specs.declared.entries.Triple.{Triple}
 use Rattle.codec.specs.Checkpoint.{pointer_at}
@@ -23,7 +24,7 @@ pub below_none : (i j : Inode) → triples_below 0 i j ≡ []
 unfolding triples_below
 below_none i j = refl
 
-pub below_all : (i j : Inode) (n : ℕ) → n ≡ 48 → triples_below n i j ≡ triples_between i j
+pub below_all : (i j : Inode) (n : ℕ) → n ≡ OBJECT_BLOCKS → triples_below n i j ≡ triples_between i j
 unfolding triples_between
 below_all i j n e = ap (λ k. triples_below k i j) e
 
@@ -34,12 +35,12 @@ stretch i j a n = filter tells_apart (map (triple_between i j) (range_with_len a
 stretch_tests : (i j : Inode) (a n : ℕ) → (P : List Triple → Type 0) → (tells_apart (triple_between i j a) ≡ true → P (triple_between i j a ∷ stretch i j (a + 1) n)) → (tells_apart (triple_between i j a) ≡ false → P (stretch i j (a + 1) n)) → P (stretch i j a (suc n))
 stretch_tests i j a n P h k = cond_both (tells_apart (triple_between i j a)) (triple_between i j a ∷ stretch i j (a + 1) n) (stretch i j (a + 1) n) P h k
 
-stretch_ascends : (i j : Inode) (a n : ℕ) → a + n ≤ 48 → ascend_from a (stretch i j a n) ≡ true
+stretch_ascends : (i j : Inode) (a n : ℕ) → a + n ≤ OBJECT_BLOCKS → ascend_from a (stretch i j a n) ≡ true
 stretch_ascends i j a zero le = ascend_none a
 stretch_ascends i j a (suc n) le =
     let behind : ascend_from (a + 1) (stretch i j (a + 1) n) ≡ true = stretch_ascends i j (a + 1) n (omega arith) in
     stretch_tests i j a n (λ triples. ascend_from a triples ≡ true)
-    (λ is. ascend_made a (triple_between i j a) (stretch i j (a + 1) n) (omega arith) (and_from (ltb a 48) (tells_apart (triple_between i j a)) (lt-ltb a 48 (omega arith)) is) behind)
+    (λ is. ascend_made a (triple_between i j a) (stretch i j (a + 1) n) (omega arith) (and_from (ltb a OBJECT_BLOCKS) (tells_apart (triple_between i j a)) (lt-ltb a OBJECT_BLOCKS (omega arith)) is) behind)
     (λ no_triple. ascend_weaker a (a + 1) (stretch i j (a + 1) n) (omega arith) behind)
 
 stretch_of : (i j : Inode) (a n : ℕ) → AreOf i j (stretch i j a n)
@@ -108,18 +109,18 @@ stretch_agrees i j k l a (suc n) h =
 
 pub between_ascends : (i j : Inode) → ascend_from 0 (triples_between i j) ≡ true
 unfolding triples_between triples_below
-between_ascends i j = stretch_ascends i j 0 48 (omega arith)
+between_ascends i j = stretch_ascends i j 0 OBJECT_BLOCKS (omega arith)
 
 pub between_of : (i j : Inode) → AreOf i j (triples_between i j)
 unfolding triples_between triples_below
-between_of i j = stretch_of i j 0 48
+between_of i j = stretch_of i j 0 OBJECT_BLOCKS
 
-between_tells : (i j : Inode) (n : ℕ) → n < 48 → same_slot (pointer_at i n) (pointer_at j n) ≡ false → (p : Option Place) → pointer_after (triples_between i j) n p ≡ pointer_at j n
+between_tells : (i j : Inode) (n : ℕ) → n < OBJECT_BLOCKS → same_slot (pointer_at i n) (pointer_at j n) ≡ false → (p : Option Place) → pointer_after (triples_between i j) n p ≡ pointer_at j n
 unfolding triples_between triples_below
-between_tells i j n lt differ p = stretch_tells i j 0 48 n (omega arith) (omega arith) differ p
+between_tells i j n lt differ p = stretch_tells i j 0 OBJECT_BLOCKS n (omega arith) (omega arith) differ p
 
 -- redone, they make of each pointer of the first inode that of the second
-pub between_reaches : (i j : Inode) (n : ℕ) → n < 48 → pointer_after (triples_between i j) n (pointer_at i n) ≡ pointer_at j n
+pub between_reaches : (i j : Inode) (n : ℕ) → n < OBJECT_BLOCKS → pointer_after (triples_between i j) n (pointer_at i n) ≡ pointer_at j n
 between_reaches i j n lt = elim (cases_Bool (same_slot (pointer_at i n) (pointer_at j n))) [
   | inl same ↦ ap (pointer_after (triples_between i j) n) (same_slot_true (pointer_at i n) (pointer_at j n) same) ∙ after_own i j (triples_between i j) n (between_of i j)
   | inr differ ↦ between_tells i j n lt differ (pointer_at i n)
@@ -127,14 +128,14 @@ between_reaches i j n lt = elim (cases_Bool (same_slot (pointer_at i n) (pointer
 
 pub between_none : (i j : Inode) → ((k : ℕ) → pointer_at i k ≡ pointer_at j k) → triples_between i j ≡ []
 unfolding triples_between triples_below
-between_none i j same = stretch_none i j 0 48 same
+between_none i j same = stretch_none i j 0 OBJECT_BLOCKS same
 
-pub none_between : (i j : Inode) (n : ℕ) → triples_between i j ≡ [] → n < 48 → pointer_at i n ≡ pointer_at j n
+pub none_between : (i j : Inode) (n : ℕ) → triples_between i j ≡ [] → n < OBJECT_BLOCKS → pointer_at i n ≡ pointer_at j n
 none_between i j n none lt = subst (λ (triples : List Triple). pointer_after triples n (pointer_at i n) ≡ pointer_at j n) none (between_reaches i j n lt)
 
-pub between_agrees : (i j k l : Inode) → ((n : ℕ) → n < 48 → AgreeAt i j k l n) → triples_between i j ≡ triples_between k l
+pub between_agrees : (i j k l : Inode) → ((n : ℕ) → n < OBJECT_BLOCKS → AgreeAt i j k l n) → triples_between i j ≡ triples_between k l
 unfolding triples_between triples_below
-between_agrees i j k l h = stretch_agrees i j k l 0 48 (λ b le lt. h b (omega arith))
+between_agrees i j k l h = stretch_agrees i j k l 0 OBJECT_BLOCKS (λ b le lt. h b (omega arith))
 
 stretch_length : (i j : Inode) (a n : ℕ) → length (stretch i j a n) ≤ n
 stretch_length i j a zero = omega arith
@@ -142,9 +143,9 @@ stretch_length i j a (suc n) =
     let behind : length (stretch i j (a + 1) n) ≤ n = stretch_length i j (a + 1) n in
     stretch_tests i j a n (λ (triples : List Triple). length triples ≤ suc n) (λ is. omega arith) (λ no_triple. omega arith)
 
-pub between_length : (i j : Inode) → length (triples_between i j) ≤ 48
+pub between_length : (i j : Inode) → length (triples_between i j) ≤ OBJECT_BLOCKS
 unfolding triples_between triples_below
-between_length i j = stretch_length i j 0 48
+between_length i j = stretch_length i j 0 OBJECT_BLOCKS
 
 -- ---- what ascending triples leave alone
 

@@ -1,13 +1,14 @@
 -- Groups of entries of one moment, parted and joined.
 use Rattle.std.proofs.Common.{◌≡◌, ℕ, ◌≤◌, ◌<◌, ◌+◌, ◌==◌, ◌&&◌, Bool, true, false, leb, ltb, inl, inr, List, [], ◌∷◌, ◌++◌, refl, sym, ◌∙◌, arith}
 use Rattle.std.proofs.lemmas.Bool.{cases_Bool, and_parts, and_from, leb-true, leb-false, le-leb, lt-ltb, ltb-true, ne_eqb, eqb-true, cond-true, cond-false}
+use Rattle.s4_types.specs.declared.limits.TheConstants.{CHANGE_ENTRIES}
 use Rattle.codec.specs.Entry.{EntryFields}
 use Rattle.undo_redo.specs.Runs.{AllBy, AllPast, moments_ascend_from}
 use Rattle.undo_redo.specs.Groups.{continues, grouped_behind, grouped}
 
 -- the two ways on
 abbrev Same : ℕ → EntryFields → EntryFields → List EntryFields → Bool
-Same count e f entries = (ltb count 3 && continues e f) && grouped_behind (count + 1) f entries
+Same count e f entries = (ltb count CHANGE_ENTRIES && continues e f) && grouped_behind (count + 1) f entries
 
 abbrev Later : EntryFields → EntryFields → List EntryFields → Bool
 Later e f entries = ltb e.moment f.moment && grouped_behind 1 f entries
@@ -16,8 +17,8 @@ pub front_grouped : (count : ℕ) (e : EntryFields) (front back : List EntryFiel
 front_grouped count e [] back h = refl
 front_grouped count e (f ∷ front) back h = elim (cases_Bool (e.moment == f.moment)) [
   | inl is ↦ (let whole : Same count e f (front ++ back) ≡ true = sym (cond-true (e.moment == f.moment) (Same count e f (front ++ back)) (Later e f (front ++ back)) is) ∙ h in
-      let parts = and_parts (ltb count 3 && continues e f) (grouped_behind (count + 1) f (front ++ back)) whole in
-      cond-true (e.moment == f.moment) (Same count e f front) (Later e f front) is ∙ and_from (ltb count 3 && continues e f) (grouped_behind (count + 1) f front) parts.0 (front_grouped (count + 1) f front back parts.1))
+      let parts = and_parts (ltb count CHANGE_ENTRIES && continues e f) (grouped_behind (count + 1) f (front ++ back)) whole in
+      cond-true (e.moment == f.moment) (Same count e f front) (Later e f front) is ∙ and_from (ltb count CHANGE_ENTRIES && continues e f) (grouped_behind (count + 1) f front) parts.0 (front_grouped (count + 1) f front back parts.1))
   | inr ne ↦ (let whole : Later e f (front ++ back) ≡ true = sym (cond-false (e.moment == f.moment) (Same count e f (front ++ back)) (Later e f (front ++ back)) ne) ∙ h in
       let parts = and_parts (ltb e.moment f.moment) (grouped_behind 1 f (front ++ back)) whole in
       cond-false (e.moment == f.moment) (Same count e f front) (Later e f front) ne ∙ and_from (ltb e.moment f.moment) (grouped_behind 1 f front) parts.0 (front_grouped 1 f front back parts.1))
@@ -32,10 +33,10 @@ fewer : (few many : ℕ) (e : EntryFields) (entries : List EntryFields) → few 
 fewer few many e [] le h = refl
 fewer few many e (f ∷ entries) le h = elim (cases_Bool (e.moment == f.moment)) [
   | inl is ↦ (let whole : Same many e f entries ≡ true = sym (cond-true (e.moment == f.moment) (Same many e f entries) (Later e f entries) is) ∙ h in
-      let parts = and_parts (ltb many 3 && continues e f) (grouped_behind (many + 1) f entries) whole in
-      let lead = and_parts (ltb many 3) (continues e f) parts.0 in
-      let room : many < 3 = ltb-true many 3 lead.0 in
-      cond-true (e.moment == f.moment) (Same few e f entries) (Later e f entries) is ∙ and_from (ltb few 3 && continues e f) (grouped_behind (few + 1) f entries) (and_from (ltb few 3) (continues e f) (lt-ltb few 3 (omega arith)) lead.1) (fewer (few + 1) (many + 1) f entries (omega arith) parts.1))
+      let parts = and_parts (ltb many CHANGE_ENTRIES && continues e f) (grouped_behind (many + 1) f entries) whole in
+      let lead = and_parts (ltb many CHANGE_ENTRIES) (continues e f) parts.0 in
+      let room : many < CHANGE_ENTRIES = ltb-true many CHANGE_ENTRIES lead.0 in
+      cond-true (e.moment == f.moment) (Same few e f entries) (Later e f entries) is ∙ and_from (ltb few CHANGE_ENTRIES && continues e f) (grouped_behind (few + 1) f entries) (and_from (ltb few CHANGE_ENTRIES) (continues e f) (lt-ltb few CHANGE_ENTRIES (omega arith)) lead.1) (fewer (few + 1) (many + 1) f entries (omega arith) parts.1))
   | inr ne ↦ (let whole : Later e f entries ≡ true = sym (cond-false (e.moment == f.moment) (Same many e f entries) (Later e f entries) ne) ∙ h in
       cond-false (e.moment == f.moment) (Same few e f entries) (Later e f entries) ne ∙ whole)
 ]
@@ -44,14 +45,14 @@ back_grouped : (count : ℕ) (e : EntryFields) (front back : List EntryFields) �
 back_grouped count e [] [] one h = refl
 back_grouped count e [] (f ∷ back) one h = elim (cases_Bool (e.moment == f.moment)) [
   | inl is ↦ (let whole : Same count e f back ≡ true = sym (cond-true (e.moment == f.moment) (Same count e f back) (Later e f back) is) ∙ h in
-      let parts = and_parts (ltb count 3 && continues e f) (grouped_behind (count + 1) f back) whole in
+      let parts = and_parts (ltb count CHANGE_ENTRIES && continues e f) (grouped_behind (count + 1) f back) whole in
       fewer 1 (count + 1) f back (omega arith) parts.1)
   | inr ne ↦ (let whole : Later e f back ≡ true = sym (cond-false (e.moment == f.moment) (Same count e f back) (Later e f back) ne) ∙ h in
       (and_parts (ltb e.moment f.moment) (grouped_behind 1 f back) whole).1)
 ]
 back_grouped count e (f ∷ front) back one h = elim (cases_Bool (e.moment == f.moment)) [
   | inl is ↦ (let whole : Same count e f (front ++ back) ≡ true = sym (cond-true (e.moment == f.moment) (Same count e f (front ++ back)) (Later e f (front ++ back)) is) ∙ h in
-      back_grouped (count + 1) f front back (omega arith) (and_parts (ltb count 3 && continues e f) (grouped_behind (count + 1) f (front ++ back)) whole).1)
+      back_grouped (count + 1) f front back (omega arith) (and_parts (ltb count CHANGE_ENTRIES && continues e f) (grouped_behind (count + 1) f (front ++ back)) whole).1)
   | inr ne ↦ (let whole : Later e f (front ++ back) ≡ true = sym (cond-false (e.moment == f.moment) (Same count e f (front ++ back)) (Later e f (front ++ back)) ne) ∙ h in
       back_grouped 1 f front back (omega arith) (and_parts (ltb e.moment f.moment) (grouped_behind 1 f (front ++ back)) whole).1)
 ]
@@ -70,8 +71,8 @@ join_grouped m count e (f ∷ front) back by h k all past =
     let le : f.moment ≤ m = leb-true f.moment m all.0 in
     elim (cases_Bool (e.moment == f.moment)) [
       | inl is ↦ (let whole : Same count e f front ≡ true = sym (cond-true (e.moment == f.moment) (Same count e f front) (Later e f front) is) ∙ h in
-          let parts = and_parts (ltb count 3 && continues e f) (grouped_behind (count + 1) f front) whole in
-          cond-true (e.moment == f.moment) (Same count e f (front ++ back)) (Later e f (front ++ back)) is ∙ and_from (ltb count 3 && continues e f) (grouped_behind (count + 1) f (front ++ back)) parts.0 (join_grouped m (count + 1) f front back le parts.1 k all.1 past))
+          let parts = and_parts (ltb count CHANGE_ENTRIES && continues e f) (grouped_behind (count + 1) f front) whole in
+          cond-true (e.moment == f.moment) (Same count e f (front ++ back)) (Later e f (front ++ back)) is ∙ and_from (ltb count CHANGE_ENTRIES && continues e f) (grouped_behind (count + 1) f (front ++ back)) parts.0 (join_grouped m (count + 1) f front back le parts.1 k all.1 past))
       | inr ne ↦ (let whole : Later e f front ≡ true = sym (cond-false (e.moment == f.moment) (Same count e f front) (Later e f front) ne) ∙ h in
           let parts = and_parts (ltb e.moment f.moment) (grouped_behind 1 f front) whole in
           cond-false (e.moment == f.moment) (Same count e f (front ++ back)) (Later e f (front ++ back)) ne ∙ and_from (ltb e.moment f.moment) (grouped_behind 1 f (front ++ back)) parts.0 (join_grouped m 1 f front back le parts.1 k all.1 past))
@@ -86,7 +87,7 @@ behind_ascends count e [] h = refl
 behind_ascends count e (f ∷ entries) h = elim (cases_Bool (e.moment == f.moment)) [
   | inl is ↦ (let whole : Same count e f entries ≡ true = sym (cond-true (e.moment == f.moment) (Same count e f entries) (Later e f entries) is) ∙ h in
       let same : e.moment ≡ f.moment = eqb-true e.moment f.moment is in
-      and_from (leb e.moment f.moment) (moments_ascend_from f.moment entries) (le-leb e.moment f.moment (omega arith)) (behind_ascends (count + 1) f entries (and_parts (ltb count 3 && continues e f) (grouped_behind (count + 1) f entries) whole).1))
+      and_from (leb e.moment f.moment) (moments_ascend_from f.moment entries) (le-leb e.moment f.moment (omega arith)) (behind_ascends (count + 1) f entries (and_parts (ltb count CHANGE_ENTRIES && continues e f) (grouped_behind (count + 1) f entries) whole).1))
   | inr ne ↦ (let whole : Later e f entries ≡ true = sym (cond-false (e.moment == f.moment) (Same count e f entries) (Later e f entries) ne) ∙ h in
       let parts = and_parts (ltb e.moment f.moment) (grouped_behind 1 f entries) whole in
       let lt : e.moment < f.moment = ltb-true e.moment f.moment parts.0 in

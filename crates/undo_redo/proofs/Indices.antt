@@ -4,22 +4,22 @@ use Rattle.std.specs.Prelude.{not, ◌||◌}
 use Rattle.std.specs.List.{All, AllByRecursion, list_all}
 use Rattle.std.proofs.lemmas.List.Elements.{All-from_recursion}
 use Rattle.std.proofs.lemmas.Bool.{and_parts, and_from, ltb-true, leb-true, le-leb, lt-ltb}
-use Rattle.s4_types.specs.declared.limits.TheConstants.{OBJECT_BYTES}
+use Rattle.s4_types.specs.declared.limits.TheConstants.{OBJECT_BYTES, OBJECT_BLOCKS}
 use Rattle.codec.specs.declared.entries.Triple.{Triple}
 use Rattle.undo_redo.specs.Groups.{above}
 use Rattle.codec.specs.Entry.{EntryFields, same_slot, ascend_from, was_nothing, changes_now, differs, entry_rules}
 
 -- the tests of a triple, and those of the ones behind it
-pub ascend_parts : (low : ℕ) (t : Triple) (triples : List Triple) → ascend_from low (t ∷ triples) ≡ true → ((leb low t.index && (ltb t.index 48 && not (same_slot t.before t.after))) ≡ true) × (ascend_from (t.index + 1) triples ≡ true)
+pub ascend_parts : (low : ℕ) (t : Triple) (triples : List Triple) → ascend_from low (t ∷ triples) ≡ true → ((leb low t.index && (ltb t.index OBJECT_BLOCKS && not (same_slot t.before t.after))) ≡ true) × (ascend_from (t.index + 1) triples ≡ true)
 unfolding ascend_from
-ascend_parts low t triples h = and_parts (leb low t.index && (ltb t.index 48 && not (same_slot t.before t.after))) (ascend_from (t.index + 1) triples) h
+ascend_parts low t triples h = and_parts (leb low t.index && (ltb t.index OBJECT_BLOCKS && not (same_slot t.before t.after))) (ascend_from (t.index + 1) triples) h
 
-low_all : (low : ℕ) (triples : List Triple) → ascend_from low triples ≡ true → AllByRecursion (λ t. t.index < 48) triples
+low_all : (low : ℕ) (triples : List Triple) → ascend_from low triples ≡ true → AllByRecursion (λ t. t.index < OBJECT_BLOCKS) triples
 low_all low [] h = tt
 low_all low (t ∷ triples) h =
     let parts = ascend_parts low t triples h in
-    let tests = and_parts (leb low t.index) (ltb t.index 48 && not (same_slot t.before t.after)) parts.0 in
-    (ltb-true t.index 48 (and_parts (ltb t.index 48) (not (same_slot t.before t.after)) tests.1).0, low_all (t.index + 1) triples parts.1)
+    let tests = and_parts (leb low t.index) (ltb t.index OBJECT_BLOCKS && not (same_slot t.before t.after)) parts.0 in
+    (ltb-true t.index OBJECT_BLOCKS (and_parts (ltb t.index OBJECT_BLOCKS) (not (same_slot t.before t.after)) tests.1).0, low_all (t.index + 1) triples parts.1)
 
 -- the rules of an entry, each by its name
 pub record Rules (e : EntryFields) : Type 0 where
@@ -44,8 +44,8 @@ rules_of e h =
     let k = and_parts (differs e.pair) (ascend_from 0 e.triples) g.1 in
     record { moment = leb-true 1 e.moment a.0; one_alive = b.0; size_before = leb-true e.before.size OBJECT_BYTES c.0; size_after = leb-true e.after.size OBJECT_BYTES d.0; was = f.0; now = g.0; pair = k.0; ascend = k.1 }
 
-pub are_low : (e : EntryFields) → entry_rules e ≡ true → All (λ t. t.index < 48) e.triples
-are_low e h = All-from_recursion (λ (t : Triple). t.index < 48) e.triples (low_all 0 e.triples (rules_of e h).ascend)
+pub are_low : (e : EntryFields) → entry_rules e ≡ true → All (λ t. t.index < OBJECT_BLOCKS) e.triples
+are_low e h = All-from_recursion (λ (t : Triple). t.index < OBJECT_BLOCKS) e.triples (low_all 0 e.triples (rules_of e h).ascend)
 
 pub rules_made : (e : EntryFields) → Rules e → entry_rules e ≡ true
 unfolding entry_rules
@@ -61,7 +61,7 @@ rules_made e r =
 -- ---- ascending indices
 
 abbrev pub apart : Triple → Bool
-apart t = ltb t.index 48 && not (same_slot t.before t.after)
+apart t = ltb t.index OBJECT_BLOCKS && not (same_slot t.before t.after)
 
 pub ascend_made : (low : ℕ) (t : Triple) (triples : List Triple) → low ≤ t.index → apart t ≡ true → ascend_from (t.index + 1) triples ≡ true → ascend_from low (t ∷ triples) ≡ true
 unfolding ascend_from

@@ -2,6 +2,7 @@
 use Rattle.std.proofs.Common.{◌≡◌, ℕ, ◌<◌, List, length, get_or, Option, Some, None, refl, sym, ap, subst, ◌∙◌}
 use Rattle.std.specs.Prelude.{IfSome, ◌↔◌}
 use Rattle.s4_types.specs.Pointer.{Place}
+use Rattle.s4_types.specs.declared.limits.TheConstants.{OBJECT_BLOCKS}
 use Rattle.codec.specs.declared.inodes.Inode.{Inode}
 use Rattle.codec.specs.declared.entries.Status.{Status}
 use Rattle.codec.specs.declared.entries.Pair.{Pair}
@@ -54,7 +55,7 @@ is_redone i j e l =
 pub linked_redone : (i : Inode) (e : EntryFields) → StandsBefore i e → Linked i e (redone e i)
 unfolding redone
 linked_redone i e h =
-    let forth : (n : ℕ) → n < 48 → get_or (with_after e.triples i.pointers) n None ≡ pointer_after e.triples n (pointer_at i n) =
+    let forth : (n : ℕ) → n < OBJECT_BLOCKS → get_or (with_after e.triples i.pointers) n None ≡ pointer_after e.triples n (pointer_at i n) =
     λ n lt. let in_it : n < length i.pointers = subst (λ (k : ℕ). n < k) (sym h.count) lt in at-with_after e.triples i.pointers n in_it in
     record {
       status_before = h.status;
@@ -102,7 +103,7 @@ is_undone i j e l =
 pub linked_undone : (j : Inode) (e : EntryFields) → StandsAfter e j → Linked (undone e j) e j
 unfolding undone
 linked_undone j e h =
-    let back : (n : ℕ) → n < 48 → get_or (with_before e.triples j.pointers) n None ≡ pointer_before e.triples n (pointer_at j n) =
+    let back : (n : ℕ) → n < OBJECT_BLOCKS → get_or (with_before e.triples j.pointers) n None ≡ pointer_before e.triples n (pointer_at j n) =
     λ n lt. let in_it : n < length j.pointers = subst (λ (k : ℕ). n < k) (sym h.count) lt in at-with_before e.triples j.pointers n in_it in
     record {
       status_before = refl;

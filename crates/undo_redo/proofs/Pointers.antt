@@ -4,6 +4,7 @@ use Rattle.std.proofs.Math.ListN.{set, length-set}
 use Rattle.std.proofs.lemmas.List.{get_or-set_same, get_or-set_other, ext_get_or}
 use Rattle.std.proofs.lemmas.Bool.{cases_Bool, cases_eq, eq-eqb, ne_eqb}
 use Rattle.s4_types.specs.Pointer.{Place}
+use Rattle.s4_types.specs.declared.limits.TheConstants.{OBJECT_BLOCKS}
 use Rattle.codec.specs.declared.entries.Triple.{Triple}
 use Rattle.undo_redo.specs.Linked.{pointer_after, pointer_before}
 use Rattle.undo_redo.specs.Redone.{with_after, with_before}
@@ -81,5 +82,5 @@ after_before triples n p = elim (told_or_not triples n) [
   | inr left ↦ ap (pointer_after triples n) (left.back_same p)
 ]
 
-pub same_pointers : (ps qs : List (Option Place)) → length ps ≡ 48 → length qs ≡ 48 → ((n : ℕ) → n < 48 → get_or ps n None ≡ get_or qs n None) → ps ≡ qs
+pub same_pointers : (ps qs : List (Option Place)) → length ps ≡ OBJECT_BLOCKS → length qs ≡ OBJECT_BLOCKS → ((n : ℕ) → n < OBJECT_BLOCKS → get_or ps n None ≡ get_or qs n None) → ps ≡ qs
 same_pointers ps qs a b same = ext_get_or None ps qs (a ∙ sym b) (λ n lt. same n (omega arith))

@@ -1,8 +1,8 @@
 -- Entries of one moment: one change makes at most three of them, which stand together.
 use Rattle.std.specs.Prelude.{ℕ, Bool, true, nat_lt, ◌==◌, ◌&&◌, ◌+◌, if◌then◌else◌, List, [], ◌∷◌, is_none}
 use Rattle.std.specs.List.{list_all}
+use Rattle.s4_types.specs.declared.limits.TheConstants.{CHANGE_ENTRIES}
 use Rattle.codec.specs.declared.entries.Triple.{Triple}
-use Rattle.undo_redo.specs.declared.between.TheConstants.{CHANGE_ENTRIES}
 use Rattle.codec.specs.Entry.{EntryFields}
 
 -- each index of the second list is above each of the first

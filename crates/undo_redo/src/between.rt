@@ -14,10 +14,7 @@ use crate::pieces::{
 use arrayvec::ArrayVec;
 use codec::{Entry, Inode, Triple, Triples};
 use s4_types::Moment;
-use s4_types::limits::{ENTRY_TRIPLES, OBJECT_BLOCKS};
-
-/// Entries of one change at most: as many as hold the pointers of the largest object.
-pub const CHANGE_ENTRIES: usize = OBJECT_BLOCKS / ENTRY_TRIPLES;
+use s4_types::limits::CHANGE_ENTRIES;
 
 /// The entries of one change: one, and one more for each piece of pointers for which the first has no room.
 pub type Entries = ArrayVec<Entry, CHANGE_ENTRIES>;

@@ -2,11 +2,10 @@
 
 ghost use Rattle.std.specs.Prelude.{◌≡◌, ◌↔◌, ℕ, ◌≤◌, ◌++◌, true, List, length, map, None};
 ghost use Rattle.std.specs.List.{AllByRecursion};
-ghost use Rattle.s4_types.specs.declared.limits.TheConstants.{OBJECT_BLOCKS};
+ghost use Rattle.s4_types.specs.declared.limits.TheConstants.{OBJECT_BLOCKS, CHANGE_ENTRIES};
 ghost use Rattle.codec.specs.declared.inodes.Inode.{Inode};
 ghost use Rattle.codec.specs.Checkpoint.{pointer_at};
 ghost use Rattle.codec.specs.Entry.{EntryFields, entry_length, entry_rules, pair_length};
-ghost use Rattle.undo_redo.specs.declared.between.TheConstants.{CHANGE_ENTRIES};
 ghost use Rattle.undo_redo.specs.Linked.{Linked, StandsBefore, StandsAfter};
 ghost use Rattle.undo_redo.specs.Redone.{redone, undone};
 ghost use Rattle.undo_redo.specs.Runs.{Run, redone_all, undone_all, inode_after, entries_by, entries_past, AllBy, AllPast, blank, moments_ascend_from, AllAt};

@@ -13,7 +13,7 @@ mod links;
 mod pieces;
 mod sizes;
 
-pub use between::{CHANGE_ENTRIES, Entries, entries_between, only_entry_between};
+pub use between::{Entries, entries_between, only_entry_between};
 pub use composition::compose;
 pub use links::{blank, redo, redo_all, undo, undo_all};
 pub use sizes::{Sizes, entry_sizes};

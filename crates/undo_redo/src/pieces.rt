@@ -5,7 +5,7 @@ ghost use Rattle.undo_redo.specs.Linked.{status_of};
 ghost use Rattle.undo_redo.specs.Between.{pair_between, triple_between, tells_apart, triples_between};
 
 use arrayvec::ArrayVec;
-use codec::{Attribute, Inode, Pair, Status, Triple, Triples};
+use codec::{Attribute, Inode, Pair, PointerIndex, Status, Triple, Triples};
 use s4_types::Ptr;
 use s4_types::limits::{ENTRY_TRIPLES, OBJECT_BLOCKS};
 
@@ -46,7 +46,7 @@ fn triple_at(before: &Inode, after: &Inode, index: usize) -> Triple
     ensures { result ≡ triple_between before.now after.now index }
 {
     Triple {
-        index: index as u8,
+        index: index as PointerIndex,
         before: before.pointers[index],
         after: after.pointers[index],
     }

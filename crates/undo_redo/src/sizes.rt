@@ -1,13 +1,9 @@
 ghost use Rattle.std.specs.Prelude.{◌≡◌, ◌≤◌, ◌+◌, ◌*◌, ◌++◌, length};
-ghost use Rattle.s4_types.specs.declared.limits.TheConstants.{ENTRY_TRIPLES, OBJECT_BLOCKS};
+ghost use Rattle.s4_types.specs.declared.limits.TheConstants.{ENTRY_TRIPLES, OBJECT_BLOCKS, ATTRIBUTE_PAIR_BYTES};
 ghost use Rattle.undo_redo.specs.Sizes.{later_sizes, entry_sizes};
 
-use crate::between::CHANGE_ENTRIES;
 use arrayvec::ArrayVec;
-use s4_types::limits::{ENTRY_TRIPLES, SHORTEST_ENTRY_BYTES};
-
-/// Bytes of a triple: its index, and two pointers.
-const TRIPLE_BYTES: usize = 17;
+use s4_types::limits::{CHANGE_ENTRIES, ENTRY_TRIPLES, SHORTEST_ENTRY_BYTES, TRIPLE_BYTES};
 
 /// The numbers of bytes of the entries of one change.
 pub type Sizes = ArrayVec<usize, CHANGE_ENTRIES>;
@@ -16,7 +12,7 @@ pub type Sizes = ArrayVec<usize, CHANGE_ENTRIES>;
 /// attributes takes `pair_bytes`: 0 where these are equal, else both attributes behind a byte each.
 pub fn entry_sizes(triples: usize, pair_bytes: usize) -> Sizes
     requires pointers { triples ≤ OBJECT_BLOCKS }
-    requires pair { pair_bytes ≤ 130 }
+    requires pair { pair_bytes ≤ ATTRIBUTE_PAIR_BYTES }
     ensures { result.items ≡ entry_sizes triples pair_bytes }
 {
     let mut sizes = Sizes::new();

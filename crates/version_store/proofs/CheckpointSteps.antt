@@ -5,6 +5,7 @@ use Rattle.std.specs.List.{Contains}
 use Rattle.std.proofs.lemmas.Bool.{cases_Bool, and_from, and_parts, and_right, or_left, or_right, eqb-true, ltb-true, ltb-false, leb-true, le-leb, false≢true}
 use Rattle.std.proofs.lemmas.List.{append-nil}
 use Rattle.s4_types.specs.Pointer.{Place}
+use Rattle.s4_types.specs.declared.limits.TheConstants.{OBJECT_BYTES}
 use Rattle.block_log.specs.Taken.{TakesPlaces}
 use Rattle.block_log.specs.Log.{Log, Stored, same_kind}
 use Rattle.block_log.specs.declared.kinds.BlockKind.TheVariants.{Journal, Checkpoint, Data}
@@ -75,13 +76,13 @@ holes_all size (p ∷ pointers) holes =
     (first_hole size p (λ le. holes 0 (omega (arith, le))))
     (holes_all (size - 512) pointers (λ k le. holes (suc k) (omega (arith, le))))
 
-pub keeps_rules : (o m : ℕ) (i : Inode) → 1 ≤ o → 1 ≤ m → 1 ≤ i.created → i.size ≤ 24576 → holes_past i.size i.pointers ≡ true → checkpoint_rules (record { object = o; moment = m; inode = i }) ≡ true
+pub keeps_rules : (o m : ℕ) (i : Inode) → 1 ≤ o → 1 ≤ m → 1 ≤ i.created → i.size ≤ OBJECT_BYTES → holes_past i.size i.pointers ≡ true → checkpoint_rules (record { object = o; moment = m; inode = i }) ≡ true
 unfolding checkpoint_rules
 keeps_rules o m i object moment created size holes =
-    and_from (leb 1 o) (leb 1 m && (leb 1 i.created && (leb i.size 24576 && holes_past i.size i.pointers))) (le-leb 1 o object)
-    (and_from (leb 1 m) (leb 1 i.created && (leb i.size 24576 && holes_past i.size i.pointers)) (le-leb 1 m moment)
-    (and_from (leb 1 i.created) (leb i.size 24576 && holes_past i.size i.pointers) (le-leb 1 i.created created)
-    (and_from (leb i.size 24576) (holes_past i.size i.pointers) (le-leb i.size 24576 size) holes)))
+    and_from (leb 1 o) (leb 1 m && (leb 1 i.created && (leb i.size OBJECT_BYTES && holes_past i.size i.pointers))) (le-leb 1 o object)
+    (and_from (leb 1 m) (leb 1 i.created && (leb i.size OBJECT_BYTES && holes_past i.size i.pointers)) (le-leb 1 m moment)
+    (and_from (leb 1 i.created) (leb i.size OBJECT_BYTES && holes_past i.size i.pointers) (le-leb 1 i.created created)
+    (and_from (leb i.size OBJECT_BYTES) (holes_past i.size i.pointers) (le-leb i.size OBJECT_BYTES size) holes)))
 
 -- The moment of the last entry of an object's row covers all that the row tells, and is no later than the last change.
 pub record Covers (s : StoreFields) (o : ℕ) (row : Row) (m : ℕ) : Type 0 where

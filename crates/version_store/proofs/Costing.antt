@@ -7,6 +7,7 @@ use Rattle.std.proofs.lemmas.List.Sums.{sum_by-cons}
 use Rattle.std.proofs.lemmas.List.{get_or_default}
 use lib.Pointwise.{bytes_decides}
 use Rattle.s4_types.specs.Pointer.{Place}
+use Rattle.s4_types.specs.declared.limits.TheConstants.{ENTRY_TRIPLES, SHORTEST_ENTRY_BYTES, TRIPLE_BYTES, OBJECT_BLOCKS, ATTRIBUTE_PAIR_BYTES, CHANGE_ENTRY_BYTES, CHANGE_ENTRIES}
 use Rattle.codec.specs.Checkpoint.{pointer_at}
 use Rattle.codec.specs.Entry.{pair_length}
 use Rattle.codec.specs.declared.inodes.Inode.{Inode}
@@ -20,21 +21,21 @@ use Rattle.version_store.proofs.Counting.{tally, tally-none, tally-more}
 sum-cons : (n : ℕ) (ns : List ℕ) → sum (n ∷ ns) ≡ n + sum ns
 sum-cons n ns = sum_by-cons (λ k. k) n ns
 
-later_most : (n k count : ℕ) → count ≤ 16 * k → sum (later_sizes n count) ≤ 34 * k + 17 * count
+later_most : (n k count : ℕ) → count ≤ ENTRY_TRIPLES * k → sum (later_sizes n count) ≤ SHORTEST_ENTRY_BYTES * k + TRIPLE_BYTES * count
 unfolding later_sizes
 later_most zero k count few = omega arith
 later_most (suc n) k zero few = omega arith
 later_most (suc n) zero (suc count) few = absurd (omega arith)
 later_most (suc n) (suc k) (suc count) few =
-    let one : sum ((34 + 17 * min 16 (suc count)) ∷ later_sizes n (suc count - 16)) ≡ (34 + 17 * min 16 (suc count)) + sum (later_sizes n (suc count - 16)) = sum-cons (34 + 17 * min 16 (suc count)) (later_sizes n (suc count - 16)) in
-    let rest = later_most n k (suc count - 16) (omega (arith, few)) in
+    let one : sum ((SHORTEST_ENTRY_BYTES + TRIPLE_BYTES * min ENTRY_TRIPLES (suc count)) ∷ later_sizes n (suc count - ENTRY_TRIPLES)) ≡ (SHORTEST_ENTRY_BYTES + TRIPLE_BYTES * min ENTRY_TRIPLES (suc count)) + sum (later_sizes n (suc count - ENTRY_TRIPLES)) = sum-cons (SHORTEST_ENTRY_BYTES + TRIPLE_BYTES * min ENTRY_TRIPLES (suc count)) (later_sizes n (suc count - ENTRY_TRIPLES)) in
+    let rest = later_most n k (suc count - ENTRY_TRIPLES) (omega (arith, few)) in
     omega (arith, one, rest)
 
-pub sizes_most : (count pair : ℕ) → count ≤ 48 → pair ≤ 130 → sum (entry_sizes count pair) ≤ 1048
+pub sizes_most : (count pair : ℕ) → count ≤ OBJECT_BLOCKS → pair ≤ ATTRIBUTE_PAIR_BYTES → sum (entry_sizes count pair) ≤ CHANGE_ENTRY_BYTES
 unfolding entry_sizes
 sizes_most count pair few short =
-    let first : sum (entry_sizes count pair) ≡ (34 + pair + 17 * min 16 count) + sum (later_sizes (count - 16) (count - 16)) = sum-cons (34 + pair + 17 * min 16 count) (later_sizes (count - 16) (count - 16)) in
-    let rest = later_most (count - 16) 2 (count - 16) (omega (arith, few)) in
+    let first : sum (entry_sizes count pair) ≡ (SHORTEST_ENTRY_BYTES + pair + TRIPLE_BYTES * min ENTRY_TRIPLES count) + sum (later_sizes (count - ENTRY_TRIPLES) (count - ENTRY_TRIPLES)) = sum-cons (SHORTEST_ENTRY_BYTES + pair + TRIPLE_BYTES * min ENTRY_TRIPLES count) (later_sizes (count - ENTRY_TRIPLES) (count - ENTRY_TRIPLES)) in
+    let rest = later_most (count - ENTRY_TRIPLES) (CHANGE_ENTRIES - 1) (count - ENTRY_TRIPLES) (omega (arith, few)) in
     omega (arith, few, short, first, rest)
 
 -- ---- the bytes of attributes
@@ -78,6 +79,6 @@ past_hole i size k count slot le lt hole e =
     let more = past_more i size k in
     omega (arith, none, more, e)
 
-pub past_all : (i : Inode) (size n : ℕ) → n ≡ 48 → tally (is_past i size) 0 n ≡ past_count i size
+pub past_all : (i : Inode) (size n : ℕ) → n ≡ OBJECT_BLOCKS → tally (is_past i size) 0 n ≡ past_count i size
 unfolding past_count
 past_all i size n e = ap (tally (is_past i size) 0) e

@@ -7,6 +7,7 @@ use Rattle.std.proofs.lemmas.Option.{slice_get-get_or}
 use Rattle.std.proofs.lemmas.List.Sums.{count_by-le-length, sum_by-cons}
 use Rattle.std.proofs.lemmas.List.FromFn.{length-range_with_len}
 use Rattle.s4_types.specs.Pointer.{Place}
+use Rattle.s4_types.specs.declared.limits.TheConstants.{OBJECT_BLOCKS, OBJECT_BYTES}
 use Rattle.block_log.specs.Log.{Stored, same_place}
 use Rattle.codec.specs.Checkpoint.{pointer_at}
 use Rattle.codec.specs.Entry.{same_slot}
@@ -129,9 +130,9 @@ tells i j a (suc n) =
     let whole = tally-first (differs i j) a n in
     omega (arith, rest, longer, whole)
 
-between_count : (i j : Inode) → length (triples_between i j) ≡ tally (differs i j) 0 48
+between_count : (i j : Inode) → length (triples_between i j) ≡ tally (differs i j) 0 OBJECT_BLOCKS
 unfolding triples_between triples_below
-between_count i j = tells i j 0 48
+between_count i j = tells i j 0 OBJECT_BLOCKS
 
 same_place-self : (p : Place) → same_place p p ≡ true
 same_place-self p = and_from (p.frame == p.frame) (p.block == p.block && p.generation == p.generation) (eq-eqb p.frame p.frame refl) (and_from (p.block == p.block) (p.generation == p.generation) (eq-eqb p.block p.block refl) (eq-eqb p.generation p.generation refl))
@@ -159,7 +160,7 @@ fresh_differs one held i j k p is free leads = not_from_false (same_slot (pointe
 -- ---- each kind of change
 
 pub none_moved : (i j : Inode) → ((k : ℕ) → pointer_at j k ≡ pointer_at i k) → length (triples_between i j) ≡ 0
-none_moved i j same = between_count i j ∙ tally-none (differs i j) 0 48 (λ k le lt. not_differs i j k (same k))
+none_moved i j same = between_count i j ∙ tally-none (differs i j) 0 OBJECT_BLOCKS (λ k le lt. not_differs i j k (same k))
 
 -- the places of the blocks that were appended were free
 abbrev pub Fresh : (Place → Option Stored) → List Place → ℕ → Type 0
@@ -195,20 +196,20 @@ touched_some offset len lt = cond-false (len == 0) 0 ((offset + len - 1) / 512 +
 touched_none : (offset len : ℕ) → len ≡ 0 → touched_count offset len ≡ 0
 touched_none offset len e = cond-true (len == 0) 0 ((offset + len - 1) / 512 + 1 - offset / 512) (eq-eqb len 0 e)
 
-touched_tally : (offset len : ℕ) → offset + len ≤ 24576 → tally (is_touched offset len) 0 48 ≡ touched_count offset len
+touched_tally : (offset len : ℕ) → offset + len ≤ OBJECT_BYTES → tally (is_touched offset len) 0 OBJECT_BLOCKS ≡ touched_count offset len
 touched_tally offset len le =
-    let all : tally (is_touched offset len) 0 48 ≡ min (offset / 512 + touched_count offset len) 48 - max (offset / 512) 0 = tally-within (offset / 512) (offset / 512 + touched_count offset len) 0 48 in
+    let all : tally (is_touched offset len) 0 OBJECT_BLOCKS ≡ min (offset / 512 + touched_count offset len) OBJECT_BLOCKS - max (offset / 512) 0 = tally-within (offset / 512) (offset / 512 + touched_count offset len) 0 OBJECT_BLOCKS in
     elim (cases_lt 0 len) [
       | inl some ↦ let count = touched_some offset len some in omega (arith, all, count, some, le)
       | inr none ↦ let count = touched_none offset len (omega arith) in omega (arith, all, count)
     ]
 
 -- a write replaces the pointers of the blocks that it touches
-pub written_moves : OnePlace → (held : Place → Option Stored) (ahead : List Place) (moment offset len : ℕ) (i j : Inode) → offset + len ≤ 24576 → Written ahead moment offset len i j → touched_count offset len ≤ length ahead → Fresh held ahead (touched_count offset len) → PointersLead held i
+pub written_moves : OnePlace → (held : Place → Option Stored) (ahead : List Place) (moment offset len : ℕ) (i j : Inode) → offset + len ≤ OBJECT_BYTES → Written ahead moment offset len i j → touched_count offset len ≤ length ahead → Fresh held ahead (touched_count offset len) → PointersLead held i
     → length (triples_between i j) ≡ touched_count offset len
 written_moves one held ahead moment offset len i j le written room fresh leads =
     between_count i j
-    ∙ tally-same (differs i j) (is_touched offset len) 0 48 (λ k from below. touched_differs one held ahead moment offset len i j k written room fresh leads)
+    ∙ tally-same (differs i j) (is_touched offset len) 0 OBJECT_BLOCKS (λ k from below. touched_differs one held ahead moment offset len i j k written room fresh leads)
     ∙ touched_tally offset len le
 
 -- ---- a truncation
@@ -238,32 +239,32 @@ cut_here i size k is = elim (cases_eq k (size / 512)) [
 ]
 
 -- a size that cuts a block in two is below the limit
-cut_low : (i : Inode) (size : ℕ) → size ≤ 24576 → is_cut i size ≡ true → size / 512 < 48
+cut_low : (i : Inode) (size : ℕ) → size ≤ OBJECT_BYTES → is_cut i size ≡ true → size / 512 < OBJECT_BLOCKS
 cut_low i size le is =
     let deep = and_parts (ltb size i.size) (not (size % 512 == 0) && is_some (pointer_at i (size / 512))) is in
     let inner = and_parts (not (size % 512 == 0)) (is_some (pointer_at i (size / 512))) deep.1 in
     let rest : size % 512 ≡ 0 → ⊥ = eqb-false (size % 512) 0 (not-true (size % 512 == 0) inner.0) in
-    elim (cases_lt (size / 512) 48) [ inl low ↦ low | inr past ↦ absurd (rest (omega arith)) ]
+    elim (cases_lt (size / 512) OBJECT_BLOCKS) [ inl low ↦ low | inr past ↦ absurd (rest (omega arith)) ]
 
-cut_tally : (i : Inode) (size : ℕ) → size ≤ 24576 → tally (is_cut_at i size) 0 48 ≡ cut_count i size
+cut_tally : (i : Inode) (size : ℕ) → size ≤ OBJECT_BYTES → tally (is_cut_at i size) 0 OBJECT_BLOCKS ≡ cut_count i size
 cut_tally i size le = elim (cases_Bool (is_cut i size)) [
   | inl is ↦
-      let here : tally (is_cut_at i size) 0 48 ≡ tally (within (size / 512) (size / 512 + 1)) 0 48 = tally-same (is_cut_at i size) (within (size / 512) (size / 512 + 1)) 0 48 (λ k from below. cut_here i size k is) in
-      let one : tally (within (size / 512) (size / 512 + 1)) 0 48 ≡ min (size / 512 + 1) 48 - max (size / 512) 0 = tally-within (size / 512) (size / 512 + 1) 0 48 in
+      let here : tally (is_cut_at i size) 0 OBJECT_BLOCKS ≡ tally (within (size / 512) (size / 512 + 1)) 0 OBJECT_BLOCKS = tally-same (is_cut_at i size) (within (size / 512) (size / 512 + 1)) 0 OBJECT_BLOCKS (λ k from below. cut_here i size k is) in
+      let one : tally (within (size / 512) (size / 512 + 1)) 0 OBJECT_BLOCKS ≡ min (size / 512 + 1) OBJECT_BLOCKS - max (size / 512) 0 = tally-within (size / 512) (size / 512 + 1) 0 OBJECT_BLOCKS in
       let count : cut_count i size ≡ 1 = cond-true (is_cut i size) 1 0 is in
-      let low : size / 512 < 48 = cut_low i size le is in
+      let low : size / 512 < OBJECT_BLOCKS = cut_low i size le is in
       omega (arith, here, one, count, low)
   | inr whole ↦
-      let none : tally (is_cut_at i size) 0 48 ≡ 0 = tally-none (is_cut_at i size) 0 48 (λ k from below. and_left (is_cut i size) (k == size / 512) whole) in
+      let none : tally (is_cut_at i size) 0 OBJECT_BLOCKS ≡ 0 = tally-none (is_cut_at i size) 0 OBJECT_BLOCKS (λ k from below. and_left (is_cut i size) (k == size / 512) whole) in
       let count : cut_count i size ≡ 0 = cond-false (is_cut i size) 1 0 whole in
       none ∙ sym count
 ]
 
-past_and_cut : (i : Inode) (size : ℕ) → size ≤ 24576 → (f : ℕ → Bool) → ((k : ℕ) → bit (f k) ≡ bit (is_past i size k) + bit (is_cut_at i size k)) → tally f 0 48 ≡ past_count i size + cut_count i size
+past_and_cut : (i : Inode) (size : ℕ) → size ≤ OBJECT_BYTES → (f : ℕ → Bool) → ((k : ℕ) → bit (f k) ≡ bit (is_past i size k) + bit (is_cut_at i size k)) → tally f 0 OBJECT_BLOCKS ≡ past_count i size + cut_count i size
 unfolding past_count
 past_and_cut i size le f each =
-    let both : tally f 0 48 ≡ tally (is_past i size) 0 48 + tally (is_cut_at i size) 0 48 = tally-sum (is_past i size) (is_cut_at i size) f 0 48 (λ k from below. each k) in
-    let cut : tally (is_cut_at i size) 0 48 ≡ cut_count i size = cut_tally i size le in
+    let both : tally f 0 OBJECT_BLOCKS ≡ tally (is_past i size) 0 OBJECT_BLOCKS + tally (is_cut_at i size) 0 OBJECT_BLOCKS = tally-sum (is_past i size) (is_cut_at i size) f 0 OBJECT_BLOCKS (λ k from below. each k) in
+    let cut : tally (is_cut_at i size) 0 OBJECT_BLOCKS ≡ cut_count i size = cut_tally i size le in
     omega (arith, both, cut)
 
 pub past_uncut : (i : Inode) (size k : ℕ) → is_cut_at i size k ≡ true → size ≤ 512 * k → ⊥
@@ -312,7 +313,7 @@ cut_differs one held ahead moment size i j k truncated room fresh leads = elim (
 ]
 
 -- a truncation replaces the pointers past the size, and that of the block that it cuts
-pub truncated_moves : OnePlace → (held : Place → Option Stored) (ahead : List Place) (moment size : ℕ) (i j : Inode) → size ≤ 24576 → Truncated ahead moment size i j → cut_count i size ≤ length ahead → Fresh held ahead (cut_count i size) → PointersLead held i
+pub truncated_moves : OnePlace → (held : Place → Option Stored) (ahead : List Place) (moment size : ℕ) (i j : Inode) → size ≤ OBJECT_BYTES → Truncated ahead moment size i j → cut_count i size ≤ length ahead → Fresh held ahead (cut_count i size) → PointersLead held i
     → length (triples_between i j) ≡ past_count i size + cut_count i size
 truncated_moves one held ahead moment size i j le truncated room fresh leads =
     between_count i j ∙ past_and_cut i size le (differs i j) (λ k. cut_differs one held ahead moment size i j k truncated room fresh leads)
@@ -323,8 +324,8 @@ either_bit true false h = refl
 either_bit false true h = refl
 either_bit false false h = refl
 
-pub moved_most : (i : Inode) (size : ℕ) → size ≤ 24576 → past_count i size + cut_count i size ≤ 48
+pub moved_most : (i : Inode) (size : ℕ) → size ≤ OBJECT_BYTES → past_count i size + cut_count i size ≤ OBJECT_BLOCKS
 moved_most i size le =
-    let all : tally (λ k. is_past i size k || is_cut_at i size k) 0 48 ≡ past_count i size + cut_count i size = past_and_cut i size le (λ k. is_past i size k || is_cut_at i size k) (λ k. either_bit (is_cut_at i size k) (is_past i size k) (cut_before i size k)) in
-    let most = tally_most (λ k. is_past i size k || is_cut_at i size k) 48 in
+    let all : tally (λ k. is_past i size k || is_cut_at i size k) 0 OBJECT_BLOCKS ≡ past_count i size + cut_count i size = past_and_cut i size le (λ k. is_past i size k || is_cut_at i size k) (λ k. either_bit (is_cut_at i size k) (is_past i size k) (cut_before i size k)) in
+    let most = tally_most (λ k. is_past i size k || is_cut_at i size k) OBJECT_BLOCKS in
     omega (arith, all, most)

@@ -7,6 +7,7 @@ use Rattle.std.proofs.lemmas.List.Elements.{Contains-append_right}
 use Rattle.std.proofs.lemmas.Option.{none-some, same_Some}
 use std.Path.{fun_ext}
 use Rattle.s4_types.specs.Pointer.{Place}
+use Rattle.s4_types.specs.declared.limits.TheConstants.{CHAIN_ENTRY_BYTES}
 use Rattle.block_log.specs.declared.kinds.BlockKind.{BlockKind}
 use Rattle.block_log.specs.declared.kinds.BlockKind.TheVariants.{Journal, Checkpoint, Data}
 use Rattle.block_log.specs.Log.{Stored, of_kind, seen_as, same_kind, same_place}
@@ -109,7 +110,7 @@ journal_gone held chain o object holds p =
     (none_seen (of_kind Journal chain.object held p)
     (sym (holds.once p) ∙ no_times p (chain_places (of_kind Journal chain.object held) chain.object chain.head) (no_places (chain_links (of_kind Journal chain.object held) chain.object chain.head) holds.blocks)))
 
-pub no_bytes : entries_length [] ≤ 11712
+pub no_bytes : entries_length [] ≤ CHAIN_ENTRY_BYTES
 unfolding entries_length
 no_bytes = omega arith
 

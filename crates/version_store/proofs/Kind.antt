@@ -7,6 +7,7 @@ use Rattle.std.proofs.lemmas.Option.{none-some}
 use Rattle.s4_types.specs.declared.changes.Change.{Change}
 use Rattle.s4_types.specs.declared.changes.Change.TheVariants.{Create, Delete, Write, Truncate, SetAttr, SetWindow, Flush, FlushO}
 use Rattle.s4_types.specs.declared.versions.Version.{Version}
+use Rattle.s4_types.specs.declared.limits.TheConstants.{OBJECT_BLOCKS, OBJECT_BYTES}
 use Rattle.s4_model.specs.Effect.{effect, is_change_of, object_of}
 use Rattle.block_log.specs.Taken.{TakesPlaces}
 use Rattle.block_log.specs.Log.{Log}
@@ -38,7 +39,7 @@ use Rattle.version_store.proofs.Subjects.{IsSubject, free_of, counted, free_to_p
 -- ---- which inodes entries lead to
 
 -- one that is still alive
-pub alive_leads : (i j : Inode) (m : ℕ) → 1 ≤ m → i.alive ≡ true → j.alive ≡ i.alive → j.created ≡ i.created → j.changed ≡ m → length i.pointers ≡ 48 → length j.pointers ≡ 48 → i.size ≤ 24576 → j.size ≤ 24576 → CanLead i j m
+pub alive_leads : (i j : Inode) (m : ℕ) → 1 ≤ m → i.alive ≡ true → j.alive ≡ i.alive → j.created ≡ i.created → j.changed ≡ m → length i.pointers ≡ OBJECT_BLOCKS → length j.pointers ≡ OBJECT_BLOCKS → i.size ≤ OBJECT_BYTES → j.size ≤ OBJECT_BYTES → CanLead i j m
 alive_leads i j m later alive same created changed count_before count_after size_before size_after = record {
   moment = later;
   created = sym created;
@@ -52,7 +53,7 @@ alive_leads i j m later alive same created changed count_before count_after size
 }
 
 -- one that was deleted
-pub deleted_leads : (i : Inode) (m : ℕ) → 1 ≤ m → i.alive ≡ true → length i.pointers ≡ 48 → i.size ≤ 24576 → CanLead i (record i { alive = false }) m
+pub deleted_leads : (i : Inode) (m : ℕ) → 1 ≤ m → i.alive ≡ true → length i.pointers ≡ OBJECT_BLOCKS → i.size ≤ OBJECT_BYTES → CanLead i (record i { alive = false }) m
 deleted_leads i m later alive count size = record {
   moment = later;
   created = refl;
@@ -66,7 +67,7 @@ deleted_leads i m later alive count size = record {
 }
 
 -- the first one
-pub created_leads : (j : Inode) (m : ℕ) → 1 ≤ m → j.alive ≡ true → j.created ≡ m → j.changed ≡ m → length (blank m).pointers ≡ 48 → length j.pointers ≡ 48 → j.size ≡ 0 → CanLead (blank m) j m
+pub created_leads : (j : Inode) (m : ℕ) → 1 ≤ m → j.alive ≡ true → j.created ≡ m → j.changed ≡ m → length (blank m).pointers ≡ OBJECT_BLOCKS → length j.pointers ≡ OBJECT_BLOCKS → j.size ≡ 0 → CanLead (blank m) j m
 unfolding blank
 created_leads j m later alive created changed count_before count_after size = record {
   moment = later;

@@ -2,6 +2,7 @@
 use Rattle.std.proofs.Common.{◌≡◌, ℕ, ◌≤◌, Bool, true, List, Option, Some, None, IsSome, IfSome, MatchOption, is_some, option_map, refl, sym, ap, subst, ◌∙◌}
 use Rattle.std.proofs.lemmas.List.Elements.{All-weaker}
 use Rattle.s4_types.specs.Pointer.{Place}
+use Rattle.s4_types.specs.declared.limits.TheConstants.{CHAIN_ENTRY_BYTES}
 use Rattle.block_log.specs.Log.{Stored, seen_as}
 use Rattle.block_log.specs.declared.kinds.BlockKind.TheVariants.{Data}
 use Rattle.codec.specs.Fields.{◌>>=◌}
@@ -145,7 +146,7 @@ can_tell laws held o row r stands rules =
           (sym (shown_renamed laws.blank laws.undo laws.by laws.shown held o row r row.checkpoint_moment));
       run = subst (λ (i : Inode). Run i (renamed_entries r entries) (redone_all (renamed_entries r entries) i)) (sym start) run;
       groups = laws.groups r entries ∙ stands.groups;
-      bytes = subst (λ n. n ≤ 11712) (sym (laws.bytes r entries)) stands.chain.limit;
+      bytes = subst (λ n. n ≤ CHAIN_ENTRY_BYTES) (sym (laws.bytes r entries)) stands.chain.limit;
       created = ap (λ (i : Inode). i.created) start ∙ stands.created;
     }
 

@@ -7,6 +7,7 @@ use Rattle.s4_types.specs.Pointer.{Place}
 use Rattle.s4_types.specs.declared.changes.Change.{Change}
 use Rattle.s4_types.specs.declared.refusals.Refusal.TheVariants.{ChainFull, NoSpace}
 use Rattle.s4_types.specs.declared.versions.Version.TheVariants.{Absent, Live}
+use Rattle.s4_types.specs.declared.limits.TheConstants.{CHAIN_ENTRY_BYTES, RESERVE_BLOCKS}
 use Rattle.s4_model.specs.Refusals.{is_absent}
 use Rattle.block_log.specs.Log.{Stored}
 use Rattle.codec.specs.Entry.{EntryFields, entry_length, entries_length, pair_length}
@@ -76,14 +77,14 @@ neither false false none = (refl, refl)
 
 -- how much a change that isn't refused may take
 pub record IsFree (space : ℕ) (change : Change) (row : Row) (i : Inode) : Type 0 where
-  pub chain : row.journal_bytes + sum (sizes_by change i) ≤ 11712
+  pub chain : row.journal_bytes + sum (sizes_by change i) ≤ CHAIN_ENTRY_BYTES
   pub blocks : data_blocks change i + blocks_needed row.head_bytes (sizes_by change i) ≤ space
 
 pub free_of : (space : ℕ) (change : Change) (row : Row) (i : Inode) → refusal_by space change row i ≡ None → IsFree space change row i
 free_of space change row i none =
-    let both = neither (ltb 11712 (row.journal_bytes + sum (sizes_by change i))) (ltb space (data_blocks change i + blocks_needed row.head_bytes (sizes_by change i))) none in
+    let both = neither (ltb CHAIN_ENTRY_BYTES (row.journal_bytes + sum (sizes_by change i))) (ltb space (data_blocks change i + blocks_needed row.head_bytes (sizes_by change i))) none in
     record {
-      chain = ltb-false 11712 (row.journal_bytes + sum (sizes_by change i)) both.0;
+      chain = ltb-false CHAIN_ENTRY_BYTES (row.journal_bytes + sum (sizes_by change i)) both.0;
       blocks = ltb-false space (data_blocks change i + blocks_needed row.head_bytes (sizes_by change i)) both.1;
     }
 
@@ -98,7 +99,7 @@ not_refused : (a b : Bool) → a ≡ false → b ≡ false → cond a (Some Chai
 not_refused a b x y = cond-false a (Some ChainFull) (cond b (Some NoSpace) None) x ∙ cond-false b (Some NoSpace) None y
 
 -- so they can be pushed, once the data blocks were appended
-pub free_to_push : SizesAddUp → (change : Change) (row : Row) (o : ℕ) (before after : List Place) (entries : List EntryFields) (i : Inode) → IsFree (length before - 60) change row i
+pub free_to_push : SizesAddUp → (change : Change) (row : Row) (o : ℕ) (before after : List Place) (entries : List EntryFields) (i : Inode) → IsFree (length before - RESERVE_BLOCKS) change row i
     → map entry_length entries ≡ sizes_by change i → after ≡ drop (data_blocks change i) before → push_refusal (chain_of o row) after entries ≡ None
 free_to_push add_up change row o before after entries i free sizes ahead =
     let bytes : sum (sizes_by change i) ≡ entries_length entries = sym (ap sum sizes) ∙ add_up entries in
@@ -106,6 +107,6 @@ free_to_push add_up change row o before after entries i free sizes ahead =
     let left : length after ≡ length before - data_blocks change i = ap length ahead ∙ length-drop (data_blocks change i) before in
     let chain = free.chain in
     let few = free.blocks in
-    not_refused (ltb 11712 (row.journal_bytes + entries_length entries)) (ltb (length after) (blocks_needed row.head_bytes (map entry_length entries)))
-    (le-ltb 11712 (row.journal_bytes + entries_length entries) (omega (arith, bytes, chain)))
+    not_refused (ltb CHAIN_ENTRY_BYTES (row.journal_bytes + entries_length entries)) (ltb (length after) (blocks_needed row.head_bytes (map entry_length entries)))
+    (le-ltb CHAIN_ENTRY_BYTES (row.journal_bytes + entries_length entries) (omega (arith, bytes, chain)))
     (le-ltb (length after) (blocks_needed row.head_bytes (map entry_length entries)) (omega (arith, blocks, left, few)))

@@ -5,6 +5,7 @@ use Rattle.std.proofs.lemmas.Bool.{ltb-false}
 use Rattle.std.proofs.lemmas.List.{length-map}
 use Rattle.std.proofs.lemmas.Option.{same_Some}
 use Rattle.s4_types.specs.Pointer.{Place}
+use Rattle.s4_types.specs.declared.limits.TheConstants.{CHAIN_ENTRY_BYTES}
 use Rattle.block_log.specs.Log.{Stored}
 use Rattle.block_log.specs.Taken.{TakesPlaces}
 use Rattle.block_log.specs.declared.kinds.BlockKind.TheVariants.{Checkpoint}
@@ -105,7 +106,7 @@ pub turned : OrderlyStays → RowStays → RowInodeStays → IsByStays → IsByL
     → TakesPlaces (pushed_blocks (chain_of o row) (entries_between i j m)) s.log later.log → Turns s o m j (blocks_turned s o i j m) later
 turned orderly stands same by later_by matter are_some needed s later o m i j row next can there know latest records rest put takes =
     let later_is = can.later in
-    let tests = neither (ltb 11712 (row.journal_bytes + entries_length (entries_between i j m))) (ltb (length s.log.ahead) (pushed_blocks (chain_of o row) (entries_between i j m))) know.free in
+    let tests = neither (ltb CHAIN_ENTRY_BYTES (row.journal_bytes + entries_length (entries_between i j m))) (ltb (length s.log.ahead) (pushed_blocks (chain_of o row) (entries_between i j m))) know.free in
     let few : pushed_blocks (chain_of o row) (entries_between i j m) ≤ length s.log.ahead = ltb-false (length s.log.ahead) (pushed_blocks (chain_of o row) (entries_between i j m)) tests.1 in
     let entries = (are_some i j m).0 in
     let count : length (map entry_length (entries_between i j m)) ≡ length (entries_between i j m) = length-map (entries_between i j m) entry_length in

@@ -1,7 +1,7 @@
 //! What a change takes of a store, counted from its object's inode before anything is written.
 
 ghost use Rattle.std.specs.Prelude.{◌≡◌, ◌+◌, ◌≤◌, length, sum, None, Some, MatchResult};
-ghost use Rattle.s4_types.specs.declared.limits.TheConstants.{OBJECT_BLOCKS, OBJECT_BYTES};
+ghost use Rattle.s4_types.specs.declared.limits.TheConstants.{OBJECT_BLOCKS, OBJECT_BYTES, ATTRIBUTE_PAIR_BYTES, CHANGE_ENTRY_BYTES};
 ghost use Rattle.s4_model.specs.Limits.{Fits};
 ghost use Rattle.codec.specs.Entry.{pair_length};
 ghost use Rattle.undo_redo.specs.Between.{pair_between};
@@ -88,7 +88,7 @@ fn pair_bytes(before: &[u8], after: &[u8]) -> usize
     requires before { length before.now ≤ 64 }
     requires after { length after.now ≤ 64 }
     ensures exact { result ≡ pair_length (pair_between before.now after.now) }
-    ensures most { result ≤ 130 }
+    ensures most { result ≤ ATTRIBUTE_PAIR_BYTES }
 {
     if before == after {
         return 0;
@@ -101,7 +101,7 @@ fn pair_bytes(before: &[u8], after: &[u8]) -> usize
 fn attribute_bytes(change: &Change, inode: &Inode) -> usize
     requires { Fits change.now }
     ensures exact { result ≡ pair_length (pair_between inode.now.attribute (attribute_by change.now inode.now)) }
-    ensures most { result ≤ 130 }
+    ensures most { result ≤ ATTRIBUTE_PAIR_BYTES }
 {
     let before = inode.attribute.as_slice();
     match change {
@@ -118,7 +118,7 @@ fn sizes_of(change: &Change, inode: &Inode) -> Sizes
     requires size { inode.now.size ≤ OBJECT_BYTES }
     requires count { length inode.now.pointers ≡ OBJECT_BLOCKS }
     ensures exact { result.items ≡ sizes_by change.now inode.now }
-    ensures most { sum result.items ≤ 1048 }
+    ensures most { sum result.items ≤ CHANGE_ENTRY_BYTES }
 {
     entry_sizes(
         pointers_moved(change, inode),
@@ -128,7 +128,7 @@ fn sizes_of(change: &Change, inode: &Inode) -> Sizes
 
 /// The sum of sizes.
 fn total(sizes: &[usize]) -> usize
-    requires { sum sizes.now ≤ 1048 }
+    requires { sum sizes.now ≤ CHANGE_ENTRY_BYTES }
     ensures { result ≡ sum sizes.now }
 {
     let mut total = 0;

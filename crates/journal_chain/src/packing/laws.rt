@@ -1,7 +1,7 @@
 //! Laws of packing, for the layers above: each function does nothing, and its contract is the law.
 ghost use Rattle.std.specs.Prelude.{◌≡◌, ℕ, ◌+◌, ◌<◌, ◌≤◌, ◌++◌, List, [], ◌∷◌, length, map, drop, sum, true, false};
 ghost use Rattle.std.specs.List.{AllByRecursion};
-ghost use Rattle.s4_types.specs.declared.limits.TheConstants.{JOURNAL_ENTRY_BYTES, CHAIN_ENTRY_BYTES, CHAIN_BLOCKS};
+ghost use Rattle.s4_types.specs.declared.limits.TheConstants.{JOURNAL_ENTRY_BYTES, CHAIN_ENTRY_BYTES, CHAIN_BLOCKS, CHAIN_ENTRIES};
 ghost use Rattle.codec.specs.Entry.{EntryFields, IsEntry, entry_length, entries_length};
 ghost use Rattle.journal_chain.specs.Sizes.{fits, filled_after, blocks_needed};
 ghost use Rattle.journal_chain.specs.Packing.{packed_with, added, packed, joined, filled_bytes, KeepsTheRule, AllFit, blocks_past, blocks_kept};
@@ -69,7 +69,7 @@ pub fn chains_are_short()
         → JOURNAL_ENTRY_BYTES < entries_length newer + entries_length previous }
     ensures blocks { (blocks : List (List EntryFields)) → KeepsTheRule blocks → entries_length (joined blocks) ≤ CHAIN_ENTRY_BYTES → length blocks ≤ CHAIN_BLOCKS }
     ensures packed { (entries : List EntryFields) → AllFit entries → entries_length entries ≤ CHAIN_ENTRY_BYTES → length (packed entries) ≤ CHAIN_BLOCKS }
-    ensures entries { (entries : List EntryFields) → entries_length entries ≤ CHAIN_ENTRY_BYTES → length entries ≤ 344 }
+    ensures entries { (entries : List EntryFields) → entries_length entries ≤ CHAIN_ENTRY_BYTES → length entries ≤ CHAIN_ENTRIES }
 {
     entry_is_so_long();
 }

@@ -8,7 +8,7 @@ use Rattle.journal_chain.specs.Sizes.{blocks_needed}
 use Rattle.undo_redo.specs.Between.{entries_between, triples_between, pair_between, AreOf}
 use Rattle.undo_redo.specs.Sizes.{entry_sizes}
 use Rattle.s4_types.specs.Pointer.{Place}
-use Rattle.s4_types.specs.declared.limits.TheConstants.{OBJECT_BLOCKS}
+use Rattle.s4_types.specs.declared.limits.TheConstants.{OBJECT_BLOCKS, CHANGE_ENTRIES}
 use Rattle.block_log.specs.Log.{Log, Stored, of_kind, same_place}
 use Rattle.block_log.specs.Taken.{TakesPlaces}
 use Rattle.block_log.specs.declared.kinds.BlockKind.TheVariants.{Journal}
@@ -66,7 +66,7 @@ abbrev pub EntriesHaveSizes : Type 0
 EntriesHaveSizes = (i j : Inode) (m : ℕ) → map entry_length (entries_between i j m) ≡ entry_sizes (length (triples_between i j)) (pair_length (pair_between i.attribute j.attribute))
 
 abbrev pub EntriesAreSome : Type 0
-EntriesAreSome = (i j : Inode) (m : ℕ) → (1 ≤ length (entries_between i j m)) × (length (entries_between i j m) ≤ 3)
+EntriesAreSome = (i j : Inode) (m : ℕ) → (1 ≤ length (entries_between i j m)) × (length (entries_between i j m) ≤ CHANGE_ENTRIES)
 
 abbrev pub SizesAddUp : Type 0
 SizesAddUp = (entries : List EntryFields) → sum (map entry_length entries) ≡ entries_length entries

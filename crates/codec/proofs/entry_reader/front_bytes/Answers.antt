@@ -1,4 +1,5 @@
 use Rattle.std.proofs.Common.{◌+◌, ◌<◌, length, get_or, arith}
+use Rattle.s4_types.specs.declared.limits.TheConstants.{SHORTEST_ENTRY_BYTES}
 use Rattle.codec.proofs.Exact.{IsBytes}
 use Rattle.codec.proofs.Fronts.{front_of, there_front}
 use Rattle.codec.proofs.entry_reader.front_bytes.Goals as goal
@@ -20,14 +21,14 @@ pub bounds-bytes-34 : goal.bounds-bytes-34
 bounds-bytes-34 c =
     let bytes : IsBytes c.args.bytes.now = λ i. omega (arith, c.type_inv.bytes i) in
     let (e, front) = there_front c.args.bytes.now bytes c.requires in
-    let here : 34 < length c.args.bytes.now = omega (arith, front.within c.if-bytes-lt4.false, front.long) in
+    let here : SHORTEST_ENTRY_BYTES < length c.args.bytes.now = omega (arith, front.within c.if-bytes-lt4.false, front.long) in
     here
 
 pub bounds-bytes-before : goal.bounds-bytes-before
 bounds-bytes-before c =
     let bytes : IsBytes c.args.bytes.now = λ i. omega (arith, c.type_inv.bytes i) in
     let (e, front) = there_front c.args.bytes.now bytes c.requires in
-    let here : 35 + get_or c.args.bytes.now 34 0 < length c.args.bytes.now = omega (arith, front.within c.if-bytes-lt4.false, front.long) in
+    let here : (SHORTEST_ENTRY_BYTES + 1) + get_or c.args.bytes.now SHORTEST_ENTRY_BYTES 0 < length c.args.bytes.now = omega (arith, front.within c.if-bytes-lt4.false, front.long) in
     here
 
 pub returns-then-bytes-lt4 : goal.returns-then-bytes-lt4

@@ -1,5 +1,6 @@
 use Rattle.std.proofs.Common.{◌+◌, ◌<◌, length, sym, ap, subst, arith, lit<}
 use Rattle.std.specs.List.{AllByRecursion}
+use Rattle.s4_types.specs.declared.limits.TheConstants.{JOURNAL_HEAD_BYTES, JOURNAL_ENTRIES}
 use Rattle.codec.specs.Reader.{BeginsAt}
 use Rattle.codec.proofs.Exact.{IsBytes}
 use Rattle.codec.proofs.JournalEntries.{rules_say}
@@ -16,7 +17,7 @@ bounds-block-1 c =
 
 pub loop-init : goal.loop-init
 loop-init c = record {
-  scanned = λ j h. subst (λ l. Scanned c.args.block.now j l 24 0) (sym c.new-starts.ensures) (scan_begins c.args.block.now j h);
+  scanned = λ j h. subst (λ l. Scanned c.args.block.now j l JOURNAL_HEAD_BYTES 0) (sym c.new-starts.ensures) (scan_begins c.args.block.now j h);
   there = subst (AllByRecursion (BeginsAt c.args.block.now)) (sym c.new-starts.ensures) tt;
   len = ap length c.new-starts.ensures;
 }
@@ -31,7 +32,7 @@ pub push-requires : goal.push-requires
 push-requires c =
     let bytes : IsBytes c.args.block.now = λ i. omega (arith, c.type_inv.block i) in
     let r : Ready c.args.block.now c.loop.starts.items c.loop.at c.loop.counter = ready c.args.block.now c.loop.starts.items c.loop.at c.loop.counter bytes c.requires c.loop.invariant.scanned c.loop-test.true in
-    let room : length c.loop.starts.items < 14 = omega (arith, r.few, c.loop.invariant.len) in
+    let room : length c.loop.starts.items < JOURNAL_ENTRIES = omega (arith, r.few, c.loop.invariant.len) in
     (lit< tt, room)
 
 pub bytes_from-rest-requires : goal.bytes_from-rest-requires

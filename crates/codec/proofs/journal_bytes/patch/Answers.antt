@@ -1,4 +1,5 @@
 use Rattle.std.proofs.Common.{◌∙◌, ◌+◌, ℕ, List, ◌++◌, ◌∷◌, [], length, get_or, refl, ap, arith}
+use Rattle.s4_types.specs.declared.limits.TheConstants.{JOURNAL_HEAD_BYTES}
 use Rattle.codec.specs.Fields.{number}
 use Rattle.codec.specs.Entry.{entry_spelling}
 use Rattle.codec.specs.Patching.{decoded}
@@ -19,7 +20,7 @@ returns c =
     let count = c.count_in-count.result in
     let spelled = c.as_slice-bytes.result.now in
     let two = c.to_be_bytes.result in
-    patched c.args.block.now j e (24 + told) (length spelled) told count c.put_at.new.block spelled c.put_at-2.new.block ((count + 1) ∷ get_or two 0 0 ∷ get_or two 1 0 ∷ [])
+    patched c.args.block.now j e (JOURNAL_HEAD_BYTES + told) (length spelled) told count c.put_at.new.block spelled c.put_at-2.new.block ((count + 1) ∷ get_or two 0 0 ∷ get_or two 1 0 ∷ [])
     c.requires.spells c.encode_entry.ensures.spelled c.requires.room
     (c.told_in-told.ensures j c.requires.spells) (c.count_in-count.ensures j c.requires.spells) refl
     (c.as_slice-bytes.ensures.value ∙ c.encode_entry.ensures.items ∙ ap (λ (l : List ℕ). l ++ entry_spelling e) c.new-spelled.ensures) refl

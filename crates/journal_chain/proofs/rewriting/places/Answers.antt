@@ -1,5 +1,6 @@
 use Rattle.std.proofs.Common.{rules, ◌≡◌, ◌∙◌, ◌<◌, ◌≤◌, ◌++◌, ◌∷◌, [], Option, Some, None, IsSome, map, length, refl, sym, ap, subst, arith, lit<, append_assoc, append-nil, length-append}
 use Rattle.s4_types.specs.Pointer.{Place}
+use Rattle.s4_types.specs.declared.limits.TheConstants.{CHAIN_BLOCKS}
 use Rattle.journal_chain.specs.Back.{links_back, places_back}
 use Rattle.journal_chain.proofs.Backwards.{NextPlace, next_block, some_places, few_places, no_places, place_reads}
 use Rattle.journal_chain.proofs.rewriting.places.Goals as goal
@@ -8,7 +9,7 @@ pub loop-next-init : goal.loop-next-init
 loop-next-init g c =
     let held = (g.B.Blocks.log c.args.table.now).held in
     let none : c.new-places.result.items ≡ [] = search rules in
-    let few : length (places_back held c.args.head) ≤ 47 = few_places held c.args.head c.requires in
+    let few : length (places_back held c.args.head) ≤ CHAIN_BLOCKS = few_places held c.args.head c.requires in
     record {
       places = ap (λ l. l ++ map Some (places_back held c.args.head)) none;
       there = c.requires;
@@ -20,7 +21,7 @@ pub push-requires : goal.push-requires
 push-requires g c =
     let some : 1 ≤ length (places_back (g.B.Blocks.log c.loop-next.table).held c.loop-next.next) = some_places (g.B.Blocks.log c.loop-next.table).held c.loop-next.next c.in-Some.place c.in-Some.is c.loop-next.invariant.there in
     let few = c.loop-next.invariant.few in
-    let room : length c.loop-next.places.items < 47 = omega arith in
+    let room : length c.loop-next.places.items < CHAIN_BLOCKS = omega arith in
     (lit< tt, room)
 
 pub open-requires : goal.open-requires

@@ -3,6 +3,7 @@ use Rattle.std.proofs.lemmas.Result.{err_from_is_err_and}
 use Rattle.codec.specs.Checkpoint.{pointer_at}
 use Rattle.inode.specs.Touched.{touched_count}
 use Rattle.s4_types.specs.Pointer.{Place}
+use Rattle.s4_types.specs.declared.limits.TheConstants.{OBJECT_BLOCKS}
 use Rattle.segment_table.specs.Table.{Table}
 use Rattle.time_read.specs.Plans.{PlanFields, piece_of, is_pinned}
 use Rattle.time_read.specs.private.Planning.{AddsPiece}
@@ -17,7 +18,7 @@ returns-in_err-add-clause-refusal c =
     let behind : c.block_behind-end.result ≡ c.args.offset / 512 + touched_count c.args.offset (min c.args.wanted (c.args.inode.now.size - c.args.offset)) =
     c.block_behind-end.ensures ∙ ap (λ (n : ℕ). c.args.offset / 512 + touched_count c.args.offset n) count_is in
     let below : c.loop-index.index < c.args.offset / 512 + touched_count c.args.offset (min c.args.wanted (c.args.inode.now.size - c.args.offset)) = subst (λ (n : ℕ). c.loop-index.index < n) behind c.loop-index-test.true in
-    let within : c.loop-index.index < 48 = inside c.args.offset c.args.wanted c.args.inode.now.size c.loop-index.index c.requires.size low below in
+    let within : c.loop-index.index < OBJECT_BLOCKS = inside c.args.offset c.args.wanted c.args.inode.now.size c.loop-index.index c.requires.size low below in
     let slot : Option Place = slice_index_or c.args.inode.now.pointers c.loop-index.index c.index-inode-index.result in
     let slot_is : slot ≡ pointer_at c.args.inode.now c.loop-index.index = slot_at c.args.inode.now c.loop-index.index slot c.index-inode-index.result (omega (arith, within, c.requires.count)) refl in
     let index_is : c.loop-index.index ≡ c.args.offset / 512 + (c.loop-index.index - c.args.offset / 512) = omega (arith, low) in
@@ -39,7 +40,7 @@ loop-index-preserved c =
     let behind : c.block_behind-end.result ≡ c.args.offset / 512 + touched_count c.args.offset (min c.args.wanted (c.args.inode.now.size - c.args.offset)) =
     c.block_behind-end.ensures ∙ ap (λ (n : ℕ). c.args.offset / 512 + touched_count c.args.offset n) count_is in
     let below : c.loop-index.index < c.args.offset / 512 + touched_count c.args.offset (min c.args.wanted (c.args.inode.now.size - c.args.offset)) = subst (λ (n : ℕ). c.loop-index.index < n) behind c.loop-index-test.true in
-    let within : c.loop-index.index < 48 = inside c.args.offset c.args.wanted c.args.inode.now.size c.loop-index.index c.requires.size low below in
+    let within : c.loop-index.index < OBJECT_BLOCKS = inside c.args.offset c.args.wanted c.args.inode.now.size c.loop-index.index c.requires.size low below in
     let slot : Option Place = slice_index_or c.args.inode.now.pointers c.loop-index.index c.index-inode-index.result in
     let slot_is : slot ≡ pointer_at c.args.inode.now c.loop-index.index = slot_at c.args.inode.now c.loop-index.index slot c.index-inode-index.result (omega (arith, within, c.requires.count)) refl in
     record {

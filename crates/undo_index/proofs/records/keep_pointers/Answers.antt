@@ -1,5 +1,6 @@
 use Rattle.std.proofs.Common.{◌<◌, ◌++◌, ◌≡◌, List, [], ◌∷◌, Some, ap, ◌∙◌}
 use Rattle.std.proofs.lemmas.List.Elements.{All-pop}
+use Rattle.s4_types.specs.declared.limits.TheConstants.{OBJECT_BLOCKS}
 use Rattle.codec.specs.declared.entries.Triple.{Triple}
 use Rattle.undo_index.specs.Earlier.{Earlier}
 use Rattle.undo_index.specs.Undoings.{earlier_of}
@@ -14,7 +15,7 @@ loop-triple-preserved c =
     let split : all ≡ rest ++ t ∷ [] = c.in-Some.ensures.steps in
     let pushed : c.push.new.self.items ≡ c.loop-triple.pointers.items ++ earlier_of t ∷ [] = c.in_ok-push.ensures.items ∙ ap (λ (p : Earlier). c.loop-triple.pointers.items ++ p ∷ []) c.of.ensures in
     record {
-      low = (All-pop (λ (t : Triple). t.index < 48) all rest (Some t) split c.loop-triple.invariant.low).0;
+      low = (All-pop (λ (t : Triple). t.index < OBJECT_BLOCKS) all rest (Some t) split c.loop-triple.invariant.low).0;
       kept = kept_on c.args.pointers.now.items c.loop-triple.pointers.items c.push.new.self.items c.args.triples.now all rest t split pushed c.loop-triple.invariant.kept;
       extends = extends_on c.args.pointers.now.items c.loop-triple.pointers.items c.push.new.self.items c.loop-triple.invariant.extends (earlier_of t ∷ [], pushed);
     }

@@ -1,11 +1,12 @@
 use Rattle.std.proofs.Common.{◌<◌, length, drop, refl, arith}
+use Rattle.s4_types.specs.declared.limits.TheConstants.{ENTRY_TRIPLES}
 use Rattle.undo_redo.proofs.BetweenLaws.{next_rules, next_entry, next_room, all_put}
 use Rattle.undo_redo.proofs.between.push_later.Goals as goal
 
 pub further_entry-requires-clause-rules : goal.further_entry-requires-clause-rules
 further_entry-requires-clause-rules c =
     let some : 0 < length c.loop-rest.rest.now = omega arith in
-    (next_rules c.args.inode.now c.args.moment c.loop-rest.rest.now c.first_piece.result.now (drop 16 c.loop-rest.rest.now) some c.first_piece.ensures.piece refl c.loop-rest.invariant.rules).0
+    (next_rules c.args.inode.now c.args.moment c.loop-rest.rest.now c.first_piece.result.now (drop ENTRY_TRIPLES c.loop-rest.rest.now) some c.first_piece.ensures.piece refl c.loop-rest.invariant.rules).0
 
 pub loop-rest-preserved : goal.loop-rest-preserved
 loop-rest-preserved c =

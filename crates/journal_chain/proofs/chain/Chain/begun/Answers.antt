@@ -1,6 +1,7 @@
 use Rattle.std.proofs.Common.{◌≡◌, ◌∙◌, ◌+◌, ◌++◌, ◌∷◌, [], None, sym, ap, subst, arith}
 use Rattle.std.specs.Option.{option_to_list}
 use Rattle.std.proofs.lemmas.Bool.{leb-true}
+use Rattle.s4_types.specs.declared.limits.TheConstants.{JOURNAL_ENTRY_BYTES}
 use Rattle.codec.specs.Entry.{entry_length}
 use Rattle.codec.specs.Journal.{JournalFields}
 use Rattle.journal_chain.specs.Chain.{entries_held}
@@ -23,7 +24,7 @@ add-requires g c =
     let size = entry_length c.args.first.now in
     let r : HeadRead held chain size c.in-Some.head c.reopen-block.result = head_read held chain (entries_held held chain) size c.in-Some.head c.reopen-block.result c.requires
     (sym (c.reopened.ensures.value ∙ ap (reopened chain) c.byte_count.ensures.exact) ∙ c.in-Some.is) c.reopen-block.ensures.value in
-    omega (arith, leb-true (chain.filled + size) 488 r.fit, r.filled)
+    omega (arith, leb-true (chain.filled + size) JOURNAL_ENTRY_BYTES r.fit, r.filled)
 
 pub returns-in-Some-clause-unfinished : goal.returns-in-Some-clause-unfinished
 returns-in-Some-clause-unfinished g c =
