@@ -1,5 +1,5 @@
 //! `at`: what an object was at a moment.
-ghost use Rattle.std.specs.Prelude.{◌≡◌, ◌+◌, ◌^◌, ◌<◌, [], OnOk, IfOk, Some};
+ghost use Rattle.std.specs.Prelude.{◌≡◌, ◌+◌, ◌^◌, ◌<◌, IfOk, Some};
 ghost use Rattle.s4_types.specs.History.{Seen};
 ghost use Rattle.s4_types.specs.declared.limits.TheConstants.{READ_BYTES};
 ghost use Rattle.s4_types.specs.declared.replies.Reply.TheVariants.{Data};
@@ -35,7 +35,6 @@ pub fn write_object<'a, T: Threads, F: Files, W: Sink>(
     writer: &mut W,
 ) -> Result<(), Fault<'a>>
     requires writer { W.failures writer.old + 1 < 2 ^ 64 }
-    ensures passed { OnOk result (W.held writer.new ≡ []) }
 {
     let image = match read_image(rt, alloc, files, asked.image) {
         Ok(image) => image,
@@ -57,7 +56,6 @@ fn write_named<'a, J: Naming, W: Sink>(
     requires frames { opened.store.table.drive.table ≡ J.frames }
     requires base { base_of (fields_of log_of opened.store) opened.timeline opened.next ≡ J.base }
     requires writer { W.failures writer.old + 1 < 2 ^ 64 }
-    ensures passed { OnOk result (W.held writer.new ≡ []) }
 {
     let mut drive = opened.named::<J>();
     match drive.session(Role::Client) {
@@ -74,7 +72,6 @@ fn write_parts<'a, J: Naming, W: Sink>(
     writer: &mut W,
 ) -> Result<(), Fault<'a>>
     requires writer { W.failures writer.old + 1 < 2 ^ 64 }
-    ensures passed { OnOk result (W.held writer.new ≡ []) }
 {
     for part in 0..u64::MAX / READ_BYTES {
         let bytes = match read_part(drive, session, asked, part * READ_BYTES) {

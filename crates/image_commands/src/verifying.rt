@@ -1,7 +1,6 @@
 //! `verify`, and how each command reads an image.
-ghost use Rattle.std.specs.Prelude.{◌≡◌, ◌+◌, ◌^◌, ◌<◌, [], IfOk, OnOk, string_bytes};
+ghost use Rattle.std.specs.Prelude.{◌≡◌, ◌+◌, ◌^◌, ◌<◌, IfOk, OnOk, string_bytes};
 ghost use Rattle.std.specs.Io.KnownBytes.{Appends};
-ghost use Rattle.serving.specs.Streams.{taken_by};
 ghost use Rattle.image_commands.specs.Verifying.{number_line, image_line, IsVerified, TellsImage};
 
 use crate::faults::{Fault, reading};
@@ -41,8 +40,7 @@ pub fn verify_file<'a, T: Threads, F: Files, W: Sink>(
     writer: &mut W,
 ) -> Result<(), Fault<'a>>
     requires writer { W.failures writer.old + 1 < 2 ^ 64 }
-    ensures line { OnOk result (TellsImage (taken_by W.passed W.held writer.old) (taken_by W.passed W.held writer.new)) }
-    ensures passed { OnOk result (W.held writer.new ≡ []) }
+    ensures line { OnOk result (TellsImage (W.passed writer.old) (W.passed writer.new)) }
 {
     let image = match read_image(rt, alloc, files, asked.image) {
         Ok(image) => image,
@@ -51,15 +49,14 @@ pub fn verify_file<'a, T: Threads, F: Files, W: Sink>(
     write_image_numbers(alloc, &image, writer)
 }
 
-// Writes the line of an image's numbers, and passes it on.
+// Writes the line of an image's numbers.
 fn write_image_numbers<'a, W: Sink>(
     alloc: Global,
     image: &Image,
     writer: &mut W,
 ) -> Result<(), Fault<'a>>
     requires writer { W.failures writer.old + 1 < 2 ^ 64 }
-    ensures line { OnOk result (Appends (taken_by W.passed W.held writer.old) (taken_by W.passed W.held writer.new) (image_line image.now)) }
-    ensures passed { OnOk result (W.held writer.new ≡ []) }
+    ensures line { OnOk result (Appends (W.passed writer.old) (W.passed writer.new) (image_line image.now)) }
 {
     write_numbers(
         alloc,
@@ -72,7 +69,7 @@ fn write_image_numbers<'a, W: Sink>(
     )
 }
 
-// Writes the line of such numbers, and passes it on.
+// Writes the line of such numbers.
 fn write_numbers<'a, W: Sink>(
     alloc: Global,
     frames: u16,
@@ -83,9 +80,8 @@ fn write_numbers<'a, W: Sink>(
     writer: &mut W,
 ) -> Result<(), Fault<'a>>
     requires writer { W.failures writer.old + 1 < 2 ^ 64 }
-    ensures line { OnOk result (Appends (taken_by W.passed W.held writer.old) (taken_by W.passed W.held writer.new)
+    ensures line { OnOk result (Appends (W.passed writer.old) (W.passed writer.new)
         (number_line frames objects clock window floor)) }
-    ensures passed { OnOk result (W.held writer.new ≡ []) }
 {
     match number_line(alloc, frames, objects, clock, window, floor) {
         Ok(line) => write_out(writer, line.as_bytes()),
@@ -110,15 +106,14 @@ fn number_line(
     )
 }
 
-/// Writes the bytes, and passes them on.
+/// Writes the bytes.
 pub fn write_out<'a, W: Sink>(writer: &mut W, bytes: &[u8]) -> Result<(), Fault<'a>>
     requires writer { W.failures writer.old + 1 < 2 ^ 64 }
-    ensures bytes { OnOk result (Appends (taken_by W.passed W.held writer.old) (taken_by W.passed W.held writer.new) bytes.now) }
-    ensures passed { OnOk result (W.held writer.new ≡ []) }
+    ensures bytes { OnOk result (Appends (W.passed writer.old) (W.passed writer.new) bytes.now) }
     ensures failures { OnOk result (W.failures writer.new ≡ W.failures writer.old) }
 {
-    if writer.put(bytes).is_err() || writer.pass_on().is_err() {
-        return Err(Fault::WriteFailed);
+    match writer.put(bytes) {
+        Ok(()) => Ok(()),
+        Err(_) => Err(Fault::WriteFailed),
     }
-    Ok(())
 }

@@ -45,7 +45,7 @@ fn exit_of<H: Threads + Wait + Clock + Sync>(threads: &H, rt: &HostRuntime) -> E
         Err(error) => return ExitCode::from(tell(rt, error.kind())),
     };
     let reader = ReadSource::new(rt.stdin());
-    let writer = WriteSink::new(alloc, rt.stdout());
+    let writer = WriteSink::new(rt.stdout());
     let run = match pipe_apart(threads, alloc, words, reader, writer, rt.stderr()) {
         Ok(run) => run,
         Err(_) => return ExitCode::from(fail(&mut rt.stderr(), CommandError::NoMemory)),
@@ -69,7 +69,7 @@ fn perform_here<H: Threads + Wait + Clock + Sync>(
     let alloc = rt.alloc();
     let mut files = *rt;
     let mut reader = ReadSource::new(rt.stdin());
-    let mut writer = WriteSink::new(alloc, rt.stdout());
+    let mut writer = WriteSink::new(rt.stdout());
     let mut errors = rt.stderr();
     perform(
         threads,

@@ -1,7 +1,6 @@
 //! What a line of words asks for, and the status of the program.
-ghost use Rattle.std.specs.Prelude.{◌≡◌, ◌+◌, ◌^◌, ◌<◌, ◌≤◌, [], map, Some, IfSome};
+ghost use Rattle.std.specs.Prelude.{◌≡◌, ◌+◌, ◌^◌, ◌<◌, ◌≤◌, map, Some, IfSome};
 ghost use Rattle.s4_types.specs.Sizes.{IsFrameCount};
-ghost use Rattle.serving.specs.Streams.{taken_by};
 ghost use Rattle.s4d.specs.Performing.{IsDone, IsUsage};
 ghost use Rattle.s4d.specs.Piping.{Pipes};
 
@@ -44,17 +43,16 @@ pub fn perform<T: Threads + Wait + Clock + Sync, F: Files, S: AsStr, R: Source, 
     requires writer { W.failures writer.old + 1 < 2 ^ 64 }
     ensures status { result ≤ 2 }
     ensures done { result ≡ 0 → IsDone (map S.text words.now)
-        (R.remaining reader.old) (taken_by W.passed W.held writer.old)
-        (R.remaining reader.new) (taken_by W.passed W.held writer.new) }
-    ensures passed { result ≡ 0 → W.held writer.new ≡ [] }
+        (R.remaining reader.old) (W.passed writer.old)
+        (R.remaining reader.new) (W.passed writer.new) }
     ensures usage { result ≡ 2 → IsUsage (map S.text words.now) }
 {
     match command_of(alloc, words) {
         Ok(Command::Pipe(pipe)) => perform_session(alloc, pipe, reader, writer, errors),
-        Ok(Command::New(new)) => perform_new(alloc, files, new, writer, errors),
+        Ok(Command::New(new)) => perform_new(alloc, files, new, errors),
         Ok(Command::Verify(asked)) => perform_verify(rt, alloc, files, asked, writer, errors),
         Ok(Command::At(asked)) => perform_at(rt, alloc, files, asked, writer, errors),
-        Ok(Command::Run(run)) => end_run(run_file(rt, alloc, files, run, errors), writer, errors),
+        Ok(Command::Run(run)) => end_run(run_file(rt, alloc, files, run, errors), errors),
         Err(CommandError::NoMemory) => fail(errors, CommandError::NoMemory),
         Err(CommandError::Usage) => refuse(errors),
     }
@@ -73,9 +71,8 @@ pub fn perform_pipe<S: AsStr, R: Source, W: Sink, E: Write>(
     requires writer { W.failures writer.old + 1 < 2 ^ 64 }
     ensures status { IfSome result (λ status. status ≤ 2) }
     ensures done { result ≡ Some 0 → IsDone (map S.text words.now)
-        (R.remaining reader.old) (taken_by W.passed W.held writer.old)
-        (R.remaining reader.new) (taken_by W.passed W.held writer.new) }
-    ensures passed { result ≡ Some 0 → W.held writer.new ≡ [] }
+        (R.remaining reader.old) (W.passed writer.old)
+        (R.remaining reader.new) (W.passed writer.new) }
     ensures usage { result ≡ Some 2 → IsUsage (map S.text words.now) }
 {
     match command_of(alloc, words) {
@@ -99,9 +96,8 @@ fn perform_session<R: Source, W: Sink, E: Write>(
     requires writer { W.failures writer.old + 1 < 2 ^ 64 }
     ensures status { result ≤ 1 }
     ensures done { result ≡ 0 → Pipes pipe ServeEnd.Ended
-        (R.remaining reader.old) (taken_by W.passed W.held writer.old)
-        (R.remaining reader.new) (taken_by W.passed W.held writer.new) }
-    ensures passed { result ≡ 0 → W.held writer.new ≡ [] }
+        (R.remaining reader.old) (W.passed writer.old)
+        (R.remaining reader.new) (W.passed writer.new) }
 {
     match serve_pipe(alloc, pipe, reader, writer) {
         Ok(ServeEnd::Ended) => DONE,
@@ -111,20 +107,17 @@ fn perform_session<R: Source, W: Sink, E: Write>(
 }
 
 // Writes the image of a new drive.
-fn perform_new<'a, F: Files, W: Sink, E: Write>(
+fn perform_new<'a, F: Files, E: Write>(
     alloc: Global,
     files: &mut F,
     new: New<'a>,
-    writer: &mut W,
     errors: &mut E,
 ) -> u8
     requires frames { IsFrameCount new.frames }
-    requires writer { W.failures writer.old + 1 < 2 ^ 64 }
     ensures status { result ≤ 1 }
-    ensures passed { result ≡ 0 → W.held writer.new ≡ [] }
 {
     match make_file(alloc, files, new) {
-        Ok(()) => pass_on(writer, errors),
+        Ok(()) => DONE,
         Err(fault) => fail(errors, fault),
     }
 }
@@ -140,7 +133,6 @@ fn perform_verify<'a, T: Threads, F: Files, W: Sink, E: Write>(
 ) -> u8
     requires writer { W.failures writer.old + 1 < 2 ^ 64 }
     ensures status { result ≤ 1 }
-    ensures passed { result ≡ 0 → W.held writer.new ≡ [] }
 {
     match verify_file(rt, alloc, files, asked, writer) {
         Ok(()) => DONE,
@@ -159,7 +151,6 @@ fn perform_at<'a, T: Threads, F: Files, W: Sink, E: Write>(
 ) -> u8
     requires writer { W.failures writer.old + 1 < 2 ^ 64 }
     ensures status { result ≤ 1 }
-    ensures passed { result ≡ 0 → W.held writer.new ≡ [] }
 {
     match write_object(rt, alloc, files, asked, writer) {
         Ok(()) => DONE,
@@ -168,27 +159,13 @@ fn perform_at<'a, T: Threads, F: Files, W: Sink, E: Write>(
 }
 
 // The status of `run`: done only where each session came to the end of its input.
-fn end_run<W: Sink, E: Write>(ended: Result<bool, Fault<'_>>, writer: &mut W, errors: &mut E) -> u8
-    requires writer { W.failures writer.old + 1 < 2 ^ 64 }
+fn end_run<E: Write>(ended: Result<bool, Fault<'_>>, errors: &mut E) -> u8
     ensures status { result ≤ 1 }
-    ensures passed { result ≡ 0 → W.held writer.new ≡ [] }
 {
     match ended {
-        Ok(true) => pass_on(writer, errors),
+        Ok(true) => DONE,
         Ok(false) => FAILED,
         Err(fault) => fail(errors, fault),
-    }
-}
-
-// The status of a command that is done and wrote nothing itself: what the writer held before is passed on.
-fn pass_on<W: Sink, E: Write>(writer: &mut W, errors: &mut E) -> u8
-    requires writer { W.failures writer.old + 1 < 2 ^ 64 }
-    ensures status { result ≤ 1 }
-    ensures passed { result ≡ 0 → W.held writer.new ≡ [] }
-{
-    match writer.pass_on() {
-        Ok(()) => DONE,
-        Err(_) => fail(errors, Fault::WriteFailed),
     }
 }
 

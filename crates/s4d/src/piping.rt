@@ -1,7 +1,6 @@
 //! A session with a drive of its own, served over a reader and a writer.
-ghost use Rattle.std.specs.Prelude.{◌≡◌, ◌≢◌, ◌⊎◌, ◌+◌, ◌^◌, ◌<◌, ◌≤◌, [], IfOk, IfErr, OnErr};
+ghost use Rattle.std.specs.Prelude.{◌≡◌, ◌⊎◌, ◌+◌, ◌^◌, ◌<◌, ◌≤◌, IfOk, IfErr, OnErr};
 ghost use Rattle.serving.specs.Session.{reading_failures, writing_failures};
-ghost use Rattle.serving.specs.Streams.{taken_by};
 ghost use Rattle.s4_types.specs.Sizes.{IsFrameCount};
 ghost use Rattle.s4_types.specs.declared.refusals.Refusal.TheVariants.{NoMemory, Busy};
 ghost use Rattle.s4_model.specs.State.{new_base};
@@ -66,9 +65,8 @@ pub fn serve_pipe<R: Source, W: Sink>(
     requires reader { R.failures reader.old + 1 < 2 ^ 64 }
     requires writer { W.failures writer.old + 1 < 2 ^ 64 }
     ensures session { IfOk result (λ end. Pipes pipe end
-        (R.remaining reader.old) (taken_by W.passed W.held writer.old)
-        (R.remaining reader.new) (taken_by W.passed W.held writer.new)) }
-    ensures passed { IfOk result (λ end. end ≢ ServeEnd.WriteFailed → W.held writer.new ≡ []) }
+        (R.remaining reader.old) (W.passed writer.old)
+        (R.remaining reader.new) (W.passed writer.new)) }
     ensures reading { IfOk result (λ end. R.failures reader.new ≡ R.failures reader.old + reading_failures end) }
     ensures writing { IfOk result (λ end. W.failures writer.new ≡ W.failures writer.old + writing_failures end) }
     ensures refused { IfErr result (λ e. (e ≡ NoMemory) ⊎ (e ≡ Busy)) }
@@ -94,9 +92,8 @@ fn serve_named<J: Naming, R: Source, W: Sink>(
     requires reader { R.failures reader.old + 1 < 2 ^ 64 }
     requires writer { W.failures writer.old + 1 < 2 ^ 64 }
     ensures session { IfOk result (λ end. Pipes pipe end
-        (R.remaining reader.old) (taken_by W.passed W.held writer.old)
-        (R.remaining reader.new) (taken_by W.passed W.held writer.new)) }
-    ensures passed { IfOk result (λ end. end ≢ ServeEnd.WriteFailed → W.held writer.new ≡ []) }
+        (R.remaining reader.old) (W.passed writer.old)
+        (R.remaining reader.new) (W.passed writer.new)) }
     ensures reading { IfOk result (λ end. R.failures reader.new ≡ R.failures reader.old + reading_failures end) }
     ensures writing { IfOk result (λ end. W.failures writer.new ≡ W.failures writer.old + writing_failures end) }
     ensures refused { IfErr result (λ e. e ≡ Busy) }

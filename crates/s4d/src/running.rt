@@ -3,8 +3,7 @@ ghost use Rattle.std.specs.Prelude.{◌≡◌, ◌≢◌, ℕ, ◌+◌, ◌^◌,
 ghost use Rattle.segment_table.specs.Room.{log_of};
 ghost use Rattle.version_store.specs.Store.{fields_of};
 ghost use Rattle.drive.specs.Opened.{base_of};
-ghost use Rattle.serving.specs.Streams.{taken_by};
-ghost use Rattle.server.specs.Attending.{IsAttended, PassesOn};
+ghost use Rattle.server.specs.Attending.{IsAttended};
 ghost use Rattle.s4d.specs.Running.{IsSavedFrom};
 
 use drive::{Drive, OpenedDrive};
@@ -132,7 +131,7 @@ fn client_of<'a, F: Files>(
     Ok(Client {
         role: session.role,
         reader: ReadSource::new(input),
-        writer: WriteSink::new(alloc, output),
+        writer: WriteSink::new(output),
         outcome: Outcome::Waiting,
     })
 }
@@ -160,9 +159,8 @@ fn serve_named<
     // Each session was answered by steps of the shared drive, or the drive had no seat for it.
     ensures attended { (i : ℕ) (d : _) → i < vec_len clients
         → IsAttended J.base (record { start = manner.start; tick = manner.tick }) (slice_index_or clients.items i d).role (slice_index_or result.0.items i d).outcome
-        (S.remaining (slice_index_or clients.items i d).reader) (taken_by W.passed W.held (slice_index_or clients.items i d).writer)
-        (S.remaining (slice_index_or result.0.items i d).reader) (taken_by W.passed W.held (slice_index_or result.0.items i d).writer) }
-    ensures passed { (i : ℕ) (d : _) → i < vec_len clients → PassesOn (slice_index_or result.0.items i d).outcome (W.held (slice_index_or result.0.items i d).writer) }
+        (S.remaining (slice_index_or clients.items i d).reader) (W.passed (slice_index_or clients.items i d).writer)
+        (S.remaining (slice_index_or result.0.items i d).reader) (W.passed (slice_index_or result.0.items i d).writer) }
     // What is saved is a drive of this name.
     ensures saved { IfOk result.1 (λ bytes. IsSavedFrom J.base bytes.items) }
 {
@@ -194,9 +192,8 @@ fn serve_all<
     // Each session was answered by steps of the shared drive, or the drive had no seat for it.
     ensures attended { (i : ℕ) (d : _) → i < vec_len clients
         → IsAttended J.base (record { start = manner.start; tick = manner.tick }) (slice_index_or clients.items i d).role (slice_index_or result.items i d).outcome
-        (S.remaining (slice_index_or clients.items i d).reader) (taken_by W.passed W.held (slice_index_or clients.items i d).writer)
-        (S.remaining (slice_index_or result.items i d).reader) (taken_by W.passed W.held (slice_index_or result.items i d).writer) }
-    ensures passed { (i : ℕ) (d : _) → i < vec_len clients → PassesOn (slice_index_or result.items i d).outcome (W.held (slice_index_or result.items i d).writer) }
+        (S.remaining (slice_index_or clients.items i d).reader) (W.passed (slice_index_or clients.items i d).writer)
+        (S.remaining (slice_index_or result.items i d).reader) (W.passed (slice_index_or result.items i d).writer) }
 {
     let Manner {
         start,
@@ -214,7 +211,7 @@ fn serve_all<
 
 // Writes a line for each session that didn't come to the end of its input, and says whether there is none.
 fn tell_sessions<S: Source, W: Sink, E: Write>(errors: &mut E, served: &[Client<S, W>]) -> bool
-    requires passed { (i : ℕ) (d : _) → i < length served.now → PassesOn (slice_index_or served.now i d).outcome (W.held (slice_index_or served.now i d).writer) }
+    requires over { (i : ℕ) (d : _) → i < length served.now → (slice_index_or served.now i d).outcome ≢ Outcome.Waiting }
 {
     let mut is_ended = true;
     for (number, client) in (1u64..).zip(served) {

@@ -1,6 +1,5 @@
 //! A session of `pipe` on a thread of its own, so that its stack is had before anything is read.
-ghost use Rattle.std.specs.Prelude.{◌≡◌, ◌+◌, ◌^◌, ◌<◌, ◌≤◌, [], map, Some, IfSome, IfOk};
-ghost use Rattle.serving.specs.Streams.{taken_by};
+ghost use Rattle.std.specs.Prelude.{◌≡◌, ◌+◌, ◌^◌, ◌<◌, ◌≤◌, map, Some, IfSome, IfOk};
 ghost use Rattle.s4d.specs.Performing.{IsDone, IsUsage};
 
 use crate::performing::perform_pipe;
@@ -35,9 +34,8 @@ struct Begun<S, R, W> {
 impl<S: AsStr, R: Source, W: Sink> Promise<Ran<S, R, W>> for Begun<S, R, W> {
     ghost kept_by = { λ begun run. (IfSome run.status (λ status. status ≤ 2))
         × (run.status ≡ Some 0 → IsDone (map S.text begun.words.value.items)
-        (R.remaining begun.reader.value) (taken_by W.passed W.held begun.writer.value)
-        (R.remaining run.reader) (taken_by W.passed W.held run.writer))
-        × (run.status ≡ Some 0 → W.held run.writer ≡ [])
+        (R.remaining begun.reader.value) (W.passed begun.writer.value)
+        (R.remaining run.reader) (W.passed run.writer))
         × (run.status ≡ Some 2 → IsUsage (map S.text begun.words.value.items)) };
 }
 
@@ -62,9 +60,8 @@ pub fn pipe_apart<
     requires writer { W.failures writer + 1 < 2 ^ 64 }
     ensures status { IfOk result (λ run. IfSome run.status (λ status. status ≤ 2)) }
     ensures done { IfOk result (λ run. run.status ≡ Some 0 → IsDone (map S.text words.items)
-        (R.remaining reader) (taken_by W.passed W.held writer)
-        (R.remaining run.reader) (taken_by W.passed W.held run.writer)) }
-    ensures passed { IfOk result (λ run. run.status ≡ Some 0 → W.held run.writer ≡ []) }
+        (R.remaining reader) (W.passed writer)
+        (R.remaining run.reader) (W.passed run.writer)) }
     ensures usage { IfOk result (λ run. run.status ≡ Some 2 → IsUsage (map S.text words.items)) }
 {
     let begun = Begun {
@@ -93,9 +90,8 @@ fn run<S: AsStr + Drop, R: Source, W: Sink, E: Write + Drop>(
     requires writer { W.failures writer + 1 < 2 ^ 64 }
     ensures status { IfSome result.status (λ status. status ≤ 2) }
     ensures done { result.status ≡ Some 0 → IsDone (map S.text words.items)
-        (R.remaining reader) (taken_by W.passed W.held writer)
-        (R.remaining result.reader) (taken_by W.passed W.held result.writer) }
-    ensures passed { result.status ≡ Some 0 → W.held result.writer ≡ [] }
+        (R.remaining reader) (W.passed writer)
+        (R.remaining result.reader) (W.passed result.writer) }
     ensures usage { result.status ≡ Some 2 → IsUsage (map S.text words.items) }
 {
     let (mut reader, mut writer, mut errors) = (reader, writer, errors);

@@ -1,11 +1,10 @@
 -- What becomes of a session that is served beside others.
-use Rattle.std.specs.Prelude.{◌≡◌, ◌≢◌, ℕ, List, [], Option, ⊤}
+use Rattle.std.specs.Prelude.{◌≡◌, ℕ, List, [], Option}
 use Rattle.s4_types.specs.History.{Base}
 use Rattle.s4_types.specs.declared.requests.Role.{Role}
 use Rattle.s4_types.specs.declared.refusals.Refusal.TheVariants.{Busy}
 use Rattle.serving.specs.Session.{Serves}
 use Rattle.serving.specs.declared.ends.ServeEnd.{ServeEnd}
-use Rattle.serving.specs.declared.ends.ServeEnd.TheVariants.{WriteFailed}
 use Rattle.drive.specs.Fields.{SessionFields}
 use Rattle.server.specs.Drawing.{ClockFields, CountsTicks}
 use Rattle.server.specs.Sharing.{SharedStep, IsFresh}
@@ -26,12 +25,6 @@ abbrev pub IsAttended : Base → ClockFields → Role → Outcome → Option (Li
 IsAttended base clock role Waiting input output input' output' = ⊥
 IsAttended base clock role (Served end) input output input' output' = IsServed base clock role end input output input' output'
 IsAttended base clock role (Refused refusal) input output input' output' = (refusal ≡ Busy) × (input' ≡ input) × (output' ≡ output)
-
--- a session that was served has passed on all that it wrote, unless writing failed
-abbrev pub PassesOn : Outcome → List ℕ → Type 0
-PassesOn Waiting held = ⊥
-PassesOn (Served end) held = end ≢ WriteFailed → held ≡ []
-PassesOn (Refused refusal) held = ⊤
 
 -- how often a stream failed in a session with this outcome
 abbrev pub failures_in : (ServeEnd → ℕ) → Outcome → ℕ

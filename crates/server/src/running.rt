@@ -1,9 +1,8 @@
 //! Sessions that are served at once, each from its own reader to its own writer, over one drive.
 ghost use Rattle.std.specs.Prelude.{◌≡◌, ℕ, ◌+◌, ◌^◌, ◌<◌, ◌≤◌, All, length, slice_index_or};
-ghost use Rattle.server.specs.Attending.{IsAttended, PassesOn, failures_in};
+ghost use Rattle.server.specs.Attending.{IsAttended, failures_in};
 ghost use Rattle.server.specs.Drawing.{CountsTicks};
 ghost use Rattle.serving.specs.Session.{reading_failures, writing_failures};
-ghost use Rattle.serving.specs.Streams.{taken_by};
 
 use crate::clocks::SharedClock;
 use crate::gate::Gate;
@@ -53,9 +52,8 @@ fn attend<J: Naming, R: Wait, G: Gate, S: Source, W: Sink>(
     requires reader { S.failures client.old.reader + 1 < 2 ^ 64 }
     requires writer { W.failures client.old.writer + 1 < 2 ^ 64 }
     ensures attended { IsAttended J.base clock.entry client.old.role client.new.outcome
-        (S.remaining client.old.reader) (taken_by W.passed W.held client.old.writer)
-        (S.remaining client.new.reader) (taken_by W.passed W.held client.new.writer) }
-    ensures passed { PassesOn client.new.outcome (W.held client.new.writer) }
+        (S.remaining client.old.reader) (W.passed client.old.writer)
+        (S.remaining client.new.reader) (W.passed client.new.writer) }
     ensures reading { S.failures client.new.reader ≡ S.failures client.old.reader + failures_in reading_failures client.new.outcome }
     ensures writing { W.failures client.new.writer ≡ W.failures client.old.writer + failures_in writing_failures client.new.outcome }
     ensures role { client.new.role ≡ client.old.role }
@@ -105,9 +103,8 @@ pub fn run_sessions<
     // Each session was answered by steps of the shared drive, or the drive had no seat for it.
     ensures attended { (i : ℕ) (d : _) → i < length clients.old
         → IsAttended J.base (record { start = start; tick = tick }) (slice_index_or clients.old i d).role (slice_index_or clients.new i d).outcome
-        (S.remaining (slice_index_or clients.old i d).reader) (taken_by W.passed W.held (slice_index_or clients.old i d).writer)
-        (S.remaining (slice_index_or clients.new i d).reader) (taken_by W.passed W.held (slice_index_or clients.new i d).writer) }
-    ensures passed { (i : ℕ) (d : _) → i < length clients.old → PassesOn (slice_index_or clients.new i d).outcome (W.held (slice_index_or clients.new i d).writer) }
+        (S.remaining (slice_index_or clients.old i d).reader) (W.passed (slice_index_or clients.old i d).writer)
+        (S.remaining (slice_index_or clients.new i d).reader) (W.passed (slice_index_or clients.new i d).writer) }
     ensures reading { (i : ℕ) (d : _) → i < length clients.old
         → S.failures (slice_index_or clients.new i d).reader ≡ S.failures (slice_index_or clients.old i d).reader + failures_in reading_failures (slice_index_or clients.new i d).outcome }
     ensures writing { (i : ℕ) (d : _) → i < length clients.old
@@ -117,9 +114,8 @@ pub fn run_sessions<
     let serve_one = |index: usize, client: &mut Client<S, W>|
         requires { (S.failures client.now.reader + 1 < 2 ^ 64) × (W.failures client.now.writer + 1 < 2 ^ 64) }
         ensures attended { IsAttended J.base (record { start = start; tick = tick }) client.entry.now.role client.exit.now.outcome
-            (S.remaining client.entry.now.reader) (taken_by W.passed W.held client.entry.now.writer)
-            (S.remaining client.exit.now.reader) (taken_by W.passed W.held client.exit.now.writer) }
-        ensures passed { PassesOn client.exit.now.outcome (W.held client.exit.now.writer) }
+            (S.remaining client.entry.now.reader) (W.passed client.entry.now.writer)
+            (S.remaining client.exit.now.reader) (W.passed client.exit.now.writer) }
         ensures reading { S.failures client.exit.now.reader ≡ S.failures client.entry.now.reader + failures_in reading_failures client.exit.now.outcome }
         ensures writing { W.failures client.exit.now.writer ≡ W.failures client.entry.now.writer + failures_in writing_failures client.exit.now.outcome }
     {

@@ -15,6 +15,7 @@ macro_rules! client {
 }
 
 mod clocks;
+mod failing;
 mod held;
 
 use drive::NewDrive;
@@ -35,6 +36,10 @@ enum Scene {
     Held,
     Sixteen,
     Crowded,
+    /// A session's writer fails after so many bytes.
+    FailsAbove(usize),
+    /// So does what is below it.
+    FailsBelow(usize),
 }
 
 /// Plays a scene. The drive is let go here alone, since that is proved anew in each function that does so.
@@ -53,6 +58,8 @@ fn play_named<J: Naming + Send + Sync, R: Abort + Threads + Wait + Sync>(
         Scene::Held => held::hold(rt, alloc, &drive),
         Scene::Sixteen => held::gather(rt, alloc, &drive),
         Scene::Crowded => held::crowd_out(rt, alloc, &drive),
+        Scene::FailsAbove(room) => failing::fail_above(rt, alloc, &drive, room),
+        Scene::FailsBelow(room) => failing::fail_below(rt, alloc, &drive, room),
     }
 }
 

@@ -1,7 +1,7 @@
 -- Runs of a backend join, and so do what is written of their replies.
 use Rattle.std.proofs.Common.{◌≡◌, ℕ, ◌<◌, List, [], ◌∷◌, ◌++◌, length, Option, Result, Ok, Err, refl, sym, ap, ◌∙◌, subst, append_assoc, append-nil, lit≤, MatchResult, take, drop, get_or, suc, map, drop-cons, take-append-drop, ap₂}
 use Rattle.std.proofs.lemmas.Grind.{flat_map-append}
-use Rattle.std.specs.Io.KnownBytes.{Appends, Keeps}
+use Rattle.std.specs.Io.KnownBytes.{Appends}
 use Rattle.std.proofs.KnownBytes.{Appends-nil, Appends-trans, Appends-kept}
 use Rattle.s4_types.specs.declared.requests.Request.{Request}
 use Rattle.s4_types.specs.declared.replies.Reply.{Reply}
@@ -10,7 +10,7 @@ use Rattle.s4_types.specs.declared.refusals.Refusal.TheVariants as refusal
 use Rattle.rpc.specs.declared.items.Item.{Item}
 use Rattle.rpc.specs.declared.items.Item.TheVariants.{Whole, BadFrame}
 use Rattle.serving.specs.Drawing.{Drawn}
-use Rattle.serving.specs.Answering.{Answered, AnswersAll, Run, Said, SaidBy, SaidInPart, StopsAmong, reply_frame, said}
+use Rattle.serving.specs.Answering.{Answered, AnswersAll, Run, Said, SaidBy, StopsAmong, reply_frame, said}
 use Rattle.serving.specs.declared.ends.ServeEnd.{ServeEnd}
 use Rattle.serving.specs.declared.ends.ServeEnd.TheVariants.{Ended, CutFrame, Oversized, ReadFailed, WriteFailed, NoMemory}
 
@@ -26,8 +26,7 @@ SaidBy-behind ReadFailed first replies written h = ap (λ w. said first ++ w) h 
 SaidBy-behind WriteFailed first replies written h = record {
   before = first ++ h.before;
   last = h.last;
-  single = h.single;
-  all = ap (λ r. first ++ r) h.all ∙ sym (append_assoc first h.before h.last);
+  all = ap (λ r. first ++ r) h.all ∙ sym (append_assoc first h.before (h.last ∷ []));
   part = h.part;
   unsaid = h.unsaid;
   cut = h.cut;
@@ -40,24 +39,6 @@ SaidBy-behind NoMemory first replies written h = record {
   all = ap (λ r. first ++ r) h.all ∙ sym (append_assoc first h.before h.last);
   bytes = ap (λ w. said first ++ w) h.bytes ∙ sym (said-append first h.before);
 }
-
--- whatever is written is a beginning of the replies
-pub SaidBy-part : (end : ServeEnd) (replies : List Reply) (written : List ℕ) → SaidBy end replies written → SaidInPart replies written
-SaidBy-part WriteFailed replies written h = h
-SaidBy-part NoMemory replies written h = record {
-  before = h.before;
-  last = h.last;
-  single = h.single;
-  all = h.all;
-  part = [];
-  unsaid = said h.last;
-  cut = refl;
-  bytes = h.bytes ∙ sym (append-nil (said h.before));
-}
-SaidBy-part Ended replies written h = record { before = replies; last = []; single = lit≤ tt; all = sym (append-nil replies); part = []; unsaid = []; cut = refl; bytes = h ∙ sym (append-nil (said replies)) }
-SaidBy-part CutFrame replies written h = record { before = replies; last = []; single = lit≤ tt; all = sym (append-nil replies); part = []; unsaid = []; cut = refl; bytes = h ∙ sym (append-nil (said replies)) }
-SaidBy-part Oversized replies written h = record { before = replies; last = []; single = lit≤ tt; all = sym (append-nil replies); part = []; unsaid = []; cut = refl; bytes = h ∙ sym (append-nil (said replies)) }
-SaidBy-part ReadFailed replies written h = record { before = replies; last = []; single = lit≤ tt; all = sym (append-nil replies); part = []; unsaid = []; cut = refl; bytes = h ∙ sym (append-nil (said replies)) }
 
 module _ {B C : Type 0} (steps : B → Request → ℕ → Reply → B → Type 0) (draws : C → ℕ → C → Type 0) where
   Drawn-append : (xs ys : List ℕ) (a b c : C) → Drawn draws a xs b → Drawn draws b ys c → Drawn draws a (xs ++ ys) c
@@ -117,14 +98,6 @@ module _ {B C : Type 0} (steps : B → Request → ℕ → Reply → B → Type 
     wrote = subst (Appends o o'') (sym (said-append h.replies k.replies)) (Appends-trans o o' o'' _ _ h.wrote k.wrote);
   }
 
-  pub AnswersAll-kept : (items : List (Item Request)) (b b' : B) (c c' : C) (o o' o'' : Option (List ℕ))
-      → Keeps o o' → AnswersAll steps draws items b c o' b' c' o'' → AnswersAll steps draws items b c o b' c' o''
-  AnswersAll-kept items b b' c c' o o' o'' keeps h = record {
-    replies = h.replies;
-    answered = h.answered;
-    wrote = Appends-trans o o' o'' [] _ (Appends-kept o o o' [] (Appends-nil o) keeps) h.wrote;
-  }
-
   -- the items behind those that are answered are stopped among
   pub StopsAmong-behind : (items others : List (Item Request)) (end : ServeEnd) (b b' b'' : B) (c c' c'' : C) (o o' o'' : Option (List ℕ))
       → AnswersAll steps draws items b c o b' c' o' → StopsAmong steps draws others end b' c' o' b'' c'' o'' → StopsAmong steps draws (items ++ others) end b c o b'' c'' o''
@@ -173,7 +146,7 @@ module _ {B C : Type 0} (steps : B → Request → ℕ → Reply → B → Type 
     answered = answered;
     written = h.0;
     wrote = h.3;
-    saying = record { before = []; last = reply ∷ []; single = lit≤ tt; all = refl; part = h.0; unsaid = h.1; cut = append-nil (reply_frame reply) ∙ h.2; bytes = refl };
+    saying = record { before = []; last = reply; all = refl; part = h.0; unsaid = h.1; cut = h.2; bytes = refl };
   }
   one_item item reply b b' c c' o o' (Err NoMemory) answered h = record {
     broken = tt;

@@ -1,17 +1,17 @@
 -- Parts of a session join.
 use Rattle.std.proofs.Common.{◌≡◌, ◌≢◌, take, ℕ, ◌<◌, List, [], ◌∷◌, ◌++◌, length, Option, Some, None, ◌⊎◌, inl, inr, refl, sym, ap, ◌∙◌, subst, append_assoc, append-nil, arith, lit≤, IfSome, MatchResult, Result, Ok, Err}
 use Rattle.std.specs.Io.KnownBytes.{Consumes, Keeps, IsAtEnd}
-use Rattle.std.proofs.KnownBytes.{Appends-nil, Appends-trans, Appends-kept, Consumes-nil, Consumes-trans, Consumes-kept, Keeps-refl}
+use Rattle.std.proofs.KnownBytes.{Appends-nil, Appends-trans, Consumes-nil, Consumes-trans, Consumes-kept}
 use Rattle.s4_types.specs.declared.requests.Request.{Request}
 use Rattle.s4_types.specs.declared.replies.Reply.{Reply}
 use Rattle.rpc.specs.declared.items.Item.{Item}
 use Rattle.rpc.specs.Spelling.{SpellsRequest}
 use Rattle.rpc.specs.Stream.{IsPartial, ReadsItems, frame}
 use Rattle.serving.specs.Answering.{AnswersAll, IsBreak, SaidBy, StopsAmong, said}
-use Rattle.serving.specs.Session.{Continues, Finishes, Goes, IsBegun, IsLate, IsOver, Serves, TakenUp, begun_of, writing_failures}
+use Rattle.serving.specs.Session.{Continues, Finishes, Goes, IsBegun, IsLate, IsOver, Serves, TakenUp, begun_of}
 use Rattle.serving.specs.declared.ends.ServeEnd.{ServeEnd}
 use Rattle.serving.specs.declared.ends.ServeEnd.TheVariants.{Ended, CutFrame, Oversized, ReadFailed, WriteFailed, NoMemory}
-use Rattle.serving.proofs.AnsweringLemmas.{Answered-append, Answered-nil, AnswersAll-append, AnswersAll-kept, AnswersAll-nil, SaidBy-behind, SaidBy-part}
+use Rattle.serving.proofs.AnsweringLemmas.{Answered-append, Answered-nil, AnswersAll-append, AnswersAll-nil, SaidBy-behind}
 
 -- what is left of a stream is less than a whole frame
 pub ReadsItems-partial : (stream rest : List ℕ) (items : List (Item Request)) → ReadsItems SpellsRequest stream items (Some rest) → IsPartial rest
@@ -60,20 +60,6 @@ TakenUp-behind ReadFailed begun first second rest items more h k = (k.0, ReadsIt
 TakenUp-behind WriteFailed begun first second rest items more h k = TakenUp-left WriteFailed begun first second rest items more k.0 k.1 k.2 k.3 k.4 h k.5
 TakenUp-behind NoMemory begun first second rest items more h k = TakenUp-left NoMemory begun first second rest items more k.0 k.1 k.2 k.3 k.4 h k.5
 
-all_left : (begun stream : List ℕ) (items : List (Item Request)) (end : Option (List ℕ)) → ReadsItems SpellsRequest (begun ++ stream) items end
-    → (others : List (Item Request)) × (front : List ℕ) × (unread : List ℕ) × (e : Option (List ℕ)) × (stream ≡ front ++ unread) × ReadsItems SpellsRequest (begun ++ front) (items ++ others) e
-all_left begun stream items end h =
-    ([], stream, [], end, sym (append-nil stream), subst (λ (is : List (Item Request)). ReadsItems SpellsRequest (begun ++ stream) is end) (sym (append-nil items)) h)
-
--- whatever is taken up is a beginning of the stream's items
-pub TakenUp-part : (end : ServeEnd) (begun stream : List ℕ) (items : List (Item Request)) → TakenUp end begun stream items → TakenUp WriteFailed begun stream items
-TakenUp-part Ended begun stream items h = all_left begun stream items (Some []) h
-TakenUp-part CutFrame begun stream items h = all_left begun stream items (Some h.0) h.1
-TakenUp-part Oversized begun stream items h = all_left begun stream items None h
-TakenUp-part ReadFailed begun stream items h = all_left begun stream items (Some h.0) h.1
-TakenUp-part WriteFailed begun stream items h = h
-TakenUp-part NoMemory begun stream items h = h
-
 -- the items of a stream that are met where the session breaks
 pub TakenUp-break : (end : ServeEnd) (begun stream : List ℕ) (items met others : List (Item Request)) (e : Option (List ℕ))
     → IsBreak end → ReadsItems SpellsRequest (begun ++ stream) items e → items ≡ met ++ others → TakenUp end begun stream met
@@ -84,21 +70,9 @@ TakenUp-break CutFrame begun stream items met others e b h cut = absurd b
 TakenUp-break Oversized begun stream items met others e b h cut = absurd b
 TakenUp-break ReadFailed begun stream items met others e b h cut = absurd b
 
-SaidBy-nil : (end : ServeEnd) → SaidBy end [] []
-SaidBy-nil Ended = refl
-SaidBy-nil CutFrame = refl
-SaidBy-nil Oversized = refl
-SaidBy-nil ReadFailed = refl
-SaidBy-nil WriteFailed = record { before = []; last = []; single = lit≤ tt; all = refl; part = []; unsaid = []; cut = refl; bytes = refl }
-SaidBy-nil NoMemory = record { before = []; last = []; single = lit≤ tt; all = refl; bytes = refl }
-
-SaidBy-whole : (end : ServeEnd) (replies : List Reply) → SaidBy end replies (said replies)
-SaidBy-whole Ended replies = refl
-SaidBy-whole CutFrame replies = refl
-SaidBy-whole Oversized replies = refl
-SaidBy-whole ReadFailed replies = refl
-SaidBy-whole WriteFailed replies = SaidBy-part Ended replies (said replies) refl
-SaidBy-whole NoMemory replies = record { before = replies; last = []; single = lit≤ tt; all = sym (append-nil replies); bytes = refl }
+-- no reply is given
+idle_for_memory : SaidBy NoMemory [] []
+idle_for_memory = record { before = []; last = []; single = lit≤ tt; all = refl; bytes = refl }
 
 -- nothing is read behind what is held of a frame
 ReadsItems-held : (held : Option (List ℕ)) → IsBegun held → ReadsItems SpellsRequest (begun_of held ++ []) [] (Some (begun_of held))
@@ -124,14 +98,6 @@ IsBreak-late ReadFailed h = absurd h
 IsBreak-late WriteFailed h = tt
 IsBreak-late NoMemory h = tt
 
-pub no_failure : (end : ServeEnd) → end ≢ WriteFailed → writing_failures end ≡ 0
-no_failure Ended h = refl
-no_failure CutFrame h = refl
-no_failure Oversized h = refl
-no_failure ReadFailed h = refl
-no_failure WriteFailed h = absurd (h refl)
-no_failure NoMemory h = refl
-
 IsLate-over : (end : ServeEnd) (input : Option (List ℕ)) → IsLate end → IsOver end input
 IsLate-over Ended input h = absurd h
 IsLate-over CutFrame input h = absurd h
@@ -140,98 +106,37 @@ IsLate-over ReadFailed input h = absurd h
 IsLate-over WriteFailed input h = tt
 IsLate-over NoMemory input h = tt
 
-late_end : (end result : ServeEnd) → (result ≡ end) ⊎ (result ≡ WriteFailed) → IsLate end → IsLate result
-late_end end result (inl same) h = subst IsLate (sym same) h
-late_end end result (inr failed) h = subst IsLate (sym failed) tt
-
 module _ {B C : Type 0} (steps : B → Request → ℕ → Reply → B → Type 0) (draws : C → ℕ → C → Type 0) where
   -- nothing is asked and nothing written
-  Finishes-idle : (end : ServeEnd) (begun stream : List ℕ) (b : B) (c : C) (o o' : Option (List ℕ)) → TakenUp end begun stream [] → Keeps o o' → Finishes steps draws end begun stream b c o b c o'
-  Finishes-idle end begun stream b c o o' taken keeps = record {
+  Finishes-idle : (end : ServeEnd) (begun stream : List ℕ) (b : B) (c : C) (o : Option (List ℕ)) → TakenUp end begun stream [] → SaidBy end [] [] → Finishes steps draws end begun stream b c o b c o
+  Finishes-idle end begun stream b c o taken saying = record {
     items = [];
     taken_up = taken;
     replies = [];
     answered = Answered-nil steps draws b c;
     written = [];
-    wrote = Appends-kept o o o' [] (Appends-nil o) keeps;
-    saying = SaidBy-nil end;
+    wrote = Appends-nil o;
+    saying = saying;
   }
-
-  -- all that was taken up is answered and written
-  Finishes-whole : (end : ServeEnd) (begun stream : List ℕ) (items : List (Item Request)) (b b' : B) (c c' : C) (o o' : Option (List ℕ))
-      → TakenUp end begun stream items → AnswersAll steps draws items b c o b' c' o' → Finishes steps draws end begun stream b c o b' c' o'
-  Finishes-whole end begun stream items b b' c c' o o' taken h = record {
-    items = items;
-    taken_up = taken;
-    replies = h.replies;
-    answered = h.answered;
-    written = said h.replies;
-    wrote = h.wrote;
-    saying = SaidBy-whole end h.replies;
-  }
-
-  -- the writer keeps what it took, before and afterwards
-  Finishes-after : (end : ServeEnd) (begun stream : List ℕ) (b b' : B) (c c' : C) (o o' o'' : Option (List ℕ))
-      → Finishes steps draws end begun stream b c o b' c' o' → Keeps o' o'' → Finishes steps draws end begun stream b c o b' c' o''
-  Finishes-after end begun stream b b' c c' o o' o'' h keeps = record {
-    items = h.items;
-    taken_up = h.taken_up;
-    replies = h.replies;
-    answered = h.answered;
-    written = h.written;
-    wrote = Appends-kept o o' o'' h.written h.wrote keeps;
-    saying = h.saying;
-  }
-
-  Finishes-before : (end : ServeEnd) (begun stream : List ℕ) (b b' : B) (c c' : C) (o o' o'' : Option (List ℕ))
-      → Keeps o o' → Finishes steps draws end begun stream b c o' b' c' o'' → Finishes steps draws end begun stream b c o b' c' o''
-  Finishes-before end begun stream b b' c c' o o' o'' keeps h = record {
-    items = h.items;
-    taken_up = h.taken_up;
-    replies = h.replies;
-    answered = h.answered;
-    written = h.written;
-    wrote = Appends-trans o o' o'' [] h.written (Appends-kept o o o' [] (Appends-nil o) keeps) h.wrote;
-    saying = h.saying;
-  }
-
-  -- what finishes is a beginning of it all
-  Finishes-part : (end : ServeEnd) (begun stream : List ℕ) (b b' : B) (c c' : C) (o o' : Option (List ℕ))
-      → Finishes steps draws end begun stream b c o b' c' o' → Finishes steps draws WriteFailed begun stream b c o b' c' o'
-  Finishes-part end begun stream b b' c c' o o' h = record {
-    items = h.items;
-    taken_up = TakenUp-part end begun stream h.items h.taken_up;
-    replies = h.replies;
-    answered = h.answered;
-    written = h.written;
-    wrote = h.wrote;
-    saying = SaidBy-part end h.replies h.written h.saying;
-  }
-
-  -- all is passed on at the end, or that fails
-  pub finished : (end result : ServeEnd) (begun stream : List ℕ) (b b' : B) (c c' : C) (o o' o'' : Option (List ℕ))
-      → (result ≡ end) ⊎ (result ≡ WriteFailed) → Finishes steps draws end begun stream b c o b' c' o' → Keeps o' o'' → Finishes steps draws result begun stream b c o b' c' o''
-  finished end result begun stream b b' c c' o o' o'' (inl same) h keeps =
-      subst (λ (e : ServeEnd). Finishes steps draws e begun stream b c o b' c' o'') (sym same) (Finishes-after end begun stream b b' c c' o o' o'' h keeps)
-  finished end result begun stream b b' c c' o o' o'' (inr failed) h keeps =
-      subst (λ (e : ServeEnd). Finishes steps draws e begun stream b c o b' c' o'') (sym failed)
-      (Finishes-after WriteFailed begun stream b b' c c' o o' o'' (Finishes-part end begun stream b b' c c' o o' h) keeps)
-
-  -- the same, in a piece that was read
-  pub late : (end result : ServeEnd) (begun stream : List ℕ) (b b' : B) (c c' : C) (o o' o'' : Option (List ℕ))
-      → (result ≡ end) ⊎ (result ≡ WriteFailed) → IsLate end × Finishes steps draws end begun stream b c o b' c' o' → Keeps o' o'' → IsLate result × Finishes steps draws result begun stream b c o b' c' o''
-  late end result begun stream b b' c c' o o' o'' is h keeps = (late_end end result is h.0, finished end result begun stream b b' c c' o o' o'' is h.1 keeps)
 
   -- the reader of frames had no memory for a piece
   pub unfed : (held : Option (List ℕ)) (piece : List ℕ) (b : B) (c : C) (o : Option (List ℕ)) → IsBegun held → Finishes steps draws NoMemory (begun_of held) piece b c o b c o
-  unfed held piece b c o h = Finishes-idle NoMemory (begun_of held) piece b c o o (none_taken held piece h) (Keeps-refl o)
+  unfed held piece b c o h = Finishes-idle NoMemory (begun_of held) piece b c o (none_taken held piece h) idle_for_memory
 
   -- all items of a piece were answered, and an oversized length came
   pub oversized : (held new : Option (List ℕ)) (piece : List ℕ) (items : List (Item Request)) (b b' : B) (c c' : C) (o o' : Option (List ℕ)) → IsBegun held
       → IfSome held (λ begun. ReadsItems SpellsRequest (begun ++ piece) items new) → new ≡ None → AnswersAll steps draws items b c o b' c' o'
       → Finishes steps draws Oversized (begun_of held) piece b c o b' c' o'
   oversized held new piece items b b' c c' o o' begun items_are failed h =
-      Finishes-whole Oversized (begun_of held) piece items b b' c c' o o' (subst (λ (e : Option (List ℕ)). ReadsItems SpellsRequest (begun_of held ++ piece) items e) failed (fed held new piece items begun items_are)) h
+      record {
+        items = items;
+        taken_up = subst (λ (e : Option (List ℕ)). ReadsItems SpellsRequest (begun_of held ++ piece) items e) failed (fed held new piece items begun items_are);
+        replies = h.replies;
+        answered = h.answered;
+        written = said h.replies;
+        wrote = h.wrote;
+        saying = refl;
+      }
 
   -- some items of a piece were answered
   pub stopped : (held new : Option (List ℕ)) (piece : List ℕ) (items : List (Item Request)) (end : ServeEnd) (b b' : B) (c c' : C) (o o' : Option (List ℕ)) → IsBegun held
@@ -257,67 +162,54 @@ module _ {B C : Type 0} (steps : B → Request → ℕ → Reply → B → Type 
   went_on held None piece items b b' c c' o o' begun items_are more h = absurd (more refl)
   went_on held (Some rest) piece items b b' c c' o o' begun items_are more h = record { rest = rest; is = refl; items = items; reading = fed held (Some rest) piece items begun items_are; answers = h }
 
-  -- the writer failed before anything was read
-  pub unread : (held : Option (List ℕ)) (b : B) (c : C) (i o o' : Option (List ℕ)) → IsBegun held → Keeps o o' → Serves steps draws (begun_of held) WriteFailed b c i o b c i o'
-  unread held b c i o o' h keeps = record { stream = []; read = Consumes-nil i; over = tt; finishes = Finishes-idle WriteFailed (begun_of held) [] b c o o' (none_taken held [] h) keeps }
-
   -- the reader failed
-  pub read_failed : (held : Option (List ℕ)) (b : B) (c : C) (i i' o o' : Option (List ℕ)) → IsBegun held → Keeps i i' → Keeps o o' → Serves steps draws (begun_of held) ReadFailed b c i o b c i' o'
-  read_failed held b c i i' o o' h kept keeps = record {
+  pub read_failed : (held : Option (List ℕ)) (b : B) (c : C) (i i' o : Option (List ℕ)) → IsBegun held → Keeps i i' → Serves steps draws (begun_of held) ReadFailed b c i o b c i' o
+  read_failed held b c i i' o h kept = record {
     stream = [];
     read = Consumes-kept i i i' [] (Consumes-nil i) kept;
     over = tt;
-    finishes = Finishes-idle ReadFailed (begun_of held) [] b c o o' (begun_of held, ReadsItems-held held h) keeps;
+    finishes = Finishes-idle ReadFailed (begun_of held) [] b c o (begun_of held, ReadsItems-held held h) refl;
   }
 
   -- the input ended between two frames
-  pub ended : (held : Option (List ℕ)) (b : B) (c : C) (i i' o o' : Option (List ℕ)) → IsBegun held → held ≡ Some [] → Consumes i i' [] → IsAtEnd i' → Keeps o o'
-      → Serves steps draws (begun_of held) Ended b c i o b c i' o'
-  ended held b c i i' o o' h between read end keeps = record {
+  pub ended : (held : Option (List ℕ)) (b : B) (c : C) (i i' o : Option (List ℕ)) → IsBegun held → held ≡ Some [] → Consumes i i' [] → IsAtEnd i'
+      → Serves steps draws (begun_of held) Ended b c i o b c i' o
+  ended held b c i i' o h between read end = record {
     stream = [];
     read = read;
     over = end;
-    finishes = Finishes-idle Ended (begun_of held) [] b c o o' (subst (λ (x : List ℕ). ReadsItems SpellsRequest (begun_of held ++ []) [] (Some x)) (ap begun_of between) (ReadsItems-held held h)) keeps;
+    finishes = Finishes-idle Ended (begun_of held) [] b c o (subst (λ (x : List ℕ). ReadsItems SpellsRequest (begun_of held ++ []) [] (Some x)) (ap begun_of between) (ReadsItems-held held h)) refl;
   }
 
   -- the input ended inside a frame
-  pub cut : (held : Option (List ℕ)) (b : B) (c : C) (i i' o o' : Option (List ℕ)) → IsBegun held → (held ≡ Some [] → ⊥) → Consumes i i' [] → IsAtEnd i' → Keeps o o'
-      → Serves steps draws (begun_of held) CutFrame b c i o b c i' o'
-  cut None b c i i' o o' h inside read end keeps = absurd h
-  cut (Some []) b c i i' o o' h inside read end keeps = absurd (inside refl)
-  cut (Some (x ∷ xs)) b c i i' o o' h inside read end keeps = record {
+  pub cut : (held : Option (List ℕ)) (b : B) (c : C) (i i' o : Option (List ℕ)) → IsBegun held → (held ≡ Some [] → ⊥) → Consumes i i' [] → IsAtEnd i'
+      → Serves steps draws (begun_of held) CutFrame b c i o b c i' o
+  cut None b c i i' o h inside read end = absurd h
+  cut (Some []) b c i i' o h inside read end = absurd (inside refl)
+  cut (Some (x ∷ xs)) b c i i' o h inside read end = record {
     stream = [];
     read = read;
     over = end;
-    finishes = Finishes-idle CutFrame (x ∷ xs) [] b c o o' (x ∷ xs, ReadsItems-held (Some (x ∷ xs)) h, omega arith) keeps;
+    finishes = Finishes-idle CutFrame (x ∷ xs) [] b c o (x ∷ xs, ReadsItems-held (Some (x ∷ xs)) h, omega arith) refl;
   }
 
   -- the input ended: a read gave nothing though there was room
-  pub over : (end : ServeEnd) (held : Option (List ℕ)) (count : ℕ) (buffer : List ℕ) (b : B) (c : C) (i i' o o' : Option (List ℕ)) → IsBegun held
+  pub over : (end : ServeEnd) (held : Option (List ℕ)) (count : ℕ) (buffer : List ℕ) (b : B) (c : C) (i i' o : Option (List ℕ)) → IsBegun held
       → ((end ≡ Ended) × (held ≡ Some [])) ⊎ ((end ≡ CutFrame) × (held ≢ Some [])) → count ≡ 0 → 0 < length buffer
-      → Consumes i i' (take count buffer) × (count ≡ 0 → 0 < length buffer → IsAtEnd i') → Keeps o o' → Serves steps draws (begun_of held) end b c i o b c i' o'
-  over end held count buffer b c i i' o o' h (inl is) none room read keeps =
-      subst (λ (e : ServeEnd). Serves steps draws (begun_of held) e b c i o b c i' o') (sym is.0)
-      (ended held b c i i' o o' h is.1 (subst (λ (n : ℕ). Consumes i i' (take n buffer)) none read.0) (read.1 none room) keeps)
-  over end held count buffer b c i i' o o' h (inr is) none room read keeps =
-      subst (λ (e : ServeEnd). Serves steps draws (begun_of held) e b c i o b c i' o') (sym is.0)
-      (cut held b c i i' o o' h is.1 (subst (λ (n : ℕ). Consumes i i' (take n buffer)) none read.0) (read.1 none room) keeps)
+      → Consumes i i' (take count buffer) × (count ≡ 0 → 0 < length buffer → IsAtEnd i') → Serves steps draws (begun_of held) end b c i o b c i' o
+  over end held count buffer b c i i' o h (inl is) none room read =
+      subst (λ (e : ServeEnd). Serves steps draws (begun_of held) e b c i o b c i' o) (sym is.0)
+      (ended held b c i i' o h is.1 (subst (λ (n : ℕ). Consumes i i' (take n buffer)) none read.0) (read.1 none room))
+  over end held count buffer b c i i' o h (inr is) none room read =
+      subst (λ (e : ServeEnd). Serves steps draws (begun_of held) e b c i o b c i' o) (sym is.0)
+      (cut held b c i i' o h is.1 (subst (λ (n : ℕ). Consumes i i' (take n buffer)) none read.0) (read.1 none room))
 
   -- a piece was answered
-  pub piece_answered : (held held' : Option (List ℕ)) (piece : List ℕ) (r : Result (Unit {0}) ServeEnd) (b b' : B) (c c' : C) (i i' o o' o'' : Option (List ℕ)) → Consumes i i' piece → Keeps o o'
-      → MatchResult r (λ _. Continues steps draws (begun_of held) piece held' b c o' b' c' o'') (λ end. IsLate end × Finishes steps draws end (begun_of held) piece b c o' b' c' o'')
-      → MatchResult r (λ _. Goes steps draws (begun_of held) held' b c i o b' c' i' o'') (λ end. Serves steps draws (begun_of held) end b c i o b' c' i' o'')
-  piece_answered held held' piece (Ok u) b b' c c' i i' o o' o'' read keeps h = record {
-    stream = piece;
-    read = read;
-    continues = record { rest = h.rest; is = h.is; items = h.items; reading = h.reading; answers = AnswersAll-kept steps draws h.items b b' c c' o o' o'' keeps h.answers };
-  }
-  piece_answered held held' piece (Err end) b b' c c' i i' o o' o'' read keeps h = record {
-    stream = piece;
-    read = read;
-    over = IsLate-over end i' h.0;
-    finishes = Finishes-before end (begun_of held) piece b b' c c' o o' o'' keeps h.1;
-  }
+  pub piece_answered : (held held' : Option (List ℕ)) (piece : List ℕ) (r : Result (Unit {0}) ServeEnd) (b b' : B) (c c' : C) (i i' o o' : Option (List ℕ)) → Consumes i i' piece
+      → MatchResult r (λ _. Continues steps draws (begun_of held) piece held' b c o b' c' o') (λ end. IsLate end × Finishes steps draws end (begun_of held) piece b c o b' c' o')
+      → MatchResult r (λ _. Goes steps draws (begun_of held) held' b c i o b' c' i' o') (λ end. Serves steps draws (begun_of held) end b c i o b' c' i' o')
+  piece_answered held held' piece (Ok u) b b' c c' i i' o o' read h = record { stream = piece; read = read; continues = h }
+  piece_answered held held' piece (Err end) b b' c c' i i' o o' read h = record { stream = piece; read = read; over = IsLate-over end i' h.0; finishes = h.1 }
 
   -- a session begins
   pub begins : (b : B) (c : C) (i o : Option (List ℕ)) → Goes steps draws [] (Some []) b c i o b c i o
@@ -332,10 +224,8 @@ module _ {B C : Type 0} (steps : B → Request → ℕ → Reply → B → Type 
   begins_at held b c i o is = subst (λ (h : Option (List ℕ)). Goes steps draws [] h b c i o b c i o) (sym is) (begins b c i o)
 
   -- it doesn't begin for want of memory
-  pub unstarted : (end : ServeEnd) (b : B) (c : C) (i o o' : Option (List ℕ)) → (end ≡ NoMemory) ⊎ (end ≡ WriteFailed) → Keeps o o' → Serves steps draws [] end b c i o b c i o'
-  unstarted end b c i o o' is keeps =
-      let h = late NoMemory end [] [] b b c c o o o' is (tt, unfed (Some []) [] b c o (λ h. absurd (omega arith))) keeps in
-      record { stream = []; read = Consumes-nil i; over = IsLate-over end i h.0; finishes = h.1 }
+  pub unstarted : (b : B) (c : C) (i o : Option (List ℕ)) → Serves steps draws [] NoMemory b c i o b c i o
+  unstarted b c i o = record { stream = []; read = Consumes-nil i; over = tt; finishes = unfed (Some []) [] b c o (λ h. absurd (omega arith)) }
 
   pub begun_by : (begun : List ℕ) (held : Option (List ℕ)) (b b' : B) (c c' : C) (i i' o o' : Option (List ℕ)) → Goes steps draws begun held b c i o b' c' i' o' → IsBegun held
   begun_by begun held b b' c c' i i' o o' h = subst IsBegun (sym h.continues.is) (ReadsItems-partial (begun ++ h.stream) h.continues.rest h.continues.items h.continues.reading)

@@ -23,15 +23,14 @@ reply_frame reply = frame (reply_spelling reply)
 abbrev pub said : List Reply → List ℕ
 said replies = flat_map reply_frame replies
 
--- All replies but a last one are written whole, and a beginning of that.
+-- Of the last reply a beginning is written, and all replies before it are written whole.
 pub record SaidInPart (replies : List Reply) (written : List ℕ) : Type 0 where
   pub before : List Reply
-  pub last : List Reply
-  pub single : length last ≤ 1
-  pub all : replies ≡ before ++ last
+  pub last : Reply
+  pub all : replies ≡ before ++ (last ∷ [])
   pub part : List ℕ
   pub unsaid : List ℕ
-  pub cut : said last ≡ part ++ unsaid
+  pub cut : reply_frame last ≡ part ++ unsaid
   pub bytes : written ≡ said before ++ part
 
 -- All replies are written, or all but the last.

@@ -1,10 +1,6 @@
--- What a sink has taken, and what a failed write leaves.
+-- What a failed write leaves, and how failures are counted.
 use Rattle.std.specs.Prelude.{◌≡◌, ℕ, List, ◌++◌, Option, Result, Ok, Err, ◌+◌}
-use Rattle.std.specs.Io.KnownBytes.{Appends, append_known}
-
--- all bytes that a sink has taken: those that it passed on, and behind them those that it holds
-abbrev pub taken_by : {S : Type 0} → (S → Option (List ℕ)) → (S → List ℕ) → S → Option (List ℕ)
-taken_by passed held sink = append_known (passed sink) (held sink)
+use Rattle.std.specs.Io.KnownBytes.{Appends}
 
 -- known bytes grow by a beginning of bs
 abbrev pub AppendsPart : Option (List ℕ) → Option (List ℕ) → List ℕ → Type 0

@@ -73,8 +73,6 @@ impl MemorySink {
 impl Sink for MemorySink {
     ghost passed = { λ s. Some s.bytes.items };
 
-    ghost held = { λ s. [] };
-
     ghost failures = { λ s. s.failures };
 
     fn put(&mut self, bytes: &[u8]) -> Result<(), StreamFailed> {
@@ -82,10 +80,6 @@ impl Sink for MemorySink {
             self.failures += 1;
             return Err(StreamFailed);
         }
-        Ok(())
-    }
-
-    fn pass_on(&mut self) -> Result<(), StreamFailed> {
         Ok(())
     }
 }

@@ -1,9 +1,7 @@
-ghost use Rattle.std.specs.Prelude.{◌≡◌, ◌≢◌, ◌+◌, ◌^◌, ◌<◌, ℕ, [], ◌∷◌, ◌⊎◌, MatchResult, IfErr, OnOk, Some, length};
-ghost use Rattle.std.specs.Io.KnownBytes.{Keeps};
+ghost use Rattle.std.specs.Prelude.{◌≡◌, ◌≢◌, ◌+◌, ◌^◌, ◌<◌, [], ◌∷◌, ◌⊎◌, MatchResult, OnOk, Some, length};
 ghost use Rattle.s4_types.specs.Sizes.{ReplyFits};
 ghost use Rattle.serving.specs.Answering.{Answered, AnswersAll, Said, StopsAmong};
 ghost use Rattle.serving.specs.Session.{Continues, Finishes, Goes, IsBegun, IsLate, Serves, begun_of, failures_by, reading_failures, writing_failures};
-ghost use Rattle.serving.specs.Streams.{taken_by};
 
 use crate::backend::Backend;
 use crate::clock::Clock;
@@ -18,8 +16,8 @@ const PIECE_BYTES: usize = 65_536;
 
 /// Serves one session until its input ends or something fails, and says how it ended.
 ///
-/// The backend is asked the next request only after the writer took the reply to the one before. Before the
-/// reader is asked for more, and at the end, the writer passes on all that it holds.
+/// Each reply is written whole, by one `put`, before the next item is taken up and before the reader is asked for more. So where
+/// the writer fails, the backend was asked nothing after the request whose reply failed.
 pub fn serve<R: Source, W: Sink, B: Backend, C: Clock>(
     alloc: Global,
     reader: &mut R,
@@ -30,17 +28,16 @@ pub fn serve<R: Source, W: Sink, B: Backend, C: Clock>(
     requires reader { R.failures reader.old + 1 < 2 ^ 64 }
     requires writer { W.failures writer.old + 1 < 2 ^ 64 }
     ensures session { Serves B.steps C.draws [] result
-        backend.old clock.old (R.remaining reader.old) (taken_by W.passed W.held writer.old)
-        backend.new clock.new (R.remaining reader.new) (taken_by W.passed W.held writer.new) }
-    ensures passed { result ≢ ServeEnd.WriteFailed → W.held writer.new ≡ [] }
+        backend.old clock.old (R.remaining reader.old) (W.passed writer.old)
+        backend.new clock.new (R.remaining reader.new) (W.passed writer.new) }
     ensures reading { R.failures reader.new ≡ R.failures reader.old + reading_failures result }
     ensures writing { W.failures writer.new ≡ W.failures writer.old + writing_failures result }
 {
     let Ok(mut frames) = FrameReader::new(alloc) else {
-        return finish(writer, ServeEnd::NoMemory);
+        return ServeEnd::NoMemory;
     };
     let Ok(mut piece) = vec![in alloc; 0u8; PIECE_BYTES] else {
-        return finish(writer, ServeEnd::NoMemory);
+        return ServeEnd::NoMemory;
     };
     let mut out = Vec::new(alloc);
     loop {
@@ -56,24 +53,6 @@ pub fn serve<R: Source, W: Sink, B: Backend, C: Clock>(
             Ok(()) => {}
             Err(end) => return end,
         }
-    }
-}
-
-// Passes on what the writer holds, and ends so unless that fails. A writer that has failed is left alone.
-fn finish<W: Sink>(writer: &mut W, end: ServeEnd) -> ServeEnd
-    requires { end ≢ ServeEnd.WriteFailed → W.failures writer.old + 1 < 2 ^ 64 }
-    ensures end { (result ≡ end) ⊎ (result ≡ ServeEnd.WriteFailed) }
-    ensures bytes { Keeps (taken_by W.passed W.held writer.old) (taken_by W.passed W.held writer.new) }
-    ensures passed { result ≢ ServeEnd.WriteFailed → W.held writer.new ≡ [] }
-    ensures writing { W.failures writer.new + writing_failures end
-        ≡ W.failures writer.old + writing_failures result }
-{
-    if end == ServeEnd::WriteFailed {
-        return end;
-    }
-    match writer.pass_on() {
-        Ok(()) => end,
-        Err(_) => ServeEnd::WriteFailed,
     }
 }
 
@@ -93,19 +72,15 @@ fn serve_piece<R: Source, W: Sink, B: Backend, C: Clock>(
     requires room { 0 < length piece.old }
     ensures session { MatchResult result
         (λ _. Goes B.steps C.draws (begun_of frames.old) frames.new
-        backend.old clock.old (R.remaining reader.old) (taken_by W.passed W.held writer.old)
-        backend.new clock.new (R.remaining reader.new) (taken_by W.passed W.held writer.new))
+        backend.old clock.old (R.remaining reader.old) (W.passed writer.old)
+        backend.new clock.new (R.remaining reader.new) (W.passed writer.new))
         (λ end. Serves B.steps C.draws (begun_of frames.old) end
-        backend.old clock.old (R.remaining reader.old) (taken_by W.passed W.held writer.old)
-        backend.new clock.new (R.remaining reader.new) (taken_by W.passed W.held writer.new)) }
-    ensures passed { IfErr result (λ end. end ≢ ServeEnd.WriteFailed → W.held writer.new ≡ []) }
+        backend.old clock.old (R.remaining reader.old) (W.passed writer.old)
+        backend.new clock.new (R.remaining reader.new) (W.passed writer.new)) }
     ensures turns { OnOk result (R.turns reader.new < R.turns reader.old) }
     ensures reading { R.failures reader.new ≡ R.failures reader.old + failures_by reading_failures result }
     ensures writing { W.failures writer.new ≡ W.failures writer.old + failures_by writing_failures result }
 {
-    if writer.pass_on().is_err() {
-        return Err(ServeEnd::WriteFailed);
-    }
     let count = match reader.read(piece) {
         Ok(count) => count,
         Err(_) => return Err(ServeEnd::ReadFailed),
@@ -139,24 +114,22 @@ fn answer_piece<W: Sink, B: Backend, C: Clock>(
 ) -> Result<(), ServeEnd>
     requires writer { W.failures writer.old + 1 < 2 ^ 64 }
     requires begun { IsBegun frames.old }
-    requires passed { W.held writer.old ≡ [] }
     ensures session { MatchResult result
         (λ _. Continues B.steps C.draws (begun_of frames.old) piece.now frames.new
-        backend.old clock.old (taken_by W.passed W.held writer.old)
-        backend.new clock.new (taken_by W.passed W.held writer.new))
+        backend.old clock.old (W.passed writer.old)
+        backend.new clock.new (W.passed writer.new))
         (λ end. IsLate end × Finishes B.steps C.draws end (begun_of frames.old) piece.now
-        backend.old clock.old (taken_by W.passed W.held writer.old)
-        backend.new clock.new (taken_by W.passed W.held writer.new)) }
-    ensures passed { IfErr result (λ end. end ≢ ServeEnd.WriteFailed → W.held writer.new ≡ []) }
+        backend.old clock.old (W.passed writer.old)
+        backend.new clock.new (W.passed writer.new)) }
     ensures writing { W.failures writer.new ≡ W.failures writer.old + failures_by writing_failures result }
 {
     let Ok(items) = frames.feed::<Request>(piece) else {
         return Err(ServeEnd::NoMemory);
     };
     match answer_all(items, writer, backend, clock, out) {
-        Ok(()) if frames.has_failed() => Err(finish(writer, ServeEnd::Oversized)),
+        Ok(()) if frames.has_failed() => Err(ServeEnd::Oversized),
         Ok(()) => Ok(()),
-        Err(end) => Err(finish(writer, end)),
+        Err(end) => Err(end),
     }
 }
 
@@ -170,11 +143,11 @@ fn answer_all<W: Sink, B: Backend, C: Clock>(
     requires { W.failures writer.old + 1 < 2 ^ 64 }
     ensures answers { MatchResult result
         (λ _. AnswersAll B.steps C.draws items.items
-        backend.old clock.old (taken_by W.passed W.held writer.old)
-        backend.new clock.new (taken_by W.passed W.held writer.new))
+        backend.old clock.old (W.passed writer.old)
+        backend.new clock.new (W.passed writer.new))
         (λ end. StopsAmong B.steps C.draws items.items end
-        backend.old clock.old (taken_by W.passed W.held writer.old)
-        backend.new clock.new (taken_by W.passed W.held writer.new)) }
+        backend.old clock.old (W.passed writer.old)
+        backend.new clock.new (W.passed writer.new)) }
     ensures writing { W.failures writer.new ≡ W.failures writer.old + failures_by writing_failures result }
 {
     for item in items {
@@ -196,11 +169,11 @@ fn answer<W: Sink, B: Backend, C: Clock>(
     requires { W.failures writer.old + 1 < 2 ^ 64 }
     ensures answers { MatchResult result
         (λ _. AnswersAll B.steps C.draws (item ∷ [])
-        backend.old clock.old (taken_by W.passed W.held writer.old)
-        backend.new clock.new (taken_by W.passed W.held writer.new))
+        backend.old clock.old (W.passed writer.old)
+        backend.new clock.new (W.passed writer.new))
         (λ end. StopsAmong B.steps C.draws (item ∷ []) end
-        backend.old clock.old (taken_by W.passed W.held writer.old)
-        backend.new clock.new (taken_by W.passed W.held writer.new)) }
+        backend.old clock.old (W.passed writer.old)
+        backend.new clock.new (W.passed writer.new)) }
     ensures writing { W.failures writer.new ≡ W.failures writer.old + failures_by writing_failures result }
 {
     let reply = reply_to(item, backend, clock);
@@ -225,7 +198,7 @@ fn reply_to<B: Backend, C: Clock>(item: Item<Request>, backend: &mut B, clock: &
 fn say<W: Sink>(reply: &Reply, writer: &mut W, out: &mut Vec<u8>) -> Result<(), ServeEnd>
     requires room { W.failures writer.old + 1 < 2 ^ 64 }
     requires fits { ReplyFits reply.now }
-    ensures said { Said (taken_by W.passed W.held writer.old) (taken_by W.passed W.held writer.new)
+    ensures said { Said (W.passed writer.old) (W.passed writer.new)
         reply.now result }
     ensures writing { W.failures writer.new ≡ W.failures writer.old + failures_by writing_failures result }
 {

@@ -1,12 +1,8 @@
-ghost use Rattle.std.specs.Prelude.{◌≡◌, ℕ, ◌≤◌, ◌+◌, ◌++◌, [], length, take, drop, IsTrue, if◌then◌else◌, IfSome, unwrap_or};
+ghost use Rattle.std.specs.Prelude.{◌≡◌, ◌≤◌, length, take, IsTrue, IfSome, unwrap_or};
 ghost use Rattle.std.specs.Io.KnownBytes.{Appends};
 
 use crate::streams::{Sink, Source, StreamFailed};
-use std::alloc::Global;
 use std::io::{ErrorKind, Read, Write};
-
-/// How many bytes a sink over a writer gathers before it passes them on unasked.
-const GATHERED_BYTES: usize = 65_536;
 
 /// A source over a reader of the standard library. A read that was interrupted is tried again.
 #[derive(Drop)]
@@ -54,29 +50,21 @@ impl<R: Read> Source for ReadSource<R> {
     }
 }
 
-/// A sink over a writer of the standard library. It gathers what it takes until it is to pass it on, or until
-/// 65,536 bytes are gathered, so that many small replies cost one write.
+/// A sink over a writer of the standard library. What it takes is written and flushed at once, by one write where the
+/// writer takes all of it.
 #[derive(Drop)]
 pub struct WriteSink<W> {
     writer: W,
-    gathered: Vec<u8>,
-    // How many of the gathered bytes the writer took before it failed.
-    sent: usize,
     failures: u64,
-    ghost within: { sent ≤ length gathered.items },
 }
 
 impl<W: Write> WriteSink<W> {
-    /// A sink that has gathered nothing.
-    pub fn new(alloc: Global, writer: W) -> Self
+    pub fn new(writer: W) -> Self
         ensures writer { result.writer ≡ writer }
-        ensures gathered { result.gathered.items ≡ [] }
         ensures failures { result.failures ≡ 0 }
     {
         WriteSink {
             writer,
-            gathered: Vec::new(alloc),
-            sent: 0,
             failures: 0,
         }
     }
@@ -92,15 +80,9 @@ impl<W: Write> WriteSink<W> {
 impl<W: Write> Sink for WriteSink<W> {
     ghost passed = { λ s. W.contents s.writer };
 
-    ghost held = { λ s. drop s.sent s.gathered.items };
-
     ghost failures = { λ s. s.failures };
 
     fn put(&mut self, bytes: &[u8]) -> Result<(), StreamFailed> {
-        if gather(&mut self.gathered, bytes) {
-            return Ok(());
-        }
-        self.pass_on()?;
         let (_, is_through) = write_through(&mut self.writer, bytes);
         if !is_through {
             self.failures += 1;
@@ -108,28 +90,6 @@ impl<W: Write> Sink for WriteSink<W> {
         }
         Ok(())
     }
-
-    fn pass_on(&mut self) -> Result<(), StreamFailed> {
-        let (count, is_through) = write_through(&mut self.writer, &self.gathered[self.sent..]);
-        self.sent += count;
-        if !is_through {
-            self.failures += 1;
-            return Err(StreamFailed);
-        }
-        self.gathered.clear();
-        self.sent = 0;
-        Ok(())
-    }
-}
-
-// Puts the bytes behind those that are gathered, where there is room for them.
-fn gather(gathered: &mut Vec<u8>, bytes: &[u8]) -> bool
-    ensures { gathered.new.items
-        ≡ (if result then gathered.old.items ++ bytes.now else gathered.old.items) }
-{
-    gathered.len() <= GATHERED_BYTES
-        && bytes.len() <= GATHERED_BYTES - gathered.len()
-        && gathered.extend_from_slice(bytes).is_ok()
 }
 
 // Writes the bytes and flushes the writer. Says how many it took, and whether it took all and was flushed.

@@ -1,6 +1,6 @@
-ghost use Rattle.std.specs.Prelude.{◌≡◌, ℕ, ◌+◌, ◌^◌, ◌<◌, ◌≤◌, List, [], length, Option, IfOk, OnOk, OnErr};
-ghost use Rattle.std.specs.Io.KnownBytes.{Appends, Keeps, ReadConsumes};
-ghost use Rattle.serving.specs.Streams.{taken_by, AppendsPart, failures_after};
+ghost use Rattle.std.specs.Prelude.{◌≡◌, ℕ, ◌+◌, ◌^◌, ◌<◌, ◌≤◌, List, length, Option, IfOk, OnOk, OnErr};
+ghost use Rattle.std.specs.Io.KnownBytes.{Appends, ReadConsumes};
+ghost use Rattle.serving.specs.Streams.{AppendsPart, failures_after};
 
 use thiserror::Error;
 
@@ -30,30 +30,18 @@ pub trait Source {
         ensures turns { IfOk result (λ count. 0 < count → turns self.new < turns self.old) };
 }
 
-/// What a session writes to. It counts its failures, and may hold bytes back until it passes them on.
+/// What a session writes to. It counts its failures, and holds nothing back.
 pub trait Sink {
-    // The bytes that it has passed on, where they are known.
+    // The bytes that were written to it, where they are known.
     ghost passed: { Self → Option (List ℕ) };
-
-    // The bytes that it holds, which come behind those.
-    ghost held: { Self → List ℕ };
 
     // How often it has failed.
     ghost failures: { Self → ℕ };
 
-    /// Takes all the bytes, or fails and has taken a beginning of them.
+    /// Writes all the bytes through, or fails and has written a beginning of them.
     fn put(&mut self, bytes: &[u8]) -> Result<(), StreamFailed>
         requires { failures self.old + 1 < 2 ^ 64 }
-        ensures ok { OnOk result
-            (Appends (taken_by passed held self.old) (taken_by passed held self.new) bytes.now) }
-        ensures err { OnErr result
-            (AppendsPart (taken_by passed held self.old) (taken_by passed held self.new) bytes.now) }
-        ensures failures { failures self.new ≡ failures_after (failures self.old) result };
-
-    /// Passes on all that it holds.
-    fn pass_on(&mut self) -> Result<(), StreamFailed>
-        requires { failures self.old + 1 < 2 ^ 64 }
-        ensures bytes { Keeps (taken_by passed held self.old) (taken_by passed held self.new) }
-        ensures ok { OnOk result (held self.new ≡ []) }
+        ensures ok { OnOk result (Appends (passed self.old) (passed self.new) bytes.now) }
+        ensures err { OnErr result (AppendsPart (passed self.old) (passed self.new) bytes.now) }
         ensures failures { failures self.new ≡ failures_after (failures self.old) result };
 }

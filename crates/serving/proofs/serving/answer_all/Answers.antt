@@ -4,7 +4,6 @@ use Rattle.std.proofs.lemmas.Iterator.Consumers.{YieldsList-so_far, YieldsList-t
 use Rattle.s4_types.specs.declared.requests.Request.{Request}
 use Rattle.rpc.specs.declared.items.Item.{Item}
 use Rattle.serving.specs.Answering.{StopsAmong}
-use Rattle.serving.specs.Streams.{taken_by}
 use Rattle.serving.proofs.AnsweringLemmas.{AnswersAll-append, StopsAmong-before, StopsAmong-behind, passed_items}
 use Rattle.serving.proofs.serving.answer_all.Goals as goal
 
@@ -25,5 +24,5 @@ returns-in-Err-clause-answers g c =
     let is = passed_items all c.loop-item.yielded c.in-Some.item front here in
     let stop = StopsAmong-behind g.B.Backend.steps g.C.Clock.draws c.loop-item.yielded (c.in-Some.item ∷ later) _ _ _ _ _ _ _ _ _ _
     c.loop-item.invariant.answered (StopsAmong-before g.B.Backend.steps g.C.Clock.draws (c.in-Some.item ∷ []) later _ _ _ _ _ _ _ c.in-Err.ensures.answers) in
-    subst (λ (items : List (Item Request)). StopsAmong g.B.Backend.steps g.C.Clock.draws items c.in-Err.end c.args.backend.now c.args.clock.now (taken_by g.W.Sink.passed g.W.Sink.held c.args.writer.now)
-    c.answer.new.backend c.answer.new.clock (taken_by g.W.Sink.passed g.W.Sink.held c.answer.new.writer)) (sym is) stop
+    subst (λ (items : List (Item Request)). StopsAmong g.B.Backend.steps g.C.Clock.draws items c.in-Err.end c.args.backend.now c.args.clock.now (g.W.Sink.passed c.args.writer.now)
+    c.answer.new.backend c.answer.new.clock (g.W.Sink.passed c.answer.new.writer)) (sym is) stop

@@ -3,11 +3,10 @@ use Rattle.serving.proofs.SessionLemmas.{begins_at, begun_by, unstarted, Goes-se
 use Rattle.serving.proofs.serving.serve.Goals as goal
 
 pub returns-in_default-clause-session : goal.returns-in_default-clause-session
-returns-in_default-clause-session g c = unstarted g.B.Backend.steps g.C.Clock.draws c.finish.result _ _ _ _ _ c.finish.ensures.end c.finish.ensures.bytes
+returns-in_default-clause-session g c = unstarted g.B.Backend.steps g.C.Clock.draws _ _ _ _
 
 pub returns-in_default-vec-clause-session : goal.returns-in_default-vec-clause-session
-returns-in_default-vec-clause-session g c =
-    unstarted g.B.Backend.steps g.C.Clock.draws c.finish-in_default-vec.result _ _ _ _ _ c.finish-in_default-vec.ensures.end c.finish-in_default-vec.ensures.bytes
+returns-in_default-vec-clause-session g c = unstarted g.B.Backend.steps g.C.Clock.draws _ _ _ _
 
 pub loop-end-init : goal.loop-end-init
 loop-end-init g c = record {

@@ -1,13 +1,12 @@
 use Rattle.std.proofs.Common.{◌≡◌, ◌<◌, [], vec_len}
 use Rattle.serving.specs.Session.{Goes}
-use Rattle.serving.specs.Streams.{taken_by}
 use Rattle.serving.proofs.serving.serve.Given as goal
 
 abbrev pub invariant-loop-end : goal.invariant-loop-end
 invariant-loop-end g l = record {
   goes : Goes g.B.Backend.steps g.C.Clock.draws [] l.frames
-      l.fn.backend l.fn.clock (g.R.Source.remaining l.fn.reader) (taken_by g.W.Sink.passed g.W.Sink.held l.fn.writer)
-      l.backend l.clock (g.R.Source.remaining l.reader) (taken_by g.W.Sink.passed g.W.Sink.held l.writer);
+      l.fn.backend l.fn.clock (g.R.Source.remaining l.fn.reader) (g.W.Sink.passed l.fn.writer)
+      l.backend l.clock (g.R.Source.remaining l.reader) (g.W.Sink.passed l.writer);
   reading : g.R.Source.failures l.reader ≡ g.R.Source.failures l.fn.reader;
   writing : g.W.Sink.failures l.writer ≡ g.W.Sink.failures l.fn.writer;
   room : 0 < vec_len l.piece;

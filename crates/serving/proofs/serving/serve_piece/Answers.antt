@@ -1,20 +1,16 @@
 use Rattle.std.proofs.Common.{take, arith}
-use Rattle.serving.proofs.SessionLemmas.{over, piece_answered, read_failed, unread}
+use Rattle.serving.proofs.SessionLemmas.{over, piece_answered, read_failed}
 use Rattle.serving.proofs.serving.serve_piece.Goals as goal
 
-pub returns-then-is_err-clause-session : goal.returns-then-is_err-clause-session
-returns-then-is_err-clause-session g c = unread g.B.Backend.steps g.C.Clock.draws c.args.frames.now _ _ _ _ _ c.requires.begun c.pass_on.ensures.bytes
-
 pub returns-in-Err-clause-session : goal.returns-in-Err-clause-session
-returns-in-Err-clause-session g c =
-    read_failed g.B.Backend.steps g.C.Clock.draws c.args.frames.now _ _ _ _ _ _ c.requires.begun c.in-Err.ensures.bytes c.pass_on.ensures.bytes
+returns-in-Err-clause-session g c = read_failed g.B.Backend.steps g.C.Clock.draws c.args.frames.now _ _ _ _ _ c.requires.begun c.in-Err.ensures.bytes
 
 pub returns-then-count-eq0-clause-session : goal.returns-then-count-eq0-clause-session
 returns-then-count-eq0-clause-session g c =
-    over g.B.Backend.steps g.C.Clock.draws c.end_at.result c.args.frames.now c.in-Ok.count c.read.new.into _ _ _ _ _ _ c.requires.begun c.end_at.ensures
-    c.if-count-eq0.true (grind arith) c.in-Ok.ensures.bytes c.pass_on.ensures.bytes
+    over g.B.Backend.steps g.C.Clock.draws c.end_at.result c.args.frames.now c.in-Ok.count c.read.new.into _ _ _ _ _ c.requires.begun c.end_at.ensures
+    c.if-count-eq0.true (grind arith) c.in-Ok.ensures.bytes
 
 pub returns-clause-session : goal.returns-clause-session
 returns-clause-session g c =
-    piece_answered g.B.Backend.steps g.C.Clock.draws c.args.frames.now _ (take c.in-Ok.count c.read.new.into) c.answer_piece.result _ _ _ _ _ _ _ _ _
-    c.in-Ok.ensures.bytes.0 c.pass_on.ensures.bytes c.answer_piece.ensures.session
+    piece_answered g.B.Backend.steps g.C.Clock.draws c.args.frames.now _ (take c.in-Ok.count c.read.new.into) c.answer_piece.result _ _ _ _ _ _ _ _
+    c.in-Ok.ensures.bytes.0 c.answer_piece.ensures.session
