@@ -5,7 +5,7 @@ use std::io;
 use thiserror::Error;
 
 /// Why a command over files failed. Each prints its line.
-#[derive(Clone, Copy, Debug, PartialEq, Eq, Error)]
+#[derive(Debug, Drop, PartialEq, Eq, Error)]
 pub enum Fault<'a> {
     /// The drive, or what reads its image, refused it.
     #[error("{0}")]
@@ -16,6 +16,9 @@ pub enum Fault<'a> {
     /// The file of this path can't be written.
     #[error("cannot write {0}")]
     CannotWrite(&'a str),
+    /// The image of this path can't be replaced; the new one is in a file of its own.
+    #[error("cannot write {0}, the image is in {1}")]
+    KeptIn(&'a str, String),
     /// Standard output can't be written.
     #[error("WriteFailed")]
     WriteFailed,

@@ -13,7 +13,7 @@ mod saving;
 mod verifying;
 
 pub use faults::{Fault, reading, writing};
-pub use files::Files;
+pub use files::{Files, NotReplaced};
 pub use reading_past::write_object;
-pub use saving::{make_file, write_image};
+pub use saving::{Place, longest_image, make_file};
 pub use verifying::{read_image, verify_file};

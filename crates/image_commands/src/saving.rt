@@ -4,16 +4,18 @@ ghost use Rattle.s4_types.specs.Sizes.{IsFrameCount};
 ghost use Rattle.s4_model.specs.State.{new_base};
 
 use crate::faults::{Fault, writing};
-use crate::files::Files;
+use crate::files::{Files, NotReplaced};
 use drive::NewDrive;
+use image_parts::image_length;
 use s4_types::Refusal;
+use s4_types::limits::{PAYLOAD_BLOCKS, RUNS_IN_ALL};
 use s4d_command::New;
 use segment_word::Naming;
 use std::alloc::Global;
 use std::marker::Brand;
 use verifier::save;
 
-/// Writes the image of a new drive.
+/// Writes the image of a new drive, in place of the one that is there.
 pub fn make_file<'a, F: Files>(
     alloc: Global,
     files: &mut F,
@@ -25,8 +27,18 @@ pub fn make_file<'a, F: Files>(
         Ok(made) => made,
         Err(refusal) => return Err(Fault::Refused(refusal)),
     };
-    let saved = save_new::<Brand>(alloc, made);
-    write_image(alloc, files, asked.image, saved)
+    let bytes = match save_new::<Brand>(alloc, made) {
+        Ok(bytes) => bytes,
+        Err(refusal) => return Err(Fault::Refused(refusal)),
+    };
+    let place = match files.claim(alloc, asked.image) {
+        Ok(claim) => Place::beside(alloc, files, asked.image, claim, 0),
+        Err(error) => Err(writing(error, asked.image)),
+    };
+    match place {
+        Ok(place) => place.put(files, bytes.as_slice()),
+        Err(fault) => Err(fault),
+    }
 }
 
 // The image of a drive that was just made.
@@ -39,19 +51,60 @@ fn save_new<J: Naming>(alloc: Global, made: NewDrive) -> Result<Vec<u8>, Refusal
     save(alloc, &mut drive)
 }
 
-/// Writes what a drive was saved as, in place of the file that is there.
-pub fn write_image<'a, F: Files>(
-    alloc: Global,
-    files: &mut F,
+/// An image's path that is claimed, and the file beside it that takes its place.
+#[derive(Drop)]
+pub struct Place<'a, F: Files> {
     path: &'a str,
-    saved: Result<Vec<u8>, Refusal>,
-) -> Result<(), Fault<'a>> {
-    let bytes = match saved {
-        Ok(bytes) => bytes,
-        Err(refusal) => return Err(Fault::Refused(refusal)),
-    };
-    match files.replace(alloc, path, bytes.as_slice()) {
-        Ok(()) => Ok(()),
-        Err(error) => Err(writing(error, path)),
+    claim: F::Claim,
+    beside: F::Beside,
+}
+
+impl<'a, F: Files> Place<'a, F> {
+    /// Makes a file of this length in bytes beside an image: what is put there later has room on the disk.
+    pub fn beside(
+        alloc: Global,
+        files: &mut F,
+        path: &'a str,
+        claim: F::Claim,
+        length: usize,
+    ) -> Result<Self, Fault<'a>> {
+        match files.make_beside(alloc, &claim, length) {
+            Ok(beside) => Ok(Place {
+                path,
+                claim,
+                beside,
+            }),
+            Err(error) => Err(writing(error, path)),
+        }
     }
+
+    /// Leaves the image as it is.
+    pub fn leave(self, files: &mut F) {
+        files.remove_beside(self.beside);
+    }
+
+    /// Replaces the image by these bytes. Where that fails and they are all in the file beside it, the fault names that.
+    pub fn put(self, files: &mut F, bytes: &[u8]) -> Result<(), Fault<'a>> {
+        let Place {
+            path,
+            claim,
+            beside,
+        } = self;
+        match files.replace(claim, beside, bytes) {
+            Ok(()) => Ok(()),
+            Err(
+                NotReplaced {
+                    kept: Some(kept),
+                    ..
+                },
+            ) => Err(Fault::KeptIn(path, kept)),
+            Err(NotReplaced { error, .. }) => Err(writing(error, path)),
+        }
+    }
+}
+
+/// How many bytes the longest image of so many frames has.
+pub fn longest_image(frames: u16) -> usize {
+    let rows = u32::from(frames) * PAYLOAD_BLOCKS as u32;
+    image_length(frames, frames, rows, RUNS_IN_ALL as u32)
 }

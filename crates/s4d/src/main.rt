@@ -23,14 +23,44 @@ use performing::{fail, perform, refuse};
 use s4d_command::CommandError;
 use serving::{ReadSource, WriteSink};
 use session_thread::pipe_apart;
+use std::fs::OpenOptions;
 use std::io;
+use std::os::fd::{AsRawFd, IntoRawFd};
 use std::process::ExitCode;
 use std::sync::Wait;
 use std::thread::Threads;
 use std::time::Clock;
 
+/// The file that has nothing.
+const NOTHING: &str = "/dev/null";
+
+/// The number of standard input.
+const STANDARD_INPUT: i32 = 0;
+
+/// The number of standard error, the last of the standard streams.
+const STANDARD_ERROR: i32 = 2;
+
 fn main(rt: HostRuntime) -> ExitCode {
+    // Where the system has nothing to open, the streams stay as they are.
+    let _ = hold_standard_streams(&rt);
     exit_of(&rt, &rt)
+}
+
+// Gives the numbers of those standard streams that are closed to files that can't be used as they are: else the next file that is
+// opened would have such a number, and be read or written in the place of the stream.
+fn hold_standard_streams(rt: &HostRuntime) -> io::Result<()> {
+    let unreadable = OpenOptions::new().write(true).open(rt, NOTHING)?;
+    if unreadable.as_raw_fd() == STANDARD_INPUT {
+        let _ = unreadable.into_raw_fd();
+    }
+    for _ in 0..STANDARD_ERROR {
+        let unwritable = OpenOptions::new().read(true).open(rt, NOTHING)?;
+        if unwritable.as_raw_fd() > STANDARD_ERROR {
+            return Ok(());
+        }
+        let _ = unwritable.into_raw_fd();
+    }
+    Ok(())
 }
 
 // What the line came to that the program was called with: 0 only where it is done, and a session of `pipe` was served to its end.

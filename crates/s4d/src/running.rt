@@ -7,7 +7,7 @@ ghost use Rattle.server.specs.Attending.{IsAttended};
 ghost use Rattle.s4d.specs.Running.{IsSavedFrom};
 
 use drive::{Drive, OpenedDrive};
-use image_commands::{Fault, Files, read_image, reading, write_image, writing};
+use image_commands::{Fault, Files, Place, longest_image, read_image, reading, writing};
 use s4_types::{Moment, Refusal};
 use s4d_command::{Run, RunSession};
 use segment_word::Naming;
@@ -36,8 +36,11 @@ struct Manner {
 }
 
 /// Serves the sessions of a drive that an image is read from, and writes its image anew. Says whether each session ended at the
-/// end of its input; each other one has a line on `errors`. Where the image or a file fails, no session is served; where a session
-/// is to write over the image itself, nothing is made either.
+/// end of its input; each other one has a line on `errors`.
+///
+/// Where the image or a file fails, no session is served. That the image can be replaced is known before: another program that
+/// serves it, a file that can't be made beside it, or a disk without room for the longest image is a fault then. So is a session that
+/// is to write over the image, or over what a session reads or another one writes, and then no output is made.
 pub fn run_file<'a, T: Threads + Wait + Clock + Sync, F: Files, E: Write>(
     rt: &T,
     alloc: Global,
@@ -47,10 +50,17 @@ pub fn run_file<'a, T: Threads + Wait + Clock + Sync, F: Files, E: Write>(
 ) -> Result<bool, Fault<'a>>
     requires sessions { vec_len asked.sessions ≤ 16 }
 {
+    // The claim comes first, so that nobody replaces what is read; what can't be read is the first fault all the same.
+    let claim = files.claim(alloc, asked.image);
     let image = match read_image(rt, alloc, files, asked.image) {
         Ok(image) => image,
         Err(fault) => return Err(fault),
     };
+    let claim = match claim {
+        Ok(claim) => claim,
+        Err(error) => return Err(writing(error, asked.image)),
+    };
+    let length = longest_image(image.frames());
     let manner = Manner {
         start: image.clock(),
         tick: asked.tick,
@@ -60,31 +70,114 @@ pub fn run_file<'a, T: Threads + Wait + Clock + Sync, F: Files, E: Write>(
         Ok(opened) => opened,
         Err(refusal) => return Err(Fault::Refused(refusal)),
     };
-    if let Some(output) = output_at(asked.image, asked.sessions.as_slice()) {
-        return Err(Fault::CannotWrite(output));
-    }
-    let clients = match clients_of(alloc, files, asked.sessions.as_slice()) {
-        Ok(clients) => clients,
+    match are_apart(files, asked.image, asked.sessions.as_slice()) {
+        Ok(()) => {}
         Err(fault) => return Err(fault),
+    }
+    match Place::beside(alloc, files, asked.image, claim, length) {
+        Ok(place) => run_beside(
+            rt,
+            alloc,
+            files,
+            place,
+            opened,
+            manner,
+            asked.sessions.as_slice(),
+            errors,
+        ),
+        Err(fault) => Err(fault),
+    }
+}
+
+// Serves the sessions of a drive that was just opened, and puts its image in its place.
+fn run_beside<'a, T: Threads + Wait + Clock + Sync, F: Files, E: Write>(
+    rt: &T,
+    alloc: Global,
+    files: &mut F,
+    place: Place<'a, F>,
+    opened: OpenedDrive,
+    manner: Manner,
+    sessions: &[RunSession<'a>],
+    errors: &mut E,
+) -> Result<bool, Fault<'a>>
+    requires sessions { length sessions.now ≤ 16 }
+{
+    let clients = match clients_of(alloc, files, sessions) {
+        Ok(clients) => clients,
+        Err(fault) => {
+            place.leave(files);
+            return Err(fault);
+        }
     };
     let (served, saved) = serve_named::<Brand, T, ReadSource<F::Reader>, WriteSink<F::Writer>>(
         rt, alloc, opened, manner, clients,
     );
     let is_ended = tell_sessions(errors, served.as_slice());
-    match write_image(alloc, files, asked.image, saved) {
-        Ok(()) => Ok(is_ended),
-        Err(fault) => Err(fault),
+    match saved {
+        Ok(bytes) => match place.put(files, bytes.as_slice()) {
+            Ok(()) => Ok(is_ended),
+            Err(fault) => Err(fault),
+        },
+        Err(refusal) => {
+            place.leave(files);
+            Err(Fault::Refused(refusal))
+        }
     }
 }
 
-// The output of a session that is the file of this path. Where it were made, that file would be empty.
-fn output_at<'a>(path: &str, sessions: &[RunSession<'a>]) -> Option<&'a str> {
-    for session in sessions {
-        if session.output == path {
-            return Some(session.output);
+// Whether no session is to write over the image, over what a session reads, or over what another one writes: where one did, what was
+// there would be lost. The first output that isn't so is a fault.
+fn are_apart<'a, F: Files>(
+    files: &F,
+    image: &str,
+    sessions: &[RunSession<'a>],
+) -> Result<(), Fault<'a>> {
+    for (number, session) in (0usize..).zip(sessions) {
+        let output = session.output;
+        let is_taken = is_same(files, image, output)?
+            || is_one_read(files, sessions, output)?
+            || is_one_written(files, &sessions[..number], output)?;
+        if is_taken {
+            return Err(Fault::CannotWrite(output));
         }
     }
-    None
+    Ok(())
+}
+
+// Whether an output is one of the files that sessions read.
+fn is_one_read<'a, F: Files>(
+    files: &F,
+    sessions: &[RunSession<'a>],
+    output: &'a str,
+) -> Result<bool, Fault<'a>> {
+    for session in sessions {
+        if is_same(files, session.input, output)? {
+            return Ok(true);
+        }
+    }
+    Ok(false)
+}
+
+// Whether an output is one of the files that these sessions write.
+fn is_one_written<'a, F: Files>(
+    files: &F,
+    sessions: &[RunSession<'a>],
+    output: &'a str,
+) -> Result<bool, Fault<'a>> {
+    for session in sessions {
+        if is_same(files, session.output, output)? {
+            return Ok(true);
+        }
+    }
+    Ok(false)
+}
+
+// Whether an output is the file of another path.
+fn is_same<'a, F: Files>(files: &F, path: &str, output: &'a str) -> Result<bool, Fault<'a>> {
+    match files.are_same(path, output) {
+        Ok(is_same) => Ok(is_same),
+        Err(error) => Err(writing(error, output)),
+    }
 }
 
 // Opens the files of each session in turn.
