@@ -25,7 +25,7 @@ use Rattle.version_store.specs.Versions.{inode_in, version_in, version_by}
 use Rattle.version_store.specs.Taking.{Takes, IsReadyFor, IsAboveAll, IsThere}
 use Rattle.version_store.specs.Laws.{ThePresentStays}
 use Rattle.window.specs.Timeline.{Timeline}
-use Rattle.admission.specs.Later.{later_refusal, IsWithin, IsOfVersions, IsAllowed, HasSize, object_asked}
+use Rattle.drive.specs.Later.{later_refusal, IsWithin, IsOfVersions, IsAllowed, HasSize, object_asked}
 use Rattle.s4_model.specs.Effect.{object_of}
 use Rattle.drive.specs.Keeping.{IsKeptDrive}
 use Rattle.drive.specs.Answering.{size_by}

@@ -24,7 +24,7 @@ use Rattle.s4_model.specs.Effect.{is_of_versions}
 use Rattle.version_store.specs.Store.{StoreFields}
 use Rattle.drive.specs.Fields.{DriveFields, SessionFields, store_of, state_in}
 use Rattle.drive.specs.Keeping.{IsKeptDrive}
-use Rattle.admission.specs.Later.{later_refusal}
+use Rattle.drive.specs.Later.{later_refusal}
 use Rattle.drive.specs.Refusing.{or_then, want_of, span_refusal}
 use Rattle.drive.specs.Answering.{RefusesChange}
 use Rattle.drive.proofs.Kept.{kept_seen, kept_hidden}

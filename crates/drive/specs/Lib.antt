@@ -3,3 +3,4 @@ pub mod Keeping
 pub mod Refusing
 pub mod Opened
 pub mod Answering
+pub mod Later

@@ -6,15 +6,15 @@ ghost use Rattle.s4_model.specs.Refusals.{last_number};
 ghost use Rattle.s4_model.specs.Step.{change_of, stamp, accepted_record, reply_at};
 ghost use Rattle.s4_model.specs.Sound.{IsSound};
 ghost use Rattle.s4_model.specs.Plain.{HasNext};
-ghost use Rattle.admission.specs.Later.{later_refusal, IsWithin, IsOfVersions};
+ghost use Rattle.drive.specs.Later.{later_refusal, IsWithin, IsOfVersions};
 ghost use Rattle.version_store.specs.Taking.{Takes};
 ghost use Rattle.drive.specs.Fields.{state_in, store_of};
 ghost use Rattle.drive.specs.Answering.{ComesTo, size_by};
 
 use crate::acceptance::accept;
 use crate::drive::Drive;
+use crate::judgements::{judge, object_of};
 use crate::session::Session;
-use admission::{judge, object_of};
 use codec::Inode;
 use inode::laws::bytes_are_the_blocks_joined;
 use s4_model::laws::{every_history_is_sound, the_state_goes_on_record_by_record};

@@ -5,15 +5,15 @@ ghost use Rattle.s4_types.specs.declared.refusals.Refusal.TheVariants.{NoMemory,
 ghost use Rattle.s4_model.specs.State.{State};
 ghost use Rattle.s4_model.specs.Refusals.{last_number};
 ghost use Rattle.window.specs.Timeline.{StandsFor, IsPlanned};
-ghost use Rattle.admission.specs.Later.{later_refusal};
+ghost use Rattle.drive.specs.Later.{later_refusal};
 ghost use Rattle.drive.specs.Fields.{state_in};
 ghost use Rattle.drive.specs.Refusing.{span_refusal};
 ghost use Rattle.drive.specs.Answering.{ComesTo};
 
 use crate::acceptance::accept;
 use crate::drive::Drive;
+use crate::judgements::check_clock;
 use crate::session::Session;
-use admission::check_clock;
 use s4_model::laws::{every_history_is_sound, the_state_goes_on_record_by_record};
 use s4_types::{Change, Moment, ObjectId, Refusal, Reply, Span};
 use segment_word::Naming;

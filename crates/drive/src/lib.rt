@@ -22,10 +22,12 @@
 
 mod acceptance;
 mod changes;
+mod checks;
 mod drive;
 mod flushes;
 mod frames;
 mod holdings;
+mod judgements;
 pub mod laws;
 mod new_drive;
 mod opened_drive;

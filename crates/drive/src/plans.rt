@@ -13,9 +13,9 @@ ghost use Rattle.drive.specs.Fields.{history_of, state_in, store_of};
 ghost use Rattle.drive.specs.Refusing.{RefusesExactly, LacksMemoryInPlace, IsUnplanned};
 ghost use Rattle.drive.specs.Answering.{IsPlanOf, IsPinOf, reply_planned};
 
+use crate::checks::check_read;
 use crate::drive::Drive;
 use crate::session::Session;
-use admission::check_read;
 use s4_types::{Moment, ObjectId, Refusal};
 use segment_word::Naming;
 use time_read::ReadPlan;

@@ -7,15 +7,15 @@ ghost use Rattle.s4_types.specs.declared.refusals.Refusal.TheVariants.{NoMemory}
 ghost use Rattle.s4_model.specs.Refusals.{first_refusal, asked};
 ghost use Rattle.s4_model.specs.Step.{reply_to_read};
 ghost use Rattle.s4_model.specs.Visible.{IsVisible};
-ghost use Rattle.admission.specs.Later.{later_refusal, IsWithin};
+ghost use Rattle.drive.specs.Later.{later_refusal, IsWithin};
 ghost use Rattle.version_store.specs.Versions.{inode_in};
 ghost use Rattle.drive.specs.Fields.{state_in, store_of};
 ghost use Rattle.time_read.specs.Plans.{bytes_planned};
 ghost use Rattle.drive.specs.Refusing.{IsJudgedOut, IsUnplanned};
 ghost use Rattle.drive.specs.Answering.{IsRead, IsPlanOf, IsAnswered, MeansVersion, telling_refusal};
 
+use crate::checks::check;
 use crate::drive::Drive;
-use admission::check;
 use codec::Inode;
 use inode::laws::bytes_are_the_blocks_joined;
 use s4_types::{Bytes, Moment, ObjectId, Refusal, Reply, Request, Role};

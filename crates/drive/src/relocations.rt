@@ -2,7 +2,7 @@
 ghost use Rattle.std.specs.Prelude.{◌≡◌, ◌⊎◌, ℕ, ◌<◌, ◌≤◌, ◌==◌, if◌then◌else◌, IsSome, IfSome, OnOk, OnErr, MatchResult, length, option_map};
 ghost use Rattle.s4_types.specs.declared.refusals.Refusal.TheVariants.{NoMemory, NoRoom};
 ghost use Rattle.object_map.specs.Rows.{row_of};
-ghost use Rattle.chain_moving.specs.Renaming.{renamed_inode};
+ghost use Rattle.chain_rewriting.specs.Renaming.{renamed_inode};
 ghost use Rattle.version_store.specs.Relocating.{AreCopies, IsRelocated, blocks_relocated, renaming_by};
 ghost use Rattle.version_store.specs.Versions.{inode_in, version_in};
 ghost use Rattle.drive.specs.Fields.{state_in, store_of};

@@ -10,9 +10,9 @@ ghost use Rattle.drive.specs.Fields.{history_of, state_in, store_of};
 ghost use Rattle.drive.specs.Refusing.{RefusesExactly, LacksMemoryInPlace};
 ghost use Rattle.drive.specs.Answering.{IsRead, Leaves, ComesTo, told_after, owners_after};
 
+use crate::checks::check;
 use crate::drive::Drive;
 use crate::session::Session;
-use admission::check;
 use s4_model::laws::{every_history_is_sound, the_state_goes_on_record_by_record};
 use s4_types::{Moment, Refusal, Reply, Request};
 use segment_word::Naming;

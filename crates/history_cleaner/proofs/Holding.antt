@@ -20,8 +20,8 @@ use Rattle.version_store.specs.Store.{StoreFields, IsStore, IsNamed, Names, poin
 use Rattle.version_store.specs.Versions.{inode_by, inode_in}
 use Rattle.version_store.specs.Replacing.{CanReplace, IsRemoved, IsReplaced, inode_led, pointers_told}
 use Rattle.version_store.specs.Laws.{HeldIsWhatRowsName, InodesPointToWhatRowsName}
-use Rattle.chain_cleaning.specs.Cleaned.{KeptChain}
-use Rattle.chain_cleaning.specs.Laws.{IsSeenPlaceOf}
+use Rattle.chain_rewriting.specs.Cleaned.{KeptChain}
+use Rattle.chain_rewriting.specs.CleaningLaws.{IsSeenPlaceOf}
 use Rattle.history_cleaner.specs.Laws.{WhatIsLeftCanStand, AnEmptyJournalStaysEmpty}
 use Rattle.history_cleaner.specs.Sight.{is_visible, is_seen_between}
 use Rattle.history_cleaner.specs.Reaching.{IsReached, HoldsWhatIsReached, TellsOfSeenPlaces, RowTellsOfSeenPlaces, HeldIsWhatIsReached, WhatIsLeftTellsOfSeenPlaces, WhatIsLeftPointsToSeenPlaces, WhatIsLeftBeginsTheSame}

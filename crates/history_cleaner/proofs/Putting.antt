@@ -21,8 +21,8 @@ use Rattle.s4_model.specs.Visible.{IsVisible}
 use Rattle.version_store.specs.Store.{StoreFields, IsStore}
 use Rattle.version_store.specs.Versions.{entries_of_object, entries_of_row, inode_by, inode_in, version_in}
 use Rattle.version_store.specs.Replacing.{CanReplace, IsRemoved, IsReplaced, inode_led}
-use Rattle.chain_cleaning.specs.Chains.{IsChain}
-use Rattle.chain_cleaning.specs.Cleaned.{KeptChain, cleaned}
+use Rattle.chain_rewriting.specs.Chains.{IsChain}
+use Rattle.chain_rewriting.specs.Cleaned.{KeptChain, cleaned}
 use Rattle.drive.specs.Keeping.{IsNeeded}
 use Rattle.history_cleaner.specs.Laws.{HasChain, KeepRules, HaveFewTriples, IsSight, IsOf, first_stored, AStoredChainIsAChain, WhatIsLeftCanStand, AnEmptyJournalStaysEmpty, WhatIsLeftShowsTheSame, NothingIsLeftOfTheAbsent, WhatIsLeftIsSeen, WhatIsLeftIsSeenThroughout}
 use Rattle.history_cleaner.specs.Sight.{is_visible, is_seen_between}

@@ -21,9 +21,9 @@ use Rattle.s4_model.specs.State.{State}
 use Rattle.version_store.specs.Store.{StoreFields, IsStore, IsNamed, Names, sides_told, pointers_kept, pointers_of}
 use Rattle.version_store.specs.Versions.{inode_by}
 use Rattle.version_store.specs.Laws.{HeldIsWhatRowsName, InodesPointToWhatRowsName}
-use Rattle.chain_cleaning.specs.Chains.{IsChain}
-use Rattle.chain_cleaning.specs.Cleaned.{KeptChain, cleaned}
-use Rattle.chain_cleaning.specs.Laws.{IsSeenPlaceOf, TellsOfPlacesWithin, AKeptChainIsARun, AKeptChainTellsOfSeenPlacesAlone, AnUnchangedChainIsTheKeptOne, AChainIsOneLater}
+use Rattle.chain_rewriting.specs.Chains.{IsChain}
+use Rattle.chain_rewriting.specs.Cleaned.{KeptChain, cleaned}
+use Rattle.chain_rewriting.specs.CleaningLaws.{IsSeenPlaceOf, TellsOfPlacesWithin, AKeptChainIsARun, AKeptChainTellsOfSeenPlacesAlone, AnUnchangedChainIsTheKeptOne, AChainIsOneLater}
 use Rattle.history_cleaner.specs.Laws.{HasChain, first_stored, left_of}
 use Rattle.history_cleaner.specs.Sight.{is_visible}
 use Rattle.history_cleaner.specs.Reaching.{IsReached, TellsOfSeenPlaces, RowTellsOfSeenPlaces, HeldIsWhatIsReached, WhatIsLeftTellsOfSeenPlaces, WhatIsLeftPointsToSeenPlaces, WhatIsLeftBeginsTheSame}

@@ -5,7 +5,7 @@ use Rattle.std.specs.List.{list_any, range_with_len}
 use Rattle.std.proofs.lemmas.Bool.{cases_Bool, cases_lt, and_parts, or_cases, both_ways, leb-true, le-leb}
 use Rattle.s4_model.specs.State.{State}
 use Rattle.s4_model.specs.Visible.{IsVisible, IsSeenBetween, is_hidden}
-use Rattle.chain_cleaning.specs.Laws.{FitsSight}
+use Rattle.chain_rewriting.specs.CleaningLaws.{FitsSight}
 use Rattle.history_cleaner.specs.Sight.{is_visible, is_seen_between}
 
 and_both : (a b : Bool) → a ≡ true → b ≡ true → (a && b) ≡ true

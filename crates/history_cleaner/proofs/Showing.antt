@@ -11,9 +11,9 @@ use Rattle.time_read.specs.Rows.{entries_of, inode_of, first_of}
 use Rattle.version_store.specs.Store.{StoreFields}
 use Rattle.version_store.specs.Versions.{inode_by, version_by, version_in}
 use Rattle.version_store.specs.Replacing.{inode_led}
-use Rattle.chain_cleaning.specs.Chains.{IsChain}
-use Rattle.chain_cleaning.specs.Cleaned.{KeptChain, cleaned}
-use Rattle.chain_cleaning.specs.Laws.{ShowsAlike, AKeptChainIsARun, AKeptChainHasOldMoments, AKeptChainShowsTheSame, NoKeptChainShowsNothing, AKeptChainIsSeenAlive, AKeptChainHasSeenInodesAlone, AChainIsOneLater}
+use Rattle.chain_rewriting.specs.Chains.{IsChain}
+use Rattle.chain_rewriting.specs.Cleaned.{KeptChain, cleaned}
+use Rattle.chain_rewriting.specs.CleaningLaws.{ShowsAlike, AKeptChainIsARun, AKeptChainHasOldMoments, AKeptChainShowsTheSame, NoKeptChainShowsNothing, AKeptChainIsSeenAlive, AKeptChainHasSeenInodesAlone, AChainIsOneLater}
 use Rattle.history_cleaner.specs.Laws.{HasChain, IsSight, first_stored, left_of, WhatIsLeftShowsTheSame, NothingIsLeftOfTheAbsent, WhatIsLeftIsSeen, WhatIsLeftIsSeenThroughout}
 use Rattle.history_cleaner.proofs.Stored.{RunLaws, at_moment, shown_is, stored_chain}
 use Rattle.history_cleaner.proofs.Standing.{some_of}

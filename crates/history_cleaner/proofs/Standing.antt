@@ -24,9 +24,9 @@ use Rattle.version_store.specs.Store.{StoreFields, Names, sides_of, sides_told, 
 use Rattle.version_store.specs.Versions.{inode_by}
 use Rattle.version_store.specs.Laws.{InodesPointToWhatRowsName}
 use Rattle.version_store.specs.Checkpointing.{last_entry}
-use Rattle.chain_cleaning.specs.Chains.{IsChain}
-use Rattle.chain_cleaning.specs.Cleaned.{KeptChain, cleaned}
-use Rattle.chain_cleaning.specs.Laws.{IsOneShown, IsPlaceOf, TellsWithin, HasPlacesWithin, AKeptChainIsARun, AKeptChainIsGrouped, AKeptChainHasOldMoments, TheMomentsOfAKeptChainAreOld, AKeptChainIsInOrder, AKeptChainShowsOldInodes, AKeptChainPointsToOldPlaces, AChainIsOneLater, AKeptChainTakesNoMoreBytes}
+use Rattle.chain_rewriting.specs.Chains.{IsChain}
+use Rattle.chain_rewriting.specs.Cleaned.{KeptChain, cleaned}
+use Rattle.chain_rewriting.specs.CleaningLaws.{IsOneShown, IsPlaceOf, TellsWithin, HasPlacesWithin, AKeptChainIsARun, AKeptChainIsGrouped, AKeptChainHasOldMoments, TheMomentsOfAKeptChainAreOld, AKeptChainIsInOrder, AKeptChainShowsOldInodes, AKeptChainPointsToOldPlaces, AChainIsOneLater, AKeptChainTakesNoMoreBytes}
 use Rattle.history_cleaner.specs.Laws.{HasChain, first_stored, WhatIsLeftCanStand, AnEmptyJournalStaysEmpty}
 use Rattle.history_cleaner.proofs.Stored.{RunLaws, first_is, shown_is, stored_chain}
 

@@ -6,8 +6,8 @@ use Rattle.undo_redo.specs.Runs.{Run, AllBy, redone_all, undone_all, inode_after
 use Rattle.object_map.specs.declared.map.Row.{Row}
 use Rattle.time_read.specs.Rows.{entries_of, first_of, inode_of}
 use Rattle.version_store.specs.Store.{StoreFields}
-use Rattle.chain_cleaning.specs.Chains.{IsChain}
-use Rattle.chain_cleaning.specs.Laws.{AChainIsOneLater}
+use Rattle.chain_rewriting.specs.Chains.{IsChain}
+use Rattle.chain_rewriting.specs.CleaningLaws.{AChainIsOneLater}
 use Rattle.history_cleaner.specs.Laws.{HasChain, first_stored, AStoredChainIsAChain}
 
 -- the laws of runs that all of this rests on

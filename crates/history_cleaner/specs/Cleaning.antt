@@ -15,7 +15,7 @@ use Rattle.s4_model.specs.Visible.{IsVisible}
 use Rattle.version_store.specs.Store.{StoreFields}
 use Rattle.version_store.specs.Versions.{inode_in, version_in}
 use Rattle.version_store.specs.Replacing.{IsRemoved, IsReplaced}
-use Rattle.chain_cleaning.specs.Cleaned.{KeptChain}
+use Rattle.chain_rewriting.specs.Cleaned.{KeptChain}
 use Rattle.drive.specs.Fields.{DriveFields, store_of, state_in}
 use Rattle.history_cleaner.specs.Laws.{left_of}
 use Rattle.history_cleaner.specs.Sight.{is_seen_between}

@@ -13,9 +13,9 @@ use Rattle.time_read.specs.Rows.{entries_of, inode_of}
 use Rattle.version_store.specs.Store.{StoreFields, IsStore}
 use Rattle.version_store.specs.Versions.{version_in}
 use Rattle.version_store.specs.Replacing.{CanReplace, inode_led}
-use Rattle.chain_cleaning.specs.Chains.{IsChain}
-use Rattle.chain_cleaning.specs.Cleaned.{KeptChain, cleaned}
-use Rattle.chain_cleaning.specs.Laws.{FitsSight}
+use Rattle.chain_rewriting.specs.Chains.{IsChain}
+use Rattle.chain_rewriting.specs.Cleaned.{KeptChain, cleaned}
+use Rattle.chain_rewriting.specs.CleaningLaws.{FitsSight}
 
 -- The first inode of an object's chain: all its entries undone from the inode at a moment, one from the last change on.
 abbrev pub first_stored : StoreFields → ℕ → Row → ℕ → Inode

@@ -16,8 +16,8 @@ use Rattle.s4_model.specs.Visible.{IsVisible}
 use Rattle.version_store.specs.Store.{StoreFields, IsStore}
 use Rattle.version_store.specs.Versions.{inode_in}
 use Rattle.version_store.specs.Replacing.{pointers_told}
-use Rattle.chain_cleaning.specs.Cleaned.{KeptChain}
-use Rattle.chain_cleaning.specs.Laws.{IsSeenPlaceOf, TellsOfPlacesWithin}
+use Rattle.chain_rewriting.specs.Cleaned.{KeptChain}
+use Rattle.chain_rewriting.specs.CleaningLaws.{IsSeenPlaceOf, TellsOfPlacesWithin}
 use Rattle.history_cleaner.specs.Laws.{HasChain, IsSight, left_of}
 use Rattle.history_cleaner.specs.Sight.{is_visible}
 

@@ -15,7 +15,7 @@ use crate::laws::{
     what_is_left_shows_the_same, what_is_left_tells_of_seen_places,
 };
 use crate::sight::Sight;
-use chain_cleaning::{Cleaned, clean};
+use chain_rewriting::{Cleaned, clean};
 use codec::{Entry, Inode};
 use drive::Drive;
 use s4_model::laws::clock_and_floor_never_fall;

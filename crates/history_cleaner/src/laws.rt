@@ -3,7 +3,7 @@
 ghost use Rattle.history_cleaner.specs.Laws.{AStoredChainIsAChain, WhatIsLeftCanStand, AnEmptyJournalStaysEmpty, WhatIsLeftShowsTheSame, NothingIsLeftOfTheAbsent, WhatIsLeftIsSeen, WhatIsLeftIsSeenThroughout};
 ghost use Rattle.history_cleaner.specs.Reaching.{HeldIsWhatIsReached, WhatIsLeftTellsOfSeenPlaces, WhatIsLeftPointsToSeenPlaces, WhatIsLeftBeginsTheSame};
 
-use chain_cleaning::laws::{
+use chain_rewriting::cleaning_laws::{
     a_chain_is_one_later, a_kept_chain_has_old_moments, a_kept_chain_has_seen_inodes_alone,
     a_kept_chain_is_a_run, a_kept_chain_is_grouped, a_kept_chain_is_in_order,
     a_kept_chain_is_seen_alive, a_kept_chain_points_to_old_places, a_kept_chain_shows_old_inodes,

@@ -1,5 +1,5 @@
 //! What can be seen of one object of a drive.
-use chain_cleaning::Sees;
+use chain_rewriting::Sees;
 use drive::Drive;
 use s4_types::{Moment, ObjectId};
 use segment_word::Naming;

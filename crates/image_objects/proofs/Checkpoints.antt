@@ -11,7 +11,7 @@ use Rattle.checkpoint.specs.Held.{checkpoint_held, checkpoint_places, of_checkpo
 use Rattle.journal_chain.specs.Chain.{BlockView}
 use Rattle.object_map.specs.declared.map.Row.{Row}
 use Rattle.time_read.specs.Rows.{IsRow, inode_of, checkpoint_of, checkpoint_places_of}
-use Rattle.image_chains.specs.Inodes.{checkpoint_used, checkpoint_places_used}
+use Rattle.image_objects.specs.Inodes.{checkpoint_used, checkpoint_places_used}
 use Rattle.image_objects.specs.Saved.{HoldsUsed, saved_row}
 use Rattle.image_objects.proofs.Using.{used_too}
 

@@ -8,11 +8,11 @@ use Rattle.block_log.specs.Log.{Stored, of_kind, seen_as, same_kind}
 use Rattle.block_log.specs.declared.kinds.BlockKind.{BlockKind}
 use Rattle.block_log.specs.declared.kinds.BlockKind.TheVariants.{Journal, Checkpoint, Data}
 use Rattle.journal_chain.specs.Chain.{BlockView, chain_places, times}
-use Rattle.image_chains.specs.declared.rows.ImageRow.{ImageRow}
-use Rattle.image_chains.specs.Chains.{chain_view}
+use Rattle.image_objects.specs.declared.rows.ImageRow.{ImageRow}
+use Rattle.image_objects.specs.Chains.{chain_view}
 use Rattle.checkpoint.specs.Held.{is_one_of}
-use Rattle.image_chains.specs.Inodes.{checkpoint_places_used}
-use Rattle.image_chains.specs.History.{named_at, checkpoint_view}
+use Rattle.image_objects.specs.Inodes.{checkpoint_places_used}
+use Rattle.image_objects.specs.History.{named_at, checkpoint_view}
 use Rattle.image_objects.specs.Objects.{pointers_used}
 use Rattle.image_objects.specs.Naming.{NamesUsed, IsNamedBy, HoldsWhatIsNamed}
 use Rattle.image_objects.specs.Rows.{RowsAscend}

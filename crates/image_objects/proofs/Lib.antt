@@ -1,7 +1,7 @@
 pub mod Parts
 pub mod Moments
 pub mod Sizes
-pub mod Walk
+pub mod RowWalk
 pub mod Named
 mod HeldByName
 mod Kept
@@ -18,3 +18,15 @@ mod Standing
 mod Storing
 mod Telling
 mod Using
+pub mod Bytes
+pub mod Firsts
+pub mod Walking
+pub mod Judging
+pub mod Holding
+pub mod Earlier
+pub mod Running
+pub mod Undoing
+pub mod Beginning
+pub mod Ordering
+pub mod Leading
+pub mod Keeping

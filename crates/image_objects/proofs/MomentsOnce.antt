@@ -12,8 +12,8 @@ use Rattle.codec.specs.Entry.{EntryFields}
 use Rattle.undo_redo.specs.Groups.{grouped}
 use Rattle.undo_redo.specs.Runs.{moments_ascend_from}
 use Rattle.version_store.specs.Across.{ShareNoMoment}
-use Rattle.image_chains.specs.declared.rows.ImageRow.{ImageRow}
-use Rattle.image_chains.specs.Chains.{entries_used}
+use Rattle.image_objects.specs.declared.rows.ImageRow.{ImageRow}
+use Rattle.image_objects.specs.Chains.{entries_used}
 use Rattle.image_objects.specs.Objects.{ObjectStands}
 use Rattle.image_objects.specs.Rows.{RowsShareNoMoment, RowsStand}
 use Rattle.image_objects.specs.Moments.{moments_of_chain, moments_used, StandOnce}

@@ -16,13 +16,13 @@ use Rattle.journal_chain.specs.Chain.{times}
 use Rattle.checkpoint.specs.Held.{checkpoint_held, is_one_of, HasItsBlocks}
 use Rattle.time_read.specs.Orderly.{BeginsDead}
 use Rattle.version_store.specs.Store.{IsLed}
-use Rattle.image_chains.specs.declared.rows.ImageRow.{ImageRow}
-use Rattle.image_chains.specs.Chains.{entries_used}
-use Rattle.image_chains.specs.Inodes.{CheckpointStands, checkpoint_places_used}
+use Rattle.image_objects.specs.declared.rows.ImageRow.{ImageRow}
+use Rattle.image_objects.specs.Chains.{entries_used}
+use Rattle.image_objects.specs.Inodes.{CheckpointStands, checkpoint_places_used}
 use Rattle.image_objects.specs.Objects.{ObjectStands, pointers_used}
 use Rattle.image_objects.specs.Naming.{NamesUsed}
 use Rattle.image_objects.specs.private.Places.{places_in, places_of_chain, places_named}
-use Rattle.image_objects.proofs.Walk.{in_none, place_there}
+use Rattle.image_objects.proofs.RowWalk.{in_none, place_there}
 
 -- ---- what is listed
 

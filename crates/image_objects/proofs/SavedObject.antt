@@ -23,9 +23,9 @@ use Rattle.object_map.specs.declared.map.Row.{Row}
 use Rattle.time_read.specs.Rows.{IsRow, inode_before, entries_of, first_of, inode_of}
 use Rattle.time_read.specs.Orderly.{IsFromTo, IsOrderly, IsOrderlyChain, BeginsDead}
 use Rattle.version_store.specs.Store.{IsLed, IsObject, pointers_of}
-use Rattle.image_chains.specs.Chains.{ChainStands, entries_used}
-use Rattle.image_chains.specs.Inodes.{BeginningStands, CheckpointStands, first_used}
-use Rattle.image_chains.specs.History.{HistoryStands}
+use Rattle.image_objects.specs.Chains.{ChainStands, entries_used}
+use Rattle.image_objects.specs.Inodes.{BeginningStands, CheckpointStands, first_used}
+use Rattle.image_objects.specs.History.{HistoryStands}
 use Rattle.image_objects.specs.Objects.{ObjectStands}
 use Rattle.image_objects.specs.Saved.{saved_row, HoldsUsed, IsSavedAsHeld}
 use Rattle.image_objects.proofs.HeldByName.{Seen, seen}

@@ -6,7 +6,7 @@ use Rattle.std.proofs.lemmas.List.Elements.{Contains-append_left, Contains-appen
 use Rattle.std.proofs.lemmas.Option.{none-some, same_Some}
 use Rattle.object_map.specs.declared.map.Row.{Row}
 use Rattle.object_map.specs.Rows.{row_of}
-use Rattle.image_chains.specs.declared.rows.ImageRow.{ImageRow}
+use Rattle.image_objects.specs.declared.rows.ImageRow.{ImageRow}
 use Rattle.image_objects.specs.Rows.{RowsAscend}
 use Rattle.image_objects.specs.Saved.{ObjectsAscend, saved_row, saved_rows}
 use Rattle.image_objects.proofs.Kept.{found_here, found_behind}

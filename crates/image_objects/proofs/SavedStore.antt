@@ -16,8 +16,8 @@ use Rattle.time_read.specs.Orderly.{IsOrderly}
 use Rattle.version_store.specs.Across.{ShareNoMoment}
 use Rattle.version_store.specs.Store.{StoreFields, IsObject, IsStore, Names, IsNamed}
 use Rattle.version_store.specs.Laws.{HeldIsWhatRowsName, EachHeldBlockIsNamed}
-use Rattle.image_chains.specs.declared.rows.ImageRow.{ImageRow}
-use Rattle.image_chains.specs.Chains.{entries_used}
+use Rattle.image_objects.specs.declared.rows.ImageRow.{ImageRow}
+use Rattle.image_objects.specs.Chains.{entries_used}
 use Rattle.image_objects.specs.Objects.{ObjectStands}
 use Rattle.image_objects.specs.Naming.{NamesUsed, IsNamedBy, HoldsWhatIsNamed}
 use Rattle.image_objects.specs.Rows.{RowsAscend, RowsShareNoMoment, RowsStand}

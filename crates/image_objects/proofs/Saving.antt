@@ -16,9 +16,9 @@ use Rattle.journal_chain.specs.Chain.{Link, linked, links_from, chain_links, cha
 use Rattle.object_map.specs.declared.map.Row.{Row}
 use Rattle.time_read.specs.Rows.{IsRow, inode_before, entries_of, checkpoint_of, first_of, inode_of}
 use Rattle.version_store.specs.Store.{pointers_kept, sides_told, pointers_of}
-use Rattle.image_chains.specs.Chains.{blocks_used, entries_used}
-use Rattle.image_chains.specs.Inodes.{checkpoint_used, first_used}
-use Rattle.image_chains.specs.History.{kept_row}
+use Rattle.image_objects.specs.Chains.{blocks_used, entries_used}
+use Rattle.image_objects.specs.Inodes.{checkpoint_used, first_used}
+use Rattle.image_objects.specs.History.{kept_row}
 use Rattle.image_objects.specs.Objects.{pointers_used, inode_used}
 use Rattle.image_objects.specs.Saved.{saved_row, HoldsUsed, IsSavedAsHeld}
 use Rattle.image_objects.proofs.Checkpoints.{CheckpointLaws, same_checkpoint}

@@ -21,10 +21,10 @@ use Rattle.time_read.specs.Rows.{IsRow, inode_before, entries_of, checkpoint_of,
 use Rattle.time_read.specs.Orderly.{IsFromTo, IsOrderly}
 use Rattle.row_changes.specs.Recent.{IsBy}
 use Rattle.version_store.specs.Store.{IsLed, pointers_kept, sides_told, pointers_of}
-use Rattle.image_chains.specs.declared.rows.ImageRow.{ImageRow}
-use Rattle.image_chains.specs.Chains.{ChainStands, entries_used, chain_fields, chain_view}
-use Rattle.image_chains.specs.Inodes.{checkpoint_used, first_used}
-use Rattle.image_chains.specs.History.{HistoryStands, named_at, checkpoint_view, kept_row, present_used}
+use Rattle.image_objects.specs.declared.rows.ImageRow.{ImageRow}
+use Rattle.image_objects.specs.Chains.{ChainStands, entries_used, chain_fields, chain_view}
+use Rattle.image_objects.specs.Inodes.{checkpoint_used, first_used}
+use Rattle.image_objects.specs.History.{HistoryStands, named_at, checkpoint_view, kept_row, present_used}
 use Rattle.image_objects.specs.Objects.{ObjectStands, pointers_used, inode_used}
 use Rattle.image_objects.specs.Naming.{HoldsWhatIsNamed}
 use Rattle.image_objects.specs.Rows.{RowsAscend, RowsStand}

@@ -12,9 +12,9 @@ use Rattle.time_read.specs.Rows.{entries_of}
 use Rattle.time_read.specs.Orderly.{IsOrderly}
 use Rattle.version_store.specs.Across.{MakingsAscend, ShareNoMoment, ChainsShareNoMoment}
 use Rattle.version_store.specs.Store.{IsObject, DataIsNamed, IsStore}
-use Rattle.image_chains.specs.declared.rows.ImageRow.{ImageRow}
-use Rattle.image_chains.specs.Chains.{entries_used}
-use Rattle.image_chains.specs.History.{kept_row}
+use Rattle.image_objects.specs.declared.rows.ImageRow.{ImageRow}
+use Rattle.image_objects.specs.Chains.{entries_used}
+use Rattle.image_objects.specs.History.{kept_row}
 use Rattle.image_objects.specs.Naming.{IsNamedBy, HoldsWhatIsNamed}
 use Rattle.image_objects.specs.Rows.{RowsAscend, RowsStand, kept_rows}
 use Rattle.image_objects.specs.Laws.{IsHeldAsUsed}

@@ -5,3 +5,6 @@ pub mod private
 pub mod Laws
 pub mod Moments
 pub mod Saved
+pub mod Chains
+pub mod Inodes
+pub mod History

@@ -4,8 +4,8 @@ use Rattle.std.specs.List.{dedup, flat_map, IsDistinct}
 use Rattle.s4_types.specs.Pointer.{Place}
 use Rattle.block_log.specs.Log.{Stored}
 use Rattle.codec.specs.Entry.{EntryFields}
-use Rattle.image_chains.specs.declared.rows.ImageRow.{ImageRow}
-use Rattle.image_chains.specs.Chains.{entries_used}
+use Rattle.image_objects.specs.declared.rows.ImageRow.{ImageRow}
+use Rattle.image_objects.specs.Chains.{entries_used}
 
 -- the moments of entries, in order; that of neighbours which have one moment is told once
 abbrev pub moments_of_chain : List EntryFields → List ℕ

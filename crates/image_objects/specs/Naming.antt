@@ -6,9 +6,9 @@ use Rattle.block_log.specs.Log.{Stored, of_kind}
 use Rattle.block_log.specs.declared.kinds.BlockKind.{BlockKind}
 use Rattle.block_log.specs.declared.kinds.BlockKind.TheVariants.{Journal, Checkpoint, Data}
 use Rattle.journal_chain.specs.Chain.{times, chain_places}
-use Rattle.image_chains.specs.declared.rows.ImageRow.{ImageRow}
+use Rattle.image_objects.specs.declared.rows.ImageRow.{ImageRow}
 use Rattle.checkpoint.specs.Held.{is_one_of}
-use Rattle.image_chains.specs.Inodes.{checkpoint_places_used}
+use Rattle.image_objects.specs.Inodes.{checkpoint_places_used}
 use Rattle.image_objects.specs.Objects.{pointers_used}
 
 -- A row of an image names its object's block of this kind at a place: it stands in the row's chain; or it is a block of the

@@ -8,10 +8,10 @@ use Rattle.undo_redo.specs.Runs.{inode_after}
 use Rattle.inode.specs.Contents.{contents_of}
 use Rattle.inode.specs.Tidiness.{Tidy}
 use Rattle.version_store.specs.Store.{IsLed, pointers_kept, sides_told}
-use Rattle.image_chains.specs.declared.rows.ImageRow.{ImageRow}
-use Rattle.image_chains.specs.Chains.{entries_used}
-use Rattle.image_chains.specs.Inodes.{checkpoint_used, first_used}
-use Rattle.image_chains.specs.History.{HistoryStands}
+use Rattle.image_objects.specs.declared.rows.ImageRow.{ImageRow}
+use Rattle.image_objects.specs.Chains.{entries_used}
+use Rattle.image_objects.specs.Inodes.{checkpoint_used, first_used}
+use Rattle.image_objects.specs.History.{HistoryStands}
 
 -- All pointers to data that a row of an image leads to, holes among them: those of its checkpoint, and behind them both sides
 -- of each triple of its chain, the oldest entry first.

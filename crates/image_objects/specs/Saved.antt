@@ -5,10 +5,10 @@ use Rattle.block_log.specs.Log.{Stored}
 use Rattle.object_map.specs.declared.map.Row.{Row}
 use Rattle.version_store.specs.Store.{pointers_of}
 use Rattle.time_read.specs.Rows.{entries_of, first_of, inode_of}
-use Rattle.image_chains.specs.declared.rows.ImageRow.{ImageRow}
-use Rattle.image_chains.specs.Chains.{entries_used}
-use Rattle.image_chains.specs.Inodes.{first_used}
-use Rattle.image_chains.specs.History.{kept_row}
+use Rattle.image_objects.specs.declared.rows.ImageRow.{ImageRow}
+use Rattle.image_objects.specs.Chains.{entries_used}
+use Rattle.image_objects.specs.Inodes.{first_used}
+use Rattle.image_objects.specs.History.{kept_row}
 use Rattle.image_objects.specs.Objects.{pointers_used, inode_used}
 
 -- the row of an image that the row of a drive's object is saved as

@@ -7,18 +7,18 @@ ghost use Rattle.s4_types.specs.declared.refusals.Refusal.TheVariants.{NoMemory}
 ghost use Rattle.block_log.specs.Log.{Stored, of_kind};
 ghost use Rattle.block_log.specs.declared.kinds.BlockKind.{BlockKind};
 ghost use Rattle.version_store.specs.Store.{sides_of, sides_told, pointers_kept};
-ghost use Rattle.image_chains.specs.declared.rows.ImageRow.{ImageRow as RowFields};
-ghost use Rattle.image_chains.specs.Chains.{ChainStands, entries_used};
-ghost use Rattle.image_chains.specs.Inodes.{checkpoint_used, checkpoint_places_used};
+ghost use Rattle.image_objects.specs.declared.rows.ImageRow.{ImageRow as RowFields};
+ghost use Rattle.image_objects.specs.Chains.{ChainStands, entries_used};
+ghost use Rattle.image_objects.specs.Inodes.{checkpoint_used, checkpoint_places_used};
 ghost use Rattle.image_objects.specs.Objects.{ObjectStands};
 ghost use Rattle.image_objects.specs.Naming.{NamesUsed};
 ghost use Rattle.image_objects.specs.private.Places.{places_in, places_of_chain, places_named};
 
 use crate::pointers::checkpoint_of;
+use crate::{ImageHistory, ImageRow, UsedBlocks, read_journal};
 use block_log::laws::one_place_has_one_name;
 use checkpoint::laws::a_checkpoint_has_its_blocks;
 use codec::{Entry, Triple};
-use image_chains::{ImageHistory, ImageRow, UsedBlocks, read_journal};
 use s4_types::limits::CHAIN_BLOCKS;
 use s4_types::{Ptr, Refusal};
 

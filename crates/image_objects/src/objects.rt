@@ -4,14 +4,14 @@ ghost use Rattle.s4_types.specs.declared.refusals.Refusal.TheVariants.{NoMemory}
 ghost use Rattle.s4_types.specs.declared.limits.TheConstants.{OBJECT_BLOCKS};
 ghost use Rattle.codec.specs.Entry.{entries_length};
 ghost use Rattle.journal_chain.specs.Packing.{packed, filled_bytes};
-ghost use Rattle.image_chains.specs.Chains.{entries_used};
-ghost use Rattle.image_chains.specs.Inodes.{first_used};
-ghost use Rattle.image_chains.specs.History.{present_used};
+ghost use Rattle.image_objects.specs.Chains.{entries_used};
+ghost use Rattle.image_objects.specs.Inodes.{first_used};
+ghost use Rattle.image_objects.specs.History.{present_used};
 ghost use Rattle.image_objects.specs.Objects.{ObjectStands};
 
 use crate::pointers::is_row_led;
 use crate::tidiness::are_tidy;
-use image_chains::{ImageHistory, ImageRow, UsedBlocks, read_history};
+use crate::{ImageHistory, ImageRow, UsedBlocks, read_history};
 use s4_types::{Moment, Refusal};
 use std::alloc::Global;
 

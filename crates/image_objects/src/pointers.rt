@@ -2,13 +2,13 @@
 ghost use Rattle.std.specs.Prelude.{◌≡◌, true, [], ◌∷◌};
 ghost use Rattle.std.specs.List.{All};
 ghost use Rattle.version_store.specs.Store.{IsLed, sides_of, sides_told, pointers_kept};
-ghost use Rattle.image_chains.specs.Chains.{entries_used};
-ghost use Rattle.image_chains.specs.Inodes.{checkpoint_used};
+ghost use Rattle.image_objects.specs.Chains.{entries_used};
+ghost use Rattle.image_objects.specs.Inodes.{checkpoint_used};
 ghost use Rattle.image_objects.specs.Objects.{pointers_used};
 
+use crate::{ImageRow, UsedBlocks, bytes_at, read_checkpoint};
 use block_log::BlockKind;
 use codec::{Checkpoint, Entry, Triple};
-use image_chains::{ImageRow, UsedBlocks, bytes_at, read_checkpoint};
 use s4_types::{ObjectId, Ptr};
 
 /// The checkpoint that a row names. None where it names none, or where none of the object is used there.

@@ -7,8 +7,8 @@ ghost use Rattle.inode.specs.Contents.{contents_of};
 ghost use Rattle.inode.specs.Tidiness.{Tidy};
 ghost use Rattle.image_objects.specs.private.Ends.{HasZerosFrom, EndsInZeros};
 
+use crate::UsedBlocks;
 use codec::{Entry, Inode};
-use image_chains::UsedBlocks;
 use s4_types::limits::{BLOCK_BYTES, OBJECT_BLOCKS, OBJECT_BYTES};
 use s4_types::{Moment, Ptr};
 use undo_redo::laws::groups_join_and_part;

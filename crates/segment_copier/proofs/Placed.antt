@@ -22,7 +22,7 @@ use Rattle.segment_table.specs.declared.slots.Slot.{Slot}
 use Rattle.segment_table.specs.Table.{Table, slots_at, block_slot, stored, held_at, is_of}
 use Rattle.segment_table.specs.Room.{places, whole_of, places_ahead, pointers_in}
 use Rattle.segment_table.specs.Laws.{IsListed, WhatIsListedIsHeld, ListsAllHeld, PlacesAheadAreInNoSealedFrame}
-use Rattle.chain_moving.specs.Renaming.{is_in}
+use Rattle.chain_rewriting.specs.Renaming.{is_in}
 use Rattle.version_store.specs.declared.copies.CopiedBlock.{CopiedBlock}
 use Rattle.version_store.specs.Relocating.{AreCopies, IsRelocated, frame_of_copies, blocks_ascend_from, blocks_relocated}
 use Rattle.drive.specs.Fields.{DriveFields, store_of}

@@ -7,3 +7,4 @@ pub mod Planning
 pub mod Reading
 pub mod Staying
 pub mod Undoing
+pub mod Undone

@@ -7,8 +7,8 @@ use Rattle.std.proofs.lemmas.Grind.{flat_map-append}
 use Rattle.s4_types.specs.Pointer.{Place}
 use Rattle.block_log.specs.Log.{Stored}
 use Rattle.image_parts.specs.declared.rows.RowPart.{RowPart}
-use Rattle.image_chains.specs.declared.rows.ImageRow.{ImageRow}
-use Rattle.image_chains.specs.Chains.{entries_used}
+use Rattle.image_objects.specs.declared.rows.ImageRow.{ImageRow}
+use Rattle.image_objects.specs.Chains.{entries_used}
 use Rattle.image_objects.specs.Objects.{ObjectStands}
 use Rattle.image_objects.specs.Naming.{HoldsWhatIsNamed}
 use Rattle.image_objects.specs.Rows.{RowsStand, RowsShareNoMoment}

@@ -11,7 +11,7 @@ use Rattle.object_map.specs.declared.map.Row.{Row}
 use Rattle.object_map.specs.Rows.{row_of}
 use Rattle.image_parts.specs.Rows.{IsRow}
 use Rattle.image_parts.specs.declared.rows.RowPart.{RowPart}
-use Rattle.image_chains.specs.declared.rows.ImageRow.{ImageRow}
+use Rattle.image_objects.specs.declared.rows.ImageRow.{ImageRow}
 use Rattle.image_objects.specs.Saved.{ObjectsAscend}
 use Rattle.verifier.specs.Rows.{SpellsRow, SpellRows}
 use Rattle.verifier.proofs.ListedRows.{found_here, found_behind, none_before}

@@ -14,7 +14,7 @@ use Rattle.version_store.specs.Opening.{rows_opened}
 use Rattle.version_store.specs.Versions.{inode_by, version_by, version_in}
 use Rattle.drive.specs.Opened.{OpenedFields, base_of, NoneFrom, ABaseTellsTheStoresVersions, ABaseListsEachObjectOnce}
 use Rattle.image_parts.specs.Image.{Image, header_of}
-use Rattle.image_chains.specs.declared.rows.ImageRow.{ImageRow}
+use Rattle.image_objects.specs.declared.rows.ImageRow.{ImageRow}
 use Rattle.image_objects.specs.Rows.{RowsAscend, RowsStand}
 use Rattle.verifier.specs.Tables.{IsTableOf}
 use Rattle.verifier.specs.Rows.{SpellRows, ChainsStand}

@@ -18,7 +18,7 @@ use Rattle.drive.specs.Fields.{DriveFields, state_in}
 use Rattle.drive.specs.Opened.{OpenedFields, opened_history}
 use Rattle.image_parts.specs.Image.{Image, header_of}
 use Rattle.image_parts.specs.Frames.{FrameFields}
-use Rattle.image_chains.specs.declared.rows.ImageRow.{ImageRow}
+use Rattle.image_objects.specs.declared.rows.ImageRow.{ImageRow}
 use Rattle.image_objects.specs.Rows.{RowsAscend, kept_rows}
 use Rattle.image_objects.specs.Saved.{ObjectsAscend, saved_rows}
 use Rattle.verifier.specs.Tables.{IsTableOf}

@@ -18,7 +18,7 @@ use Rattle.segment_table.specs.Table.{Table, slots_at, held_at}
 use Rattle.segment_table.specs.Used.{used_slot, with_bytes, used_block, used_at}
 use Rattle.segment_table.specs.Sealing.{summary_of}
 use Rattle.version_store.specs.Opening.{OpenedFields}
-use Rattle.image_chains.specs.declared.rows.ImageRow.{ImageRow}
+use Rattle.image_objects.specs.declared.rows.ImageRow.{ImageRow}
 use Rattle.image_objects.specs.Naming.{HoldsWhatIsNamed}
 use Rattle.image_objects.specs.Rows.{RowsStand}
 use Rattle.verifier.specs.Tables.{no_part, IsFrameOf, IsTableOf}

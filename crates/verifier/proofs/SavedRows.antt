@@ -7,7 +7,7 @@ use Rattle.object_map.specs.Objects.{IsNextAbove}
 use Rattle.object_map.specs.Rows.{row_of}
 use Rattle.image_parts.specs.Rows.{IsRow}
 use Rattle.image_parts.specs.declared.rows.RowPart.{RowPart}
-use Rattle.image_chains.specs.declared.rows.ImageRow.{ImageRow}
+use Rattle.image_objects.specs.declared.rows.ImageRow.{ImageRow}
 use Rattle.image_objects.specs.Saved.{saved_row, saved_rows}
 use Rattle.verifier.specs.Rows.{SpellsRow, SpellRows}
 use Rattle.verifier.specs.SavedRows.{AreSavedUpTo, AreSaved}

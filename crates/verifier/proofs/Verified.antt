@@ -15,7 +15,7 @@ use Rattle.version_store.specs.Opening.{OpenedFields, rows_opened}
 use Rattle.image_parts.specs.Image.{Image, KeepsRules, header_of}
 use Rattle.image_parts.specs.Spans.{KeepSpanRules, span_count}
 use Rattle.image_parts.specs.declared.headers.Header.{Header}
-use Rattle.image_chains.specs.declared.rows.ImageRow.{ImageRow}
+use Rattle.image_objects.specs.declared.rows.ImageRow.{ImageRow}
 use Rattle.image_objects.specs.Naming.{HoldsWhatIsNamed}
 use Rattle.image_objects.specs.Rows.{RowsAscend, RowsStand, kept_rows}
 use Rattle.image_objects.specs.Laws.{IsHeldAsUsed}

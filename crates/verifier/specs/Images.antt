@@ -5,7 +5,7 @@ use Rattle.s4_types.specs.declared.spans.Span.{Span}
 use Rattle.s4_types.specs.declared.limits.TheConstants.{RUNS_IN_ALL}
 use Rattle.s4_model.specs.Sound.{IsOfGiven}
 use Rattle.image_parts.specs.Image.{Image}
-use Rattle.image_chains.specs.declared.rows.ImageRow.{ImageRow}
+use Rattle.image_objects.specs.declared.rows.ImageRow.{ImageRow}
 use Rattle.image_objects.specs.Naming.{HoldsWhatIsNamed}
 use Rattle.segment_table.specs.Table.{Table, held_at}
 use Rattle.segment_table.specs.Used.{used_at}

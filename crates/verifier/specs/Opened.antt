@@ -16,7 +16,7 @@ use Rattle.version_store.specs.Versions.{version_by}
 use Rattle.drive.specs.Fields.{DriveFields}
 use Rattle.drive.specs.Opened.{OpenedFields, base_of, IsListed}
 use Rattle.image_parts.specs.Image.{Image}
-use Rattle.image_chains.specs.declared.rows.ImageRow.{ImageRow}
+use Rattle.image_objects.specs.declared.rows.ImageRow.{ImageRow}
 use Rattle.image_objects.specs.Objects.{inode_used}
 use Rattle.verifier.specs.Tables.{IsTableOf}
 use Rattle.verifier.specs.Rows.{SpellRows}

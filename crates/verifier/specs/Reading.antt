@@ -5,9 +5,9 @@ use Rattle.block_log.specs.Log.{Stored}
 use Rattle.segment_table.specs.Table.{Table, held_at}
 use Rattle.segment_table.specs.Used.{used_at}
 use Rattle.version_store.specs.Opening.{OpenedFields, IndexesEntries}
-use Rattle.image_chains.specs.declared.rows.ImageRow.{ImageRow}
-use Rattle.image_chains.specs.Chains.{entries_used}
-use Rattle.image_chains.specs.History.{kept_row, present_used}
+use Rattle.image_objects.specs.declared.rows.ImageRow.{ImageRow}
+use Rattle.image_objects.specs.Chains.{entries_used}
+use Rattle.image_objects.specs.History.{kept_row, present_used}
 use Rattle.image_objects.specs.Naming.{HoldsWhatIsNamed}
 use Rattle.image_objects.specs.Rows.{RowsStand}
 use Rattle.image_parts.specs.declared.rows.RowPart.{RowPart}

@@ -4,7 +4,7 @@ use Rattle.std.specs.Int.{w64}
 use Rattle.codec.specs.Fields.{number, SpellsSlot}
 use Rattle.image_parts.specs.Image.{Image}
 use Rattle.image_parts.specs.declared.rows.RowPart.{RowPart}
-use Rattle.image_chains.specs.declared.rows.ImageRow.{ImageRow}
+use Rattle.image_objects.specs.declared.rows.ImageRow.{ImageRow}
 use Rattle.image_objects.specs.Rows.{RowsStand}
 use Rattle.segment_table.specs.Table.{Table}
 use Rattle.segment_table.specs.Used.{used_at}

@@ -6,7 +6,7 @@ ghost use Rattle.segment_table.specs.Used.{used_at};
 ghost use Rattle.verifier.specs.private.Holding.{HoldsAlso, IsUsedAlike};
 
 use block_log::laws::one_place_has_one_name;
-use image_chains::{UsedBlock, UsedBlocks};
+use image_objects::{UsedBlock, UsedBlocks};
 use s4_types::Ptr;
 use segment_table::TableParts;
 

@@ -5,7 +5,7 @@ ghost use Rattle.s4_types.specs.declared.refusals.Refusal.TheVariants.{NoMemory}
 ghost use Rattle.block_log.specs.Log.{Stored};
 ghost use Rattle.segment_table.specs.Table.{slots_at, held_at};
 ghost use Rattle.segment_table.specs.Used.{used_at};
-ghost use Rattle.image_chains.specs.declared.rows.ImageRow.{ImageRow as RowFields};
+ghost use Rattle.image_objects.specs.declared.rows.ImageRow.{ImageRow as RowFields};
 ghost use Rattle.image_objects.specs.Moments.{StandOnce};
 ghost use Rattle.image_objects.specs.Rows.{RowsStand};
 ghost use Rattle.verifier.specs.Rows.{SpellRows};
@@ -15,9 +15,8 @@ ghost use Rattle.verifier.specs.private.OneRow.{TellsOfRow, IsRowRead, PartStand
 use crate::blocks::{TableBlocks, hold_all};
 use crate::moments::{are_apart, push_moments};
 use crate::rows::row_of;
-use image_chains::{ImageHistory, ImageRow};
 use image_objects::laws::moments_told_once_are_not_shared;
-use image_objects::{push_named, read_object, what_a_row_names_is_used};
+use image_objects::{ImageHistory, ImageRow, push_named, read_object, what_a_row_names_is_used};
 use image_parts::{Parts, RowPart};
 use object_map::Row;
 use s4_types::{Moment, Ptr, Refusal};

@@ -1,9 +1,9 @@
 //! The rows of an image with their pointers read.
 ghost use Rattle.std.specs.Prelude.{◌≡◌, IfSome};
-ghost use Rattle.image_chains.specs.declared.rows.ImageRow.{ImageRow as RowFields};
+ghost use Rattle.image_objects.specs.declared.rows.ImageRow.{ImageRow as RowFields};
 ghost use Rattle.verifier.specs.Rows.{SpellsRow};
 
-use image_chains::ImageRow;
+use image_objects::ImageRow;
 use image_parts::RowPart;
 
 /// A row of an image, with the pointers that its bytes spell. None where they spell neither a pointer nor a hole.

@@ -12,9 +12,9 @@ use Rattle.block_log.specs.Taken.{TakesPlaces}
 use Rattle.block_log.specs.declared.kinds.BlockKind.{BlockKind}
 use Rattle.block_log.specs.declared.kinds.BlockKind.TheVariants.{Journal, Checkpoint, Data}
 use Rattle.inode.specs.Growth.{data_block}
-use Rattle.chain_moving.specs.Renaming.{RenamingFields, with_move, move_of}
-use Rattle.chain_moving.specs.Apart.{HasDistinctPlaces}
-use Rattle.chain_moving.specs.Places.{OneMoreMoves, PlacesStayDistinct, NothingMovesYet, NoPlacesAreDistinct}
+use Rattle.chain_rewriting.specs.Renaming.{RenamingFields, with_move, move_of}
+use Rattle.chain_rewriting.specs.Apart.{HasDistinctPlaces}
+use Rattle.chain_rewriting.specs.Places.{OneMoreMoves, PlacesStayDistinct, NothingMovesYet, NoPlacesAreDistinct}
 use Rattle.version_store.specs.declared.copies.CopiedBlock.{CopiedBlock}
 use Rattle.version_store.specs.Relocating.{AreCopies, frame_of_copies, with_moves, blocks_ascend_from}
 use Rattle.version_store.specs.private.Below.{OnePlace, PlacesAddUp}

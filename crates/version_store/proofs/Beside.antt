@@ -12,7 +12,7 @@ use Rattle.undo_redo.specs.Runs.{AllBy, Run, inode_after}
 use Rattle.undo_redo.specs.Groups.{grouped}
 use Rattle.journal_chain.specs.Chain.{OnlyJournalChanged}
 use Rattle.inode.specs.Growth.{GrowsBy}
-use Rattle.undo_index.specs.Undoings.{Undoing, undoing_of}
+use Rattle.time_read.specs.Undoings.{Undoing, undoing_of}
 use Rattle.object_map.specs.declared.map.Row.{Row}
 use Rattle.object_map.specs.Objects.{value_of, with_value, without_value, PutsAt}
 use Rattle.object_map.specs.Rows.{row_of, with_row, fresh_row}

@@ -13,8 +13,8 @@ use Rattle.time_read.specs.Rows.{IsRow, entries_of, checkpoint_of, first_of, ino
 use Rattle.time_read.specs.Orderly.{IsFromTo, IsOrderly, IsOrderlyChain, BeginsDead}
 use Rattle.row_changes.specs.Moving.{checkpoint_with, first_with, moved_blocks, row_blocks}
 use Rattle.row_changes.specs.Rewritten.{OnlyHistoryChanged}
-use Rattle.chain_moving.specs.Renaming.{RenamingFields, renamed_entries}
-use Rattle.chain_moving.specs.Laws.{RenamedEntriesStayInOrder, RenamedEntriesTakeAsManyBytes}
+use Rattle.chain_rewriting.specs.Renaming.{RenamingFields, renamed_entries}
+use Rattle.chain_rewriting.specs.RenamingLaws.{RenamedEntriesStayInOrder, RenamedEntriesTakeAsManyBytes}
 use Rattle.version_store.specs.declared.copies.CopiedBlock.{CopiedBlock}
 use Rattle.version_store.specs.private.Below.{RowStays, RowInodeStays, PlacesAddUp, HolesTellBlocks}
 use Rattle.version_store.specs.private.Relocating.{Relocates}

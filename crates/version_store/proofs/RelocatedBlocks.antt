@@ -18,8 +18,8 @@ use Rattle.inode.specs.Growth.{data_block}
 use Rattle.journal_chain.specs.Sizes.{blocks_needed}
 use Rattle.row_changes.specs.Moving.{kept_blocks, moved_blocks}
 use Rattle.row_changes.specs.Rewritten.{OnlyHistoryChanged}
-use Rattle.chain_moving.specs.Renaming.{RenamingFields, move_of, is_in, new_place, renamed_slot, renamed_entries, renamed_inode}
-use Rattle.chain_moving.specs.Laws.{RenamedEntriesTakeAsManyBytes}
+use Rattle.chain_rewriting.specs.Renaming.{RenamingFields, move_of, is_in, new_place, renamed_slot, renamed_entries, renamed_inode}
+use Rattle.chain_rewriting.specs.RenamingLaws.{RenamedEntriesTakeAsManyBytes}
 use Rattle.version_store.specs.declared.copies.CopiedBlock.{CopiedBlock}
 use Rattle.version_store.specs.Replacing.{OnlyDataChanged, OtherObjectsStay}
 use Rattle.version_store.specs.Relocating.{AreCopies, IsCopied, frame_of_copies}

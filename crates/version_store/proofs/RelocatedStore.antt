@@ -23,10 +23,10 @@ use Rattle.time_read.specs.Rows.{entries_of, checkpoint_of, inode_of}
 use Rattle.time_read.specs.Orderly.{IsOrderly, IsFromTo, BeginsDead}
 use Rattle.journal_chain.specs.Push.{whole_blocks}
 use Rattle.row_changes.specs.Moving.{kept_blocks, moved_blocks}
-use Rattle.chain_moving.specs.Renaming.{RenamingFields, new_place, renamed, renamed_slot, renamed_entries, renamed_inode}
-use Rattle.chain_moving.specs.Apart.{Passes, HasCopies}
-use Rattle.chain_moving.specs.Places.{ARenamedChainTellsInOrder}
-use Rattle.chain_moving.specs.Laws.{APointerIsRenamed, ARenamedInodeMeansTheSame, RenamedEntriesHaveOldMoments, TheMomentsOfRenamedEntriesAreOld}
+use Rattle.chain_rewriting.specs.Renaming.{RenamingFields, new_place, renamed, renamed_slot, renamed_entries, renamed_inode}
+use Rattle.chain_rewriting.specs.Apart.{Passes, HasCopies}
+use Rattle.chain_rewriting.specs.Places.{ARenamedChainTellsInOrder}
+use Rattle.chain_rewriting.specs.RenamingLaws.{APointerIsRenamed, ARenamedInodeMeansTheSame, RenamedEntriesHaveOldMoments, TheMomentsOfRenamedEntriesAreOld}
 use Rattle.version_store.specs.declared.copies.CopiedBlock.{CopiedBlock}
 use Rattle.version_store.specs.Store.{StoreFields, IsStore, IsObject, DataIsNamed, IsLed, sides_told, pointers_kept, pointers_of}
 use Rattle.version_store.specs.Versions.{inode_by, inode_in, version_by, version_in}

@@ -14,10 +14,10 @@ use Rattle.checkpoint.specs.Held.{checkpoint_held}
 use Rattle.object_map.specs.declared.map.Row.{Row}
 use Rattle.time_read.specs.Rows.{IsRow, entries_of, checkpoint_of, first_of, inode_before, inode_of}
 use Rattle.row_changes.specs.Moving.{CanTell, checkpoint_at, checkpoint_with, first_with}
-use Rattle.chain_moving.specs.Renaming.{RenamingFields, move_of, renamed_entries, renamed_inode}
-use Rattle.chain_moving.specs.Apart.{Passes, ToldWithin, HasDistinctPlaces, IsApart}
-use Rattle.chain_moving.specs.Places.{WhatIsToldIsListed, ATestTellsApart}
-use Rattle.chain_moving.specs.Laws.{RenamingCommutesWithRedoOfAll, RenamingCommutesWithUndoOfAll, ARenamedChainShowsRenamedInodes, ARenamedRunIsARun, ABlankInodeStays, ARenamedChainTakesAsManyBytes, RenamedEntriesStayInGroups, RenamedEntriesUpToAMoment, ARenamedCheckpointKeepsTheRules}
+use Rattle.chain_rewriting.specs.Renaming.{RenamingFields, move_of, renamed_entries, renamed_inode}
+use Rattle.chain_rewriting.specs.Apart.{Passes, ToldWithin, HasDistinctPlaces, IsApart}
+use Rattle.chain_rewriting.specs.Places.{WhatIsToldIsListed, ATestTellsApart}
+use Rattle.chain_rewriting.specs.RenamingLaws.{RenamingCommutesWithRedoOfAll, RenamingCommutesWithUndoOfAll, ARenamedChainShowsRenamedInodes, ARenamedRunIsARun, ABlankInodeStays, ARenamedChainTakesAsManyBytes, RenamedEntriesStayInGroups, RenamedEntriesUpToAMoment, ARenamedCheckpointKeepsTheRules}
 use Rattle.version_store.specs.Store.{IsLed, pointers_kept, pointers_of}
 use Rattle.version_store.specs.Relocating.{renamed_checkpoint}
 use Rattle.version_store.specs.private.Replacing.{RunsEnd}

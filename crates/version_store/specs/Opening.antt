@@ -4,7 +4,7 @@ use Rattle.s4_types.specs.Pointer.{Place}
 use Rattle.block_log.specs.Log.{Stored}
 use Rattle.codec.specs.declared.inodes.Inode.{Inode}
 use Rattle.codec.specs.Entry.{EntryFields}
-use Rattle.undo_index.specs.Undoings.{Undoing, undoing_of}
+use Rattle.time_read.specs.Undoings.{Undoing, undoing_of}
 use Rattle.object_map.specs.declared.map.Row.{Row}
 use Rattle.time_read.specs.Rows.{entries_of, inode_of}
 

@@ -11,7 +11,7 @@ use Rattle.object_map.specs.declared.map.Row.{Row}
 use Rattle.object_map.specs.Rows.{row_of, with_row}
 use Rattle.time_read.specs.Rows.{entries_of, checkpoint_of}
 use Rattle.row_changes.specs.Moving.{row_blocks}
-use Rattle.chain_moving.specs.Renaming.{RenamingFields, renaming_of, with_move, is_in, new_place, renamed_slot, renamed_entries, renamed_inode}
+use Rattle.chain_rewriting.specs.Renaming.{RenamingFields, renaming_of, with_move, is_in, new_place, renamed_slot, renamed_entries, renamed_inode}
 use Rattle.version_store.specs.declared.copies.CopiedBlock.{CopiedBlock}
 use Rattle.version_store.specs.Store.{StoreFields, pointers_of}
 use Rattle.version_store.specs.Replacing.{OtherObjectsStay}

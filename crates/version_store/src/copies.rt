@@ -12,8 +12,8 @@ use block_log::laws::{
     no_change_takes_no_place, one_place_has_one_name, places_taken_add_up,
 };
 use block_log::{Block, BlockKind, Blocks};
-use chain_moving::Renaming;
-use chain_moving::laws::moves_are_put_in_one_by_one;
+use chain_rewriting::Renaming;
+use chain_rewriting::renaming_laws::moves_are_put_in_one_by_one;
 use s4_types::{ObjectId, Ptr};
 
 /// A copy of a block: where the block is held, and its bytes.

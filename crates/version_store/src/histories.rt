@@ -5,9 +5,9 @@ ghost use Rattle.s4_types.specs.declared.refusals.Refusal.TheVariants.{NoMemory}
 ghost use Rattle.codec.specs.Checkpoint.{checkpoint_rules};
 ghost use Rattle.time_read.specs.Rows.{IsRow, entries_of, checkpoint_of};
 ghost use Rattle.time_read.specs.Orderly.{IsOrderly};
-ghost use Rattle.chain_cleaning.specs.Laws.{TellsWithin};
-ghost use Rattle.chain_moving.specs.Renaming.{renamed_entries, renamed_inode};
-ghost use Rattle.chain_moving.specs.Apart.{HasDistinctPlaces, IsNotNew};
+ghost use Rattle.chain_rewriting.specs.CleaningLaws.{TellsWithin};
+ghost use Rattle.chain_rewriting.specs.Renaming.{renamed_entries, renamed_inode};
+ghost use Rattle.chain_rewriting.specs.Apart.{HasDistinctPlaces, IsNotNew};
 ghost use Rattle.version_store.specs.Store.{IsLed, pointers_of};
 ghost use Rattle.version_store.specs.Relocating.{AreCopies, blocks_relocated};
 ghost use Rattle.version_store.specs.private.Relocating.{Tells, Relocates};
@@ -15,8 +15,8 @@ ghost use Rattle.version_store.specs.private.Relocating.{Tells, Relocates};
 use crate::copies::{CopiedBlock, append_copies, drop_copies};
 use block_log::Blocks;
 use block_log::laws::{one_place_has_one_name, places_taken_add_up};
-use chain_moving::Renaming;
-use chain_moving::laws::{
+use chain_rewriting::Renaming;
+use chain_rewriting::renaming_laws::{
     a_renamed_chain_takes_as_many_bytes, a_renamed_checkpoint_keeps_the_rules,
     a_renamed_run_is_a_run, a_test_tells_a_renaming_apart, renamed_entries_stay_in_order,
     renaming_commutes_with_undo_and_redo, what_a_chain_tells,

@@ -9,7 +9,7 @@ use codec::{Entry, Inode};
 use object_map::ObjectMap;
 use s4_types::ObjectId;
 use std::alloc::Global;
-use undo_index::UndoIndex;
+use time_read::UndoIndex;
 
 /// An object's present inode, and an index of what undoes the entries of its journal. Where the index's growth was refused there
 /// is none, and the journal is walked.

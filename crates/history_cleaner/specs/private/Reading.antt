@@ -5,7 +5,7 @@ use Rattle.object_map.specs.declared.map.Row.{Row}
 use Rattle.time_read.specs.Rows.{entries_of}
 use Rattle.s4_model.specs.State.{State}
 use Rattle.version_store.specs.Store.{StoreFields}
-use Rattle.chain_cleaning.specs.Cleaned.{KeptChain}
+use Rattle.chain_rewriting.specs.Cleaned.{KeptChain}
 use Rattle.history_cleaner.specs.Laws.{HasChain}
 use Rattle.history_cleaner.specs.Cleaning.{left_in}
 

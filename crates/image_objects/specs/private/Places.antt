@@ -6,8 +6,8 @@ use Rattle.s4_types.specs.Pointer.{Place}
 use Rattle.block_log.specs.Log.{Stored, of_kind}
 use Rattle.block_log.specs.declared.kinds.BlockKind.TheVariants.{Journal}
 use Rattle.journal_chain.specs.Chain.{chain_places}
-use Rattle.image_chains.specs.declared.rows.ImageRow.{ImageRow}
-use Rattle.image_chains.specs.Inodes.{checkpoint_places_used}
+use Rattle.image_objects.specs.declared.rows.ImageRow.{ImageRow}
+use Rattle.image_objects.specs.Inodes.{checkpoint_places_used}
 use Rattle.image_objects.specs.Objects.{pointers_used}
 
 -- the places that slots lead to, in order

@@ -7,10 +7,10 @@ use Rattle.journal_chain.specs.Packing.{packed, filled_bytes}
 use Rattle.segment_table.specs.Table.{held_at}
 use Rattle.version_store.specs.Opening.{OpenedFields}
 use Rattle.image_parts.specs.declared.rows.RowPart.{RowPart}
-use Rattle.image_chains.specs.declared.rows.ImageRow.{ImageRow}
-use Rattle.image_chains.specs.declared.histories.ImageHistory.{ImageHistory}
-use Rattle.image_chains.specs.Chains.{entries_used}
-use Rattle.image_chains.specs.History.{present_used}
+use Rattle.image_objects.specs.declared.rows.ImageRow.{ImageRow}
+use Rattle.image_objects.specs.declared.histories.ImageHistory.{ImageHistory}
+use Rattle.image_objects.specs.Chains.{entries_used}
+use Rattle.image_objects.specs.History.{present_used}
 use Rattle.image_objects.specs.Objects.{ObjectStands}
 use Rattle.image_objects.specs.Naming.{HoldsWhatIsNamed}
 use Rattle.image_objects.specs.Moments.{moments_of_chain}

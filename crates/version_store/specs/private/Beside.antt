@@ -3,7 +3,7 @@ use Rattle.std.specs.Prelude.{◌≡◌, ℕ, List, map, Option, IfSome, option_
 use Rattle.codec.specs.declared.inodes.Inode.{Inode}
 use Rattle.codec.specs.Entry.{EntryFields}
 use Rattle.object_map.specs.Objects.{value_of}
-use Rattle.undo_index.specs.Undoings.{Undoing, undoing_of}
+use Rattle.time_read.specs.Undoings.{Undoing, undoing_of}
 use Rattle.version_store.specs.declared.presents.Present.{Present}
 use Rattle.version_store.specs.Store.{StoreFields}
 use Rattle.version_store.specs.Versions.{inode_in, entries_of_object}

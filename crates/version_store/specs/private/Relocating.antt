@@ -12,8 +12,8 @@ use Rattle.object_map.specs.declared.map.Row.{Row}
 use Rattle.time_read.specs.Rows.{IsRow, entries_of, checkpoint_of, inode_of}
 use Rattle.time_read.specs.Orderly.{IsOrderly}
 use Rattle.inode.specs.Growth.{data_block}
-use Rattle.chain_moving.specs.Renaming.{RenamingFields, move_of, new_place, renamed_entries, renamed_inode}
-use Rattle.chain_moving.specs.Apart.{HasDistinctPlaces}
+use Rattle.chain_rewriting.specs.Renaming.{RenamingFields, move_of, new_place, renamed_entries, renamed_inode}
+use Rattle.chain_rewriting.specs.Apart.{HasDistinctPlaces}
 use Rattle.version_store.specs.declared.copies.CopiedBlock.{CopiedBlock}
 use Rattle.version_store.specs.declared.histories.History.{History}
 use Rattle.version_store.specs.Store.{StoreFields, IsStore}

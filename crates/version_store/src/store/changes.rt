@@ -24,7 +24,7 @@ use row_changes::laws::a_fresh_row_stands;
 use row_changes::record_change;
 use s4_types::{Change, Moment, ObjectId, Refusal};
 use std::slice::from_ref;
-use undo_index::UndoIndex;
+use time_read::UndoIndex;
 use undo_redo::laws::a_blank_inode_has_holes_alone;
 use undo_redo::{blank, entries_between, only_entry_between};
 

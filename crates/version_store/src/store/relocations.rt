@@ -2,7 +2,7 @@
 ghost use Rattle.std.specs.Prelude.{◌≡◌, ◌⊎◌, ℕ, ◌<◌, ◌≤◌, ◌==◌, if◌then◌else◌, Some, IsSome, IfSome, IfErr, OnOk, OnErr, MatchResult, length, option_map};
 ghost use Rattle.s4_types.specs.declared.refusals.Refusal.TheVariants.{NoMemory, NoRoom};
 ghost use Rattle.object_map.specs.Rows.{row_of};
-ghost use Rattle.chain_moving.specs.Renaming.{renamed_inode};
+ghost use Rattle.chain_rewriting.specs.Renaming.{renamed_inode};
 ghost use Rattle.version_store.specs.Store.{fields_of, IsStore};
 ghost use Rattle.version_store.specs.Versions.{inode_in, version_in};
 ghost use Rattle.version_store.specs.Relocating.{AreCopies, IsRelocated, blocks_relocated, renaming_by};
@@ -14,7 +14,7 @@ use crate::laws::what_changes_rest_on;
 use crate::presents::{Present, index_of};
 use crate::store::Store;
 use block_log::Blocks;
-use chain_moving::laws::{
+use chain_rewriting::renaming_laws::{
     a_renamed_chain_tells_of_renamed_places, a_renamed_inode_means_the_same,
     a_renamed_run_is_a_run, renamed_entries_keep_their_moments,
 };

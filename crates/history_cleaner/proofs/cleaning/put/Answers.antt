@@ -1,6 +1,6 @@
 use Rattle.std.proofs.Common.{◌≡◌, Some, Ok, refl}
 use Rattle.s4_model.specs.Visible.{IsVisible}
-use Rattle.chain_cleaning.specs.Cleaned.{KeptChain}
+use Rattle.chain_rewriting.specs.Cleaned.{KeptChain}
 use Rattle.drive.specs.Fields.{state_in, store_of}
 use Rattle.history_cleaner.proofs.Putting.{Answered, has_row, others_same, others_removed, others_replaced, is_of_parts, may_go, may_replace, shows_same, nothing_answered, replacing_answered}
 use Rattle.history_cleaner.proofs.Holding.{Laws, nothing_holds, replacing_holds}

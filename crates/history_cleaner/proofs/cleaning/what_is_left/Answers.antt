@@ -1,6 +1,6 @@
 use Rattle.std.proofs.Common.{◌≡◌}
 use Rattle.std.proofs.lemmas.Result.{IfOk-weaker}
-use Rattle.chain_cleaning.specs.Cleaned.{cleaned}
+use Rattle.chain_rewriting.specs.Cleaned.{cleaned}
 use Rattle.drive.specs.Fields.{state_in, store_of}
 use Rattle.history_cleaner.specs.Sight.{is_seen_between}
 use Rattle.history_cleaner.specs.private.Reading.{IsLeft}

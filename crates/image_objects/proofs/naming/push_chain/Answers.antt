@@ -2,7 +2,7 @@ use Rattle.std.proofs.Common.{◌≡◌, ◌+◌, ◌-◌, ◌<◌, ◌++◌, So
 use Rattle.s4_types.specs.declared.limits.TheConstants.{CHAIN_BLOCKS}
 use Rattle.journal_chain.specs.Chain.{journal_held}
 use Rattle.image_objects.specs.private.Places.{places_of_chain}
-use Rattle.image_objects.proofs.Walk.{begins, at_hole, at_last, one_more, missing}
+use Rattle.image_objects.proofs.RowWalk.{begins, at_hole, at_last, one_more, missing}
 use Rattle.image_objects.proofs.naming.push_chain.Goals as goal
 
 pub loop-init : goal.loop-init

@@ -2,7 +2,7 @@ use Rattle.std.proofs.Common.{◌-◌, ◌++◌}
 use Rattle.s4_types.specs.declared.limits.TheConstants.{CHAIN_BLOCKS}
 use Rattle.journal_chain.specs.Chain.{journal_held}
 use Rattle.image_objects.specs.private.Places.{places_of_chain}
-use Rattle.image_objects.proofs.Walk.{IsLeft}
+use Rattle.image_objects.proofs.RowWalk.{IsLeft}
 use Rattle.image_objects.proofs.naming.push_chain.Given as goal
 
 abbrev pub invariant-loop : goal.invariant-loop

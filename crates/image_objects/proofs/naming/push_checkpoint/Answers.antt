@@ -3,7 +3,7 @@ use Rattle.std.specs.Option.{option_to_list}
 use Rattle.std.proofs.lemmas.Result.{IfOk-weaker}
 use Rattle.s4_types.specs.Pointer.{Place}
 use Rattle.checkpoint.specs.Held.{of_checkpoints}
-use Rattle.image_chains.specs.Inodes.{checkpoint_places_used}
+use Rattle.image_objects.specs.Inodes.{checkpoint_places_used}
 use Rattle.image_objects.proofs.Checkpoints.{its_place}
 use Rattle.image_objects.proofs.naming.push_checkpoint.Goals as goal
 

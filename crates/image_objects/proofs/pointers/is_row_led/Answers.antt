@@ -2,8 +2,8 @@ use Rattle.std.proofs.Common.{List, sym, subst}
 use Rattle.std.specs.List.{All}
 use Rattle.codec.specs.Entry.{EntryFields}
 use Rattle.version_store.specs.Store.{IsLed, pointers_kept, sides_told}
-use Rattle.image_chains.specs.Chains.{entries_used}
-use Rattle.image_chains.specs.Inodes.{checkpoint_used}
+use Rattle.image_objects.specs.Chains.{entries_used}
+use Rattle.image_objects.specs.Inodes.{checkpoint_used}
 use Rattle.image_objects.proofs.Parts.{front_of, back_of}
 use Rattle.image_objects.proofs.pointers.is_row_led.Goals as goal
 

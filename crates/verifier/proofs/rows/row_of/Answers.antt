@@ -1,7 +1,7 @@
 use Rattle.std.proofs.Common.{◌≡◌, Option, Some, None, refl, sym, ap, ◌∙◌}
 use Rattle.s4_types.specs.Pointer.{Place}
 use Rattle.image_parts.specs.declared.rows.RowPart.{RowPart}
-use Rattle.image_chains.specs.declared.rows.ImageRow.{ImageRow}
+use Rattle.image_objects.specs.declared.rows.ImageRow.{ImageRow}
 use Rattle.verifier.specs.Rows.{SpellsRow}
 use Rattle.verifier.proofs.rows.row_of.Goals as goal
 

@@ -1,7 +1,7 @@
 use Rattle.std.proofs.Common.{List, subst}
 use Rattle.image_parts.specs.declared.headers.Header.{Header}
 use Rattle.segment_table.specs.Used.{used_at}
-use Rattle.image_chains.specs.declared.rows.ImageRow.{ImageRow}
+use Rattle.image_objects.specs.declared.rows.ImageRow.{ImageRow}
 use Rattle.image_objects.specs.Rows.{RowsStand}
 use Rattle.verifier.specs.Rows.{SpellRows}
 use Rattle.verifier.specs.Reading.{AreRead}

@@ -1,7 +1,7 @@
 use Rattle.std.proofs.Common.{◌≡◌, ◌+◌, [], ◌∷◌, List, length, drop, refl, subst, sym, ap, ◌∙◌}
 use Rattle.std.proofs.lemmas.List.{drop_more}
 use Rattle.version_store.specs.declared.copies.CopiedBlock.{CopiedBlock}
-use Rattle.chain_moving.specs.Renaming.{RenamingFields, no_moves}
+use Rattle.chain_rewriting.specs.Renaming.{RenamingFields, no_moves}
 use Rattle.version_store.specs.Relocating.{frame_of_copies}
 use Rattle.version_store.specs.private.Relocating.{Appending}
 use Rattle.version_store.proofs.Appending.{begun}

@@ -1,6 +1,6 @@
 use Rattle.std.proofs.Common.{ℕ, ◌+◌, subst, sym}
 use Rattle.inode.specs.Growth.{data_block}
-use Rattle.chain_moving.specs.Renaming.{RenamingFields, with_move}
+use Rattle.chain_rewriting.specs.Renaming.{RenamingFields, with_move}
 use Rattle.version_store.specs.private.Relocating.{Appending}
 use Rattle.version_store.proofs.Appending.{one_copied}
 use Rattle.version_store.proofs.copies.append_copy.Goals as goal

@@ -7,9 +7,9 @@ use Rattle.block_log.specs.Taken.{TakesPlaces}
 use Rattle.block_log.specs.declared.kinds.BlockKind.TheVariants.{Journal, Checkpoint}
 use Rattle.codec.specs.Entry.{EntryFields}
 use Rattle.codec.specs.declared.inodes.Inode.{Inode}
-use Rattle.chain_cleaning.specs.Laws.{TellsWithin}
-use Rattle.chain_moving.specs.Renaming.{renamed_entries, renamed_inode}
-use Rattle.chain_moving.specs.Apart.{IsNotNew}
+use Rattle.chain_rewriting.specs.CleaningLaws.{TellsWithin}
+use Rattle.chain_rewriting.specs.Renaming.{renamed_entries, renamed_inode}
+use Rattle.chain_rewriting.specs.Apart.{IsNotNew}
 use Rattle.row_changes.specs.Moving.{CanTell, moved_blocks, row_blocks}
 use Rattle.std.specs.List.{AllByRecursion}
 use Rattle.time_read.specs.Rows.{entries_of, checkpoint_of}

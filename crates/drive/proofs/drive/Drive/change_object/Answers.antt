@@ -10,7 +10,7 @@ use Rattle.segment_word.specs.AcceptViews.{Ledger}
 use Rattle.segment_table.specs.Room.{log_of}
 use Rattle.version_store.specs.Store.{StoreFields, fields_of}
 use Rattle.version_store.specs.Taking.{Takes}
-use Rattle.admission.specs.Later.{later_refusal}
+use Rattle.drive.specs.Later.{later_refusal}
 use Rattle.drive.specs.Fields.{DriveFields, state_in, store_of}
 use Rattle.drive.specs.Keeping.{IsKeptDrive}
 use Rattle.drive.proofs.Parts.{can_count}

@@ -8,7 +8,7 @@ use Rattle.segment_word.specs.AcceptViews.{Ledger}
 use Rattle.segment_table.specs.Room.{log_of}
 use Rattle.version_store.specs.Store.{fields_of}
 use Rattle.std.proofs.lemmas.Result.{err_from_is_err_and}
-use Rattle.admission.specs.Later.{later_refusal}
+use Rattle.drive.specs.Later.{later_refusal}
 use Rattle.drive.specs.Fields.{state_in, store_of}
 use Rattle.drive.specs.Keeping.{IsKeptDrive}
 use Rattle.drive.proofs.Parts.{can_count, kept_of}

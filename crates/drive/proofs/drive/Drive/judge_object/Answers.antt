@@ -4,7 +4,7 @@ use Rattle.std.proofs.lemmas.Result.{err_from_is_err_and}
 use Rattle.s4_model.specs.State.{State, state_of, took}
 use Rattle.s4_model.specs.Step.{change_of, stamp, accepted_record}
 use Rattle.s4_model.specs.Sound.{IsSound}
-use Rattle.admission.specs.Later.{later_refusal, HasSize, IsAllowed}
+use Rattle.drive.specs.Later.{later_refusal, HasSize, IsAllowed}
 use Rattle.segment_table.specs.Room.{log_of}
 use Rattle.version_store.specs.Store.{StoreFields, fields_of}
 use Rattle.version_store.specs.Versions.{inode_in}

@@ -1,6 +1,6 @@
 use Rattle.std.proofs.Common.{◌≡◌, ℕ, ◌==◌, cond, OnOk, option_map, subst}
 use Rattle.segment_table.specs.Room.{log_of}
-use Rattle.chain_moving.specs.Renaming.{renamed_inode}
+use Rattle.chain_rewriting.specs.Renaming.{renamed_inode}
 use Rattle.version_store.specs.Store.{StoreFields, fields_of}
 use Rattle.version_store.specs.Versions.{inode_in}
 use Rattle.version_store.specs.Relocating.{renaming_by}

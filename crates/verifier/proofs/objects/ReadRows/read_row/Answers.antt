@@ -5,9 +5,9 @@ use Rattle.codec.specs.Entry.{EntryFields, entries_length}
 use Rattle.journal_chain.specs.Packing.{packed, filled_bytes}
 use Rattle.segment_table.specs.Table.{held_at}
 use Rattle.segment_table.specs.Used.{used_at}
-use Rattle.image_chains.specs.declared.histories.ImageHistory.{ImageHistory}
-use Rattle.image_chains.specs.Chains.{entries_used}
-use Rattle.image_chains.specs.History.{present_used}
+use Rattle.image_objects.specs.declared.histories.ImageHistory.{ImageHistory}
+use Rattle.image_objects.specs.Chains.{entries_used}
+use Rattle.image_objects.specs.History.{present_used}
 use Rattle.image_objects.specs.Objects.{ObjectStands}
 use Rattle.image_objects.specs.Moments.{moments_of_chain}
 use Rattle.verifier.specs.private.Holding.{HoldsAlso}

@@ -1,5 +1,5 @@
 use Rattle.std.proofs.Common.{List, Some, sym, ap, subst}
-use Rattle.undo_index.specs.Undoings.{Undoing}
+use Rattle.time_read.specs.Undoings.{Undoing}
 use Rattle.object_map.specs.Objects.{MapOf}
 use Rattle.version_store.specs.declared.presents.Present.{Present}
 use Rattle.version_store.specs.Store.{StoreFields, fields_of}

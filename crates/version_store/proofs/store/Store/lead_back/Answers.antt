@@ -1,7 +1,7 @@
 use Rattle.std.proofs.Common.{◌≡◌, ◌≤◌, List, Option, Some, sym, subst, ◌∙◌}
 use Rattle.std.proofs.lemmas.Map.Keys.{le_from_is_le}
 use Rattle.object_map.specs.Rows.{row_of}
-use Rattle.undo_index.specs.Undoings.{Undoing}
+use Rattle.time_read.specs.Undoings.{Undoing}
 use Rattle.version_store.specs.Store.{StoreOf, StoreFields, IsStore, fields_of}
 use Rattle.version_store.specs.Versions.{entries_of_object, inode_in}
 use Rattle.version_store.specs.private.Beside.{Tells, IsBeside}

@@ -3,7 +3,7 @@ use Rattle.codec.specs.declared.inodes.Inode.{Inode}
 use Rattle.object_map.specs.declared.map.Row.{Row}
 use Rattle.object_map.specs.Objects.{Puts, with_value}
 use Rattle.object_map.specs.Rows.{row_of}
-use Rattle.chain_moving.specs.Renaming.{RenamingFields, renamed_entries, renamed_inode}
+use Rattle.chain_rewriting.specs.Renaming.{RenamingFields, renamed_entries, renamed_inode}
 use Rattle.time_read.specs.Rows.{entries_of}
 use Rattle.version_store.specs.declared.presents.Present.{Present}
 use Rattle.version_store.specs.Store.{StoreOf, StoreFields, IsStore, fields_of}

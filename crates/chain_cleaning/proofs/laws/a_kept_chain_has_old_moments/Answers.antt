@@ -1,5 +1,0 @@
-use Rattle.chain_cleaning.proofs.Moments.{cleaned_within}
-use Rattle.chain_cleaning.proofs.laws.a_kept_chain_has_old_moments.Goals as goal
-
-pub returns : goal.returns
-returns c = cleaned_within c.the_entries_between_two_inodes.ensures.moments

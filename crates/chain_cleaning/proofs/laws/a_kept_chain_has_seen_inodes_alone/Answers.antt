@@ -1,5 +1,0 @@
-use Rattle.chain_cleaning.proofs.Seen.{cleaned_seen}
-use Rattle.chain_cleaning.proofs.laws.a_kept_chain_has_seen_inodes_alone.Goals as goal
-
-pub returns : goal.returns
-returns c = cleaned_seen c.the_entries_between_two_inodes.ensures.moments c.groups_join_and_part.ensures.ascend

@@ -1,4 +1,0 @@
-pub mod Cleaned
-pub mod Chains
-pub mod Laws
-pub mod private

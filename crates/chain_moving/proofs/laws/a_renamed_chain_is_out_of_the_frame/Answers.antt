@@ -1,5 +1,0 @@
-use Rattle.chain_moving.proofs.Told.{out_of_the_frame}
-use Rattle.chain_moving.proofs.laws.a_renamed_chain_is_out_of_the_frame.Goals as goal
-
-pub returns : goal.returns
-returns c = out_of_the_frame

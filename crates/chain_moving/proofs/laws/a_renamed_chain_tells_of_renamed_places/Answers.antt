@@ -1,5 +1,0 @@
-use Rattle.chain_moving.proofs.Told.{tells_renamed}
-use Rattle.chain_moving.proofs.laws.a_renamed_chain_tells_of_renamed_places.Goals as goal
-
-pub returns-clause-told : goal.returns-clause-told
-returns-clause-told c = tells_renamed

@@ -1,5 +1,0 @@
-use Rattle.chain_moving.proofs.Renamed.{link_renamed}
-use Rattle.chain_moving.proofs.laws.a_renamed_run_is_a_run.Goals as goal
-
-pub returns-clause-link : goal.returns-clause-link
-returns-clause-link c = link_renamed

@@ -1,6 +1,0 @@
-use Rattle.std.proofs.Common.{◌≡◌, take}
-use Rattle.chain_moving.specs.Renaming.{renamed_entries}
-use Rattle.chain_moving.proofs.renaming.Renaming.rename_entries.Given as goal
-
-abbrev pub invariant-loop-entry : goal.invariant-loop-entry
-invariant-loop-entry l = l.renamed.items ≡ renamed_entries l.self (take l.entry-index l.entries)

@@ -1,4 +1,0 @@
-pub mod Renaming
-pub mod Apart
-pub mod Laws
-pub mod Places

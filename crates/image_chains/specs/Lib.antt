@@ -1,4 +1,0 @@
-pub mod Chains
-pub mod Inodes
-pub mod History
-pub mod private

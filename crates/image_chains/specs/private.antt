@@ -1,2 +1,0 @@
-pub mod Walked
-pub mod Standing

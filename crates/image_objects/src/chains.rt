@@ -1,0 +1,101 @@
+//! A row's whole chain.
+ghost use Rattle.std.specs.Prelude.{◌≡◌, ◌≤◌, IfSome, IfNone, IfOk, IfErr, map, nat_le};
+ghost use Rattle.s4_types.specs.declared.refusals.Refusal.TheVariants.{NoMemory};
+ghost use Rattle.s4_types.specs.declared.limits.TheConstants.{CHAIN_ENTRY_BYTES, JOURNAL_ENTRY_BYTES};
+ghost use Rattle.codec.specs.Fields.{kept};
+ghost use Rattle.codec.specs.Entry.{entry_length, entries_length};
+ghost use Rattle.journal_chain.specs.Packing.{packed, filled_bytes};
+ghost use Rattle.journal_chain.specs.Sizes.{filled_after};
+ghost use Rattle.image_objects.specs.Chains.{ChainStands, entries_used};
+
+use crate::groups::{are_grouped, lie_from_to};
+use crate::rows::ImageRow;
+use crate::used_blocks::UsedBlocks;
+use crate::walk::entries_from;
+use codec::Entry;
+use journal_chain::packing::fits;
+use journal_chain::packing::laws::{filled_bytes_after, one_packing_keeps_the_rule};
+use s4_types::limits::CHAIN_ENTRY_BYTES;
+use s4_types::{Moment, Refusal};
+use std::alloc::Global;
+
+/// A row's journal chain as an image has it.
+#[derive(Drop)]
+pub struct ImageChain {
+    /// All entries, the oldest first.
+    pub entries: Vec<Entry>,
+    /// Bytes of all entries.
+    pub journal_bytes: u16,
+    /// Bytes of the entries in the newest block.
+    pub head_bytes: u16,
+}
+
+/// How many bytes entries have. None where they are more than a chain's may be.
+#[tactic(auto, using(crate::proofs::Bytes::bytes_none, crate::proofs::Bytes::bytes_next))]
+fn bytes_of(entries: &[Entry]) -> Option<usize>
+    ensures { result ≡ kept (nat_le (entries_length entries.now) CHAIN_ENTRY_BYTES) (entries_length entries.now) }
+{
+    let mut bytes = 0;
+    for entry in entries {
+        bytes += entry.byte_count();
+        if bytes > CHAIN_ENTRY_BYTES {
+            return None;
+        }
+    }
+    Some(bytes)
+}
+
+/// The bytes of entries in the newest block of their chain.
+fn head_bytes_of(entries: &[Entry]) -> usize
+    ensures exact { result ≡ filled_after 0 (map entry_length entries.now) }
+    ensures most { result ≤ JOURNAL_ENTRY_BYTES }
+{
+    let mut newest = 0;
+    for entry in entries {
+        let size = entry.byte_count();
+        newest = if fits(newest, size) {
+            newest + size
+        } else {
+            size
+        };
+    }
+    newest
+}
+
+/// A row's journal chain in an image whose clock stands at a moment. None exactly where it doesn't stand.
+///
+/// NoMemory alone, where the memory for the entries is refused. Linear in the chain's blocks.
+pub fn read_chain<U: UsedBlocks>(
+    alloc: Global,
+    used: &U,
+    row: &ImageRow,
+    clock: Moment,
+) -> Result<Option<ImageChain>, Refusal>
+    ensures stands { IfOk result (λ found. IfSome found (λ chain. ChainStands (U.used used.now) row.now clock)) }
+    ensures only { IfOk result (λ found. IfNone found (ChainStands (U.used used.now) row.now clock → ⊥)) }
+    ensures entries { IfOk result (λ found. IfSome found (λ chain. chain.entries.items ≡ entries_used (U.used used.now) row.now)) }
+    ensures bytes { IfOk result (λ found. IfSome found (λ chain. chain.journal_bytes ≡ entries_length (entries_used (U.used used.now) row.now))) }
+    ensures head { IfOk result (λ found. IfSome found (λ chain. chain.head_bytes ≡ filled_bytes (packed (entries_used (U.used used.now) row.now)))) }
+    ensures refusal { IfErr result (λ e. e ≡ NoMemory) }
+{
+    filled_bytes_after();
+    let Some(entries) = entries_from(alloc, used, row.object, row.head)? else {
+        return Ok(None);
+    };
+    let listed = entries.as_slice();
+    let Some(bytes) = bytes_of(listed) else {
+        return Ok(None);
+    };
+    if !lie_from_to(listed, row.created, clock) {
+        return Ok(None);
+    }
+    if !are_grouped(listed) {
+        return Ok(None);
+    }
+    let head_bytes = head_bytes_of(listed) as u16;
+    Ok(Some(ImageChain {
+        entries,
+        journal_bytes: bytes as u16,
+        head_bytes,
+    }))
+}

@@ -1,0 +1,83 @@
+//! A chain walked back from its head.
+ghost use Rattle.std.specs.Prelude.{◌≡◌, ◌+◌, ◌&&◌, ℕ, true, nat_lt, nat_le, if◌then◌else◌, Option, Some, None, IfOk, IfErr, option_map};
+ghost use Rattle.s4_types.specs.declared.limits.TheConstants.{CHAIN_BLOCKS, JOURNAL_ENTRY_BYTES};
+ghost use Rattle.s4_types.specs.declared.refusals.Refusal.TheVariants.{NoMemory};
+ghost use Rattle.s4_types.specs.Pointer.{Place};
+ghost use Rattle.codec.specs.Journal.{JournalFields, journal_rules};
+ghost use Rattle.journal_chain.specs.Chain.{journal_held};
+ghost use Rattle.image_objects.specs.private.Walked.{walked, reached};
+
+use crate::reading::{read_journal, take_entries};
+use crate::used_blocks::UsedBlocks;
+use codec::{Entry, EntryReader};
+use s4_types::limits::{CHAIN_BLOCKS, JOURNAL_ENTRY_BYTES};
+use s4_types::{ObjectId, Ptr, Refusal};
+use std::alloc::Global;
+
+/// A chain whose newest blocks were read.
+#[derive(Drop)]
+struct Walk {
+    // The block before those that were read.
+    previous: Option<Ptr>,
+    // Of the first entry of the block that was read last. Before any was, more than a block holds.
+    first_bytes: usize,
+    // Of all blocks that were read, the newest first.
+    entries: Vec<Entry>,
+}
+
+impl Walk {
+    /// Goes on by one block. False where its entries leave room for the first one of the block behind it.
+    fn take(&mut self, block: EntryReader) -> Result<bool, Refusal>
+        requires { journal_rules block ≡ true }
+        ensures goes { IfOk result (λ good. (left : ℕ) (blocks : Place → Option JournalFields) (p : Place)
+            → self.old.previous ≡ Some p → blocks p ≡ Some block
+            → reached (left + 1) blocks self.old.first_bytes self.old.previous self.old.entries.items
+            ≡ (if good then reached left blocks self.new.first_bytes self.new.previous self.new.entries.items else None)) }
+        ensures refusal { IfErr result (λ e. e ≡ NoMemory) }
+    {
+        let previous = block.previous();
+        let bytes = take_entries(block, &mut self.entries)?;
+        let room = JOURNAL_ENTRY_BYTES - bytes.all;
+        let stands = self.first_bytes > room;
+        self.previous = previous;
+        self.first_bytes = bytes.first;
+        Ok(stands)
+    }
+}
+
+/// The entries of the journal blocks of an object from a head on, the oldest first. None where they are no chain of at most
+/// 47 blocks, and where the first entry of a block fits behind those of the block before.
+///
+/// NoMemory alone, where the memory for the entries is refused.
+pub(crate) fn entries_from<U: UsedBlocks>(
+    alloc: Global,
+    used: &U,
+    object: ObjectId,
+    head: Option<Ptr>,
+) -> Result<Option<Vec<Entry>>, Refusal>
+    ensures exact { IfOk result (λ found. option_map (λ v. v.items) found
+        ≡ walked CHAIN_BLOCKS (journal_held (U.used used.now) object) (JOURNAL_ENTRY_BYTES + 1) head) }
+    ensures refusal { IfErr result (λ e. e ≡ NoMemory) }
+{
+    let mut walk = Walk {
+        previous: head,
+        first_bytes: JOURNAL_ENTRY_BYTES + 1,
+        entries: Vec::new(alloc),
+    };
+    let mut left = CHAIN_BLOCKS;
+    while let Some(place) = walk.previous {
+        if left == 0 {
+            return Ok(None);
+        }
+        let Some(block) = read_journal(used, object, place) else {
+            return Ok(None);
+        };
+        if !walk.take(block)? {
+            return Ok(None);
+        }
+        left -= 1;
+    }
+    let mut entries = walk.entries;
+    entries.reverse();
+    Ok(Some(entries))
+}
