@@ -58,16 +58,16 @@ ascends e h =
     let g = and_parts (changes_now e) last f.1 in
     (and_parts (differs e.pair) (ascend_from 0 e.triples) g.1).1
 
-ascend_parts : (low : ℕ) (t : Triple) (triples : List Triple) → ascend_from low (t ∷ triples) ≡ true → ((leb low t.index && (ltb t.index 48 && not (same_slot t.before t.after))) ≡ true) × (ascend_from (t.index + 1) triples ≡ true)
+ascend_parts : (low : ℕ) (t : Triple) (triples : List Triple) → ascend_from low (t ∷ triples) ≡ true → ((leb low t.index && (ltb t.index OBJECT_BLOCKS && not (same_slot t.before t.after))) ≡ true) × (ascend_from (t.index + 1) triples ≡ true)
 unfolding ascend_from
-ascend_parts low t triples h = and_parts (leb low t.index && (ltb t.index 48 && not (same_slot t.before t.after))) (ascend_from (t.index + 1) triples) h
+ascend_parts low t triples h = and_parts (leb low t.index && (ltb t.index OBJECT_BLOCKS && not (same_slot t.before t.after))) (ascend_from (t.index + 1) triples) h
 
-low_all : (low : ℕ) (triples : List Triple) → ascend_from low triples ≡ true → AllByRecursion (λ t. t.index < 48) triples
+low_all : (low : ℕ) (triples : List Triple) → ascend_from low triples ≡ true → AllByRecursion (λ t. t.index < OBJECT_BLOCKS) triples
 low_all low [] h = tt
 low_all low (t ∷ triples) h =
     let parts = ascend_parts low t triples h in
-    let tests = and_parts (leb low t.index) (ltb t.index 48 && not (same_slot t.before t.after)) parts.0 in
-    (ltb-true t.index 48 (and_parts (ltb t.index 48) (not (same_slot t.before t.after)) tests.1).0, low_all (t.index + 1) triples parts.1)
+    let tests = and_parts (leb low t.index) (ltb t.index OBJECT_BLOCKS && not (same_slot t.before t.after)) parts.0 in
+    (ltb-true t.index OBJECT_BLOCKS (and_parts (ltb t.index OBJECT_BLOCKS) (not (same_slot t.before t.after)) tests.1).0, low_all (t.index + 1) triples parts.1)
 
 pub are_low : (e : EntryFields) → entry_rules e ≡ true → All (λ t. t.index < OBJECT_BLOCKS) e.triples
 are_low e h = All-from_recursion (λ t. t.index < OBJECT_BLOCKS) e.triples (low_all 0 e.triples (ascends e h))
@@ -79,7 +79,7 @@ untold : (low n : ℕ) (triples : List Triple) (p : Option Place) → ascend_fro
 untold low n [] p h lt = refl
 untold low n (t ∷ triples) p h lt =
     let parts = ascend_parts low t triples h in
-    let least : low ≤ t.index = leb-true low t.index (and_parts (leb low t.index) (ltb t.index 48 && not (same_slot t.before t.after)) parts.0).0 in
+    let least : low ≤ t.index = leb-true low t.index (and_parts (leb low t.index) (ltb t.index OBJECT_BLOCKS && not (same_slot t.before t.after)) parts.0).0 in
     let other : (t.index == n) ≡ false = ne_eqb t.index n (λ (is : t.index ≡ n). absurd (omega (arith, least, lt, is))) in
     ap (λ b. pointer_before triples n (cond b t.before p)) other ∙ untold (t.index + 1) n triples p parts.1 (omega (arith, least, lt))
 
@@ -94,17 +94,17 @@ told_before i (t ∷ triples) n h =
       | inr ne ↦ ap (λ b. pointer_before triples n (cond b t.before (pointer_at i n))) ne ∙ told_before i triples n parts.1
     ]
 
-pub are_told : (i : Inode) (low : ℕ) (triples : List Triple) → ascend_from low triples ≡ true → ((n : ℕ) → n < 48 → pointer_at i n ≡ pointer_before triples n (pointer_at i n)) → list_all (is_earlier i) triples ≡ true
+pub are_told : (i : Inode) (low : ℕ) (triples : List Triple) → ascend_from low triples ≡ true → ((n : ℕ) → n < OBJECT_BLOCKS → pointer_at i n ≡ pointer_before triples n (pointer_at i n)) → list_all (is_earlier i) triples ≡ true
 are_told i low [] h all = refl
 are_told i low (t ∷ triples) h all =
     let parts = ascend_parts low t triples h in
-    let tests = and_parts (leb low t.index) (ltb t.index 48 && not (same_slot t.before t.after)) parts.0 in
-    let below : t.index < 48 = ltb-true t.index 48 (and_parts (ltb t.index 48) (not (same_slot t.before t.after)) tests.1).0 in
+    let tests = and_parts (leb low t.index) (ltb t.index OBJECT_BLOCKS && not (same_slot t.before t.after)) parts.0 in
+    let below : t.index < OBJECT_BLOCKS = ltb-true t.index OBJECT_BLOCKS (and_parts (ltb t.index OBJECT_BLOCKS) (not (same_slot t.before t.after)) tests.1).0 in
     let here : pointer_at i t.index ≡ t.before =
     all t.index below
     ∙ ap (λ b. pointer_before triples t.index (cond b t.before (pointer_at i t.index))) (eq-eqb t.index t.index refl)
     ∙ untold (t.index + 1) t.index triples t.before parts.1 (omega arith) in
-    let others : (n : ℕ) → n < 48 → pointer_at i n ≡ pointer_before triples n (pointer_at i n) = λ n lt. elim (cases_Bool (t.index == n)) [
+    let others : (n : ℕ) → n < OBJECT_BLOCKS → pointer_at i n ≡ pointer_before triples n (pointer_at i n) = λ n lt. elim (cases_Bool (t.index == n)) [
       | inl is ↦ (let same : t.index ≡ n = eqb-true t.index n is in sym (untold (t.index + 1) n triples (pointer_at i n) parts.1 (omega (arith, same))))
       | inr ne ↦ all n lt ∙ ap (λ b. pointer_before triples n (cond b t.before (pointer_at i n))) ne
     ] in

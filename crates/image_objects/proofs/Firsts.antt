@@ -2,7 +2,6 @@
 use Rattle.std.proofs.Common.{◌≡◌, ℕ, ◌+◌, List, [], ◌∷◌, ◌++◌, reverse, refl, sym, ap, ◌∙◌, append_assoc, arith}
 use Rattle.std.proofs.lemmas.List.{reverse-append}
 use Rattle.codec.specs.Entry.{EntryFields, entry_length, entries_length}
-use Rattle.journal_chain.specs.Packing.{first_length}
 use Rattle.image_objects.proofs.Bytes.{bytes_none, bytes_push}
 
 -- the bytes of the first entry, or the number given where there is none
@@ -13,10 +12,6 @@ first_or (e ∷ entries) size = entry_length e
 pub first_given : (entries : List EntryFields) (e : EntryFields) (size : ℕ) → first_or entries (entry_length e) ≡ first_or (entries ++ e ∷ []) size
 first_given [] e size = refl
 first_given (x ∷ entries) e size = refl
-
-pub first_at_start : (entries : List EntryFields) → first_or entries 0 ≡ first_length entries
-first_at_start [] = refl
-first_at_start (e ∷ entries) = refl
 
 -- ---- one entry was given, and is kept before those that were given earlier
 

@@ -1,10 +1,10 @@
 -- What a walk and the tests of its entries say of a row's chain.
-use Rattle.std.proofs.Common.{◌≡◌, ℕ, ◌≤◌, ◌&&◌, true, false, leb, List, [], ◌∷◌, Option, Some, None, map, IsSome, is_some, unwrap_or, option_map, refl, sym, ap, ◌∙◌, subst, arith}
+use Rattle.std.proofs.Common.{◌≡◌, ℕ, ◌+◌, ◌≤◌, ◌&&◌, true, false, leb, List, [], ◌∷◌, Option, Some, None, map, IsSome, is_some, unwrap_or, option_map, refl, sym, ap, ◌∙◌, subst, arith}
 use Rattle.std.specs.List.{AllByRecursion, list_all}
 use Rattle.std.proofs.lemmas.Bool.{both_ways, false≢true, and_parts, and_from, leb-true, le-leb}
 use Rattle.std.proofs.lemmas.Option.{none-some, cond_some}
 use Rattle.s4_types.specs.Pointer.{Place}
-use Rattle.s4_types.specs.declared.limits.TheConstants.{CHAIN_BLOCKS, CHAIN_ENTRY_BYTES}
+use Rattle.s4_types.specs.declared.limits.TheConstants.{CHAIN_BLOCKS, CHAIN_ENTRY_BYTES, JOURNAL_ENTRY_BYTES}
 use Rattle.block_log.specs.Log.{Stored, of_kind}
 use Rattle.block_log.specs.declared.kinds.BlockKind.TheVariants.{Journal}
 use Rattle.codec.specs.Fields.{◌>>=◌, kept}
@@ -21,7 +21,7 @@ use Rattle.image_objects.proofs.Walking.{Found, NoRoom, found, walked_since}
 
 -- the walk of a row's whole chain
 abbrev pub WalkOf : (Place → Option Stored) → ImageRow → Option (List EntryFields)
-WalkOf used row = walked CHAIN_BLOCKS (journal_held used row.object) 489 row.head
+WalkOf used row = walked CHAIN_BLOCKS (journal_held used row.object) (JOURNAL_ENTRY_BYTES + 1) row.head
 
 -- ---- what an answer is
 
@@ -52,7 +52,7 @@ links_found : (used : Place → Option Stored) (row : ImageRow) (items : List En
     → (links : List Link) × ((chain_links (of_kind Journal row.object used) row.object row.head ≡ Some links) × (KeepsTheRule (blocks_of links) × (items ≡ joined (blocks_of links))))
 unfolding chain_links
 links_found used row items walk =
-    let f : Found CHAIN_BLOCKS 489 (journal_held used row.object) row.head items = found CHAIN_BLOCKS 489 (journal_held used row.object) row.head items walk in
+    let f : Found CHAIN_BLOCKS (JOURNAL_ENTRY_BYTES + 1) (journal_held used row.object) row.head items = found CHAIN_BLOCKS (JOURNAL_ENTRY_BYTES + 1) (journal_held used row.object) row.head items walk in
     (f.links, (f.walk, (f.rule, f.entries_are)))
 
 pub items_are : (used : Place → Option Stored) (row : ImageRow) (items : List EntryFields) → WalkOf used row ≡ Some items → items ≡ entries_used used row
@@ -107,7 +107,7 @@ pub some_links : (o : Option (List Link)) → IsSome o → (links : List Link) �
 some_links None h = absurd (false≢true h)
 some_links (Some links) h = (links, refl)
 
-any_room : (blocks : List (List EntryFields)) → NoRoom 489 blocks
+any_room : (blocks : List (List EntryFields)) → NoRoom (JOURNAL_ENTRY_BYTES + 1) blocks
 any_room [] = tt
 any_room (newest ∷ older) = omega arith
 
@@ -117,13 +117,10 @@ walk_is used row clock s =
     let (links, there) = some_links (chain_links (of_kind Journal row.object used) row.object row.head) s.walk in
     let t : Told used row links = told used row links there in
     let rule : KeepsTheRule (blocks_of links) = subst (λ (b : List (List EntryFields)). KeepsTheRule b) t.blocks s.packing in
-    walked_since CHAIN_BLOCKS 489 (journal_held used row.object) row.head links there (any_room (blocks_of links)) rule ∙ ap Some (sym t.entries)
+    walked_since CHAIN_BLOCKS (JOURNAL_ENTRY_BYTES + 1) (journal_held used row.object) row.head links there (any_room (blocks_of links)) rule ∙ ap Some (sym t.entries)
 
 pub no_walk : (used : Place → Option Stored) (row : ImageRow) (clock : ℕ) → WalkOf used row ≡ None → ChainStands used row clock → ⊥
 no_walk used row clock none s = none-some (entries_used used row) (sym none ∙ walk_is used row clock s)
-
-pub same_items : (used : Place → Option Stored) (row : ImageRow) (clock : ℕ) (items : List EntryFields) → WalkOf used row ≡ Some items → ChainStands used row clock → items ≡ entries_used used row
-same_items used row clock items walk s = items_are used row items walk
 
 pub too_many_bytes : (used : Place → Option Stored) (row : ImageRow) (clock : ℕ) (items : List EntryFields) → WalkOf used row ≡ Some items → None ≡ kept (leb (entries_length items) CHAIN_ENTRY_BYTES) (entries_length items) → ChainStands used row clock → ⊥
 too_many_bytes used row clock items walk none s =

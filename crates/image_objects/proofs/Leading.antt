@@ -30,10 +30,6 @@ history_stands used row clock entries first chain is beginning made run order =
       order = subst (λ (i : Inode). IsOrderlyChain row.created clock i (entries_used used row)) same (subst (λ (es : List EntryFields). IsOrderlyChain row.created clock first es) is order);
     }
 
-pub present_is : (used : Place → Option Stored) (row : ImageRow) (entries : List EntryFields) (first present : Inode) → entries ≡ entries_used used row → first ≡ first_before used row entries → present ≡ redone_all entries first → present ≡ present_used used row
-present_is used row entries first present is made redone =
-    redone ∙ ap (λ (es : List EntryFields). redone_all es first) is ∙ ap (redone_all (entries_used used row)) (first_is used row entries first is made)
-
 pub no_beginning : (used : Place → Option Stored) (row : ImageRow) (clock : ℕ) (entries : List EntryFields) → entries ≡ entries_used used row → (BeginningStands used row clock entries → ⊥) → HistoryStands used row clock → ⊥
 no_beginning used row clock entries is never h = never (subst (λ (es : List EntryFields). BeginningStands used row clock es) (sym is) h.beginning)
 

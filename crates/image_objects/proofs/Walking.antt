@@ -36,22 +36,22 @@ parts_of_rules j h =
 pub rules_fit : (j : JournalFields) → journal_rules j ≡ true → entries_length j.entries ≤ JOURNAL_ENTRY_BYTES
 rules_fit j h = leb-true (entries_length j.entries) JOURNAL_ENTRY_BYTES (parts_of_rules j h).1
 
-same_test : (all size : ℕ) → all ≤ 488 → ltb 488 (all + size) ≡ ltb (488 - all) size
-same_test all size le = elim (cases_Bool (ltb (488 - all) size)) [
-  | inl more ↦ (let lt : 488 - all < size = ltb-true (488 - all) size more in
-      lt-ltb 488 (all + size) (omega arith) ∙ sym more)
-  | inr fits ↦ (let few : size ≤ 488 - all = ltb-false (488 - all) size fits in
-      le-ltb 488 (all + size) (omega arith) ∙ sym fits)
+same_test : (all size : ℕ) → all ≤ JOURNAL_ENTRY_BYTES → ltb JOURNAL_ENTRY_BYTES (all + size) ≡ ltb (JOURNAL_ENTRY_BYTES - all) size
+same_test all size le = elim (cases_Bool (ltb (JOURNAL_ENTRY_BYTES - all) size)) [
+  | inl more ↦ (let lt : JOURNAL_ENTRY_BYTES - all < size = ltb-true (JOURNAL_ENTRY_BYTES - all) size more in
+      lt-ltb JOURNAL_ENTRY_BYTES (all + size) (omega arith) ∙ sym more)
+  | inr fits ↦ (let few : size ≤ JOURNAL_ENTRY_BYTES - all = ltb-false (JOURNAL_ENTRY_BYTES - all) size fits in
+      le-ltb JOURNAL_ENTRY_BYTES (all + size) (omega arith) ∙ sym fits)
 ]
 
-stands_is : (size : ℕ) (j : JournalFields) → journal_rules j ≡ true → stands_before size j.entries ≡ ltb (488 - entries_length j.entries) size
+stands_is : (size : ℕ) (j : JournalFields) → journal_rules j ≡ true → stands_before size j.entries ≡ ltb (JOURNAL_ENTRY_BYTES - entries_length j.entries) size
 unfolding stands_before
 stands_is size j rules =
     let some : 1 ≤ length j.entries = leb-true 1 (length j.entries) (parts_of_rules j rules).0 in
-    let fit : entries_length j.entries ≤ 488 = rules_fit j rules in
-    let test = ltb 488 (entries_length j.entries + size) in
-    ap (λ b. b && (leb (entries_length j.entries) 488 && test)) (lt-ltb 0 (length j.entries) (omega (arith, some)))
-    ∙ ap (λ b. b && test) (le-leb (entries_length j.entries) 488 fit)
+    let fit : entries_length j.entries ≤ JOURNAL_ENTRY_BYTES = rules_fit j rules in
+    let test = ltb JOURNAL_ENTRY_BYTES (entries_length j.entries + size) in
+    ap (λ b. b && (leb (entries_length j.entries) JOURNAL_ENTRY_BYTES && test)) (lt-ltb 0 (length j.entries) (omega (arith, some)))
+    ∙ ap (λ b. b && test) (le-leb (entries_length j.entries) JOURNAL_ENTRY_BYTES fit)
     ∙ same_test (entries_length j.entries) size fit
 
 -- ---- one block more
@@ -75,14 +75,14 @@ one_more left size blocks p j entries later false here stands is =
 -- what taking a block makes of a walk
 pub goes : (left size all first : ℕ) (blocks : Place → Option JournalFields) (p : Place) (j : JournalFields) (previous before : Option Place) (entries later : List EntryFields)
     → journal_rules j ≡ true → before ≡ Some p → blocks p ≡ Some j → all ≡ entries_length j.entries → first ≡ first_length j.entries → previous ≡ j.previous → reverse later ≡ j.entries ++ reverse entries
-    → reached (left + 1) blocks size before entries ≡ cond (ltb (488 - all) size) (reached left blocks first previous later) None
+    → reached (left + 1) blocks size before entries ≡ cond (ltb (JOURNAL_ENTRY_BYTES - all) size) (reached left blocks first previous later) None
 goes left size all first blocks p j previous before entries later rules from here all_is first_is previous_is is =
     ap (λ n. reached n blocks size before entries) (add-one left)
     ∙ ap (λ (q : Option Place). reached (suc left) blocks size q entries) from
-    ∙ one_more left size blocks p j entries later (ltb (488 - entries_length j.entries) size) here (stands_is size j rules) is
-    ∙ ap (λ n. cond (ltb (488 - n) size) (reached left blocks (first_length j.entries) j.previous later) None) (sym all_is)
-    ∙ ap (λ n. cond (ltb (488 - all) size) (reached left blocks n j.previous later) None) (sym first_is)
-    ∙ ap (λ (q : Option Place). cond (ltb (488 - all) size) (reached left blocks first q later) None) (sym previous_is)
+    ∙ one_more left size blocks p j entries later (ltb (JOURNAL_ENTRY_BYTES - entries_length j.entries) size) here (stands_is size j rules) is
+    ∙ ap (λ n. cond (ltb (JOURNAL_ENTRY_BYTES - n) size) (reached left blocks (first_length j.entries) j.previous later) None) (sym all_is)
+    ∙ ap (λ n. cond (ltb (JOURNAL_ENTRY_BYTES - all) size) (reached left blocks n j.previous later) None) (sym first_is)
+    ∙ ap (λ (q : Option Place). cond (ltb (JOURNAL_ENTRY_BYTES - all) size) (reached left blocks first q later) None) (sym previous_is)
 
 -- ---- the beginning and the ends
 
@@ -132,7 +132,7 @@ on_bad left good at next whole is step falls before = sym (step ∙ ap (λ b. co
 -- an entry of so many bytes doesn't fit behind the newest of the blocks
 abbrev pub NoRoom : ℕ → List (List EntryFields) → Type 0
 NoRoom size [] = Unit {0}
-NoRoom size (newest ∷ older) = 488 < entries_length newest + size
+NoRoom size (newest ∷ older) = JOURNAL_ENTRY_BYTES < entries_length newest + size
 
 is_behind : (block : List EntryFields) (older : List (List EntryFields)) → NoRoom (first_length block) older → IsBehind older block
 is_behind block [] h = tt
@@ -153,23 +153,23 @@ pub record Found (left size : ℕ) (blocks : Place → Option JournalFields) (fr
 -- what a block's test says
 record Tested (size : ℕ) (entries : List EntryFields) : Type 0 where
   is : IsBlock entries
-  behind : 488 < entries_length entries + size
+  behind : JOURNAL_ENTRY_BYTES < entries_length entries + size
 
 tested : (size : ℕ) (entries : List EntryFields) → stands_before size entries ≡ true → Tested size entries
 unfolding stands_before
 tested size entries h =
-    let first = and_parts (ltb 0 (length entries)) (leb (entries_length entries) 488 && ltb 488 (entries_length entries + size)) h in
-    let second = and_parts (leb (entries_length entries) 488) (ltb 488 (entries_length entries + size)) first.1 in
+    let first = and_parts (ltb 0 (length entries)) (leb (entries_length entries) JOURNAL_ENTRY_BYTES && ltb JOURNAL_ENTRY_BYTES (entries_length entries + size)) h in
+    let second = and_parts (leb (entries_length entries) JOURNAL_ENTRY_BYTES) (ltb JOURNAL_ENTRY_BYTES (entries_length entries + size)) first.1 in
     record {
-      is = record { some = ltb-true 0 (length entries) first.0; few = leb-true (entries_length entries) 488 second.0 };
-      behind = ltb-true 488 (entries_length entries + size) second.1;
+      is = record { some = ltb-true 0 (length entries) first.0; few = leb-true (entries_length entries) JOURNAL_ENTRY_BYTES second.0 };
+      behind = ltb-true JOURNAL_ENTRY_BYTES (entries_length entries + size) second.1;
     }
 
-stands_since : (size : ℕ) (entries : List EntryFields) → IsBlock entries → 488 < entries_length entries + size → stands_before size entries ≡ true
+stands_since : (size : ℕ) (entries : List EntryFields) → IsBlock entries → JOURNAL_ENTRY_BYTES < entries_length entries + size → stands_before size entries ≡ true
 unfolding stands_before
 stands_since size entries is behind =
-    and_from (ltb 0 (length entries)) (leb (entries_length entries) 488 && ltb 488 (entries_length entries + size)) (lt-ltb 0 (length entries) is.some)
-    (and_from (leb (entries_length entries) 488) (ltb 488 (entries_length entries + size)) (le-leb (entries_length entries) 488 is.few) (lt-ltb 488 (entries_length entries + size) behind))
+    and_from (ltb 0 (length entries)) (leb (entries_length entries) JOURNAL_ENTRY_BYTES && ltb JOURNAL_ENTRY_BYTES (entries_length entries + size)) (lt-ltb 0 (length entries) is.some)
+    (and_from (leb (entries_length entries) JOURNAL_ENTRY_BYTES) (ltb JOURNAL_ENTRY_BYTES (entries_length entries + size)) (le-leb (entries_length entries) JOURNAL_ENTRY_BYTES is.few) (lt-ltb JOURNAL_ENTRY_BYTES (entries_length entries + size) behind))
 
 pub found : (left size : ℕ) (blocks : Place → Option JournalFields) (from : Option Place) (entries : List EntryFields) → walked left blocks size from ≡ Some entries → Found left size blocks from entries
 unfolding walked links_from joined
@@ -202,7 +202,7 @@ walked_since (suc left) size blocks (Some p) links h room rule =
     let (b, (here, on)) = bind_some (blocks p) (λ b. links_from left blocks b.previous >>= λ older. Some (linked p b older)) links h in
     let (older, (walk, made)) = bind_some (links_from left blocks b.previous) (λ older. Some (linked p b older)) links on in
     let same : linked p b older ≡ links = same_Some (linked p b older) links made in
-    let behind : 488 < entries_length b.entries + size = subst (λ (l : List Link). NoRoom size (blocks_of l)) (sym same) room in
+    let behind : JOURNAL_ENTRY_BYTES < entries_length b.entries + size = subst (λ (l : List Link). NoRoom size (blocks_of l)) (sym same) room in
     let keeps : KeepsTheRule (b.entries ∷ blocks_of older) = subst (λ (l : List Link). KeepsTheRule (blocks_of l)) (sym same) rule in
     bind_is (blocks p) (OnFrom left blocks size) b here
     ∙ ap (λ t. kept t b.entries >>= λ xs. walked left blocks (first_length xs) b.previous >>= λ others. Some (others ++ xs)) (stands_since size b.entries keeps.0 behind)

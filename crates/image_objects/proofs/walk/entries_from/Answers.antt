@@ -1,11 +1,12 @@
-use Rattle.std.proofs.Common.{◌≡◌, ◌-◌, Some, None, sym, ap, ◌∙◌, rules, arith}
+use Rattle.std.proofs.Common.{◌≡◌, ◌+◌, ◌-◌, Some, None, sym, ap, ◌∙◌, rules, arith}
+use Rattle.s4_types.specs.declared.limits.TheConstants.{CHAIN_BLOCKS, JOURNAL_ENTRY_BYTES}
 use Rattle.journal_chain.specs.Chain.{journal_held}
 use Rattle.image_objects.specs.private.Walked.{reached}
 use Rattle.image_objects.proofs.Walking.{begins, arrives, too_long, breaks, on_good, on_bad}
 use Rattle.image_objects.proofs.walk.entries_from.Goals as goal
 
 pub loop-walk-init : goal.loop-walk-init
-loop-walk-init g c = begins 47 489 (journal_held (g.U.UsedBlocks.used c.args.used.now) c.args.object) c.args.head c.new.result.items c.new.ensures.items
+loop-walk-init g c = begins CHAIN_BLOCKS (JOURNAL_ENTRY_BYTES + 1) (journal_held (g.U.UsedBlocks.used c.args.used.now) c.args.object) c.args.head c.new.result.items c.new.ensures.items
 
 pub returns-then-left-eq0-clause-exact : goal.returns-then-left-eq0-clause-exact
 returns-then-left-eq0-clause-exact g c =

@@ -1,4 +1,5 @@
 use Rattle.std.proofs.Common.{◌≤◌, arith}
+use Rattle.s4_types.specs.declared.limits.TheConstants.{JOURNAL_ENTRY_BYTES}
 use Rattle.codec.specs.Entry.{entries_length}
 use Rattle.image_objects.proofs.Walking.{rules_fit, goes}
 use Rattle.image_objects.proofs.walk.Walk.take.Goals as goal
@@ -8,7 +9,7 @@ take_entries-requires c = rules_fit c.args.block c.requires
 
 pub overflow_sub-room : goal.overflow_sub-room
 overflow_sub-room c =
-    let fit : entries_length c.args.block.entries ≤ 488 = rules_fit c.args.block c.requires in
+    let fit : entries_length c.args.block.entries ≤ JOURNAL_ENTRY_BYTES = rules_fit c.args.block c.requires in
     omega (arith, fit, c.in_ok-bytes.ensures.all)
 
 pub returns-clause-goes : goal.returns-clause-goes
