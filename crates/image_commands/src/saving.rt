@@ -1,6 +1,7 @@
 //! Drives that are written to files, and `new`.
-ghost use Rattle.std.specs.Prelude.{◌≡◌};
+ghost use Rattle.std.specs.Prelude.{◌≡◌, ◌+◌, ◌*◌};
 ghost use Rattle.s4_types.specs.Sizes.{IsFrameCount};
+ghost use Rattle.s4_types.specs.declared.limits.TheConstants.{PAYLOAD_BLOCKS, RUNS_IN_ALL};
 ghost use Rattle.s4_model.specs.State.{new_base};
 
 use crate::faults::{Fault, writing};
@@ -103,8 +104,11 @@ impl<'a, F: Files> Place<'a, F> {
     }
 }
 
-/// How many bytes the longest image of so many frames has.
-pub fn longest_image(frames: u16) -> usize {
+/// How many bytes the longest image of so many frames has: all are used, each block of payload is a row's own, and there are as many
+/// runs of hidden moments as a drive may have.
+pub fn longest_image(frames: u16) -> usize
+    ensures { result ≡ 512 + 8 * frames + 8192 * frames + 40 * (frames * PAYLOAD_BLOCKS) + 24 * RUNS_IN_ALL + 32 }
+{
     let rows = u32::from(frames) * PAYLOAD_BLOCKS as u32;
     image_length(frames, frames, rows, RUNS_IN_ALL as u32)
 }

@@ -136,7 +136,7 @@ fn are_apart<'a, F: Files>(
         let output = session.output;
         let is_taken = is_same(files, image, output)?
             || is_one_read(files, sessions, output)?
-            || is_one_written(files, &sessions[..number], output)?;
+            || is_one_written(files, sessions, number, output)?;
         if is_taken {
             return Err(Fault::CannotWrite(output));
         }
@@ -158,13 +158,14 @@ fn is_one_read<'a, F: Files>(
     Ok(false)
 }
 
-// Whether an output is one of the files that these sessions write.
+// Whether an output is one of the files that so many sessions write, the first ones.
 fn is_one_written<'a, F: Files>(
     files: &F,
     sessions: &[RunSession<'a>],
+    count: usize,
     output: &'a str,
 ) -> Result<bool, Fault<'a>> {
-    for session in sessions {
+    for session in sessions.iter().take(count) {
         if is_same(files, session.output, output)? {
             return Ok(true);
         }
