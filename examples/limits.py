@@ -5,7 +5,8 @@ stack and of address space.
 From where the program can be loaded at all to where all is answered: each run ends with status 0, or with status 1
 and one line on standard error. What it wrote is a beginning of the full output, or differs from it first by a reply
 that tells want of memory; from there on each reply is of the kind of the full one's, or a refusal. No run is ended by
-a signal. Ends with status 1 where anything else is seen.
+a signal. Then `new`, `verify`, `at` and `run` of an image are run under ever higher limits of stack: each run ends with status 0,
+or with status 1 and one line. Ends with status 1 where anything else is seen.
 
     limits.py [FILE.hex [PROGRAM]]    first_requests.hex beside this file and crates/s4d/out/s4d where they aren't given;
                                       a program that isn't there is built by `rt run`
@@ -13,11 +14,13 @@ a signal. Ends with status 1 where anything else is seen.
 import os
 import subprocess
 import sys
+import tempfile
 
 HERE = os.path.dirname(os.path.abspath(__file__))
 CRATE = os.path.join(HERE, "..", "crates", "s4d")
 STACK_STEP = 2  # in KiB, as all limits here
 STACK_MOST = 1024
+COMMANDS_STEP = 16
 STACK_CHANCE = 16  # the system begins each program's stack at a place of its own choice within 8 KiB, in whole pages
 SPACE_STEP = 2
 SPACE_BEYOND = 1024  # how far to go on by small steps once all is answered
@@ -135,6 +138,29 @@ class Sweep:
             print(f"ulimit {flag}: not all is answered at {most} KiB")
 
 
+def sweep_commands(sweep):
+    """Runs the commands over files under ever higher limits of stack."""
+    limits = sweep.limits("-s", STACK_STEP, STACK_MOST, STACK_CHANCE)
+    with tempfile.TemporaryDirectory() as folder:
+        image, requests = os.path.join(folder, "image"), os.path.join(folder, "requests")
+        with open(requests, "wb") as file:
+            file.write(sweep.data)
+        lines = (["new", image, "16"], ["run", image, f"client:{requests}:/dev/null"], ["verify", image], ["at", image, "1", "1"])
+        for words in lines:
+            seen, answered = {}, None
+            for limit in range(limits[0], STACK_MOST + 1, COMMANDS_STEP):
+                status, _, errors = run(sweep.program, words, b"", "-s", limit)
+                seen[status] = seen.get(status, 0) + 1
+                answered = (answered or limit) if status == 0 else None
+                if status not in (0, 1) or (status == 1 and not is_one_line(errors)):
+                    sweep.faults += 1
+                    print(f"ulimit -s {limit}: {words[0]}: status {status}, {errors!r}")
+            print(f"{words[0]}:", end=" ")
+            sweep.tell("-s", limits, answered, seen)
+            if answered is None:
+                sweep.faults += 1
+
+
 def main():
     file = sys.argv[1] if len(sys.argv) > 1 else os.path.join(HERE, "first_requests.hex")
     program = os.path.abspath(sys.argv[2] if len(sys.argv) > 2 else os.path.join(CRATE, "out", "s4d"))
@@ -154,6 +180,7 @@ def main():
     sweep = Sweep(program, data, full)
     sweep.sweep("-s", STACK_STEP, STACK_MOST, STACK_CHANCE, STACK_MOST, STACK_STEP)
     sweep.sweep("-v", SPACE_STEP, SPACE_MOST, 0, SPACE_BEYOND, SPACE_LARGE_STEP)
+    sweep_commands(sweep)
     print(f"limits: {sweep.faults} faults")
     return 1 if sweep.faults else 0
 

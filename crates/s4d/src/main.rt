@@ -1,7 +1,7 @@
 //! The program `s4d`: a self-securing object drive behind a pipe, or in a file.
 //!
 //! `perform` does what a line of words asks for, over any files, reader and writers, and `main` calls it with the
-//! system's files and the standard streams; of `pipe` on a thread whose stack is had before anything is read. What its session
+//! system's files and the standard streams, on a thread whose stack is had before anything is read. What the session of `pipe`
 //! reads, answers and writes is proved, and what the status says of it. What a file holds is known to no proof. Of the other
 //! commands it is proved what line `verify` writes of an image that was verified, that each part that `at` writes was read of the
 //! drive's past, that each session of `run` was attended, and that what it saves is a drive that began with what was opened. That
@@ -19,10 +19,10 @@ mod piping;
 mod running;
 mod session_thread;
 
-use performing::{fail, perform, refuse};
+use performing::{fail, refuse};
 use s4d_command::CommandError;
 use serving::{ReadSource, WriteSink};
-use session_thread::pipe_apart;
+use session_thread::perform_apart;
 use std::fs::OpenOptions;
 use std::io;
 use std::os::fd::{AsRawFd, IntoRawFd};
@@ -64,52 +64,24 @@ fn hold_standard_streams(rt: &HostRuntime) -> io::Result<()> {
 }
 
 // What the line came to that the program was called with: 0 only where it is done, and a session of `pipe` was served to its end.
-fn exit_of<H: Threads + Wait + Clock + Sync>(threads: &H, rt: &HostRuntime) -> ExitCode
+fn exit_of<H: Threads + Wait + Clock + Copy + Send + Sync + Drop + 'static>(
+    threads: &H,
+    rt: &HostRuntime,
+) -> ExitCode
     ensures status { exit_status result ≤ 2 }
     ensures done { exit_status result ≡ 0 → (words : List Text) × (input : Option (List ℕ)) × (output : Option (List ℕ))
         × (input' : Option (List ℕ)) × (output' : Option (List ℕ)) × IsDone words input output input' output' }
 {
-    let alloc = rt.alloc();
     let words = match words_of(rt) {
         Ok(words) => words,
         Err(error) => return ExitCode::from(tell(rt, error.kind())),
     };
     let reader = ReadSource::new(rt.stdin());
     let writer = WriteSink::new(rt.stdout());
-    let run = match pipe_apart(threads, alloc, words, reader, writer, rt.stderr()) {
-        Ok(run) => run,
-        Err(_) => return ExitCode::from(fail(&mut rt.stderr(), CommandError::NoMemory)),
-    };
-    match run.status {
-        Some(status) => ExitCode::from(status),
-        None => ExitCode::from(perform_here(threads, rt, run.words.as_slice())),
+    match perform_apart(threads, *rt, words, reader, writer, rt.stderr()) {
+        Ok(run) => ExitCode::from(run.status),
+        Err(_) => ExitCode::from(fail(&mut rt.stderr(), CommandError::NoMemory)),
     }
-}
-
-// Does what the words ask for over the system's files and the standard streams, on this thread.
-fn perform_here<H: Threads + Wait + Clock + Sync>(
-    threads: &H,
-    rt: &HostRuntime,
-    words: &[String],
-) -> u8
-    ensures status { result ≤ 2 }
-    ensures done { result ≡ 0 → (said : List Text) × (input : Option (List ℕ)) × (output : Option (List ℕ))
-        × (input' : Option (List ℕ)) × (output' : Option (List ℕ)) × IsDone said input output input' output' }
-{
-    let alloc = rt.alloc();
-    let mut files = *rt;
-    let mut reader = ReadSource::new(rt.stdin());
-    let mut writer = WriteSink::new(rt.stdout());
-    let mut errors = rt.stderr();
-    perform(
-        threads,
-        alloc,
-        &mut files,
-        words,
-        &mut reader,
-        &mut writer,
-        &mut errors,
-    )
 }
 
 // Says why the line couldn't be had: for want of memory, or as words that are no text.

@@ -58,31 +58,6 @@ pub fn perform<T: Threads + Wait + Clock + Sync, F: Files, S: AsStr, R: Source, 
     }
 }
 
-/// Does what the words ask for where that is a session of a new drive, as [`perform`] does, and says why where they spell no
-/// command. None where they spell another command: then nothing was read or written.
-pub fn perform_pipe<S: AsStr, R: Source, W: Sink, E: Write>(
-    alloc: Global,
-    words: &[S],
-    reader: &mut R,
-    writer: &mut W,
-    errors: &mut E,
-) -> Option<u8>
-    requires reader { R.failures reader.old + 1 < 2 ^ 64 }
-    requires writer { W.failures writer.old + 1 < 2 ^ 64 }
-    ensures status { IfSome result (λ status. status ≤ 2) }
-    ensures done { result ≡ Some 0 → IsDone (map S.text words.now)
-        (R.remaining reader.old) (W.passed writer.old)
-        (R.remaining reader.new) (W.passed writer.new) }
-    ensures usage { result ≡ Some 2 → IsUsage (map S.text words.now) }
-{
-    match command_of(alloc, words) {
-        Ok(Command::Pipe(pipe)) => Some(perform_session(alloc, pipe, reader, writer, errors)),
-        Err(CommandError::NoMemory) => Some(fail(errors, CommandError::NoMemory)),
-        Err(CommandError::Usage) => Some(refuse(errors)),
-        Ok(_) => None,
-    }
-}
-
 // Serves a session of a new drive.
 fn perform_session<R: Source, W: Sink, E: Write>(
     alloc: Global,

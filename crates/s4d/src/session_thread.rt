@@ -1,24 +1,25 @@
-//! A session of `pipe` on a thread of its own, so that its stack is had before anything is read.
-ghost use Rattle.std.specs.Prelude.{◌≡◌, ◌+◌, ◌^◌, ◌<◌, ◌≤◌, map, Some, IfSome, IfOk};
+//! What the program's line asks for, on a thread of its own, so that its stack is had before anything is read.
+ghost use Rattle.std.specs.Prelude.{◌≡◌, ◌+◌, ◌^◌, ◌<◌, ◌≤◌, map, IfOk};
 ghost use Rattle.s4d.specs.Performing.{IsDone, IsUsage};
 
-use crate::performing::perform_pipe;
+use crate::performing::perform;
 use serving::{Sink, Source};
-use std::alloc::{AllocError, Global};
+use std::alloc::AllocError;
 use std::convert::AsStr;
 use std::io::Write;
 use std::marker::Send;
 use std::snapshot::Snapshot;
+use std::sync::Wait;
 use std::thread::{Builder, Promise, Threads};
+use std::time::Clock;
 
-/// How many bytes of stack a session has: several times what the deepest call takes.
+/// How many bytes of stack a run has: several times what the deepest call takes.
 const STACK_BYTES: usize = 1 << 20;
 
-/// A run that is over: its status, or none where the words spell another command than `pipe`, the words, and the streams as it left them.
+/// A run that is over: its status, and the streams as it left them.
 #[derive(Drop)]
-pub struct Ran<S, R, W> {
-    pub status: Option<u8>,
-    pub words: Vec<S>,
+pub struct Ran<R, W> {
+    pub status: u8,
     pub reader: R,
     pub writer: W,
 }
@@ -31,72 +32,79 @@ struct Begun<S, R, W> {
     writer: Snapshot<W>,
 }
 
-impl<S: AsStr, R: Source, W: Sink> Promise<Ran<S, R, W>> for Begun<S, R, W> {
-    ghost kept_by = { λ begun run. (IfSome run.status (λ status. status ≤ 2))
-        × (run.status ≡ Some 0 → IsDone (map S.text begun.words.value.items)
+impl<S: AsStr, R: Source, W: Sink> Promise<Ran<R, W>> for Begun<S, R, W> {
+    ghost kept_by = { λ begun run. (run.status ≤ 2)
+        × (run.status ≡ 0 → IsDone (map S.text begun.words.value.items)
         (R.remaining begun.reader.value) (W.passed begun.writer.value)
         (R.remaining run.reader) (W.passed run.writer))
-        × (run.status ≡ Some 2 → IsUsage (map S.text begun.words.value.items)) };
+        × (run.status ≡ 2 → IsUsage (map S.text begun.words.value.items)) };
 }
 
-/// Does what the words ask for, as `perform_pipe` does, on a thread with a stack of its own.
+/// Does what the words ask for, as `perform` does, on a thread with a stack of its own.
 ///
 /// AllocError where the system has no such thread or stack: nothing was read or written then.
-pub fn pipe_apart<
-    H: Threads,
+pub fn perform_apart<
+    H: Threads + Wait + Clock + Copy + Send + Sync + Drop + 'static,
     S: AsStr + Send + Drop + 'static,
     R: Source + Send + Drop + 'static,
     W: Sink + Send + Drop + 'static,
     E: Write + Send + Drop + 'static,
 >(
     threads: &H,
-    alloc: Global,
+    files: HostRuntime,
     words: Vec<S>,
     reader: R,
     writer: W,
     errors: E,
-) -> Result<Ran<S, R, W>, AllocError>
+) -> Result<Ran<R, W>, AllocError>
     requires reader { R.failures reader + 1 < 2 ^ 64 }
     requires writer { W.failures writer + 1 < 2 ^ 64 }
-    ensures status { IfOk result (λ run. IfSome run.status (λ status. status ≤ 2)) }
-    ensures done { IfOk result (λ run. run.status ≡ Some 0 → IsDone (map S.text words.items)
+    ensures status { IfOk result (λ run. run.status ≤ 2) }
+    ensures done { IfOk result (λ run. run.status ≡ 0 → IsDone (map S.text words.items)
         (R.remaining reader) (W.passed writer)
         (R.remaining run.reader) (W.passed run.writer)) }
-    ensures usage { IfOk result (λ run. run.status ≡ Some 2 → IsUsage (map S.text words.items)) }
+    ensures usage { IfOk result (λ run. run.status ≡ 2 → IsUsage (map S.text words.items)) }
 {
     let begun = Begun {
         words: Snapshot::of(&words),
         reader: Snapshot::of(&reader),
         writer: Snapshot::of(&writer),
     };
+    let own = *threads;
     let stack = Builder::new().stack_size(STACK_BYTES);
     let started = stack.spawn_with(
         threads,
         begun,
-        move || run(alloc, words, reader, writer, errors),
+        move ||
+            requires reader { R.failures reader + 1 < 2 ^ 64 }
+            requires writer { W.failures writer + 1 < 2 ^ 64 }
+        { run(own, files, words, reader, writer, errors) },
     )?;
     Ok(started.join(threads))
 }
 
-/// Does what the words ask for where that is a session, over streams of its own.
-fn run<S: AsStr + Drop, R: Source, W: Sink, E: Write + Drop>(
-    alloc: Global,
-    words: Vec<S>,
-    reader: R,
-    writer: W,
-    errors: E,
-) -> Ran<S, R, W>
+/// Does what the words ask for, over files and streams of its own.
+fn run<
+    H: Threads + Wait + Clock + Sync + Drop,
+    S: AsStr + Drop,
+    R: Source,
+    W: Sink,
+    E: Write + Drop,
+>(threads: H, files: HostRuntime, words: Vec<S>, reader: R, writer: W, errors: E) -> Ran<R, W>
     requires reader { R.failures reader + 1 < 2 ^ 64 }
     requires writer { W.failures writer + 1 < 2 ^ 64 }
-    ensures status { IfSome result.status (λ status. status ≤ 2) }
-    ensures done { result.status ≡ Some 0 → IsDone (map S.text words.items)
+    ensures status { result.status ≤ 2 }
+    ensures done { result.status ≡ 0 → IsDone (map S.text words.items)
         (R.remaining reader) (W.passed writer)
         (R.remaining result.reader) (W.passed result.writer) }
-    ensures usage { result.status ≡ Some 2 → IsUsage (map S.text words.items) }
+    ensures usage { result.status ≡ 2 → IsUsage (map S.text words.items) }
 {
-    let (mut reader, mut writer, mut errors) = (reader, writer, errors);
-    let status = perform_pipe(
+    let alloc = files.alloc();
+    let (mut files, mut reader, mut writer, mut errors) = (files, reader, writer, errors);
+    let status = perform(
+        &threads,
         alloc,
+        &mut files,
         words.as_slice(),
         &mut reader,
         &mut writer,
@@ -104,7 +112,6 @@ fn run<S: AsStr + Drop, R: Source, W: Sink, E: Write + Drop>(
     );
     Ran {
         status,
-        words,
         reader,
         writer,
     }
