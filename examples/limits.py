@@ -145,8 +145,10 @@ def sweep_commands(sweep):
         image, requests = os.path.join(folder, "image"), os.path.join(folder, "requests")
         with open(requests, "wb") as file:
             file.write(sweep.data)
-        lines = (["new", image, "16"], ["run", image, f"client:{requests}:/dev/null"], ["verify", image], ["at", image, "1", "1"])
-        for words in lines:
+        new, served = ["new", image, "16"], ["run", image, f"client:{requests}:/dev/null"]
+        for words in (new, served):
+            run(sweep.program, words, b"", None, None)
+        for words in (["verify", image], ["at", image, "1", "1"], served, new):
             seen, answered = {}, None
             for limit in range(limits[0], STACK_MOST + 1, COMMANDS_STEP):
                 status, _, errors = run(sweep.program, words, b"", "-s", limit)
