@@ -8,11 +8,10 @@
 //! the right bytes come from files and go to them is tested, and so are the texts on standard error.
 #![tactic(auto)]
 
-ghost use Rattle.std.specs.Prelude.{◌≡◌, ◌≢◌, ◌≤◌, ℕ, List, Option};
+ghost use Rattle.std.specs.Prelude.{◌≡◌, ◌≢◌, ◌+◌, ◌^◌, ◌<◌, ◌≤◌, ℕ, List, Option, map};
 ghost use Rattle.std.specs.Process.{exit_status};
-ghost use Rattle.clap.specs.Walk.{Text};
 ghost use Rattle.std.specs.declared.io.ErrorKind.TheVariants.{OutOfMemory};
-ghost use Rattle.s4d.specs.Performing.{IsDone};
+ghost use Rattle.s4d.specs.Performing.{IsDone, IsUsage};
 
 mod performing;
 mod piping;
@@ -21,8 +20,9 @@ mod session_thread;
 
 use performing::{fail, refuse};
 use s4d_command::CommandError;
-use serving::{ReadSource, WriteSink};
+use serving::{ReadSource, Sink, Source, WriteSink};
 use session_thread::perform_apart;
+use std::convert::AsStr;
 use std::fs::OpenOptions;
 use std::io;
 use std::os::fd::{AsRawFd, IntoRawFd};
@@ -43,7 +43,16 @@ const STANDARD_ERROR: i32 = 2;
 fn main(rt: HostRuntime) -> ExitCode {
     // Where the system has nothing to open, the streams stay as they are.
     let _ = hold_standard_streams(&rt);
-    exit_of(&rt, &rt)
+    match words_of(&rt) {
+        Ok(words) => exit_of(
+            &rt,
+            &rt,
+            words,
+            ReadSource::new(rt.stdin()),
+            WriteSink::new(rt.stdout()),
+        ),
+        Err(error) => ExitCode::from(tell(&rt, error.kind())),
+    }
 }
 
 // Gives the numbers of those standard streams that are closed to files that can't be used as they are: else the next file that is
@@ -63,21 +72,20 @@ fn hold_standard_streams(rt: &HostRuntime) -> io::Result<()> {
     Ok(())
 }
 
-// What the line came to that the program was called with: 0 only where it is done, and a session of `pipe` was served to its end.
-fn exit_of<H: Threads + Wait + Clock + Copy + Send + Sync + Drop + 'static>(
-    threads: &H,
-    rt: &HostRuntime,
-) -> ExitCode
+// What the line came to: 0 only where it is done, and a session of `pipe` was served to its end.
+fn exit_of<
+    H: Threads + Wait + Clock + Copy + Send + Sync + Drop + 'static,
+    S: AsStr + Send + Drop + 'static,
+    R: Source + Send + Drop + 'static,
+    W: Sink + Send + Drop + 'static,
+>(threads: &H, rt: &HostRuntime, words: Vec<S>, reader: R, writer: W) -> ExitCode
+    requires reader { R.failures reader + 1 < 2 ^ 64 }
+    requires writer { W.failures writer + 1 < 2 ^ 64 }
     ensures status { exit_status result ≤ 2 }
-    ensures done { exit_status result ≡ 0 → (words : List Text) × (input : Option (List ℕ)) × (output : Option (List ℕ))
-        × (input' : Option (List ℕ)) × (output' : Option (List ℕ)) × IsDone words input output input' output' }
+    ensures done { exit_status result ≡ 0 → (input output : Option (List ℕ))
+        × IsDone (map S.text words.items) (R.remaining reader) (W.passed writer) input output }
+    ensures usage { exit_status result ≡ 2 → IsUsage (map S.text words.items) }
 {
-    let words = match words_of(rt) {
-        Ok(words) => words,
-        Err(error) => return ExitCode::from(tell(rt, error.kind())),
-    };
-    let reader = ReadSource::new(rt.stdin());
-    let writer = WriteSink::new(rt.stdout());
     match perform_apart(threads, *rt, words, reader, writer, rt.stderr()) {
         Ok(run) => ExitCode::from(run.status),
         Err(_) => ExitCode::from(fail(&mut rt.stderr(), CommandError::NoMemory)),
