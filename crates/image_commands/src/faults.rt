@@ -1,4 +1,7 @@
 //! Why a command over files failed.
+ghost use Rattle.std.specs.Prelude.{◌≡◌};
+ghost use Rattle.std.specs.declared.io.ErrorKind.TheVariants.{OutOfMemory};
+ghost use Rattle.s4_types.specs.declared.refusals.Refusal.TheVariants.{NoMemory};
 
 use s4_types::Refusal;
 use std::io;
@@ -25,16 +28,20 @@ pub enum Fault<'a> {
 }
 
 /// The fault of a file that can't be read: NoMemory where a growth was refused.
-pub fn reading<'a>(error: io::Error, path: &'a str) -> Fault<'a> {
-    match error.kind() {
+pub fn reading<'a>(kind: io::ErrorKind, path: &'a str) -> Fault<'a>
+    ensures memory { kind ≡ OutOfMemory → result ≡ Fault.Refused NoMemory }
+{
+    match kind {
         io::ErrorKind::OutOfMemory => Fault::Refused(Refusal::NoMemory),
         _ => Fault::CannotRead(path),
     }
 }
 
 /// The fault of a file that can't be written: NoMemory where a growth was refused.
-pub fn writing<'a>(error: io::Error, path: &'a str) -> Fault<'a> {
-    match error.kind() {
+pub fn writing<'a>(kind: io::ErrorKind, path: &'a str) -> Fault<'a>
+    ensures memory { kind ≡ OutOfMemory → result ≡ Fault.Refused NoMemory }
+{
+    match kind {
         io::ErrorKind::OutOfMemory => Fault::Refused(Refusal::NoMemory),
         _ => Fault::CannotWrite(path),
     }

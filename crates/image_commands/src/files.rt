@@ -3,7 +3,7 @@
 use std::alloc::Global;
 use std::fs::{self, File, Metadata, OpenOptions};
 use std::io::{self, Read, Seek, SeekFrom, Stdin, Write};
-use std::os::unix::fs::{FileTypeExt, MetadataExt, OpenOptionsExt, PermissionsExt, fchown};
+use std::os::unix::fs::{FileTypeExt, MetadataExt, OpenOptionsExt, fchown};
 use std::path::Path;
 
 /// How many names are tried for the file that is written beside another.
@@ -46,7 +46,7 @@ pub trait Files {
 
     /// Whether two paths lead to one file, or will where neither is there: then what is written to the one is what the other has. Never
     /// so of terminals, sockets and other streams that have two ends.
-    fn are_same(&self, first: &str, second: &str) -> io::Result<bool>;
+    fn are_same(&self, first: &str, second: &str) -> bool;
 
     /// Claims the image at a path, or the path where nothing is there: where it is a link, the file that it leads to. An error where
     /// that is no regular file, may not be written, or is claimed by another program.
@@ -139,11 +139,11 @@ impl Files for HostRuntime {
         File::create(self, path)
     }
 
-    fn are_same(&self, first: &str, second: &str) -> io::Result<bool> {
+    fn are_same(&self, first: &str, second: &str) -> bool {
         match (found(self, first), found(self, second)) {
-            (Some(one), Some(other)) => Ok(are_one_file(&one, &other)),
+            (Some(one), Some(other)) => are_one_file(&one, &other),
             (None, None) => are_one_path(self, first, second),
-            _ => Ok(false),
+            _ => false,
         }
     }
 
@@ -217,14 +217,14 @@ fn are_one_file(one: &Metadata, other: &Metadata) -> bool {
 }
 
 // Whether both paths name one file, of two that aren't there.
-fn are_one_path(rt: &HostRuntime, first: &str, second: &str) -> io::Result<bool> {
+fn are_one_path(rt: &HostRuntime, first: &str, second: &str) -> bool {
     let (first, second) = (Path::new(first), Path::new(second));
     if first.file_name() != second.file_name() {
-        return Ok(false);
+        return false;
     }
     match (found(rt, folder_of(first)), found(rt, folder_of(second))) {
-        (Some(one), Some(other)) => Ok(are_one_file(&one, &other)),
-        _ => Ok(false),
+        (Some(one), Some(other)) => are_one_file(&one, &other),
+        _ => false,
     }
 }
 

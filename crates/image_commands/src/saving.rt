@@ -34,7 +34,7 @@ pub fn make_file<'a, F: Files>(
     };
     let place = match files.claim(alloc, asked.image) {
         Ok(claim) => Place::beside(alloc, files, asked.image, claim, 0),
-        Err(error) => Err(writing(error, asked.image)),
+        Err(error) => Err(writing(error.kind(), asked.image)),
     };
     match place {
         Ok(place) => place.put(files, bytes.as_slice()),
@@ -75,7 +75,7 @@ impl<'a, F: Files> Place<'a, F> {
                 claim,
                 beside,
             }),
-            Err(error) => Err(writing(error, path)),
+            Err(error) => Err(writing(error.kind(), path)),
         }
     }
 
@@ -99,7 +99,7 @@ impl<'a, F: Files> Place<'a, F> {
                     ..
                 },
             ) => Err(Fault::KeptIn(path, kept)),
-            Err(NotReplaced { error, .. }) => Err(writing(error, path)),
+            Err(NotReplaced { error, .. }) => Err(writing(error.kind(), path)),
         }
     }
 }

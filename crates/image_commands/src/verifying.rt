@@ -23,7 +23,7 @@ pub fn read_image<'a, T: Threads, F: Files>(
 {
     let bytes = match files.read_whole(alloc, path) {
         Ok(bytes) => bytes,
-        Err(error) => return Err(reading(error, path)),
+        Err(error) => return Err(reading(error.kind(), path)),
     };
     match verify(rt, alloc, bytes.as_slice()) {
         Ok(image) => Ok(image),

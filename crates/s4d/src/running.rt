@@ -58,7 +58,7 @@ pub fn run_file<'a, T: Threads + Wait + Clock + Sync, F: Files, E: Write>(
     };
     let claim = match claim {
         Ok(claim) => claim,
-        Err(error) => return Err(writing(error, asked.image)),
+        Err(error) => return Err(writing(error.kind(), asked.image)),
     };
     let length = longest_image(image.frames());
     let manner = Manner {
@@ -134,9 +134,9 @@ fn are_apart<'a, F: Files>(
 ) -> Result<(), Fault<'a>> {
     for (number, session) in (0usize..).zip(sessions) {
         let output = session.output;
-        let is_taken = is_same(files, image, output)?
-            || is_one_read(files, sessions, output)?
-            || is_one_written(files, sessions, number, output)?;
+        let is_taken = files.are_same(image, output)
+            || is_one_read(files, sessions, output)
+            || is_one_written(files, sessions, number, output);
         if is_taken {
             return Err(Fault::CannotWrite(output));
         }
@@ -145,40 +145,28 @@ fn are_apart<'a, F: Files>(
 }
 
 // Whether an output is one of the files that sessions read.
-fn is_one_read<'a, F: Files>(
-    files: &F,
-    sessions: &[RunSession<'a>],
-    output: &'a str,
-) -> Result<bool, Fault<'a>> {
+fn is_one_read<F: Files>(files: &F, sessions: &[RunSession<'_>], output: &str) -> bool {
     for session in sessions {
-        if is_same(files, session.input, output)? {
-            return Ok(true);
+        if files.are_same(session.input, output) {
+            return true;
         }
     }
-    Ok(false)
+    false
 }
 
 // Whether an output is one of the files that so many sessions write, the first ones.
-fn is_one_written<'a, F: Files>(
+fn is_one_written<F: Files>(
     files: &F,
-    sessions: &[RunSession<'a>],
+    sessions: &[RunSession<'_>],
     count: usize,
-    output: &'a str,
-) -> Result<bool, Fault<'a>> {
+    output: &str,
+) -> bool {
     for session in sessions.iter().take(count) {
-        if is_same(files, session.output, output)? {
-            return Ok(true);
+        if files.are_same(session.output, output) {
+            return true;
         }
     }
-    Ok(false)
-}
-
-// Whether an output is the file of another path.
-fn is_same<'a, F: Files>(files: &F, path: &str, output: &'a str) -> Result<bool, Fault<'a>> {
-    match files.are_same(path, output) {
-        Ok(is_same) => Ok(is_same),
-        Err(error) => Err(writing(error, output)),
-    }
+    false
 }
 
 // Opens the files of each session in turn.
@@ -216,11 +204,11 @@ fn client_of<'a, F: Files>(
 {
     let input = match files.open(session.input) {
         Ok(input) => input,
-        Err(error) => return Err(reading(error, session.input)),
+        Err(error) => return Err(reading(error.kind(), session.input)),
     };
     let output = match files.make(session.output) {
         Ok(output) => output,
-        Err(error) => return Err(writing(error, session.output)),
+        Err(error) => return Err(writing(error.kind(), session.output)),
     };
     Ok(Client {
         role: session.role,
