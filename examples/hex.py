@@ -9,15 +9,14 @@
 Status 0, or 1 where the program or a stream failed, or 2 where the call or the hex text is wrong; then standard
 error has one line.
 """
+import os
 import re
 import subprocess
 import sys
 
-FRAME_BODY_BYTES = 32_768
-DATA_BYTES = 24_576
-REFUSALS = {1: "NoObject", 2: "NotAdmin", 3: "Expired", 4: "Future", 5: "Flushed", 6: "TooLarge", 7: "BadSpan",
-            8: "TooManySpans", 9: "NoSpace", 10: "NoMemory", 11: "ClockEnd", 12: "ChainFull", 13: "BadAttr",
-            14: "Busy", 15: "BadFrame", 17: "Stale", 18: "NoRoom", 19: "InUse"}
+sys.path.insert(0, os.path.join(os.path.dirname(os.path.abspath(__file__)), "..", "python"))
+from s4d import BODY_BYTES, OBJECT_BYTES, REFUSALS  # noqa: E402: from this repository, also where it isn't installed
+
 MOST_SHOWN = 24  # bytes of a frame that are shown, behind the first of its body
 
 
@@ -118,7 +117,7 @@ def refused(fields):
     number = fields.number("number", 1)
     if number not in REFUSALS:
         raise NoSuch(f"has the number {number}")
-    return REFUSALS[number]
+    return REFUSALS[number].__name__
 
 
 def tell_attr(fields):
@@ -140,7 +139,7 @@ def tell_reply(body):
     """What a whole body says; NoSuch where it spells no reply."""
     if not body or body[0] not in REPLIES:
         raise NoSuch(f"begins with {body[0]:02x}" if body else "is empty")
-    if body[0] == 3 and len(body) > DATA_BYTES + 1:
+    if body[0] == 3 and len(body) > OBJECT_BYTES + 1:
         raise NoSuch(f"has {len(body) - 1:,} bytes of data")
     name, tell = REPLIES[body[0]]
     fields = Fields(body[1:])
@@ -158,7 +157,7 @@ def frames(data):
     while place < len(data):
         head = data[place:place + 4]
         length = int.from_bytes(head, "big")
-        if len(head) == 4 and length > FRAME_BODY_BYTES:
+        if len(head) == 4 and length > BODY_BYTES:
             yield place, head, data[place + 4:], False
             return
         body = data[place + 4:place + 4 + length]
@@ -171,7 +170,7 @@ def tell(head, body, whole, kind):
     length = int.from_bytes(head, "big")
     if len(head) < 4:
         return f"cut: {count_of(len(head), 'byte')} of a length's 4"
-    if length > FRAME_BODY_BYTES:
+    if length > BODY_BYTES:
         return f"too long: {length:,} bytes; nothing behind it is read"
     if not whole:
         return f"cut: {len(body):,} of {count_of(length, 'byte')}"

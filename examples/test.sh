@@ -1,6 +1,6 @@
 #!/usr/bin/env bash
-# Runs the examples' tests over the built program, the story, one stream on two drives, and the sweep of its limits, and ends
-# with one line.
+# Runs the tests of the Python package and of the examples over the built program, the story, one stream on two drives, and
+# the sweep of its limits, and ends with one line.
 #     test.sh        S4D names the program, else the one that `rt ci` or `rt run` left in crates/s4d/out
 set -uo pipefail
 . "$(dirname "$0")/program.sh"
@@ -10,10 +10,12 @@ if ! find_program; then
 fi
 log=$(mktemp)
 trap 'rm -f "$log"' EXIT
-if (cd "$here" && S4D=$program timeout 55 python3 -B -m unittest test_client &&
-    S4D=$program timeout 20 ./story.sh 2>&1 | diff story.txt - && S4D=$program timeout 20 ./twice.sh &&
+program=$(realpath "$program")
+export S4D=$program
+if (cd "$here/../python" && timeout 100 python3 -B -m unittest && cd "$here" && timeout 55 python3 -B -m unittest test_examples &&
+    timeout 20 ./story.sh 2>&1 | diff story.txt - && timeout 20 ./twice.sh &&
     timeout 300 python3 -B limits.py first_requests.hex "$program") > "$log" 2>&1; then
-    echo "examples: $(grep '^Ran ' "$log"), $(tail -n 1 "$log"), ok"
+    echo "examples: $(awk '/^Ran / { ran += $2 } END { print ran }' "$log") tests, $(tail -n 1 "$log"), ok"
 else
     cat "$log"
     echo "examples: FAILED"

@@ -1,167 +1,32 @@
 #!/usr/bin/env python3
 """Draws the versions of objects over the drive's moments, as text and as SVG.
 
-    timeline.py PROGRAM                         plays a small story on a new drive, as an administrator, and draws it
-    timeline.py PROGRAM --svg story.svg         draws it as SVG too
-    timeline.py --connect ADDRESS --object 1    draws objects of a drive behind a socket (host:port or a path)
+    timeline.py PROGRAM                               plays a small story on a new drive, as an administrator, and draws it
+    timeline.py PROGRAM --svg story.svg               draws it as SVG too
+    timeline.py PROGRAM --image IMAGE --object 1      draws objects of an image's file, which stays as it is
+    timeline.py --connect ADDRESS --object 1          draws objects of a drive behind a socket (host:port or a path)
 
-The versions are found by reading alone: GetAttr now tells the moment of the last change; GetAttr just before it tells
-the one before, and so on, down to the creation or to what the window no longer keeps. Each of these requests moves the
-drive's clock by the tick, so a drive with a small window forgets while it is looked at: the story runs with --tick 0.
+PROGRAM is a built s4d. An image is copied, and the copy is served with a tick of 0 and without upkeep, so nothing ages by
+being looked at. Behind a socket each request moves the drive's clock by its tick: a drive with a small window forgets then.
 """
 import argparse
+import contextlib
+import os
+import shutil
 import sys
-from collections import namedtuple
+import tempfile
 from html import escape
 
-from client import LAST, Client, Error, Expired, Flushed, Future, NoObject, Refused
+sys.path.insert(0, os.path.join(os.path.dirname(os.path.abspath(__file__)), "..", "python"))
+import s4d  # noqa: E402: from this repository, also where it isn't installed
+from s4d import Kind  # noqa: E402
 
-BATCH = 256  # moments that are asked for together
-
-# A version holds from its first moment to its last; `kind` is 'live', 'hidden', 'gone' or 'expired'.
-Span = namedtuple("Span", "kind first last size attribute", defaults=(None, b""))
-
-
-def probe(drive, object, moment):
-    """What an object was at a moment: its attributes, or the refusal."""
-    try:
-        return drive.attributes(object, at=moment)
-    except Refused as refusal:
-        return refusal
-
-
-def clock_of(drive):
-    """The drive's clock, by bisection: a moment is refused as Future exactly where it is above the clock."""
-    low, high = 0, LAST + 1
-    while high - low > 1:
-        middle = (low + high) // 2
-        low, high = (low, middle) if isinstance(probe(drive, 1, middle), Future) else (middle, high)
-    return low
-
-
-def floor_of(drive, clock):
-    """The least moment that can be read, by bisection: one is refused as Expired exactly where it is below."""
-    low, high = -1, clock
-    while high - low > 1:
-        middle = (low + high) // 2
-        low, high = (middle, high) if isinstance(probe(drive, 1, middle), Expired) else (low, middle)
-    return high
-
-
-def downwards(drive, object, last, first):
-    """What an object was at each moment from `last` down to `first`, asked for in batches."""
-    while last >= first:
-        end = max(first, last - BATCH + 1)
-        with drive.pipeline() as batch:
-            asked = [(moment, batch.attributes(object, at=moment)) for moment in range(last, end - 1, -1)]
-        for moment, reply in asked:
-            yield moment, reply.refusal() or reply.result()
-        last = end - 1
-
-
-def any_live(drive, object, first, last):
-    """A moment at which an object is there, or None: ever finer steps through the moments."""
-    step = 1 << max(last - first, 1).bit_length()
-    while step:
-        moments = range(first + step // 2, last + 1, step) if step > 1 else range(first, last + 1)
-        for start in range(0, len(moments), BATCH):
-            with drive.pipeline() as batch:
-                asked = [(moment, batch.attributes(object, at=moment)) for moment in moments[start:start + BATCH]]
-            for moment, reply in asked:
-                if not reply.refusal():
-                    return moment
-        step //= 2
-    return None
-
-
-def last_live(drive, object, live, above):
-    """The last readable moment of a deleted object, which is there at `live` and not at `above`.
-
-    Bisection: once deleted, an object stays away. A hidden moment tells nothing, so the next lower one is asked.
-    """
-    low = live
-    while above - low > 1:
-        middle = (low + above) // 2
-        for moment, found in downwards(drive, object, middle, low + 1):
-            if isinstance(found, NoObject):
-                above = moment
-                break
-            if not isinstance(found, Refused):
-                live, low = moment, middle
-                break
-        else:
-            low = middle  # all of these are hidden or expired
-    return live
-
-
-def start_of(drive, object, clock, floor):
-    """The last moment at which the object can be read, or None where it never was."""
-    found = probe(drive, object, clock)
-    if not isinstance(found, Refused):
-        return clock
-    live = any_live(drive, object, floor, clock)
-    return None if live is None else last_live(drive, object, live, clock + 1)
-
-
-def versions(drive, object):
-    """The spans of an object, oldest first, up to the drive's clock."""
-    clock = clock_of(drive)
-    floor = floor_of(drive, clock)
-    last = start_of(drive, object, clock, floor)
-    if last is None:
-        return []
-    spans = [] if last == clock else tail(drive, object, last, clock)
-    while last is not None:
-        found = drive.attributes(object, at=last)
-        spans.append(Span("live", found.changed, last, found.size, found.attribute))
-        last, below = step_down(drive, object, found)
-        spans += below
-    return spans[::-1]
-
-
-def tail(drive, object, last, clock):
-    """What stands behind the last readable moment of a deleted object, newest first."""
-    gone = [moment for moment, found in downwards(drive, object, clock, last + 1) if isinstance(found, NoObject)]
-    first = min(gone, default=clock + 1)
-    spans = [Span("gone", first, clock)] if gone else []
-    return spans + ([Span("hidden", last + 1, first - 1)] if first > last + 1 else [])
-
-
-def step_down(drive, object, found):
-    """The last readable moment before a version's first, and what lies between, newest first."""
-    if found.changed == found.created:
-        return None, []
-    hidden = 0
-    for moment, before in downwards(drive, object, found.changed - 1, found.created):
-        if isinstance(before, Expired):
-            break
-        if isinstance(before, Flushed):
-            hidden += 1
-            continue
-        return moment, [Span("hidden", moment + 1, moment + hidden)] if hidden else []
-    else:
-        return None, [Span("hidden", found.created, found.changed - 1)]
-    last = found.changed - 1
-    spans = [Span("hidden", last - hidden + 1, last)] if hidden else []
-    return None, spans + [Span("expired", found.created, last - hidden)]
-
-
-def live_parts(spans):
-    """The spans with each live one cut where a hidden one lies inside of it."""
-    cut = []
-    for span in spans:
-        if cut and cut[-1].last >= span.first:
-            span = span._replace(first=cut[-1].last + 1)
-        cut.append(span)
-    return [span for span in cut if span.first <= span.last]
-
-
-SIGNS = {"live": "█", "hidden": "░", "gone": "·", "expired": "?"}
-SAYS = {"hidden": "hidden by a flush", "gone": "deleted", "expired": "older than the window"}
+SIGNS = {Kind.LIVE: "█", Kind.HIDDEN: "░", Kind.GONE: "·", Kind.EXPIRED: "?"}
+SAYS = {Kind.HIDDEN: "hidden by a flush", Kind.GONE: "deleted", Kind.EXPIRED: "older than the window"}
 
 
 def say(span):
-    if span.kind != "live":
+    if span.kind is not Kind.LIVE:
         return SAYS[span.kind]
     named = f", {span.attribute.decode('utf-8', 'backslashreplace')!r}" if span.attribute else ""
     return f"{span.size:,} byte{'' if span.size == 1 else 's'}{named}"
@@ -184,7 +49,7 @@ def as_text(histories, width=64):
             start = (span.first - first) * cells // (last - first + 1)
             end = max(start + 1, (span.last + 1 - first) * cells // (last - first + 1))
             row[start:end] = SIGNS[span.kind] * (end - start)
-            if span.kind == "live" and end - start > 1:
+            if span.kind is Kind.LIVE and end - start > 1:
                 row[start] = "▌"
         lines.append(f"object {object:<4} {''.join(row).rstrip()}")
         lines += [f"  moment {moments_of(span):<9} {say(span)}" for span in spans] or ["  never was, as far as can be read"]
@@ -200,7 +65,7 @@ STYLE = """
   .dark { fill: #52606d }
   .axis { stroke: #cbd2d9; stroke-width: 1 }"""
 BLUES = ("#1f6feb", "#4189ee")
-FILLS = {"hidden": "url(#hatch)", "gone": "#e4e7eb", "expired": "#f5f0d8"}
+FILLS = {Kind.HIDDEN: "url(#hatch)", Kind.GONE: "#e4e7eb", Kind.EXPIRED: "#f5f0d8"}
 
 
 def tick_step(moments, room):
@@ -243,20 +108,20 @@ def svg_row(object, spans, x, y, bar):
     yield f'<text x="12" y="{y + bar / 2 + 5}">object {object}</text>'
     for place, span in enumerate(spans):
         start, end = x(span.first), x(span.last + 1)
-        fill = BLUES[place % 2] if span.kind == "live" else FILLS[span.kind]
+        fill = BLUES[place % 2] if span.kind is Kind.LIVE else FILLS[span.kind]
         tip = f"object {object}, moments {moments_of(span)}: {say(span)}"
         yield (f'<rect x="{start + 0.75}" y="{y}" width="{max(end - start - 1.5, 1):.1f}" height="{bar}" rx="3" '
                f'fill="{fill}"><title>{escape(tip)}</title></rect>')
-        label = f"{span.size:,} B" if span.kind == "live" else "deleted" if span.kind == "gone" else ""
+        label = f"{span.size:,} B" if span.kind is Kind.LIVE else "deleted" if span.kind is Kind.GONE else ""
         if label and end - start > 8 * len(label):
             middle = round((start + end) / 2, 1)
-            tone = "inside" if span.kind == "live" else "inside dark"
+            tone = "inside" if span.kind is Kind.LIVE else "inside dark"
             yield f'<text class="{tone}" x="{middle}" y="{y + bar / 2 + 4}">{label}</text>'
 
 
 def svg_legend(x, y):
-    for fill, name in ((BLUES[0], "a version, with its size"), (FILLS["hidden"], "hidden by a flush"),
-                       (FILLS["gone"], "deleted"), (FILLS["expired"], "older than the window")):
+    for fill, name in ((BLUES[0], "a version, with its size"), (FILLS[Kind.HIDDEN], "hidden by a flush"),
+                       (FILLS[Kind.GONE], "deleted"), (FILLS[Kind.EXPIRED], "older than the window")):
         yield (f'<rect x="{x}" y="{y}" width="14" height="14" rx="2" fill="{fill}"/>'
                f'<text class="small" x="{x + 20}" y="{y + 11}">{name}</text>')
         x += 48 + 7 * len(name)
@@ -276,39 +141,57 @@ def story(drive):
     drive.append(note, b" wrote a drive.")
     drive.delete(log)
     drive.flush_object(note, secret, mended - 1)
-    drive.set_attr(note, b"diary.txt")
+    drive.set_attribute(note, b"diary.txt")
     drive.create(b"empty")
     return [note, log, note + 2]
 
 
+@contextlib.contextmanager
+def image_copy(path, program):
+    """A session with a copy of an image, which is gone at the end."""
+    with tempfile.TemporaryDirectory() as folder:
+        with s4d.Image(shutil.copy(path, folder), program).session("admin", upkeep=False) as drive:
+            yield drive
+
+
+def session_of(given):
+    """The session that the command line asks for."""
+    if given.connect:
+        return s4d.Drive.connect(given.connect)
+    if given.image:
+        return image_copy(given.image, given.program)
+    return s4d.Drive.pipe(given.program, "admin", window=1_000_000, tick=0)
+
+
 def parsed(words):
-    parser = argparse.ArgumentParser(description="Draws the versions of objects over the drive's moments.")
-    parser.add_argument("program", nargs="?", help="the program s4d, for the story on a new drive")
+    parser = argparse.ArgumentParser(description=__doc__, formatter_class=argparse.RawDescriptionHelpFormatter)
+    parser.add_argument("program", nargs="?", metavar="PROGRAM", help="a built s4d")
+    parser.add_argument("--image", metavar="IMAGE", help="the file of a drive")
     parser.add_argument("--connect", metavar="ADDRESS", help="host:port, or the path of a unix socket")
-    parser.add_argument("--object", type=int, action="append", default=[], help="an object to draw, more than once")
+    parser.add_argument("--object", type=int, action="append", default=[], metavar="N", help="an object to draw, more than once")
     parser.add_argument("--story", action="store_true", help="plays the story over the socket too")
     parser.add_argument("--svg", metavar="FILE", help="writes a picture")
     given = parser.parse_args(words)
     if bool(given.program) == bool(given.connect):
         parser.error("name either the program s4d or --connect ADDRESS")
+    if given.image and (given.connect or not given.object):
+        parser.error("--image needs PROGRAM and --object N")
     if given.connect and not (given.object or given.story):
-        parser.error("--connect needs --object NUMBER, or --story")
+        parser.error("--connect needs --object N, or --story")
     return given
 
 
 def main(words):
     given = parsed(words)
     try:
-        drive = (Client.connect(given.connect) if given.connect
-                 else Client.spawn(given.program, "admin", window=1_000_000, tick=0))
-        with drive:
-            told = story(drive) if given.program or given.story else []
-            histories = {object: live_parts(versions(drive, object)) for object in given.object or told}
+        with session_of(given) as drive:
+            told = story(drive) if given.story or not (given.image or given.connect) else []
+            histories = {object: drive.history(object) for object in given.object or told}
         print(as_text(histories))
         if given.svg:
             with open(given.svg, "w", encoding="utf-8") as file:
                 file.write(as_svg(histories))
-    except (Error, OSError, ValueError) as error:
+    except (s4d.Error, OSError, ValueError) as error:
         print(f"timeline.py: {error}", file=sys.stderr)
         return 1
     return 0

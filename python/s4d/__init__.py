@@ -1,0 +1,37 @@
+"""A client of s4d, the object drive that keeps every version of every object, with the standard library alone.
+
+    import s4d
+
+    with s4d.Drive.pipe("PATH/TO/s4d", "admin", tick=0, window=1_000) as drive:
+        note = drive.create(b"note").object
+        before = drive.write(note, 0, b"meet at the mill")
+        drive.write(note, 0, b"meet at the moor")                 # an intruder, with a client's rights
+        drive.at(before).read(note)                               # b"meet at the mill"
+        drive.write(note, 0, drive.at(before).read(note))         # restored
+        for span in drive.history(note):
+            print(span.kind, span.first, span.last, span.size)
+        with drive.pipeline() as batch:                           # many requests, one trip
+            replies = [batch.append(note, b"!") for _ in range(3)]
+        replies[-1].result()
+
+A drive that lasts is a file: `s4d.Image(path).session()`. A refusal is raised as an exception of its own class
+(`NoObject`, `Expired`, ..), all of them `Refused`; it names the request, the object and the moment.
+"""
+from .connection import Peer, Reader, Writer
+from .drive import Drive, Past
+from .errors import (REFUSALS, BadAttr, BadFrame, BadReply, BadSpan, Busy, ChainFull, ClockEnd, Disconnected, Ended,
+                     Error, Expired, Flushed, Future, InUse, NoMemory, NoObject, NoRoom, NoSpace, NotAdmin,
+                     ProgramFailed, Refused, Stale, TooLarge, TooManySpans)
+from .history import Kind, Span
+from .image import Facts, Image
+from .pipeline import Pipeline, Reply
+from .retry import NEVER, Retry
+from .wire import ATTRIBUTE_BYTES, BODY_BYTES, LAST, OBJECT_BYTES, Attributes, Created
+
+__all__ = [
+    "ATTRIBUTE_BYTES", "Attributes", "BODY_BYTES", "BadAttr", "BadFrame", "BadReply", "BadSpan", "Busy", "ChainFull",
+    "ClockEnd", "Created", "Disconnected", "Drive", "Ended", "Error", "Expired", "Facts", "Flushed", "Future", "Image",
+    "InUse", "Kind", "LAST", "NEVER", "NoMemory", "NoObject", "NoRoom", "NoSpace", "NotAdmin", "OBJECT_BYTES", "Past",
+    "Peer", "Pipeline", "ProgramFailed", "REFUSALS", "Reader", "Refused", "Reply", "Retry", "Span", "Stale", "TooLarge",
+    "TooManySpans", "Writer",
+]

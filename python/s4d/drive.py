@@ -1,0 +1,164 @@
+"""A session with a drive."""
+from __future__ import annotations
+
+import os
+import time
+from types import TracebackType
+from typing import List, Optional, Type, TypeVar, Union
+
+from . import wire
+from .connection import Connection, Peer, Reader, SocketPeer, Writer, dialled
+from .errors import Ended, ProgramFailed, Refused
+from .history import Span, history_of
+from .pipeline import Pipeline, Reply
+from .program import Program
+from .retry import NEVER, Retry
+from .wire import OBJECT_BYTES, Attributes, Created, Request
+
+T = TypeVar("T")
+
+
+class Drive:
+    """A session over two binary streams: one that replies are read from, and one that requests are written to.
+
+    Each method asks one request and gives plain numbers and bytes. A refusal is raised as an exception of its own class.
+    One session is for one thread.
+    """
+
+    def __init__(self, reader: Reader, writer: Writer, peer: Optional[Peer] = None, retry: Retry = NEVER) -> None:
+        self._connection = Connection(reader, writer, peer or Peer())
+        self._retry = retry
+
+    @classmethod
+    def pipe(cls, program: str = "s4d", role: str = "client", *, frames: int = 16, window: int = 100, tick: int = 1,
+             retry: Retry = NEVER) -> Drive:
+        """A session with a new drive in memory, by `s4d pipe`. All its data is gone when the session ends."""
+        options = ["--frames", str(frames), "--window", str(window), "--tick", str(tick)]
+        peer = Program([program, "pipe", *options, role])
+        return cls(peer.reader, peer.writer, peer, retry)
+
+    @classmethod
+    def image(cls, path: Union[str, os.PathLike[str]], program: str = "s4d", role: str = "client", *, tick: int = 0,
+              upkeep: bool = True, retry: Retry = NEVER) -> Drive:
+        """A session with the drive in an image's file, by `s4d run`. The file is written when the session is closed.
+
+        With a tick of 0 only changes move the clock. Without upkeep, nothing beside the session cleans or moves blocks.
+        """
+        options = ["--tick", str(tick), *([] if upkeep else ["--no-upkeep"])]
+        peer = Program([program, "run", *options, os.fspath(path), f"{role}:/dev/stdin:/dev/stdout"])
+        return cls(peer.reader, peer.writer, peer, retry)
+
+    @classmethod
+    def connect(cls, address: str, timeout: Optional[float] = None, *, retry: Retry = NEVER) -> Drive:
+        """A session over a socket: `host:port`, or the path of a unix socket (with a `/`)."""
+        peer = SocketPeer(dialled(address, timeout))
+        return cls(peer.reader, peer.writer, peer, retry)
+
+    @property
+    def ended(self) -> Optional[Ended]:
+        """How the session's program ended, once it has."""
+        return self._connection.ended
+
+    def close(self) -> None:
+        """Ends the session. ProgramFailed where its program then ends with another status than 0."""
+        ended = self._connection.close()
+        if ended and ended.status:
+            raise ProgramFailed(ended)
+
+    def __enter__(self) -> Drive:
+        return self
+
+    def __exit__(self, kind: Optional[Type[BaseException]], error: Optional[BaseException],
+                 trace: Optional[TracebackType]) -> None:
+        if kind is None:
+            self.close()
+        else:
+            self._connection.close()  # the error that is on its way says more
+
+    def at(self, moment: int) -> Past:
+        """The drive as it was at a moment."""
+        return Past(self, moment)
+
+    def history(self, object: int) -> List[Span]:
+        """The versions of an object that can be read, oldest first, and what lies between them.
+
+        They are found by many requests, so ask it with a tick of 0: else old versions expire while it runs.
+        """
+        return history_of(self, object)
+
+    def pipeline(self) -> Pipeline:
+        """Collects requests and sends them together."""
+        return Pipeline(self._connection)
+
+    def _ask(self, request: Request[T]) -> T:
+        for wait in self._retry.waits():
+            try:
+                return self._once(request)
+            except self._retry.refusals:
+                time.sleep(wait)
+        return self._once(request)
+
+    def _once(self, request: Request[T]) -> T:
+        reply = Reply(request)
+        self._connection.send(request.frame())
+        reply.take(self._connection)
+        return reply.result()
+
+    def create(self, attribute: bytes = b"") -> Created:
+        """Makes an empty object: its number, and the moment."""
+        return self._ask(wire.create(attribute))
+
+    def delete(self, object: int) -> int:
+        """Deletes an object. Its versions can still be read. The moment of the change."""
+        return self._ask(wire.delete(object))
+
+    def read(self, object: int, offset: int = 0, length: int = OBJECT_BYTES, at: Optional[int] = None) -> bytes:
+        """The bytes of a range, now or at a moment; fewer where the object ends before."""
+        return self._ask(wire.read(object, offset, length, at))
+
+    def write(self, object: int, offset: int, data: bytes) -> int:
+        """Puts bytes at an offset, after zeros where the object is shorter. The moment of the change."""
+        return self._ask(wire.write(object, offset, data))
+
+    def append(self, object: int, data: bytes) -> int:
+        """Puts bytes at the object's end. The moment of the change."""
+        return self._ask(wire.append(object, data))
+
+    def truncate(self, object: int, size: int) -> int:
+        """Cuts the object to a size, or lengthens it by zeros. The moment of the change."""
+        return self._ask(wire.truncate(object, size))
+
+    def attributes(self, object: int, at: Optional[int] = None) -> Attributes:
+        """Size, creation, last change and attribute, now or at a moment."""
+        return self._ask(wire.attributes(object, at))
+
+    def set_attribute(self, object: int, attribute: bytes) -> int:
+        """Sets the object's attribute, of at most 64 bytes. The moment of the change."""
+        return self._ask(wire.set_attribute(object, attribute))
+
+    def set_window(self, moments: int) -> int:
+        """Sets the window, for administrators. The moment of the change."""
+        return self._ask(wire.set_window(moments))
+
+    def flush(self, first: int, last: int) -> int:
+        """Hides the moments of a span, of all objects, for administrators. The moment of the change."""
+        return self._ask(wire.flush(first, last))
+
+    def flush_object(self, object: int, first: int, last: int) -> int:
+        """Hides the moments of a span, of one object, for administrators. The moment of the change."""
+        return self._ask(wire.flush_object(object, first, last))
+
+
+class Past:
+    """A drive as it was at a moment: it can be read, and nobody can change it."""
+
+    def __init__(self, drive: Drive, moment: int) -> None:
+        self._drive, self.moment = drive, moment
+
+    def read(self, object: int, offset: int = 0, length: int = OBJECT_BYTES) -> bytes:
+        """The bytes of a range at the moment; fewer where the object ended before."""
+        return self._drive.read(object, offset, length, at=self.moment)
+
+    def attributes(self, object: int) -> Attributes:
+        """Size, creation, last change and attribute at the moment."""
+        return self._drive.attributes(object, at=self.moment)

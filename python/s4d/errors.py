@@ -1,0 +1,171 @@
+"""What a session with a drive raises: one class for each refusal, and those of the session itself."""
+from __future__ import annotations
+
+from typing import ClassVar, Dict, NamedTuple, Optional, Type
+
+
+class Ended(NamedTuple):
+    """How a program ended: its exit status, negative for a signal, and its text on standard error."""
+
+    status: int
+    said: str
+
+    def __str__(self) -> str:
+        return f"{self.said or 'the program printed nothing'} (status {self.status})"
+
+
+class Error(Exception):
+    """The base of all that this package raises of its own."""
+
+
+class Disconnected(Error):
+    """The stream ended or failed. A request without a reply may have been done all the same.
+
+    `ended` says how the program ended, where the session has one of its own.
+    """
+
+    def __init__(self, why: str, ended: Optional[Ended] = None) -> None:
+        super().__init__(f"{why}: {ended}" if ended else why)
+        self.ended = ended
+
+
+class BadReply(Error):
+    """The other side sent what is no reply to the request."""
+
+
+class ProgramFailed(Error):
+    """`s4d` ended with a status that isn't 0: `ended` has it, and what the program printed."""
+
+    def __init__(self, ended: Ended) -> None:
+        super().__init__(str(ended))
+        self.ended = ended
+
+
+class Refused(Error):
+    """The drive refused the request, which changed nothing but the clock.
+
+    `request` is the request's name, `object` the object and `at` the moment that it named, where it named one.
+    """
+
+    number: ClassVar[int] = 0
+
+    def __init__(self, request: str = "", object: Optional[int] = None, at: Optional[int] = None) -> None:
+        named = "" if object is None else f" of object {object}"
+        when = "" if at is None else f" at moment {at}"
+        super().__init__(f"{type(self).__name__}: {request}{named}{when}" if request else type(self).__name__)
+        self.request, self.object, self.at = request, object, at
+
+
+class NoObject(Refused):
+    """There is no such object, now or at that moment."""
+
+    number = 1
+
+
+class NotAdmin(Refused):
+    """Only an administrator's session may ask this."""
+
+    number = 2
+
+
+class Expired(Refused):
+    """The moment is older than the window keeps."""
+
+    number = 3
+
+
+class Future(Refused):
+    """The moment is above the drive's clock."""
+
+    number = 4
+
+
+class Flushed(Refused):
+    """An administrator has hidden the moment."""
+
+    number = 5
+
+
+class TooLarge(Refused):
+    """The object or the read would have more than 24,576 bytes."""
+
+    number = 6
+
+
+class BadSpan(Refused):
+    """The span ends before it begins, or after the clock."""
+
+    number = 7
+
+
+class TooManySpans(Refused):
+    """No more hidden spans fit in the list."""
+
+    number = 8
+
+
+class NoSpace(Refused):
+    """The drive has no room for the change."""
+
+    number = 9
+
+
+class NoMemory(Refused):
+    """A growth of memory was refused."""
+
+    number = 10
+
+
+class ClockEnd(Refused):
+    """The clock or the objects' numbers are at their end."""
+
+    number = 11
+
+
+class ChainFull(Refused):
+    """The object's journal has no room for a further change."""
+
+    number = 12
+
+
+class BadAttr(Refused):
+    """The attribute has more than 64 bytes."""
+
+    number = 13
+
+
+class Busy(Refused):
+    """All places for readers were taken."""
+
+    number = 14
+
+
+class BadFrame(Refused):
+    """The bytes spell no request."""
+
+    number = 15
+
+
+class Stale(Refused):
+    """The object changed since the move was planned."""
+
+    number = 17
+
+
+class NoRoom(Refused):
+    """There is no room to write the object anew."""
+
+    number = 18
+
+
+class InUse(Refused):
+    """The frame is still used."""
+
+    number = 19
+
+
+REFUSALS: Dict[int, Type[Refused]] = {
+    kind.number: kind
+    for kind in (NoObject, NotAdmin, Expired, Future, Flushed, TooLarge, BadSpan, TooManySpans, NoSpace, NoMemory,
+                 ClockEnd, ChainFull, BadAttr, Busy, BadFrame, Stale, NoRoom, InUse)
+}

@@ -1,0 +1,151 @@
+"""The spelling of requests and the reading of replies, by docs/FORMATS.md. Nothing here reads or writes a stream."""
+from __future__ import annotations
+
+from dataclasses import dataclass
+from typing import Callable, Generic, NamedTuple, Optional, TypeVar, Union
+
+from .errors import REFUSALS, BadReply, Refused
+
+OBJECT_BYTES = 24_576  # the greatest size of an object, and the most bytes of one read
+ATTRIBUTE_BYTES = 64  # the longest attribute
+BODY_BYTES = 32_768  # the longest body of a frame
+LAST = 2**64 - 1  # the last moment, and the greatest number of an object
+
+T = TypeVar("T")
+
+
+class Created(NamedTuple):
+    """A new object's number, and the moment of its creation."""
+
+    object: int
+    moment: int
+
+
+class Attributes(NamedTuple):
+    """What GetAttr answers: size in bytes, the moments of creation and of the last change, and the attribute."""
+
+    size: int
+    created: int
+    changed: int
+    attribute: bytes
+
+
+@dataclass(frozen=True)
+class Request(Generic[T]):
+    """A request: its bytes, what it names for errors, and how the reply to it is read."""
+
+    name: str
+    body: bytes
+    meaning: Callable[[int, bytes], T]
+    object: Optional[int] = None
+    at: Optional[int] = None
+
+    def frame(self) -> bytes:
+        """The bytes that go over the wire."""
+        return len(self.body).to_bytes(4, "big") + self.body
+
+    def answer(self, reply: bytes) -> Union[T, Refused]:
+        """What a reply's body says; BadReply where it is no reply to this request."""
+        kind, rest = reply[0], reply[1:]
+        if kind != 0:
+            return self.meaning(kind, rest)
+        if len(rest) != 1 or rest[0] not in REFUSALS:
+            raise BadReply("a refusal without a number that is known")
+        return REFUSALS[rest[0]](self.name, self.object, self.at)
+
+
+def number(value: int, size: int) -> bytes:
+    """A number with its highest byte first; ValueError where it has no such size."""
+    try:
+        return value.to_bytes(size, "big")
+    except OverflowError:
+        raise ValueError(f"{value} is no number of {size} bytes") from None
+
+
+def numbers(*values: int) -> bytes:
+    return b"".join(number(value, 8) for value in values)
+
+
+def moment_or_now(at: Optional[int]) -> bytes:
+    return b"\0" if at is None else b"\1" + numbers(at)
+
+
+def counted(attribute: bytes) -> bytes:
+    return number(len(attribute), 1) + bytes(attribute)
+
+
+def read_changed(kind: int, rest: bytes) -> int:
+    if kind != 1 or len(rest) != 8:
+        raise BadReply("no Changed came")
+    return int.from_bytes(rest, "big")
+
+
+def read_created(kind: int, rest: bytes) -> Created:
+    if kind != 2 or len(rest) != 16:
+        raise BadReply("no Created came")
+    return Created(int.from_bytes(rest[:8], "big"), int.from_bytes(rest[8:], "big"))
+
+
+def read_data(kind: int, rest: bytes) -> bytes:
+    if kind != 3 or len(rest) > OBJECT_BYTES:
+        raise BadReply("no Data came")
+    return rest
+
+
+def read_attributes(kind: int, rest: bytes) -> Attributes:
+    if kind != 4 or len(rest) < 21 or rest[20] > ATTRIBUTE_BYTES or len(rest) != 21 + rest[20]:
+        raise BadReply("no Attr came")
+    size, created, changed = (int.from_bytes(part, "big") for part in (rest[:4], rest[4:12], rest[12:20]))
+    return Attributes(size, created, changed, rest[21:])
+
+
+def change(name: str, body: bytes, object: Optional[int] = None) -> Request[int]:
+    """A request that is answered by the moment of its change."""
+    if len(body) > BODY_BYTES:
+        raise ValueError(f"a request has at most {BODY_BYTES:,} bytes, this one {len(body):,}")
+    return Request(name, body, read_changed, object)
+
+
+def create(attribute: bytes) -> Request[Created]:
+    return Request("create", b"\x01" + counted(attribute), read_created)
+
+
+def delete(object: int) -> Request[int]:
+    return change("delete", b"\x02" + numbers(object), object)
+
+
+def read(object: int, offset: int, length: int, at: Optional[int]) -> Request[bytes]:
+    body = b"\x03" + numbers(object, offset) + number(length, 4) + moment_or_now(at)
+    return Request("read", body, read_data, object, at)
+
+
+def write(object: int, offset: int, data: bytes) -> Request[int]:
+    return change("write", b"\x04" + numbers(object, offset) + bytes(data), object)
+
+
+def append(object: int, data: bytes) -> Request[int]:
+    return change("append", b"\x05" + numbers(object) + bytes(data), object)
+
+
+def truncate(object: int, size: int) -> Request[int]:
+    return change("truncate", b"\x06" + numbers(object, size), object)
+
+
+def attributes(object: int, at: Optional[int]) -> Request[Attributes]:
+    return Request("attributes", b"\x07" + numbers(object) + moment_or_now(at), read_attributes, object, at)
+
+
+def set_attribute(object: int, attribute: bytes) -> Request[int]:
+    return change("set_attribute", b"\x08" + numbers(object) + counted(attribute), object)
+
+
+def set_window(moments: int) -> Request[int]:
+    return change("set_window", b"\x09" + numbers(moments))
+
+
+def flush(first: int, last: int) -> Request[int]:
+    return change("flush", b"\x0a" + numbers(first, last))
+
+
+def flush_object(object: int, first: int, last: int) -> Request[int]:
+    return change("flush_object", b"\x0b" + numbers(object, first, last), object)

@@ -1,0 +1,245 @@
+"""Sessions with the built program: `s4d pipe`, sockets and images."""
+import contextlib
+import os
+import socket
+import subprocess
+import tempfile
+import threading
+import time
+import unittest
+
+import s4d
+from s4d import Attributes, Created
+
+from .built import PROGRAM, needs_program
+
+
+def drive(role="admin", **options):
+    return s4d.Drive.pipe(PROGRAM, role, **{"tick": 0, "window": 1_000_000, **options})
+
+
+@needs_program
+class Requests(unittest.TestCase):
+    def test_each_request(self):
+        with drive() as it:
+            made = it.create(b"note")
+            self.assertEqual(made, Created(1, 1))
+            self.assertEqual(it.write(1, 2, b"abc"), 2)
+            self.assertEqual(it.read(1), b"\0\0abc")
+            self.assertEqual(it.append(1, b"de"), 3)
+            self.assertEqual(it.truncate(1, 4), 4)
+            self.assertEqual(it.read(1, 1, 100), b"\0ab")
+            self.assertEqual(it.read(1, 4, 1), b"")
+            self.assertEqual(it.at(3).read(1), b"\0\0abcde")
+            self.assertEqual(it.at(3).read(1, 2, 3), b"abc")
+            self.assertEqual(it.set_attribute(1, b"x" * 64), 5)
+            self.assertEqual(it.attributes(1), Attributes(4, 1, 5, b"x" * 64))
+            self.assertEqual(it.at(2).attributes(1), Attributes(5, 1, 2, b"note"))
+            self.assertEqual(it.flush(2, 2), 6)
+            self.assertEqual(it.flush_object(1, 3, 3), 7)
+            self.assertEqual(it.set_window(50), 8)
+            self.assertEqual(it.delete(1), 9)
+            with self.assertRaises(s4d.NoObject):
+                it.read(1)
+        self.assertEqual(it.ended, (0, ""))
+
+    def test_refusals(self):
+        with drive("client", tick=1, window=3) as it:
+            it.create()
+            for kind, ask in (
+                    (s4d.NotAdmin, lambda: it.set_window(1)),
+                    (s4d.BadAttr, lambda: it.set_attribute(1, b"x" * 65)),
+                    (s4d.TooLarge, lambda: it.write(1, 24_576, b"x")),
+                    (s4d.Future, lambda: it.read(1, at=1_000)),
+                    (s4d.Expired, lambda: it.read(1, at=0)),
+                    (s4d.NoObject, lambda: it.delete(2))):
+                with self.subTest(kind.__name__), self.assertRaises(kind):
+                    ask()
+        with drive() as it:
+            it.create()
+            with self.assertRaises(s4d.BadSpan):
+                it.flush(2, 1)
+            it.append(1, b"")
+            it.flush(1, 1)
+            with self.assertRaisesRegex(s4d.Flushed, "Flushed: read of object 1 at moment 1"):
+                it.at(1).read(1)
+
+    def test_the_greatest_requests(self):
+        with drive() as it:
+            it.create(b"x" * 64)
+            whole = bytes(range(256)) * 96
+            it.write(1, 0, whole)
+            self.assertEqual(it.read(1), whole)
+            with self.assertRaises(s4d.TooLarge):
+                it.append(1, b"x" * (s4d.BODY_BYTES - 9))
+            self.assertEqual(it.at(1).attributes(1).attribute, b"x" * 64)
+
+
+@needs_program
+class Pipelines(unittest.TestCase):
+    def test_replies_come_in_order(self):
+        with drive() as it:
+            with it.pipeline() as batch:
+                made = batch.create()
+                wrote = batch.write(1, 0, b"abc")
+                wrong = batch.read(7)
+                read = batch.read(1)
+            self.assertEqual((made.result(), wrote.result(), read.result()), (Created(1, 1), 2, b"abc"))
+            self.assertIsInstance(wrong.refusal(), s4d.NoObject)
+            with self.assertRaisesRegex(s4d.NoObject, "object 7"):
+                wrong.result()
+            self.assertIsNone(read.refusal())
+
+    def test_nothing_is_sent_before_the_end(self):
+        with drive() as it:
+            batch = it.pipeline()
+            made = batch.create()
+            with self.assertRaises(s4d.Disconnected):
+                made.result()
+            self.assertEqual((len(batch), it.create().object), (1, 1))
+            self.assertEqual(batch.run(), [made])
+            self.assertEqual((len(batch), made.result().object), (0, 2))
+
+    def test_more_than_all_buffers_hold(self):
+        with drive() as it:
+            it.create()
+            it.truncate(1, 24_576)
+            with it.pipeline() as batch:
+                replies = [batch.read(1) for _ in range(100)] + [batch.append(9, b"x" * 30_000) for _ in range(100)]
+            self.assertEqual(sum(len(reply.result()) for reply in replies[:100]), 100 * 24_576)
+            self.assertTrue(all(reply.refusal() for reply in replies[100:]))
+
+    def test_a_flush_costs_its_own_list(self):
+        """60,000 flushes of one moment each: the last ones take about as long as the first ones."""
+        with drive(frames=1024) as it:
+            with it.pipeline() as batch:
+                for _ in range(1_000):
+                    batch.create()
+            seconds = []
+            for at in range(1, 120, 2):
+                start = time.monotonic()
+                with it.pipeline() as batch:
+                    flushed = [batch.flush_object(number, at, at) for number in range(1, 1_001)]
+                seconds.append(time.monotonic() - start)
+                self.assertTrue(all(reply.refusal() is None for reply in flushed))
+        self.assertLess(sorted(seconds[-15:])[7], 4 * sorted(seconds[:15])[7])
+
+
+@needs_program
+class Ends(unittest.TestCase):
+    def test_a_closed_session(self):
+        it = drive()
+        it.close()
+        it.close()
+        with self.assertRaises(s4d.Disconnected):
+            it.create()
+        self.assertEqual(it.ended, s4d.Ended(0, ""))
+
+    def test_what_the_program_said(self):
+        with self.assertRaisesRegex(s4d.Disconnected, r"s4d: usage \(status 2\)") as caught, drive("nobody") as it:
+            it.create()
+        self.assertEqual(caught.exception.ended, s4d.Ended(2, "s4d: usage"))
+        with self.assertRaisesRegex(s4d.ProgramFailed, "s4d: usage"):
+            drive("nobody").close()
+
+    def test_an_error_on_its_way_is_not_hidden(self):
+        with self.assertRaises(KeyError), drive("nobody"):
+            raise KeyError
+
+    def test_replies_that_are_never_read(self):
+        it = drive()
+        it.create()
+        it.truncate(1, 24_576)
+        it._connection.send(s4d.wire.read(1, 0, s4d.OBJECT_BYTES, None).frame() * 100)
+        with self.assertRaises(s4d.ProgramFailed):
+            it.close()
+
+    def test_no_program(self):
+        with self.assertRaises(FileNotFoundError):
+            s4d.Drive.pipe("/nowhere/s4d")
+
+
+class Listener:
+    """A socket that gives each connection the standard streams of a program of its own, as `socat` does."""
+
+    def __init__(self, listener):
+        self.listener = listener
+        threading.Thread(target=self.accept, daemon=True).start()
+
+    def accept(self):
+        with contextlib.suppress(OSError):
+            while True:
+                link, _ = self.listener.accept()
+                threading.Thread(target=self.serve, args=(link,), daemon=True).start()
+
+    @staticmethod
+    def serve(link):
+        with link, subprocess.Popen([PROGRAM, "pipe", "--tick", "0", "admin"], stdin=link, stdout=link) as server:
+            server.wait()
+
+
+@needs_program
+class Sockets(unittest.TestCase):
+    def session(self, address):
+        with s4d.Drive.connect(address, timeout=20) as it:
+            it.create()
+            it.write(1, 0, b"hello")
+            with it.pipeline() as batch:
+                reads = [batch.read(1) for _ in range(1_000)]
+            self.assertTrue(all(reply.result() == b"hello" for reply in reads))
+
+    def test_a_port(self):
+        with socket.create_server(("127.0.0.1", 0)) as listener:
+            Listener(listener)
+            self.session(f"127.0.0.1:{listener.getsockname()[1]}")
+
+    def test_a_path(self):
+        with tempfile.TemporaryDirectory() as folder, socket.socket(socket.AF_UNIX) as listener:
+            listener.bind(f"{folder}/s4d")
+            listener.listen()
+            Listener(listener)
+            self.session(f"{folder}/s4d")
+
+
+@needs_program
+class Images(unittest.TestCase):
+    def setUp(self):
+        folder = tempfile.TemporaryDirectory()
+        self.addCleanup(folder.cleanup)
+        self.image = s4d.Image(os.path.join(folder.name, "drive.image"), PROGRAM)
+
+    def test_sessions_one_after_another(self):
+        self.image.make(16, window=50)
+        self.assertEqual(self.image.verify(), s4d.Facts(frames=16, objects=0, clock=0, window=50, floor=0))
+        with self.image.session() as it:
+            it.create(b"note")
+            it.write(1, 0, b"mill")
+            with self.assertRaises(s4d.NotAdmin):
+                it.set_window(1)
+        self.assertEqual(it.ended, (0, ""))
+        with self.image.session("admin", upkeep=False) as it:
+            self.assertEqual(it.write(1, 0, b"moor"), 3)
+            self.assertEqual((it.at(2).read(1), it.read(1)), (b"mill", b"moor"))
+        self.assertEqual((self.image.read(1, at=2), self.image.read(1, at=3)), (b"mill", b"moor"))
+        self.assertEqual(self.image.verify().clock, 3)
+
+    def test_refusals(self):
+        self.image.make(16)
+        with self.assertRaisesRegex(s4d.NoObject, "read of object 7 at moment 0"):
+            self.image.read(7, at=0)
+        with self.assertRaisesRegex(s4d.Future, "read of object 7 at moment 1"):
+            self.image.read(7, at=1)
+
+    def test_what_is_no_image(self):
+        with self.assertRaisesRegex(s4d.ProgramFailed, "cannot read"):
+            self.image.verify()
+        with self.assertRaisesRegex(s4d.Disconnected, "cannot read"), self.image.session() as it:
+            it.create()
+        with open(self.image.path, "wb") as file:
+            file.write(b"x" * 700)
+        with self.assertRaisesRegex(s4d.ProgramFailed, "Damaged header"):
+            self.image.read(1, at=0)
+
+
+if __name__ == "__main__":
+    unittest.main()
