@@ -153,6 +153,9 @@ def compare(now, earlier):
 
 
 def main(words):
+    if {"-h", "--help"} & set(sys.argv[1:]):
+        print(__doc__)
+        return 0
     if not words or words[0] == "run" and len(words) > 1:
         return run(words[1:] or ["rt", "ci"])
     if words[0] != "read" or len(words) not in (2, 3):

@@ -56,6 +56,9 @@ def measure(programs, name, words, image, folder):
 
 
 def main():
+    if {"-h", "--help"} & set(sys.argv[1:]):
+        print(__doc__)
+        return
     if len(sys.argv) > 3 or any(it.startswith("-") for it in sys.argv[1:]):
         sys.exit(__doc__)
     programs = wire.programs(sys.argv[1:])

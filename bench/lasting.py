@@ -101,7 +101,7 @@ def row(program, most, frames, window, objects):
 
 
 def main():
-    words = argparse.ArgumentParser(description="How many small changes a drive takes before it refuses one.")
+    words = argparse.ArgumentParser(description=__doc__, formatter_class=argparse.RawDescriptionHelpFormatter)
     words.add_argument("--most", type=int, default=20_000, help="how many are asked, of which a tenth live")
     words.add_argument("program", nargs="*")
     line = words.parse_args()

@@ -93,6 +93,9 @@ def rates(program, ask):
 
 
 def main():
+    if {"-h", "--help"} & set(sys.argv[1:]):
+        print(__doc__)
+        return
     programs = wire.programs(sys.argv[1:])
     print("Writes of 100 bytes a second\n")
     print("| Client | of the processor | by the clock |" + " other, of the processor | times | by the clock | times |" * (len(programs) - 1))

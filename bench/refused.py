@@ -120,6 +120,9 @@ def refuse_each(subject, library):
 
 
 def main():
+    if {"-h", "--help"} & set(sys.argv[1:]):
+        print(__doc__)
+        return
     words = sys.argv[1:]
     if not words or any(it.startswith("-") for it in words):
         sys.exit(__doc__)

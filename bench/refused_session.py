@@ -32,6 +32,9 @@ def run(program, library, number):
 
 
 def main():
+    if {"-h", "--help"} & set(sys.argv[1:]):
+        print(__doc__)
+        return 0
     program = os.path.abspath(sys.argv[1] if len(sys.argv) > 1 else os.path.join(HERE, "..", "crates", "s4d", "out", "s4d"))
     number, faults, is_refused = 0, 0, True
     with tempfile.TemporaryDirectory() as folder:

@@ -130,6 +130,9 @@ def row(cells):
 
 
 def main():
+    if {"-h", "--help"} & set(sys.argv[1:]):
+        print(__doc__)
+        return
     if len(sys.argv) > 3 or any(it.startswith("-") for it in sys.argv[1:]):
         sys.exit(__doc__)
     with tempfile.TemporaryDirectory() as folder:

@@ -256,6 +256,9 @@ def print_rates(programs, loads, folder):
 
 
 def main():
+    if {"-h", "--help"} & set(sys.argv[1:]):
+        print(__doc__)
+        return
     is_counted, words = sys.argv[1:2] == ["--count"], [it for it in sys.argv[1:] if it != "--count"]
     if len(words) > 2 or any(it.startswith("-") for it in words):
         sys.exit(__doc__)

@@ -255,7 +255,9 @@ def print_frames(kind):
 
 
 def main(words):
-    if len(words) == 2 and words[0] == "bytes":
+    if words[:1] in (["-h"], ["--help"]):
+        print(__doc__)
+    elif len(words) == 2 and words[0] == "bytes":
         sys.stdout.buffer.write(from_text(words[1])[0])
     elif len(words) == 1 and words[0] in ("replies", "requests"):
         print_frames({"replies": "reply", "requests": "request"}[words[0]])

@@ -8,8 +8,7 @@ that tells want of memory; from there on each reply is of the kind of the full o
 a signal. Then `new`, `verify`, `at` and `run` of an image are run under ever higher limits of stack: each run ends with status 0,
 or with status 1 and one line. Ends with status 1 where anything else is seen.
 
-    limits.py [FILE.hex [PROGRAM]]    first_requests.hex beside this file and crates/s4d/out/s4d where they aren't given;
-                                      a program that isn't there is built by `rt run`
+    limits.py [FILE.hex [PROGRAM]]    first_requests.hex beside this file and crates/s4d/out/s4d where they aren't given
 """
 import os
 import subprocess
@@ -17,7 +16,6 @@ import sys
 import tempfile
 
 HERE = os.path.dirname(os.path.abspath(__file__))
-CRATE = os.path.join(HERE, "..", "crates", "s4d")
 STACK_STEP = 2  # in KiB, as all limits here
 STACK_MOST = 1024
 COMMANDS_STEP = 16
@@ -164,12 +162,13 @@ def sweep_commands(sweep):
 
 
 def main():
+    if {"-h", "--help"} & set(sys.argv[1:]):
+        print(__doc__)
+        return 0
     file = sys.argv[1] if len(sys.argv) > 1 else os.path.join(HERE, "first_requests.hex")
-    program = os.path.abspath(sys.argv[2] if len(sys.argv) > 2 else os.path.join(CRATE, "out", "s4d"))
+    program = os.path.abspath(sys.argv[2] if len(sys.argv) > 2 else os.path.join(HERE, "..", "crates", "s4d", "out", "s4d"))
     if not os.path.exists(program):
-        print("building s4d", file=sys.stderr)
-        how = {"cwd": CRATE, "stdin": subprocess.DEVNULL, "stdout": subprocess.DEVNULL}
-        subprocess.run(["rt", "run", "--", "pipe", "client"], check=True, **how)
+        sys.exit(f"limits.py: {program}: no program")
     turned = [sys.executable, os.path.join(HERE, "hex.py"), "bytes", file]
     data = subprocess.run(turned, capture_output=True, check=True).stdout
     data += frame(LARGE_WRITE) + frame(SMALLER) + frame(APPEND)

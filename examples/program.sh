@@ -1,17 +1,82 @@
-# Read by run.sh and test.sh: sets `program` to the words that run s4d, and `kind` to what they run.
-#     S4D in the environment names the program; else the one that `rt ci` or `rt run` left
+# Read by the scripts here, after `. program.sh`: their --help, and the words that run s4d.
+#     S4D in the environment names the program; else it is the proved one that `rt ci` or `rt run` left, or an unproved build
 here=$(cd "$(dirname "${BASH_SOURCE[0]}")" && pwd)
-crate=$(cd "$here/../crates/s4d" && pwd)
+top=$(cd "$here/.." && pwd)
+me=$(basename "$0")
+proved=$top/crates/s4d/out/s4d
+unproved=$top/out/unproved/s4d # git passes over out/
+
+# Ends the script with a line on standard error.
+fail() {
+    echo "$me: $2" >&2
+    exit "$1"
+}
+
+# Prints the script's own head where the first word asks for help.
+help_where_asked() {
+    case ${1:-} in -h | --help)
+        sed -n '2,${/^#/!q;s/^# \{0,1\}//;p}' "$0"
+        exit 0
+        ;;
+    esac
+}
+
+need_python() {
+    command -v python3 > /dev/null || fail 2 "python3 is needed"
+}
+
+# Sets `program` to a built s4d, and `kind` to what it is; status 1 where none is here.
 find_program() {
     if [ -n "${S4D:-}" ]; then
         program=$S4D kind="the program that S4D names"
-    elif [ -x "$crate/out/s4d" ]; then
-        program=$crate/out/s4d kind="the proved program"
+    elif [ -x "$proved" ]; then
+        program=$proved kind="the proved program"
+    elif [ -x "$unproved" ] && [ -z "$(find "$top/crates" -name '*.rt' -newer "$unproved" -print -quit)" ]; then
+        program=$unproved kind="an unproved build"
     else
         return 1
     fi
-    if [ ! -x "$program" ]; then
-        echo "$(basename "$0"): $program: no program" >&2
-        exit 1
-    fi
+    [ -x "$program" ] || fail 1 "$program: no program"
+    program=$(realpath "$program")
+}
+
+# The same, and makes an unproved build where no program is here.
+find_or_build_program() {
+    find_program && return
+    command -v rt > /dev/null ||
+        fail 2 "no built s4d is here, and rt, which builds it, isn't on the PATH: it comes with the Rattle kit (README, 'What is trusted')"
+    build_unproved
+    find_program
+}
+
+# Compiles s4d by `rt try`, which proves nothing, and keeps the program. `rt try` removes what it compiled once that has
+# ended, so the program is made to wait for the rest of its input, and is copied while it runs.
+build_unproved() {
+    local folder building running seconds=0
+    folder=$(mktemp -d)
+    mkdir -p "$(dirname "$unproved")" "$folder/rt"
+    rm -f "$unproved"
+    mkfifo "$folder/held"
+    exec 3<> "$folder/held"
+    echo "$me: no built s4d is here: compiling it by rt try, with no proof, once; about a minute" >&2
+    (cd "$top/crates/s4d" && TMPDIR=$folder/rt exec rt try -- verify "$folder/held") 3<&- < /dev/null > "$folder/said" 2>&1 &
+    building=$!
+    while kill -0 $building 2> /dev/null; do
+        running=$(grep -hso "r-xp .*$folder/rt/.*" /proc/[0-9]*/maps | grep -o "$folder/rt/.*" | head -n 1 || true)
+        if [ -n "$running" ] && cp "$running" "$unproved.part" 2> /dev/null; then
+            chmod 755 "$unproved.part"
+            mv "$unproved.part" "$unproved"
+            kill $building # rt removes what it made
+            break
+        fi
+        [ -t 2 ] && printf '\r%s: %s s ' "$me" $seconds >&2
+        sleep 1
+        seconds=$((seconds + 1))
+    done
+    [ -t 2 ] && printf '\r' >&2
+    exec 3>&-
+    wait $building || true
+    [ -x "$unproved" ] || { cat "$folder/said" >&2; rm -rf "$folder"; fail 1 "rt try compiled no program"; }
+    rm -rf "$folder"
+    echo "$me: kept as out/unproved/s4d; it isn't proved. The proved program is built as CONTRIBUTING.md says" >&2
 }

@@ -1,22 +1,14 @@
 #!/usr/bin/env bash
-# Tells a story over fresh files: an object is made, an intruder overwrites and deletes it, and what was there before is read.
-#     story.sh        S4D names the program, else the one that `rt ci` or `rt run` left in crates/s4d/out
+# Tells a story over fresh files: an owner makes two objects, an intruder overwrites one and deletes the other, and an
+# administrator restores both from what they held before.
+#     story.sh        S4D names the program, else the one that `rt ci` or `rt run` left, else an unproved build, which is
+#                     made once and kept: about a minute
 set -euo pipefail
 . "$(dirname "$0")/program.sh"
-if ! command -v python3 > /dev/null; then
-    echo "story.sh: python3 is needed" >&2
-    exit 2
-fi
-if ! find_program; then
-    if ! command -v rt > /dev/null; then
-        echo "story.sh: neither a built program nor the Rattle kit's command rt is here" >&2
-        exit 2
-    fi
-    echo "story.sh: no built program is here: proving and building s4d by rt run, a quarter of an hour and more" >&2
-    (cd "$crate" && rt run -- pipe client < /dev/null) > /dev/null
-    find_program
-fi
-program=$(realpath "$program")
+help_where_asked "$@"
+need_python
+find_or_build_program
+[ "$kind" != "an unproved build" ] || echo "$me: running $kind, $program" >&2
 folder=$(mktemp -d)
 trap 'rm -rf "$folder"' EXIT
 cd "$folder"
@@ -26,34 +18,42 @@ run() {
     "$program" "$@"
 }
 
-# Serves one session of a role, with no upkeep beside it, and shows its requests and its replies.
+# Serves one session of a role, with no upkeep and a tick of 0, so that only changes move the clock.
 session() {
     python3 -B "$here/hex.py" bytes "$here/story_$2.hex" > "$2.in"
-    run run --no-upkeep drive.image "$1:$2.in:$2.out"
+    run run --tick 0 --no-upkeep drive.image "$1:$2.in:$2.out"
     sed 's/^/  > /' <(python3 -B "$here/hex.py" requests < "$2.in")
     sed 's/^/  < /' <(python3 -B "$here/hex.py" replies < "$2.out")
+}
+
+# The bytes of an object at a moment, or the refusal.
+show() {
+    run at drive.image "$1" "$2" && echo || echo "(status $?)"
 }
 
 echo "# A new drive"
 run new drive.image 16
 run verify drive.image
 echo
-echo "# Its owner makes an object"
+echo "# BEFORE. Its owner makes two objects"
 session client owner
+show 1 4
+show 2 4
 echo
-echo "# An intruder comes"
+echo "# AFTER. An intruder with a client's rights overwrites the first and deletes the second, but can't hide what was there"
 session client intruder
-run verify drive.image
+show 1 6
+show 2 6
 echo
-echo "# An administrator reads what was there before"
+echo "# What was there before can still be read, by anybody who has the image"
+show 1 4
+show 2 4
+echo
+echo "# RESTORED. An administrator reads both at moment 4 and writes them back; a deleted object gets a new number"
 session admin admin
+show 1 9
+show 3 9
 echo
-echo "# So does anybody who has the image"
-run at drive.image 1 2
-echo
-echo
-echo "# The object isn't there any more"
-run at drive.image 1 5 || echo "(status $?)"
-echo
-echo "# The image is whole"
+echo "# The intruder's version is kept too, and the image is whole"
+show 1 6
 run verify drive.image

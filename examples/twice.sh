@@ -1,18 +1,13 @@
 #!/usr/bin/env bash
 # Serves one stream of requests on two new drives, and compares the images and the replies byte by byte.
-#     twice.sh [FILE.hex]        S4D names the program, else the one that `rt ci` or `rt run` left in crates/s4d/out
+#     twice.sh [FILE.hex]     first_requests.hex where none is named
+# S4D names the program, else it is the one that `rt ci` or `rt run` left, else an unproved build, which is made once.
 set -euo pipefail
 . "$(dirname "$0")/program.sh"
+help_where_asked "$@"
+need_python
 file=$(realpath "${1:-$here/first_requests.hex}")
-if ! command -v python3 > /dev/null; then
-    echo "twice.sh: python3 is needed" >&2
-    exit 2
-fi
-if ! find_program; then
-    echo "twice.sh: no program in crates/s4d/out; build it by (cd crates/s4d && rt run -- pipe client < /dev/null)" >&2
-    exit 2
-fi
-program=$(realpath "$program")
+find_or_build_program
 folder=$(mktemp -d)
 trap 'rm -rf "$folder"' EXIT
 cd "$folder"
@@ -23,4 +18,4 @@ for name in one two; do
 done
 cmp one.out two.out
 cmp one.image two.image
-echo "twice.sh: equal replies, $(wc -c < one.out) bytes, and equal images, $(wc -c < one.image) bytes"
+echo "$me: equal replies, $(wc -c < one.out) bytes, and equal images, $(wc -c < one.image) bytes"
