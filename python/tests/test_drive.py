@@ -230,6 +230,35 @@ class Images(unittest.TestCase):
         with self.assertRaisesRegex(s4d.Future, "read of object 7 at moment 1"):
             self.image.read(7, at=1)
 
+    def flood(self, frames, objects):
+        """Objects that hold what their owner wrote, and then a client's Writes to them, of which some are refused."""
+        self.image.make(frames, window=1_000)
+        with self.image.session("client", upkeep=False) as it:
+            for _ in range(objects):
+                kept = it.write(it.create().object, 0, b"mill")
+            with it.pipeline() as batch:
+                replies = [batch.write(1 + turn % objects, 0, b"moor") for turn in range(300)]
+        flooded = max(reply.result() for reply in replies if not reply.refusal())
+        return kept, flooded, type(replies[-1].refusal())
+
+    def restore(self, kept, flooded, refusal, flush):
+        """Writes back what was there, once the flood is hidden and cleaned."""
+        retry = s4d.Retry(times=60, wait=0.1, factor=1, refusals=(refusal,))
+        with self.image.session("admin", retry=retry) as it:
+            flush(it, kept + 1, flooded)
+            it.write(1, 0, it.at(kept).read(1))
+            self.assertEqual((it.read(1), it.at(kept).read(1)), (b"mill", b"mill"))
+
+    def test_the_way_out_of_a_full_journal(self):
+        kept, flooded, refusal = self.flood(frames=64, objects=1)
+        self.assertIs(refusal, s4d.ChainFull)
+        self.restore(kept, flooded, refusal, lambda it, first, last: it.flush_object(1, first, last))
+
+    def test_the_way_out_of_a_full_drive(self):
+        kept, flooded, refusal = self.flood(frames=16, objects=4)
+        self.assertIs(refusal, s4d.NoSpace)
+        self.restore(kept, flooded, refusal, lambda it, first, last: it.flush(first, last))
+
     def test_what_is_no_image(self):
         with self.assertRaisesRegex(s4d.ProgramFailed, "cannot read"):
             self.image.verify()
