@@ -8,7 +8,7 @@ from typing import List, Optional, Type, TypeVar, Union
 
 from . import wire
 from .connection import Connection, Peer, Reader, SocketPeer, Writer, dialled
-from .errors import Ended, ProgramFailed, Refused
+from .errors import Ended, ProgramFailed
 from .history import Span, history_of
 from .pipeline import Pipeline, Reply
 from .program import Program

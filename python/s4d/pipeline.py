@@ -52,7 +52,9 @@ class Reply(Generic[T]):
 
 
 class Pipeline:
-    """Collects requests. The end of a `with` block, or `run`, sends them; each method gives a `Reply`.
+    """Collects requests. The end of a `with` block, or `run`, sends them.
+
+    Each method asks what the method of the same name asks of a `Drive`, and gives a `Reply`.
 
     Replies are read while requests are written, so that neither side waits for the other for ever, however many there are.
     Nothing is asked again after a refusal: later requests have been sent by then.
