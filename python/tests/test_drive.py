@@ -230,6 +230,18 @@ class Images(unittest.TestCase):
         with self.assertRaisesRegex(s4d.Future, "read of object 7 at moment 1"):
             self.image.read(7, at=1)
 
+    def test_a_live_session_over_fifos(self):
+        self.image.make(16)
+        requests, replies = f"{self.image.path}.in", f"{self.image.path}.out"
+        os.mkfifo(requests)
+        os.mkfifo(replies)
+        server = subprocess.Popen([PROGRAM, "run", self.image.path, f"client:{requests}:{replies}"])
+        with open(requests, "wb") as writer, open(replies, "rb") as reader:
+            it = s4d.Drive(reader, writer)
+            self.assertEqual((it.create(), it.read(1)), (Created(1, 1), b""))
+        self.assertEqual(server.wait(20), 0)
+        self.assertEqual(self.image.verify().objects, 1)
+
     def flood(self, frames, objects):
         """Objects that hold what their owner wrote, and then a client's Writes to them, of which some are refused."""
         self.image.make(frames, window=1_000)
