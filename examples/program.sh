@@ -44,7 +44,7 @@ find_program() {
 find_or_build_program() {
     find_program && return
     command -v rt > /dev/null ||
-        fail 2 "no built s4d is here, and rt, which builds it, isn't on the PATH: it comes with the Rattle kit (README, 'What is trusted')"
+        fail 2 "no built s4d is here, and rt, which builds it, isn't on the PATH: it comes with the Rattle kit, as CONTRIBUTING.md says"
     build_unproved
     find_program
 }
