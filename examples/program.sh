@@ -52,21 +52,22 @@ find_or_build_program() {
 # Compiles s4d by `rt try`, which proves nothing, and keeps the program. `rt try` removes what it compiled once that has
 # ended, so the program is made to wait for the rest of its input, and is copied while it runs.
 build_unproved() {
-    local folder building running seconds=0
-    folder=$(mktemp -d)
-    mkdir -p "$(dirname "$unproved")" "$folder/rt"
+    local running seconds=0
+    room=$(mktemp -d)
+    mkdir -p "$(dirname "$unproved")" "$room/rt"
     rm -f "$unproved"
-    mkfifo "$folder/held"
-    exec 3<> "$folder/held"
+    mkfifo "$room/held"
+    exec 3<> "$room/held"
     echo "$me: no built s4d is here: compiling it by rt try, with no proof, once; about a minute" >&2
-    (cd "$top/crates/s4d" && TMPDIR=$folder/rt exec rt try -- verify "$folder/held") 3<&- < /dev/null > "$folder/said" 2>&1 &
+    (cd "$top/crates/s4d" && TMPDIR=$room/rt exec rt try -- verify "$room/held") 3<&- < /dev/null > "$room/said" 2>&1 &
     building=$!
-    while kill -0 $building 2> /dev/null; do
-        running=$(grep -hso "r-xp .*$folder/rt/.*" /proc/[0-9]*/maps | grep -o "$folder/rt/.*" | head -n 1 || true)
+    trap 'kill "$building" 2> /dev/null || true; rm -rf "$room"' EXIT
+    while kill -0 "$building" 2> /dev/null; do
+        running=$(grep -hso "r-xp .*$room/rt/.*" /proc/[0-9]*/maps | grep -o "$room/rt/.*" | head -n 1 || true)
         if [ -n "$running" ] && cp "$running" "$unproved.part" 2> /dev/null; then
             chmod 755 "$unproved.part"
             mv "$unproved.part" "$unproved"
-            kill $building # rt removes what it made
+            kill "$building" # rt removes what it made
             break
         fi
         [ -t 2 ] && printf '\r%s: %s s ' "$me" $seconds >&2
@@ -75,8 +76,9 @@ build_unproved() {
     done
     [ -t 2 ] && printf '\r' >&2
     exec 3>&-
-    wait $building || true
-    [ -x "$unproved" ] || { cat "$folder/said" >&2; rm -rf "$folder"; fail 1 "rt try compiled no program"; }
-    rm -rf "$folder"
+    wait "$building" || true
+    [ -x "$unproved" ] || { cat "$room/said" >&2; fail 1 "rt try compiled no program"; }
+    trap - EXIT
+    rm -rf "$room"
     echo "$me: kept as out/unproved/s4d; it isn't proved. The proved program is built as CONTRIBUTING.md says" >&2
 }
