@@ -196,12 +196,13 @@ touched_some offset len lt = cond-false (len == 0) 0 ((offset + len - 1) / 512 +
 touched_none : (offset len : ℕ) → len ≡ 0 → touched_count offset len ≡ 0
 touched_none offset len e = cond-true (len == 0) 0 ((offset + len - 1) / 512 + 1 - offset / 512) (eq-eqb len 0 e)
 
-touched_tally : (offset len : ℕ) → offset + len ≤ OBJECT_BYTES → tally (is_touched offset len) 0 OBJECT_BLOCKS ≡ touched_count offset len
-touched_tally offset len le =
-    let all : tally (is_touched offset len) 0 OBJECT_BLOCKS ≡ min (offset / 512 + touched_count offset len) OBJECT_BLOCKS - max (offset / 512) 0 = tally-within (offset / 512) (offset / 512 + touched_count offset len) 0 OBJECT_BLOCKS in
-    elim (cases_lt 0 len) [
-      | inl some ↦ let count = touched_some offset len some in omega (arith, all, count, some, le)
-      | inr none ↦ let count = touched_none offset len (omega arith) in omega (arith, all, count)
+-- of an object of n blocks a write within it touches so many; n is a variable, since a count up to a number is a sum of so many terms to omega
+touched_tally : (offset len n : ℕ) → offset + len ≤ 512 * n → tally (is_touched offset len) 0 n ≡ touched_count offset len
+touched_tally offset len n le =
+    tally-within (offset / 512) (offset / 512 + touched_count offset len) 0 n
+    ∙ elim (cases_lt 0 len) [
+      | inl some ↦ let count = touched_some offset len some in omega (arith, count, some, le)
+      | inr none ↦ let count = touched_none offset len (omega arith) in omega (arith, count)
     ]
 
 -- a write replaces the pointers of the blocks that it touches
@@ -210,7 +211,7 @@ pub written_moves : OnePlace → (held : Place → Option Stored) (ahead : List 
 written_moves one held ahead moment offset len i j le written room fresh leads =
     between_count i j
     ∙ tally-same (differs i j) (is_touched offset len) 0 OBJECT_BLOCKS (λ k from below. touched_differs one held ahead moment offset len i j k written room fresh leads)
-    ∙ touched_tally offset len le
+    ∙ touched_tally offset len OBJECT_BLOCKS le
 
 -- ---- a truncation
 
@@ -238,34 +239,32 @@ cut_here i size k is = elim (cases_eq k (size / 512)) [
       ])
 ]
 
--- a size that cuts a block in two is below the limit
-cut_low : (i : Inode) (size : ℕ) → size ≤ OBJECT_BYTES → is_cut i size ≡ true → size / 512 < OBJECT_BLOCKS
-cut_low i size le is =
+-- a size that cuts a block of an object of n blocks in two is below its limit
+cut_low : (i : Inode) (size n : ℕ) → size ≤ 512 * n → is_cut i size ≡ true → size / 512 < n
+cut_low i size n le is =
     let deep = and_parts (ltb size i.size) (not (size % 512 == 0) && is_some (pointer_at i (size / 512))) is in
     let inner = and_parts (not (size % 512 == 0)) (is_some (pointer_at i (size / 512))) deep.1 in
     let rest : size % 512 ≡ 0 → ⊥ = eqb-false (size % 512) 0 (not-true (size % 512 == 0) inner.0) in
-    elim (cases_lt (size / 512) OBJECT_BLOCKS) [ inl low ↦ low | inr past ↦ absurd (rest (omega arith)) ]
+    elim (cases_lt (size / 512) n) [ inl low ↦ low | inr past ↦ absurd (rest (omega (arith, le, past))) ]
 
-cut_tally : (i : Inode) (size : ℕ) → size ≤ OBJECT_BYTES → tally (is_cut_at i size) 0 OBJECT_BLOCKS ≡ cut_count i size
-cut_tally i size le = elim (cases_Bool (is_cut i size)) [
+cut_tally : (i : Inode) (size n : ℕ) → size ≤ 512 * n → tally (is_cut_at i size) 0 n ≡ cut_count i size
+cut_tally i size n le = elim (cases_Bool (is_cut i size)) [
   | inl is ↦
-      let here : tally (is_cut_at i size) 0 OBJECT_BLOCKS ≡ tally (within (size / 512) (size / 512 + 1)) 0 OBJECT_BLOCKS = tally-same (is_cut_at i size) (within (size / 512) (size / 512 + 1)) 0 OBJECT_BLOCKS (λ k from below. cut_here i size k is) in
-      let one : tally (within (size / 512) (size / 512 + 1)) 0 OBJECT_BLOCKS ≡ min (size / 512 + 1) OBJECT_BLOCKS - max (size / 512) 0 = tally-within (size / 512) (size / 512 + 1) 0 OBJECT_BLOCKS in
-      let count : cut_count i size ≡ 1 = cond-true (is_cut i size) 1 0 is in
-      let low : size / 512 < OBJECT_BLOCKS = cut_low i size le is in
-      omega (arith, here, one, count, low)
+      let low : size / 512 < n = cut_low i size n le is in
+      tally-same (is_cut_at i size) (within (size / 512) (size / 512 + 1)) 0 n (λ k from below. cut_here i size k is)
+      ∙ tally-within (size / 512) (size / 512 + 1) 0 n
+      ∙ (let one : min (size / 512 + 1) (0 + n) - max (size / 512) 0 ≡ 1 = omega (arith, low) in one)
+      ∙ sym (cond-true (is_cut i size) 1 0 is)
   | inr whole ↦
-      let none : tally (is_cut_at i size) 0 OBJECT_BLOCKS ≡ 0 = tally-none (is_cut_at i size) 0 OBJECT_BLOCKS (λ k from below. and_left (is_cut i size) (k == size / 512) whole) in
-      let count : cut_count i size ≡ 0 = cond-false (is_cut i size) 1 0 whole in
-      none ∙ sym count
+      tally-none (is_cut_at i size) 0 n (λ k from below. and_left (is_cut i size) (k == size / 512) whole)
+      ∙ sym (cond-false (is_cut i size) 1 0 whole)
 ]
 
 past_and_cut : (i : Inode) (size : ℕ) → size ≤ OBJECT_BYTES → (f : ℕ → Bool) → ((k : ℕ) → bit (f k) ≡ bit (is_past i size k) + bit (is_cut_at i size k)) → tally f 0 OBJECT_BLOCKS ≡ past_count i size + cut_count i size
 unfolding past_count
 past_and_cut i size le f each =
-    let both : tally f 0 OBJECT_BLOCKS ≡ tally (is_past i size) 0 OBJECT_BLOCKS + tally (is_cut_at i size) 0 OBJECT_BLOCKS = tally-sum (is_past i size) (is_cut_at i size) f 0 OBJECT_BLOCKS (λ k from below. each k) in
-    let cut : tally (is_cut_at i size) 0 OBJECT_BLOCKS ≡ cut_count i size = cut_tally i size le in
-    omega (arith, both, cut)
+    tally-sum (is_past i size) (is_cut_at i size) f 0 OBJECT_BLOCKS (λ k from below. each k)
+    ∙ ap (λ cut. tally (is_past i size) 0 OBJECT_BLOCKS + cut) (cut_tally i size OBJECT_BLOCKS le)
 
 pub past_uncut : (i : Inode) (size k : ℕ) → is_cut_at i size k ≡ true → size ≤ 512 * k → ⊥
 past_uncut i size k is le =
@@ -324,8 +323,17 @@ either_bit true false h = refl
 either_bit false true h = refl
 either_bit false false h = refl
 
+equal_most : (a b most : ℕ) → a ≡ b → a ≤ most → b ≤ most
+equal_most a b most e le = omega (arith, e, le)
+
 pub moved_most : (i : Inode) (size : ℕ) → size ≤ OBJECT_BYTES → past_count i size + cut_count i size ≤ OBJECT_BLOCKS
 moved_most i size le =
-    let all : tally (λ k. is_past i size k || is_cut_at i size k) 0 OBJECT_BLOCKS ≡ past_count i size + cut_count i size = past_and_cut i size le (λ k. is_past i size k || is_cut_at i size k) (λ k. either_bit (is_cut_at i size k) (is_past i size k) (cut_before i size k)) in
-    let most = tally_most (λ k. is_past i size k || is_cut_at i size k) OBJECT_BLOCKS in
-    omega (arith, all, most)
+    let f : ℕ → Bool = λ k. is_past i size k || is_cut_at i size k in
+    equal_most (tally f 0 OBJECT_BLOCKS) (past_count i size + cut_count i size) OBJECT_BLOCKS (past_and_cut i size le f (λ k. either_bit (is_cut_at i size k) (is_past i size k) (cut_before i size k))) (tally_most f OBJECT_BLOCKS)
+
+-- a write within an object touches at most all its blocks
+pub touched_most : (offset len : ℕ) → offset + len ≤ OBJECT_BYTES → touched_count offset len ≤ OBJECT_BLOCKS
+touched_most offset len le = elim (cases_lt 0 len) [
+  | inl some ↦ let count = touched_some offset len some in omega (arith, count, some, le)
+  | inr none ↦ let count = touched_none offset len (omega arith) in omega (arith, count)
+]

@@ -52,7 +52,7 @@ fn blocks_past(inode: &Inode, size: u64) -> usize
 }
 
 /// How many pointers of an inode a change replaces: at most all 48.
-#[tactic(auto, using(crate::proofs::Counting::moved_most))]
+#[tactic(auto, using(crate::proofs::Counting::moved_most, crate::proofs::Counting::touched_most))]
 fn pointers_moved(change: &Change, inode: &Inode) -> usize
     requires fits { Fits change.now }
     requires size { inode.now.size ≤ OBJECT_BYTES }
