@@ -4,6 +4,7 @@ use Rattle.std.specs.Prelude.{IfNone}
 use Rattle.std.proofs.lemmas.Bool.{cond-true}
 use Rattle.std.proofs.lemmas.Option.{none-some}
 use Rattle.std.proofs.lemmas.List.{length-drop, length-append}
+use Rattle.s4_types.specs.declared.limits.TheConstants.{OBJECT_BLOCKS}
 use Rattle.codec.specs.declared.inodes.Inode.{Inode}
 use Rattle.codec.specs.declared.entries.Triple.{Triple}
 use Rattle.codec.specs.Fields.{Reads}
@@ -30,18 +31,18 @@ below_grows i j n (suc k) =
     omega (arith, so_far, one, last)
 
 -- where sixteen differ below an index, and the pointers there too, more than sixteen do
-pub beyond : (i j : Inode) (n : ℕ) (t : Triple) (triples : List Triple) → n < 48 → triples ≡ triples_below n i j → 16 ≤ length triples → t ≡ triple_between i j n → tells_apart t ≡ true → 16 < length (triples_between i j)
+pub beyond : (i j : Inode) (n : ℕ) (t : Triple) (triples : List Triple) → n < OBJECT_BLOCKS → triples ≡ triples_below n i j → 16 ≤ length triples → t ≡ triple_between i j n → tells_apart t ≡ true → 16 < length (triples_between i j)
 beyond i j n t triples lt are full is apart =
     let here : tells_apart (triple_between i j n) ≡ true = ap tells_apart (sym is) ∙ apart in
     let last : cond (tells_apart (triple_between i j n)) (triple_between i j n ∷ []) [] ≡ triple_between i j n ∷ [] = cond-true (tells_apart (triple_between i j n)) (triple_between i j n ∷ []) [] here in
     let next : length (triples_below (n + 1) i j) ≡ length (triples_below n i j) + 1 = ap (λ (ts : List Triple). length ts) (below_more i j n ∙ ap (λ (ts : List Triple). triples_below n i j ++ ts) last) ∙ length-append (triples_below n i j) (triple_between i j n ∷ []) in
     let count : length triples ≡ length (triples_below n i j) = ap (λ (ts : List Triple). length ts) are in
-    let rest : (47 - n) + (n + 1) ≡ 48 = omega (arith, lt) in
-    let all : length (triples_below ((47 - n) + (n + 1)) i j) ≡ length (triples_between i j) = ap (λ (ts : List Triple). length ts) (below_all i j ((47 - n) + (n + 1)) rest) in
-    let grows : length (triples_below (n + 1) i j) ≤ length (triples_below ((47 - n) + (n + 1)) i j) = below_grows i j (n + 1) (47 - n) in
+    let rest : (OBJECT_BLOCKS - (n + 1)) + (n + 1) ≡ OBJECT_BLOCKS = omega (arith, lt) in
+    let all : length (triples_below ((OBJECT_BLOCKS - (n + 1)) + (n + 1)) i j) ≡ length (triples_between i j) = ap (λ (ts : List Triple). length ts) (below_all i j ((OBJECT_BLOCKS - (n + 1)) + (n + 1)) rest) in
+    let grows : length (triples_below (n + 1) i j) ≤ length (triples_below ((OBJECT_BLOCKS - (n + 1)) + (n + 1)) i j) = below_grows i j (n + 1) (OBJECT_BLOCKS - (n + 1)) in
     omega (arith, next, count, all, grows, full)
 
-pub few_all : (i j : Inode) (n : ℕ) (triples : List Triple) → n ≡ 48 → triples ≡ triples_below n i j → length triples ≤ 16 → length (triples_between i j) ≤ 16
+pub few_all : (i j : Inode) (n : ℕ) (triples : List Triple) → n ≡ OBJECT_BLOCKS → triples ≡ triples_below n i j → length triples ≤ 16 → length (triples_between i j) ≤ 16
 few_all i j n triples end are few =
     let count : length triples ≡ length (triples_between i j) = ap (λ (ts : List Triple). length ts) (are ∙ below_all i j n end) in
     omega (arith, count, few)
