@@ -13,10 +13,12 @@
 mod inodes;
 pub mod laws;
 mod plans;
+mod presents;
 mod undo_index;
 pub mod undo_laws;
 mod undo_records;
 
 pub use inodes::{entries, inode_at};
 pub use plans::{Piece, PlanPiece, ReadPlan, plan};
+pub use presents::{Present, index_of, take_index};
 pub use undo_index::UndoIndex;

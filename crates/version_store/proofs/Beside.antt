@@ -17,10 +17,11 @@ use Rattle.object_map.specs.declared.map.Row.{Row}
 use Rattle.object_map.specs.Objects.{value_of, with_value, without_value, PutsAt}
 use Rattle.object_map.specs.Rows.{row_of, with_row, fresh_row}
 use Rattle.time_read.specs.Rows.{entries_of, first_of, inode_of, last_inode}
-use Rattle.version_store.specs.declared.presents.Present.{Present}
+use Rattle.time_read.specs.declared.presents.Present.{Present}
 use Rattle.version_store.specs.Store.{StoreFields, IsStore}
 use Rattle.version_store.specs.Versions.{entries_of_row, entries_of_object, inode_by, inode_in}
-use Rattle.version_store.specs.private.Beside.{Tells, TellsOf, inode_beside, IsBeside}
+use Rattle.time_read.specs.Presents.{Tells, TellsOf}
+use Rattle.version_store.specs.private.Beside.{inode_beside, IsBeside}
 use Rattle.version_store.specs.private.Replacing.{RunsEnd}
 use Rattle.version_store.specs.Checkpointing.{last_entry, IsCheckpointed}
 use Rattle.version_store.specs.Replacing.{OtherObjectsStay, IsRemoved}

@@ -14,11 +14,12 @@ use Rattle.object_map.specs.declared.map.Row.{Row}
 use Rattle.object_map.specs.Objects.{value_of, AreBelow}
 use Rattle.object_map.specs.Rows.{row_of}
 use Rattle.time_read.specs.Rows.{entries_of, inode_of}
-use Rattle.version_store.specs.declared.presents.Present.{Present}
+use Rattle.time_read.specs.declared.presents.Present.{Present}
 use Rattle.version_store.specs.Opening.{OpenedFields, numbers_opened, rows_opened, AscendAbove, NumbersAscend, FitsItsRow}
 use Rattle.version_store.specs.Store.{StoreFields}
 use Rattle.version_store.specs.Versions.{inode_by, entries_of_row, entries_of_object}
-use Rattle.version_store.specs.private.Beside.{TellsOf, IsBeside}
+use Rattle.time_read.specs.Presents.{TellsOf}
+use Rattle.version_store.specs.private.Beside.{IsBeside}
 use Rattle.version_store.specs.private.Opening.{present_of, presents_opened}
 
 -- ---- numbers that ascend

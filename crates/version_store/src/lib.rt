@@ -18,7 +18,6 @@ mod histories;
 pub mod laws;
 mod named_table;
 mod opened;
-mod presents;
 mod store;
 
 pub use copies::CopiedBlock;

@@ -7,12 +7,12 @@ ghost use Rattle.time_read.specs.Rows.{entries_of, inode_of};
 ghost use Rattle.version_store.specs.Opening.{IndexesEntries, FitsItsRow, numbers_opened, rows_opened, NumbersAscend};
 ghost use Rattle.version_store.specs.private.Opening.{presents_opened};
 
-use crate::presents::{Present, index_of};
 use codec::{Entry, Inode};
 use object_map::{ObjectMap, Row};
 use s4_types::{ObjectId, Refusal};
 use std::alloc::Global;
 use std::marker::Model;
+use time_read::{Present, index_of};
 
 /// An object of a drive that was saved: its row, and what stands beside it.
 /// Contracts see its number, its row, its present inode, and what its index tells.

@@ -19,7 +19,6 @@ mod replacements;
 mod seals;
 
 use crate::laws::{an_object_has_an_inode_at_all_moments_or_at_none, the_present_stays};
-use crate::presents::Present;
 use block_log::Blocks;
 use codec::{Entry, Inode};
 use inode::laws::held_pointers_lead;
@@ -28,6 +27,7 @@ use s4_types::limits::RESERVE_BLOCKS;
 use s4_types::{Moment, ObjectId, Refusal};
 use std::alloc::Global;
 use std::marker::Model;
+use time_read::Present;
 use time_read::laws::the_last_inode_is_current;
 use undo_redo::laws::a_run_has_one_end_and_one_beginning;
 

@@ -1,20 +1,11 @@
 -- What stands beside the rows of a store. No public clause cites this file.
-use Rattle.std.specs.Prelude.{◌≡◌, ℕ, List, map, Option, IfSome, option_map}
+use Rattle.std.specs.Prelude.{◌≡◌, ℕ, List, Option, option_map}
 use Rattle.codec.specs.declared.inodes.Inode.{Inode}
-use Rattle.codec.specs.Entry.{EntryFields}
 use Rattle.object_map.specs.Objects.{value_of}
-use Rattle.time_read.specs.Undoings.{Undoing, undoing_of}
-use Rattle.version_store.specs.declared.presents.Present.{Present}
+use Rattle.time_read.specs.declared.presents.Present.{Present}
+use Rattle.time_read.specs.Presents.{TellsOf}
 use Rattle.version_store.specs.Store.{StoreFields}
 use Rattle.version_store.specs.Versions.{inode_in, entries_of_object}
-
--- an index that is there tells what undoes each of these entries
-abbrev pub Tells : Option (List Undoing) → List EntryFields → Type 0
-Tells index entries = IfSome index (λ undoings. undoings ≡ map undoing_of entries)
-
--- so does the index that stands beside a row
-abbrev pub TellsOf : Option Present → List EntryFields → Type 0
-TellsOf present entries = IfSome present (λ p. Tells p.index entries)
 
 -- the inode beside an object's row
 abbrev pub inode_beside : List (ℕ × Present) → ℕ → Option Inode

@@ -1,6 +1,6 @@
 -- What stands beside the rows of objects of a drive that was saved. No public clause cites this file.
 use Rattle.std.specs.Prelude.{ℕ, List, map}
-use Rattle.version_store.specs.declared.presents.Present.{Present}
+use Rattle.time_read.specs.declared.presents.Present.{Present}
 use Rattle.version_store.specs.Opening.{OpenedFields}
 
 -- what a store keeps beside an object's row

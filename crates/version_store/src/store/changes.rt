@@ -14,7 +14,6 @@ ghost use Rattle.version_store.specs.private.Turning.{CanTake, CanTurn, Turns, I
 
 use crate::costs::{object_of, refusal};
 use crate::laws::{changes_begin_with_the_present, what_changes_rest_on};
-use crate::presents::{Present, take_index};
 use crate::store::Store;
 use block_log::Blocks;
 use codec::{Attribute, Entry, Inode};
@@ -24,7 +23,7 @@ use row_changes::laws::a_fresh_row_stands;
 use row_changes::record_change;
 use s4_types::{Change, Moment, ObjectId, Refusal};
 use std::slice::from_ref;
-use time_read::UndoIndex;
+use time_read::{Present, UndoIndex, take_index};
 use undo_redo::laws::a_blank_inode_has_holes_alone;
 use undo_redo::{blank, entries_between, only_entry_between};
 

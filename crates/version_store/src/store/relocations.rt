@@ -11,7 +11,6 @@ ghost use Rattle.version_store.specs.private.Relocating.{Tells, RelocatesIn};
 use crate::copies::CopiedBlock;
 use crate::histories::{History, read_history, relocate_blocks};
 use crate::laws::what_changes_rest_on;
-use crate::presents::{Present, index_of};
 use crate::store::Store;
 use block_log::Blocks;
 use chain_rewriting::renaming_laws::{
@@ -21,6 +20,7 @@ use chain_rewriting::renaming_laws::{
 use object_map::Row;
 use row_changes::moved_blocks;
 use s4_types::{ObjectId, Refusal};
+use time_read::{Present, index_of};
 
 impl<B: Blocks> Store<B> {
     /// An object's blocks, whose history this is, go to new places where there is room.

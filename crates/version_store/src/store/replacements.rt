@@ -15,7 +15,6 @@ ghost use Rattle.version_store.specs.private.Replacing.{Removes, Replaces};
 
 use crate::data_blocks::{drop_all, drop_data, places_told, pointers_of};
 use crate::laws::what_changes_rest_on;
-use crate::presents::{Present, index_of};
 use crate::store::Store;
 use crate::store::checkpoints::last_entry;
 use block_log::Blocks;
@@ -24,6 +23,7 @@ use object_map::Row;
 use row_changes::{rewrite_row, rewritten_blocks};
 use s4_types::{ObjectId, Ptr, Refusal};
 use std::collections::HashSet;
+use time_read::{Present, index_of};
 use undo_redo::laws::{a_run_has_one_end_and_one_beginning, the_inode_at_a_moment};
 
 impl<B: Blocks> Store<B> {

@@ -1,7 +1,7 @@
 use Rattle.std.proofs.Common.{List, Some, sym, ap, subst}
 use Rattle.time_read.specs.Undoings.{Undoing}
 use Rattle.object_map.specs.Objects.{MapOf}
-use Rattle.version_store.specs.declared.presents.Present.{Present}
+use Rattle.time_read.specs.declared.presents.Present.{Present}
 use Rattle.version_store.specs.Store.{StoreFields, fields_of}
 use Rattle.version_store.specs.private.Beside.{inode_beside, IsBeside}
 use Rattle.version_store.proofs.Beside.{inode_put, added_indexed}

@@ -1,6 +1,6 @@
 use Rattle.std.proofs.Common.{ℕ, List, sym, subst}
 use Rattle.object_map.specs.declared.map.Row.{Row}
-use Rattle.version_store.specs.declared.presents.Present.{Present}
+use Rattle.time_read.specs.declared.presents.Present.{Present}
 use Rattle.version_store.specs.Store.{fields_of}
 use Rattle.version_store.specs.private.Beside.{IsBeside}
 use Rattle.version_store.specs.private.Opening.{presents_opened}

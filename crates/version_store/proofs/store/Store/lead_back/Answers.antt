@@ -4,7 +4,8 @@ use Rattle.object_map.specs.Rows.{row_of}
 use Rattle.time_read.specs.Undoings.{Undoing}
 use Rattle.version_store.specs.Store.{StoreOf, StoreFields, IsStore, fields_of}
 use Rattle.version_store.specs.Versions.{entries_of_object, inode_in}
-use Rattle.version_store.specs.private.Beside.{Tells, IsBeside}
+use Rattle.time_read.specs.Presents.{Tells}
+use Rattle.version_store.specs.private.Beside.{IsBeside}
 use Rattle.version_store.proofs.Beside.{index_kept, undone_at, present_last}
 use Rattle.version_store.proofs.store.Store.lead_back.Goals as goal
 

@@ -5,11 +5,12 @@ use Rattle.object_map.specs.Objects.{Puts, with_value}
 use Rattle.object_map.specs.Rows.{row_of}
 use Rattle.chain_rewriting.specs.Renaming.{RenamingFields, renamed_entries, renamed_inode}
 use Rattle.time_read.specs.Rows.{entries_of}
-use Rattle.version_store.specs.declared.presents.Present.{Present}
+use Rattle.time_read.specs.declared.presents.Present.{Present}
 use Rattle.version_store.specs.Store.{StoreOf, StoreFields, IsStore, fields_of}
 use Rattle.version_store.specs.Versions.{inode_in}
 use Rattle.version_store.specs.Relocating.{blocks_relocated, renaming_by}
-use Rattle.version_store.specs.private.Beside.{Tells, inode_beside}
+use Rattle.time_read.specs.Presents.{Tells}
+use Rattle.version_store.specs.private.Beside.{inode_beside}
 use Rattle.version_store.specs.private.Relocating.{RelocatesIn}
 use Rattle.version_store.proofs.Beside.{inode_put, replaced_indexed}
 use Rattle.version_store.proofs.CheckpointSteps.{next_store}

@@ -12,7 +12,7 @@ use Rattle.version_store.specs.Replacing.{OnlyDataChanged, CanReplace, inode_led
 use Rattle.row_changes.specs.Rewritten.{rewritten_blocks}
 use Rattle.version_store.specs.private.Dropping.{leads_to, is_among}
 use Rattle.version_store.specs.private.Replacing.{Replaces}
-use Rattle.version_store.specs.declared.presents.Present.{Present}
+use Rattle.time_read.specs.declared.presents.Present.{Present}
 use Rattle.version_store.specs.private.Beside.{inode_beside}
 use Rattle.version_store.proofs.Beside.{inode_put, replaced_indexed}
 use Rattle.version_store.proofs.Spending.{none_more}

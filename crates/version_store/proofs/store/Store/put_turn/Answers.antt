@@ -7,7 +7,7 @@ use Rattle.object_map.specs.Objects.{Puts}
 use Rattle.object_map.specs.Rows.{row_of}
 use Rattle.version_store.specs.Store.{StoreOf, StoreFields, fields_of}
 use Rattle.version_store.specs.private.Turning.{CanTurn, Turns, blocks_turned}
-use Rattle.version_store.specs.declared.presents.Present.{Present}
+use Rattle.time_read.specs.declared.presents.Present.{Present}
 use Rattle.version_store.specs.private.Beside.{inode_beside}
 use Rattle.version_store.proofs.Beside.{put_over, inode_put, turned_indexed}
 use Rattle.version_store.proofs.Steps.{Records}

@@ -1,26 +1,26 @@
-//! What stands beside an object's row.
+//! An object's present inode, with an index of its journal.
 ghost use Rattle.std.specs.Prelude.{◌≡◌, ℕ, ◌==◌, ◌++◌, false, List, IsSome};
 ghost use Rattle.codec.specs.Entry.{EntryFields};
 ghost use Rattle.object_map.specs.Objects.{value_of};
 ghost use Rattle.object_map.specs.Rows.{row_of};
-ghost use Rattle.version_store.specs.private.Beside.{Tells, TellsOf};
+ghost use Rattle.time_read.specs.Presents.{Tells, TellsOf};
 
+use crate::undo_index::UndoIndex;
 use codec::{Entry, Inode};
 use object_map::ObjectMap;
 use s4_types::ObjectId;
 use std::alloc::Global;
-use time_read::UndoIndex;
 
 /// An object's present inode, and an index of what undoes the entries of its journal. Where the index's growth was refused there
 /// is none, and the journal is walked.
 #[derive(Drop)]
-pub(crate) struct Present {
-    pub(crate) inode: Inode,
-    pub(crate) index: Option<UndoIndex>,
+pub struct Present {
+    pub inode: Inode,
+    pub index: Option<UndoIndex>,
 }
 
 /// An index of these entries, and none where memory for it is refused.
-pub(crate) fn index_of(alloc: Global, entries: &[Entry]) -> Option<UndoIndex>
+pub fn index_of(alloc: Global, entries: &[Entry]) -> Option<UndoIndex>
     ensures { Tells result entries.now }
 {
     let mut index = UndoIndex::new(alloc);
@@ -32,7 +32,7 @@ pub(crate) fn index_of(alloc: Global, entries: &[Entry]) -> Option<UndoIndex>
 
 /// Takes an object's index out of the map, and appends what undoes these entries. None where there was none, or where
 /// memory for it is refused.
-pub(crate) fn take_index(
+pub fn take_index(
     objects: &mut ObjectMap<Present>,
     object: ObjectId,
     before: &Inode,
