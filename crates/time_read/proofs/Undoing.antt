@@ -1,5 +1,5 @@
 -- From an object's present inode back: the whole chain is left at first, and its run leads to the present inode.
-use Rattle.std.proofs.Common.{◌≡◌, ℕ, true, List, [], Option, IsSome, unwrap_or, sym, ap, subst, ◌∙◌}
+use Rattle.std.proofs.Common.{◌≡◌, ℕ, true, List, [], map, Option, IsSome, unwrap_or, refl, sym, ap, subst, ◌∙◌}
 use Rattle.s4_types.specs.Pointer.{Place}
 use Rattle.block_log.specs.Log.{Stored}
 use Rattle.codec.specs.declared.inodes.Inode.{Inode}
@@ -9,6 +9,7 @@ use Rattle.undo_redo.specs.Groups.{grouped}
 use Rattle.object_map.specs.declared.map.Row.{Row}
 use Rattle.journal_chain.specs.Chain.{ChainFields, chain_entries}
 use Rattle.journal_chain.specs.Back.{BackFields, entries_left, left}
+use Rattle.time_read.specs.Undoings.{Undoing, undoing_of}
 use Rattle.time_read.specs.Rows.{chain_of, entries_of, first_of, inode_of, last_inode, IsRow}
 use Rattle.time_read.proofs.Reading.{chain_is_there, is_inode_of}
 
@@ -41,3 +42,10 @@ undone_is end held o row xs at present inode r is last undone =
     undone (first_of held o row) (subst (λ (es : List EntryFields). Run (first_of held o row) es present) (sym is) run)
     ∙ ap (λ (es : List EntryFields). inode_after (first_of held o row) es at) is
     ∙ sym (is_inode_of held o row at)
+
+-- and so does what is undone by an index of all entries
+pub undone_by_index : ((i j : Inode) (entries : List EntryFields) → Run i entries j → j ≡ redone_all entries i) → (held : Place → Option Stored) (o : ℕ) (row : Row) (at : ℕ) (undoings : List Undoing) (present inode : Inode) → IsRow held o row
+    → present ≡ last_inode held o row → undoings ≡ map undoing_of (entries_of held o row)
+    → ((first : Inode) (entries : List EntryFields) → map undoing_of entries ≡ undoings → grouped entries ≡ true → Run first entries present → inode ≡ inode_after first entries at) → inode ≡ inode_of held o row at
+undone_by_index end held o row at undoings present inode r last told undone =
+    undone_is end held o row (entries_of held o row) at present inode r refl last (λ first run. undone first (entries_of held o row) (sym told) r.groups run)

@@ -176,24 +176,6 @@ index_kept values s o k is beside = subst (λ (p : Option Present). TellsOf p (e
 abbrev pub LastIsCurrent : Type 0
 LastIsCurrent = (held : Place → Option Stored) (o t : ℕ) (row : Row) → AllBy t (entries_of held o row) → inode_of held o row t ≡ last_inode held o row
 
--- undoing what an object's index tells later than a moment gives the inode at the moment
-pub undone_at : RunsEnd → LastIsCurrent → (s : StoreFields) (o t : ℕ) (row : Row) (present result : Inode) (undoings : List Undoing) → IsStore s → row_of s.rows o ≡ Some row → Some present ≡ inode_in s o s.latest
-    → undoings ≡ map undoing_of (entries_of_object s o)
-    → ((first : Inode) (entries : List EntryFields) → map undoing_of entries ≡ undoings → grouped entries ≡ true → Run first entries present → result ≡ inode_after first entries t)
-    → Some result ≡ inode_in s o t
-unfolding inode_of
-undone_at end last s o t row present result undoings store there is told undo =
-    let object = store.objects o row there in
-    let stands = object.stands in
-    let entries = entries_of s.log.held o row in
-    let first = first_of s.log.held o row in
-    let same : undoings ≡ map undoing_of entries = told ∙ ap (map undoing_of) (entries_here s o row there) in
-    let at_end : present ≡ stands.last =
-    same_Some present (inode_of s.log.held o row s.latest) (is ∙ ap (inode_by s.log.held o s.latest) there)
-    ∙ last s.log.held o s.latest row object.by.entries ∙ sym (end first stands.last entries stands.run) in
-    ap (λ (i : Inode). Some i) (undo first entries (sym same) stands.groups (subst (λ (i : Inode). Run first entries i) (sym at_end) stands.run))
-    ∙ sym (ap (inode_by s.log.held o t) there)
-
 -- the present inode is the one behind all entries
 pub present_last : LastIsCurrent → (s : StoreFields) (o : ℕ) (row : Row) (present : Inode) → IsStore s → row_of s.rows o ≡ Some row → inode_in s o s.latest ≡ Some present → present ≡ last_inode s.log.held o row
 present_last last s o row present store there is =

@@ -29,7 +29,6 @@ use std::alloc::Global;
 use std::marker::Model;
 use time_read::Present;
 use time_read::laws::the_last_inode_is_current;
-use undo_redo::laws::a_run_has_one_end_and_one_beginning;
 
 /// The rows of all objects, and the table that their blocks are in.
 #[derive(Drop)]
@@ -137,18 +136,14 @@ impl<B: Blocks> Store<B> {
     {
         the_last_inode_is_current();
         the_present_stays();
-        a_run_has_one_end_and_one_beginning();
         if self.latest <= at {
             return;
         }
         let Some(kept) = self.objects.get(object) else {
             unreachable!()
         };
-        let Some(index) = &kept.value.index else {
-            *inode = time_read::inode_at(&mut self.table, object, &kept.row, inode, at);
-            return;
-        };
-        index.undo_past(at, inode);
+        kept.value
+            .lead_back(&mut self.table, object, &kept.row, at, inode);
     }
 
     /// The journal entries of an object, the oldest first, and none where it has no row.
