@@ -11,6 +11,7 @@
 #![tactic(auto)]
 
 mod inodes;
+mod journals;
 pub mod laws;
 mod plans;
 mod presents;
@@ -19,6 +20,7 @@ pub mod undo_laws;
 mod undo_records;
 
 pub use inodes::{entries, inode_at};
+pub use journals::ObjectJournal;
 pub use plans::{Piece, PlanPiece, ReadPlan, plan};
 pub use presents::{Present, index_of, take_index};
 pub use undo_index::UndoIndex;

@@ -14,10 +14,10 @@
 mod copies;
 mod costs;
 mod data_blocks;
-mod histories;
 pub mod laws;
 mod named_table;
 mod opened;
+mod relocated_blocks;
 mod store;
 
 pub use copies::CopiedBlock;

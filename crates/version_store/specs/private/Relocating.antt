@@ -15,7 +15,6 @@ use Rattle.inode.specs.Growth.{data_block}
 use Rattle.chain_rewriting.specs.Renaming.{RenamingFields, move_of, new_place, renamed_entries, renamed_inode}
 use Rattle.chain_rewriting.specs.Apart.{HasDistinctPlaces}
 use Rattle.version_store.specs.declared.copies.CopiedBlock.{CopiedBlock}
-use Rattle.version_store.specs.declared.histories.History.{History}
 use Rattle.version_store.specs.Store.{StoreFields, IsStore}
 use Rattle.version_store.specs.Versions.{inode_in, version_in}
 use Rattle.version_store.specs.Replacing.{OnlyDataChanged, OtherObjectsStay}
@@ -54,12 +53,6 @@ pub record Appending (o : ℕ) (copies : List CopiedBlock) (before now : Log) (r
 -- whether one of these blocks stood at the place
 abbrev pub stood_at : Place → List CopiedBlock → Bool
 stood_at p copies = list_any (λ c. same_place c.place p) copies
-
--- a history is what an object's row tells
-pub record Tells (held : Place → Option Stored) (o : ℕ) (row : Row) (history : History) : Type 0 where
-  pub inode : history.kept ≡ option_map (λ c. c.inode) (checkpoint_of held o row)
-  pub rules : IfSome (checkpoint_of held o row) (λ c. checkpoint_rules c ≡ true)
-  pub journal : history.entries.items ≡ entries_of held o row
 
 -- a data block is what it was before, where no block moves away; or it is at a new place, where nothing was
 abbrev pub IsOldOrNew : ℕ → RenamingFields → (Place → Option Stored) → (Place → Option Stored) → Place → Type 0

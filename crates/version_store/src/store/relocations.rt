@@ -3,14 +3,15 @@ ghost use Rattle.std.specs.Prelude.{◌≡◌, ◌⊎◌, ℕ, ◌<◌, ◌≤�
 ghost use Rattle.s4_types.specs.declared.refusals.Refusal.TheVariants.{NoMemory, NoRoom};
 ghost use Rattle.object_map.specs.Rows.{row_of};
 ghost use Rattle.chain_rewriting.specs.Renaming.{renamed_inode};
+ghost use Rattle.time_read.specs.Journals.{IsJournalOf};
 ghost use Rattle.version_store.specs.Store.{fields_of, IsStore};
 ghost use Rattle.version_store.specs.Versions.{inode_in, version_in};
 ghost use Rattle.version_store.specs.Relocating.{AreCopies, IsRelocated, blocks_relocated, renaming_by};
-ghost use Rattle.version_store.specs.private.Relocating.{Tells, RelocatesIn};
+ghost use Rattle.version_store.specs.private.Relocating.{RelocatesIn};
 
 use crate::copies::CopiedBlock;
-use crate::histories::{History, read_history, relocate_blocks};
 use crate::laws::what_changes_rest_on;
+use crate::relocated_blocks::relocate_blocks;
 use crate::store::Store;
 use block_log::Blocks;
 use chain_rewriting::renaming_laws::{
@@ -20,20 +21,20 @@ use chain_rewriting::renaming_laws::{
 use object_map::Row;
 use row_changes::moved_blocks;
 use s4_types::{ObjectId, Refusal};
-use time_read::{Present, index_of};
+use time_read::{ObjectJournal, Present, index_of};
 
 impl<B: Blocks> Store<B> {
-    /// An object's blocks, whose history this is, go to new places where there is room.
+    /// An object's blocks, whose journal and checkpoint these are, go to new places where there is room.
     fn put_relocation(
         &mut self,
         object: ObjectId,
         row: &Row,
-        history: &mut History,
+        journal: &mut ObjectJournal,
         copies: &[CopiedBlock],
     )
         requires store { IsStore (fields_of B.log self.old) }
         requires row { row_of self.old.rows object ≡ Some row.now }
-        requires told { Tells (B.log self.old.table).held object row.now history.old }
+        requires journal { IsJournalOf (B.log self.old.table).held object row.now journal.old }
         requires copies { AreCopies (B.log self.old.table).held object copies.now }
         requires room { blocks_relocated (B.log self.old.table).held object row.now copies.now ≤ length (B.log self.old.table).ahead }
         ensures { RelocatesIn (fields_of B.log self.old) object row.now copies.now (fields_of B.log self.new) }
@@ -46,11 +47,11 @@ impl<B: Blocks> Store<B> {
         let Some(mut inode) = self.present(object).copied() else {
             unreachable!()
         };
-        let moved = relocate_blocks(&mut self.table, object, row, history, copies);
+        let moved = relocate_blocks(&mut self.table, object, row, journal, copies);
         moved.renaming.rename_inode(&mut inode);
         let beside = Present {
             inode,
-            index: index_of(self.alloc, history.entries.as_slice()),
+            index: index_of(self.alloc, journal.entries.as_slice()),
         };
         self.objects.change(object, &moved.row, beside);
     }
@@ -70,8 +71,8 @@ impl<B: Blocks> Store<B> {
         ensures refusal { IfErr result (λ e. e ≡ NoMemory) }
         ensures unchanged { OnErr result (fields_of B.log self.new ≡ fields_of B.log self.old) }
     {
-        let mut history = read_history(self.alloc, &mut self.table, object, row)?;
-        self.put_relocation(object, row, &mut history, copies);
+        let mut journal = ObjectJournal::read(self.alloc, &mut self.table, object, row)?;
+        self.put_relocation(object, row, &mut journal, copies);
         Ok(())
     }
 

@@ -14,7 +14,7 @@ use Rattle.row_changes.specs.Moving.{CanTell, moved_blocks, row_blocks}
 use Rattle.std.specs.List.{AllByRecursion}
 use Rattle.time_read.specs.Rows.{entries_of, checkpoint_of}
 use Rattle.version_store.proofs.RenamedHistory.{RenamingStands, kept_renamed, told_apart, can_tell}
-use Rattle.version_store.proofs.histories.relocate_blocks.Goals as goal
+use Rattle.version_store.proofs.relocated_blocks.relocate_blocks.Goals as goal
 
 pub rename-requires-clause-apart : goal.rename-requires-clause-apart
 rename-requires-clause-apart g c =
@@ -22,7 +22,7 @@ rename-requires-clause-apart g c =
     let r = c.append_copies-renaming.result in
     let a = c.append_copies-renaming.ensures in
     let apart = told_apart c.what_a_chain_tells.ensures.listed c.a_test_tells_a_renaming_apart.ensures.test held c.args.object c.args.row.now r a.distinct a.fresh c.requires.led in
-    subst (λ (es : List EntryFields). AllByRecursion (TellsWithin (IsNotNew r)) es) (sym c.requires.told.journal) apart.told.sides
+    subst (λ (es : List EntryFields). AllByRecursion (TellsWithin (IsNotNew r)) es) (sym c.requires.journal.entries) apart.told.sides
 
 pub move_row-requires-clause-row : goal.move_row-requires-clause-row
 move_row-requires-clause-row g c =
@@ -47,10 +47,10 @@ move_row-requires-clause-tell g c =
       rules = c.a_renamed_checkpoint_keeps_the_rules.ensures;
       end = c.a_run_has_one_end_and_one_beginning.ensures.end;
     } in
-    let kept : option_copied c.as_ref-kept.result ≡ kept_renamed r (checkpoint_of held o row) = c.as_ref-kept.ensures.value ∙ c.rename.ensures.kept ∙ ap (option_map (renamed_inode r)) c.requires.told.inode in
-    let entries : c.as_slice.result.now ≡ renamed_entries r (entries_of held o row) = c.as_slice.ensures.value ∙ c.rename.ensures.entries ∙ ap (renamed_entries r) c.requires.told.journal in
+    let kept : option_copied c.as_ref-checkpoint.result ≡ kept_renamed r (checkpoint_of held o row) = c.as_ref-checkpoint.ensures.value ∙ c.rename.ensures.checkpoint ∙ ap (option_map (renamed_inode r)) c.requires.journal.inode in
+    let entries : c.as_slice.result.now ≡ renamed_entries r (entries_of held o row) = c.as_slice.ensures.value ∙ c.rename.ensures.entries ∙ ap (renamed_entries r) c.requires.journal.entries in
     subst (λ (i : Option Inode). CanTell o row i c.as_slice.result.now) (sym kept)
-    (subst (λ (es : List EntryFields). CanTell o row (kept_renamed r (checkpoint_of held o row)) es) (sym entries) (can_tell laws held o row r c.requires.row c.requires.told.rules))
+    (subst (λ (es : List EntryFields). CanTell o row (kept_renamed r (checkpoint_of held o row)) es) (sym entries) (can_tell laws held o row r c.requires.row c.requires.journal.rules))
 
 pub returns-clause-moved : goal.returns-clause-moved
 returns-clause-moved g c =
@@ -75,9 +75,9 @@ returns-clause-moved g c =
       rules = c.a_renamed_checkpoint_keeps_the_rules.ensures;
       end = c.a_run_has_one_end_and_one_beginning.ensures.end;
     } in
-    let kept : option_copied c.as_ref-kept.result ≡ kept_renamed r (checkpoint_of before.held o row) = c.as_ref-kept.ensures.value ∙ c.rename.ensures.kept ∙ ap (option_map (renamed_inode r)) c.requires.told.inode in
-    let entries : c.as_slice.result.now ≡ renamed_entries r (entries_of before.held o row) = c.as_slice.ensures.value ∙ c.rename.ensures.entries ∙ ap (renamed_entries r) c.requires.told.journal in
-    let given : Moved between moved o row next (option_copied c.as_ref-kept.result) c.as_slice.result.now = record {
+    let kept : option_copied c.as_ref-checkpoint.result ≡ kept_renamed r (checkpoint_of before.held o row) = c.as_ref-checkpoint.ensures.value ∙ c.rename.ensures.checkpoint ∙ ap (option_map (renamed_inode r)) c.requires.journal.inode in
+    let entries : c.as_slice.result.now ≡ renamed_entries r (entries_of before.held o row) = c.as_slice.ensures.value ∙ c.rename.ensures.entries ∙ ap (renamed_entries r) c.requires.journal.entries in
+    let given : Moved between moved o row next (option_copied c.as_ref-checkpoint.result) c.as_slice.result.now = record {
       stands = c.in-Ok.ensures.row;
       journal = c.in-Ok.ensures.entries;
       checkpoint = c.in-Ok.ensures.checkpoint;
@@ -110,11 +110,11 @@ unreachable-requires g c =
     let row = c.args.row.now in
     let r = c.append_copies-renaming.result in
     let count = length c.args.copies.now in
-    let n = moved_blocks (option_copied c.as_ref-kept.result) c.as_slice.result.now in
+    let n = moved_blocks (option_copied c.as_ref-checkpoint.result) c.as_slice.result.now in
     let refused = subst (λ (x : _). MatchResult x (λ _. n ≤ length between.ahead) (λ e. (e ≡ NoRoom) × (length between.ahead < n))) c.in_default.is c.move_row.ensures.answer in
     let few : length between.ahead < n = refused.1 in
-    let kept : option_copied c.as_ref-kept.result ≡ kept_renamed r (checkpoint_of before.held o row) = c.as_ref-kept.ensures.value ∙ c.rename.ensures.kept ∙ ap (option_map (renamed_inode r)) c.requires.told.inode in
-    let entries : c.as_slice.result.now ≡ renamed_entries r (entries_of before.held o row) = c.as_slice.ensures.value ∙ c.rename.ensures.entries ∙ ap (renamed_entries r) c.requires.told.journal in
+    let kept : option_copied c.as_ref-checkpoint.result ≡ kept_renamed r (checkpoint_of before.held o row) = c.as_ref-checkpoint.ensures.value ∙ c.rename.ensures.checkpoint ∙ ap (option_map (renamed_inode r)) c.requires.journal.inode in
+    let entries : c.as_slice.result.now ≡ renamed_entries r (entries_of before.held o row) = c.as_slice.ensures.value ∙ c.rename.ensures.entries ∙ ap (renamed_entries r) c.requires.journal.entries in
     let same : n ≡ row_blocks before.held o row =
     ap (λ (i : Option Inode). moved_blocks i c.as_slice.result.now) kept ∙ ap (moved_blocks (kept_renamed r (checkpoint_of before.held o row))) entries
     ∙ same_blocks c.a_renamed_chain_takes_as_many_bytes.ensures.each c.a_checkpoint_takes_its_blocks.ensures.holes r (checkpoint_of before.held o row) (entries_of before.held o row) in

@@ -1,0 +1,98 @@
+//! An object's journal and checkpoint, renamed and written at other places together with copies of its data.
+ghost use Rattle.std.specs.Prelude.{◌≡◌, ℕ, ◌≤◌, length, option_map};
+ghost use Rattle.std.specs.List.{All, AllByRecursion};
+ghost use Rattle.time_read.specs.Journals.{IsJournalOf};
+ghost use Rattle.time_read.specs.Rows.{IsRow, entries_of};
+ghost use Rattle.time_read.specs.Orderly.{IsOrderly};
+ghost use Rattle.chain_rewriting.specs.CleaningLaws.{TellsWithin};
+ghost use Rattle.chain_rewriting.specs.Renaming.{renamed_entries, renamed_inode};
+ghost use Rattle.chain_rewriting.specs.Apart.{HasDistinctPlaces, IsNotNew};
+ghost use Rattle.version_store.specs.Store.{IsLed, pointers_of};
+ghost use Rattle.version_store.specs.Relocating.{AreCopies, blocks_relocated};
+ghost use Rattle.version_store.specs.private.Relocating.{Relocates};
+
+use crate::copies::{CopiedBlock, append_copies, drop_copies};
+use block_log::Blocks;
+use block_log::laws::{one_place_has_one_name, places_taken_add_up};
+use chain_rewriting::Renaming;
+use chain_rewriting::renaming_laws::{
+    a_renamed_chain_takes_as_many_bytes, a_renamed_checkpoint_keeps_the_rules,
+    a_renamed_run_is_a_run, a_test_tells_a_renaming_apart, renamed_entries_stay_in_order,
+    renaming_commutes_with_undo_and_redo, what_a_chain_tells,
+};
+use checkpoint::laws::a_checkpoint_takes_its_blocks;
+use codec::Inode;
+use object_map::Row;
+use row_changes::move_row;
+use s4_types::ObjectId;
+use time_read::ObjectJournal;
+use time_read::laws::{a_row_is_its_own_blocks, an_orderly_row_stays};
+use undo_redo::laws::a_run_has_one_end_and_one_beginning;
+
+/// Renames the pointers of an inode, if there is one.
+fn rename_checkpoint(checkpoint: &mut Option<Inode>, renaming: &Renaming)
+    ensures { checkpoint.new ≡ option_map (renamed_inode renaming.now) checkpoint.old }
+{
+    if let Some(inode) = checkpoint {
+        renaming.rename_inode(inode);
+    }
+}
+
+/// Renames all pointers of a journal and its checkpoint: none of the new places may be among those that they name.
+fn rename(journal: &mut ObjectJournal, renaming: &Renaming)
+    requires distinct { HasDistinctPlaces renaming.now }
+    requires apart { AllByRecursion (TellsWithin (IsNotNew renaming.now)) journal.old.entries.items }
+    ensures checkpoint { journal.new.checkpoint ≡ option_map (renamed_inode renaming.now) journal.old.checkpoint }
+    ensures entries { journal.new.entries.items ≡ renamed_entries renaming.now journal.old.entries.items }
+{
+    rename_checkpoint(&mut journal.checkpoint, renaming);
+    renaming.rename_in_place(journal.entries.as_mut_slice());
+}
+
+/// An object's row once its blocks were moved, and where its data went.
+#[derive(Clone, Copy)]
+pub(crate) struct Relocated {
+    pub(crate) row: Row,
+    pub(crate) renaming: Renaming,
+}
+
+/// Appends copies of an object's data blocks where there is room, renames the pointers of its journal and its checkpoint, writes
+/// these at other places, and drops what was copied.
+pub(crate) fn relocate_blocks<B: Blocks>(
+    table: &mut B,
+    object: ObjectId,
+    row: &Row,
+    journal: &mut ObjectJournal,
+    copies: &[CopiedBlock],
+) -> Relocated
+    requires row { IsRow (B.log table.old).held object row.now }
+    requires orderly { (latest : ℕ) × IsOrderly (B.log table.old).held object row.now latest }
+    requires led { All (IsLed (B.log table.old).held object) (pointers_of (B.log table.old).held object row.now) }
+    requires journal { IsJournalOf (B.log table.old).held object row.now journal.old }
+    requires copies { AreCopies (B.log table.old).held object copies.now }
+    requires room { blocks_relocated (B.log table.old).held object row.now copies.now ≤ length (B.log table.old).ahead }
+    ensures moved { Relocates (B.log table.old) object row.now copies.now result.row (B.log table.new) result.renaming }
+    ensures entries { journal.new.entries.items ≡ renamed_entries result.renaming (entries_of (B.log table.old).held object row.now) }
+{
+    one_place_has_one_name();
+    places_taken_add_up();
+    a_row_is_its_own_blocks();
+    an_orderly_row_stays();
+    a_run_has_one_end_and_one_beginning();
+    a_checkpoint_takes_its_blocks();
+    what_a_chain_tells();
+    a_test_tells_a_renaming_apart();
+    renaming_commutes_with_undo_and_redo();
+    a_renamed_run_is_a_run();
+    a_renamed_chain_takes_as_many_bytes();
+    a_renamed_checkpoint_keeps_the_rules();
+    renamed_entries_stay_in_order();
+    let renaming = append_copies(table, object, copies);
+    rename(journal, &renaming);
+    let checkpoint = journal.checkpoint.as_ref();
+    let Ok(row) = move_row(table, object, row, checkpoint, journal.entries.as_slice()) else {
+        unreachable!()
+    };
+    drop_copies(table, copies);
+    Relocated { row, renaming }
+}
