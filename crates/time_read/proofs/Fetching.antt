@@ -2,8 +2,7 @@
 use Rattle.std.proofs.Common.{◌≡◌, ℕ, ◌+◌, ◌-◌, ◌*◌, ◌/◌, ◌%◌, ◌<◌, ◌≤◌, List, [], ◌++◌, length, take, drop, slice_index, slice_index_or, ap, sym, ◌∙◌, arith, length-append, get_or-take, get_or-drop}
 use Rattle.inode.specs.Contents.{listed}
 use Rattle.inode.specs.Laws.{RangesJoin, AListIsARange}
-use Rattle.time_read.specs.Plans.{PlanFields, piece_bytes, pins_held, byte_planned}
-use Rattle.time_read.specs.declared.plans.Piece.TheVariants.{Hole}
+use Rattle.time_read.specs.Plans.{PlanFields, piece_bytes, pins_held, byte_planned, Hole}
 
 -- the bytes of a piece are those that the plan has at its places
 byte_of_piece : (plan : PlanFields) (index n : ℕ) → n < 512 → slice_index (piece_bytes (pins_held plan.pin) (slice_index_or plan.pieces index Hole)) n ≡ byte_planned plan (512 * index + n)

@@ -8,9 +8,7 @@ use Rattle.segment_word.specs.Frames.{Phase, Open, Sealed, is_open}
 use Rattle.segment_word.specs.Layout.{frame_at}
 use Rattle.segment_word.specs.Counting.{pins_in}
 use Rattle.segment_table.specs.Table.{Table, held_at}
-use Rattle.time_read.specs.declared.plans.Piece.{Piece}
-use Rattle.time_read.specs.declared.plans.Piece.TheVariants.{Hole, Copied, Pinned}
-use Rattle.time_read.specs.Plans.{PlanFields, pins_held, piece_of, piece_bytes, is_pinned, is_pinned_in, IsAt}
+use Rattle.time_read.specs.Plans.{Piece, Hole, Copied, Pinned, PlanFields, pins_held, piece_of, piece_bytes, is_pinned, is_pinned_in, IsAt}
 use Rattle.time_read.specs.private.Planning.{Keeps, CountsOn, Locates}
 
 phase_of_place : Table → Place → Phase

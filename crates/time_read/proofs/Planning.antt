@@ -18,9 +18,7 @@ use Rattle.segment_word.specs.Handles.{Held}
 use Rattle.segment_word.specs.Layout.{block_bytes}
 use Rattle.segment_word.specs.Counting.{pins_in}
 use Rattle.segment_table.specs.Table.{Table, held_at}
-use Rattle.time_read.specs.declared.plans.Piece.{Piece}
-use Rattle.time_read.specs.declared.plans.Piece.TheVariants.{Hole, Copied, Pinned}
-use Rattle.time_read.specs.Plans.{PlanFields, pins_held, piece_of, pieces_of, piece_bytes, byte_planned, bytes_planned, is_pinned, is_pinned_in, IsAt}
+use Rattle.time_read.specs.Plans.{Piece, Hole, Copied, Pinned, PlanFields, pins_held, piece_of, pieces_of, piece_bytes, byte_planned, bytes_planned, is_pinned, is_pinned_in, IsAt}
 use Rattle.time_read.specs.private.Planning.{Keeps, AddsPiece}
 
 -- a plan has the pieces of n blocks of an inode, from block `first` on

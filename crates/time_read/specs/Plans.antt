@@ -13,8 +13,13 @@ use Rattle.segment_word.specs.Handles.{Held}
 use Rattle.segment_word.specs.Layout.{frame_at, block_bytes}
 use Rattle.segment_word.specs.Counting.{pins_in}
 use Rattle.segment_table.specs.Table.{Table, held_at}
-use Rattle.time_read.specs.declared.plans.Piece.{Piece}
-use Rattle.time_read.specs.declared.plans.Piece.TheVariants.{Hole, Copied, Pinned}
+
+-- Where the bytes of one block come from: from nowhere, since a hole has zeros; from a block of the open frame, which was copied
+-- when the plan was made; or from a block of a sealed frame, both by number, which the plan's pin keeps as it is.
+pub data Piece : Type 0 where
+  Hole : Piece
+  Copied : List ℕ → Piece
+  Pinned : ℕ → ℕ → Piece
 
 -- a plan: its pieces, where its bytes begin in the first of them, how many they are, and the pin that it has where a piece
 -- needs one

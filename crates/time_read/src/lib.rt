@@ -21,6 +21,6 @@ mod undo_records;
 
 pub use inodes::{entries, inode_at};
 pub use journals::ObjectJournal;
-pub use plans::{Piece, PlanPiece, ReadPlan, plan};
+pub use plans::{ReadPlan, plan};
 pub use presents::{Present, index_of, take_index};
 pub use undo_index::UndoIndex;

@@ -11,9 +11,8 @@ ghost use Rattle.segment_word.specs.Frames.Phase.{Open, Sealed};
 ghost use Rattle.segment_word.specs.Layout.{frame_at, block_bytes};
 ghost use Rattle.segment_word.specs.Counting.{pins_in};
 ghost use Rattle.segment_table.specs.Table.{held_at};
-ghost use Rattle.time_read.specs.Plans.{piece_bytes, pins_held, bytes_planned, byte_planned, piece_of, pieces_of, contents_pinned, is_pinned_in, is_pinned, IsAt};
+ghost use Rattle.time_read.specs.Plans.{piece_bytes, pins_held, bytes_planned, byte_planned, piece_of, pieces_of, contents_pinned, is_pinned_in, is_pinned, IsAt, Hole, Copied, Pinned};
 ghost use Rattle.time_read.specs.private.Planning.{CountsOn, Locates, AddsPiece};
-ghost use Rattle.time_read.specs.declared.plans.Piece.TheVariants.{Hole, Copied, Pinned};
 
 use block_log::{Block, Blocks};
 use codec::Inode;
@@ -25,17 +24,6 @@ use segment_table::SegmentTable;
 use segment_word::Pin;
 use std::alloc::Global;
 use std::marker::Model;
-
-/// Where the bytes of one block come from.
-#[derive(Clone, Copy)]
-pub enum Piece {
-    /// From nowhere: a hole has zeros.
-    Hole,
-    /// From a block of the open frame, which was copied when the plan was made.
-    Copied(Block),
-    /// From a block of a sealed frame, which the plan's pin keeps as it is.
-    Pinned { frame: u16, block: u8 },
-}
 
 // Where a plan has a piece's bytes from. It's moved while the drive is held, so it stays small.
 #[derive(Drop)]
@@ -77,14 +65,14 @@ fn append_pinned(
     }
 }
 
-/// A piece as a plan keeps it, in a few bytes: a copied block stands in memory of its own.
+// A piece as a plan keeps it, in a few bytes: a copied block has memory of its own.
 #[derive(Drop)]
-pub struct PlanPiece {
+struct PlanPiece {
     source: Source,
 }
 
 impl Model for PlanPiece {
-    ghost use Rattle.time_read.specs.declared.plans.Piece.{Piece};
+    ghost use Rattle.time_read.specs.Plans.{Piece};
     ghost use Rattle.time_read.specs.private.Sources.{piece_from};
 
     ghost Value = { Piece };
@@ -93,20 +81,6 @@ impl Model for PlanPiece {
 }
 
 impl PlanPiece {
-    /// Where its bytes come from.
-    pub fn told(&self) -> Piece
-        ensures { result ≡ self.now }
-    {
-        match &self.source {
-            Source::Nowhere => Piece::Hole,
-            Source::Copy(block) => Piece::Copied(**block),
-            Source::Frame { frame, block } => Piece::Pinned {
-                frame: *frame,
-                block: *block,
-            },
-        }
-    }
-
     fn hole() -> Self
         ensures { result ≡ Hole }
     {
@@ -196,13 +170,6 @@ fn pin_at(table: &SegmentTable, pin: Option<Pin>) -> Result<Pin, Refusal>
 }
 
 impl ReadPlan {
-    /// Its pieces: one for each block that has one of its bytes, by ascending index.
-    pub fn pieces(&self) -> &[PlanPiece]
-        ensures { result.now ≡ self.now.pieces }
-    {
-        &self.pieces
-    }
-
     // Adds bytes of the piece of an index, from one place of it on and up to another; behind the last one they are zeros.
     fn append(
         &mut self,

@@ -1,6 +1,5 @@
 -- Where a plan has its pieces from.
-use Rattle.time_read.specs.declared.plans.Piece.{Piece}
-use Rattle.time_read.specs.declared.plans.Piece.TheVariants.{Hole, Copied, Pinned}
+use Rattle.time_read.specs.Plans.{Piece, Hole, Copied, Pinned}
 use Rattle.time_read.specs.declared.plans.Source.{Source}
 use Rattle.time_read.specs.declared.plans.Source.TheVariants.{Nowhere, Copy, Frame}
 

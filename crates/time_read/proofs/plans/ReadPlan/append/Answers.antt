@@ -1,6 +1,6 @@
-use Rattle.std.proofs.Common.{◌∙◌, sym, ap, arith}
+use Rattle.std.proofs.Common.{◌∙◌, sym, arith}
 use Rattle.std.proofs.lemmas.List.{get_or_default}
-use Rattle.time_read.specs.declared.plans.Piece.TheVariants.{Hole}
+use Rattle.time_read.specs.Plans.{Hole}
 use Rattle.time_read.proofs.plans.ReadPlan.append.Goals as goal
 
 pub append-requires-2-clause-counted : goal.append-requires-2-clause-counted
