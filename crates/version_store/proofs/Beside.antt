@@ -1,5 +1,5 @@
 -- What stands beside the rows follows them: the present inode of each object, and the index of its entries.
-use Rattle.std.proofs.Common.{◌≡◌, ℕ, ◌+◌, ◌==◌, ◌++◌, true, false, cond, List, [], map, Option, Some, None, refl, sym, ap, subst, ◌∙◌, inl, inr}
+use Rattle.std.proofs.Common.{◌≡◌, ℕ, ◌+◌, ◌==◌, ◌++◌, false, cond, List, [], Option, Some, None, refl, sym, ap, subst, ◌∙◌, inl, inr}
 use Rattle.std.specs.Prelude.{option_map}
 use Rattle.std.proofs.lemmas.Bool.{cases_Bool, cond-true, cond-false, eqb-true}
 use Rattle.std.proofs.lemmas.Option.{same_Some}
@@ -8,21 +8,19 @@ use Rattle.block_log.specs.Log.{Log, Stored, of_kind}
 use Rattle.block_log.specs.declared.kinds.BlockKind.TheVariants.{Journal}
 use Rattle.codec.specs.declared.inodes.Inode.{Inode}
 use Rattle.codec.specs.Entry.{EntryFields}
-use Rattle.undo_redo.specs.Runs.{AllBy, Run, inode_after}
-use Rattle.undo_redo.specs.Groups.{grouped}
+use Rattle.undo_redo.specs.Runs.{AllBy}
 use Rattle.journal_chain.specs.Chain.{OnlyJournalChanged}
 use Rattle.inode.specs.Growth.{GrowsBy}
-use Rattle.time_read.specs.Undoings.{Undoing, undoing_of}
+use Rattle.time_read.specs.Undoings.{Undoing}
 use Rattle.object_map.specs.declared.map.Row.{Row}
 use Rattle.object_map.specs.Objects.{value_of, with_value, without_value, PutsAt}
 use Rattle.object_map.specs.Rows.{row_of, with_row, fresh_row}
-use Rattle.time_read.specs.Rows.{entries_of, first_of, inode_of, last_inode}
+use Rattle.time_read.specs.Rows.{entries_of, inode_of, last_inode}
 use Rattle.time_read.specs.declared.presents.Present.{Present}
 use Rattle.version_store.specs.Store.{StoreFields, IsStore}
 use Rattle.version_store.specs.Versions.{entries_of_row, entries_of_object, inode_by, inode_in}
 use Rattle.time_read.specs.Presents.{Tells, TellsOf}
 use Rattle.version_store.specs.private.Beside.{inode_beside, IsBeside}
-use Rattle.version_store.specs.private.Replacing.{RunsEnd}
 use Rattle.version_store.specs.Checkpointing.{last_entry, IsCheckpointed}
 use Rattle.version_store.specs.Replacing.{OtherObjectsStay, IsRemoved}
 use Rattle.version_store.proofs.Across.{fresh_entries}

@@ -18,7 +18,6 @@ use Rattle.inode.specs.Changed.{Written, Truncated, listed_blocks, blocks_writte
 use Rattle.inode.specs.Growth.{GrowsBy, with_data}
 use Rattle.inode.specs.Laws.{HeldPointersLead}
 use Rattle.version_store.specs.Store.{StoreFields}
-use Rattle.version_store.specs.Costs.{room}
 use Rattle.version_store.specs.Taking.{IsThere}
 use Rattle.version_store.specs.private.Turning.{CanTake}
 use Rattle.version_store.specs.private.Below.{OnePlace, FreshInode, BlankCount, BlankHoles}

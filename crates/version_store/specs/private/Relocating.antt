@@ -1,5 +1,5 @@
 -- What is appended for copies, and what becomes of an object's blocks. No public clause cites this file.
-use Rattle.std.specs.Prelude.{◌≡◌, ◌⊎◌, ◌↔◌, ◌==◌, if◌then◌else◌, ℕ, suc, Bool, true, List, length, take, Option, Some, None, IsSome, IfSome, option_map}
+use Rattle.std.specs.Prelude.{◌≡◌, ◌⊎◌, ◌↔◌, ◌==◌, if◌then◌else◌, ℕ, suc, Bool, true, List, length, take, Option, Some, None, IsSome, option_map}
 use Rattle.std.specs.List.{Contains, list_any}
 use Rattle.s4_types.specs.Pointer.{Place}
 use Rattle.s4_types.specs.declared.limits.TheConstants.{PAYLOAD_BLOCKS}
@@ -7,7 +7,6 @@ use Rattle.block_log.specs.declared.kinds.BlockKind.TheVariants.{Journal, Data}
 use Rattle.block_log.specs.Log.{Log, Stored, of_kind, same_place}
 use Rattle.block_log.specs.Taken.{TakesPlaces}
 use Rattle.checkpoint.specs.Held.{of_checkpoints}
-use Rattle.codec.specs.Checkpoint.{checkpoint_rules}
 use Rattle.object_map.specs.declared.map.Row.{Row}
 use Rattle.time_read.specs.Rows.{IsRow, entries_of, checkpoint_of, inode_of}
 use Rattle.time_read.specs.Orderly.{IsOrderly}

@@ -1,4 +1,4 @@
-use Rattle.std.proofs.Common.{◌≡◌, Option, Some, None, sym, ap, subst, ◌∙◌}
+use Rattle.std.proofs.Common.{◌≡◌, None, sym, ap, subst, ◌∙◌}
 use Rattle.codec.specs.declared.inodes.Inode.{Inode}
 use Rattle.object_map.specs.declared.map.Row.{Row}
 use Rattle.object_map.specs.Rows.{row_of}
