@@ -1,5 +1,5 @@
 -- What a table shows where a checkpoint is put, the object's journal changes, and the older checkpoint is dropped.
-use Rattle.std.proofs.Common.{◌≡◌, inl, inr, ℕ, ◌+◌, Bool, true, false, ◌==◌, ◌&&◌, List, [], take, Option, Some, None, IsSome, MatchOption, is_some, refl, sym, ap, subst, ◌∙◌}
+use Rattle.std.proofs.Common.{◌≡◌, inl, inr, ℕ, Bool, true, false, List, take, Option, Some, None, IsSome, MatchOption, is_some, refl, sym, ap, subst, ◌∙◌}
 use Rattle.std.specs.List.{Contains}
 use Rattle.std.proofs.lemmas.Bool.{cases_Bool, both_ways, false≢true}
 use Rattle.s4_types.specs.Pointer.{Place}
@@ -10,7 +10,7 @@ use Rattle.codec.specs.Checkpoint.{CheckpointFields}
 use Rattle.checkpoint.specs.Held.{checkpoint_held, checkpoint_in, checkpoint_places, places_in, places_named, of_checkpoints, is_one_of, HasItsBlocks, OnlyCheckpointChanged, PutsCheckpoint, DropsCheckpoint}
 use Rattle.journal_chain.specs.Chain.{BlockView, OnlyJournalChanged}
 use Rattle.object_map.specs.declared.map.Row.{Row}
-use Rattle.time_read.specs.Rows.{IsRow, inode_of, checkpoint_places_of}
+use Rattle.time_read.specs.Rows.{IsRow, inode_of}
 use Rattle.row_changes.specs.Moved.{IsMoved}
 
 -- ---- what is known of checkpoints

@@ -1,5 +1,5 @@
 -- What becomes of a table's blocks where an object's checkpoint is written anew.
-use Rattle.std.specs.Prelude.{◌≡◌, ℕ, true, false, List, Option, None}
+use Rattle.std.specs.Prelude.{◌≡◌, true, false, List, Option, None}
 use Rattle.s4_types.specs.Pointer.{Place}
 use Rattle.block_log.specs.Log.{Stored}
 use Rattle.checkpoint.specs.Held.{is_one_of}
