@@ -37,6 +37,22 @@ pub(crate) fn put<B: Blocks>(
     write_checkpoint(table, &checkpoint)
 }
 
+/// Appends the checkpoint of an inode where there is room.
+pub(crate) fn put_ahead<B: Blocks>(
+    table: &mut B,
+    object: ObjectId,
+    inode: &Inode,
+    moment: Moment,
+) -> Ptr
+    requires rules { checkpoint_rules (record { object = object; moment = moment; inode = inode.now }) ≡ true }
+    requires room { checkpoint_blocks inode.now ≤ length (B.log table.old).ahead }
+    ensures told { checkpoint_held (B.log table.new).held object result ≡ Some (record { object = object; moment = moment; inode = inode.now }) }
+    ensures takes { TakesPlaces (checkpoint_blocks inode.now) (B.log table.old) (B.log table.new) }
+    ensures growth { PutsCheckpoint (B.log table.old).held object result (B.log table.new).held }
+{
+    put(table, object, inode, moment).unwrap()
+}
+
 /// Appends an object's inode at a moment as its checkpoint, drops the one before, if there was one, and answers the
 /// object's row after that. The inode at each moment is as it was, and a row that was in order stays so.
 ///

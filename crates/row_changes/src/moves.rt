@@ -18,7 +18,7 @@ ghost use Rattle.time_read.specs.Orderly.{IsFromTo, IsOrderly, IsOrderlyChain, B
 ghost use Rattle.row_changes.specs.Rewritten.{OnlyHistoryChanged};
 ghost use Rattle.row_changes.specs.Moving.{CanTell, kept_blocks, inode_kept, checkpoint_at, checkpoint_with, first_with, moved_blocks, row_blocks};
 
-use crate::checkpoints::put;
+use crate::checkpoints::put_ahead;
 use crate::rewrites::journal_blocks;
 use arrayvec::ArrayVec;
 use block_log::Blocks;
@@ -111,9 +111,7 @@ fn put_anew<B: Blocks>(table: &mut B, object: ObjectId, row: &Row, inode: &Inode
     a_checkpoint_rests_on_its_blocks();
     a_checkpoint_has_its_blocks();
     places_taken_add_up();
-    let Ok(place) = put(table, object, inode, row.checkpoint_moment) else {
-        unreachable!()
-    };
+    let place = put_ahead(table, object, inode, row.checkpoint_moment);
     drop_checkpoint(table, object, row.checkpoint);
     place
 }
@@ -163,7 +161,12 @@ fn drop_chain<B: Blocks>(table: &mut B, object: ObjectId, row: &Row) -> Chain
 
 /// Drops all journal blocks of an object, and then writes its journal afresh where there is room, and answers its chain. So
 /// each journal block of it is at a place that was taken.
-fn move_chain<B: Blocks>(table: &mut B, object: ObjectId, row: &Row, entries: &[Entry]) -> Chain
+pub(crate) fn move_chain<B: Blocks>(
+    table: &mut B,
+    object: ObjectId,
+    row: &Row,
+    entries: &[Entry],
+) -> Chain
     requires object { 1 ≤ object }
     requires bytes { row.now.journal_bytes ≤ CHAIN_ENTRY_BYTES }
     requires one_block { row.now.head_bytes ≤ JOURNAL_ENTRY_BYTES }

@@ -1,33 +1,32 @@
 ghost use Rattle.std.specs.Prelude.{◌≡◌, ℕ, ◌<◌, ◌≤◌, true, length, map, Some, IsSome, IfOk, OnErr, MatchResult};
-ghost use Rattle.s4_types.specs.declared.limits.TheConstants.{CHAIN_ENTRIES, CHAIN_ENTRY_BYTES, JOURNAL_ENTRY_BYTES};
+ghost use Rattle.s4_types.specs.declared.limits.TheConstants.{CHAIN_ENTRIES, CHAIN_ENTRY_BYTES};
 ghost use Rattle.s4_types.specs.declared.refusals.Refusal.TheVariants.{NoRoom};
 ghost use Rattle.block_log.specs.Taken.{TakesPlaces};
 ghost use Rattle.codec.specs.Entry.{entry_length, entries_length};
 ghost use Rattle.codec.specs.Checkpoint.{checkpoint_rules};
 ghost use Rattle.undo_redo.specs.Runs.{AllBy, Run, inode_after, undone_all};
 ghost use Rattle.undo_redo.specs.Groups.{grouped};
-ghost use Rattle.journal_chain.specs.Chain.{Holds, OnlyJournalChanged};
 ghost use Rattle.journal_chain.specs.Push.{whole_blocks};
-ghost use Rattle.checkpoint.specs.Held.{checkpoint_held, checkpoint_blocks, PutsCheckpoint};
-ghost use Rattle.time_read.specs.Rows.{IsRow, chain_of, entries_of, first_of, inode_of, last_inode};
+ghost use Rattle.checkpoint.specs.Held.{checkpoint_blocks};
+ghost use Rattle.time_read.specs.Rows.{IsRow, entries_of, first_of, inode_of, last_inode};
 ghost use Rattle.time_read.specs.Orderly.{IsFromTo, IsOrderly, IsOrderlyChain};
 ghost use Rattle.row_changes.specs.Recent.{IsBy};
 ghost use Rattle.row_changes.specs.Rewritten.{OnlyHistoryChanged, rewritten_blocks};
 
-use crate::checkpoints::put;
+use crate::checkpoints::put_ahead;
+use crate::moves::move_chain;
 use arrayvec::ArrayVec;
 use block_log::Blocks;
 use block_log::laws::places_taken_add_up;
 use checkpoint::laws::{a_checkpoint_has_its_blocks, a_checkpoint_rests_on_its_blocks};
 use checkpoint::{checkpoint_blocks, drop_checkpoint};
 use codec::{Entry, Inode};
-use journal_chain::Chain;
 use journal_chain::laws::{a_chain_has_its_entries, a_chain_is_its_journal_blocks};
 use journal_chain::packing::blocks_needed;
 use journal_chain::packing::laws::{chains_are_short, few_blocks_are_needed};
 use object_map::Row;
 use s4_types::limits::CHAIN_ENTRIES;
-use s4_types::{Moment, ObjectId, Ptr, Refusal};
+use s4_types::{Moment, ObjectId, Refusal};
 use time_read::laws::a_row_tells_a_chain;
 use undo_redo::laws::{
     a_run_has_one_end_and_one_beginning, a_run_keeps_the_making, the_inode_at_a_moment,
@@ -64,35 +63,6 @@ pub fn rewritten_blocks(present: &Inode, entries: &[Entry]) -> usize
     ensures { result ≡ rewritten_blocks present.now entries.now }
 {
     checkpoint_blocks(present) + journal_blocks(entries)
-}
-
-/// Appends the checkpoint of an inode where there is room.
-fn put_ahead<B: Blocks>(table: &mut B, object: ObjectId, inode: &Inode, moment: Moment) -> Ptr
-    requires rules { checkpoint_rules (record { object = object; moment = moment; inode = inode.now }) ≡ true }
-    requires room { checkpoint_blocks inode.now ≤ length (B.log table.old).ahead }
-    ensures told { checkpoint_held (B.log table.new).held object result ≡ Some (record { object = object; moment = moment; inode = inode.now }) }
-    ensures takes { TakesPlaces (checkpoint_blocks inode.now) (B.log table.old) (B.log table.new) }
-    ensures growth { PutsCheckpoint (B.log table.old).held object result (B.log table.new).held }
-{
-    put(table, object, inode, moment).unwrap()
-}
-
-/// Writes the journal of a row afresh where there is room, and answers its chain.
-fn write_chain<B: Blocks>(table: &mut B, object: ObjectId, row: &Row, entries: &[Entry]) -> Chain
-    requires object { 1 ≤ object }
-    requires bytes { row.now.journal_bytes ≤ CHAIN_ENTRY_BYTES }
-    requires one_block { row.now.head_bytes ≤ JOURNAL_ENTRY_BYTES }
-    requires held { Holds (B.log table.old).held (chain_of object row.now) (entries_of (B.log table.old).held object row.now) }
-    requires limit { entries_length entries.now ≤ CHAIN_ENTRY_BYTES }
-    requires room { whole_blocks entries.now ≤ length (B.log table.old).ahead }
-    ensures holds { Holds (B.log table.new).held result entries.now }
-    ensures object { result.object ≡ object }
-    ensures others { OnlyJournalChanged object (B.log table.old).held (B.log table.new).held }
-    ensures takes { TakesPlaces (whole_blocks entries.now) (B.log table.old) (B.log table.new) }
-{
-    let mut chain = Chain::of(object, row.head, row.journal_bytes, row.head_bytes);
-    chain.rewrite(table, entries).unwrap();
-    chain
 }
 
 /// Writes an object's present inode as its checkpoint of a moment, and then its whole journal afresh with these entries,
@@ -153,7 +123,7 @@ pub fn rewrite_row<B: Blocks>(
         return Err(Refusal::NoRoom);
     }
     let place = put_ahead(table, object, present, moment);
-    let chain = write_chain(table, object, row, entries);
+    let chain = move_chain(table, object, row, entries);
     drop_checkpoint(table, object, row.checkpoint);
     Ok(Row {
         checkpoint: Some(place),

@@ -6,7 +6,7 @@ use Rattle.row_changes.proofs.moves.put_anew.Goals as goal
 pub drop_checkpoint-requires : goal.drop_checkpoint-requires
 drop_checkpoint-requires g c =
     let log = g.B.Blocks.log c.args.table.now in
-    let between = g.B.Blocks.log c.put.new.table in
+    let between = g.B.Blocks.log c.put_ahead-place.new.table in
     let o = c.args.object in
     let row = c.args.row.now in
     let known : CheckpointLaws = record {
@@ -14,23 +14,23 @@ drop_checkpoint-requires g c =
       places = c.a_checkpoint_rests_on_its_blocks.ensures.places;
       held = c.a_checkpoint_has_its_blocks.ensures.held;
     } in
-    let s : Put log.held between.held between.held o c.in-Ok.place row.checkpoint = record {
+    let s : Put log.held between.held between.held o c.put_ahead-place.result row.checkpoint = record {
       laws = known;
       there = older_there known log.held o row c.requires.row;
       only = c.requires.row.only;
-      put = c.in-Ok.ensures.growth;
+      put = c.put_ahead-place.ensures.growth;
       journal = no_journal_yet o between.held;
     } in
-    record { held = older_still log.held between.held between.held o c.in-Ok.place row.checkpoint s }
+    record { held = older_still log.held between.held between.held o c.put_ahead-place.result row.checkpoint s }
 
 pub returns : goal.returns
 returns g c =
     let log = g.B.Blocks.log c.args.table.now in
-    let between = g.B.Blocks.log c.put.new.table in
+    let between = g.B.Blocks.log c.put_ahead-place.new.table in
     let after = g.B.Blocks.log c.drop_checkpoint.new.table in
     let o = c.args.object in
     let row = c.args.row.now in
-    let place = c.in-Ok.place in
+    let place = c.put_ahead-place.result in
     let inode = c.args.inode.now in
     let known : CheckpointLaws = record {
       told = c.a_checkpoint_rests_on_its_blocks.ensures.told;
@@ -41,14 +41,14 @@ returns g c =
       laws = known;
       there = older_there known log.held o row c.requires.row;
       only = c.requires.row.only;
-      put = c.in-Ok.ensures.growth;
+      put = c.put_ahead-place.ensures.growth;
       journal = no_journal_yet o between.held;
     } in
     let d = c.drop_checkpoint.ensures.dropped in
     record {
-      told = told_on log.held between.held between.held after.held o place row.checkpoint (record { object = o; moment = row.checkpoint_moment; inode = inode }) s d c.in-Ok.ensures.told;
+      told = told_on log.held between.held between.held after.held o place row.checkpoint (record { object = o; moment = row.checkpoint_moment; inode = inode }) s d c.put_ahead-place.ensures.told;
       only = new_alone log.held between.held between.held after.held o place row.checkpoint s d;
-      places = new_among (checkpoint_blocks inode) log between after o place row.checkpoint s d c.in-Ok.ensures.takes;
-      others = put_only log.held between.held after.held o place c.in-Ok.ensures.growth d.others;
-      takes = taken_first log between after (checkpoint_blocks inode) c.places_taken_add_up.ensures c.in-Ok.ensures.takes c.drop_checkpoint.ensures.takes;
+      places = new_among (checkpoint_blocks inode) log between after o place row.checkpoint s d c.put_ahead-place.ensures.takes;
+      others = put_only log.held between.held after.held o place c.put_ahead-place.ensures.growth d.others;
+      takes = taken_first log between after (checkpoint_blocks inode) c.places_taken_add_up.ensures c.put_ahead-place.ensures.takes c.drop_checkpoint.ensures.takes;
     }

@@ -12,8 +12,8 @@ use Rattle.row_changes.proofs.RewrittenBlocks.{history_only, taken_together}
 use Rattle.row_changes.proofs.RewrittenRow.{Rewritten, with_history, holds_on, rewritten_row, rewritten_by, rewritten_first, rewritten_inode, rewritten_last, rewritten_orderly}
 use Rattle.row_changes.proofs.rewrites.rewrite_row.Goals as goal
 
-pub write_chain-chain-requires-clause-held : goal.write_chain-chain-requires-clause-held
-write_chain-chain-requires-clause-held g c =
+pub move_chain-chain-requires-clause-held : goal.move_chain-chain-requires-clause-held
+move_chain-chain-requires-clause-held g c =
     let held = (g.B.Blocks.log c.args.table.now).held in
     let between = (g.B.Blocks.log c.put_ahead-place.new.table).held in
     let o = c.args.object in
@@ -26,7 +26,7 @@ pub drop_checkpoint-requires : goal.drop_checkpoint-requires
 drop_checkpoint-requires g c =
     let log = g.B.Blocks.log c.args.table.now in
     let between = g.B.Blocks.log c.put_ahead-place.new.table in
-    let chained = g.B.Blocks.log c.write_chain-chain.new.table in
+    let chained = g.B.Blocks.log c.move_chain-chain.new.table in
     let o = c.args.object in
     let row = c.args.row.now in
     let place = c.put_ahead-place.result in
@@ -40,7 +40,7 @@ drop_checkpoint-requires g c =
       there = older_there known log.held o row c.requires.row;
       only = c.requires.row.only;
       put = c.put_ahead-place.ensures.growth;
-      journal = c.write_chain-chain.ensures.others;
+      journal = c.move_chain-chain.ensures.others;
     } in
     record { held = older_still log.held between.held chained.held o place row.checkpoint s }
 
@@ -48,7 +48,7 @@ pub returns : goal.returns
 returns g c =
     let log = g.B.Blocks.log c.args.table.now in
     let between = g.B.Blocks.log c.put_ahead-place.new.table in
-    let chained = g.B.Blocks.log c.write_chain-chain.new.table in
+    let chained = g.B.Blocks.log c.move_chain-chain.new.table in
     let after = g.B.Blocks.log c.drop_checkpoint.new.table in
     let o = c.args.object in
     let row = c.args.row.now in
@@ -74,11 +74,11 @@ returns g c =
       there = older_there known log.held o row c.requires.row;
       only = c.requires.row.only;
       put = c.put_ahead-place.ensures.growth;
-      journal = c.write_chain-chain.ensures.others;
+      journal = c.move_chain-chain.ensures.others;
     } in
     let d = c.drop_checkpoint.ensures.dropped in
     let holds : Holds after.held (chain_of o (with_history row place m head bytes filled)) entries =
-    holds_on chained.held after.held o row place m head bytes filled c.write_chain-chain.result entries c.write_chain-chain.ensures.object c.head.ensures c.bytes.ensures.bytes c.filled.ensures.filled (d.others Journal o refl) c.write_chain-chain.ensures.holds in
+    holds_on chained.held after.held o row place m head bytes filled c.move_chain-chain.result entries c.move_chain-chain.ensures.object c.head.ensures c.bytes.ensures.bytes c.filled.ensures.filled (d.others Journal o refl) c.move_chain-chain.ensures.holds in
     let w : Rewritten after.held o row place inode m head bytes filled entries = record {
       object = c.requires.row.object;
       run = c.requires.run;
@@ -101,7 +101,7 @@ returns g c =
       fields = search rules;
       some = search rules;
       others = history_only log.held between.held chained.held after.held o place row.checkpoint s d;
-      takes = taken_together log between chained after (checkpoint_blocks inode) (whole_blocks entries) c.places_taken_add_up.ensures c.put_ahead-place.ensures.takes c.write_chain-chain.ensures.takes c.drop_checkpoint.ensures.takes;
+      takes = taken_together log between chained after (checkpoint_blocks inode) (whole_blocks entries) c.places_taken_add_up.ensures c.put_ahead-place.ensures.takes c.move_chain-chain.ensures.takes c.drop_checkpoint.ensures.takes;
       answer = search rules;
       unchanged = search rules;
     }
