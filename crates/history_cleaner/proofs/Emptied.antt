@@ -1,8 +1,8 @@
 -- Frames that hold nothing are marked and released, one after the other.
-use Rattle.std.proofs.Common.{◌≡◌, ◌⊎◌, ℕ, zero, suc, ◌+◌, ◌<◌, ◌≤◌, Bool, true, false, ltb, cond, Result, Ok, Err, inl, inr, List, [], ◌∷◌, length, Option, refl, sym, ap, subst, ◌∙◌, arith}
-use Rattle.std.specs.Prelude.{MatchResult, OnOk, OnErr, IfOk, IfErr, slice_set, count_by}
+use Rattle.std.proofs.Common.{◌≡◌, ◌⊎◌, ℕ, zero, suc, ◌+◌, ◌<◌, ◌≤◌, Bool, true, false, cond, Result, Ok, Err, inl, inr, List, [], ◌∷◌, length, Option, refl, sym, ap, subst, ◌∙◌, arith}
+use Rattle.std.specs.Prelude.{MatchResult, OnOk, OnErr, IfErr, slice_set, count_by}
 use Rattle.std.specs.List.{range_with_len}
-use Rattle.std.proofs.lemmas.Bool.{cases_eq, lt-ltb, le-ltb, false≢true}
+use Rattle.std.proofs.lemmas.Bool.{cases_eq, false≢true}
 use Rattle.std.proofs.lemmas.List.{get_or-set_same, get_or-set_other, length-set}
 use Rattle.std.proofs.lemmas.List.Sums.{sum_by-cons}
 use Rattle.s4_types.specs.Pointer.{Place}
@@ -19,7 +19,7 @@ use Rattle.segment_table.specs.Room.{log_of}
 use Rattle.version_store.specs.Emptying.{CanBeEmptied}
 use Rattle.version_store.specs.Store.{StoreFields}
 use Rattle.drive.specs.Fields.{DriveFields, store_of}
-use Rattle.history_cleaner.specs.Emptying.{AllVacated, has_risen, frames_risen, HasFoundReader, KeepsObjects, MarkedBelow}
+use Rattle.history_cleaner.specs.Emptying.{AllVacated, HasFoundReader, KeepsObjects, MarkedBelow}
 use Rattle.history_cleaner.specs.private.Emptying.{ReleasedBelow}
 
 -- ---- frames
@@ -172,14 +172,14 @@ count_more p q n alike =
 -- ---- releasing
 
 -- how far releasing has come in a drive
-pub record ReleasesSoFar (f n : ℕ) (old new : DriveFields) : Type 0 where
-  pub table : ReleasedBelow f n old.store.table new.store.table
+pub record ReleasesSoFar (f : ℕ) (old new : DriveFields) : Type 0 where
+  pub table : ReleasedBelow f old.store.table new.store.table
   pub objects : KeepsObjects (store_of old) (store_of new)
   pub ledger : new.ledger ≡ old.ledger
 
-pub none_released : (d : DriveFields) → ReleasesSoFar 0 0 d d
+pub none_released : (d : DriveFields) → ReleasesSoFar 0 d d
 none_released d = record {
-  table = record { count = refl; from = λ k le. refl; below = λ k below. absurd (omega arith); sealed = λ k is. is; counted = refl; few = omega arith; tried = omega arith };
+  table = record { count = refl; below = λ k below. absurd (omega arith); sealed = λ k is. is; tried = omega arith };
   objects = kept_all (store_of d);
   ledger = refl;
 }
@@ -191,22 +191,12 @@ released_here : (old new : Table) (f : ℕ) → IsReleased f old new → frame_a
 released_here old new f done = ap (λ (d : Drive). frame_at d.frames f) done.drive ∙ changed_here old.drive.frames f (released (frame_at old.drive.frames f)) done.inside
 
 -- frame f was released
-released_more : (f n : ℕ) (old d new : Table) → ReleasedBelow f n old d → IsReleased f d new → ReleasedBelow (f + 1) (n + 1) old new
-released_more f n old d new sofar done =
-    let was : ℕ = (frame_at old.drive.frames f).generation in
-    let is : ℕ = (frame_at new.drive.frames f).generation in
-    let raised : is ≡ was + 1 = ap (λ (x : Frame). x.generation) (released_here d new f done) ∙ ap (λ (m : ℕ). m + 1) (sofar.from f (omega arith)) in
-    let rises : has_risen old.drive.frames new.drive.frames f ≡ true = lt-ltb was is (omega arith) in
-    let more = count_more (has_risen old.drive.frames new.drive.frames) (has_risen old.drive.frames d.drive.frames) f
-    (λ k below. ap (λ (x : Frame). ltb (frame_at old.drive.frames k).generation x.generation) (released_frame d new f k done (λ same. omega (arith, same, below)))) in
-    let one : tally (has_risen old.drive.frames new.drive.frames f) ≡ tally true = ap tally rises in
-    let before : n ≡ count_by (has_risen old.drive.frames d.drive.frames) (range_with_len 0 f) = sofar.counted in
-    let few : n ≤ f = sofar.few in
+released_more : (f : ℕ) (old d new : Table) → ReleasedBelow f old d → IsReleased f d new → ReleasedBelow (f + 1) old new
+released_more f old d new sofar done =
     let low : old.drive.releases.tried ≤ d.drive.releases.tried = sofar.tried in
     let tries : new.drive.releases.tried ≡ d.drive.releases.tried + 1 = ap (λ (x : Drive). x.releases.tried) done.drive in
     record {
       count = ap (λ (x : Drive). length x.frames) done.drive ∙ changed_count d.drive.frames f (released (frame_at d.drive.frames f)) ∙ sofar.count;
-      from = λ k le. ap (λ (x : Frame). x.generation) (released_frame d new f k done (λ same. omega (arith, same, le))) ∙ sofar.from k (omega arith);
       below = λ k lt here. elim (cases_eq k f) [
         | inl at ↦ free_not_emptied (sym (ap (λ (m : ℕ). (frame_at new.drive.frames m).phase) at ∙ ap (λ (x : Frame). x.phase) (released_here d new f done)) ∙ here)
         | inr other ↦ sofar.below k (omega arith) (sym (ap (λ (x : Frame). x.phase) (released_frame d new f k done other)) ∙ here)
@@ -215,53 +205,36 @@ released_more f n old d new sofar done =
         | inl at ↦ absurd (not_free (sym (ap (λ (m : ℕ). (frame_at new.drive.frames m).phase) at ∙ ap (λ (x : Frame). x.phase) (released_here d new f done)) ∙ here))
         | inr other ↦ sofar.sealed k (sym (ap (λ (x : Frame). x.phase) (released_frame d new f k done other)) ∙ here)
       ];
-      counted = omega (arith, more, one, before);
-      few = omega (arith, few);
       tried = omega (arith, low, tries);
     }
 
 -- frame f isn't being emptied
-released_not : (f n : ℕ) (old d : Table) → ReleasedBelow f n old d → is_emptied (frame_at d.drive.frames f).phase ≡ false → ReleasedBelow (f + 1) n old d
-released_not f n old d sofar not =
-    let was : ℕ = (frame_at old.drive.frames f).generation in
-    let is : ℕ = (frame_at d.drive.frames f).generation in
-    let stays : is ≡ was = sofar.from f (omega arith) in
-    let none : has_risen old.drive.frames d.drive.frames f ≡ false = le-ltb was is (omega (arith, stays)) in
-    let more = count_more (has_risen old.drive.frames d.drive.frames) (has_risen old.drive.frames d.drive.frames) f (λ k below. refl) in
-    let zero : tally (has_risen old.drive.frames d.drive.frames f) ≡ tally false = ap tally none in
-    let before : n ≡ count_by (has_risen old.drive.frames d.drive.frames) (range_with_len 0 f) = sofar.counted in
-    let few : n ≤ f = sofar.few in
-    record {
-      count = sofar.count;
-      from = λ k le. sofar.from k (omega arith);
-      below = λ k lt here. elim (cases_eq k f) [
-        | inl at ↦ false≢true (sym not ∙ ap is_emptied (ap (λ (m : ℕ). (frame_at d.drive.frames m).phase) (sym at) ∙ here))
-        | inr other ↦ sofar.below k (omega arith) here
-      ];
-      sealed = sofar.sealed;
-      counted = omega (arith, more, zero, before);
-      few = omega (arith, few);
-      tried = sofar.tried;
-    }
+released_not : (f : ℕ) (old d : Table) → ReleasedBelow f old d → is_emptied (frame_at d.drive.frames f).phase ≡ false → ReleasedBelow (f + 1) old d
+released_not f old d sofar not = record {
+  count = sofar.count;
+  below = λ k lt here. elim (cases_eq k f) [
+    | inl at ↦ false≢true (sym not ∙ ap is_emptied (ap (λ (m : ℕ). (frame_at d.drive.frames m).phase) (sym at) ∙ here))
+    | inr other ↦ sofar.below k (omega arith) here
+  ];
+  sealed = sofar.sealed;
+  tried = sofar.tried;
+}
 
-pub release_step : (f n m : ℕ) (old d e new last : DriveFields) → ReleasesSoFar f n old d → e ≡ d → IsReleased f e.store.table new.store.table → KeepsObjects (store_of e) (store_of new) → new.ledger ≡ e.ledger → m ≡ n + 1 → last ≡ new → ReleasesSoFar (f + 1) m old last
-release_step f n m old d e new last sofar same done objects ledger more is =
-    let before : ReleasesSoFar f n old e = subst (ReleasesSoFar f n old) (sym same) sofar in
-    let after : ReleasesSoFar (f + 1) (n + 1) old new = record {
-      table = released_more f n old.store.table e.store.table new.store.table before.table done;
+pub release_step : (f : ℕ) (old d e new last : DriveFields) → ReleasesSoFar f old d → e ≡ d → IsReleased f e.store.table new.store.table → KeepsObjects (store_of e) (store_of new) → new.ledger ≡ e.ledger → last ≡ new → ReleasesSoFar (f + 1) old last
+release_step f old d e new last sofar same done objects ledger is =
+    let before : ReleasesSoFar f old e = subst (ReleasesSoFar f old) (sym same) sofar in
+    subst (ReleasesSoFar (f + 1) old) (sym is) (record {
+      table = released_more f old.store.table e.store.table new.store.table before.table done;
       objects = kept_on (store_of old) (store_of e) (store_of new) before.objects objects;
       ledger = ledger ∙ before.ledger;
-    } in
-    subst (ReleasesSoFar (f + 1) m old) (sym is) (subst (λ (k : ℕ). ReleasesSoFar (f + 1) k old new) (sym more) after)
+    })
 
-pub skip_step : (f n m : ℕ) (old d e last : DriveFields) → ReleasesSoFar f n old d → e ≡ d → is_emptied (frame_at d.store.table.drive.frames f).phase ≡ false → m ≡ n → last ≡ e → ReleasesSoFar (f + 1) m old last
-skip_step f n m old d e last sofar same not more is =
-    let after : ReleasesSoFar (f + 1) n old d = record {
-      table = released_not f n old.store.table d.store.table sofar.table not;
-      objects = sofar.objects;
-      ledger = sofar.ledger;
-    } in
-    subst (ReleasesSoFar (f + 1) m old) (sym (is ∙ same)) (subst (λ (k : ℕ). ReleasesSoFar (f + 1) k old d) (sym more) after)
+pub skip_step : (f : ℕ) (old d e last : DriveFields) → ReleasesSoFar f old d → e ≡ d → is_emptied (frame_at d.store.table.drive.frames f).phase ≡ false → last ≡ e → ReleasesSoFar (f + 1) old last
+skip_step f old d e last sofar same not is = subst (ReleasesSoFar (f + 1) old) (sym (is ∙ same)) (record {
+  table = released_not f old.store.table d.store.table sofar.table not;
+  objects = sofar.objects;
+  ledger = sofar.ledger;
+})
 
 -- ---- where a frame had a reader
 
@@ -271,9 +244,9 @@ emptied_is Open is = absurd (false≢true is)
 emptied_is Sealed is = absurd (false≢true is)
 emptied_is Emptied is = refl
 
-missed_from : (f n : ℕ) (old d new : DriveFields) → ReleasesSoFar f n old d → is_emptied (frame_at d.store.table.drive.frames f).phase ≡ true
+missed_from : (f : ℕ) (old d new : DriveFields) → ReleasesSoFar f old d → is_emptied (frame_at d.store.table.drive.frames f).phase ≡ true
     → ((frame_at d.store.table.drive.frames f).phase ≡ Emptied → HasMissed f d.store.table.drive new.store.table.drive) → HasFoundReader old.store.table.drive new.store.table.drive
-missed_from f n old d new sofar is misses =
+missed_from f old d new sofar is misses =
     let emptied : (frame_at d.store.table.drive.frames f).phase ≡ Emptied = emptied_is (frame_at d.store.table.drive.frames f).phase is in
     let miss : HasMissed f d.store.table.drive new.store.table.drive = misses emptied in
     let last : new.store.table.drive.releases.last ≡ f = ap (λ (x : Drive). x.releases.last) miss.else_same in
@@ -289,17 +262,17 @@ missed_from f n old d new sofar is misses =
       found = miss.found ∙ ap (λ (k : Frame). word_of k miss.readers) (sym frame);
     }
 
-pub missed : (f n : ℕ) (old d e new : DriveFields) → ReleasesSoFar f n old d → e ≡ d → is_emptied (frame_at d.store.table.drive.frames f).phase ≡ true
+pub missed : (f : ℕ) (old d e new : DriveFields) → ReleasesSoFar f old d → e ≡ d → is_emptied (frame_at d.store.table.drive.frames f).phase ≡ true
     → ((frame_at e.store.table.drive.frames f).phase ≡ Emptied → HasMissed f e.store.table.drive new.store.table.drive) → HasFoundReader old.store.table.drive new.store.table.drive
-missed f n old d e new sofar same is misses =
-    missed_from f n old d new sofar is (subst (λ (x : DriveFields). (frame_at x.store.table.drive.frames f).phase ≡ Emptied → HasMissed f x.store.table.drive new.store.table.drive) same misses)
+missed f old d e new sofar same is misses =
+    missed_from f old d new sofar is (subst (λ (x : DriveFields). (frame_at x.store.table.drive.frames f).phase ≡ Emptied → HasMissed f x.store.table.drive new.store.table.drive) same misses)
 
 -- the objects are as they were also then
-pub missed_keeps : (f n : ℕ) (old d e new : DriveFields) → ReleasesSoFar f n old d → e ≡ d → KeepsObjects (store_of e) (store_of new) → KeepsObjects (store_of old) (store_of new)
-missed_keeps f n old d e new sofar same objects = kept_on (store_of old) (store_of d) (store_of new) sofar.objects (subst (λ (x : DriveFields). KeepsObjects (store_of x) (store_of new)) same objects)
+pub missed_keeps : (f : ℕ) (old d e new : DriveFields) → ReleasesSoFar f old d → e ≡ d → KeepsObjects (store_of e) (store_of new) → KeepsObjects (store_of old) (store_of new)
+missed_keeps f old d e new sofar same objects = kept_on (store_of old) (store_of d) (store_of new) sofar.objects (subst (λ (x : DriveFields). KeepsObjects (store_of x) (store_of new)) same objects)
 
-pub missed_count : (f n : ℕ) (old d e new : DriveFields) → ReleasesSoFar f n old d → e ≡ d → new.store.table.drive.frames ≡ e.store.table.drive.frames → length new.store.table.drive.frames ≡ length old.store.table.drive.frames
-missed_count f n old d e new sofar same stays = ap (λ (ks : List Frame). length ks) stays ∙ ap (λ (x : DriveFields). length x.store.table.drive.frames) same ∙ sofar.table.count
+pub missed_count : (f : ℕ) (old d e new : DriveFields) → ReleasesSoFar f old d → e ≡ d → new.store.table.drive.frames ≡ e.store.table.drive.frames → length new.store.table.drive.frames ≡ length old.store.table.drive.frames
+missed_count f old d e new sofar same stays = ap (λ (ks : List Frame). length ks) stays ∙ ap (λ (x : DriveFields). length x.store.table.drive.frames) same ∙ sofar.table.count
 
 -- ---- at the end
 
@@ -310,18 +283,12 @@ vacated_at Sealed sealed emptied = absurd (sealed refl)
 vacated_at Emptied sealed emptied = absurd (emptied refl)
 
 -- all frames were marked, and then all released
-all_vacated : (count n : ℕ) (old d new : Table) → count ≡ length old.drive.frames → MarkedBelow count old d → ReleasedBelow count n d new → (log_of new).held ≡ (log_of d).held → AllVacated new
-all_vacated count n old d new whole marked released same f within none =
+all_vacated : (count : ℕ) (old d new : Table) → count ≡ length old.drive.frames → MarkedBelow count old d → ReleasedBelow count d new → (log_of new).held ≡ (log_of d).held → AllVacated new
+all_vacated count old d new whole marked released same f within none =
     let low : f < length new.drive.frames = within in
     let lengths : length new.drive.frames ≡ length old.drive.frames = released.count ∙ marked.count in
     let below : f < count = omega (arith, low, lengths, whole) in
     vacated_at (frame_at new.drive.frames f).phase (λ sealed. marked.marked f below (released.sealed f sealed, none_again f new d (sym same) none)) (released.below f below)
-
-risen_is : (count n : ℕ) (old d new : Table) → count ≡ length old.drive.frames → MarkedBelow count old d → ReleasedBelow count n d new → n ≡ frames_risen old.drive new.drive
-risen_is count n old d new whole marked released =
-    released.counted
-    ∙ count_alike (has_risen d.drive.frames new.drive.frames) (has_risen old.drive.frames new.drive.frames) 0 count (λ k low high. ap (λ (m : ℕ). ltb m (frame_at new.drive.frames k).generation) (marked.generations k))
-    ∙ ap (λ (m : ℕ). count_by (has_risen old.drive.frames new.drive.frames) (range_with_len 0 m)) whole
 
 found_since : (old d new : Drive) → d.releases ≡ old.releases → HasFoundReader d new → HasFoundReader old new
 found_since old d new same found = record {
@@ -333,28 +300,25 @@ found_since old d new same found = record {
 }
 
 -- all that is promised of the answer
-pub record HasEmptied (r : Result ℕ Refusal) (old new : DriveFields) : Type 0 where
+pub record HasVacated (r : Result (Unit {0}) Refusal) (old new : DriveFields) : Type 0 where
   pub vacated : OnOk r (AllVacated new.store.table)
-  pub released : IfOk r (λ n. n ≡ frames_risen old.store.table.drive new.store.table.drive)
   pub refusal : IfErr r (λ e. (e ≡ InUse) × HasFoundReader old.store.table.drive new.store.table.drive)
   pub frames : length new.store.table.drive.frames ≡ length old.store.table.drive.frames
   pub objects : KeepsObjects (store_of old) (store_of new)
   pub ledger : new.ledger ≡ old.ledger
 
-pub emptied : (r : Result ℕ Refusal) (count : ℕ) (old d new : DriveFields) → count ≡ length old.store.table.drive.frames → MarksSoFar count old d
-    → IfOk r (λ n. ReleasedBelow count n d.store.table new.store.table) → IfErr r (λ e. (e ≡ InUse) × HasFoundReader d.store.table.drive new.store.table.drive)
-    → length new.store.table.drive.frames ≡ length d.store.table.drive.frames → KeepsObjects (store_of d) (store_of new) → new.ledger ≡ d.ledger → HasEmptied r old new
-emptied (Ok n) count old d new whole marked released refused frames objects ledger = record {
-  vacated = all_vacated count n old.store.table d.store.table new.store.table whole marked.table released objects.held;
-  released = risen_is count n old.store.table d.store.table new.store.table whole marked.table released;
+pub has_vacated : (r : Result (Unit {0}) Refusal) (count : ℕ) (old d new : DriveFields) → count ≡ length old.store.table.drive.frames → MarksSoFar count old d
+    → OnOk r (ReleasedBelow count d.store.table new.store.table) → IfErr r (λ e. (e ≡ InUse) × HasFoundReader d.store.table.drive new.store.table.drive)
+    → length new.store.table.drive.frames ≡ length d.store.table.drive.frames → KeepsObjects (store_of d) (store_of new) → new.ledger ≡ d.ledger → HasVacated r old new
+has_vacated (Ok done) count old d new whole marked released refused frames objects ledger = record {
+  vacated = all_vacated count old.store.table d.store.table new.store.table whole marked.table released objects.held;
   refusal = tt;
   frames = frames ∙ marked.table.count;
   objects = kept_on (store_of old) (store_of d) (store_of new) (kept_same (store_of old) (store_of d) marked.same) objects;
   ledger = ledger ∙ marked.ledger;
 }
-emptied (Err e) count old d new whole marked released refused frames objects ledger = record {
+has_vacated (Err e) count old d new whole marked released refused frames objects ledger = record {
   vacated = tt;
-  released = tt;
   refusal = (refused.0, found_since old.store.table.drive d.store.table.drive new.store.table.drive marked.table.releases refused.1);
   frames = frames ∙ marked.table.count;
   objects = kept_on (store_of old) (store_of d) (store_of new) (kept_same (store_of old) (store_of d) marked.same) objects;

@@ -323,15 +323,6 @@ stopped_at_reader d mid later e all kept found = inr (record {
 
 -- ---- with the frames noted before, and counted behind
 
--- nothing was begun
-pub not_begun : (d later : DriveFields) (e : Refusal) → later ≡ d → e ≡ NoMemory → StoppedAt (store_of d) (store_of later) (state_in d) e ⊎ StoppedAtReader d later e
-not_begun d later e same memory = subst (λ (x : DriveFields). StoppedAt (store_of d) (store_of x) (state_in d) e ⊎ StoppedAtReader d x e) (sym same) (inl (record {
-  object = 0;
-  below = λ o below. absurd (omega (arith, below));
-  rest = λ o le. touched_none (store_of d) o;
-  why = inl memory;
-}))
-
 pub all_same : (d begun done later : DriveFields) → begun ≡ d → later ≡ done → ((o : ℕ) → IsCleaned (store_of begun) (store_of done) (state_in begun) o) → (o : ℕ) → IsCleaned (store_of d) (store_of later) (state_in d) o
 all_same d begun done later first last all o =
     subst (λ (x : DriveFields). IsCleaned (store_of x) (store_of later) (state_in x) o) first (subst (λ (x : DriveFields). IsCleaned (store_of begun) (store_of x) (state_in begun) o) (sym last) (all o))

@@ -1,5 +1,5 @@
 -- The generations of frames are noted, and those that rose since are counted.
-use Rattle.std.proofs.Common.{◌≡◌, ℕ, ◌+◌, ◌<◌, ◌≤◌, ◌++◌, ◌∷◌, [], true, false, List, length, map, get_or, refl, sym, ap, subst, ◌∙◌, arith}
+use Rattle.std.proofs.Common.{◌≡◌, ℕ, ◌+◌, ◌≤◌, ◌++◌, ◌∷◌, [], true, false, List, length, map, get_or, refl, sym, ap, ◌∙◌, arith}
 use Rattle.std.specs.Prelude.{count_by, nat_lt}
 use Rattle.std.specs.List.{range_with_len}
 use Rattle.std.proofs.lemmas.List.FromFn.{length-map-range_with_len, get_or-map-range_with_len, map-range_with_len_more}
@@ -52,6 +52,10 @@ still_step noted frames f n m before sofar read rises is =
     let few : n ≤ f = sofar.few in
     record { count = risen_more noted frames f n m sofar.count (omega (arith, is, none)); few = omega (arith, is, few) }
 
--- as many were noted as there are frames
-pub few_noted : (frames : List Frame) (n : ℕ) (items : List ℕ) → items ≡ map (generation_at frames) (range_with_len 0 n) → n < 65536 → length items < 65536
-few_noted frames n items is small = subst (λ (x : ℕ). x < 65536) (sym (ap length is ∙ length-map-range_with_len (generation_at frames) 0 n)) small
+-- as many were noted as frames were looked at
+pub noted_count : (frames : List Frame) (n : ℕ) (items : List ℕ) → items ≡ map (generation_at frames) (range_with_len 0 n) → length items ≡ n
+noted_count frames n items is = ap length is ∙ length-map-range_with_len (generation_at frames) 0 n
+
+-- so a count by what was noted is that of the frames that rose, and so it stays where the drive does
+pub counted_since : (old new last : Drive) (noted : List ℕ) (n : ℕ) → noted ≡ generations_in old → n ≡ count_by (is_later noted new.frames) (range_with_len 0 (length noted)) → last ≡ new → n ≡ frames_risen old last
+counted_since old new last noted n is counted same = counted ∙ risen_since old new noted is ∙ ap (frames_risen old) (sym same)

@@ -1,17 +1,22 @@
 //! Emptying the frames of a drive that hold nothing more.
-ghost use Rattle.std.specs.Prelude.{◌≡◌, ℕ, ◌^◌, ◌<◌, IfOk, IfErr, OnOk, length, count_by, nat_lt};
+ghost use Rattle.std.specs.Prelude.{◌≡◌, ◌≤◌, IfOk, IfErr, OnOk, length, count_by, nat_lt};
 ghost use Rattle.std.specs.List.{range_with_len};
-ghost use Rattle.s4_types.specs.declared.refusals.Refusal.TheVariants.{InUse, NoMemory};
+ghost use Rattle.s4_types.specs.declared.limits.TheConstants.{MOST_FRAMES};
+ghost use Rattle.s4_types.specs.declared.refusals.Refusal.TheVariants.{InUse};
 ghost use Rattle.segment_word.specs.Layout.{frame_at};
 ghost use Rattle.drive.specs.Fields.{store_of};
 ghost use Rattle.history_cleaner.specs.Emptying.{AllVacated, frames_risen, HasFoundReader, KeepsObjects, MarkedBelow};
 ghost use Rattle.history_cleaner.specs.private.Emptying.{ReleasedBelow, generations_in, is_later};
 
+use arrayvec::ArrayVec;
 use drive::Drive;
 use s4_types::Refusal;
+use s4_types::limits::MOST_FRAMES;
 use segment_table::OverFrames;
 use segment_word::Naming;
-use std::alloc::Global;
+
+/// The generations of frames, the first one's first.
+pub(crate) type Generations = ArrayVec<u32, MOST_FRAMES>;
 
 /// Marks each of so many frames that is sealed and holds nothing.
 pub(crate) fn mark_all<J: Naming>(drive: &mut Drive<J>, count: u16)
@@ -24,33 +29,26 @@ pub(crate) fn mark_all<J: Naming>(drive: &mut Drive<J>, count: u16)
     }
 }
 
-/// Releases each of so many frames that is being emptied, and tells how many. At the first that has a reader it stops.
-fn release_all<J: Naming>(drive: &mut Drive<J>, count: u16) -> Result<u32, Refusal>
-    ensures released { IfOk result (λ n. ReleasedBelow count n drive.old.store.table drive.new.store.table) }
+/// Releases each of so many frames that is being emptied. At the first that has a reader it stops.
+fn release_all<J: Naming>(drive: &mut Drive<J>, count: u16) -> Result<(), Refusal>
+    ensures released { OnOk result (ReleasedBelow count drive.old.store.table drive.new.store.table) }
     ensures refusal { IfErr result (λ e. (e ≡ InUse) × HasFoundReader drive.old.store.table.drive drive.new.store.table.drive) }
     ensures frames { length drive.new.store.table.drive.frames ≡ length drive.old.store.table.drive.frames }
     ensures objects { KeepsObjects (store_of drive.old) (store_of drive.new) }
     ensures ledger { drive.new.ledger ≡ drive.old.ledger }
 {
-    let mut released = 0;
     for frame in 0..count {
         if drive.is_emptied(frame) {
             drive.release(frame)?;
-            released += 1;
         }
     }
-    Ok(released)
+    Ok(())
 }
 
-/// Empties the frames of a drive: first each that is sealed and holds nothing is marked, then each that is being emptied is
-/// released, also one that was being emptied before, both by ascending number. Ok tells how many frames are in their next life;
-/// then each frame that holds nothing is free, a retired one among them, or it is the open one. All objects stay as they are,
-/// whatever is answered. Takes no memory.
-///
-/// InUse where a frame that is being emptied has a reader. It stops there: frames with lower numbers were released.
-pub fn empty_frames<J: Naming>(drive: &mut Drive<J>) -> Result<u32, Refusal>
+/// Marks each frame that is sealed and holds nothing, and then releases each that is being emptied. At the first that has a reader
+/// it stops.
+pub(crate) fn vacate<J: Naming>(drive: &mut Drive<J>) -> Result<(), Refusal>
     ensures vacated { OnOk result (AllVacated drive.new.store.table) }
-    ensures released { IfOk result (λ n. n ≡ frames_risen drive.old.store.table.drive drive.new.store.table.drive) }
     ensures refusal { IfErr result (λ e. (e ≡ InUse) × HasFoundReader drive.old.store.table.drive drive.new.store.table.drive) }
     ensures frames { length drive.new.store.table.drive.frames ≡ length drive.old.store.table.drive.frames }
     ensures objects { KeepsObjects (store_of drive.old) (store_of drive.new) }
@@ -69,24 +67,17 @@ fn generation_of<J: Naming>(drive: &mut Drive<J>, frame: u16) -> u32
     drive.generation(frame).unwrap_or(0)
 }
 
-/// The generations of all frames, the first one's first.
-///
-/// NoMemory alone, where the memory for them is refused.
-pub(crate) fn note_generations<J: Naming>(
-    alloc: Global,
-    drive: &mut Drive<J>,
-) -> Result<Vec<u32>, Refusal>
-    ensures noted { IfOk result (λ noted. noted.items ≡ generations_in drive.old.store.table.drive) }
-    ensures few { IfOk result (λ noted. length noted.items < 2 ^ 16) }
-    ensures refusal { IfErr result (λ e. e ≡ NoMemory) }
+/// The generations of all frames, the first one's first. Takes no memory.
+pub(crate) fn note_generations<J: Naming>(drive: &mut Drive<J>) -> Generations
+    ensures noted { result.items ≡ generations_in drive.old.store.table.drive }
     ensures same { drive.new ≡ drive.old }
 {
-    let count = drive.frame_count();
-    let mut noted = Vec::with_capacity(alloc, count as usize)?;
-    for frame in 0..count {
-        noted.push(generation_of(drive, frame))?;
+    drive.rules();
+    let mut noted = ArrayVec::new();
+    for frame in 0..drive.frame_count() {
+        noted.push(generation_of(drive, frame));
     }
-    Ok(noted)
+    noted
 }
 
 /// Whether a frame has a greater generation than one that was noted.
@@ -99,7 +90,7 @@ fn is_later<J: Naming>(drive: &mut Drive<J>, frame: u16, noted: u32) -> bool
 
 /// How many frames have a greater generation than was noted.
 pub(crate) fn count_risen<J: Naming>(drive: &mut Drive<J>, noted: &[u32]) -> u32
-    requires few { length noted.now < 2 ^ 16 }
+    requires few { length noted.now ≤ MOST_FRAMES }
     ensures risen { result ≡ count_by (is_later noted.now drive.old.store.table.drive.frames) (range_with_len 0 (length noted.now)) }
     ensures same { drive.new ≡ drive.old }
 {
@@ -110,4 +101,23 @@ pub(crate) fn count_risen<J: Naming>(drive: &mut Drive<J>, noted: &[u32]) -> u32
         }
     }
     risen
+}
+
+/// Empties the frames of a drive: first each that is sealed and holds nothing is marked, then each that is being emptied is
+/// released, also one that was being emptied before, both by ascending number. Ok tells how many frames are in their next life;
+/// then each frame that holds nothing is free, a retired one among them, or it is the open one. All objects stay as they are,
+/// whatever is answered. Takes no memory.
+///
+/// InUse where a frame that is being emptied has a reader. It stops there: frames with lower numbers were released.
+pub fn empty_frames<J: Naming>(drive: &mut Drive<J>) -> Result<u32, Refusal>
+    ensures vacated { OnOk result (AllVacated drive.new.store.table) }
+    ensures released { IfOk result (λ n. n ≡ frames_risen drive.old.store.table.drive drive.new.store.table.drive) }
+    ensures refusal { IfErr result (λ e. (e ≡ InUse) × HasFoundReader drive.old.store.table.drive drive.new.store.table.drive) }
+    ensures frames { length drive.new.store.table.drive.frames ≡ length drive.old.store.table.drive.frames }
+    ensures objects { KeepsObjects (store_of drive.old) (store_of drive.new) }
+    ensures ledger { drive.new.ledger ≡ drive.old.ledger }
+{
+    let before = note_generations(drive);
+    vacate(drive)?;
+    Ok(count_risen(drive, before.as_slice()))
 }

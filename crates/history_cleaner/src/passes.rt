@@ -10,7 +10,7 @@ ghost use Rattle.history_cleaner.specs.Passing.{is_other, is_gone, has_other_row
 ghost use Rattle.history_cleaner.specs.private.Counting.{NamesPlaces};
 
 use crate::cleaning::clean_object;
-use crate::frames::{count_risen, empty_frames, note_generations};
+use crate::frames::{count_risen, note_generations, vacate};
 use crate::laws::held_is_what_is_reached;
 use crate::places::names_places;
 use checkpoint::laws::a_checkpoint_has_its_blocks;
@@ -129,7 +129,7 @@ fn clean_and_empty<J: Naming>(alloc: Global, drive: &mut Drive<J>) -> Result<Cle
     ensures needed { KeepsVersions (state_in drive.old) (store_of drive.old) (store_of drive.new) }
 {
     let cleanings = clean_all(alloc, drive)?;
-    let _released = empty_frames(drive)?;
+    vacate(drive)?;
     Ok(cleanings)
 }
 
@@ -142,12 +142,12 @@ fn clean_and_empty<J: Naming>(alloc: Global, drive: &mut Drive<J>) -> Result<Cle
 /// current at such a one; and it has no row where it is absent at all of them. Each frame that holds nothing is
 /// free, a retired one among them, or it is the open one.
 ///
-/// At its first refusal it stops, and what was cleaned stays cleaned. NoMemory where the memory to note the generations of the
-/// frames is refused, and nothing has changed then; NoMemory and NoRoom as [`clean_object`] answers them for the object
-/// at which it stopped; InUse where a frame that is being emptied has a reader, after all objects were cleaned. The history
+/// At its first refusal it stops, and what was cleaned stays cleaned. NoMemory and NoRoom as [`clean_object`] answers them for the
+/// object at which it stopped; InUse where a frame that is being emptied has a reader, after all objects were cleaned. The history
 /// and every version that can be read stay as they are, whatever is answered.
 ///
-/// It holds no list of all objects, and takes the time of the single cleanings and a few steps for each frame.
+/// It holds no list of all objects, and takes no memory but that of the single cleanings. It takes their time and a few steps for
+/// each frame. What was released is counted by the generations from before the pass: no contract of a cleaning tells of these.
 pub fn full_pass<J: Naming>(alloc: Global, drive: &mut Drive<J>) -> Result<PassReport, Refusal>
     ensures cleaned { OnOk result ((o : ℕ) → IsCleaned (store_of drive.old) (store_of drive.new) (state_in drive.old) o) }
     ensures vacated { OnOk result (AllVacated drive.new.store.table) }
@@ -158,7 +158,7 @@ pub fn full_pass<J: Naming>(alloc: Global, drive: &mut Drive<J>) -> Result<PassR
     ensures ledger { drive.new.ledger ≡ drive.old.ledger }
     ensures needed { KeepsVersions (state_in drive.old) (store_of drive.old) (store_of drive.new) }
 {
-    let before = note_generations(alloc, drive)?;
+    let before = note_generations(drive);
     let cleanings = clean_and_empty(alloc, drive)?;
     Ok(PassReport {
         rewritten: cleanings.rewritten,

@@ -1,21 +1,17 @@
 -- How far the emptying of frames has come. No public clause cites this file.
-use Rattle.std.specs.Prelude.{◌≡◌, ℕ, ◌<◌, ◌≤◌, Bool, List, length, map, count_by, nat_lt, slice_index_or}
+use Rattle.std.specs.Prelude.{◌≡◌, ℕ, ◌<◌, ◌≤◌, Bool, List, length, map, nat_lt, slice_index_or}
 use Rattle.std.specs.List.{range_with_len}
 use Rattle.segment_word.specs.Frames.{Frame, Sealed, Emptied}
 use Rattle.segment_word.specs.Handles.{Drive}
 use Rattle.segment_word.specs.Layout.{frame_at}
 use Rattle.segment_table.specs.Table.{Table}
-use Rattle.history_cleaner.specs.Emptying.{has_risen}
 
--- No frame below f is being emptied, and so many of them are in a later life than they were. There are as many frames as there
--- were, those from f on at the generation that they had, and each that is sealed was sealed. No fewer releases were tried.
-pub record ReleasedBelow (f released : ℕ) (old new : Table) : Type 0 where
+-- No frame below f is being emptied. There are as many frames as there were, and each that is sealed was sealed. No fewer releases
+-- were tried.
+pub record ReleasedBelow (f : ℕ) (old new : Table) : Type 0 where
   pub count : length new.drive.frames ≡ length old.drive.frames
-  pub from : (k : ℕ) → f ≤ k → (frame_at new.drive.frames k).generation ≡ (frame_at old.drive.frames k).generation
   pub below : (k : ℕ) → k < f → (frame_at new.drive.frames k).phase ≡ Emptied → ⊥
   pub sealed : (k : ℕ) → (frame_at new.drive.frames k).phase ≡ Sealed → (frame_at old.drive.frames k).phase ≡ Sealed
-  pub counted : released ≡ count_by (has_risen old.drive.frames new.drive.frames) (range_with_len 0 f)
-  pub few : released ≤ f
   pub tried : old.drive.releases.tried ≤ new.drive.releases.tried
 
 -- the generations of a drive's frames, the first one's first

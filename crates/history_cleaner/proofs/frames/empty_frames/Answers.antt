@@ -1,9 +1,9 @@
-use Rattle.history_cleaner.proofs.Emptied.{MarksSoFar, HasEmptied, emptied}
+use Rattle.std.proofs.Common.{ap, ◌∙◌}
+use Rattle.drive.specs.Fields.{DriveFields}
+use Rattle.history_cleaner.proofs.Rising.{counted_since}
 use Rattle.history_cleaner.proofs.frames.empty_frames.Goals as goal
 
-pub returns : goal.returns
-returns g c =
-    let marked : MarksSoFar c.frame_count-count.result c.args.drive.now c.mark_all.new.drive = record { table = c.mark_all.ensures.marked; same = c.mark_all.ensures.same; ledger = c.mark_all.ensures.ledger } in
-    let all : HasEmptied c.release_all.result c.args.drive.now c.release_all.new.drive = emptied c.release_all.result c.frame_count-count.result c.args.drive.now c.mark_all.new.drive c.release_all.new.drive c.frame_count-count.ensures marked
-    c.release_all.ensures.released c.release_all.ensures.refusal c.release_all.ensures.frames c.release_all.ensures.objects c.release_all.ensures.ledger in
-    record { vacated = all.vacated; released = all.released; refusal = all.refusal; frames = all.frames; objects = all.objects; ledger = all.ledger }
+pub returns-clause-released : goal.returns-clause-released
+returns-clause-released g c =
+    counted_since c.args.drive.now.store.table.drive c.vacate.new.drive.store.table.drive c.count_risen.new.drive.store.table.drive c.as_slice.result.now c.count_risen.result
+    (c.as_slice.ensures.value ∙ c.note_generations-before.ensures.noted) c.count_risen.ensures.risen (ap (λ (d : DriveFields). d.store.table.drive) c.count_risen.ensures.same)

@@ -16,9 +16,9 @@ loop-frame-preserved g c = elim c.if-is_emptied.branch [
         inodes = w.release.ensures.inodes;
         versions = w.release.ensures.versions;
       } in
-      release_step c.loop-frame.frame c.loop-frame.released c.if-is_emptied.released c.args.drive.now c.loop-frame.drive c.is_emptied.new.self w.release.new.self c.if-is_emptied.drive c.loop-frame.invariant
-      c.is_emptied.ensures.same w.in_ok-release.ensures.released kept w.release.ensures.ledger w.released-is w.drive-is
+      release_step c.loop-frame.frame c.args.drive.now c.loop-frame.drive c.is_emptied.new.self w.release.new.self c.if-is_emptied.drive c.loop-frame.invariant
+      c.is_emptied.ensures.same w.in_ok-release.ensures.released kept w.release.ensures.ledger w.drive-is
   | else-is_emptied w ↦
-      skip_step c.loop-frame.frame c.loop-frame.released c.if-is_emptied.released c.args.drive.now c.loop-frame.drive c.is_emptied.new.self c.if-is_emptied.drive c.loop-frame.invariant
-      c.is_emptied.ensures.same (sym c.is_emptied.ensures.emptied ∙ w.if-is_emptied.false) w.released-is w.drive-is
+      skip_step c.loop-frame.frame c.args.drive.now c.loop-frame.drive c.is_emptied.new.self c.if-is_emptied.drive c.loop-frame.invariant
+      c.is_emptied.ensures.same (sym c.is_emptied.ensures.emptied ∙ w.if-is_emptied.false) w.drive-is
 ]
