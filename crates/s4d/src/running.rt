@@ -3,15 +3,17 @@ ghost use Rattle.std.specs.Prelude.{◌≡◌, ◌≢◌, ℕ, ◌+◌, ◌^◌,
 ghost use Rattle.segment_table.specs.Room.{log_of};
 ghost use Rattle.version_store.specs.Store.{fields_of};
 ghost use Rattle.drive.specs.Opened.{base_of};
-ghost use Rattle.server.specs.Attending.{IsAttended};
-ghost use Rattle.s4d.specs.Running.{IsSavedFrom};
+ghost use Rattle.drive.specs.Fields.{history_of};
+ghost use Rattle.server.specs.Attending.{IsAttended, IsSettled};
+ghost use Rattle.verifier.specs.Saved.{SpellsSaved};
+ghost use Rattle.s4d.specs.Running.{LeavesDrive};
 
 use drive::{Drive, OpenedDrive};
 use image_commands::{Fault, Files, Place, longest_image, read_image, reading, writing};
 use s4_types::{Moment, Refusal};
 use s4d_command::{Run, RunSession};
 use segment_word::Naming;
-use server::{Client, Open, Outcome, run_sessions, run_with_upkeep};
+use server::{Client, Open, Outcome, run_sessions, run_with_upkeep, settle};
 use serving::{ReadSource, ServeEnd, Sink, Source, WriteSink};
 use std::alloc::Global;
 use std::io::Write;
@@ -22,7 +24,8 @@ use std::time::Clock;
 use verifier::{open, save};
 
 /// A session over the files that it reads and writes.
-type FileClient<F> = Client<ReadSource<<F as Files>::Reader>, WriteSink<<F as Files>::Writer>>;
+type FileClient<J, F> =
+    Client<J, ReadSource<<F as Files>::Reader>, WriteSink<<F as Files>::Writer>>;
 
 /// How sessions are served.
 #[derive(Clone, Copy)]
@@ -75,7 +78,7 @@ pub fn run_file<'a, T: Threads + Wait + Clock + Sync, F: Files, E: Write>(
         Err(fault) => return Err(fault),
     }
     match Place::beside(alloc, files, asked.image, claim, length) {
-        Ok(place) => run_beside(
+        Ok(place) => run_beside::<Brand, T, F, E>(
             rt,
             alloc,
             files,
@@ -90,7 +93,13 @@ pub fn run_file<'a, T: Threads + Wait + Clock + Sync, F: Files, E: Write>(
 }
 
 // Serves the sessions of a drive that was just opened, and puts its image in its place.
-fn run_beside<'a, T: Threads + Wait + Clock + Sync, F: Files, E: Write>(
+fn run_beside<
+    'a,
+    J: Naming + Send + Sync,
+    T: Threads + Wait + Clock + Sync,
+    F: Files,
+    E: Write,
+>(
     rt: &T,
     alloc: Global,
     files: &mut F,
@@ -100,16 +109,19 @@ fn run_beside<'a, T: Threads + Wait + Clock + Sync, F: Files, E: Write>(
     sessions: &[RunSession<'a>],
     errors: &mut E,
 ) -> Result<bool, Fault<'a>>
+    requires accepts { opened.accepts ≡ J.accepts }
+    requires frames { opened.store.table.drive.table ≡ J.frames }
+    requires base { base_of (fields_of log_of opened.store) opened.timeline opened.next ≡ J.base }
     requires sessions { length sessions.now ≤ 16 }
 {
-    let clients = match clients_of(alloc, files, sessions) {
+    let clients = match clients_of::<J, F>(alloc, files, sessions) {
         Ok(clients) => clients,
         Err(fault) => {
             place.leave(files);
             return Err(fault);
         }
     };
-    let (served, saved) = serve_named::<Brand, T, ReadSource<F::Reader>, WriteSink<F::Writer>>(
+    let (served, saved) = serve_to_image::<J, T, ReadSource<F::Reader>, WriteSink<F::Writer>>(
         rt, alloc, opened, manner, clients,
     );
     let is_ended = tell_sessions(errors, served.as_slice());
@@ -170,18 +182,18 @@ fn is_one_written<F: Files>(
 }
 
 // Opens the files of each session in turn.
-fn clients_of<'a, F: Files>(
+fn clients_of<'a, J: Naming, F: Files>(
     alloc: Global,
     files: &mut F,
     sessions: &[RunSession<'a>],
-) -> Result<Vec<FileClient<F>>, Fault<'a>>
+) -> Result<Vec<FileClient<J, F>>, Fault<'a>>
     ensures count { IfOk result (λ clients. vec_len clients ≡ length sessions.now) }
     ensures readers { IfOk result (λ clients. All (λ c. c.reader.failures + 1 < 2 ^ 64) clients.items) }
     ensures writers { IfOk result (λ clients. All (λ c. c.writer.failures + 1 < 2 ^ 64) clients.items) }
 {
     let mut clients = Vec::new(alloc);
     for session in sessions {
-        let client = match client_of(alloc, files, *session) {
+        let client = match client_of::<J, F>(alloc, files, *session) {
             Ok(client) => client,
             Err(fault) => return Err(fault),
         };
@@ -194,11 +206,11 @@ fn clients_of<'a, F: Files>(
 }
 
 // Opens what a session reads, and makes what it writes.
-fn client_of<'a, F: Files>(
+fn client_of<'a, J: Naming, F: Files>(
     alloc: Global,
     files: &mut F,
     session: RunSession<'a>,
-) -> Result<FileClient<F>, Fault<'a>>
+) -> Result<FileClient<J, F>, Fault<'a>>
     ensures reader { IfOk result (λ c. c.reader.failures + 1 < 2 ^ 64) }
     ensures writer { IfOk result (λ c. c.writer.failures + 1 < 2 ^ 64) }
 {
@@ -215,10 +227,47 @@ fn client_of<'a, F: Files>(
         reader: ReadSource::new(input),
         writer: WriteSink::new(output),
         outcome: Outcome::Waiting,
+        session: None,
     })
 }
 
-// Serves the sessions of a drive that was just opened, and gives what it is saved as.
+// Serves the sessions of a drive that was just opened, and gives what the drive that they leave is saved as.
+fn serve_to_image<
+    J: Naming + Send + Sync,
+    T: Threads + Wait + Clock + Sync,
+    S: Source + Send + Drop,
+    W: Sink + Send + Drop,
+>(
+    rt: &T,
+    alloc: Global,
+    opened: OpenedDrive,
+    manner: Manner,
+    clients: Vec<Client<J, S, W>>,
+) -> (Vec<Client<J, S, W>>, Result<Vec<u8>, Refusal>)
+    requires accepts { opened.accepts ≡ J.accepts }
+    requires frames { opened.store.table.drive.table ≡ J.frames }
+    requires base { base_of (fields_of log_of opened.store) opened.timeline opened.next ≡ J.base }
+    requires count { vec_len clients ≤ 16 }
+    requires readers { All (λ c. S.failures c.reader + 1 < 2 ^ 64) clients.items }
+    requires writers { All (λ c. W.failures c.writer + 1 < 2 ^ 64) clients.items }
+    ensures count { vec_len result.0 ≡ vec_len clients }
+    // There is one history, that of the drive which is saved. It begins with what was opened. Each session was answered by steps of
+    // it, and it begins with all that the session had seen and has the session's own changes at their numbers; or the drive had no
+    // seat for it.
+    ensures left { LeavesDrive J.base
+        (λ drive. (i : ℕ) (d : _) → i < vec_len clients
+            → IsSettled J.base (record { start = manner.start; tick = manner.tick }) drive.ledger (slice_index_or clients.items i d).role
+            (slice_index_or result.0.items i d).outcome (slice_index_or result.0.items i d).session
+            (S.remaining (slice_index_or clients.items i d).reader) (W.passed (slice_index_or clients.items i d).writer)
+            (S.remaining (slice_index_or result.0.items i d).reader) (W.passed (slice_index_or result.0.items i d).writer))
+        (λ drive. IfOk result.1 (λ bytes. SpellsSaved drive bytes.items)) }
+{
+    let (served, mut drive) = serve_named(rt, alloc, opened, manner, clients);
+    let saved = save(alloc, &mut drive);
+    (served, saved)
+}
+
+// Serves the sessions of a drive that was just opened, and gives the drive that they leave.
 fn serve_named<
     J: Naming + Send + Sync,
     T: Threads + Wait + Clock + Sync,
@@ -229,8 +278,8 @@ fn serve_named<
     alloc: Global,
     opened: OpenedDrive,
     manner: Manner,
-    clients: Vec<Client<S, W>>,
-) -> (Vec<Client<S, W>>, Result<Vec<u8>, Refusal>)
+    clients: Vec<Client<J, S, W>>,
+) -> (Vec<Client<J, S, W>>, Drive<J>)
     requires accepts { opened.accepts ≡ J.accepts }
     requires frames { opened.store.table.drive.table ≡ J.frames }
     requires base { base_of (fields_of log_of opened.store) opened.timeline opened.next ≡ J.base }
@@ -238,20 +287,21 @@ fn serve_named<
     requires readers { All (λ c. S.failures c.reader + 1 < 2 ^ 64) clients.items }
     requires writers { All (λ c. W.failures c.writer + 1 < 2 ^ 64) clients.items }
     ensures count { vec_len result.0 ≡ vec_len clients }
-    // Each session was answered by steps of the shared drive, or the drive had no seat for it.
-    ensures attended { (i : ℕ) (d : _) → i < vec_len clients
-        → IsAttended J.base (record { start = manner.start; tick = manner.tick }) (slice_index_or clients.items i d).role (slice_index_or result.0.items i d).outcome
+    ensures base { (history_of result.1).base ≡ J.base }
+    // Each session was answered by steps of the drive, and the history that is left begins with all that it had seen and has its own
+    // changes at their numbers; or the drive had no seat for it.
+    ensures settled { (i : ℕ) (d : _) → i < vec_len clients
+        → IsSettled J.base (record { start = manner.start; tick = manner.tick }) result.1.ledger (slice_index_or clients.items i d).role
+        (slice_index_or result.0.items i d).outcome (slice_index_or result.0.items i d).session
         (S.remaining (slice_index_or clients.items i d).reader) (W.passed (slice_index_or clients.items i d).writer)
         (S.remaining (slice_index_or result.0.items i d).reader) (W.passed (slice_index_or result.0.items i d).writer) }
-    // What is saved is a drive of this name.
-    ensures saved { IfOk result.1 (λ bytes. IsSavedFrom J.base bytes.items) }
 {
     let drive = Mutex::new(opened.named::<J>());
-    let served = serve_all(rt, alloc, &drive, manner, clients);
+    let mut served = serve_all(rt, alloc, &drive, manner, clients);
     let mut drive = drive.into_inner();
     drive.rules();
-    let saved = save(alloc, &mut drive);
-    (served, saved)
+    settle(&mut drive, served.as_mut_slice());
+    (served, drive)
 }
 
 // Serves the sessions, with upkeep or without it.
@@ -265,15 +315,15 @@ fn serve_all<
     alloc: Global,
     drive: &Mutex<Drive<J>>,
     manner: Manner,
-    clients: Vec<Client<S, W>>,
-) -> Vec<Client<S, W>>
+    clients: Vec<Client<J, S, W>>,
+) -> Vec<Client<J, S, W>>
     requires count { vec_len clients ≤ 16 }
     requires readers { All (λ c. S.failures c.reader + 1 < 2 ^ 64) clients.items }
     requires writers { All (λ c. W.failures c.writer + 1 < 2 ^ 64) clients.items }
     ensures count { vec_len result ≡ vec_len clients }
     // Each session was answered by steps of the shared drive, or the drive had no seat for it.
     ensures attended { (i : ℕ) (d : _) → i < vec_len clients
-        → IsAttended J.base (record { start = manner.start; tick = manner.tick }) (slice_index_or clients.items i d).role (slice_index_or result.items i d).outcome
+        → IsAttended J.base (record { start = manner.start; tick = manner.tick }) (slice_index_or clients.items i d).role (slice_index_or result.items i d).outcome (slice_index_or result.items i d).session
         (S.remaining (slice_index_or clients.items i d).reader) (W.passed (slice_index_or clients.items i d).writer)
         (S.remaining (slice_index_or result.items i d).reader) (W.passed (slice_index_or result.items i d).writer) }
 {
@@ -292,7 +342,10 @@ fn serve_all<
 }
 
 // Writes a line for each session that didn't come to the end of its input, and says whether there is none.
-fn tell_sessions<S: Source, W: Sink, E: Write>(errors: &mut E, served: &[Client<S, W>]) -> bool
+fn tell_sessions<J: Naming, S: Source, W: Sink, E: Write>(
+    errors: &mut E,
+    served: &[Client<J, S, W>],
+) -> bool
     requires over { (i : ℕ) (d : _) → i < length served.now → (slice_index_or served.now i d).outcome ≢ Outcome.Waiting }
 {
     let mut is_ended = true;

@@ -1,3 +1,4 @@
+pub mod Acknowledged
 pub mod Sharing
 pub mod Rounding
 pub mod Stepping

@@ -1,5 +1,6 @@
 pub mod Sharing
 pub mod Drawing
+pub mod Acknowledged
 pub mod Attending
 pub mod Upkeep
 pub mod Moving

@@ -11,6 +11,7 @@ mod gate;
 mod locked;
 mod moving;
 mod running;
+mod settling;
 mod upkeep;
 
 pub use clocks::SharedClock;
@@ -18,4 +19,5 @@ pub use gate::{Gate, Open};
 pub use locked::Locked;
 pub use moving::{MoveStep, Moves};
 pub use running::{Client, MOST_SESSIONS, Outcome, run_sessions};
+pub use settling::settle;
 pub use upkeep::{Round, Upkeep, run_with_upkeep};

@@ -211,6 +211,13 @@ impl<'a, J: Naming, R: Wait, G: Gate> Locked<'a, J, R, G> {
         meet(self.rt, self.drive, &mut self.session);
     }
 
+    /// The session itself, which is asked nothing more.
+    pub fn into_session(self) -> Session<J>
+        ensures { result ≡ self.entry }
+    {
+        self.session
+    }
+
     /// The reply to a Read. The lock isn't held while its bytes are fetched.
     fn read(
         &mut self,

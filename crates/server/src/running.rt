@@ -7,7 +7,8 @@ ghost use Rattle.serving.specs.Session.{reading_failures, writing_failures};
 use crate::clocks::SharedClock;
 use crate::gate::Gate;
 use crate::locked::Locked;
-use drive::Drive;
+use drive::{Drive, Session};
+use s4_model::laws::the_state_goes_on_record_by_record;
 use s4_types::{Moment, Refusal, Role};
 use segment_word::Naming;
 use serving::{ServeEnd, Sink, Source, serve};
@@ -32,11 +33,14 @@ pub enum Outcome {
 
 /// A session to be served: what it may do, where its requests come from and where its replies go.
 #[derive(Drop)]
-pub struct Client<S: Source, W: Sink> {
+pub struct Client<J: Naming, S: Source, W: Sink> {
     pub role: Role,
     pub reader: S,
     pub writer: W,
     pub outcome: Outcome,
+    /// The drive's session, once it was served: what it was told of the drive's history, so that this can be compared with the drive
+    /// that all sessions leave.
+    pub session: Option<Session<J>>,
 }
 
 /// Serves one session of that number, from 1 on: it draws its moments from the clock.
@@ -47,21 +51,23 @@ fn attend<J: Naming, R: Wait, G: Gate, S: Source, W: Sink>(
     gate: &G,
     mut clock: SharedClock<'_>,
     number: usize,
-    client: &mut Client<S, W>,
+    client: &mut Client<J, S, W>,
 )
     requires reader { S.failures client.old.reader + 1 < 2 ^ 64 }
     requires writer { W.failures client.old.writer + 1 < 2 ^ 64 }
-    ensures attended { IsAttended J.base clock.entry client.old.role client.new.outcome
+    ensures attended { IsAttended J.base clock.entry client.old.role client.new.outcome client.new.session
         (S.remaining client.old.reader) (W.passed client.old.writer)
         (S.remaining client.new.reader) (W.passed client.new.writer) }
     ensures reading { S.failures client.new.reader ≡ S.failures client.old.reader + failures_in reading_failures client.new.outcome }
     ensures writing { W.failures client.new.writer ≡ W.failures client.old.writer + failures_in writing_failures client.new.outcome }
     ensures role { client.new.role ≡ client.old.role }
 {
+    the_state_goes_on_record_by_record();
     let mut session = match Locked::new(rt, alloc, drive, client.role, gate, number) {
         Ok(session) => session,
         Err(refusal) => {
             client.outcome = Outcome::Refused(refusal);
+            client.session = None;
             return;
         }
     };
@@ -73,6 +79,7 @@ fn attend<J: Naming, R: Wait, G: Gate, S: Source, W: Sink>(
         &mut clock,
     );
     client.outcome = Outcome::Served(end);
+    client.session = Some(session.into_session());
 }
 
 /// Serves sessions of one drive at once, each on a thread of its own and with its own reader and writer, until each has ended, and
@@ -95,14 +102,14 @@ pub fn run_sessions<
     gate: &G,
     start: Moment,
     tick: u64,
-    clients: &mut [Client<S, W>],
+    clients: &mut [Client<J, S, W>],
 )
     requires count { length clients.old ≤ 16 }
     requires readers { All (λ c. S.failures c.reader + 1 < 2 ^ 64) clients.old }
     requires writers { All (λ c. W.failures c.writer + 1 < 2 ^ 64) clients.old }
     // Each session was answered by steps of the shared drive, or the drive had no seat for it.
     ensures attended { (i : ℕ) (d : _) → i < length clients.old
-        → IsAttended J.base (record { start = start; tick = tick }) (slice_index_or clients.old i d).role (slice_index_or clients.new i d).outcome
+        → IsAttended J.base (record { start = start; tick = tick }) (slice_index_or clients.old i d).role (slice_index_or clients.new i d).outcome (slice_index_or clients.new i d).session
         (S.remaining (slice_index_or clients.old i d).reader) (W.passed (slice_index_or clients.old i d).writer)
         (S.remaining (slice_index_or clients.new i d).reader) (W.passed (slice_index_or clients.new i d).writer) }
     ensures reading { (i : ℕ) (d : _) → i < length clients.old
@@ -111,9 +118,9 @@ pub fn run_sessions<
         → W.failures (slice_index_or clients.new i d).writer ≡ W.failures (slice_index_or clients.old i d).writer + failures_in writing_failures (slice_index_or clients.new i d).outcome }
 {
     let drawn = AtomicU64::new(0);
-    let serve_one = |index: usize, client: &mut Client<S, W>|
+    let serve_one = |index: usize, client: &mut Client<J, S, W>|
         requires { (S.failures client.now.reader + 1 < 2 ^ 64) × (W.failures client.now.writer + 1 < 2 ^ 64) }
-        ensures attended { IsAttended J.base (record { start = start; tick = tick }) client.entry.now.role client.exit.now.outcome
+        ensures attended { IsAttended J.base (record { start = start; tick = tick }) client.entry.now.role client.exit.now.outcome client.exit.now.session
             (S.remaining client.entry.now.reader) (W.passed client.entry.now.writer)
             (S.remaining client.exit.now.reader) (W.passed client.exit.now.writer) }
         ensures reading { S.failures client.exit.now.reader ≡ S.failures client.entry.now.reader + failures_in reading_failures client.exit.now.outcome }

@@ -137,8 +137,8 @@ pub fn run_with_upkeep<
     gate: &G,
     start: Moment,
     tick: u64,
-    clients: Vec<Client<S, W>>,
-) -> (Vec<Client<S, W>>, Upkeep)
+    clients: Vec<Client<J, S, W>>,
+) -> (Vec<Client<J, S, W>>, Upkeep)
     requires count { vec_len clients ≤ 16 }
     requires readers { All (λ c. S.failures c.reader + 1 < 2 ^ 64) clients.items }
     requires writers { All (λ c. W.failures c.writer + 1 < 2 ^ 64) clients.items }
@@ -147,7 +147,7 @@ pub fn run_with_upkeep<
     ensures count { vec_len result.0 ≡ vec_len clients }
     // Each session was answered by steps of the shared drive, or the drive had no seat for it.
     ensures attended { (i : ℕ) (d : _) → i < vec_len clients
-        → IsAttended J.base (record { start = start; tick = tick }) (slice_index_or clients.items i d).role (slice_index_or result.0.items i d).outcome
+        → IsAttended J.base (record { start = start; tick = tick }) (slice_index_or clients.items i d).role (slice_index_or result.0.items i d).outcome (slice_index_or result.0.items i d).session
         (S.remaining (slice_index_or clients.items i d).reader) (W.passed (slice_index_or clients.items i d).writer)
         (S.remaining (slice_index_or result.0.items i d).reader) (W.passed (slice_index_or result.0.items i d).writer) }
     ensures reading { (i : ℕ) (d : _) → i < vec_len clients
@@ -160,13 +160,13 @@ pub fn run_with_upkeep<
         ensures round { IsLastRound J.base result.round }
         ensures moves { MatchResult result.moves (IsMoving J.base) (λ e. e ≡ Busy) }
     { keep_beside(rt, alloc, drive, &attended) };
-    let attend = || -> Vec<Client<S, W>>
+    let attend = || -> Vec<Client<J, S, W>>
         requires count { vec_len clients ≤ 16 }
         requires readers { All (λ c. S.failures c.reader + 1 < 2 ^ 64) clients.items }
         requires writers { All (λ c. W.failures c.writer + 1 < 2 ^ 64) clients.items }
         ensures count { vec_len result ≡ vec_len clients }
         ensures attended { (i : ℕ) (d : _) → i < vec_len clients
-            → IsAttended J.base (record { start = start; tick = tick }) (slice_index_or clients.items i d).role (slice_index_or result.items i d).outcome
+            → IsAttended J.base (record { start = start; tick = tick }) (slice_index_or clients.items i d).role (slice_index_or result.items i d).outcome (slice_index_or result.items i d).session
             (S.remaining (slice_index_or clients.items i d).reader) (W.passed (slice_index_or clients.items i d).writer)
             (S.remaining (slice_index_or result.items i d).reader) (W.passed (slice_index_or result.items i d).writer) }
         ensures reading { (i : ℕ) (d : _) → i < vec_len clients

@@ -10,6 +10,7 @@ macro_rules! client {
             reader: MemorySource::new($input, 65_536),
             writer: MemorySink::new($alloc),
             outcome: Outcome::Waiting,
+            session: None,
         }
     };
 }
@@ -78,7 +79,7 @@ fn joined(alloc: Global, parts: &[&[u8]]) -> Result<Vec<u8>, Fail> {
 }
 
 /// Whether a session ended well and wrote these bytes.
-fn has_written(client: &Client<MemorySource<'_>, MemorySink>, bytes: &[u8]) -> bool {
+fn has_written<J: Naming>(client: &Client<J, MemorySource<'_>, MemorySink>, bytes: &[u8]) -> bool {
     client.outcome == Outcome::Served(ServeEnd::Ended) && client.writer.as_slice() == bytes
 }
 

@@ -195,14 +195,14 @@ fn serve_two<J: Naming + Send + Sync, R: Threads + Wait + Sync>(
     rt: &R,
     alloc: Global,
     drive: &Mutex<Drive<J>>,
-) -> [Client<MemorySource<'static>, MemorySink>; 2] {
+) -> [Client<J, MemorySource<'static>, MemorySink>; 2] {
     let mut clients = [client!(alloc, &READ_ALL), client!(alloc, &READ_ALL)];
     run_sessions(rt, alloc, drive, &Open, Moment::new(2), 1, &mut clients);
     clients
 }
 
 /// Whether each session was refused as Busy, and nothing was written to it.
-fn are_refused(clients: &[Client<MemorySource<'_>, MemorySink>]) -> bool {
+fn are_refused<J: Naming>(clients: &[Client<J, MemorySource<'_>, MemorySink>]) -> bool {
     for client in clients {
         if client.outcome != Outcome::Refused(Busy) || !client.writer.as_slice().is_empty() {
             return false;
@@ -212,7 +212,7 @@ fn are_refused(clients: &[Client<MemorySource<'_>, MemorySink>]) -> bool {
 }
 
 /// Whether each session was served to its end.
-fn are_served(clients: &[Client<MemorySource<'_>, MemorySink>]) -> bool {
+fn are_served<J: Naming>(clients: &[Client<J, MemorySource<'_>, MemorySink>]) -> bool {
     for client in clients {
         if client.outcome != Outcome::Served(ServeEnd::Ended) {
             return false;

@@ -1,0 +1,207 @@
+-- A session's own changes are those that its replies acknowledge.
+use Rattle.std.proofs.Common.{◌≡◌, ℕ, zero, suc, ◌+◌, ◌-◌, Bool, true, false, List, [], ◌∷◌, ◌++◌, length, if◌then◌else◌, refl, sym, ap, ◌∙◌, subst, arith, length-append, append_assoc, append-nil, Option, None, Some}
+use Rattle.std.specs.Prelude.{MatchBool}
+use mathlib.Core.Option.{some, some-ne-none}
+use mathlib.Core.List.{IsPrefix}
+use lib.ListN.{get_elem?}
+use Rattle.s4_types.specs.History.{Base, History, Record, Took, Seen, accepted}
+use Rattle.s4_types.specs.declared.changes.Accepted.{Accepted}
+use Rattle.s4_types.specs.declared.changes.Change.{Change}
+use Rattle.s4_types.specs.declared.changes.Change.TheVariants as change
+use Rattle.s4_types.specs.declared.versions.Version.{Version}
+use Rattle.s4_types.specs.declared.versions.Version.TheVariants.{Absent, Live}
+use Rattle.s4_types.specs.declared.requests.Role.{Role}
+use Rattle.s4_types.specs.declared.requests.Request.{Request}
+use Rattle.s4_types.specs.declared.requests.Request.TheVariants as request
+use Rattle.s4_types.specs.declared.replies.Reply.{Reply}
+use Rattle.s4_model.specs.State.{State, state_of, grown, took, seen}
+use Rattle.s4_model.specs.Step.{Step, Refuses, Serves, Alters, Reads, judged, change_of, reply_at, data_of, attributes_of, reply_to_read, accepted_record}
+use Rattle.segment_word.specs.AcceptViews.{Ledger, Told, caught_up, credited, count_of}
+use Rattle.rpc.specs.declared.items.Item.{Item}
+use Rattle.rpc.specs.declared.items.Item.TheVariants.{Whole, BadFrame}
+use Rattle.serving.specs.Answering.{Turn, Run}
+use Rattle.drive.specs.Fields.{SessionFields}
+use Rattle.drive.specs.Answering.{is_acceptance, told_after}
+use Rattle.server.specs.Drawing.{CountsTicks}
+use Rattle.server.specs.Sharing.{SharedStep, IsFresh}
+use Rattle.server.specs.Acknowledged.{Acknowledges, AreAcknowledged}
+
+-- ---- beginnings of lists
+
+prefix_trans : {A : Type 0} (xs ys zs : List A) → IsPrefix xs ys → IsPrefix ys zs → IsPrefix xs zs
+prefix_trans xs ys zs p q = (p.0 ++ q.0, sym (append_assoc xs p.0 q.0) ∙ (ap (λ w. w ++ q.0) p.1 ∙ q.1))
+
+at_longer : {A : Type 0} (xs more : List A) (i : ℕ) (a : A) → get_elem? xs i ≡ some a → get_elem? (xs ++ more) i ≡ some a
+at_longer [] more i a at = absurd (some-ne-none a (sym at))
+at_longer (x ∷ xs) more zero a at = at
+at_longer (x ∷ xs) more (suc i) a at = at_longer xs more i a at
+
+at_last : {A : Type 0} (xs : List A) (a : A) → get_elem? (xs ++ a ∷ []) (length xs) ≡ some a
+at_last [] a = refl
+at_last (x ∷ xs) a = at_last xs a
+
+-- a reply acknowledges a change in a longer list, too
+in_longer : (changes later : List Accepted) (item : Item Request) (reply : Reply) (n : ℕ) → IsPrefix changes later → Acknowledges changes item reply n → Acknowledges later item reply n
+in_longer changes later item reply n grows a = record {
+  change = a.change;
+  there = subst (λ (l : List Accepted). get_elem? l (n - 1) ≡ some a.change) grows.1 (at_longer changes grows.0 (n - 1) a.change a.there);
+  numbered = a.numbered;
+  asked = a.asked;
+  reply_is = a.reply_is;
+}
+
+-- ---- which replies accept
+
+change_accepts : (c : Change) (m : ℕ) → is_acceptance (reply_at c m) ≡ true
+change_accepts (change.Create o attribute) m = refl
+change_accepts (change.Delete o) m = refl
+change_accepts (change.Write o offset bytes) m = refl
+change_accepts (change.Truncate o size) m = refl
+change_accepts (change.SetAttr o attribute) m = refl
+change_accepts (change.SetWindow window) m = refl
+change_accepts (change.Flush first last) m = refl
+change_accepts (change.FlushO o first last) m = refl
+
+-- whether there is a reply that accepts
+abbrev accepts : Option Reply → Bool
+accepts None = false
+accepts (Some reply) = is_acceptance reply
+
+data_accepts_nothing : (v : Version) (offset len : ℕ) → accepts (data_of v offset len) ≡ false
+data_accepts_nothing Absent offset len = refl
+data_accepts_nothing (Live content attribute created changed) offset len = refl
+
+attributes_accept_nothing : (v : Version) → accepts (attributes_of v) ≡ false
+attributes_accept_nothing Absent = refl
+attributes_accept_nothing (Live content attribute created changed) = refl
+
+reads_accept_nothing : (s : State) (r : Request) → accepts (reply_to_read s r) ≡ false
+reads_accept_nothing s (request.Read o offset len at) = data_accepts_nothing _ offset len
+reads_accept_nothing s (request.GetAttr o at) = attributes_accept_nothing _
+reads_accept_nothing s (request.Create attribute) = refl
+reads_accept_nothing s (request.Delete o) = refl
+reads_accept_nothing s (request.Write o offset bytes) = refl
+reads_accept_nothing s (request.Append o bytes) = refl
+reads_accept_nothing s (request.Truncate o size) = refl
+reads_accept_nothing s (request.SetAttr o attribute) = refl
+reads_accept_nothing s (request.SetWindow window) = refl
+reads_accept_nothing s (request.Flush first last) = refl
+reads_accept_nothing s (request.FlushO o first last) = refl
+
+-- ---- one step, and all of them
+
+-- Between the first and the last a session gained these numbers: those of the changes that the replies acknowledge.
+pub record Gains (items : List (Item Request)) (replies : List Reply) (old new : Told) : Type 0 where
+  pub numbers : List ℕ
+  pub mine : new.mine ≡ old.mine ++ numbers
+  pub grows : IsPrefix old.seen new.seen
+  pub own : AreAcknowledged new.seen items replies numbers
+
+-- the number that one reply brings, if it does
+abbrev IsGain : Bool → List Accepted → Item Request → Reply → List ℕ → Type 0
+IsGain b changes item reply numbers = MatchBool b ((n : ℕ) × (numbers ≡ n ∷ []) × Acknowledges changes item reply n) (numbers ≡ [])
+
+record GainsOne (item : Item Request) (reply : Reply) (old new : Told) : Type 0 where
+  pub numbers : List ℕ
+  pub mine : new.mine ≡ old.mine ++ numbers
+  pub grows : IsPrefix old.seen new.seen
+  pub one : IsGain (is_acceptance reply) new.seen item reply numbers
+
+-- nothing was accepted
+none_gained : (l l' : Ledger) (item : Item Request) (reply : Reply) (old new : Told) → IsPrefix old.seen (accepted l.history) → accepted l'.history ≡ accepted l.history
+    → is_acceptance reply ≡ false → new ≡ told_after reply l' old → GainsOne item reply old new
+none_gained l l' item reply old new had same not told =
+    let is : new ≡ caught_up l' old = told ∙ ap (λ (b : Bool). if b then credited l' old else caught_up l' old) not in
+    record {
+      numbers = [];
+      mine = ap (λ (t : Told). t.mine) is ∙ sym (append-nil old.mine);
+      grows = subst (IsPrefix old.seen) (sym (ap (λ (t : Told). t.seen) is ∙ same)) had;
+      one = subst (λ (b : Bool). IsGain b new.seen item reply []) (sym not) refl;
+    }
+
+-- a change was accepted
+one_gained : (l l' : Ledger) (r : Request) (reply : Reply) (old new : Told) (s : State) (a : Accepted) → IsPrefix old.seen (accepted l.history) → accepted l'.history ≡ accepted l.history ++ a ∷ []
+    → a.number ≡ length (accepted l.history) + 1 → change_of s r ≡ Some a.change → reply ≡ reply_at a.change a.moment → new ≡ told_after reply l' old → GainsOne (Whole r) reply old new
+one_gained l l' r reply old new s a had more number asked reply_is told =
+    let yes : is_acceptance reply ≡ true = ap is_acceptance reply_is ∙ change_accepts a.change a.moment in
+    let is : new ≡ credited l' old = told ∙ ap (λ (b : Bool). if b then credited l' old else caught_up l' old) yes in
+    let seen_is : new.seen ≡ accepted l.history ++ a ∷ [] = ap (λ (t : Told). t.seen) is ∙ more in
+    let n : ℕ = count_of l' in
+    let n_is : n ≡ length (accepted l.history) + 1 = ap length more ∙ length-append (accepted l.history) (a ∷ []) in
+    let place : n - 1 ≡ length (accepted l.history) = omega (arith, n_is) in
+    record {
+      numbers = n ∷ [];
+      mine = ap (λ (t : Told). t.mine) is;
+      grows = subst (IsPrefix old.seen) (sym seen_is) (prefix_trans old.seen (accepted l.history) (accepted l.history ++ a ∷ []) had (a ∷ [], refl));
+      one = subst (λ (b : Bool). IsGain b new.seen (Whole r) reply (n ∷ [])) (sym yes) (
+        n,
+        refl,
+        record {
+          change = a;
+          there = subst (λ (l : List Accepted). get_elem? l (n - 1) ≡ some a) (sym seen_is) (subst (λ (i : ℕ). get_elem? (accepted l.history ++ a ∷ []) i ≡ some a) (sym place) (at_last (accepted l.history) a));
+          numbered = number ∙ sym n_is;
+          asked = (s, asked);
+          reply_is = reply_is;
+        },
+      );
+    }
+
+-- a reply's number, if it brings one, comes first
+before_others : (b : Bool) (changes later : List Accepted) (item : Item Request) (reply : Reply) (items : List (Item Request)) (others : List Reply) (numbers more : List ℕ) → IsPrefix changes later
+    → IsGain b changes item reply numbers → AreAcknowledged later items others more
+    → MatchBool b ((n : ℕ) × (rest : List ℕ) × (numbers ++ more ≡ n ∷ rest) × Acknowledges later item reply n × AreAcknowledged later items others rest) (AreAcknowledged later items others (numbers ++ more))
+before_others true changes later item reply items others numbers more grows one all = (one.0, more, ap (λ (l : List ℕ). l ++ more) one.1, in_longer changes later item reply one.0 grows one.2, all)
+before_others false changes later item reply items others numbers more grows one all = subst (λ (l : List ℕ). AreAcknowledged later items others (l ++ more)) (sym one) all
+
+joined : (item : Item Request) (items : List (Item Request)) (reply : Reply) (others : List Reply) (old mid new : Told) → GainsOne item reply old mid → Gains items others mid new → Gains (item ∷ items) (reply ∷ others) old new
+joined item items reply others old mid new one all = record {
+  numbers = one.numbers ++ all.numbers;
+  mine = all.mine ∙ (ap (λ (l : List ℕ). l ++ all.numbers) one.mine ∙ append_assoc old.mine one.numbers all.numbers);
+  grows = prefix_trans old.seen mid.seen new.seen one.grows all.grows;
+  own = before_others (is_acceptance reply) mid.seen new.seen item reply items others one.numbers all.numbers all.grows one.one all.own;
+}
+
+module _ (by_moments : (h : History) (now : ℕ) → state_of (grown h (Seen now)) ≡ seen (state_of h) now) (by_changes : (h : History) (a : Accepted) → state_of (grown h (Took a)) ≡ took (state_of h) a) where
+  saw : (h h' : History) (now : ℕ) → h' ≡ grown h (Seen now) → accepted h' ≡ accepted h
+  saw h h' now is = ap accepted is ∙ ap (λ (s : State). s.changes) (by_moments h now)
+
+  by_step : (l l' : Ledger) (role : Role) (r : Request) (now : ℕ) (reply : Reply) (old new : Told) → IsPrefix old.seen (accepted l.history) → Step l.history role r now reply l'.history
+      → new ≡ told_after reply l' old → GainsOne (Whole r) reply old new
+  by_step l l' role r now reply old new had (Refuses refusal is may grows) told = none_gained l l' (Whole r) reply old new had (saw l.history l'.history now grows) (ap is_acceptance is) told
+  by_step l l' role r now reply old new had (Serves rec free (Alters c asked is rec_is) grows) told =
+      let a : Accepted = accepted_record (state_of l.history) c now in
+      one_gained l l' r reply old new (state_of l.history) a had
+      (ap accepted grows ∙ (ap (λ (x : Record). accepted (grown l.history x)) rec_is ∙ ap (λ (s : State). s.changes) (by_changes l.history a)))
+      refl asked is told
+  by_step l l' role r now reply old new had (Serves rec free (Reads is rec_is) grows) told =
+      none_gained l l' (Whole r) reply old new had (saw l.history l'.history now (grows ∙ ap (grown l.history) rec_is)) (sym (ap accepts is) ∙ reads_accept_nothing (judged l.history r now) r) told
+
+  by_turn : (base : Base) (item : Item Request) (moments : List ℕ) (reply : Reply) (old new : SessionFields) → Turn (SharedStep base) CountsTicks item moments reply old new → GainsOne item reply old.told new.told
+  by_turn base (Whole r) moments reply old new t =
+      let s : SharedStep base old r t.0 reply new = t.2 in
+      by_step s.before s.after old.role r t.0 reply old.told new.told s.had_seen.seen s.step (ap (λ (f : SessionFields). f.told) s.told)
+  by_turn base BadFrame moments reply old new t = record {
+    numbers = [];
+    mine = ap (λ (f : SessionFields). f.told.mine) t.2 ∙ sym (append-nil old.told.mine);
+    grows = subst (λ (f : SessionFields). IsPrefix old.told.seen f.told.seen) (sym t.2) ([], append-nil old.told.seen);
+    one = subst (λ (x : Reply). IsGain (is_acceptance x) new.told.seen BadFrame x []) (sym t.1) refl;
+  }
+
+  all_gained : (base : Base) (items : List (Item Request)) (moments : List ℕ) (replies : List Reply) (old new : SessionFields) → Run (SharedStep base) CountsTicks items moments replies old new
+      → Gains items replies old.told new.told
+  all_gained base [] moments replies old new run = record {
+    numbers = [];
+    mine = ap (λ (f : SessionFields). f.told.mine) run.2 ∙ sym (append-nil old.told.mine);
+    grows = subst (λ (f : SessionFields). IsPrefix old.told.seen f.told.seen) (sym run.2) ([], append-nil old.told.seen);
+    own = refl;
+  }
+  all_gained base (item ∷ items) moments replies old new run =
+      subst (λ (l : List Reply). Gains (item ∷ items) l old.told new.told) (sym run.6)
+      (joined item items run.2 run.3 old.told run.4.told new.told (by_turn base item run.0 run.2 old run.4 run.7) (all_gained base items run.1 run.3 run.4 new run.8))
+
+  -- of a session that was just had
+  pub all_own : (base : Base) (role : Role) (items : List (Item Request)) (moments : List ℕ) (replies : List Reply) (first last : SessionFields) → IsFresh base role first
+      → Run (SharedStep base) CountsTicks items moments replies first last → AreAcknowledged last.told.seen items replies last.told.mine
+  all_own base role items moments replies first last fresh run =
+      let g : Gains items replies first.told last.told = all_gained base items moments replies first last run in
+      subst (AreAcknowledged last.told.seen items replies) (sym (g.mine ∙ ap (λ (l : List ℕ). l ++ g.numbers) fresh.mine)) g.own
