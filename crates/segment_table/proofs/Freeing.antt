@@ -1,5 +1,6 @@
 -- A frame is released: what holds of a table goes on to hold, the same is held, and its places are ahead again.
 use Rattle.std.proofs.Common.{◌≡◌, ◌≢◌, inl, inr, ℕ, ◌+◌, ◌-◌, ◌^◌, ◌<◌, ◌≤◌, Bool, true, false, ◌&&◌, nat_lt, List, [], ◌∷◌, ◌++◌, length, reverse, set, Option, refl, sym, ap, subst, ◌∙◌, append_assoc, arith}
+use Rattle.std.specs.Prelude.{Ok}
 use Rattle.std.specs.List.{AllByRecursion, flat_map}
 use Rattle.std.proofs.lemmas.List.{get_or-set_same, get_or-set_other, length-set, length-reverse}
 use Rattle.std.proofs.lemmas.Bool.{cases_eq, lt-ltb, le-ltb}
@@ -12,7 +13,7 @@ use Rattle.segment_table.specs.declared.slots.Slot.{Slot}
 use Rattle.segment_table.specs.Table.{Table, slots_at, held_block, held_at}
 use Rattle.segment_table.specs.Room.{is_filling, can_open, numbers, places, rest_of, whole_of, places_ahead, places_spent}
 use Rattle.segment_table.specs.Sealing.{IsLetGo, IsFit, IsSoundTable, IsPartFilled}
-use Rattle.segment_table.specs.Changes.{IsAlone, IsMarked, IsReleased, IsAheadAgain}
+use Rattle.segment_table.specs.Changes.{IsAlone, IsMarked, IsReleased, IsAheadAgain, ReleasesFrame}
 use Rattle.segment_table.specs.private.Putting.{IsPutBetween}
 use Rattle.segment_table.proofs.Alone.{put_here, alone, length-alone, elsewhere, numbers_alone}
 use Rattle.segment_table.proofs.Numbers.{numbers_same}
@@ -216,3 +217,19 @@ pub spent_released : (old new : Table) (free : List ℕ) (current : Option ℕ) 
 spent_released old new free current f sound r =
     let inside : f < length old.drive.frames = r.inside in
     spent_again old new f (released (frame_at old.drive.frames f)) inside (omega (arith, sound.counted, inside)) (frames_are old new f r) (released_generation old new f r) (sound.fit f inside) r.slots
+
+-- what a release that won leaves of the table
+pub released_so : (old new : Table) (free : List ℕ) (current : Option ℕ) (f : ℕ) → IsSoundTable old free current → IsReleased f old new → ReleasesFrame f old (Ok tt) new
+released_so old new free current f sound r = record {
+  released = r;
+  held = held_released old new free current f sound r;
+  spent = spent_released old new free current f sound r;
+  again = λ low. ahead_again old new f r low;
+  retired = λ high. ahead_retired old new f r (omega (arith, high));
+  missed = tt;
+  idle = tt;
+  refused = tt;
+  log = tt;
+  table = ap (λ (d : Drive). d.table) r.drive;
+  refusal = tt;
+}

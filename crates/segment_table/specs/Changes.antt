@@ -1,15 +1,17 @@
 -- What the calls change in a table.
-use Rattle.std.specs.Prelude.{◌≡◌, ◌≢◌, ℕ, ◌+◌, ◌^◌, ◌<◌, ◌≤◌, true, List, [], ◌∷◌, ◌++◌, length, slice_set, None}
+use Rattle.std.specs.Prelude.{◌≡◌, ◌≢◌, ℕ, ◌+◌, ◌^◌, ◌<◌, ◌≤◌, true, List, [], ◌∷◌, ◌++◌, length, slice_set, None, Result, IfErr, OnOk, OnErr, MatchResult}
 use Rattle.std.specs.List.{AllByRecursion, flat_map}
 use Rattle.s4_types.specs.Pointer.{Place}
+use Rattle.s4_types.specs.declared.refusals.Refusal.{Refusal}
+use Rattle.s4_types.specs.declared.refusals.Refusal.TheVariants.{InUse}
 use Rattle.codec.specs.Summary.{IsBlank}
 use Rattle.codec.specs.declared.summaries.Part.{Part}
 use Rattle.segment_word.specs.Frames.{Open, Sealed, Emptied}
 use Rattle.segment_word.specs.Layout.{frame_at, block_bytes}
-use Rattle.segment_word.specs.Handles.{Drive, with_changed, with_released}
+use Rattle.segment_word.specs.Handles.{Drive, HasMissed, with_changed, with_released}
 use Rattle.segment_table.specs.declared.slots.Slot.{Slot}
 use Rattle.segment_table.specs.Table.{Table, slots_at, held_at}
-use Rattle.segment_table.specs.Room.{is_filling, can_open, numbers, rest_of, whole_of, places_ahead}
+use Rattle.segment_table.specs.Room.{is_filling, can_open, numbers, rest_of, whole_of, places_ahead, log_of}
 use Rattle.segment_table.specs.Sealing.{IsSummed}
 
 -- frame f is the only open one
@@ -95,6 +97,10 @@ pub record IsAppended (p : Place) (part : Part) (block : List ℕ) (old new : Ta
 abbrev pub NoneHeld : ℕ → Table → Type 0
 NoneHeld f t = (p : Place) → p.frame ≡ f → held_at t p ≡ None
 
+-- frame f is sealed, and none of its blocks is held
+abbrev pub CanBeEmptied : ℕ → Table → Type 0
+CanBeEmptied f t = ((frame_at t.drive.frames f).phase ≡ Sealed) × NoneHeld f t
+
 -- frame f was sealed and none of its blocks was held: it is being emptied, and nothing else has changed
 pub record IsMarked (f : ℕ) (old new : Table) : Type 0 where
   pub sealed : (frame_at old.drive.frames f).phase ≡ Sealed
@@ -119,3 +125,40 @@ pub record IsAheadAgain (f : ℕ) (old new : Table) : Type 0 where
   pub below : AllByRecursion (λ n. n < f) lower
   pub above : AllByRecursion (λ n. f < n) higher
   pub ahead : places_ahead new ≡ flat_map (rest_of old) (numbers is_filling 0 old.drive.frames) ++ (flat_map (whole_of old) lower ++ (whole_of new f ++ flat_map (whole_of old) higher))
+
+-- ---- what a call on the frames of a table leaves, and when it is refused
+
+-- No frame is open any longer: the open one was sealed, and its unused blocks are ahead no longer. Where none was open, nothing
+-- has changed.
+pub record SealsFrame (old new : Table) : Type 0 where
+  pub closed : NoneIsFilling new
+  pub idle : NoneIsFilling old → new ≡ old
+  pub sealed : (f : ℕ) → IsFilling f old → IsSealedIn f old new
+  pub held : (log_of new).held ≡ (log_of old).held
+  pub ahead : (f : ℕ) → IsFilling f old → rest_of old f ++ places_ahead new ≡ places_ahead old
+  pub spent : (log_of new).spent ≡ (log_of old).spent
+
+-- Frame f is being emptied from now on. InUse exactly where it isn't sealed or isn't there, or where one of its blocks is held,
+-- and nothing has changed then.
+pub record MarksFrame (f : ℕ) (old : Table) (done : Result (Unit {0}) Refusal) (new : Table) : Type 0 where
+  pub marked : OnOk done (IsMarked f old new)
+  pub answer : MatchResult done (λ _. CanBeEmptied f old) (λ e. (e ≡ InUse) × (CanBeEmptied f old → ⊥))
+  pub log : log_of new ≡ log_of old
+  pub refused : OnErr done (new ≡ old)
+
+-- Frame f was being emptied and had no reader: it is free at its next generation and its 15 payload blocks are ahead again, or
+-- it is retired, at the last generation. No fewer places than before were ever taken. InUse alone: where the frame isn't being
+-- emptied or isn't there, and nothing has changed; or where its word counted a reader at the one exchange that was tried, which
+-- is noted, and no frame or block has changed.
+pub record ReleasesFrame (f : ℕ) (old : Table) (done : Result (Unit {0}) Refusal) (new : Table) : Type 0 where
+  pub released : OnOk done (IsReleased f old new)
+  pub held : (log_of new).held ≡ (log_of old).held
+  pub spent : OnOk done ((log_of old).spent ≤ (log_of new).spent)
+  pub again : OnOk done ((frame_at old.drive.frames f).generation + 2 < 2 ^ 32 → IsAheadAgain f old new)
+  pub retired : OnOk done ((frame_at old.drive.frames f).generation + 2 ≡ 2 ^ 32 → places_ahead new ≡ places_ahead old)
+  pub missed : OnErr done ((frame_at old.drive.frames f).phase ≡ Emptied → HasMissed f old.drive new.drive)
+  pub idle : OnErr done ((frame_at old.drive.frames f).phase ≢ Emptied → new ≡ old)
+  pub refused : OnErr done ((new.drive.frames ≡ old.drive.frames) × (new.slots ≡ old.slots))
+  pub log : OnErr done (log_of new ≡ log_of old)
+  pub table : new.drive.table ≡ old.drive.table
+  pub refusal : IfErr done (λ e. e ≡ InUse)

@@ -5,5 +5,6 @@ pub mod Room
 pub mod Sealing
 pub mod Parts
 pub mod Changes
+pub mod Rules
 pub mod Laws
 pub mod private

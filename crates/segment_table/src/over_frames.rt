@@ -8,13 +8,15 @@ ghost use Rattle.segment_word.specs.Layout.{word_of, frame_at, block_bytes};
 ghost use Rattle.segment_word.specs.FrameRule.{AllRemembered};
 ghost use Rattle.segment_word.specs.Handles.{pin_of};
 ghost use Rattle.segment_table.specs.Table.{Table, slots_at, held_at, part_of};
+ghost use Rattle.segment_table.specs.Room.{pointers_in};
 ghost use Rattle.segment_table.specs.Sealing.{summary_of};
+ghost use Rattle.segment_table.specs.Rules.{HasFramesInOrder};
 ghost use Rattle.segment_table.specs.Laws.{ListsAllHeld};
 
 use block_log::Block;
 use codec::Part;
 use s4_types::limits::FRAME_BLOCKS;
-use s4_types::{Ptr, Refusal};
+use s4_types::{ObjectId, Ptr, Refusal};
 use segment_word::{Memory, Pin};
 
 /// A segment table, or what has one below it: what can be asked of its frames. No call of these changes anything.
@@ -24,6 +26,11 @@ pub trait OverFrames {
 
     // The segment table.
     ghost table: { Self → Table };
+
+    /// Shows what holds between calls: the frames are those of the table that `name` says, 8 to 1,024; the used blocks of each
+    /// fit what it is for, and at most one is open, with 1 to 14 used blocks; each held block has 512 bytes and is used.
+    fn frame_rules(&self)
+        ensures { HasFramesInOrder (name self.now) (table self.now) };
 
     /// How many frames there are.
     fn frame_count(&self) -> u16
@@ -55,6 +62,15 @@ pub trait OverFrames {
         ensures spelled { SpellsSummary (drop 1 blocks.new) (slice_index_or blocks.new 0 []) (summary_of frame (frame_at (table self.old).drive.frames frame) (slots_at (table self.old).slots frame)) }
         ensures kept { (b : ℕ) → 1 ≤ b → b ≤ length (slots_at (table self.old).slots frame) → slice_index_or blocks.new b [] ≡ block_bytes (frame_at (table self.old).drive.frames frame).contents b }
         ensures whole { 2 ≤ code_of (frame_at (table self.old).drive.frames frame).phase → (b : ℕ) → b < 16 → slice_index_or blocks.new b [] ≡ block_bytes (frame_at (table self.old).drive.frames frame).contents b }
+        ensures same { self.new ≡ self.old };
+
+    /// The pointers to the held blocks of an object in a frame, by ascending block, and none where the frame isn't sealed or
+    /// isn't there.
+    ///
+    /// NoMemory alone, where there was none for them; it is asked for once.
+    fn held_in(&mut self, object: ObjectId, frame: u16) -> Result<Vec<Ptr>, Refusal>
+        ensures pointers { IfOk result (λ pointers. pointers.items ≡ pointers_in (table self.old) object frame) }
+        ensures refusal { IfErr result (λ e. e ≡ NoMemory) }
         ensures same { self.new ≡ self.old };
 
     /// Shows that `held_in` lists each held block of an object in a sealed frame.

@@ -1,5 +1,5 @@
 //! The frames of a saved drive, before a table is made of them.
-ghost use Rattle.std.specs.Prelude.{◌≡◌, ◌≢◌, ℕ, ◌+◌, ◌^◌, ◌<◌, ◌≤◌, ◌⊎◌, ◌&&◌, ◌==◌, if◌then◌else◌, [], length, map, reverse, replicate, drop, slice_set, slice_index_or, vec_capacity, Some, None, IsSome, IfOk, IfErr};
+ghost use Rattle.std.specs.Prelude.{◌≡◌, ◌≢◌, ℕ, ◌^◌, ◌<◌, ◌≤◌, ◌⊎◌, ◌&&◌, ◌==◌, if◌then◌else◌, [], length, map, reverse, replicate, drop, slice_set, slice_index_or, vec_capacity, Some, None, IsSome, IfOk, IfErr};
 ghost use Rattle.s4_types.specs.Sizes.{IsFrameCount};
 ghost use Rattle.s4_types.specs.Pointer.{Place};
 ghost use Rattle.s4_types.specs.declared.refusals.Refusal.TheVariants.{NoMemory, Busy};
@@ -10,11 +10,13 @@ ghost use Rattle.segment_word.specs.Frames.Phase.{Free, Open};
 ghost use Rattle.segment_word.specs.FrameStates.{phase_in};
 ghost use Rattle.segment_word.specs.Layout.{frame_at, block_bytes, with_block};
 ghost use Rattle.segment_word.specs.Handles.{fresh_frame};
+ghost use Rattle.segment_word.specs.AcceptHandles.{no_table};
 ghost use Rattle.segment_table.specs.Slots.{unheld};
-ghost use Rattle.segment_table.specs.Table.{slots_at, held_at, HoldsWholeBlocks, part_of};
-ghost use Rattle.segment_table.specs.Used.{is_named, used_at, HasWholeBlocks, HoldsUsedBlocks};
-ghost use Rattle.segment_table.specs.Room.{is_filling, can_open, numbers, log_of};
-ghost use Rattle.segment_table.specs.Sealing.{IsFit, IsPartFilled};
+ghost use Rattle.segment_table.specs.Table.{slots_at, held_at, part_of};
+ghost use Rattle.segment_table.specs.Used.{is_named, used_at, HasWholeBlocks};
+ghost use Rattle.segment_table.specs.Room.{is_filling, can_open, numbers};
+ghost use Rattle.segment_table.specs.Sealing.{IsPartFilled};
+ghost use Rattle.segment_table.specs.Rules.{HasFramesInOrder};
 ghost use Rattle.segment_table.specs.private.Storing.{AreStored};
 
 use crate::segments::Segments;
@@ -128,18 +130,10 @@ impl TableParts {
         })
     }
 
-    /// Shows what holds: the used blocks of each frame fit what it is for; at most one frame is open, with 1 to 14 used blocks;
-    /// each used block has 512 bytes, and what is held is used; and the places that were ever taken and those ahead are fewer
-    /// than 2^46.
+    /// Shows what holds: the frames are in order, under no name yet; and each used block has 512 bytes.
     pub fn rules(&self)
-        ensures fit { (f : ℕ) → f < length self.now.drive.frames → IsFit f (frame_at self.now.drive.frames f) (slots_at self.now.slots f) }
-        ensures one_open { length (numbers is_filling 0 self.now.drive.frames) ≤ 1 }
-        ensures part_filled { IsPartFilled self.now }
-        ensures whole { HoldsWholeBlocks self.now }
+        ensures frames { HasFramesInOrder no_table self.now }
         ensures used_whole { HasWholeBlocks self.now }
-        ensures used { HoldsUsedBlocks self.now }
-        ensures sizes { (length self.now.drive.frames ≤ 1024) × (length self.now.slots ≡ length self.now.drive.frames) }
-        ensures bounded { (log_of self.now).spent + length (log_of self.now).ahead < 2 ^ 46 }
     {
         let _ = &self.current;
     }

@@ -1,17 +1,15 @@
 //! The frames of a drive and what their blocks are for, one step at a time.
-ghost use Rattle.std.specs.Prelude.{◌≡◌, ◌≢◌, ℕ, ◌+◌, ◌-◌, ◌^◌, ◌<◌, ◌≤◌, ◌==◌, true, false, ◌++◌, length, map, take, drop, Option, Some, None, IsSome, IfSome, IfNone, IfOk, IfErr, OnOk, OnErr, IsOk, MatchBool, option_map, vec_len, vec_capacity};
+ghost use Rattle.std.specs.Prelude.{◌≡◌, ℕ, ◌+◌, ◌-◌, ◌^◌, ◌<◌, ◌≤◌, ◌==◌, true, false, ◌++◌, length, map, take, drop, Option, Some, None, IsSome, IfSome, IfNone, IfOk, IfErr, OnOk, MatchBool, option_map, vec_len, vec_capacity};
 ghost use Rattle.std.specs.Option.{option_to_list};
 ghost use Rattle.s4_types.specs.declared.refusals.Refusal.TheVariants.{NoMemory, InUse};
 ghost use Rattle.s4_types.specs.declared.limits.TheConstants.{BLOCK_BYTES};
 ghost use Rattle.block_log.specs.Log.{appended, dropped};
 ghost use Rattle.segment_word.specs.Frames.{is_sealed};
-ghost use Rattle.segment_word.specs.Frames.Phase.{Sealed, Emptied};
 ghost use Rattle.segment_word.specs.Layout.{frame_at};
-ghost use Rattle.segment_word.specs.Handles.{HasMissed};
 ghost use Rattle.segment_table.specs.Table.{Table, slots_at, held_at, is_of, part_of};
 ghost use Rattle.segment_table.specs.Room.{is_filling, numbers, rest_of, places_ahead, places_spent, log_of, pointers_in};
 ghost use Rattle.segment_table.specs.Sealing.{IsSoundTable, IsPartFilled};
-ghost use Rattle.segment_table.specs.Changes.{IsFilling, NoneIsFilling, IsReadyFrame, IsPut, IsSealed, IsSealedIn, NoneHeld, IsMarked, IsReleased, IsAheadAgain};
+ghost use Rattle.segment_table.specs.Changes.{IsFilling, NoneIsFilling, IsReadyFrame, IsPut, IsSealed, IsSealedIn, MarksFrame, ReleasesFrame};
 ghost use Rattle.segment_table.specs.private.Putting.{IsPutBetween};
 
 use crate::seals;
@@ -259,11 +257,7 @@ impl Segments {
 
     /// A sealed frame of which no block is held is being emptied from now on.
     pub fn mark(&mut self, frame: u16) -> Result<(), Refusal>
-        ensures marked { OnOk result (IsMarked frame self.old self.new) }
-        ensures exact { (frame_at self.old.drive.frames frame).phase ≡ Sealed → NoneHeld frame self.old → IsOk result }
-        ensures log { log_of self.new ≡ log_of self.old }
-        ensures refused { OnErr result (self.new ≡ self.old) }
-        ensures refusal { IfErr result (λ e. e ≡ InUse) }
+        ensures { MarksFrame frame self.old result self.new }
     {
         let number = frame as usize;
         if self.sealed_generation(frame).is_none() {
@@ -278,17 +272,7 @@ impl Segments {
 
     /// A frame that is being emptied and has no reader is free at its next generation, and can be opened again.
     pub fn release(&mut self, frame: u16) -> Result<(), Refusal>
-        ensures released { OnOk result (IsReleased frame self.old self.new) }
-        ensures held { (log_of self.new).held ≡ (log_of self.old).held }
-        ensures spent { OnOk result (places_spent self.old ≤ places_spent self.new) }
-        ensures again { OnOk result ((frame_at self.old.drive.frames frame).generation + 2 < 2 ^ 32 → IsAheadAgain frame self.old self.new) }
-        ensures retired { OnOk result ((frame_at self.old.drive.frames frame).generation + 2 ≡ 2 ^ 32 → places_ahead self.new ≡ places_ahead self.old) }
-        ensures missed { OnErr result ((frame_at self.old.drive.frames frame).phase ≡ Emptied → HasMissed frame self.old.drive self.new.drive) }
-        ensures idle { OnErr result ((frame_at self.old.drive.frames frame).phase ≢ Emptied → self.new ≡ self.old) }
-        ensures refused { OnErr result ((self.new.drive.frames ≡ self.old.drive.frames) × (self.new.slots ≡ self.old.slots)) }
-        ensures log { OnErr result (log_of self.new ≡ log_of self.old) }
-        ensures table { self.new.drive.table ≡ self.old.drive.table }
-        ensures refusal { IfErr result (λ e. e ≡ InUse) }
+        ensures { ReleasesFrame frame self.old result self.new }
     {
         let number = frame as usize;
         if number >= self.slots.len() {

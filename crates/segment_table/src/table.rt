@@ -5,16 +5,15 @@ ghost use Rattle.s4_types.specs.declared.limits.TheConstants.{BLOCK_BYTES};
 ghost use Rattle.s4_types.specs.declared.refusals.Refusal.TheVariants.{NoMemory, Busy, NoSpace, InUse};
 ghost use Rattle.block_log.specs.Log.{appended, dropped};
 ghost use Rattle.segment_word.specs.Frames.{Pinned, is_emptied};
-ghost use Rattle.segment_word.specs.Frames.Phase.{Open, Sealed, Emptied};
+ghost use Rattle.segment_word.specs.Frames.Phase.{Open, Sealed};
 ghost use Rattle.segment_word.specs.Layout.{frame_at, block_bytes};
 ghost use Rattle.segment_word.specs.Counting.{pins_in};
 ghost use Rattle.segment_word.specs.FrameRule.{AllAgree};
-ghost use Rattle.segment_word.specs.Handles.{fresh_frame, IsAmong, pin_of, HasMissed};
-ghost use Rattle.segment_table.specs.Table.{Table, slots_at, held_at, HoldsWholeBlocks};
-ghost use Rattle.segment_table.specs.Used.{HoldsUsedBlocks};
-ghost use Rattle.segment_table.specs.Room.{is_filling, numbers, rest_of, places_ahead, log_of, new_places, pointers_in};
-ghost use Rattle.segment_table.specs.Sealing.{IsFit, IsPartFilled};
-ghost use Rattle.segment_table.specs.Changes.{IsFilling, NoneIsFilling, IsAppended, IsSealedIn, NoneHeld, IsMarked, IsReleased, IsAheadAgain};
+ghost use Rattle.segment_word.specs.Handles.{fresh_frame, IsAmong, pin_of};
+ghost use Rattle.segment_table.specs.Table.{Table, slots_at, held_at};
+ghost use Rattle.segment_table.specs.Room.{is_filling, log_of, new_places};
+ghost use Rattle.segment_table.specs.Sealing.{IsPartFilled};
+ghost use Rattle.segment_table.specs.Changes.{IsAppended, SealsFrame, MarksFrame, ReleasesFrame};
 
 use crate::over_frames::OverFrames;
 use crate::parts::TableParts;
@@ -33,6 +32,7 @@ use std::marker::Model;
 pub struct SegmentTable {
     frames: Frames,
     segments: Segments,
+    alloc: Global,
 }
 
 impl Model for SegmentTable {
@@ -73,34 +73,17 @@ impl SegmentTable {
         ensures refusal { IfErr result (λ e. (e ≡ NoMemory) ⊎ (e ≡ Busy)) }
     {
         let (frames, segments) = parts.shared(alloc)?;
-        Ok(SegmentTable { frames, segments })
-    }
-
-    /// Shows what holds between calls: the used blocks of each frame fit what it is for, so that a sealed frame spells its
-    /// summary in front of zeros in its unused blocks; at most one frame is open, with 1 to 14 used blocks; each held block
-    /// has 512 bytes and is used; there are 8 to 1,024 frames; and the places that were ever taken and those ahead are fewer than 2^46, over all lives of the frames.
-    pub fn rules(&self)
-        ensures fit { (f : ℕ) → f < length self.now.drive.frames → IsFit f (frame_at self.now.drive.frames f) (slots_at self.now.slots f) }
-        ensures one_open { length (numbers is_filling 0 self.now.drive.frames) ≤ 1 }
-        ensures whole { HoldsWholeBlocks self.now }
-        ensures part_filled { IsPartFilled self.now }
-        ensures used { HoldsUsedBlocks self.now }
-        ensures count { IsFrameCount (length self.now.drive.frames) }
-        ensures sizes { (length self.now.drive.frames ≤ 1024) × (length self.now.slots ≡ length self.now.drive.frames) }
-        ensures bounded { (log_of self.now).spent + length (log_of self.now).ahead < 2 ^ 46 }
-    {
-        let _ = &self.segments.current;
+        Ok(SegmentTable {
+            frames,
+            segments,
+            alloc,
+        })
     }
 
     /// Seals the open frame: zeros are stored in its unused blocks, and its summary in block 0. Without effect where none
     /// is open.
     pub fn seal_open(&mut self)
-        ensures closed { NoneIsFilling self.new }
-        ensures idle { NoneIsFilling self.old → self.new ≡ self.old }
-        ensures sealed { (f : ℕ) → IsFilling f self.old → IsSealedIn f self.old self.new }
-        ensures held { (log_of self.new).held ≡ (log_of self.old).held }
-        ensures ahead { (f : ℕ) → IsFilling f self.old → rest_of self.old f ++ places_ahead self.new ≡ places_ahead self.old }
-        ensures spent { (log_of self.new).spent ≡ (log_of self.old).spent }
+        ensures { SealsFrame self.old self.new }
     {
         if let Some(frame) = self.segments.open_frame() {
             self.segments.seal(frame);
@@ -120,13 +103,9 @@ impl SegmentTable {
 
     /// A sealed frame of which no block is held is being emptied from now on. Its readers and its pins stay.
     ///
-    /// InUse where the frame isn't sealed or isn't there, or where one of its blocks is held. Nothing has changed then.
+    /// InUse exactly where the frame isn't sealed or isn't there, or where one of its blocks is held. Nothing has changed then.
     pub fn mark(&mut self, frame: u16) -> Result<(), Refusal>
-        ensures marked { OnOk result (IsMarked frame self.old self.new) }
-        ensures exact { (frame_at self.old.drive.frames frame).phase ≡ Sealed → NoneHeld frame self.old → IsOk result }
-        ensures log { log_of self.new ≡ log_of self.old }
-        ensures refused { OnErr result (self.new ≡ self.old) }
-        ensures refusal { IfErr result (λ e. e ≡ InUse) }
+        ensures { MarksFrame frame self.old result self.new }
     {
         self.segments.mark(frame)
     }
@@ -138,17 +117,7 @@ impl SegmentTable {
     /// InUse where the frame isn't being emptied or isn't there, and nothing has changed then; or where its word counted a
     /// reader at the one exchange that was tried, which is noted, and no frame or block has changed.
     pub fn release(&mut self, frame: u16) -> Result<(), Refusal>
-        ensures released { OnOk result (IsReleased frame self.old self.new) }
-        ensures held { (log_of self.new).held ≡ (log_of self.old).held }
-        ensures spent { OnOk result ((log_of self.old).spent ≤ (log_of self.new).spent) }
-        ensures again { OnOk result ((frame_at self.old.drive.frames frame).generation + 2 < 2 ^ 32 → IsAheadAgain frame self.old self.new) }
-        ensures retired { OnOk result ((frame_at self.old.drive.frames frame).generation + 2 ≡ 2 ^ 32 → places_ahead self.new ≡ places_ahead self.old) }
-        ensures missed { OnErr result ((frame_at self.old.drive.frames frame).phase ≡ Emptied → HasMissed frame self.old.drive self.new.drive) }
-        ensures idle { OnErr result ((frame_at self.old.drive.frames frame).phase ≢ Emptied → self.new ≡ self.old) }
-        ensures refused { OnErr result ((self.new.drive.frames ≡ self.old.drive.frames) × (self.new.slots ≡ self.old.slots)) }
-        ensures log { OnErr result (log_of self.new ≡ log_of self.old) }
-        ensures table { self.new.drive.table ≡ self.old.drive.table }
-        ensures refusal { IfErr result (λ e. e ≡ InUse) }
+        ensures { ReleasesFrame frame self.old result self.new }
     {
         self.segments.release(frame)
     }
@@ -162,23 +131,6 @@ impl SegmentTable {
             Some(frame) => frame == place.frame(),
             None => false,
         }
-    }
-
-    /// The pointers to the held blocks of an object in a frame, by ascending block, and none where the frame isn't sealed or
-    /// isn't there.
-    ///
-    /// NoMemory alone, where there was none for them; it is asked for once.
-    pub fn held_in(
-        &mut self,
-        alloc: Global,
-        object: ObjectId,
-        frame: u16,
-    ) -> Result<Vec<Ptr>, Refusal>
-        ensures pointers { IfOk result (λ pointers. pointers.items ≡ pointers_in self.old object frame) }
-        ensures refusal { IfErr result (λ e. e ≡ NoMemory) }
-        ensures same { self.new ≡ self.old }
-    {
-        self.segments.held_in(alloc, object, frame)
     }
 
     /// A pin without frames, which `count_on` gives some. Busy where all 64 seats are in use, or the count of those that share the memory is full.
@@ -260,8 +212,16 @@ impl OverFrames for SegmentTable {
         }
     }
 
+    fn frame_rules(&self) {
+        let _ = &self.segments.current;
+    }
+
+    fn held_in(&mut self, object: ObjectId, frame: u16) -> Result<Vec<Ptr>, Refusal> {
+        self.segments.held_in(self.alloc, object, frame)
+    }
+
     fn listings(&self) {
-        self.rules();
+        self.frame_rules();
     }
 
     fn part(&mut self, place: Ptr) -> Option<Part> {

@@ -1,9 +1,11 @@
-use Rattle.std.proofs.Common.{◌+◌, ◌^◌, ◌<◌, length, reverse, subst}
+use Rattle.std.proofs.Common.{rules, length, reverse, refl, sym, ap, subst}
 use Rattle.segment_table.specs.Table.{Table}
-use Rattle.segment_table.specs.Used.{HasWholeBlocks, HoldsUsedBlocks}
-use Rattle.segment_table.specs.Room.{can_open, numbers, places_ahead, places_spent}
+use Rattle.segment_word.specs.AcceptHandles.{no_table}
+use Rattle.segment_table.specs.Used.{HasWholeBlocks}
+use Rattle.segment_table.specs.Rules.{HasFramesInOrder}
+use Rattle.segment_table.specs.Room.{can_open, numbers}
 use Rattle.segment_table.specs.Parts.{unnamed}
-use Rattle.segment_table.proofs.Reading.{places_few}
+use Rattle.segment_table.proofs.Reading.{sound_whole, places_few}
 use Rattle.segment_table.proofs.UsedBlocks.{all_whole, all_used}
 use Rattle.segment_table.proofs.Unshared.{sound_table}
 use Rattle.segment_table.proofs.parts.TableParts.rules.Goals as goal
@@ -13,13 +15,22 @@ returns-clause-used_whole c =
     let t : Table = unnamed c.self.inside.words c.self.inside.slots.items in
     subst HasWholeBlocks c.self.view_is (all_whole t (reverse (numbers can_open 0 t.drive.frames)) c.self.inside.current (sound_table t c.self.inside.current c.self.invariant))
 
-pub returns-clause-used : goal.returns-clause-used
-returns-clause-used c =
+pub returns-clause-frames : goal.returns-clause-frames
+returns-clause-frames c =
     let t : Table = unnamed c.self.inside.words c.self.inside.slots.items in
-    subst HoldsUsedBlocks c.self.view_is (all_used t (reverse (numbers can_open 0 t.drive.frames)) c.self.inside.current (sound_table t c.self.inside.current c.self.invariant))
-
-pub returns-clause-bounded : goal.returns-clause-bounded
-returns-clause-bounded c =
-    let t : Table = unnamed c.self.inside.words c.self.inside.slots.items in
-    let P : Table → Type 0 = λ x. places_spent x + length (places_ahead x) < 2 ^ 46 in
-    subst P c.self.view_is (places_few t (reverse (numbers can_open 0 t.drive.frames)) c.self.inside.current (sound_table t c.self.inside.current c.self.invariant))
+    let free = reverse (numbers can_open 0 t.drive.frames) in
+    let current = c.self.inside.current in
+    let parts = c.self.invariant in
+    let sound = sound_table t current parts in
+    let one = ap length (sym parts.filling) in
+    subst (HasFramesInOrder no_table) c.self.view_is (record {
+      table = refl;
+      fit = parts.fit;
+      one_open = search rules;
+      whole = sound_whole t free current sound;
+      part_filled = parts.part_filled;
+      used = all_used t free current sound;
+      count = search rules;
+      sizes = (parts.most, parts.counted);
+      bounded = places_few t free current sound;
+    })
