@@ -7,7 +7,7 @@ use Rattle.codec.specs.declared.summaries.Part.{Part}
 use Rattle.segment_word.specs.Handles.{Drive}
 use Rattle.segment_table.specs.Table.{Table}
 use Rattle.segment_table.specs.Room.{is_filling, numbers}
-use Rattle.segment_table.specs.Changes.{IsFilling, NoneIsFilling, IsAppended, IsSealedIn}
+use Rattle.segment_table.specs.Changes.{IsFilling, NoneIsFilling, IsAppended, IsSealedIn, MarksFrame}
 
 -- what is equal is equal in each part
 pub along : {A B : Type 0} {x y : A} (p : x ≡ y) (f : A → B) → f x ≡ f y
@@ -28,3 +28,7 @@ by_filling (f ∷ g ∷ filling) old new one idle sealed = absurd (omega (arith,
 
 pub sealed_here : (old new : Table) → length (numbers is_filling 0 old.drive.frames) ≤ 1 → (NoneIsFilling old → new ≡ old) → ((f : ℕ) → IsFilling f old → IsSealedIn f old new) → new.drive.table ≡ old.drive.table
 sealed_here old new one idle sealed = by_filling (numbers is_filling 0 old.drive.frames) old new one idle sealed
+
+pub marked_here : (r : Result (Unit {0}) Refusal) (f : ℕ) (old new : Table) → MarksFrame f old r new → new.drive.table ≡ old.drive.table
+marked_here (Ok x) f old new marks = ap (λ (d : Drive). d.table) marks.marked.drive
+marked_here (Err e) f old new marks = ap (λ (t : Table). t.drive.table) marks.refused

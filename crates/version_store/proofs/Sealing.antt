@@ -1,5 +1,5 @@
 -- A store whose table has other places ahead and holds what it held.
-use Rattle.std.proofs.Common.{◌≡◌, ℕ, ◌+◌, ◌^◌, ◌<◌, ◌≤◌, List, [], ◌∷◌, ◌++◌, length, Option, refl, sym, ap, subst, arith, length-append}
+use Rattle.std.proofs.Common.{◌≡◌, ℕ, ◌+◌, ◌^◌, ◌<◌, ◌≤◌, List, [], ◌∷◌, ◌++◌, length, Option, refl, sym, ap, subst, ◌∙◌, arith, length-append}
 use Rattle.std.specs.Prelude.{OnOk, OnErr}
 use Rattle.std.specs.declared.result.Result.{Result}
 use Rattle.std.specs.declared.result.Result.TheVariants.{Ok, Err}
@@ -8,7 +8,11 @@ use Rattle.block_log.specs.Log.{Log, Stored}
 use Rattle.segment_table.specs.Table.{Table}
 use Rattle.segment_table.specs.Room.{is_filling, numbers, rest_of, places_ahead}
 use Rattle.segment_table.specs.Changes.{IsFilling, NoneIsFilling}
+use Rattle.object_map.specs.declared.map.Row.{Row}
+use Rattle.object_map.specs.Rows.{row_of}
 use Rattle.version_store.specs.Store.{StoreFields, IsStore}
+use Rattle.version_store.specs.Versions.{inode_by, version_by}
+use Rattle.version_store.specs.Upkeep.{KeepsObjects}
 
 fewer_by : (filling : List ℕ) (rest : ℕ → List Place) (before after : List Place) → length filling ≤ 1 → (filling ≡ [] → after ≡ before) → ((f : ℕ) → filling ≡ f ∷ [] → rest f ++ after ≡ before) → length after ≤ length before
 fewer_by [] rest before after one idle sealed =
@@ -51,3 +55,15 @@ shrunk_store s log same fewer spent store = let bound = store.bounded in store_o
 pub no_fewer_spent : {T E : Type 0} (r : Result T E) (old new : Log) → OnOk r (old.spent ≤ new.spent) → OnErr r (new ≡ old) → old.spent ≤ new.spent
 no_fewer_spent (Ok x) old new grown same = grown
 no_fewer_spent (Err e) old new grown same = let equal : new.spent ≡ old.spent = ap (λ (log : Log). log.spent) same in omega (arith, equal)
+
+-- the objects of a store whose rows, whose last change and what it holds are as they were
+pub keeps_objects : (s later : StoreFields) → later.log.held ≡ s.log.held → later.rows ≡ s.rows → later.latest ≡ s.latest → s.log.spent ≤ later.log.spent → KeepsObjects s later
+keeps_objects s later held rows latest spent = record {
+  held = held;
+  rows = rows;
+  latest = latest;
+  spent = spent;
+  inodes = λ o t. ap (λ (h : Place → Option Stored). inode_by h o t (row_of later.rows o)) held ∙ ap (λ (r : List (ℕ × Row)). inode_by s.log.held o t (row_of r o)) rows;
+  versions = λ o t. ap (λ (h : Place → Option Stored). version_by h (inode_by h o t (row_of later.rows o))) held
+      ∙ ap (λ (r : List (ℕ × Row)). version_by s.log.held (inode_by s.log.held o t (row_of r o))) rows;
+}

@@ -8,7 +8,7 @@ pub mod Laws
 pub mod Checkpointing
 pub mod Replacing
 pub mod Relocating
-pub mod Emptying
+pub mod Upkeep
 pub mod Opening
 pub mod Stamps
 pub mod private

@@ -11,12 +11,11 @@ ghost use Rattle.version_store.specs.Costs.{room};
 
 mod changes;
 mod checkpoints;
-mod emptying;
 mod frames;
 mod opening;
 mod relocations;
 mod replacements;
-mod seals;
+mod upkeep;
 
 use crate::laws::{an_object_has_an_inode_at_all_moments_or_at_none, the_present_stays};
 use block_log::Blocks;

@@ -1,15 +1,10 @@
 //! A store over frames: what it holds in one of them, and plans of reads.
-ghost use Rattle.std.specs.Prelude.{◌≡◌, ℕ, ◌<◌, ◌≤◌, ◌-◌, ◌↔◌, ◌⊎◌, true, false, Some, None, IsSome, IfSome, IfOk, IfErr, length, min, take, drop};
+ghost use Rattle.std.specs.Prelude.{◌≡◌, ℕ, ◌<◌, ◌-◌, ◌↔◌, ◌⊎◌, true, false, Some, None, IsSome, IfSome, IfOk, IfErr, min, take, drop};
 ghost use Rattle.std.specs.List.{list_any};
-ghost use Rattle.s4_types.specs.Sizes.{IsFrameCount};
 ghost use Rattle.s4_types.specs.declared.refusals.Refusal.TheVariants.{NoMemory, Busy};
 ghost use Rattle.inode.specs.Contents.{contents_of, bytes_of};
 ghost use Rattle.segment_word.specs.Counting.{pins_in};
-ghost use Rattle.segment_word.specs.Layout.{frame_at};
-ghost use Rattle.segment_table.specs.Room.{is_filling, numbers, log_of, pointers_in};
-ghost use Rattle.segment_table.specs.Sealing.{IsFit, IsPartFilled};
-ghost use Rattle.segment_table.specs.Table.{slots_at, HoldsWholeBlocks};
-ghost use Rattle.segment_table.specs.Used.{HoldsUsedBlocks};
+ghost use Rattle.segment_table.specs.Room.{log_of};
 ghost use Rattle.time_read.specs.Plans.{IsAt, pieces_of, bytes_planned, pins_held, is_pinned, is_pinned_in};
 ghost use Rattle.version_store.specs.Planning.{IsReadPlan, IsPlanRefusal};
 ghost use Rattle.version_store.specs.Store.{fields_of, IsStore};
@@ -48,33 +43,6 @@ impl Store<SegmentTable> {
 }
 
 impl<J: Naming> Store<NamedTable<J>> {
-    /// Shows that its frames are those of the drive that `J` names, 8 to 1,024, and that each block that it holds has 512 bytes and
-    /// is used. The used blocks of each frame fit what it is for, and at most one frame is open, with 1 to 14 used blocks.
-    pub fn rules(&self)
-        ensures frames { self.now.table.drive.table ≡ J.frames }
-        ensures fit { (f : ℕ) → f < length self.now.table.drive.frames → IsFit f (frame_at self.now.table.drive.frames f) (slots_at self.now.table.slots f) }
-        ensures one_open { length (numbers is_filling 0 self.now.table.drive.frames) ≤ 1 }
-        ensures part_filled { IsPartFilled self.now.table }
-        ensures sizes { (length self.now.table.drive.frames ≤ 1024) × (length self.now.table.slots ≡ length self.now.table.drive.frames) }
-        ensures whole { HoldsWholeBlocks self.now.table }
-        ensures used { HoldsUsedBlocks self.now.table }
-        ensures count { IsFrameCount (length self.now.table.drive.frames) }
-    {
-        self.table.table.rules();
-    }
-
-    /// The pointers to the held blocks of an object in a frame, by ascending block, and none where the frame isn't sealed or
-    /// isn't there.
-    ///
-    /// NoMemory alone, where the memory for them is refused.
-    pub fn held_in(&mut self, object: ObjectId, frame: u16) -> Result<Vec<Ptr>, Refusal>
-        ensures pointers { IfOk result (λ pointers. pointers.items ≡ pointers_in self.old.table object frame) }
-        ensures refusal { IfErr result (λ e. e ≡ NoMemory) }
-        ensures same { self.new ≡ self.old }
-    {
-        self.table.table.held_in(self.alloc, object, frame)
-    }
-
     /// A plan of reading the bytes of an object at a moment from an offset on, `wanted` of them or as many as there are; the
     /// inode is the object's at that moment. Blocks of the open frame are copied; the frames of all others are pinned.
     ///
@@ -137,6 +105,10 @@ impl<J: Naming> OverFrames for Store<NamedTable<J>> {
 
     ghost table = { λ s. s.table };
 
+    fn frame_rules(&self) {
+        self.table.table.frame_rules();
+    }
+
     fn frame_count(&self) -> u16 {
         self.table.table.frame_count()
     }
@@ -155,6 +127,10 @@ impl<J: Naming> OverFrames for Store<NamedTable<J>> {
 
     fn save_blocks(&mut self, frame: u16, blocks: &mut [Block; FRAME_BLOCKS]) {
         self.table.table.save_blocks(frame, blocks);
+    }
+
+    fn held_in(&mut self, object: ObjectId, frame: u16) -> Result<Vec<Ptr>, Refusal> {
+        self.table.table.held_in(object, frame)
     }
 
     fn listings(&self) {
