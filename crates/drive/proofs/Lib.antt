@@ -10,6 +10,7 @@ pub mod Storing
 pub mod Served
 pub mod Parts
 pub mod Leading
+pub mod Upkept
 pub mod Dating
 pub mod Opening
 pub mod Ordered

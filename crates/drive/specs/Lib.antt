@@ -1,5 +1,6 @@
 pub mod Fields
 pub mod Keeping
+pub mod Upkeep
 pub mod Refusing
 pub mod Opened
 pub mod Answering

@@ -3,7 +3,7 @@ use crate::drive::Drive;
 use block_log::Block;
 use codec::Part;
 use s4_types::limits::FRAME_BLOCKS;
-use s4_types::{Ptr, Refusal};
+use s4_types::{ObjectId, Ptr, Refusal};
 use segment_table::OverFrames;
 use segment_word::{Memory, Naming, Pin};
 
@@ -11,6 +11,10 @@ impl<J: Naming> OverFrames for Drive<J> {
     ghost name = { λ d. J.frames };
 
     ghost table = { λ d. d.store.table };
+
+    fn frame_rules(&self) {
+        self.store.frame_rules();
+    }
 
     fn frame_count(&self) -> u16 {
         self.store.frame_count()
@@ -30,6 +34,10 @@ impl<J: Naming> OverFrames for Drive<J> {
 
     fn save_blocks(&mut self, frame: u16, blocks: &mut [Block; FRAME_BLOCKS]) {
         self.store.save_blocks(frame, blocks);
+    }
+
+    fn held_in(&mut self, object: ObjectId, frame: u16) -> Result<Vec<Ptr>, Refusal> {
+        self.store.held_in(object, frame)
     }
 
     fn listings(&self) {

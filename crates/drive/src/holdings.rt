@@ -1,6 +1,5 @@
 //! What a drive holds, for the layers above it.
 ghost use Rattle.std.specs.Prelude.{◌≡◌, ℕ, ◌<◌, ◌≤◌, length, None, MatchBool, IfSome, IfNone, IfOk, IfErr};
-ghost use Rattle.s4_types.specs.Sizes.{IsFrameCount};
 ghost use Rattle.s4_types.specs.declared.refusals.Refusal.TheVariants.{NoMemory};
 ghost use Rattle.std.specs.List.{AllByRecursion};
 ghost use Rattle.s4_types.specs.declared.limits.TheConstants.{RUNS_IN_ALL};
@@ -11,11 +10,7 @@ ghost use Rattle.window.specs.Runs.{Ascend, AllBeginFrom, AllEndBefore, AreFewIn
 ghost use Rattle.window.specs.Timeline.{CoverAlike};
 ghost use Rattle.object_map.specs.Objects.{IsNextAbove};
 ghost use Rattle.object_map.specs.Rows.{row_of};
-ghost use Rattle.segment_word.specs.Layout.{frame_at};
-ghost use Rattle.segment_table.specs.Room.{is_filling, numbers, pointers_in};
-ghost use Rattle.segment_table.specs.Sealing.{IsFit, IsPartFilled};
-ghost use Rattle.segment_table.specs.Table.{slots_at, HoldsWholeBlocks};
-ghost use Rattle.segment_table.specs.Used.{HoldsUsedBlocks};
+ghost use Rattle.segment_table.specs.Rules.{HasFramesInOrder};
 ghost use Rattle.version_store.specs.Store.{IsStore};
 ghost use Rattle.version_store.specs.Costs.{room};
 ghost use Rattle.version_store.specs.Versions.{entries_of_object, inode_in};
@@ -26,33 +21,26 @@ ghost use Rattle.drive.specs.Opened.{NoneFrom};
 use crate::drive::Drive;
 use codec::{Entry, Inode};
 use object_map::Row;
-use s4_types::{Moment, ObjectId, Ptr, Refusal, Span};
+use s4_types::{Moment, ObjectId, Refusal, Span};
+use segment_table::OverFrames;
 use segment_word::Naming;
 
 impl<J: Naming> Drive<J> {
     /// Shows what always holds of a drive: at each moment that can be read, the blocks of each object decode to exactly the
     /// version that the history tells; that history begins with the drive's base and is sound; the frames are those
-    /// of the table that `J` names, 8 to 1,024; the objects stand on their blocks, none was changed later than the clock, and
-    /// no number that wasn't given has a row; and each block that is held has 512 bytes and is used. The used blocks of each
-    /// frame fit what it is for, and at most one frame is open, with 1 to 14 used blocks.
+    /// of the table that `J` names, and in order; the objects stand on their blocks, none was changed later than the clock, and
+    /// no number that wasn't given has a row.
     pub fn rules(&self)
         ensures decodes { DecodesWhereVisible (store_of self.now) (state_in self.now) }
         ensures base { (history_of self.now).base ≡ J.base }
-        ensures frames { self.now.store.table.drive.table ≡ J.frames }
-        ensures fit { (f : ℕ) → f < length self.now.store.table.drive.frames → IsFit f (frame_at self.now.store.table.drive.frames f) (slots_at self.now.store.table.slots f) }
-        ensures one_open { length (numbers is_filling 0 self.now.store.table.drive.frames) ≤ 1 }
-        ensures part_filled { IsPartFilled self.now.store.table }
-        ensures sizes { (length self.now.store.table.drive.frames ≤ 1024) × (length self.now.store.table.slots ≡ length self.now.store.table.drive.frames) }
+        ensures frames { HasFramesInOrder J.frames self.now.store.table }
         ensures sound { IsSound (state_in self.now) }
         ensures store { IsStore (store_of self.now) }
         ensures past { (store_of self.now).latest ≤ (state_in self.now).clock }
-        ensures whole { HoldsWholeBlocks self.now.store.table }
-        ensures used { HoldsUsedBlocks self.now.store.table }
-        ensures count { IsFrameCount (length self.now.store.table.drive.frames) }
         ensures unborn { NoneFrom (state_in self.now).next (store_of self.now) }
     {
         let _ = &self.next;
-        self.store.rules();
+        self.store.frame_rules();
     }
 
     /// The clock: the last moment given or seen.
@@ -151,17 +139,5 @@ impl<J: Naming> Drive<J> {
         ensures store { store_of self.new ≡ store_of self.old }
     {
         self.store.entries(object)
-    }
-
-    /// The pointers to the held blocks of an object in a frame, by ascending block, and none where the frame isn't sealed or
-    /// isn't there.
-    ///
-    /// NoMemory alone, where the memory for them is refused.
-    pub fn held_in(&mut self, object: ObjectId, frame: u16) -> Result<Vec<Ptr>, Refusal>
-        ensures pointers { IfOk result (λ pointers. pointers.items ≡ pointers_in self.old.store.table object frame) }
-        ensures refusal { IfErr result (λ e. e ≡ NoMemory) }
-        ensures same { self.new ≡ self.old }
-    {
-        self.store.held_in(object, frame)
     }
 }

@@ -11,7 +11,7 @@ ghost use Rattle.version_store.specs.Store.{fields_of, IsStore};
 use crate::drive::Drive;
 use s4_model::laws::every_history_is_sound;
 use s4_types::{ObjectId, Refusal};
-use segment_table::SegmentTable;
+use segment_table::{OverFrames, SegmentTable};
 use segment_word::Naming;
 use segment_word::accepts::Accepts;
 use std::alloc::Global;
@@ -59,7 +59,7 @@ impl NewDrive {
     {
         every_history_is_sound();
         let table = SegmentTable::new(alloc, frames)?;
-        table.rules();
+        table.frame_rules();
         let store = Store::new(alloc, table);
         let accepts = Accepts::new(alloc)?;
         let window = Window::new(alloc, window);

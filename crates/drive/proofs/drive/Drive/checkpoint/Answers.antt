@@ -1,10 +1,9 @@
-use Rattle.std.proofs.Common.{subst}
-use Rattle.std.specs.Prelude.{OnOk}
+use Rattle.std.proofs.Common.{refl, subst}
 use Rattle.s4_model.specs.State.{state_of}
 use Rattle.segment_table.specs.Room.{log_of}
 use Rattle.version_store.specs.Store.{fields_of}
-use Rattle.version_store.specs.Checkpointing.{Checkpoints}
-use Rattle.drive.specs.Fields.{DriveFields, store_of}
+use Rattle.drive.specs.Fields.{DriveFields}
+use Rattle.drive.specs.Upkeep.{WritesCheckpoint}
 use Rattle.drive.proofs.Leading.{kept_alike}
 use Rattle.drive.proofs.drive.Drive.checkpoint.Goals as goal
 
@@ -15,6 +14,17 @@ invariant_of-self g c = (
       c.checkpoint.ensures.store c.checkpoint.ensures.versions c.checkpoint.ensures.latest c.checkpoint.ensures.rows,
 )
 
-pub returns-clause-checkpoint : goal.returns-clause-checkpoint
-returns-clause-checkpoint g c =
-    subst (λ (d : DriveFields). OnOk c.checkpoint.result (Checkpoints (store_of d) c.args.object (fields_of log_of c.checkpoint.new.self))) c.self.view_is c.checkpoint.ensures.checkpoint
+pub returns : goal.returns
+returns g c =
+    let done = c.checkpoint.ensures in
+    let later : DriveFields = record { ledger = c.self.inside.history; store = c.checkpoint.new.self } in
+    let W : DriveFields → Type 0 = λ d. WritesCheckpoint c.args.object d c.checkpoint.result later in
+    subst W c.self.view_is (record {
+      checkpoint = done.checkpoint;
+      current = done.current;
+      answer = done.answer;
+      unchanged = done.unchanged;
+      ledger = refl;
+      versions = done.versions;
+      inodes = done.inodes;
+    })

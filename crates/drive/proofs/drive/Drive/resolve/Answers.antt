@@ -44,4 +44,4 @@ pinned_here (Ok plan) d frames object offset len at is same = λ held e. is.here
 pinned_here (Err e) d frames object offset len at is same = tt
 
 pub returns-clause-named : goal.returns-clause-named
-returns-clause-named g c = pinned_here c.plan_read-planned.result c.plan_read-planned.new.self g.J.Naming.frames c.args.object c.args.offset c.args.length c.args.at c.plan_read-planned.ensures.plan c.rules.ensures.frames
+returns-clause-named g c = pinned_here c.plan_read-planned.result c.plan_read-planned.new.self g.J.Naming.frames c.args.object c.args.offset c.args.length c.args.at c.plan_read-planned.ensures.plan c.rules.ensures.frames.table
