@@ -8,10 +8,11 @@ use Rattle.segment_table.specs.Table.{HoldsWholeBlocks}
 use Rattle.version_store.specs.Store.{IsStore}
 use Rattle.drive.specs.Fields.{DriveFields, history_of, state_in, store_of}
 use Rattle.drive.specs.Keeping.{DecodesWhereVisible}
+use Rattle.drive.specs.Upkeep.{Seals, WritesCheckpoint, Marks, Releases}
 use Rattle.interleaving.specs.Moving.{Move}
 use Rattle.interleaving.specs.Actors.{ActorFields}
 use Rattle.interleaving.specs.Acting.{Acts, answer_to}
-use Rattle.interleaving.specs.Upkeep.{Seals, WritesCheckpoint, Marks, Releases, Tidies}
+use Rattle.interleaving.specs.Upkeep.{Tidies}
 use Rattle.interleaving.specs.declared.answers.Answer.{Answer}
 use Rattle.interleaving.specs.declared.answers.Answer.TheVariants.{Done, Idle}
 use Rattle.interleaving.specs.declared.acts.Act.{Act}

@@ -14,7 +14,6 @@ mod answers;
 mod moves;
 mod replay;
 mod steps;
-mod upkeep;
 
 pub use actors::Actor;
 pub use acts::Act;

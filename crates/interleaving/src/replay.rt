@@ -5,15 +5,15 @@ ghost use Rattle.drive.specs.Fields.{history_of, state_in, store_of};
 ghost use Rattle.drive.specs.Keeping.{DecodesWhereVisible};
 ghost use Rattle.interleaving.specs.Running.{GoesAt, Goes, Run};
 ghost use Rattle.interleaving.specs.Telling.{reader_of, Replays};
+ghost use Rattle.interleaving.specs.Upkeep.{Tidies};
 
 use crate::actors::Actor;
 use crate::acts::Act;
 use crate::answers::{Answer, answer_to};
 use crate::moves::{Cleans, Moves};
 use crate::steps::{Step, copy_steps};
-use crate::upkeep::{checkpoint, clean, mark, release, seal};
 use drive::Drive;
-use s4_types::Refusal;
+use s4_types::{ObjectId, Refusal};
 use segment_word::Naming;
 use std::alloc::Global;
 
@@ -33,6 +33,17 @@ fn by_actor<J: Naming, M: Moves<J>>(
     actors[number].act(alloc, drive, act)
 }
 
+/// An object is cleaned.
+fn clean<J: Naming, C: Cleans<J>>(
+    alloc: Global,
+    drive: &mut Drive<J>,
+    object: ObjectId,
+) -> Result<(), Refusal>
+    ensures { Tidies C.cleans object drive.old result drive.new }
+{
+    C::clean(alloc, drive, object)
+}
+
 /// One step.
 fn take_step<J: Naming, C: Cleans<J>, M: Moves<J>>(
     alloc: Global,
@@ -45,13 +56,13 @@ fn take_step<J: Naming, C: Cleans<J>, M: Moves<J>>(
     match step {
         Step::By { actor, act } => by_actor(alloc, drive, actors, actor, act),
         Step::Seal => {
-            seal(drive);
+            drive.seal();
             Answer::Done
         }
-        Step::Checkpoint { object } => answer_to(checkpoint(drive, object)),
+        Step::Checkpoint { object } => answer_to(drive.checkpoint(object)),
         Step::Clean { object } => answer_to(clean::<J, C>(alloc, drive, object)),
-        Step::Mark { frame } => answer_to(mark(drive, frame)),
-        Step::Release { frame } => answer_to(release(drive, frame)),
+        Step::Mark { frame } => answer_to(drive.mark(frame)),
+        Step::Release { frame } => answer_to(drive.release(frame)),
     }
 }
 

@@ -16,11 +16,11 @@ loop-step-preserved g c =
     let stands : Stands g.J.Naming.base g.J.Naming.frames c.take_step-answer.new.drive = record {
       decodes = kept.decodes;
       base = kept.base;
-      table = kept.frames;
+      table = kept.frames.table;
       sound = kept.sound;
       store = kept.store;
       past = kept.past;
-      whole = kept.whole;
+      whole = kept.frames.whole;
     } in
     record {
       run = run_on g.C.Cleans.cleans g.M.Moves.commits g.J.Naming.base g.J.Naming.frames c.loop-step.yielded c.loop-step.answers.items c.push_reserved.new.self.items c.args.drive.now c.loop-step.drive c.take_step-answer.new.drive
