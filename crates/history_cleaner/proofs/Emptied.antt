@@ -1,6 +1,6 @@
 -- Frames that hold nothing are marked and released, one after the other.
-use Rattle.std.proofs.Common.{◌≡◌, ◌⊎◌, ℕ, zero, suc, ◌+◌, ◌<◌, ◌≤◌, Bool, true, false, cond, Result, Ok, Err, inl, inr, List, [], ◌∷◌, length, Option, refl, sym, ap, subst, ◌∙◌, arith}
-use Rattle.std.specs.Prelude.{MatchResult, OnOk, OnErr, IfErr, slice_set, count_by}
+use Rattle.std.proofs.Common.{◌≡◌, ◌⊎◌, ℕ, zero, suc, ◌+◌, ◌<◌, ◌≤◌, Bool, true, false, ltb, cond, Result, Ok, Err, inl, inr, List, [], ◌∷◌, length, Option, refl, sym, ap, subst, ◌∙◌, arith}
+use Rattle.std.specs.Prelude.{OnOk, IfOk, IfErr, slice_set, count_by}
 use Rattle.std.specs.List.{range_with_len}
 use Rattle.std.proofs.lemmas.Bool.{cases_eq, false≢true}
 use Rattle.std.proofs.lemmas.List.{get_or-set_same, get_or-set_other, length-set}
@@ -14,12 +14,13 @@ use Rattle.segment_word.specs.Layout.{frame_at, word_of}
 use Rattle.segment_word.specs.Handles.{Drive, HasMissed}
 use Rattle.segment_word.specs.Steps.{released}
 use Rattle.segment_table.specs.Table.{Table}
-use Rattle.segment_table.specs.Changes.{NoneHeld, IsMarked, IsReleased}
+use Rattle.segment_table.specs.Changes.{NoneHeld, IsMarked, IsReleased, CanBeEmptied}
 use Rattle.segment_table.specs.Room.{log_of}
-use Rattle.version_store.specs.Emptying.{CanBeEmptied}
 use Rattle.version_store.specs.Store.{StoreFields}
 use Rattle.drive.specs.Fields.{DriveFields, store_of}
-use Rattle.history_cleaner.specs.Emptying.{AllVacated, HasFoundReader, KeepsObjects, MarkedBelow}
+use Rattle.drive.specs.Upkeep.{Marks}
+use Rattle.version_store.specs.Upkeep.{KeepsObjects}
+use Rattle.history_cleaner.specs.Emptying.{AllVacated, has_risen, frames_risen, HasFoundReader, MarkedBelow}
 use Rattle.history_cleaner.specs.private.Emptying.{ReleasedBelow}
 
 -- ---- frames
@@ -122,18 +123,16 @@ marked_not f old d sofar cannot = record {
   releases = sofar.releases;
 }
 
-pub mark_step : (r : Result (Unit {0}) Refusal) (f : ℕ) (old d new : DriveFields) → MarksSoFar f old d
-    → OnOk r (IsMarked f d.store.table new.store.table) → MatchResult r (λ _. CanBeEmptied f d.store.table) (λ e. (e ≡ InUse) × (CanBeEmptied f d.store.table → ⊥)) → OnErr r (new ≡ d)
-    → store_of new ≡ store_of d → new.ledger ≡ d.ledger → MarksSoFar (f + 1) old new
-mark_step (Ok u) f old d new sofar marked answer refused same ledger = record {
-  table = marked_more f old.store.table d.store.table new.store.table sofar.table marked (ap (λ (s : StoreFields). s.log.held) same);
-  same = same ∙ sofar.same;
-  ledger = ledger ∙ sofar.ledger;
+pub mark_step : (r : Result (Unit {0}) Refusal) (f : ℕ) (old d new : DriveFields) → MarksSoFar f old d → Marks f d r new → MarksSoFar (f + 1) old new
+mark_step (Ok u) f old d new sofar marks = record {
+  table = marked_more f old.store.table d.store.table new.store.table sofar.table marks.frame.marked (ap (λ (s : StoreFields). s.log.held) marks.store);
+  same = marks.store ∙ sofar.same;
+  ledger = marks.ledger ∙ sofar.ledger;
 }
-mark_step (Err e) f old d new sofar marked answer refused same ledger = record {
-  table = subst (λ (x : DriveFields). MarkedBelow (f + 1) old.store.table x.store.table) (sym refused) (marked_not f old.store.table d.store.table sofar.table answer.1);
-  same = same ∙ sofar.same;
-  ledger = ledger ∙ sofar.ledger;
+mark_step (Err e) f old d new sofar marks = record {
+  table = subst (λ (x : DriveFields). MarkedBelow (f + 1) old.store.table x.store.table) (sym marks.refused) (marked_not f old.store.table d.store.table sofar.table marks.frame.answer.1);
+  same = marks.store ∙ sofar.same;
+  ledger = marks.ledger ∙ sofar.ledger;
 }
 
 -- ---- counting

@@ -25,7 +25,8 @@ use Rattle.drive.specs.Fields.{DriveFields, state_in, store_of}
 use Rattle.drive.specs.Keeping.{KeepsVersions}
 use Rattle.history_cleaner.specs.Cleaning.{IsUntouched, OthersStay, IsSeenThroughout, IsClean, HasNoRoom}
 use Rattle.history_cleaner.specs.Passing.{is_other, is_gone, has_other_row, has_lost_row, IsCount, IsCleaned, StoppedAt, StoppedAtReader}
-use Rattle.history_cleaner.specs.Emptying.{HasFoundReader, KeepsObjects}
+use Rattle.version_store.specs.Upkeep.{KeepsObjects}
+use Rattle.history_cleaner.specs.Emptying.{HasFoundReader}
 use Rattle.history_cleaner.specs.Reaching.{IsReached, HoldsWhatIsReached, HeldIsWhatIsReached, RowTellsOfSeenPlaces}
 use Rattle.history_cleaner.specs.private.Counting.{NamesPlaces}
 use Rattle.history_cleaner.proofs.Emptied.{tally, count_alike, count_more}

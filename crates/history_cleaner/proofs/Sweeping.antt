@@ -1,6 +1,6 @@
 -- The release of each frame that is being emptied is tried, one after the other.
 use Rattle.std.proofs.Common.{◌≡◌, ℕ, ◌+◌, ◌≤◌, Result, Ok, Err, length, refl, sym, ap, subst, ◌∙◌, arith}
-use Rattle.std.specs.Prelude.{OnOk, OnErr, ◌≢◌, count_by}
+use Rattle.std.specs.Prelude.{◌≢◌, count_by}
 use Rattle.std.specs.List.{range_with_len}
 use Rattle.std.proofs.lemmas.List.{length-set}
 use Rattle.s4_types.specs.declared.refusals.Refusal.{Refusal}
@@ -10,7 +10,8 @@ use Rattle.segment_word.specs.Handles.{Drive, HasMissed}
 use Rattle.segment_word.specs.Steps.{released}
 use Rattle.segment_table.specs.Changes.{IsReleased}
 use Rattle.drive.specs.Fields.{DriveFields, store_of}
-use Rattle.history_cleaner.specs.Emptying.{KeepsObjects}
+use Rattle.drive.specs.Upkeep.{Releases}
+use Rattle.version_store.specs.Upkeep.{KeepsObjects}
 use Rattle.history_cleaner.specs.Rounds.{TriedBelow, empties}
 use Rattle.history_cleaner.proofs.Emptied.{tally, count_more, released_frame, kept_all, kept_on}
 
@@ -85,16 +86,14 @@ tried_by Open f old d new is sofar missed idle =
 tried_by Sealed f old d new is sofar missed idle =
     subst (λ (x : DriveFields). TriedBelow (f + 1) old.store.table.drive x.store.table.drive) (sym (idle (λ e. sealed_not (sym is ∙ e)))) (tried_not f old d sofar (ap (λ (p : Phase). tally (is_emptied p)) is))
 
-pub try_step : (r : Result (Unit {0}) Refusal) (f : ℕ) (old d new : DriveFields) → TriesSoFar f old d → OnOk r (IsReleased f d.store.table new.store.table)
-    → OnErr r ((frame_at d.store.table.drive.frames f).phase ≡ Emptied → HasMissed f d.store.table.drive new.store.table.drive) → OnErr r ((frame_at d.store.table.drive.frames f).phase ≢ Emptied → new ≡ d)
-    → KeepsObjects (store_of d) (store_of new) → new.ledger ≡ d.ledger → TriesSoFar (f + 1) old new
-try_step (Ok u) f old d new sofar done missed idle objects ledger = record {
-  table = tried_released f old d new sofar.table done;
-  objects = kept_on (store_of old) (store_of d) (store_of new) sofar.objects objects;
-  ledger = ledger ∙ sofar.ledger;
+pub try_step : (r : Result (Unit {0}) Refusal) (f : ℕ) (old d new : DriveFields) → TriesSoFar f old d → Releases f d r new → TriesSoFar (f + 1) old new
+try_step (Ok u) f old d new sofar tries = record {
+  table = tried_released f old d new sofar.table tries.frame.released;
+  objects = kept_on (store_of old) (store_of d) (store_of new) sofar.objects tries.objects;
+  ledger = tries.ledger ∙ sofar.ledger;
 }
-try_step (Err e) f old d new sofar done missed idle objects ledger = record {
-  table = tried_by (frame_at d.store.table.drive.frames f).phase f old d new refl sofar.table missed idle;
-  objects = kept_on (store_of old) (store_of d) (store_of new) sofar.objects objects;
-  ledger = ledger ∙ sofar.ledger;
+try_step (Err e) f old d new sofar tries = record {
+  table = tried_by (frame_at d.store.table.drive.frames f).phase f old d new refl sofar.table tries.frame.missed tries.idle;
+  objects = kept_on (store_of old) (store_of d) (store_of new) sofar.objects tries.objects;
+  ledger = tries.ledger ∙ sofar.ledger;
 }

@@ -1,14 +1,11 @@
 -- What the emptying of a drive's frames leaves.
-use Rattle.std.specs.Prelude.{◌≡◌, ◌⊎◌, ℕ, ◌<◌, ◌≤◌, Bool, List, length, count_by, nat_lt}
+use Rattle.std.specs.Prelude.{◌≡◌, ◌⊎◌, ℕ, ◌<◌, Bool, List, length, count_by, nat_lt}
 use Rattle.std.specs.List.{range_with_len}
 use Rattle.segment_word.specs.Frames.{Free, Open, Emptied, Frame}
 use Rattle.segment_word.specs.Layout.{frame_at, word_of}
 use Rattle.segment_word.specs.Handles.{Drive}
 use Rattle.segment_table.specs.Table.{Table}
-use Rattle.segment_table.specs.Changes.{NoneHeld}
-use Rattle.version_store.specs.Emptying.{CanBeEmptied}
-use Rattle.version_store.specs.Store.{StoreFields}
-use Rattle.version_store.specs.Versions.{inode_in, version_in}
+use Rattle.segment_table.specs.Changes.{NoneHeld, CanBeEmptied}
 
 -- frame f is open or free, unless one of its blocks is held
 abbrev pub IsVacated : ℕ → Table → Type 0
@@ -34,16 +31,6 @@ pub record HasFoundReader (old new : Drive) : Type 0 where
   pub readers : ℕ
   pub some_reader : 0 < readers
   pub found : new.releases.found ≡ word_of (frame_at new.frames new.releases.last) readers
-
--- The objects of a store are as they were, by their rows, what is held, the last change, and their inodes and versions at
--- each moment; no fewer places were ever taken.
-pub record KeepsObjects (s later : StoreFields) : Type 0 where
-  pub held : later.log.held ≡ s.log.held
-  pub rows : later.rows ≡ s.rows
-  pub latest : later.latest ≡ s.latest
-  pub spent : s.log.spent ≤ later.log.spent
-  pub inodes : (o t : ℕ) → inode_in later o t ≡ inode_in s o t
-  pub versions : (o t : ℕ) → version_in later o t ≡ version_in s o t
 
 -- No frame below f can begin to be emptied; there are as many frames as there were, each at the generation that it had, and no
 -- release was tried.

@@ -13,7 +13,8 @@ use Rattle.version_store.specs.Store.{StoreFields}
 use Rattle.history_cleaner.specs.declared.rounds.Turn.{Turn}
 use Rattle.history_cleaner.specs.declared.rounds.Turn.TheVariants.{Cleaned, PassedOver, Ended}
 use Rattle.history_cleaner.specs.Cleaning.{Cleans, IsClean, HasNoRoom}
-use Rattle.history_cleaner.specs.Emptying.{MarkedBelow, KeepsObjects}
+use Rattle.version_store.specs.Upkeep.{KeepsObjects}
+use Rattle.history_cleaner.specs.Emptying.{MarkedBelow}
 
 -- whether frame f of a list is being emptied
 abbrev pub empties : List Frame → ℕ → Bool

@@ -5,7 +5,8 @@ ghost use Rattle.s4_types.specs.declared.limits.TheConstants.{MOST_FRAMES};
 ghost use Rattle.s4_types.specs.declared.refusals.Refusal.TheVariants.{InUse};
 ghost use Rattle.segment_word.specs.Layout.{frame_at};
 ghost use Rattle.drive.specs.Fields.{store_of};
-ghost use Rattle.history_cleaner.specs.Emptying.{AllVacated, frames_risen, HasFoundReader, KeepsObjects, MarkedBelow};
+ghost use Rattle.version_store.specs.Upkeep.{KeepsObjects};
+ghost use Rattle.history_cleaner.specs.Emptying.{AllVacated, frames_risen, HasFoundReader, MarkedBelow};
 ghost use Rattle.history_cleaner.specs.private.Emptying.{ReleasedBelow, generations_in, is_later};
 
 use arrayvec::ArrayVec;

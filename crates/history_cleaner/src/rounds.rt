@@ -2,7 +2,7 @@
 ghost use Rattle.std.specs.Prelude.{◌≡◌};
 ghost use Rattle.drive.specs.Fields.{state_in, store_of};
 ghost use Rattle.drive.specs.Keeping.{KeepsVersions};
-ghost use Rattle.history_cleaner.specs.Emptying.{KeepsObjects};
+ghost use Rattle.version_store.specs.Upkeep.{KeepsObjects};
 ghost use Rattle.history_cleaner.specs.Rounds.{Turns, TriedBelow, IsSwept};
 ghost use Rattle.history_cleaner.specs.declared.rounds.Turn.TheVariants.{Ended};
 

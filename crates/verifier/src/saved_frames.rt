@@ -29,7 +29,7 @@ fn push_saved<J: Naming>(
     ensures refusal { IfErr result (λ e. e ≡ NoMemory) }
     ensures same { drive.new ≡ drive.old }
 {
-    drive.rules();
+    drive.frame_rules();
     rules_of_a_summary();
     summary_is_a_block();
     let word = drive.saved_word(frame);
@@ -59,7 +59,7 @@ pub(crate) fn push_frames<J: Naming>(drive: &mut Drive<J>, out: &mut Vec<u8>) ->
     ensures refusal { IfErr result (λ e. e ≡ NoMemory) }
     ensures same { drive.new ≡ drive.old }
 {
-    drive.rules();
+    drive.frame_rules();
     let mut blocks = [[0; BLOCK_BYTES]; FRAME_BLOCKS];
     for frame in 0..drive.frame_count() {
         push_saved(drive, frame, &mut blocks, out)?;

@@ -15,7 +15,7 @@ returns-clause-saved g c =
     let spans = c.in_ok-spans.spans.items in
     let h = c.header_of-header.result in
     let rules = c.rules.ensures in
-    let shown : Shown d = record { sound = rules.sound; store = rules.store; past = rules.past; unborn = rules.unborn; used = rules.used; count = rules.count } in
+    let shown : Shown d = record { sound = rules.sound; store = rules.store; past = rules.past; unborn = rules.unborn; used = rules.frames.used; count = rules.frames.count } in
     let seen : SpansShown d spans = record {
       alike = c.in_ok-spans.ensures.alike;
       ordered = c.in_ok-spans.ensures.ordered;

@@ -17,7 +17,7 @@ returns-in_default-clause-none c =
 
 pub returns-clause-frames : goal.returns-clause-frames
 returns-clause-frames c =
-    table_held c.args.parts.now.frames c.args.table c.in-Some.read.table c.requires.table (rw c.in-Some.is at c.in_ok-read.ensures.frames) c.rules.ensures.sizes.1 (rw c.in-Some.is at c.in_ok-read.ensures.slots)
+    table_held c.args.parts.now.frames c.args.table c.in-Some.read.table c.requires.table (rw c.in-Some.is at c.in_ok-read.ensures.frames) c.rules.ensures.frames.sizes.1 (rw c.in-Some.is at c.in_ok-read.ensures.slots)
 
 pub returns-clause-rows : goal.returns-clause-rows
 returns-clause-rows c =
