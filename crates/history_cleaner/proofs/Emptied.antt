@@ -1,6 +1,6 @@
 -- Frames that hold nothing are marked and released, one after the other.
-use Rattle.std.proofs.Common.{◌≡◌, ◌⊎◌, ℕ, zero, suc, ◌+◌, ◌<◌, ◌≤◌, Bool, true, false, ltb, cond, Result, Ok, Err, inl, inr, List, [], ◌∷◌, length, Option, refl, sym, ap, subst, ◌∙◌, arith}
-use Rattle.std.specs.Prelude.{OnOk, IfOk, IfErr, slice_set, count_by}
+use Rattle.std.proofs.Common.{◌≡◌, ◌⊎◌, ℕ, zero, suc, ◌+◌, ◌<◌, ◌≤◌, Bool, true, false, cond, Result, Ok, Err, inl, inr, List, [], ◌∷◌, length, Option, refl, sym, ap, subst, ◌∙◌, arith}
+use Rattle.std.specs.Prelude.{MatchResult, OnOk, OnErr, IfOk, IfErr, slice_set, count_by}
 use Rattle.std.specs.List.{range_with_len}
 use Rattle.std.proofs.lemmas.Bool.{cases_eq, false≢true}
 use Rattle.std.proofs.lemmas.List.{get_or-set_same, get_or-set_other, length-set}
@@ -20,7 +20,7 @@ use Rattle.version_store.specs.Store.{StoreFields}
 use Rattle.drive.specs.Fields.{DriveFields, store_of}
 use Rattle.drive.specs.Upkeep.{Marks}
 use Rattle.version_store.specs.Upkeep.{KeepsObjects}
-use Rattle.history_cleaner.specs.Emptying.{AllVacated, has_risen, frames_risen, HasFoundReader, MarkedBelow}
+use Rattle.history_cleaner.specs.Emptying.{AllVacated, HasFoundReader, MarkedBelow}
 use Rattle.history_cleaner.specs.private.Emptying.{ReleasedBelow}
 
 -- ---- frames

@@ -6,8 +6,8 @@ use Rattle.history_cleaner.proofs.frames.release_all.Goals.{then-is_emptied+in_o
 pub loop-frame-preserved : goal.loop-frame-preserved
 loop-frame-preserved g c = elim c.if-is_emptied.branch [
   | then-is_emptied+in_ok-release w ↦
-      release_step c.loop-frame.frame c.loop-frame.released c.if-is_emptied.released c.args.drive.now c.loop-frame.drive c.is_emptied.new.self w.release.new.self c.if-is_emptied.drive c.loop-frame.invariant
-      c.is_emptied.ensures.same w.in_ok-release.ensures.frame.released w.release.ensures.objects w.release.ensures.ledger w.released-is w.drive-is
+      release_step c.loop-frame.frame c.args.drive.now c.loop-frame.drive c.is_emptied.new.self w.release.new.self c.if-is_emptied.drive c.loop-frame.invariant
+      c.is_emptied.ensures.same w.in_ok-release.ensures.frame.released w.release.ensures.objects w.release.ensures.ledger w.drive-is
   | else-is_emptied w ↦
       skip_step c.loop-frame.frame c.args.drive.now c.loop-frame.drive c.is_emptied.new.self c.if-is_emptied.drive c.loop-frame.invariant
       c.is_emptied.ensures.same (sym c.is_emptied.ensures.emptied ∙ w.if-is_emptied.false) w.drive-is
