@@ -1,7 +1,7 @@
 -- Reads, by the inode of the moment.
-use Rattle.std.proofs.Common.{◌≡◌, ℕ, Bool, true, false, cond, inl, Option, Some, None, List, refl, sym, ap, ◌∙◌}
-use Rattle.std.proofs.lemmas.Bool.{le-ltb, true≢false}
-use Rattle.std.specs.Prelude.{nat_lt, not}
+use Rattle.std.proofs.Common.{◌≡◌, ℕ, Bool, true, false, cond, inl, Option, Some, None, List, sym, ap, ◌∙◌}
+use Rattle.std.proofs.lemmas.Bool.{le-ltb}
+use Rattle.std.specs.Prelude.{nat_lt}
 use Rattle.s4_types.specs.Pointer.{Place}
 use Rattle.s4_types.specs.declared.refusals.Refusal.{Refusal}
 use Rattle.s4_types.specs.declared.refusals.Refusal.TheVariants.{NoObject, Future, Expired, Flushed}
@@ -19,14 +19,6 @@ use Rattle.window.specs.Timeline.{Timeline}
 use Rattle.drive.specs.Keeping.{IsKeptDrive}
 use Rattle.drive.specs.Refusing.{or_then}
 use Rattle.drive.specs.Answering.{telling_refusal}
-
-pub alive_not : (b : Bool) → not b ≡ false → b ≡ true
-alive_not true e = refl
-alive_not false e = absurd (true≢false e)
-
-pub dead_not : (b : Bool) → not b ≡ true → b ≡ false
-dead_not true e = absurd (true≢false (sym e))
-dead_not false e = refl
 
 -- ---- which moments are read
 
