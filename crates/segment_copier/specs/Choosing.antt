@@ -1,12 +1,13 @@
 -- Which object the copier moves next, and out of which frame.
 use Rattle.std.specs.Prelude.{◌≡◌, ◌⊎◌, ℕ, ◌+◌, ◌^◌, ◌<◌, ◌≤◌, [], is_some, count_by}
+use Rattle.s4_types.specs.declared.limits.TheConstants.{MOVE_BLOCKS}
 use Rattle.segment_word.specs.Frames.{Sealed}
 use Rattle.segment_word.specs.Layout.{frame_at}
 use Rattle.segment_table.specs.Table.{Table, held_at}
 use Rattle.segment_table.specs.Room.{whole_of, pointers_in}
 use Rattle.version_store.specs.Costs.{room}
 use Rattle.drive.specs.Fields.{DriveFields, store_of}
-use Rattle.segment_copier.specs.declared.choices.TheConstants.{MOVE_BLOCKS, MOST_HELD}
+use Rattle.segment_copier.specs.declared.choices.TheConstants.{MOST_HELD}
 
 -- there is room for any move
 abbrev pub HasRoom : DriveFields → Type 0

@@ -1,24 +1,22 @@
 //! The copier's choice of its next move.
 ghost use Rattle.std.specs.Prelude.{◌≡◌, ◌⊎◌, ◌+◌, ◌<◌, min, nat_lt, nat_le, IfSome, IfNone, IfOk, IfErr};
+ghost use Rattle.s4_types.specs.declared.limits.TheConstants.{MOVE_BLOCKS};
 ghost use Rattle.s4_types.specs.declared.refusals.Refusal.TheVariants.{NoMemory};
 ghost use Rattle.segment_word.specs.Frames.{is_sealed};
 ghost use Rattle.segment_word.specs.Layout.{frame_at};
 ghost use Rattle.version_store.specs.Costs.{room};
 ghost use Rattle.drive.specs.Fields.{store_of};
-ghost use Rattle.segment_copier.specs.declared.choices.TheConstants.{MOVE_BLOCKS, MOST_HELD};
+ghost use Rattle.segment_copier.specs.declared.choices.TheConstants.{MOST_HELD};
 ghost use Rattle.segment_copier.specs.Choosing.{HasRoom, IsSparse, IsFirstFrame, IsLowestObject, NoneIsSparse};
 ghost use Rattle.segment_copier.specs.private.Surveying.{IsSurvey, IsBestBelow};
 
 use crate::candidates::Candidate;
 use drive::Drive;
-use s4_types::limits::{CHAIN_BLOCKS, PAYLOAD_BLOCKS};
+use s4_types::limits::{MOVE_BLOCKS, PAYLOAD_BLOCKS};
 use s4_types::{ObjectId, Ptr, Refusal};
 use segment_table::OverFrames;
 use segment_table::laws::what_is_listed_is_held;
 use segment_word::Naming;
-
-/// Blocks that a move takes at most: the 15 payload blocks of a frame, a checkpoint, and the 47 journal blocks of a full chain.
-pub const MOVE_BLOCKS: usize = PAYLOAD_BLOCKS + 1 + CHAIN_BLOCKS;
 
 /// Held blocks of a frame that a move is made out of, at most: fewer than half of its payload blocks. Chosen.
 pub const MOST_HELD: usize = 7;

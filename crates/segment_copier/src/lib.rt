@@ -16,7 +16,7 @@ pub mod laws;
 mod plans;
 
 pub use candidates::Candidate;
-pub use choices::{MOST_HELD, MOVE_BLOCKS, candidate};
+pub use choices::{MOST_HELD, candidate};
 pub use commits::commit;
 pub use copier::Copier;
 pub use plans::{MovePlan, Moved, plan_move};

@@ -1,6 +1,7 @@
 -- What the segment copier does to a drive that sessions share.
 use Rattle.std.specs.Prelude.{◌≡◌, ◌⊎◌, ◌<◌, Bool, true, false, List, [], ◌∷◌, count_by, Option, None, Some, Result, Ok, Err}
 use Rattle.s4_types.specs.History.{Base}
+use Rattle.s4_types.specs.declared.limits.TheConstants.{MOVE_BLOCKS}
 use Rattle.s4_types.specs.declared.refusals.Refusal.{Refusal}
 use Rattle.s4_types.specs.declared.refusals.Refusal.TheVariants.{NoMemory}
 use Rattle.s4_types.specs.declared.requests.Role.TheVariants.{Client}
@@ -13,7 +14,6 @@ use Rattle.interleaving.specs.Acting.{IsUnplanned, Commits}
 use Rattle.segment_copier.specs.Commits.{CommitsMove}
 use Rattle.segment_copier.specs.Moves.{PlannedMove}
 use Rattle.segment_copier.specs.Choosing.{HasRoom, IsFirstFrame, IsLowestObject, NoneIsSparse}
-use Rattle.segment_copier.specs.declared.choices.TheConstants.{MOVE_BLOCKS}
 use Rattle.segment_copier.specs.declared.candidates.Candidate.{Candidate}
 use Rattle.server.specs.Sharing.{IsFresh}
 use Rattle.server.specs.declared.moving.MoveStep.{MoveStep}
