@@ -1,11 +1,12 @@
 -- A drive has fewer rows than 2^20: each names a block of its own.
-use Rattle.std.proofs.Common.{◌≡◌, ◌⊎◌, inl, inr, ℕ, suc, Bool, true, false, cond, eqb, ◌==◌, ◌&&◌, ◌+◌, ◌*◌, ◌/◌, ◌%◌, ◌<◌, ◌≤◌, ◌^◌, List, [], ◌∷◌, length, Option, Some, None, IsSome, is_some, refl, sym, ap, ◌∙◌, subst, arith}
+use Rattle.std.proofs.Common.{◌≡◌, ◌⊎◌, inl, inr, ℕ, suc, Bool, true, false, cond, eqb, ◌==◌, ◌&&◌, ◌+◌, ◌-◌, ◌*◌, ◌/◌, ◌%◌, ◌<◌, ◌≤◌, ◌^◌, List, [], ◌∷◌, length, Option, Some, None, IsSome, is_some, refl, sym, ap, ◌∙◌, subst, arith}
 use Rattle.std.specs.Prelude.{IfSome, MatchOption, unwrap_or}
 use Rattle.std.specs.List.{AllByRecursion, IsDistinct, list_any}
 use Rattle.std.proofs.lemmas.Bool.{and_parts, or_cases, cases_Bool, cond-false, eqb-true, ne_eqb, false≢true}
 use Rattle.std.proofs.lemmas.Option.{none-some, same_Some}
 use Rattle.std.proofs.lemmas.Map.Steps.{length-le_from_distinct_below}
 use Rattle.s4_types.specs.Pointer.{Place, IsPlace}
+use Rattle.s4_types.specs.declared.limits.TheConstants.{CHAIN_BLOCKS}
 use Rattle.block_log.specs.declared.kinds.BlockKind.{BlockKind}
 use Rattle.block_log.specs.declared.kinds.BlockKind.TheVariants.{Journal, Checkpoint}
 use Rattle.block_log.specs.Log.{Stored, of_kind, seen_as, same_kind}
@@ -57,7 +58,7 @@ headed held o (Some p) is dead =
     elim (some_or_none (view p)) [
       | inl none ↦
           let nothing : chain_entries held o (Some p) ≡ None =
-          ap (λ (b : Option (List ℕ)). ((b >>= journal_of o) >>= λ block. (links_from 46 (journal_in o view) block.previous >>= λ older. Some (linked p block older))) >>= λ links. Some (joined (blocks_of links))) none in
+          ap (λ (b : Option (List ℕ)). ((b >>= journal_of o) >>= λ block. (links_from (CHAIN_BLOCKS - 1) (journal_in o view) block.previous >>= λ older. Some (linked p block older))) >>= λ links. Some (joined (blocks_of links))) none in
           let D : Option (List EntryFields) → Type 0 = λ es. BeginsDead (unwrap_or es []) in
           absurd (subst D nothing dead)
       | inr some ↦ owns held Journal o p some.0 is some.1
