@@ -1,1 +1,4 @@
+pub mod Files
+pub mod Making
+pub mod ReadingPast
 pub mod Verifying

@@ -4,6 +4,7 @@ use Rattle.std.specs.Io.KnownBytes.{Appends}
 use Rattle.image_parts.specs.Image.{image_in}
 use Rattle.verifier.specs.Grammar.{SpellsDrive}
 use Rattle.verifier.specs.Images.{ImageFields, IsImageOf}
+use Rattle.image_commands.specs.Files.{AreKnown}
 
 -- the line of an image's frames, objects, clock, window and floor
 abbrev pub number_line : (frames objects clock window floor : ℕ) → List ℕ
@@ -15,14 +16,15 @@ number_line frames objects clock window floor =
 abbrev pub image_line : ImageFields → List ℕ
 image_line image = number_line (length image.table.drive.frames) (length image.objects) image.clock image.window image.floor
 
--- an image that was verified: some bytes spell a drive, and it is what they tell
-pub record IsVerified (image : ImageFields) : Type 0 where
+-- an image that was read and verified: the bytes, where they are known, spell a drive, and it is what they tell
+pub record IsVerified (known : Option (List ℕ)) (image : ImageFields) : Type 0 where
   pub bytes : List ℕ
+  pub read : AreKnown known bytes
   pub spelled : SpellsDrive bytes (image_in bytes)
   pub told : IsImageOf (image_in bytes) image
 
--- the output has the line of an image that was verified behind it
-pub record TellsImage (output output' : Option (List ℕ)) : Type 0 where
+-- the output has the line of an image that was read and verified behind it
+pub record TellsImage (known : Option (List ℕ)) (output output' : Option (List ℕ)) : Type 0 where
   pub image : ImageFields
-  pub verified : IsVerified image
+  pub verified : IsVerified known image
   pub line : Appends output output' (image_line image)

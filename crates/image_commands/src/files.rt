@@ -1,4 +1,6 @@
 //! The files that the commands read and write.
+ghost use Rattle.std.specs.Prelude.{◌≡◌, ℕ, List, [], Option, None, ⊤, IfOk, OnOk};
+ghost use Rattle.image_commands.specs.Files.{AreKnown};
 
 use std::alloc::Global;
 use std::fs::{self, File, Metadata, OpenOptions};
@@ -23,6 +25,12 @@ const ZEROS: [u8; 4096] = [0; 4096];
 
 /// Files, each found by its path. An error of the kind `OutOfMemory` says that a growth was refused.
 pub trait Files {
+    // The bytes of the file at a path, where they are known.
+    ghost contents: { Self → List ℕ → Option (List ℕ) };
+
+    // Whether a path leads to what was claimed.
+    ghost leads: { Self.Claim → List ℕ → Type 0 };
+
     /// What an opened file is read by.
     type Reader: Read + Send + Drop;
 
@@ -35,14 +43,13 @@ pub trait Files {
     /// A file beside an image, which is to take its place.
     type Beside: Drop;
 
-    /// All bytes of a file.
-    fn read_whole(&self, alloc: Global, path: &str) -> io::Result<Vec<u8>>;
-
     /// Opens a file, to be read from its beginning.
-    fn open(&self, path: &str) -> io::Result<Self::Reader>;
+    fn open(&self, path: &str) -> io::Result<Self::Reader>
+        ensures bytes { IfOk result (λ r. Self.Reader.remaining r ≡ contents self.now path.now) };
 
     /// Makes a file, or empties the one that is there.
-    fn make(&mut self, path: &str) -> io::Result<Self::Writer>;
+    fn make(&mut self, path: &str) -> io::Result<Self::Writer>
+        ensures empty { IfOk result (λ w. AreKnown (Self.Writer.contents w) []) };
 
     /// Whether two paths lead to one file, or will where neither is there: then what is written to the one is what the other has. Never
     /// so of terminals, sockets and other streams that have two ends.
@@ -50,7 +57,8 @@ pub trait Files {
 
     /// Claims the image at a path, or the path where nothing is there: where it is a link, the file that it leads to. An error where
     /// that is no regular file, may not be written, or is claimed by another program.
-    fn claim(&self, alloc: Global, path: &str) -> io::Result<Self::Claim>;
+    fn claim(&self, alloc: Global, path: &str) -> io::Result<Self::Claim>
+        ensures claimed { IfOk result (λ c. leads c path.now) };
 
     /// Makes a file of this length in bytes beside an image, by a name that no file has, with the image's mode and owner.
     fn make_beside(
@@ -71,7 +79,8 @@ pub trait Files {
         claim: Self::Claim,
         beside: Self::Beside,
         bytes: &[u8],
-    ) -> Result<(), NotReplaced>;
+    ) -> Result<(), NotReplaced>
+        ensures replaced { OnOk result ((path : List ℕ) → leads claim path → AreKnown (contents self.new path) bytes.now) };
 }
 
 /// Why an image was not replaced.
@@ -123,9 +132,10 @@ impl Files for HostRuntime {
 
     type Beside = BesideFile;
 
-    fn read_whole(&self, _alloc: Global, path: &str) -> io::Result<Vec<u8>> {
-        fs::read(self, path)
-    }
+    // No clause of the standard library says what a file of the system holds.
+    ghost contents = { λ _ _. None };
+
+    ghost leads = { λ _ _. ⊤ };
 
     fn open(&self, path: &str) -> io::Result<Input> {
         // The system opens no socket by a path, and this one can be.

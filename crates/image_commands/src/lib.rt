@@ -1,9 +1,10 @@
 //! The commands over images that serve no sessions: `new`, `verify` and `at`; and how every command reads an image and writes one.
 //!
-//! The layer above may rely on this: `read_image` gives an image that was verified. `verify_file` writes the line of one, and
-//! `write_object` writes what it read of the drive's past, part by part; what was written has been passed on where they succeed.
-//! The commands work over any `Files`, and the system's are such. What a file holds is known to no proof: that the right bytes come
-//! from files and go to them is tested through the program, and so is the line that a `Fault` prints.
+//! The layer above may rely on this: `read_image` gives the image that a file's bytes spell. `verify_file` writes its line, `write_object`
+//! the bytes of an object at a moment in the drive that begins with it, and `make_file` leaves the image of a new drive in a file; what
+//! was written has been passed on where they succeed. That is proved over any `Files` that say what files hold. The system's files say
+//! nothing of it, since no clause of the standard library does: that they read and write as the trait says is tested through the
+//! program, and so is the line that a `Fault` prints.
 #![tactic(auto)]
 
 mod faults;

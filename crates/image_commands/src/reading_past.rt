@@ -1,5 +1,6 @@
 //! `at`: what an object was at a moment.
-ghost use Rattle.std.specs.Prelude.{◌≡◌, ◌+◌, ◌^◌, ◌<◌, IfOk, Some};
+ghost use Rattle.std.specs.Prelude.{◌≡◌, ◌+◌, ◌^◌, ◌<◌, ◌≤◌, MatchBool, IfOk, OnOk, Some, length};
+ghost use Rattle.std.specs.Io.KnownBytes.{Appends};
 ghost use Rattle.s4_types.specs.History.{Seen};
 ghost use Rattle.s4_types.specs.declared.limits.TheConstants.{READ_BYTES};
 ghost use Rattle.s4_types.specs.declared.replies.Reply.TheVariants.{Data};
@@ -10,6 +11,7 @@ ghost use Rattle.segment_table.specs.Room.{log_of};
 ghost use Rattle.version_store.specs.Store.{fields_of};
 ghost use Rattle.drive.specs.Opened.{base_of};
 ghost use Rattle.drive.specs.Fields.{history_of, state_in};
+ghost use Rattle.image_commands.specs.ReadingPast.{GivesObject, GivesPart, GivesVersion, version_from};
 
 use crate::faults::Fault;
 use crate::files::Files;
@@ -35,6 +37,7 @@ pub fn write_object<'a, T: Threads, F: Files, W: Sink>(
     writer: &mut W,
 ) -> Result<(), Fault<'a>>
     requires writer { W.failures writer.old + 1 < 2 ^ 64 }
+    ensures object { OnOk result (GivesObject (F.contents files.now asked.entry.image.now) asked.entry.object asked.entry.moment (W.passed writer.old) (W.passed writer.new)) }
 {
     let image = match read_image(rt, alloc, files, asked.image) {
         Ok(image) => image,
@@ -56,6 +59,7 @@ fn write_named<'a, J: Naming, W: Sink>(
     requires frames { opened.store.table.drive.table ≡ J.frames }
     requires base { base_of (fields_of log_of opened.store) opened.timeline opened.next ≡ J.base }
     requires writer { W.failures writer.old + 1 < 2 ^ 64 }
+    ensures version { OnOk result (GivesVersion (version_from J.base asked.entry.object asked.entry.moment) (W.passed writer.old) (W.passed writer.new)) }
 {
     let mut drive = opened.named::<J>();
     match drive.session(Role::Client) {
@@ -72,22 +76,41 @@ fn write_parts<'a, J: Naming, W: Sink>(
     writer: &mut W,
 ) -> Result<(), Fault<'a>>
     requires writer { W.failures writer.old + 1 < 2 ^ 64 }
+    ensures version { OnOk result (GivesVersion (version_of (state_in drive.old) asked.entry.object asked.entry.moment) (W.passed writer.old) (W.passed writer.new)) }
 {
     for part in 0..u64::MAX / READ_BYTES {
-        let bytes = match read_part(drive, session, asked, part * READ_BYTES) {
-            Ok(bytes) => bytes,
-            Err(refusal) => return Err(Fault::Refused(refusal)),
-        };
-        match write_out(writer, bytes.as_slice()) {
-            Ok(()) => {}
+        match write_part(drive, session, asked, part * READ_BYTES, writer) {
+            Ok(true) => {}
+            Ok(false) => return Ok(()),
             Err(fault) => return Err(fault),
-        }
-        if (bytes.as_slice().len() as u64) < READ_BYTES {
-            return Ok(());
         }
     }
     // No object is so large.
     Err(Fault::Refused(Refusal::TooLarge))
+}
+
+// Reads a part of the object's bytes at the moment, from an offset on, and writes it. Says whether more may follow.
+fn write_part<'a, J: Naming, W: Sink>(
+    drive: &mut Drive<J>,
+    session: &mut Session<J>,
+    asked: At<'a>,
+    offset: u64,
+    writer: &mut W,
+) -> Result<bool, Fault<'a>>
+    requires writer { W.failures writer.old + 1 < 2 ^ 64 }
+    ensures part { IfOk result (GivesPart (version_of (state_in drive.old) asked.entry.object asked.entry.moment) offset (W.passed writer.old) (W.passed writer.new)) }
+    ensures version { version_of (state_in drive.new) asked.entry.object asked.entry.moment ≡ version_of (state_in drive.old) asked.entry.object asked.entry.moment }
+    ensures failures { OnOk result (W.failures writer.new ≡ W.failures writer.old) }
+{
+    the_state_goes_on_record_by_record();
+    let bytes = match read_part(drive, session, asked, offset) {
+        Ok(bytes) => bytes,
+        Err(refusal) => return Err(Fault::Refused(refusal)),
+    };
+    match write_out(writer, bytes.as_slice()) {
+        Ok(()) => Ok((bytes.as_slice().len() as u64) == READ_BYTES),
+        Err(fault) => Err(fault),
+    }
 }
 
 // The bytes of the object from an offset on, at the moment. The clock stays.

@@ -1,8 +1,10 @@
 //! Drives that are written to files, and `new`.
-ghost use Rattle.std.specs.Prelude.{◌≡◌, ◌+◌, ◌*◌};
+ghost use Rattle.std.specs.Prelude.{◌≡◌, ◌+◌, ◌*◌, ℕ, List, IfOk, OnOk};
 ghost use Rattle.s4_types.specs.Sizes.{IsFrameCount};
 ghost use Rattle.s4_types.specs.declared.limits.TheConstants.{PAYLOAD_BLOCKS, RUNS_IN_ALL};
 ghost use Rattle.s4_model.specs.State.{new_base};
+ghost use Rattle.image_commands.specs.Files.{AreKnown};
+ghost use Rattle.image_commands.specs.Making.{HasNew, IsEmptyStore, SpellsNew};
 
 use crate::faults::{Fault, writing};
 use crate::files::{Files, NotReplaced};
@@ -23,12 +25,13 @@ pub fn make_file<'a, F: Files>(
     asked: New<'a>,
 ) -> Result<(), Fault<'a>>
     requires frames { IsFrameCount asked.frames }
+    ensures image { OnOk result (HasNew asked.entry.frames asked.entry.window (F.contents files.new asked.entry.image.now)) }
 {
     let made = match NewDrive::new(alloc, asked.frames as usize, asked.window) {
         Ok(made) => made,
         Err(refusal) => return Err(Fault::Refused(refusal)),
     };
-    let bytes = match save_new::<Brand>(alloc, made) {
+    let bytes = match save_new::<Brand>(alloc, made, asked) {
         Ok(bytes) => bytes,
         Err(refusal) => return Err(Fault::Refused(refusal)),
     };
@@ -43,10 +46,13 @@ pub fn make_file<'a, F: Files>(
 }
 
 // The image of a drive that was just made.
-fn save_new<J: Naming>(alloc: Global, made: NewDrive) -> Result<Vec<u8>, Refusal>
+fn save_new<J: Naming>(alloc: Global, made: NewDrive, asked: New<'_>) -> Result<Vec<u8>, Refusal>
     requires frames { made.store.table.drive.table ≡ J.frames }
     requires accepts { made.accepts ≡ J.accepts }
     requires base { new_base made.window ≡ J.base }
+    requires window { made.window ≡ asked.window }
+    requires store { IsEmptyStore asked.frames made.store }
+    ensures image { IfOk result (λ bytes. SpellsNew asked.entry.frames asked.entry.window bytes.items) }
 {
     let mut drive = made.named::<J>();
     save(alloc, &mut drive)
@@ -55,9 +61,9 @@ fn save_new<J: Naming>(alloc: Global, made: NewDrive) -> Result<Vec<u8>, Refusal
 /// An image's path that is claimed, and the file beside it that takes its place.
 #[derive(Drop)]
 pub struct Place<'a, F: Files> {
-    path: &'a str,
-    claim: F::Claim,
-    beside: F::Beside,
+    pub path: &'a str,
+    pub claim: F::Claim,
+    pub beside: F::Beside,
 }
 
 impl<'a, F: Files> Place<'a, F> {
@@ -68,7 +74,11 @@ impl<'a, F: Files> Place<'a, F> {
         path: &'a str,
         claim: F::Claim,
         length: usize,
-    ) -> Result<Self, Fault<'a>> {
+    ) -> Result<Self, Fault<'a>>
+        requires claimed { F.leads claim path.now }
+        ensures path { IfOk result (λ place. place.path.now ≡ path.now) }
+        ensures claimed { IfOk result (λ place. F.leads place.claim place.path.now) }
+    {
         match files.make_beside(alloc, &claim, length) {
             Ok(beside) => Ok(Place {
                 path,
@@ -85,7 +95,10 @@ impl<'a, F: Files> Place<'a, F> {
     }
 
     /// Replaces the image by these bytes. Where that fails and they are all in the file beside it, the fault names that.
-    pub fn put(self, files: &mut F, bytes: &[u8]) -> Result<(), Fault<'a>> {
+    pub fn put(self, files: &mut F, bytes: &[u8]) -> Result<(), Fault<'a>>
+        requires claimed { F.leads self.claim self.path.now }
+        ensures image { OnOk result (AreKnown (F.contents files.new self.entry.path.now) bytes.now) }
+    {
         let Place {
             path,
             claim,

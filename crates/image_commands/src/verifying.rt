@@ -1,6 +1,7 @@
 //! `verify`, and how each command reads an image.
 ghost use Rattle.std.specs.Prelude.{◌≡◌, ◌+◌, ◌^◌, ◌<◌, IfOk, OnOk, string_bytes};
 ghost use Rattle.std.specs.Io.KnownBytes.{Appends};
+ghost use Rattle.image_commands.specs.Files.{AreKnown};
 ghost use Rattle.image_commands.specs.Verifying.{number_line, image_line, IsVerified, TellsImage};
 
 use crate::faults::{Fault, reading};
@@ -9,6 +10,7 @@ use s4_types::{Moment, Refusal};
 use s4d_command::Verify;
 use serving::Sink;
 use std::alloc::{AllocError, Global};
+use std::io::{self, Read};
 use std::thread::Threads;
 use verifier::{Image, verify};
 
@@ -19,9 +21,9 @@ pub fn read_image<'a, T: Threads, F: Files>(
     files: &F,
     path: &'a str,
 ) -> Result<Image, Fault<'a>>
-    ensures verified { IfOk result IsVerified }
+    ensures verified { IfOk result (IsVerified (F.contents files.now path.now)) }
 {
-    let bytes = match files.read_whole(alloc, path) {
+    let bytes = match read_whole(alloc, files, path) {
         Ok(bytes) => bytes,
         Err(error) => return Err(reading(error.kind(), path)),
     };
@@ -29,6 +31,16 @@ pub fn read_image<'a, T: Threads, F: Files>(
         Ok(image) => Ok(image),
         Err(refusal) => Err(Fault::Refused(refusal)),
     }
+}
+
+// All bytes of a file.
+fn read_whole<F: Files>(alloc: Global, files: &F, path: &str) -> io::Result<Vec<u8>>
+    ensures bytes { IfOk result (λ bytes. AreKnown (F.contents files.now path.now) bytes.items) }
+{
+    let mut reader = files.open(path)?;
+    let mut bytes = Vec::new(alloc);
+    reader.read_to_end(&mut bytes)?;
+    Ok(bytes)
 }
 
 /// Writes the line of an image's numbers, where the file has one.
@@ -40,7 +52,7 @@ pub fn verify_file<'a, T: Threads, F: Files, W: Sink>(
     writer: &mut W,
 ) -> Result<(), Fault<'a>>
     requires writer { W.failures writer.old + 1 < 2 ^ 64 }
-    ensures line { OnOk result (TellsImage (W.passed writer.old) (W.passed writer.new)) }
+    ensures line { OnOk result (TellsImage (F.contents files.now asked.entry.image.now) (W.passed writer.old) (W.passed writer.new)) }
 {
     let image = match read_image(rt, alloc, files, asked.image) {
         Ok(image) => image,

@@ -1,0 +1,22 @@
+use Rattle.segment_table.specs.Room.{log_of}
+use Rattle.version_store.specs.Store.{fields_of}
+use Rattle.drive.specs.Opened.{base_of}
+use Rattle.image_parts.specs.Image.{image_in}
+use Rattle.image_commands.proofs.Parts.{for_ok}
+use Rattle.image_commands.proofs.reading_past.write_object.Goals as goal
+
+pub returns-in-Ok-open : goal.returns-in-Ok-open
+returns-in-Ok-open g c =
+    let opened = c.in-Ok-open.opened in
+    let verified = c.in-Ok.ensures.verified in
+    record {
+      object = for_ok c.write_named.result
+          (λ gives. record {
+            image = c.in-Ok.image;
+            verified = verified;
+            base = base_of (fields_of log_of opened.store) opened.timeline opened.next;
+            told = c.in-Ok-open.ensures.base verified.bytes (image_in verified.bytes) verified.spelled verified.told;
+            gives = gives;
+          })
+          c.write_named.ensures.version;
+    }
