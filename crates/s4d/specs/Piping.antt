@@ -1,13 +1,9 @@
 -- What `pipe` does: a session of a new drive.
-use Rattle.std.specs.Prelude.{◌≡◌, ℕ, List, [], Option, None}
+use Rattle.std.specs.Prelude.{◌≡◌, ℕ, List, [], Option}
 use Rattle.s4_types.specs.declared.requests.Request.{Request}
 use Rattle.s4_types.specs.declared.replies.Reply.{Reply}
 use Rattle.s4_model.specs.State.{new_history}
 use Rattle.s4_model.specs.Step.{Step, judged}
-use Rattle.object_map.specs.Rows.{row_of}
-use Rattle.segment_table.specs.Room.{log_of, new_places}
-use Rattle.segment_table.specs.Table.{Table}
-use Rattle.version_store.specs.Store.{StoreOf, fields_of, IsStore}
 use Rattle.drive.specs.Fields.{DriveFields, SessionFields, history_of, state_in, store_of}
 use Rattle.drive.specs.Refusing.{refusal_of, RefusesBy}
 use Rattle.drive.specs.Answering.{Leaves, told_after}
@@ -16,6 +12,7 @@ use Rattle.serving.specs.Session.{Serves}
 use Rattle.serving.specs.declared.clock.Ticking.{Ticking}
 use Rattle.serving.specs.declared.ends.ServeEnd.{ServeEnd}
 use Rattle.s4d_command.specs.declared.Pipe.{Pipe}
+use Rattle.image_commands.specs.Making.{IsEmptyStore}
 
 -- a session with a drive of its own
 pub record Attended : Type 0 where
@@ -30,13 +27,6 @@ pub record Steps (old : Attended) (request : Request) (now : ℕ) (reply : Reply
   pub refused : RefusesBy (refusal_of (store_of old.drive) (judged (history_of old.drive) request now) old.session.role request now) new.drive request reply
   pub stored : Leaves (store_of old.drive) (state_in old.drive) request now reply (store_of new.drive)
   pub session : new.session ≡ record old.session { told = told_after reply new.drive.ledger old.session.told }
-
--- An empty store over a table of so many frames: nothing is held, no object has a row, and nothing was ever changed.
-pub record IsEmptyStore (frames : ℕ) (store : StoreOf Table) : Type 0 where
-  pub log : log_of store.table ≡ record { held = λ p. None; ahead = new_places frames; spent = 0 }
-  pub empty : (o : ℕ) → row_of store.rows o ≡ None
-  pub latest : store.latest ≡ 0
-  pub stands : IsStore (fields_of log_of store)
 
 -- One session of a new drive with an empty store, with a clock that starts at 0, reads the input and writes the output, and
 -- comes to the end.

@@ -2,16 +2,16 @@
 //!
 //! `perform` does what a line of words asks for, over any files, reader and writers, and `main` calls it with the
 //! system's files and the standard streams, on a thread whose stack is had before anything is read. What the session of `pipe`
-//! reads, answers and writes is proved, and what the status says of it. What a file holds is known to no proof. Of the other
-//! commands it is proved what line `verify` writes of an image that was verified, that each part that `at` writes was read of the
-//! drive's past, that each session of `run` was attended, and that what it saves is a drive that began with what was opened. That
-//! the right bytes come from files and go to them is tested, and so are the texts on standard error.
+//! reads, answers and writes is proved, and what the status says of it. So is, over any files that say what they hold, that `verify`
+//! writes the line of the image in its file and `at` what that has of an object, that `new` leaves the image of a new drive, and that
+//! `run` attends each session of a drive that begins with its image and leaves there what such a drive is saved as. That the system's
+//! files read and write as such files do is tested, and so are the texts on standard error.
 #![tactic(auto)]
 
 ghost use Rattle.std.specs.Prelude.{◌≡◌, ◌≢◌, ◌+◌, ◌^◌, ◌<◌, ◌≤◌, ℕ, List, Option, map};
 ghost use Rattle.std.specs.Process.{exit_status};
 ghost use Rattle.std.specs.declared.io.ErrorKind.TheVariants.{OutOfMemory};
-ghost use Rattle.s4d.specs.Performing.{IsDone, IsUsage};
+ghost use Rattle.s4d.specs.Performing.{IsDone, IsUsage, unknown};
 
 mod performing;
 mod piping;
@@ -83,7 +83,7 @@ fn exit_of<
     requires writer { W.failures writer + 1 < 2 ^ 64 }
     ensures status { exit_status result ≤ 2 }
     ensures done { exit_status result ≡ 0 → (input output : Option (List ℕ))
-        × IsDone (map S.text words.items) (R.remaining reader) (W.passed writer) input output }
+        × IsDone (map S.text words.items) unknown unknown (R.remaining reader) (W.passed writer) input output }
     ensures usage { exit_status result ≡ 2 → IsUsage (map S.text words.items) }
 {
     match perform_apart(threads, *rt, words, reader, writer, rt.stderr()) {

@@ -1,13 +1,17 @@
 //! What a line of words asks for, and the status of the program.
-ghost use Rattle.std.specs.Prelude.{◌≡◌, ◌+◌, ◌^◌, ◌<◌, ◌≤◌, map, Some, IfSome};
+ghost use Rattle.std.specs.Prelude.{◌≡◌, ◌+◌, ◌^◌, ◌<◌, ◌≤◌, map, vec_len};
 ghost use Rattle.s4_types.specs.Sizes.{IsFrameCount};
 ghost use Rattle.s4d.specs.Performing.{IsDone, IsUsage};
+ghost use Rattle.image_commands.specs.Making.{HasNew};
+ghost use Rattle.image_commands.specs.ReadingPast.{GivesObject};
+ghost use Rattle.image_commands.specs.Verifying.{TellsImage};
 ghost use Rattle.s4d.specs.Piping.{Pipes};
+ghost use Rattle.s4d.specs.Running.{RunsImage};
 
 use crate::piping::serve_pipe;
 use crate::running::run_file;
-use image_commands::{Fault, Files, make_file, verify_file, write_object};
-use s4d_command::{At, Command, CommandError, New, Pipe, Verify, command_of};
+use image_commands::{Files, make_file, verify_file, write_object};
+use s4d_command::{At, Command, CommandError, New, Pipe, Run, Verify, command_of};
 use serving::{ServeEnd, Sink, Source};
 use std::alloc::Global;
 use std::convert::AsStr;
@@ -43,6 +47,7 @@ pub fn perform<T: Threads + Wait + Clock + Sync, F: Files, S: AsStr, R: Source, 
     requires writer { W.failures writer.old + 1 < 2 ^ 64 }
     ensures status { result ≤ 2 }
     ensures done { result ≡ 0 → IsDone (map S.text words.now)
+        (F.contents files.old) (F.contents files.new)
         (R.remaining reader.old) (W.passed writer.old)
         (R.remaining reader.new) (W.passed writer.new) }
     ensures usage { result ≡ 2 → IsUsage (map S.text words.now) }
@@ -52,7 +57,7 @@ pub fn perform<T: Threads + Wait + Clock + Sync, F: Files, S: AsStr, R: Source, 
         Ok(Command::New(new)) => perform_new(alloc, files, new, errors),
         Ok(Command::Verify(asked)) => perform_verify(rt, alloc, files, asked, writer, errors),
         Ok(Command::At(asked)) => perform_at(rt, alloc, files, asked, writer, errors),
-        Ok(Command::Run(run)) => end_run(run_file(rt, alloc, files, run, errors), errors),
+        Ok(Command::Run(run)) => perform_run(rt, alloc, files, run, errors),
         Err(CommandError::NoMemory) => fail(errors, CommandError::NoMemory),
         Err(CommandError::Usage) => refuse(errors),
     }
@@ -90,6 +95,7 @@ fn perform_new<'a, F: Files, E: Write>(
 ) -> u8
     requires frames { IsFrameCount new.frames }
     ensures status { result ≤ 1 }
+    ensures done { result ≡ 0 → HasNew new.entry.frames new.entry.window (F.contents files.new new.entry.image.now) }
 {
     match make_file(alloc, files, new) {
         Ok(()) => DONE,
@@ -108,6 +114,7 @@ fn perform_verify<'a, T: Threads, F: Files, W: Sink, E: Write>(
 ) -> u8
     requires writer { W.failures writer.old + 1 < 2 ^ 64 }
     ensures status { result ≤ 1 }
+    ensures done { result ≡ 0 → TellsImage (F.contents files.now asked.entry.image.now) (W.passed writer.old) (W.passed writer.new) }
 {
     match verify_file(rt, alloc, files, asked, writer) {
         Ok(()) => DONE,
@@ -126,6 +133,7 @@ fn perform_at<'a, T: Threads, F: Files, W: Sink, E: Write>(
 ) -> u8
     requires writer { W.failures writer.old + 1 < 2 ^ 64 }
     ensures status { result ≤ 1 }
+    ensures done { result ≡ 0 → GivesObject (F.contents files.now asked.entry.image.now) asked.entry.object asked.entry.moment (W.passed writer.old) (W.passed writer.new) }
 {
     match write_object(rt, alloc, files, asked, writer) {
         Ok(()) => DONE,
@@ -133,11 +141,19 @@ fn perform_at<'a, T: Threads, F: Files, W: Sink, E: Write>(
     }
 }
 
-// The status of `run`: done only where each session came to the end of its input.
-fn end_run<E: Write>(ended: Result<bool, Fault<'_>>, errors: &mut E) -> u8
+// Serves sessions over an image. Done only where each session came to the end of its input.
+fn perform_run<'a, T: Threads + Wait + Clock + Sync, F: Files, E: Write>(
+    rt: &T,
+    alloc: Global,
+    files: &mut F,
+    run: Run<'a>,
+    errors: &mut E,
+) -> u8
+    requires sessions { vec_len run.sessions ≤ 16 }
     ensures status { result ≤ 1 }
+    ensures done { result ≡ 0 → RunsImage (F.contents files.old run.entry.image.now) (F.contents files.new run.entry.image.now) }
 {
-    match ended {
+    match run_file(rt, alloc, files, run, errors) {
         Ok(true) => DONE,
         Ok(false) => FAILED,
         Err(fault) => fail(errors, fault),

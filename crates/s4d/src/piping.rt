@@ -4,7 +4,8 @@ ghost use Rattle.serving.specs.Session.{reading_failures, writing_failures};
 ghost use Rattle.s4_types.specs.Sizes.{IsFrameCount};
 ghost use Rattle.s4_types.specs.declared.refusals.Refusal.TheVariants.{NoMemory, Busy};
 ghost use Rattle.s4_model.specs.State.{new_base};
-ghost use Rattle.s4d.specs.Piping.{IsEmptyStore, Pipes};
+ghost use Rattle.image_commands.specs.Making.{IsEmptyStore};
+ghost use Rattle.s4d.specs.Piping.{Pipes};
 
 use drive::{Drive, NewDrive, Session};
 use s4_types::{Moment, Refusal, Reply, Request, Role};

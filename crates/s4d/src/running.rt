@@ -3,10 +3,9 @@ ghost use Rattle.std.specs.Prelude.{◌≡◌, ◌≢◌, ℕ, ◌+◌, ◌^◌,
 ghost use Rattle.segment_table.specs.Room.{log_of};
 ghost use Rattle.version_store.specs.Store.{fields_of};
 ghost use Rattle.drive.specs.Opened.{base_of};
-ghost use Rattle.drive.specs.Fields.{history_of};
-ghost use Rattle.server.specs.Attending.{IsAttended, IsSettled};
+ghost use Rattle.server.specs.Attending.{IsAttended};
 ghost use Rattle.verifier.specs.Saved.{SpellsSaved};
-ghost use Rattle.s4d.specs.Running.{LeavesDrive};
+ghost use Rattle.s4d.specs.Running.{IsSavedFrom, KeepsSaved, RunsImage};
 
 use drive::{Drive, OpenedDrive};
 use image_commands::{Fault, Files, Place, longest_image, read_image, reading, writing};
@@ -38,6 +37,18 @@ struct Manner {
     upkeep: bool,
 }
 
+/// A drive that was just opened from an image, and what is known before its sessions run.
+#[derive(Drop)]
+struct Begun<'a, F: Files> {
+    /// The image's path.
+    path: &'a str,
+    claim: F::Claim,
+    /// How many bytes the image of what the sessions leave has at most.
+    length: usize,
+    manner: Manner,
+    opened: OpenedDrive,
+}
+
 /// Serves the sessions of a drive that an image is read from, and writes its image anew. Says whether each session ended at the
 /// end of its input; each other one has a line on `errors`.
 ///
@@ -52,6 +63,7 @@ pub fn run_file<'a, T: Threads + Wait + Clock + Sync, F: Files, E: Write>(
     errors: &mut E,
 ) -> Result<bool, Fault<'a>>
     requires sessions { vec_len asked.sessions ≤ 16 }
+    ensures image { IfOk result (λ ended. RunsImage (F.contents files.old asked.entry.image.now) (F.contents files.new asked.entry.image.now)) }
 {
     // The claim comes first, so that nobody replaces what is read; what can't be read is the first fault all the same.
     let claim = files.claim(alloc, asked.image);
@@ -69,43 +81,27 @@ pub fn run_file<'a, T: Threads + Wait + Clock + Sync, F: Files, E: Write>(
         tick: asked.tick,
         upkeep: asked.upkeep,
     };
-    let opened = match open(alloc, image) {
-        Ok(opened) => opened,
-        Err(refusal) => return Err(Fault::Refused(refusal)),
-    };
-    match are_apart(files, asked.image, asked.sessions.as_slice()) {
-        Ok(()) => {}
-        Err(fault) => return Err(fault),
-    }
-    match Place::beside(alloc, files, asked.image, claim, length) {
-        Ok(place) => run_beside::<Brand, T, F, E>(
-            rt,
-            alloc,
-            files,
-            place,
-            opened,
-            manner,
-            asked.sessions.as_slice(),
-            errors,
-        ),
-        Err(fault) => Err(fault),
+    match open(alloc, image) {
+        Ok(opened) => {
+            let begun = Begun {
+                path: asked.image,
+                claim,
+                length,
+                manner,
+                opened,
+            };
+            run_begun(rt, alloc, files, begun, asked.sessions.as_slice(), errors)
+        }
+        Err(refusal) => Err(Fault::Refused(refusal)),
     }
 }
 
 // Serves the sessions of a drive that was just opened, and puts its image in its place.
-fn run_beside<
-    'a,
-    J: Naming + Send + Sync,
-    T: Threads + Wait + Clock + Sync,
-    F: Files,
-    E: Write,
->(
+fn run_begun<'a, T: Threads + Wait + Clock + Sync, F: Files, E: Write>(
     rt: &T,
     alloc: Global,
     files: &mut F,
-    place: Place<'a, F>,
-    opened: OpenedDrive,
-    manner: Manner,
+    begun: Begun<'a, F>,
     sessions: &[RunSession<'a>],
     errors: &mut E,
 ) -> Result<bool, Fault<'a>>
@@ -113,8 +109,25 @@ fn run_beside<
     requires frames { opened.store.table.drive.table ≡ J.frames }
     requires base { base_of (fields_of log_of opened.store) opened.timeline opened.next ≡ J.base }
     requires sessions { length sessions.now ≤ 16 }
+    requires claimed { F.leads begun.claim begun.path.now }
+    ensures image { IfOk result (λ ended. KeepsSaved (base_of (fields_of log_of begun.entry.opened.store) begun.entry.opened.timeline begun.entry.opened.next) (F.contents files.new begun.entry.path.now)) }
 {
-    let clients = match clients_of::<J, F>(alloc, files, sessions) {
+    let Begun {
+        path,
+        claim,
+        length,
+        manner,
+        opened,
+    } = begun;
+    match are_apart(files, path, sessions) {
+        Ok(()) => {}
+        Err(fault) => return Err(fault),
+    }
+    let place = match Place::beside(alloc, files, path, claim, length) {
+        Ok(place) => place,
+        Err(fault) => return Err(fault),
+    };
+    let clients = match clients_of(alloc, files, sessions) {
         Ok(clients) => clients,
         Err(fault) => {
             place.leave(files);
@@ -296,12 +309,41 @@ fn serve_named<
         (S.remaining (slice_index_or clients.items i d).reader) (W.passed (slice_index_or clients.items i d).writer)
         (S.remaining (slice_index_or result.0.items i d).reader) (W.passed (slice_index_or result.0.items i d).writer) }
 {
-    let drive = Mutex::new(opened.named::<J>());
-    let mut served = serve_all(rt, alloc, &drive, manner, clients);
-    let mut drive = drive.into_inner();
+    let (served, drive, saved) = serve_and_save(rt, alloc, opened.named::<J>(), manner, clients);
     drive.rules();
-    settle(&mut drive, served.as_mut_slice());
-    (served, drive)
+    (served, saved)
+}
+
+// Serves the sessions of a drive, and then saves it. Gives the drive that they leave, and what that is saved as.
+fn serve_and_save<
+    J: Naming + Send + Sync,
+    T: Threads + Wait + Clock + Sync,
+    S: Source + Send + Drop,
+    W: Sink + Send + Drop,
+>(
+    rt: &T,
+    alloc: Global,
+    drive: Drive<J>,
+    manner: Manner,
+    clients: Vec<Client<S, W>>,
+) -> (Vec<Client<S, W>>, Drive<J>, Result<Vec<u8>, Refusal>)
+    requires count { vec_len clients ≤ 16 }
+    requires readers { All (λ c. S.failures c.reader + 1 < 2 ^ 64) clients.items }
+    requires writers { All (λ c. W.failures c.writer + 1 < 2 ^ 64) clients.items }
+    ensures count { vec_len result.0 ≡ vec_len clients }
+    // Each session was answered by steps of the shared drive, or the drive had no seat for it.
+    ensures attended { (i : ℕ) (d : _) → i < vec_len clients
+        → IsAttended J.base (record { start = manner.start; tick = manner.tick }) (slice_index_or clients.items i d).role (slice_index_or result.0.items i d).outcome
+        (S.remaining (slice_index_or clients.items i d).reader) (W.passed (slice_index_or clients.items i d).writer)
+        (S.remaining (slice_index_or result.0.items i d).reader) (W.passed (slice_index_or result.0.items i d).writer) }
+    // What is saved is the drive as the sessions left it.
+    ensures saved { IfOk result.2 (λ bytes. SpellsSaved result.1 bytes.items) }
+{
+    let drive = Mutex::new(drive);
+    let served = serve_all(rt, alloc, &drive, manner, clients);
+    let mut drive = drive.into_inner();
+    let saved = save(alloc, &mut drive);
+    (served, drive, saved)
 }
 
 // Serves the sessions, with upkeep or without it.

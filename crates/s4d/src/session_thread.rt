@@ -1,6 +1,6 @@
 //! What the program's line asks for, on a thread of its own, so that its stack is had before anything is read.
 ghost use Rattle.std.specs.Prelude.{◌≡◌, ◌+◌, ◌^◌, ◌<◌, ◌≤◌, map, IfOk};
-ghost use Rattle.s4d.specs.Performing.{IsDone, IsUsage};
+ghost use Rattle.s4d.specs.Performing.{IsDone, IsUsage, unknown};
 
 use crate::performing::perform;
 use serving::{Sink, Source};
@@ -34,7 +34,7 @@ struct Begun<S, R, W> {
 
 impl<S: AsStr, R: Source, W: Sink> Promise<Ran<R, W>> for Begun<S, R, W> {
     ghost kept_by = { λ begun run. (run.status ≤ 2)
-        × (run.status ≡ 0 → IsDone (map S.text begun.words.value.items)
+        × (run.status ≡ 0 → IsDone (map S.text begun.words.value.items) unknown unknown
         (R.remaining begun.reader.value) (W.passed begun.writer.value)
         (R.remaining run.reader) (W.passed run.writer))
         × (run.status ≡ 2 → IsUsage (map S.text begun.words.value.items)) };
@@ -60,7 +60,7 @@ pub fn perform_apart<
     requires reader { R.failures reader + 1 < 2 ^ 64 }
     requires writer { W.failures writer + 1 < 2 ^ 64 }
     ensures status { IfOk result (λ run. run.status ≤ 2) }
-    ensures done { IfOk result (λ run. run.status ≡ 0 → IsDone (map S.text words.items)
+    ensures done { IfOk result (λ run. run.status ≡ 0 → IsDone (map S.text words.items) unknown unknown
         (R.remaining reader) (W.passed writer)
         (R.remaining run.reader) (W.passed run.writer)) }
     ensures usage { IfOk result (λ run. run.status ≡ 2 → IsUsage (map S.text words.items)) }
@@ -94,7 +94,7 @@ fn run<
     requires reader { R.failures reader + 1 < 2 ^ 64 }
     requires writer { W.failures writer + 1 < 2 ^ 64 }
     ensures status { result.status ≤ 2 }
-    ensures done { result.status ≡ 0 → IsDone (map S.text words.items)
+    ensures done { result.status ≡ 0 → IsDone (map S.text words.items) unknown unknown
         (R.remaining reader) (W.passed writer)
         (R.remaining result.reader) (W.passed result.writer) }
     ensures usage { result.status ≡ 2 → IsUsage (map S.text words.items) }

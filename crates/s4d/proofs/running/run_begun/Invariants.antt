@@ -1,7 +1,7 @@
 use Rattle.segment_table.specs.Room.{log_of}
 use Rattle.version_store.specs.Store.{fields_of}
 use Rattle.drive.specs.Opened.{base_of}
-use Rattle.s4d.proofs.running.run_beside.Given as goal
+use Rattle.s4d.proofs.running.run_begun.Given as goal
 
 -- the drive that was opened
 abbrev pub ghosts-serve_named : goal.ghosts-serve_named
