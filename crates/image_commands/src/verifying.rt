@@ -1,18 +1,22 @@
 //! `verify`, and how each command reads an image.
-ghost use Rattle.std.specs.Prelude.{◌≡◌, ◌+◌, ◌^◌, ◌<◌, IfOk, OnOk, string_bytes};
+ghost use Rattle.std.specs.Prelude.{◌≡◌, ◌+◌, ◌^◌, ◌<◌, ◌++◌, IfOk, IfSome, OnOk, string_bytes};
 ghost use Rattle.std.specs.Io.KnownBytes.{Appends};
 ghost use Rattle.image_commands.specs.Files.{AreKnown};
 ghost use Rattle.image_commands.specs.Verifying.{number_line, image_line, IsVerified, TellsImage};
 
 use crate::faults::{Fault, reading};
 use crate::files::Files;
-use s4_types::{Moment, Refusal};
+use image_parts::split_parts;
+use s4_types::{Cause, Moment, Refusal};
 use s4d_command::Verify;
 use serving::Sink;
 use std::alloc::{AllocError, Global};
 use std::io::{self, Read};
 use std::thread::Threads;
 use verifier::{Image, verify};
+
+/// How much of a file is looked at first: as many bytes as a header and a digest have, and fewer than any image has.
+const FRONT_BYTES: usize = 544;
 
 /// The image in a file, which was verified.
 pub fn read_image<'a, T: Threads, F: Files>(
@@ -25,7 +29,7 @@ pub fn read_image<'a, T: Threads, F: Files>(
 {
     let bytes = match read_whole(alloc, files, path) {
         Ok(bytes) => bytes,
-        Err(error) => return Err(reading(error.kind(), path)),
+        Err(fault) => return Err(fault),
     };
     match verify(rt, alloc, bytes.as_slice()) {
         Ok(image) => Ok(image),
@@ -33,12 +37,39 @@ pub fn read_image<'a, T: Threads, F: Files>(
     }
 }
 
-// All bytes of a file.
-fn read_whole<F: Files>(alloc: Global, files: &F, path: &str) -> io::Result<Vec<u8>>
+// All bytes of a file. Where its front is no image's the rest isn't read, since the file may be long.
+#[tactic(auto, using(crate::proofs::Fronts::front_and_rest))]
+fn read_whole<'a, F: Files>(alloc: Global, files: &F, path: &'a str) -> Result<Vec<u8>, Fault<'a>>
     ensures bytes { IfOk result (λ bytes. AreKnown (F.contents files.now path.now) bytes.items) }
 {
-    let mut reader = files.open(path)?;
+    let mut reader = match files.open(path) {
+        Ok(reader) => reader,
+        Err(error) => return Err(reading(error.kind(), path)),
+    };
+    let mut front = [0; FRONT_BYTES];
+    match reader.read_exact(&mut front) {
+        Ok(()) => {}
+        Err(error) if error.kind() == io::ErrorKind::UnexpectedEof => {
+            return Err(Fault::Refused(Refusal::Damaged(Cause::Length)));
+        }
+        Err(error) => return Err(reading(error.kind(), path)),
+    }
+    // A front alone is too short for its header's parts.
+    if let Err(Cause::Header) = split_parts(&front) {
+        return Err(Fault::Refused(Refusal::Damaged(Cause::Header)));
+    }
+    match read_behind(alloc, &front, &mut reader) {
+        Ok(bytes) => Ok(bytes),
+        Err(error) => Err(reading(error.kind(), path)),
+    }
+}
+
+// These bytes, and behind them all that a reader has left.
+fn read_behind<R: Read>(alloc: Global, front: &[u8], reader: &mut R) -> io::Result<Vec<u8>>
+    ensures bytes { IfOk result (λ bytes. IfSome (R.remaining reader.old) (λ rest. bytes.items ≡ front.now ++ rest)) }
+{
     let mut bytes = Vec::new(alloc);
+    bytes.extend_from_slice(front)?;
     reader.read_to_end(&mut bytes)?;
     Ok(bytes)
 }

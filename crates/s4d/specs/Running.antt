@@ -9,11 +9,18 @@ use Rattle.verifier.specs.Saved.{SpellsSaved}
 use Rattle.image_commands.specs.Files.{AreKnown}
 use Rattle.image_commands.specs.Verifying.{IsVerified}
 
+-- bytes that a drive is saved as whose history began with a base
+pub record IsSavedFrom (base : Base) (bytes : List ℕ) : Type 0 where
+  pub drive : DriveFields
+  pub begins : (history_of drive).base ≡ base
+  pub saved : SpellsSaved drive bytes
+
 -- A drive whose history begins with a base is left. This holds of what became of its sessions, and this of what it is saved as.
 pub record LeavesDrive (base : Base) (sessions saved : DriveFields → Type 0) : Type 0 where
   pub drive : DriveFields
   pub begins : (history_of drive).base ≡ base
-  pub saved : SpellsSaved drive bytes
+  pub settled : sessions drive
+  pub spelled : saved drive
 
 -- what is known of a file is what a drive is saved as whose history began with a base
 pub record KeepsSaved (base : Base) (known : Option (List ℕ)) : Type 0 where

@@ -3,9 +3,9 @@ ghost use Rattle.std.specs.Prelude.{◌≡◌, ◌≢◌, ℕ, ◌+◌, ◌^◌,
 ghost use Rattle.segment_table.specs.Room.{log_of};
 ghost use Rattle.version_store.specs.Store.{fields_of};
 ghost use Rattle.drive.specs.Opened.{base_of};
-ghost use Rattle.server.specs.Attending.{IsAttended};
+ghost use Rattle.server.specs.Attending.{IsAttended, IsSettled};
 ghost use Rattle.verifier.specs.Saved.{SpellsSaved};
-ghost use Rattle.s4d.specs.Running.{IsSavedFrom, KeepsSaved, RunsImage};
+ghost use Rattle.s4d.specs.Running.{IsSavedFrom, KeepsSaved, LeavesDrive, RunsImage};
 
 use drive::{Drive, OpenedDrive};
 use image_commands::{Fault, Files, Place, longest_image, read_image, reading, writing};
@@ -90,14 +90,27 @@ pub fn run_file<'a, T: Threads + Wait + Clock + Sync, F: Files, E: Write>(
                 manner,
                 opened,
             };
-            run_begun(rt, alloc, files, begun, asked.sessions.as_slice(), errors)
+            run_begun::<Brand, T, F, E>(
+                rt,
+                alloc,
+                files,
+                begun,
+                asked.sessions.as_slice(),
+                errors,
+            )
         }
         Err(refusal) => Err(Fault::Refused(refusal)),
     }
 }
 
 // Serves the sessions of a drive that was just opened, and puts its image in its place.
-fn run_begun<'a, T: Threads + Wait + Clock + Sync, F: Files, E: Write>(
+fn run_begun<
+    'a,
+    J: Naming + Send + Sync,
+    T: Threads + Wait + Clock + Sync,
+    F: Files,
+    E: Write,
+>(
     rt: &T,
     alloc: Global,
     files: &mut F,
@@ -105,9 +118,9 @@ fn run_begun<'a, T: Threads + Wait + Clock + Sync, F: Files, E: Write>(
     sessions: &[RunSession<'a>],
     errors: &mut E,
 ) -> Result<bool, Fault<'a>>
-    requires accepts { opened.accepts ≡ J.accepts }
-    requires frames { opened.store.table.drive.table ≡ J.frames }
-    requires base { base_of (fields_of log_of opened.store) opened.timeline opened.next ≡ J.base }
+    requires accepts { begun.opened.accepts ≡ J.accepts }
+    requires frames { begun.opened.store.table.drive.table ≡ J.frames }
+    requires base { base_of (fields_of log_of begun.opened.store) begun.opened.timeline begun.opened.next ≡ J.base }
     requires sessions { length sessions.now ≤ 16 }
     requires claimed { F.leads begun.claim begun.path.now }
     ensures image { IfOk result (λ ended. KeepsSaved (base_of (fields_of log_of begun.entry.opened.store) begun.entry.opened.timeline begun.entry.opened.next) (F.contents files.new begun.entry.path.now)) }
@@ -127,14 +140,14 @@ fn run_begun<'a, T: Threads + Wait + Clock + Sync, F: Files, E: Write>(
         Ok(place) => place,
         Err(fault) => return Err(fault),
     };
-    let clients = match clients_of(alloc, files, sessions) {
+    let clients = match clients_of::<J, F>(alloc, files, sessions) {
         Ok(clients) => clients,
         Err(fault) => {
             place.leave(files);
             return Err(fault);
         }
     };
-    let (served, saved) = serve_to_image::<J, T, ReadSource<F::Reader>, WriteSink<F::Writer>>(
+    let (served, saved) = serve_named::<J, T, ReadSource<F::Reader>, WriteSink<F::Writer>>(
         rt, alloc, opened, manner, clients,
     );
     let is_ended = tell_sessions(errors, served.as_slice());
@@ -244,8 +257,8 @@ fn client_of<'a, J: Naming, F: Files>(
     })
 }
 
-// Serves the sessions of a drive that was just opened, and gives what the drive that they leave is saved as.
-fn serve_to_image<
+// Serves the sessions of a drive that was just opened, and gives what it is saved as.
+fn serve_named<
     J: Naming + Send + Sync,
     T: Threads + Wait + Clock + Sync,
     S: Source + Send + Drop,
@@ -274,40 +287,8 @@ fn serve_to_image<
             (S.remaining (slice_index_or clients.items i d).reader) (W.passed (slice_index_or clients.items i d).writer)
             (S.remaining (slice_index_or result.0.items i d).reader) (W.passed (slice_index_or result.0.items i d).writer))
         (λ drive. IfOk result.1 (λ bytes. SpellsSaved drive bytes.items)) }
-{
-    let (served, mut drive) = serve_named(rt, alloc, opened, manner, clients);
-    let saved = save(alloc, &mut drive);
-    (served, saved)
-}
-
-// Serves the sessions of a drive that was just opened, and gives the drive that they leave.
-fn serve_named<
-    J: Naming + Send + Sync,
-    T: Threads + Wait + Clock + Sync,
-    S: Source + Send + Drop,
-    W: Sink + Send + Drop,
->(
-    rt: &T,
-    alloc: Global,
-    opened: OpenedDrive,
-    manner: Manner,
-    clients: Vec<Client<J, S, W>>,
-) -> (Vec<Client<J, S, W>>, Drive<J>)
-    requires accepts { opened.accepts ≡ J.accepts }
-    requires frames { opened.store.table.drive.table ≡ J.frames }
-    requires base { base_of (fields_of log_of opened.store) opened.timeline opened.next ≡ J.base }
-    requires count { vec_len clients ≤ 16 }
-    requires readers { All (λ c. S.failures c.reader + 1 < 2 ^ 64) clients.items }
-    requires writers { All (λ c. W.failures c.writer + 1 < 2 ^ 64) clients.items }
-    ensures count { vec_len result.0 ≡ vec_len clients }
-    ensures base { (history_of result.1).base ≡ J.base }
-    // Each session was answered by steps of the drive, and the history that is left begins with all that it had seen and has its own
-    // changes at their numbers; or the drive had no seat for it.
-    ensures settled { (i : ℕ) (d : _) → i < vec_len clients
-        → IsSettled J.base (record { start = manner.start; tick = manner.tick }) result.1.ledger (slice_index_or clients.items i d).role
-        (slice_index_or result.0.items i d).outcome (slice_index_or result.0.items i d).session
-        (S.remaining (slice_index_or clients.items i d).reader) (W.passed (slice_index_or clients.items i d).writer)
-        (S.remaining (slice_index_or result.0.items i d).reader) (W.passed (slice_index_or result.0.items i d).writer) }
+    // What is saved is a drive of this name.
+    ensures saved { IfOk result.1 (λ bytes. IsSavedFrom J.base bytes.items) }
 {
     let (served, drive, saved) = serve_and_save(rt, alloc, opened.named::<J>(), manner, clients);
     drive.rules();
@@ -325,23 +306,26 @@ fn serve_and_save<
     alloc: Global,
     drive: Drive<J>,
     manner: Manner,
-    clients: Vec<Client<S, W>>,
-) -> (Vec<Client<S, W>>, Drive<J>, Result<Vec<u8>, Refusal>)
+    clients: Vec<Client<J, S, W>>,
+) -> (Vec<Client<J, S, W>>, Drive<J>, Result<Vec<u8>, Refusal>)
     requires count { vec_len clients ≤ 16 }
     requires readers { All (λ c. S.failures c.reader + 1 < 2 ^ 64) clients.items }
     requires writers { All (λ c. W.failures c.writer + 1 < 2 ^ 64) clients.items }
     ensures count { vec_len result.0 ≡ vec_len clients }
-    // Each session was answered by steps of the shared drive, or the drive had no seat for it.
-    ensures attended { (i : ℕ) (d : _) → i < vec_len clients
-        → IsAttended J.base (record { start = manner.start; tick = manner.tick }) (slice_index_or clients.items i d).role (slice_index_or result.0.items i d).outcome
+    // Each session was answered by steps of the drive, whose history begins with all that it had seen and has its own changes at their
+    // numbers; or the drive had no seat for it.
+    ensures settled { (i : ℕ) (d : _) → i < vec_len clients
+        → IsSettled J.base (record { start = manner.start; tick = manner.tick }) result.1.ledger (slice_index_or clients.items i d).role
+        (slice_index_or result.0.items i d).outcome (slice_index_or result.0.items i d).session
         (S.remaining (slice_index_or clients.items i d).reader) (W.passed (slice_index_or clients.items i d).writer)
         (S.remaining (slice_index_or result.0.items i d).reader) (W.passed (slice_index_or result.0.items i d).writer) }
     // What is saved is the drive as the sessions left it.
     ensures saved { IfOk result.2 (λ bytes. SpellsSaved result.1 bytes.items) }
 {
     let drive = Mutex::new(drive);
-    let served = serve_all(rt, alloc, &drive, manner, clients);
+    let mut served = serve_all(rt, alloc, &drive, manner, clients);
     let mut drive = drive.into_inner();
+    settle(&mut drive, served.as_mut_slice());
     let saved = save(alloc, &mut drive);
     (served, drive, saved)
 }
