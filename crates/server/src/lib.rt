@@ -10,6 +10,7 @@ mod clocks;
 mod gate;
 mod locked;
 mod moving;
+mod pace;
 mod running;
 mod settling;
 mod upkeep;

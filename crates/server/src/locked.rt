@@ -9,6 +9,7 @@ ghost use Rattle.server.specs.Upkeep.{SharedTurn};
 ghost use Rattle.server.specs.Moving.{SharedPlan, SharedCommit};
 
 use crate::gate::Gate;
+use crate::pace::{Pace, changed};
 use drive::{Drive, Session};
 use history_cleaner::{Rounds, Turn};
 use s4_types::{Bytes, Moment, ObjectId, Refusal, Reply, Request, Role};
@@ -19,33 +20,98 @@ use std::alloc::Global;
 use std::hint::spin_loop;
 use std::marker::Model;
 use std::sync::{Mutex, MutexGuard, Wait};
+use std::thread::yield_now;
 use time_read::ReadPlan;
 
 /// How often a session looks whether the lock is free before it sleeps: a small request holds it for some
 /// microseconds, which is less than it takes to wake.
 const LOOKS: usize = 300;
 
-/// The drive, once the lock is had.
-fn hold<'a, J: Naming>(rt: &impl Wait, drive: &'a Mutex<Drive<J>>) -> MutexGuard<'a, Drive<J>> {
+/// Whether a session leaves the lock to cleaner or copier.
+fn gives_way(pace: Option<&Pace>) -> bool {
+    match pace {
+        Some(pace) => pace.is_lock_wanted(),
+        None => false,
+    }
+}
+
+/// The drive, once the lock is had. Where cleaner or copier waits for it, that one has it first.
+fn hold<'a, J: Naming>(
+    rt: &impl Wait,
+    drive: &'a Mutex<Drive<J>>,
+    pace: Option<&Pace>,
+) -> MutexGuard<'a, Drive<J>> {
     for _ in 0..LOOKS {
-        if let Some(held) = drive.try_lock() {
+        if gives_way(pace) {
+            yield_now();
+        } else if let Some(held) = drive.try_lock() {
             return held;
+        } else {
+            spin_loop();
         }
-        spin_loop();
     }
     drive.lock(rt)
+}
+
+/// The drive, once cleaner or copier has the lock.
+fn hold_next<'a, J: Naming>(
+    rt: &impl Wait,
+    drive: &'a Mutex<Drive<J>>,
+    pace: &Pace,
+) -> MutexGuard<'a, Drive<J>> {
+    pace.want_lock();
+    let held = hold(rt, drive, None);
+    pace.have_lock();
+    held
+}
+
+/// A request is asked: whether it is a change that is to wait for the cleaner.
+fn is_pressed<J: Naming>(
+    rt: &impl Wait,
+    drive: &Drive<J>,
+    pace: &Pace,
+    object: Option<ObjectId>,
+) -> bool {
+    match object {
+        Some(object) => {
+            pace.count(rt, drive, object);
+            pace.is_pressed(drive, object)
+        }
+        None => false,
+    }
+}
+
+/// The drive for a request, once the lock is had. A change for which there may be too little room, or whose object's chain is nearly
+/// full, lets the cleaner go a whole round first.
+fn hold_for<'a, J: Naming>(
+    rt: &impl Wait,
+    drive: &'a Mutex<Drive<J>>,
+    pace: Option<&Pace>,
+    object: Option<ObjectId>,
+) -> MutexGuard<'a, Drive<J>> {
+    let held = hold(rt, drive, pace);
+    let Some(waits) = pace else {
+        return held;
+    };
+    if !is_pressed(rt, &held, waits, object) {
+        return held;
+    }
+    drop(held);
+    waits.await_round(rt);
+    hold(rt, drive, pace)
 }
 
 /// A session of a role.
 pub(crate) fn enter<J: Naming>(
     rt: &impl Wait,
     drive: &Mutex<Drive<J>>,
+    pace: Option<&Pace>,
     role: Role,
 ) -> Result<Session<J>, Refusal>
     ensures session { IfOk result (IsFresh J.base role) }
     ensures busy { IfErr result (λ e. e ≡ Busy) }
 {
-    let mut drive = hold(rt, drive);
+    let mut drive = hold(rt, drive, pace);
     drive.rules();
     drive.session(role)
 }
@@ -54,6 +120,7 @@ pub(crate) fn enter<J: Naming>(
 fn resolve<J: Naming>(
     rt: &impl Wait,
     drive: &Mutex<Drive<J>>,
+    pace: Option<&Pace>,
     session: &mut Session<J>,
     object: ObjectId,
     offset: u64,
@@ -64,7 +131,7 @@ fn resolve<J: Naming>(
     ensures step { SharedStep J.base session.old (Read object offset length at) now (reply_planned result) session.new }
     ensures fits { ReplyFits (reply_planned result) }
 {
-    let mut drive = hold(rt, drive);
+    let mut drive = hold(rt, drive, pace);
     drive.rules();
     drive.resolve(session, object, offset, length, at, now)
 }
@@ -73,6 +140,7 @@ fn resolve<J: Naming>(
 fn ask<J: Naming>(
     rt: &impl Wait,
     drive: &Mutex<Drive<J>>,
+    pace: Option<&Pace>,
     session: &mut Session<J>,
     request: Request,
     now: Moment,
@@ -80,16 +148,21 @@ fn ask<J: Naming>(
     ensures step { SharedStep J.base session.old request now result session.new }
     ensures fits { ReplyFits result }
 {
-    let mut drive = hold(rt, drive);
+    let mut drive = hold_for(rt, drive, pace, changed(&request));
     drive.rules();
     drive.request(session, request, now)
 }
 
 /// A meeting of a session and the drive, under the lock.
-fn meet<J: Naming>(rt: &impl Wait, drive: &Mutex<Drive<J>>, session: &mut Session<J>)
+fn meet<J: Naming>(
+    rt: &impl Wait,
+    drive: &Mutex<Drive<J>>,
+    pace: Option<&Pace>,
+    session: &mut Session<J>,
+)
     ensures met { HasMet J.base session.old session.new }
 {
-    let mut drive = hold(rt, drive);
+    let mut drive = hold(rt, drive, pace);
     drive.rules();
     drive.meet(session);
 }
@@ -99,13 +172,16 @@ pub(crate) fn take_turn<J: Naming>(
     rt: &impl Wait,
     alloc: Global,
     drive: &Mutex<Drive<J>>,
+    pace: &Pace,
     rounds: &mut Rounds,
 ) -> Turn
     ensures { SharedTurn J.base rounds.old.passed result rounds.new.passed }
 {
-    let mut drive = hold(rt, drive);
+    let mut drive = hold_next(rt, drive, pace);
     drive.rules();
-    rounds.turn(alloc, &mut drive)
+    let turn = rounds.turn(alloc, &mut drive);
+    pace.look(&drive);
+    turn
 }
 
 /// What the copier is to move next, and a plan of that, made under the lock, where there is something to be moved. Its session
@@ -114,11 +190,12 @@ pub(crate) fn plan_next<J: Naming>(
     rt: &impl Wait,
     alloc: Global,
     drive: &Mutex<Drive<J>>,
+    pace: &Pace,
     session: &mut Session<J>,
 ) -> Result<Option<(Candidate, MovePlan<J>)>, Refusal>
     ensures { SharedPlan J.base session.old result session.new }
 {
-    let mut drive = hold(rt, drive);
+    let mut drive = hold_next(rt, drive, pace);
     drive.rules();
     drive.meet(session);
     let Some(next) = candidate(&mut drive)? else {
@@ -133,12 +210,13 @@ pub(crate) fn put_in_place<J: Naming>(
     rt: &impl Wait,
     alloc: Global,
     drive: &Mutex<Drive<J>>,
+    pace: &Pace,
     session: &mut Session<J>,
     moved: Moved<J>,
 ) -> Result<(), Refusal>
     ensures { SharedCommit J.base session.old moved.what result session.new }
 {
-    let mut drive = hold(rt, drive);
+    let mut drive = hold_next(rt, drive, pace);
     drive.rules();
     drive.meet(session);
     commit(alloc, &mut drive, moved)
@@ -164,6 +242,7 @@ pub struct Locked<'a, J: Naming, R: Wait, G: Gate> {
     rt: &'a R,
     alloc: Global,
     drive: &'a Mutex<Drive<J>>,
+    pace: Option<&'a Pace>,
     session: Session<J>,
     gate: &'a G,
     number: usize,
@@ -192,11 +271,28 @@ impl<'a, J: Naming, R: Wait, G: Gate> Locked<'a, J, R, G> {
         ensures session { IfOk result (IsFresh J.base role) }
         ensures busy { IfErr result (λ e. e ≡ Busy) }
     {
-        let session = enter(rt, drive, role)?;
+        Locked::beside(rt, alloc, drive, None, role, gate, number)
+    }
+
+    /// The same, with upkeep beside it where there is its pace.
+    pub(crate) fn beside(
+        rt: &'a R,
+        alloc: Global,
+        drive: &'a Mutex<Drive<J>>,
+        pace: Option<&'a Pace>,
+        role: Role,
+        gate: &'a G,
+        number: usize,
+    ) -> Result<Self, Refusal>
+        ensures session { IfOk result (IsFresh J.base role) }
+        ensures busy { IfErr result (λ e. e ≡ Busy) }
+    {
+        let session = enter(rt, drive, pace, role)?;
         Ok(Locked {
             rt,
             alloc,
             drive,
+            pace,
             session,
             gate,
             number,
@@ -208,7 +304,7 @@ impl<'a, J: Naming, R: Wait, G: Gate> Locked<'a, J, R, G> {
     pub fn meet(&mut self)
         ensures { HasMet J.base self.old self.new }
     {
-        meet(self.rt, self.drive, &mut self.session);
+        meet(self.rt, self.drive, self.pace, &mut self.session);
     }
 
     /// The session itself, which is asked nothing more.
@@ -233,6 +329,7 @@ impl<'a, J: Naming, R: Wait, G: Gate> Locked<'a, J, R, G> {
         let planned = resolve(
             self.rt,
             self.drive,
+            self.pace,
             &mut self.session,
             object,
             offset,
@@ -259,7 +356,14 @@ impl<J: Naming, R: Wait, G: Gate> Backend for Locked<'_, J, R, G> {
                 length,
                 at,
             } => self.read(object, offset, length, at, now),
-            other => ask(self.rt, self.drive, &mut self.session, other, now),
+            other => ask(
+                self.rt,
+                self.drive,
+                self.pace,
+                &mut self.session,
+                other,
+                now,
+            ),
         };
         self.gate.answered(self.number, self.calls);
         reply

@@ -4,6 +4,7 @@ ghost use Rattle.s4_types.specs.declared.refusals.Refusal.TheVariants.{Busy};
 ghost use Rattle.server.specs.Moving.{SharedMove, IsMoving, is_planned, is_moved};
 
 use crate::locked::{enter, plan_next, put_in_place};
+use crate::pace::Pace;
 use drive::{Drive, Session};
 use s4_types::{Refusal, Role};
 use segment_copier::Candidate;
@@ -63,11 +64,12 @@ fn move_next<J: Naming>(
     rt: &impl Wait,
     alloc: Global,
     drive: &Mutex<Drive<J>>,
+    pace: &Pace,
     session: &mut Session<J>,
 ) -> MoveStep
     ensures { SharedMove J.base session.old result session.new }
 {
-    let (next, plan) = match plan_next(rt, alloc, drive, session) {
+    let (next, plan) = match plan_next(rt, alloc, drive, pace, session) {
         Ok(Some(found)) => found,
         Ok(None) => return MoveStep::Idle,
         Err(refusal) => return MoveStep::Unplanned(refusal),
@@ -76,44 +78,51 @@ fn move_next<J: Naming>(
         Ok(moved) => moved,
         Err(refusal) => return MoveStep::Unmoved(next, refusal),
     };
-    match put_in_place(rt, alloc, drive, session, moved) {
+    match put_in_place(rt, alloc, drive, pace, session, moved) {
         Ok(()) => MoveStep::Moved(next),
         Err(refusal) => MoveStep::Unmoved(next, refusal),
     }
 }
 
-/// Rests behind a step: for long where it moved nothing.
-fn rest<R: Wait + Clock>(rt: &R, step: &MoveStep) {
-    if matches!(step, MoveStep::Moved(_)) {
+/// Rests behind a step, until there is too little room and something may have become sparse, or all sessions have ended.
+fn rest<R: Wait + Clock>(rt: &R, pace: &Pace, stirred: u64, step: &MoveStep, ended: &AtomicBool) {
+    if matches!(step, MoveStep::Moved(_)) && pace.is_scarce() {
         yield_now();
-    } else {
+        return;
+    }
+    for _ in rt.forever() {
         sleep(rt, Duration::from_micros(REST));
+        if ended.load(Ordering::SeqCst) || pace.is_scarce() && pace.stirred() != stirred {
+            return;
+        }
     }
 }
 
-/// Moves what is to be moved, step after step and at least one, until all sessions have ended. The step that is under way then is
+/// Moves what is to be moved, one step and then others while room is short, until all sessions have ended. The step that is under way then is
 /// taken to its end. Busy where the drive has no seat for the copier's session: nothing is moved then.
 #[tactic(auto, using(crate::proofs::Stepping::moved_first, crate::proofs::Stepping::moved_more, crate::proofs::Stepping::moved_ends))]
 pub(crate) fn keep_moving<J: Naming, R: Wait + Clock>(
     rt: &R,
     alloc: Global,
     drive: &Mutex<Drive<J>>,
+    pace: &Pace,
     ended: &AtomicBool,
 ) -> Result<Moves, Refusal>
     ensures { MatchResult result (IsMoving J.base) (λ e. e ≡ Busy) }
 {
-    let mut session = enter(rt, drive, Role::Client)?;
+    let mut session = enter(rt, drive, Some(pace), Role::Client)?;
     let mut moves = Moves {
         planned: 0,
         moved: 0,
     };
     for _turn in rt.forever() {
-        let step = move_next(rt, alloc, drive, &mut session);
+        let stirred = pace.stirred();
+        let step = move_next(rt, alloc, drive, pace, &mut session);
         moves.count(&step);
         if ended.load(Ordering::SeqCst) {
             return Ok(moves);
         }
-        rest(rt, &step);
+        rest(rt, pace, stirred, &step, ended);
     }
     unreachable!()
 }

@@ -7,8 +7,8 @@ ghost use Rattle.serving.specs.Session.{reading_failures, writing_failures};
 use crate::clocks::SharedClock;
 use crate::gate::Gate;
 use crate::locked::Locked;
-use drive::{Drive, Session};
-use s4_model::laws::the_state_goes_on_record_by_record;
+use crate::pace::Pace;
+use drive::Drive;
 use s4_types::{Moment, Refusal, Role};
 use segment_word::Naming;
 use serving::{ServeEnd, Sink, Source, serve};
@@ -48,6 +48,7 @@ fn attend<J: Naming, R: Wait, G: Gate, S: Source, W: Sink>(
     rt: &R,
     alloc: Global,
     drive: &Mutex<Drive<J>>,
+    pace: Option<&Pace>,
     gate: &G,
     mut clock: SharedClock<'_>,
     number: usize,
@@ -62,8 +63,7 @@ fn attend<J: Naming, R: Wait, G: Gate, S: Source, W: Sink>(
     ensures writing { W.failures client.new.writer ≡ W.failures client.old.writer + failures_in writing_failures client.new.outcome }
     ensures role { client.new.role ≡ client.old.role }
 {
-    the_state_goes_on_record_by_record();
-    let mut session = match Locked::new(rt, alloc, drive, client.role, gate, number) {
+    let mut session = match Locked::beside(rt, alloc, drive, pace, client.role, gate, number) {
         Ok(session) => session,
         Err(refusal) => {
             client.outcome = Outcome::Refused(refusal);
@@ -117,6 +117,39 @@ pub fn run_sessions<
     ensures writing { (i : ℕ) (d : _) → i < length clients.old
         → W.failures (slice_index_or clients.new i d).writer ≡ W.failures (slice_index_or clients.old i d).writer + failures_in writing_failures (slice_index_or clients.new i d).outcome }
 {
+    run_beside(rt, alloc, drive, None, gate, start, tick, clients)
+}
+
+/// As [`run_sessions`] does, with upkeep beside the sessions where there is its pace.
+pub(crate) fn run_beside<
+    J: Naming + Send + Sync,
+    R: Threads + Wait + Sync,
+    G: Gate + Sync,
+    S: Source + Send,
+    W: Sink + Send,
+>(
+    rt: &R,
+    alloc: Global,
+    drive: &Mutex<Drive<J>>,
+    pace: Option<&Pace>,
+    gate: &G,
+    start: Moment,
+    tick: u64,
+    clients: &mut [Client<S, W>],
+)
+    requires count { length clients.old ≤ 16 }
+    requires readers { All (λ c. S.failures c.reader + 1 < 2 ^ 64) clients.old }
+    requires writers { All (λ c. W.failures c.writer + 1 < 2 ^ 64) clients.old }
+    // Each session was answered by steps of the shared drive, or the drive had no seat for it.
+    ensures attended { (i : ℕ) (d : _) → i < length clients.old
+        → IsAttended J.base (record { start = start; tick = tick }) (slice_index_or clients.old i d).role (slice_index_or clients.new i d).outcome
+        (S.remaining (slice_index_or clients.old i d).reader) (W.passed (slice_index_or clients.old i d).writer)
+        (S.remaining (slice_index_or clients.new i d).reader) (W.passed (slice_index_or clients.new i d).writer) }
+    ensures reading { (i : ℕ) (d : _) → i < length clients.old
+        → S.failures (slice_index_or clients.new i d).reader ≡ S.failures (slice_index_or clients.old i d).reader + failures_in reading_failures (slice_index_or clients.new i d).outcome }
+    ensures writing { (i : ℕ) (d : _) → i < length clients.old
+        → W.failures (slice_index_or clients.new i d).writer ≡ W.failures (slice_index_or clients.old i d).writer + failures_in writing_failures (slice_index_or clients.new i d).outcome }
+{
     let drawn = AtomicU64::new(0);
     let serve_one = |index: usize, client: &mut Client<J, S, W>|
         requires { (S.failures client.now.reader + 1 < 2 ^ 64) × (W.failures client.now.writer + 1 < 2 ^ 64) }
@@ -131,6 +164,7 @@ pub fn run_sessions<
             rt,
             alloc,
             drive,
+            pace,
             gate,
             clock,
             index.saturating_add(1),

@@ -9,7 +9,8 @@ ghost use Rattle.serving.specs.Session.{reading_failures, writing_failures};
 use crate::gate::Gate;
 use crate::locked::take_turn;
 use crate::moving::{Moves, keep_moving};
-use crate::running::{Client, run_sessions};
+use crate::pace::Pace;
+use crate::running::{Client, run_beside};
 use drive::Drive;
 use history_cleaner::{Rounds, Turn};
 use s4_types::{Moment, Refusal};
@@ -18,11 +19,8 @@ use serving::{Sink, Source};
 use std::alloc::Global;
 use std::sync::atomic::{AtomicBool, Ordering};
 use std::sync::{Mutex, Wait};
-use std::thread::{Threads, join, sleep, yield_now};
-use std::time::{Clock, Duration};
-
-/// How long the cleaner rests between two rounds, in microseconds: for this long sessions have the lock to themselves.
-const REST: u64 = 100;
+use std::thread::{Threads, join, yield_now};
+use std::time::Clock;
 
 /// A whole round of the cleaner over all objects of a drive, by ascending number.
 #[derive(Clone, Copy)]
@@ -55,6 +53,7 @@ fn go_round<J: Naming>(
     rt: &impl Wait,
     alloc: Global,
     drive: &Mutex<Drive<J>>,
+    pace: &Pace,
     is_behind: bool,
 ) -> Round
     ensures round { IsRound J.base result }
@@ -62,7 +61,7 @@ fn go_round<J: Naming>(
 {
     let mut rounds = Rounds::new();
     let mut turns = 0;
-    while !is_end(take_turn(rt, alloc, drive, &mut rounds)) {
+    while !is_end(take_turn(rt, alloc, drive, pace, &mut rounds)) {
         turns += 1;
         yield_now();
     }
@@ -74,16 +73,20 @@ fn keep_up<J: Naming, R: Wait + Clock>(
     rt: &R,
     alloc: Global,
     drive: &Mutex<Drive<J>>,
+    pace: &Pace,
     ended: &AtomicBool,
 ) -> Round
     ensures { IsLastRound J.base result }
 {
     for _ in rt.forever() {
-        let round = go_round(rt, alloc, drive, ended.load(Ordering::SeqCst));
+        let is_behind = ended.load(Ordering::SeqCst);
+        pace.begin_round(rt);
+        let round = go_round(rt, alloc, drive, pace, is_behind);
+        pace.end_round(rt, round.turns, is_behind);
         if round.is_behind {
             return round;
         }
-        sleep(rt, Duration::from_micros(REST));
+        pace.await_call(rt);
     }
     unreachable!()
 }
@@ -94,6 +97,7 @@ fn keep_beside<J: Naming + Send + Sync, R: Threads + Wait + Clock + Sync>(
     rt: &R,
     alloc: Global,
     drive: &Mutex<Drive<J>>,
+    pace: &Pace,
     attended: &AtomicBool,
 ) -> Upkeep
     ensures round { IsLastRound J.base result.round }
@@ -102,12 +106,13 @@ fn keep_beside<J: Naming + Send + Sync, R: Threads + Wait + Clock + Sync>(
     let ended = AtomicBool::new(false);
     let clean = || -> Round
         ensures { IsLastRound J.base result }
-    { keep_up(rt, alloc, drive, &ended) };
+    { keep_up(rt, alloc, drive, pace, &ended) };
     let copy = || -> Result<Moves, Refusal>
         ensures moves { MatchResult result (IsMoving J.base) (λ e. e ≡ Busy) }
     {
-        let moves = keep_moving(rt, alloc, drive, attended);
+        let moves = keep_moving(rt, alloc, drive, pace, attended);
         ended.store(true, Ordering::SeqCst);
+        pace.call(rt);
         moves
     };
     // Where there is no thread for the first, it is called after the second.
@@ -119,8 +124,10 @@ fn keep_beside<J: Naming + Send + Sync, R: Threads + Wait + Clock + Sync>(
 /// the other moves blocks.
 ///
 /// The cleaner has the lock for one object at a time, by ascending number and round again, and behind each round the frames that hold
-/// nothing are freed. The copier takes step after step: it has the lock while it plans the next move and while it puts it in place,
-/// and copies without it. It takes one step at least, and ends once all sessions have ended. Then the cleaner goes round a
+/// nothing are freed. It rests until room is short or a chain nearly full, and enough has aged since its last round; where that is so,
+/// a change waits for a round before it is asked, a Read never, and no request where no cleaner is at work. The copier takes step after
+/// step while room is short: it has the lock while it plans the next move and while it puts it in place, and copies without it. It
+/// takes one step at least, and ends once all sessions have ended. Then the cleaner goes round a
 /// last time. Where the system gives no thread for one of the two, it goes round once, or takes one step, behind the sessions.
 ///
 /// Answers the clients, the cleaner's last round, and what the copier did.
@@ -156,11 +163,12 @@ pub fn run_with_upkeep<
         → W.failures (slice_index_or result.0.items i d).writer ≡ W.failures (slice_index_or clients.items i d).writer + failures_in writing_failures (slice_index_or result.0.items i d).outcome }
 {
     let attended = AtomicBool::new(false);
+    let pace = Pace::new(rt, drive);
     let keep = || -> Upkeep
         ensures round { IsLastRound J.base result.round }
         ensures moves { MatchResult result.moves (IsMoving J.base) (λ e. e ≡ Busy) }
-    { keep_beside(rt, alloc, drive, &attended) };
-    let attend = || -> Vec<Client<J, S, W>>
+    { keep_beside(rt, alloc, drive, &pace, &attended) };
+    let attend = || -> Vec<Client<S, W>>
         requires count { vec_len clients ≤ 16 }
         requires readers { All (λ c. S.failures c.reader + 1 < 2 ^ 64) clients.items }
         requires writers { All (λ c. W.failures c.writer + 1 < 2 ^ 64) clients.items }
@@ -175,7 +183,17 @@ pub fn run_with_upkeep<
             → W.failures (slice_index_or result.items i d).writer ≡ W.failures (slice_index_or clients.items i d).writer + failures_in writing_failures (slice_index_or result.items i d).outcome }
     {
         let mut clients = clients;
-        run_sessions(rt, alloc, drive, gate, start, tick, clients.as_mut_slice());
+        pace.await_start(rt);
+        run_beside(
+            rt,
+            alloc,
+            drive,
+            Some(&pace),
+            gate,
+            start,
+            tick,
+            clients.as_mut_slice(),
+        );
         attended.store(true, Ordering::SeqCst);
         clients
     };

@@ -1,0 +1,216 @@
+//! What sessions, cleaner and copier tell each other beside the drive. Nothing that is answered rests on it.
+use drive::Drive;
+use s4_types::limits::{CHAIN_ENTRY_BYTES, PAYLOAD_BLOCKS};
+use s4_types::{ObjectId, Request};
+use segment_table::OverFrames;
+use segment_word::Naming;
+use std::sync::atomic::{AtomicU64, Ordering};
+use std::sync::{Condvar, Mutex, Wait};
+use std::thread::sleep;
+use std::time::{Clock, Duration};
+
+/// Bytes of a chain past which it is nearly full: the largest change still fits twice.
+const NEARLY_FULL: usize = CHAIN_ENTRY_BYTES / 4 * 3;
+
+/// How often sessions look whether the cleaner is at work before they begin, a millisecond apart.
+const START_LOOKS: usize = 100;
+
+/// The cleaner's rounds.
+#[derive(Clone, Copy)]
+struct Progress {
+    /// The cleaner is at work, and takes another round where one is wanted.
+    is_going: bool,
+    is_wanted: bool,
+    begun: u64,
+    ended: u64,
+}
+
+/// How upkeep gets on and what it is needed for. Its lock is held for a few steps alone, and the drive's is never asked for under it.
+#[derive(Drop)]
+pub(crate) struct Pace {
+    progress: Mutex<Progress>,
+    /// Whoever waits for progress is woken by this.
+    news: Condvar,
+    /// Blocks of the drive, and how many changes may still take, when it was last looked at.
+    blocks: u64,
+    room: AtomicU64,
+    /// The clock from which on a round is worth its cost: three fifths of a window later than the last one began, and
+    /// no fewer moments than an eighth of its turns.
+    ripe: AtomicU64,
+    clock: AtomicU64,
+    window: AtomicU64,
+    /// Turns of the last round.
+    turns: AtomicU64,
+    /// Changes that were asked so far, and how many of these there are to be before a round is due.
+    asked: AtomicU64,
+    due: AtomicU64,
+    /// How many of cleaner and copier wait for the drive's lock.
+    upkeep: AtomicU64,
+}
+
+/// The object that a request changes, and 0 of one that it makes. None where it changes no object.
+pub(crate) fn changed(request: &Request) -> Option<ObjectId> {
+    match request {
+        Request::Create { .. } => Some(ObjectId::new(0)),
+        Request::Delete { object }
+        | Request::Write { object, .. }
+        | Request::Append { object, .. }
+        | Request::Truncate { object, .. }
+        | Request::SetAttr { object, .. } => Some(*object),
+        _ => None,
+    }
+}
+
+/// Whether the chain of an object is nearly full.
+fn is_nearly_full<J: Naming>(drive: &Drive<J>, object: ObjectId) -> bool {
+    match drive.row(object) {
+        Some(row) => row.journal_bytes as usize > NEARLY_FULL,
+        None => false,
+    }
+}
+
+impl Pace {
+    /// Before the first round.
+    pub(crate) fn new<J: Naming>(rt: &impl Wait, drive: &Mutex<Drive<J>>) -> Self {
+        let drive = drive.lock(rt);
+        Pace {
+            progress: Mutex::new(Progress {
+                is_going: false,
+                is_wanted: false,
+                begun: 0,
+                ended: 0,
+            }),
+            news: Condvar::new(),
+            blocks: drive.frame_count() as u64 * PAYLOAD_BLOCKS as u64,
+            room: AtomicU64::new(drive.room() as u64),
+            ripe: AtomicU64::new(0),
+            clock: AtomicU64::new(drive.clock().number()),
+            window: AtomicU64::new(drive.window()),
+            turns: AtomicU64::new(0),
+            asked: AtomicU64::new(0),
+            due: AtomicU64::new(0),
+            upkeep: AtomicU64::new(0),
+        }
+    }
+
+    /// One of cleaner and copier is to have the drive's lock next.
+    pub(crate) fn want_lock(&self) {
+        self.upkeep.fetch_add(1, Ordering::SeqCst);
+    }
+
+    /// It has it.
+    pub(crate) fn have_lock(&self) {
+        self.upkeep.fetch_sub(1, Ordering::SeqCst);
+    }
+
+    /// Whether the drive's lock is to be left to cleaner or copier.
+    pub(crate) fn is_lock_wanted(&self) -> bool {
+        self.upkeep.load(Ordering::SeqCst) > 0
+    }
+
+    /// Whether less room than an eighth of the drive is left, or the object's chain is nearly full.
+    fn is_short<J: Naming>(&self, drive: &Drive<J>, object: ObjectId) -> bool {
+        (drive.room() as u64) < self.blocks / 8 || is_nearly_full(drive, object)
+    }
+
+    /// Whether enough history may have aged since the last round for another one to gain something.
+    fn is_ripe<J: Naming>(&self, drive: &Drive<J>) -> bool {
+        drive.clock().number() >= self.ripe.load(Ordering::SeqCst)
+    }
+
+    /// Whether a change of an object is to wait for the cleaner.
+    pub(crate) fn is_pressed<J: Naming>(&self, drive: &Drive<J>, object: ObjectId) -> bool {
+        self.is_short(drive, object) && self.is_ripe(drive)
+    }
+
+    /// The drive was looked at.
+    pub(crate) fn look<J: Naming>(&self, drive: &Drive<J>) {
+        self.room.store(drive.room() as u64, Ordering::SeqCst);
+        self.clock.store(drive.clock().number(), Ordering::SeqCst);
+        self.window.store(drive.window(), Ordering::SeqCst);
+    }
+
+    /// A change of an object is asked. The cleaner is called where room is below a quarter or the chain is nearly full, and
+    /// twice as many changes were asked since its last round as that had turns, and it is ripe.
+    pub(crate) fn count<J: Naming>(&self, rt: &impl Wait, drive: &Drive<J>, object: ObjectId) {
+        self.look(drive);
+        let asked = self.asked.fetch_add(1, Ordering::SeqCst).saturating_add(1);
+        if asked < self.due.load(Ordering::SeqCst) || !self.is_ripe(drive) {
+            return;
+        }
+        if (drive.room() as u64) < self.blocks / 4 || is_nearly_full(drive, object) {
+            self.due.store(u64::MAX, Ordering::SeqCst);
+            self.call(rt);
+        }
+    }
+
+    /// Waits until the cleaner is at work, and not for long: there may be no thread for it.
+    pub(crate) fn await_start<R: Wait + Clock>(&self, rt: &R) {
+        for _ in 0..START_LOOKS {
+            if self.progress.lock(rt).is_going {
+                return;
+            }
+            sleep(rt, Duration::from_millis(1));
+        }
+    }
+
+    /// How many changes and rounds there were so far: where there were no more, the copier finds nothing new.
+    pub(crate) fn stirred(&self) -> u64 {
+        self.asked.load(Ordering::SeqCst)
+    }
+
+    /// Whether the copier is to make room: less than a quarter of the drive is left.
+    pub(crate) fn is_scarce(&self) -> bool {
+        self.room.load(Ordering::SeqCst) < self.blocks / 4
+    }
+
+    /// The cleaner is to go round.
+    pub(crate) fn call(&self, rt: &impl Wait) {
+        let mut progress = self.progress.lock(rt);
+        progress.is_wanted = true;
+        self.news.notify_all();
+    }
+
+    /// Waits until the cleaner has gone a whole round from now on. Not where it isn't at work.
+    pub(crate) fn await_round(&self, rt: &impl Wait) {
+        let mut progress = self.progress.lock(rt);
+        let awaited = progress.begun.saturating_add(1);
+        progress.is_wanted = true;
+        self.news.notify_all();
+        let _progress = self.news.wait_while(rt, progress, |progress| {
+            progress.is_going && progress.ended < awaited
+        });
+    }
+
+    /// A round begins.
+    pub(crate) fn begin_round(&self, rt: &impl Wait) {
+        let clock = self.clock.load(Ordering::SeqCst);
+        let part = self.window.load(Ordering::SeqCst) / 5 * 3;
+        self.ripe
+            .store(clock.saturating_add(part), Ordering::SeqCst);
+        let mut progress = self.progress.lock(rt);
+        progress.is_going = true;
+        progress.is_wanted = false;
+        progress.begun = progress.begun.saturating_add(1);
+    }
+
+    /// A round of so many turns has ended, and there is none after the last.
+    pub(crate) fn end_round(&self, rt: &impl Wait, turns: u64, is_last: bool) {
+        self.turns.store(turns, Ordering::SeqCst);
+        let asked = self.asked.fetch_add(1, Ordering::SeqCst);
+        let due = asked.saturating_add(turns.saturating_mul(2));
+        self.due.store(due, Ordering::SeqCst);
+        let mut progress = self.progress.lock(rt);
+        progress.ended = progress.begun;
+        progress.is_going = !is_last;
+        self.news.notify_all();
+    }
+
+    /// The cleaner waits until another round is wanted.
+    pub(crate) fn await_call(&self, rt: &impl Wait) {
+        let progress = self.progress.lock(rt);
+        let _progress = self
+            .news
+            .wait_while(rt, progress, |progress| !progress.is_wanted);
+    }
+}
