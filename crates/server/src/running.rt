@@ -8,7 +8,8 @@ use crate::clocks::SharedClock;
 use crate::gate::Gate;
 use crate::locked::Locked;
 use crate::pace::Pace;
-use drive::Drive;
+use drive::{Drive, Session};
+use s4_model::laws::the_state_goes_on_record_by_record;
 use s4_types::{Moment, Refusal, Role};
 use segment_word::Naming;
 use serving::{ServeEnd, Sink, Source, serve};
@@ -63,6 +64,7 @@ fn attend<J: Naming, R: Wait, G: Gate, S: Source, W: Sink>(
     ensures writing { W.failures client.new.writer ≡ W.failures client.old.writer + failures_in writing_failures client.new.outcome }
     ensures role { client.new.role ≡ client.old.role }
 {
+    the_state_goes_on_record_by_record();
     let mut session = match Locked::beside(rt, alloc, drive, pace, client.role, gate, number) {
         Ok(session) => session,
         Err(refusal) => {
@@ -135,14 +137,14 @@ pub(crate) fn run_beside<
     gate: &G,
     start: Moment,
     tick: u64,
-    clients: &mut [Client<S, W>],
+    clients: &mut [Client<J, S, W>],
 )
     requires count { length clients.old ≤ 16 }
     requires readers { All (λ c. S.failures c.reader + 1 < 2 ^ 64) clients.old }
     requires writers { All (λ c. W.failures c.writer + 1 < 2 ^ 64) clients.old }
     // Each session was answered by steps of the shared drive, or the drive had no seat for it.
     ensures attended { (i : ℕ) (d : _) → i < length clients.old
-        → IsAttended J.base (record { start = start; tick = tick }) (slice_index_or clients.old i d).role (slice_index_or clients.new i d).outcome
+        → IsAttended J.base (record { start = start; tick = tick }) (slice_index_or clients.old i d).role (slice_index_or clients.new i d).outcome (slice_index_or clients.new i d).session
         (S.remaining (slice_index_or clients.old i d).reader) (W.passed (slice_index_or clients.old i d).writer)
         (S.remaining (slice_index_or clients.new i d).reader) (W.passed (slice_index_or clients.new i d).writer) }
     ensures reading { (i : ℕ) (d : _) → i < length clients.old

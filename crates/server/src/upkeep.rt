@@ -168,7 +168,7 @@ pub fn run_with_upkeep<
         ensures round { IsLastRound J.base result.round }
         ensures moves { MatchResult result.moves (IsMoving J.base) (λ e. e ≡ Busy) }
     { keep_beside(rt, alloc, drive, &pace, &attended) };
-    let attend = || -> Vec<Client<S, W>>
+    let attend = || -> Vec<Client<J, S, W>>
         requires count { vec_len clients ≤ 16 }
         requires readers { All (λ c. S.failures c.reader + 1 < 2 ^ 64) clients.items }
         requires writers { All (λ c. W.failures c.writer + 1 < 2 ^ 64) clients.items }
