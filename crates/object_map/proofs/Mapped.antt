@@ -1,5 +1,5 @@
 -- The rows of what is kept, and the values beside them, are found as what is kept is.
-use Rattle.std.proofs.Common.{◌≡◌, ℕ, ◌==◌, ◌<◌, ◌+◌, ◌^◌, if◌then◌else◌, Bool, true, false, List, [], ◌∷◌, ◌++◌, map, Option, Some, None, IsSome, IfSome, option_map, Result, Ok, Err, OnOk, refl, sym, ap, subst, ◌∙◌, inl, inr, arith}
+use Rattle.std.proofs.Common.{◌≡◌, ℕ, ◌==◌, ◌<◌, ◌+◌, ◌^◌, if◌then◌else◌, cond, Bool, true, false, List, [], ◌∷◌, ◌++◌, map, Option, Some, None, IsSome, IfSome, option_map, Result, Ok, Err, OnOk, refl, sym, ap, subst, ◌∙◌, inl, inr, arith}
 use Rattle.std.proofs.lemmas.Bool.Decides.{nat_tests}
 use Rattle.std.proofs.lemmas.Bool.{cases_Bool, cond-true, cond-false, eqb-true}
 use Rattle.std.proofs.lemmas.Option.{none-some}
@@ -11,7 +11,7 @@ use Rattle.std.specs.Ordering.{nat_cmp, match_ordering}
 use Rattle.std.specs.declared.cmp.Ordering.TheVariants.{Greater}
 use Rattle.object_map.specs.declared.map.Row.{Row}
 use Rattle.object_map.specs.declared.map.Kept.{Kept}
-use Rattle.object_map.specs.Objects.{value_of, with_value, without_value, IsNextAbove, MapOf, parts_of, IsKeptOf, AreBelow, Puts, PutsBehind, PutsRow, PutsValue, Removes}
+use Rattle.object_map.specs.Objects.{value_of, with_value, without_value, IsNextAbove, MapOf, parts_of, IsKeptOf, AreBelow, Puts, PutsBehind, PutsRow, Removes}
 
 pub on_ok : {T E : Type 0} {P Q : Type 0} → (P → Q) → (result : Result T E) → OnOk result P → OnOk result Q
 on_ok f (Ok x) is = f is
@@ -19,6 +19,18 @@ on_ok f (Err e) is = is
 
 greater : (k e : ℕ) → e < k → nat_cmp k e ≡ Greater
 greater k e above = grind (arith, nat_tests)
+
+-- a key is found where it is the same number
+same_key : (k q : ℕ) → is_at (nat_cmp k) q ≡ (k == q)
+same_key k q = elim (cases_Bool (k == q)) [
+  | inl is ↦ let at : is_at (nat_cmp k) q ≡ true = grind (arith, nat_tests) in at ∙ sym is
+  | inr other ↦ let at : is_at (nat_cmp k) q ≡ false = grind (arith, nat_tests) in at ∙ sym other
+]
+
+-- where nothing is found, nothing is asked of it
+pub if_none : {X : Type 0} (P : X → Type 0) (found : Option X) → found ≡ None → IfSome found P
+if_none P None none = tt
+if_none P (Some x) none = absurd (none-some x (sym none))
 
 -- an entry whose key is above all others goes to the end
 pub inserted_behind : {X : Type 0} (es : List (ℕ × X)) (k : ℕ) (x : X) → AreBelow es k → insert_entry nat_cmp es k x ≡ es ++ (k, x) ∷ []
@@ -102,6 +114,27 @@ module _ {V : Type 0} where
       → IfSome (value_of (parts_of es).rows o) (λ old. Puts (parts_of es) o (record row { stamp = old.stamp + 1 }) value (parts_of fs))
   changed es fs o row value put = subst (λ (r : Option Row). IfSome r (λ old. Puts (parts_of es) o (record row { stamp = old.stamp + 1 }) value (parts_of fs))) (sym (row_at es o)) (changed_by es fs o row value (value_of es o) put)
 
+  -- where a value is written through, beside another row with the next stamp
+  pub lent : (es fs : List (ℕ × Kept V)) (o n : ℕ) (row next : Row) (value : V) (old : Kept V) → n ≡ o → Some old ≡ value_of es n → next ≡ record row { stamp = old.row.stamp + 1 }
+      → ((q : ℕ) → value_of fs q ≡ cond (is_at (nat_cmp n) q) (Some (record { row = next; value = value })) (value_of es q))
+      → IfSome (value_of (parts_of es).rows o) (λ before. Puts (parts_of es) o (record row { stamp = before.stamp + 1 }) value (parts_of fs))
+  lent es fs o n row next value old number there is put =
+      let found : value_of es o ≡ Some old = ap (value_of es) (sym number) ∙ sym there in
+      let kept : Kept V = record { row = record row { stamp = old.row.stamp + 1 }; value = value } in
+      let written : (q : ℕ) → value_of fs q ≡ with_value (value_of es) o kept q = λ q.
+      put q ∙ ap (λ (b : Bool). cond b (Some (record { row = next; value = value })) (value_of es q)) (same_key n q ∙ ap (λ (k : ℕ). k == q) number)
+      ∙ ap (λ (r : Row). cond (o == q) (Some (record { row = r; value = value })) (value_of es q)) is in
+      changed es fs o row value (subst (λ (f : Option (Kept V)). IfSome f (λ before. (q : ℕ) → value_of fs q ≡ with_value (value_of es) o (record { row = record row { stamp = before.row.stamp + 1 }; value = value }) q)) (sym found) written)
+
+  -- what is found of an object, by its number
+  pub row_found : (es : List (ℕ × Kept V)) (m : MapOf V) (o n : ℕ) (found : Option (Kept V)) → parts_of es ≡ m → n ≡ o → found ≡ value_of es n → value_of m.rows o ≡ option_map (λ k. k.row) found
+  row_found es m o n found view number is =
+      ap (λ (v : MapOf V). value_of v.rows o) (sym view) ∙ row_at es o ∙ ap (λ (k : ℕ). option_map (λ (k : Kept V). k.row) (value_of es k)) (sym number) ∙ ap (option_map (λ (k : Kept V). k.row)) (sym is)
+
+  pub value_found : (es : List (ℕ × Kept V)) (m : MapOf V) (o n : ℕ) (found : Option (Kept V)) → parts_of es ≡ m → n ≡ o → found ≡ value_of es n → value_of m.values o ≡ option_map (λ k. k.value) found
+  value_found es m o n found view number is =
+      ap (λ (v : MapOf V). value_of v.values o) (sym view) ∙ value_at es o ∙ ap (λ (k : ℕ). option_map (λ (k : Kept V). k.value) (value_of es k)) (sym number) ∙ ap (option_map (λ (k : Kept V). k.value)) (sym is)
+
   value_stays : (es fs : List (ℕ × Kept V)) (o : ℕ) (row : Row) (old : Kept V) → value_of es o ≡ Some old
       → ((q : ℕ) → value_of fs q ≡ with_value (value_of es) o (record old { row = row }) q) → (q : ℕ) → value_of (parts_of fs).values q ≡ value_of (parts_of es).values q
   value_stays es fs o row old there put q = elim (cases_Bool (o == q)) [
@@ -125,34 +158,6 @@ module _ {V : Type 0} where
       → IfSome (value_of es o) (λ old. (q : ℕ) → value_of fs q ≡ with_value (value_of es) o (record old { row = record row { stamp = old.row.stamp + 1 } }) q)
       → IfSome (value_of (parts_of es).rows o) (λ old. PutsRow (parts_of es) o (record row { stamp = old.stamp + 1 }) (parts_of fs))
   row_changed es fs o row put = subst (λ (r : Option Row). IfSome r (λ old. PutsRow (parts_of es) o (record row { stamp = old.stamp + 1 }) (parts_of fs))) (sym (row_at es o)) (row_changed_by es fs o row (value_of es o) refl put)
-
-  row_stays : (es fs : List (ℕ × Kept V)) (o : ℕ) (value : V) (old : Kept V) → value_of es o ≡ Some old
-      → ((q : ℕ) → value_of fs q ≡ with_value (value_of es) o (record old { value = value }) q) → (q : ℕ) → value_of (parts_of fs).rows q ≡ value_of (parts_of es).rows q
-  row_stays es fs o value old there put q = elim (cases_Bool (o == q)) [
-    | inl here ↦
-        (puts es fs o (record old { value = value }) put).rows q ∙ cond-true (o == q) (Some old.row) (value_of (parts_of es).rows q) here
-        ∙ sym (ap (λ (k : ℕ). value_of (parts_of es).rows k) (sym (eqb-true o q here)) ∙ row_at es o ∙ ap (option_map (λ k. k.row)) there)
-    | inr other ↦ (puts es fs o (record old { value = value }) put).rows q ∙ cond-false (o == q) (Some old.row) (value_of (parts_of es).rows q) other
-  ]
-
-  value_changed_by : (es fs : List (ℕ × Kept V)) (o : ℕ) (value : V) (found : Option (Kept V)) → value_of es o ≡ found
-      → IfSome found (λ old. (q : ℕ) → value_of fs q ≡ with_value (value_of es) o (record old { value = value }) q)
-      → IfSome (option_map (λ k. k.row) found) (λ old. PutsValue (parts_of es) o value (parts_of fs))
-  value_changed_by es fs o value None is put = put
-  value_changed_by es fs o value (Some old) is put = record {
-    rows = row_stays es fs o value old is put;
-    values = (puts es fs o (record old { value = value }) put).values;
-  }
-
-  -- where another value is put
-  pub value_changed : (es fs : List (ℕ × Kept V)) (o : ℕ) (value : V)
-      → IfSome (value_of es o) (λ old. (q : ℕ) → value_of fs q ≡ with_value (value_of es) o (record old { value = value }) q)
-      → IfSome (value_of (parts_of es).rows o) (λ old. PutsValue (parts_of es) o value (parts_of fs))
-  value_changed es fs o value put = subst (λ (r : Option Row). IfSome r (λ old. PutsValue (parts_of es) o value (parts_of fs))) (sym (row_at es o)) (value_changed_by es fs o value (value_of es o) refl put)
-
-  -- the value of what is kept
-  pub value_was : (es : List (ℕ × Kept V)) (o : ℕ) → option_map (λ (k : Kept V). k.value) (value_of es o) ≡ value_of (parts_of es).values o
-  value_was es o = sym (value_at es o)
 
   stamps_by : (found : Option (Kept V)) → IfSome (option_map (λ k. k.row) found) (λ old. old.stamp + 1 < 2 ^ 64) → IfSome found (λ old. old.row.stamp + 1 < 2 ^ 64)
   stamps_by None is = is

@@ -62,11 +62,6 @@ pub record PutsRow {V : Type 0} (m : MapOf V) (o : ℕ) (row : Row) (n : MapOf V
   pub rows : PutsAt m.rows o row n.rows
   pub values : (q : ℕ) → value_of n.values q ≡ value_of m.values q
 
--- an object has this value; all other values, and all rows, are as they were
-pub record PutsValue {V : Type 0} (m : MapOf V) (o : ℕ) (value : V) (n : MapOf V) : Type 0 where
-  pub rows : (q : ℕ) → value_of n.rows q ≡ value_of m.rows q
-  pub values : PutsAt m.values o value n.values
-
 -- an object has neither row nor value, and all others are as they were
 pub record Removes {V : Type 0} (m : MapOf V) (o : ℕ) (n : MapOf V) : Type 0 where
   pub rows : (q : ℕ) → value_of n.rows q ≡ without_value (value_of m.rows) o q

@@ -1,13 +1,15 @@
 ghost use Rattle.std.specs.Prelude.{◌≡◌, ℕ, ◌+◌, ◌<◌, ◌^◌, Some, None, IsSome, IfSome, IfNone, IfOk, IfErr, OnOk, OnErr, [], ◌∷◌, ◌++◌, length, option_copied, option_map};
-ghost use Rattle.object_map.specs.Objects.{value_of, without_value, PutsAt, IsNextAbove, IsKeptOf, AreBelow, Puts, PutsBehind, PutsRow, PutsValue, Removes};
+ghost use Rattle.object_map.specs.Objects.{value_of, without_value, PutsAt, IsNextAbove, IsKeptOf, AreBelow, Puts, PutsBehind, PutsRow, Removes};
 ghost use Rattle.object_map.specs.Rows.{row_of, fresh_row};
+ghost use Rattle.object_map.specs.Lending.{LendsChanged};
+ghost use Rattle.std.specs.Borrow.{sem};
+ghost use Rattle.std.specs.Option.{option_copied_mut};
 ghost use Rattle.s4_types.specs.declared.refusals.Refusal.TheVariants.{NoMemory};
 
 use s4_types::{Moment, ObjectId, Ptr, Refusal};
 use std::alloc::Global;
 use std::collections::BTreeMap;
 use std::marker::Model;
-use std::mem;
 use std::ops::Bound;
 
 /// Where an object's versions stand.
@@ -115,15 +117,6 @@ fn replace_row<V: Drop>(map: &mut BTreeMap<u64, Kept<V>>, key: u64, row: &Row)
     }
 }
 
-// At a key another value; the row stays. Answers the value that stood there.
-fn exchange<V: Drop>(map: &mut BTreeMap<u64, Kept<V>>, key: u64, value: V) -> Option<V>
-    ensures was { result ≡ option_map (λ k. k.value) (value_of map.old.entries key) }
-    ensures changed { IfSome (value_of map.old.entries key) (λ old. PutsAt map.old.entries key (record old { value = value }) map.new.entries) }
-{
-    let kept = map.get_mut(&key)?;
-    Some(mem::replace(&mut kept.value, value))
-}
-
 // The value at a key goes, if there is one.
 fn take_out<V: Drop>(map: &mut BTreeMap<u64, V>, key: u64)
     ensures { (q : ℕ) → value_of map.new.entries q ≡ without_value (value_of map.old.entries) key q }
@@ -193,6 +186,19 @@ impl<V: Drop> ObjectMap<V> {
         replace(&mut self.objects, object.number(), row, value);
     }
 
+    /// An object's row becomes this one, but for the stamp, which is one above the old row's; and the value beside it is lent, to be
+    /// changed in its place. None, and nothing has changed, where the object has no row.
+    pub fn change_in_place(&mut self, object: ObjectId, row: &Row) -> Option<&mut V>
+        requires there { IfSome (row_of self.old.rows object) (λ old. old.stamp + 1 < 2 ^ 64) }
+        ensures* changed { sem 𝓛 (LendsChanged V.row self.entry object row.now result) }
+        ensures value { option_copied_mut result ≡ value_of self.old.values object }
+        ensures none { IfNone result (row_of self.old.rows object ≡ None) }
+    {
+        let found = self.objects.get_mut(&object.number())?;
+        found.row = next_of(&found.row, row);
+        Some(&mut found.value)
+    }
+
     /// An object's row becomes this one, but for the stamp, which is one above the old row's; the value beside it stays.
     pub fn change_row(&mut self, object: ObjectId, row: &Row)
         requires there { IfSome (row_of self.old.rows object) (λ old. old.stamp + 1 < 2 ^ 64) }
@@ -200,15 +206,6 @@ impl<V: Drop> ObjectMap<V> {
         ensures changed { IfSome (row_of self.old.rows object) (λ old. PutsRow self.old object (record row.now { stamp = old.stamp + 1 }) self.new) }
     {
         replace_row(&mut self.objects, object.number(), row);
-    }
-
-    /// The value beside an object's row becomes this one, and the row stays. Answers the value that stood there, and none where
-    /// the object has no row: then the value is let go.
-    pub fn exchange(&mut self, object: ObjectId, value: V) -> Option<V>
-        ensures was { result ≡ value_of self.old.values object }
-        ensures changed { IfSome (row_of self.old.rows object) (λ old. PutsValue self.old object value self.new) }
-    {
-        exchange(&mut self.objects, object.number(), value)
     }
 
     /// An object's row and value go, if it has any.

@@ -1,17 +1,15 @@
-//! An object's present inode, with an index of its journal.
-ghost use Rattle.std.specs.Prelude.{◌≡◌, ℕ, ◌==◌, ◌++◌, false, List, IsSome};
+//! What stands beside an object's row.
+ghost use Rattle.std.specs.Prelude.{◌≡◌, ◌+◌, ◌^◌, ◌<◌, ◌++◌, List, IsSome, IfSome};
 ghost use Rattle.codec.specs.Entry.{EntryFields};
-ghost use Rattle.object_map.specs.Objects.{value_of};
 ghost use Rattle.object_map.specs.Rows.{row_of};
-ghost use Rattle.time_read.specs.Presents.{Tells, TellsOf};
-ghost use Rattle.time_read.specs.Rows.{IsRow, entries_of, inode_of, last_inode};
+ghost use Rattle.version_store.specs.private.Beside.{Tells, TurnsBeside};
 
 use crate::inodes::inode_at;
 use crate::undo_index::UndoIndex;
 use block_log::Blocks;
 use codec::{Entry, Inode};
 use object_map::{ObjectMap, Row};
-use s4_types::{Moment, ObjectId};
+use s4_types::ObjectId;
 use std::alloc::Global;
 use undo_redo::laws::a_run_has_one_end_and_one_beginning;
 
@@ -60,29 +58,43 @@ pub fn index_of(alloc: Global, entries: &[Entry]) -> Option<UndoIndex>
     }
 }
 
-/// Takes an object's index out of the map, and appends what undoes these entries. None where there was none, or where
-/// memory for it is refused.
-pub fn take_index(
+/// Appends to an index, if there is one, what undoes these entries. There is none any more where memory for that is refused.
+fn lengthen(index: &mut Option<UndoIndex>, entries: &[Entry])
+    ensures { (older : List EntryFields) → Tells index.old older → Tells index.new (older ++ entries.now) }
+{
+    if let Some(undoings) = index {
+        if undoings.push(entries).is_err() {
+            *index = None;
+        }
+    }
+}
+
+impl Present {
+    /// The object has another inode, to which these entries lead.
+    fn turn(&mut self, after: &Inode, entries: &[Entry])
+        ensures inode { self.new.inode ≡ after.now }
+        ensures told { (older : List EntryFields) → Tells self.old.index older → Tells self.new.index (older ++ entries.now) }
+    {
+        self.inode = *after;
+        lengthen(&mut self.index, entries);
+    }
+}
+
+/// An object's row becomes this one, but for the stamp, which is one above the old row's; and what stands beside it is changed in its
+/// place: it has another inode, to which these entries lead. One search of the map finds both.
+pub(crate) fn turn_beside(
     objects: &mut ObjectMap<Present>,
     object: ObjectId,
-    before: &Inode,
+    row: &Row,
+    after: &Inode,
     entries: &[Entry],
-) -> Option<UndoIndex>
-    requires { IsSome (row_of objects.old.rows object) }
-    ensures rows { (q : ℕ) → row_of objects.new.rows q ≡ row_of objects.old.rows q }
-    ensures others { (q : ℕ) → (object == q) ≡ false → value_of objects.new.values q ≡ value_of objects.old.values q }
-    ensures told { (older : List EntryFields) → TellsOf (value_of objects.old.values object) older → Tells result (older ++ entries.now) }
+)
+    requires there { IfSome (row_of objects.old.rows object) (λ old. old.stamp + 1 < 2 ^ 64) }
+    requires some { IsSome (row_of objects.old.rows object) }
+    ensures { IfSome (row_of objects.old.rows object) (λ old. TurnsBeside objects.old object (record row.now { stamp = old.stamp + 1 }) after.now entries.now objects.new) }
 {
-    let bare = Present {
-        inode: *before,
-        index: None,
+    let Some(present) = objects.change_in_place(object, row) else {
+        unreachable!()
     };
-    let Some(Present { inode: _, index }) = objects.exchange(object, bare) else {
-        return None;
-    };
-    let mut index = index?;
-    match index.push(entries) {
-        Ok(()) => Some(index),
-        Err(_) => None,
-    }
+    present.turn(after, entries);
 }

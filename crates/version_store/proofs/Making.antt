@@ -1,5 +1,5 @@
 -- What each kind of change makes of an inode.
-use Rattle.std.proofs.Common.{◌≡◌, ℕ, ◌≤◌, true, false, List, length, None, refl, sym, ap, subst, ◌∙◌, inl, arith}
+use Rattle.std.proofs.Common.{◌≡◌, ℕ, ◌≤◌, true, false, List, length, Some, None, refl, sym, ap, subst, ◌∙◌, inl, arith}
 use Rattle.std.proofs.lemmas.List.FromFn.{length-map-range_with_len}
 use Rattle.std.proofs.lemmas.Option.{none-some}
 use Rattle.s4_types.specs.Pointer.{Place}
@@ -18,18 +18,32 @@ use Rattle.inode.specs.Changed.{Written, Truncated, listed_blocks, blocks_writte
 use Rattle.inode.specs.Growth.{GrowsBy, with_data}
 use Rattle.inode.specs.Laws.{HeldPointersLead}
 use Rattle.version_store.specs.Store.{StoreFields}
-use Rattle.version_store.specs.Taking.{IsThere}
+use Rattle.object_map.specs.declared.map.Row.{Row}
+use Rattle.object_map.specs.Rows.{row_of, with_row, fresh_row}
+use Rattle.version_store.specs.Costs.{room, row_or_fresh, subject_row}
+use Rattle.version_store.specs.Taking.{IsThere, IsAboveAll}
 use Rattle.version_store.specs.private.Turning.{CanTake}
 use Rattle.version_store.specs.private.Below.{OnePlace, FreshInode, BlankCount, BlankHoles}
 use Rattle.version_store.proofs.Counting.{Fresh, none_moved, written_moves, truncated_moves}
 use Rattle.version_store.proofs.Naming.{written_names, truncated_names}
 use Rattle.version_store.proofs.Across.{above_has_none}
+use Rattle.version_store.proofs.Steps.{row_here}
 use Rattle.version_store.proofs.Subjects.{IsSubject, subject_of}
 use Rattle.version_store.proofs.Kind.{Makes, grows_none, alive_leads, deleted_leads, created_leads, blank_subject}
 
 -- the object of a change that is there
 pub can_subject : (s : StoreFields) (change : Change) (m : ℕ) (i : Inode) → CanTake s change m i → IsThere s (object_of change) → IsSubject s (object_of change) m i
 can_subject s change m i can there = subject_of s (object_of change) m i can.store there can.begins
+
+-- the row that it begins with is the object's
+pub subject_is : (s : StoreFields) (o m : ℕ) (i : Inode) (row : Row) → IsSubject s o m i → row ≡ subject_row s o m → row_of s.rows o ≡ Some row
+subject_is s o m i row subject is = subject.there ∙ ap (λ (r : Row). Some r) (sym subject.subject ∙ sym is)
+
+-- and once an object was added, the row that its creation begins with
+pub subject_made : (s : StoreFields) (rows : List (ℕ × Row)) (o m : ℕ) (row : Row) → IsAboveAll s o → ((q : ℕ) → row_of rows q ≡ with_row (row_of s.rows) o (fresh_row m) q) → row ≡ subject_row s o m
+    → row_of rows o ≡ Some row
+subject_made s rows o m row above added is =
+    added o ∙ row_here (row_of s.rows) o (fresh_row m) ∙ ap (λ (r : Row). Some r) (sym (is ∙ ap (row_or_fresh m) (above_has_none s o above)))
 
 -- ---- the changes without data
 

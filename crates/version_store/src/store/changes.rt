@@ -14,6 +14,7 @@ ghost use Rattle.version_store.specs.private.Turning.{CanTake, CanTurn, Turns, I
 
 use crate::costs::{object_of, refusal};
 use crate::laws::{changes_begin_with_the_present, what_changes_rest_on};
+use crate::presents::{Present, turn_beside};
 use crate::store::Store;
 use block_log::Blocks;
 use codec::{Attribute, Entry, Inode};
@@ -35,104 +36,114 @@ fn attribute_of(bytes: &[u8]) -> Attribute
     Attribute::new(bytes).unwrap()
 }
 
+/// What a change of an object begins with: its present row and inode, and a fresh row and the blank inode of the change's moment where
+/// it has none.
+#[derive(Drop)]
+struct Subject {
+    row: Row,
+    inode: Inode,
+}
+
 impl<B: Blocks> Store<B> {
-    /// The row and the inode that a change of an object at a moment begins with: its present ones, and a fresh row and the blank
-    /// inode of the moment where it has none. One search of the map finds both.
-    fn begun(&self, object: ObjectId, moment: Moment) -> (Row, Inode)
-        ensures row { result.0 ≡ subject_row (fields_of B.log self.now) object moment }
-        ensures inode { result.1 ≡ subject_inode (fields_of B.log self.now) object moment }
+    /// What a change of an object at a moment begins with. One search of the map finds the row and the inode.
+    fn subject(&self, object: ObjectId, moment: Moment) -> Subject
+        ensures row { result.row ≡ subject_row (fields_of B.log self.now) object moment }
+        ensures inode { result.inode ≡ subject_inode (fields_of B.log self.now) object moment }
     {
         changes_begin_with_the_present();
         match self.objects.get(object) {
-            Some(kept) => (kept.row, kept.value.inode),
-            None => (Row::fresh(moment), blank(moment)),
+            Some(kept) => Subject {
+                row: kept.row,
+                inode: kept.value.inode,
+            },
+            None => Subject {
+                row: Row::fresh(moment),
+                inode: blank(moment),
+            },
         }
     }
 
     /// ChainFull or NoSpace, where a change at a moment is refused.
-    fn check(
-        &self,
-        change: &Change,
-        row: &Row,
-        present: &Inode,
-        moment: Moment,
-    ) -> Result<(), Refusal>
+    fn check(&self, change: &Change, subject: &Subject, moment: Moment) -> Result<(), Refusal>
         requires store { IsStore (fields_of B.log self.now) }
         requires takes { Takes (fields_of B.log self.now) change.now }
-        requires row { row.now ≡ subject_row (fields_of B.log self.now) (object_of change.now) moment }
-        requires present { present.now ≡ subject_inode (fields_of B.log self.now) (object_of change.now) moment }
+        requires row { subject.now.row ≡ subject_row (fields_of B.log self.now) (object_of change.now) moment }
+        requires inode { subject.now.inode ≡ subject_inode (fields_of B.log self.now) (object_of change.now) moment }
         ensures { MatchResult result (λ _. change_refusal (fields_of B.log self.now) change.now moment ≡ None)
             (λ e. change_refusal (fields_of B.log self.now) change.now moment ≡ Some e) }
     {
         a_fresh_row_stands();
         a_blank_inode_has_holes_alone();
-        refusal(self.room(), change, row, present)
+        refusal(self.room(), change, &subject.row, &subject.inode)
     }
 
-    /// From a moment on an object has another inode: these entries, which lead there, are appended to its journal, and its row is
-    /// changed.
+    /// From a moment on an object has another inode: these entries, which lead there, are appended to its journal, and its row
+    /// is changed.
     fn put_turn(
         &mut self,
         object: ObjectId,
-        before: &Inode,
+        subject: &Subject,
         after: &Inode,
         moment: Moment,
         entries: &[Entry],
     )
-        requires can { CanTurn (fields_of B.log self.old) object before.now after.now moment }
-        requires told { entries.now ≡ entries_between before.now after.now moment }
-        ensures { Turns (fields_of B.log self.old) object moment after.now (blocks_turned (fields_of B.log self.old) object before.now after.now moment) (fields_of B.log self.new) }
+        requires can { CanTurn (fields_of B.log self.old) object subject.now.inode after.now moment }
+        requires row { row_of self.old.rows object ≡ Some subject.now.row }
+        requires told { entries.now ≡ entries_between subject.now.inode after.now moment }
+        ensures { Turns (fields_of B.log self.old) object moment after.now (blocks_turned (fields_of B.log self.old) object subject.now.inode after.now moment) (fields_of B.log self.new) }
     {
         what_changes_rest_on();
-        let Some(kept) = self.objects.get(object) else {
-            unreachable!()
-        };
-        let row = &kept.row;
+        let row = &subject.row;
+        let before = &subject.inode;
         let Ok(next) = record_change(&mut self.table, object, row, before, after, moment, entries)
         else {
             unreachable!()
         };
-        let index = take_index(&mut self.objects, object, before, entries);
-        let present = Present {
-            inode: *after,
-            index,
-        };
-        self.objects.change(object, &next, present);
+        turn_beside(&mut self.objects, object, &next, after, entries);
         self.latest = moment;
     }
 
     /// [`Store::put_turn`] with the entries that lead there.
-    fn turn(&mut self, object: ObjectId, before: &Inode, after: &Inode, moment: Moment)
-        requires { CanTurn (fields_of B.log self.old) object before.now after.now moment }
-        ensures { Turns (fields_of B.log self.old) object moment after.now (blocks_turned (fields_of B.log self.old) object before.now after.now moment) (fields_of B.log self.new) }
+    fn turn(&mut self, object: ObjectId, subject: &Subject, after: &Inode, moment: Moment)
+        requires can { CanTurn (fields_of B.log self.old) object subject.now.inode after.now moment }
+        requires row { row_of self.old.rows object ≡ Some subject.now.row }
+        ensures { Turns (fields_of B.log self.old) object moment after.now (blocks_turned (fields_of B.log self.old) object subject.now.inode after.now moment) (fields_of B.log self.new) }
     {
-        if let Some(entry) = only_entry_between(before, after, moment) {
-            self.put_turn(object, before, after, moment, from_ref(&entry));
+        if let Some(entry) = only_entry_between(&subject.inode, after, moment) {
+            self.put_turn(object, subject, after, moment, from_ref(&entry));
         } else {
-            let entries = entries_between(before, after, moment);
-            self.put_turn(object, before, after, moment, entries.as_slice());
+            let entries = entries_between(&subject.inode, after, moment);
+            self.put_turn(object, subject, after, moment, entries.as_slice());
         }
     }
 
     /// Takes a deletion.
-    fn delete(&mut self, object: ObjectId, present: &Inode, moment: Moment)
-        requires { CanTake (fields_of B.log self.old) (Delete object) moment present.now }
-        ensures { IsTaken (fields_of B.log self.old) (Delete object) moment present.now (fields_of B.log self.new) }
+    fn delete(&mut self, object: ObjectId, subject: &Subject, moment: Moment)
+        requires can { CanTake (fields_of B.log self.old) (Delete object) moment subject.now.inode }
+        requires row { subject.now.row ≡ subject_row (fields_of B.log self.old) object moment }
+        ensures { IsTaken (fields_of B.log self.old) (Delete object) moment subject.now.inode (fields_of B.log self.new) }
     {
         what_changes_rest_on();
-        let after = deleted(present);
-        self.turn(object, present, &after, moment);
+        let after = deleted(&subject.inode);
+        self.turn(object, subject, &after, moment);
     }
 
     /// Takes a change of the attribute.
-    fn set_attribute(&mut self, object: ObjectId, attribute: &[u8], present: &Inode, moment: Moment)
-        requires { CanTake (fields_of B.log self.old) (SetAttr object attribute.now) moment present.now }
-        ensures { IsTaken (fields_of B.log self.old) (SetAttr object attribute.now) moment present.now (fields_of B.log self.new) }
+    fn set_attribute(
+        &mut self,
+        object: ObjectId,
+        attribute: &[u8],
+        subject: &Subject,
+        moment: Moment,
+    )
+        requires can { CanTake (fields_of B.log self.old) (SetAttr object attribute.now) moment subject.now.inode }
+        requires row { subject.now.row ≡ subject_row (fields_of B.log self.old) object moment }
+        ensures { IsTaken (fields_of B.log self.old) (SetAttr object attribute.now) moment subject.now.inode (fields_of B.log self.new) }
     {
         what_changes_rest_on();
         let attribute = attribute_of(attribute);
-        let after = with_attribute(present, attribute, moment);
-        self.turn(object, present, &after, moment);
+        let after = with_attribute(&subject.inode, attribute, moment);
+        self.turn(object, subject, &after, moment);
     }
 
     /// Takes a write.
@@ -141,25 +152,34 @@ impl<B: Blocks> Store<B> {
         object: ObjectId,
         offset: u64,
         bytes: &[u8],
-        present: &Inode,
+        subject: &Subject,
         moment: Moment,
     )
-        requires { CanTake (fields_of B.log self.old) (Write object offset bytes.now) moment present.now }
-        ensures { IsTaken (fields_of B.log self.old) (Write object offset bytes.now) moment present.now (fields_of B.log self.new) }
+        requires can { CanTake (fields_of B.log self.old) (Write object offset bytes.now) moment subject.now.inode }
+        requires row { subject.now.row ≡ subject_row (fields_of B.log self.old) object moment }
+        ensures { IsTaken (fields_of B.log self.old) (Write object offset bytes.now) moment subject.now.inode (fields_of B.log self.new) }
     {
         what_changes_rest_on();
-        let after = write(&mut self.table, object, present, moment, offset, bytes);
-        self.turn(object, present, &after, moment);
+        let after = write(
+            &mut self.table,
+            object,
+            &subject.inode,
+            moment,
+            offset,
+            bytes,
+        );
+        self.turn(object, subject, &after, moment);
     }
 
     /// Takes a truncation.
-    fn truncate(&mut self, object: ObjectId, size: u64, present: &Inode, moment: Moment)
-        requires { CanTake (fields_of B.log self.old) (Truncate object size) moment present.now }
-        ensures { IsTaken (fields_of B.log self.old) (Truncate object size) moment present.now (fields_of B.log self.new) }
+    fn truncate(&mut self, object: ObjectId, size: u64, subject: &Subject, moment: Moment)
+        requires can { CanTake (fields_of B.log self.old) (Truncate object size) moment subject.now.inode }
+        requires row { subject.now.row ≡ subject_row (fields_of B.log self.old) object moment }
+        ensures { IsTaken (fields_of B.log self.old) (Truncate object size) moment subject.now.inode (fields_of B.log self.new) }
     {
         what_changes_rest_on();
-        let after = truncate(&mut self.table, object, present, moment, size as u32);
-        self.turn(object, present, &after, moment);
+        let after = truncate(&mut self.table, object, &subject.inode, moment, size as u32);
+        self.turn(object, subject, &after, moment);
     }
 
     /// Gives an object its first row, and its inode beside it. NoMemory where they couldn't be stored; then nothing has changed.
@@ -186,43 +206,45 @@ impl<B: Blocks> Store<B> {
         &mut self,
         object: ObjectId,
         attribute: &[u8],
-        present: &Inode,
+        subject: &Subject,
         moment: Moment,
     ) -> Result<(), Refusal>
-        requires { CanTake (fields_of B.log self.old) (Create object attribute.now) moment present.now }
-        ensures taken { OnOk result (IsTaken (fields_of B.log self.old) (Create object attribute.now) moment present.now (fields_of B.log self.new)) }
+        requires can { CanTake (fields_of B.log self.old) (Create object attribute.now) moment subject.now.inode }
+        requires row { subject.now.row ≡ subject_row (fields_of B.log self.old) object moment }
+        ensures taken { OnOk result (IsTaken (fields_of B.log self.old) (Create object attribute.now) moment subject.now.inode (fields_of B.log self.new)) }
         ensures refusal { IfErr result (λ e. e ≡ NoMemory) }
         ensures unchanged { OnErr result (fields_of B.log self.new ≡ fields_of B.log self.old) }
     {
         what_changes_rest_on();
         let attribute = attribute_of(attribute);
-        self.add_object(object, present, moment)?;
+        self.add_object(object, &subject.inode, moment)?;
         let after = created(attribute, moment);
-        self.turn(object, present, &after, moment);
+        self.turn(object, subject, &after, moment);
         Ok(())
     }
 
     /// Takes a change that isn't refused. NoMemory of a creation alone, and then nothing has changed.
     #[tactic(auto, using(crate::proofs::Across::above_has_none))]
-    fn perform(&mut self, change: &Change, present: &Inode, moment: Moment) -> Result<(), Refusal>
-        requires { CanTake (fields_of B.log self.old) change.now moment present.now }
-        ensures taken { OnOk result (IsTaken (fields_of B.log self.old) change.now moment present.now (fields_of B.log self.new)) }
+    fn perform(&mut self, change: &Change, subject: &Subject, moment: Moment) -> Result<(), Refusal>
+        requires can { CanTake (fields_of B.log self.old) change.now moment subject.now.inode }
+        requires row { subject.now.row ≡ subject_row (fields_of B.log self.old) (object_of change.now) moment }
+        ensures taken { OnOk result (IsTaken (fields_of B.log self.old) change.now moment subject.now.inode (fields_of B.log self.new)) }
         ensures refusal { IfErr result (λ e. (e ≡ NoMemory) × (row_of self.old.rows (object_of change.now) ≡ None)) }
         ensures unchanged { OnErr result (fields_of B.log self.new ≡ fields_of B.log self.old) }
     {
         match change {
             Change::Create { object, attribute } => {
-                self.create(*object, attribute.as_slice(), present, moment)?;
+                self.create(*object, attribute.as_slice(), subject, moment)?;
             }
-            Change::Delete { object } => self.delete(*object, present, moment),
+            Change::Delete { object } => self.delete(*object, subject, moment),
             Change::Write {
                 object,
                 offset,
                 bytes,
-            } => self.write(*object, *offset, bytes.as_slice(), present, moment),
-            Change::Truncate { object, size } => self.truncate(*object, *size, present, moment),
+            } => self.write(*object, *offset, bytes.as_slice(), subject, moment),
+            Change::Truncate { object, size } => self.truncate(*object, *size, subject, moment),
             Change::SetAttr { object, attribute } => {
-                self.set_attribute(*object, attribute.as_slice(), present, moment);
+                self.set_attribute(*object, attribute.as_slice(), subject, moment);
             }
             Change::SetWindow { .. } => unreachable!(),
             Change::Flush { .. } => unreachable!(),
@@ -254,8 +276,8 @@ impl<B: Blocks> Store<B> {
         ensures memory { IfErr result (λ e. e ≡ NoMemory → (change_refusal (fields_of B.log self.old) change.now moment ≡ None) × (row_of self.old.rows (object_of change.now) ≡ None)) }
         ensures unchanged { OnErr result (fields_of B.log self.new ≡ fields_of B.log self.old) }
     {
-        let (row, present) = self.begun(object_of(change), moment);
-        self.check(change, &row, &present, moment)?;
-        self.perform(change, &present, moment)
+        let subject = self.subject(object_of(change), moment);
+        self.check(change, &subject, moment)?;
+        self.perform(change, &subject, moment)
     }
 }

@@ -5,8 +5,8 @@ use Rattle.version_store.proofs.store.Store.check.Goals as goal
 
 pub refusal-requires-clause-size : goal.refusal-requires-clause-size
 refusal-requires-clause-size g c =
-    (begins_tidy c.a_fresh_row_stands.ensures.inode c.a_blank_inode_has_holes_alone.ensures.count c.a_blank_inode_has_holes_alone.ensures.holes (fields_of g.B.Blocks.log c.args.self.now) (object_of c.args.change.now) c.args.moment c.args.present.now c.requires.store c.requires.present).size
+    (begins_tidy c.a_fresh_row_stands.ensures.inode c.a_blank_inode_has_holes_alone.ensures.count c.a_blank_inode_has_holes_alone.ensures.holes (fields_of g.B.Blocks.log c.args.self.now) (object_of c.args.change.now) c.args.moment c.args.subject.now.inode c.requires.store c.requires.inode).size
 
 pub refusal-requires-clause-count : goal.refusal-requires-clause-count
 refusal-requires-clause-count g c =
-    (begins_tidy c.a_fresh_row_stands.ensures.inode c.a_blank_inode_has_holes_alone.ensures.count c.a_blank_inode_has_holes_alone.ensures.holes (fields_of g.B.Blocks.log c.args.self.now) (object_of c.args.change.now) c.args.moment c.args.present.now c.requires.store c.requires.present).count
+    (begins_tidy c.a_fresh_row_stands.ensures.inode c.a_blank_inode_has_holes_alone.ensures.count c.a_blank_inode_has_holes_alone.ensures.holes (fields_of g.B.Blocks.log c.args.self.now) (object_of c.args.change.now) c.args.moment c.args.subject.now.inode c.requires.store c.requires.inode).count

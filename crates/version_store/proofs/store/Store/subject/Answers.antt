@@ -5,7 +5,7 @@ use Rattle.object_map.specs.Rows.{row_of}
 use Rattle.version_store.specs.Store.{StoreOf, StoreFields, fields_of}
 use Rattle.version_store.specs.Costs.{row_or_fresh, subject_row, subject_inode}
 use Rattle.version_store.proofs.Beside.{inode_kept}
-use Rattle.version_store.proofs.store.Store.begun.Goals as goal
+use Rattle.version_store.proofs.store.Store.subject.Goals as goal
 
 pub returns-in-Some : goal.returns-in-Some
 returns-in-Some g c =

@@ -1,0 +1,23 @@
+use Rattle.std.proofs.Common.{◌+◌, List, Option, sym, subst}
+use Rattle.object_map.specs.declared.map.Row.{Row}
+use Rattle.object_map.specs.Objects.{Puts}
+use Rattle.object_map.specs.Rows.{row_of}
+use Rattle.version_store.specs.declared.presents.Present.{Present}
+use Rattle.version_store.specs.private.Beside.{TellsOf, TurnsBeside}
+use Rattle.version_store.proofs.Beside.{if_found}
+use Rattle.version_store.proofs.presents.turn_beside.Goals as goal
+
+pub returns : goal.returns
+returns c =
+    let m = c.args.objects.now in
+    let o = c.args.object in
+    let row : Row = c.args.row.now in
+    let after : Present = c.turn.new.self in
+    let later = c.change_in_place.follows.lender after in
+    if_found (λ old. Puts m o (record row { stamp = old.stamp + 1 }) after later) (λ old. TurnsBeside m o (record row { stamp = old.stamp + 1 }) c.args.after.now c.args.entries.now later) (row_of m.rows o)
+    (λ old put. record {
+      present = after;
+      put = put;
+      inode = c.turn.ensures.inode;
+      told = λ older tells. c.turn.ensures.told older (subst (λ (p : Option Present). TellsOf p older) (sym c.in-Some.ensures.value) tells);
+    }) (c.change_in_place.follows.holds after)
