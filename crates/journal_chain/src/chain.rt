@@ -1,6 +1,6 @@
-ghost use Rattle.std.specs.Prelude.{◌≡◌, ℕ, ◌+◌, ◌≤◌, ◌<◌, ◌++◌, List, [], ◌∷◌, length, map, nat_lt, None, Some, OnOk, OnErr, MatchResult, IsSome, Option};
+ghost use Rattle.std.specs.Prelude.{◌≡◌, ℕ, ◌+◌, ◌≤◌, ◌<◌, ◌++◌, List, [], ◌∷◌, length, map, None, Some, OnOk, OnErr, MatchResult, IsSome, Option};
 ghost use Rattle.std.specs.Option.{option_to_list};
-ghost use Rattle.s4_types.specs.declared.limits.TheConstants.{CHAIN_ENTRY_BYTES, JOURNAL_ENTRY_BYTES, CHANGE_ENTRIES};
+ghost use Rattle.s4_types.specs.declared.limits.TheConstants.{CHAIN_ENTRY_BYTES, JOURNAL_ENTRY_BYTES};
 ghost use Rattle.s4_types.specs.Pointer.{Place};
 ghost use Rattle.s4_types.specs.declared.refusals.Refusal.TheVariants.{NoMemory};
 ghost use Rattle.block_log.specs.declared.kinds.BlockKind.TheVariants.{Journal};
@@ -11,7 +11,7 @@ ghost use Rattle.journal_chain.specs.Sizes.{blocks_needed, filled_with};
 ghost use Rattle.journal_chain.specs.Packing.{AllFit, filled_bytes, packed};
 ghost use Rattle.journal_chain.specs.Chain.{ChainFields, Holds, OnlyJournalChanged, chain_entries, entries_held};
 ghost use Rattle.journal_chain.specs.Back.{entries_left};
-ghost use Rattle.journal_chain.specs.Push.{pushed_blocks, push_refusal, rewrite_refusal, whole_blocks};
+ghost use Rattle.journal_chain.specs.Push.{HasRoom, pushed_blocks, rewrite_refusal, whole_blocks};
 ghost use Rattle.journal_chain.specs.Writing.{Standing, Finished, Unfinished, reopened};
 
 use crate::back::EntriesBack;
@@ -24,7 +24,7 @@ use arrayvec::ArrayVec;
 use block_log::Blocks;
 use block_log::laws::{no_change_takes_no_place, places_taken_add_up};
 use codec::{Entry, JournalBytes};
-use s4_types::limits::{CHAIN_ENTRIES, CHAIN_ENTRY_BYTES, CHANGE_ENTRIES, SHORTEST_ENTRY_BYTES};
+use s4_types::limits::{CHAIN_ENTRIES, SHORTEST_ENTRY_BYTES};
 use s4_types::{ObjectId, Ptr, Refusal};
 use std::alloc::Global;
 use std::marker::Model;
@@ -114,20 +114,6 @@ impl Chain {
         self.filled as usize
     }
 
-    /// Whether the chain has no room for so many bytes of entries more.
-    pub fn is_full_for(&self, bytes: usize) -> bool
-        ensures { result ≡ nat_lt CHAIN_ENTRY_BYTES (self.now.bytes + bytes) }
-    {
-        bytes > CHAIN_ENTRY_BYTES - self.bytes as usize
-    }
-
-    /// How many blocks a push of entries of these sizes, in bytes, appends.
-    pub fn blocks_needed(&self, sizes: &[usize]) -> usize
-        ensures { result ≡ blocks_needed self.now.filled sizes.now }
-    {
-        blocks_needed(self.filled as usize, sizes)
-    }
-
     /// The head, where an entry of this size goes into it.
     fn reopened(&self, size: usize) -> Option<Ptr>
         ensures value { result ≡ reopened self.now size }
@@ -194,34 +180,20 @@ impl Chain {
         self.set_head(head, bytes, block.entry_bytes());
     }
 
-    /// Appends entries, which are those of one change.
-    ///
-    /// ChainFull exactly where the chain's entries would have more than 11,712 bytes, else NoSpace exactly where fewer
-    /// places are ahead than the push appends blocks; then nothing has changed.
-    pub fn push<B: Blocks>(&mut self, table: &mut B, entries: &[Entry]) -> Result<(), Refusal>
+    /// Appends entries that have so many bytes, and for which there is room.
+    pub fn push<B: Blocks>(&mut self, table: &mut B, entries: &[Entry], bytes: usize)
         requires held { Holds (B.log table.old).held self.old (entries_held (B.log table.old).held self.old) }
-        requires few { length entries.now ≤ CHANGE_ENTRIES }
-        ensures holds { OnOk result (Holds (B.log table.new).held self.new (entries_held (B.log table.old).held self.old ++ entries.now)) }
+        requires bytes { bytes ≡ entries_length entries.now }
+        requires room { HasRoom self.old (B.log table.old).ahead entries.now }
+        ensures holds { Holds (B.log table.new).held self.new (entries_held (B.log table.old).held self.old ++ entries.now) }
         ensures others { OnlyJournalChanged self.old.object (B.log table.old).held (B.log table.new).held }
-        ensures takes { OnOk result (TakesPlaces (pushed_blocks self.old entries.now) (B.log table.old) (B.log table.new)) }
-        ensures answer { MatchResult result (λ _. push_refusal self.old (B.log table.old).ahead entries.now ≡ None) (λ e. push_refusal self.old (B.log table.old).ahead entries.now ≡ Some e) }
+        ensures takes { TakesPlaces (pushed_blocks self.old entries.now) (B.log table.old) (B.log table.new) }
         ensures object { self.new.object ≡ self.old.object }
-        ensures unchanged { OnErr result ((B.log table.new ≡ B.log table.old) × (self.new ≡ self.old)) }
     {
         no_change_takes_no_place();
-        let bytes = bytes_of(entries);
-        if self.is_full_for(bytes) {
-            return Err(Refusal::ChainFull);
+        if let [first, later @ ..] = entries {
+            self.append(table, first, later, bytes);
         }
-        let sizes: ArrayVec<usize, CHANGE_ENTRIES> = sizes_of(entries);
-        if table.blocks_left() < self.blocks_needed(sizes.as_slice()) {
-            return Err(Refusal::NoSpace);
-        }
-        let [first, later @ ..] = entries else {
-            return Ok(());
-        };
-        self.append(table, first, later, bytes);
-        Ok(())
     }
 
     /// A reader of the chain's entries, the newest first.

@@ -22,5 +22,5 @@ mod undo_records;
 pub use inodes::{entries, inode_at};
 pub use journals::ObjectJournal;
 pub use plans::{ReadPlan, plan};
-pub use presents::{Present, index_of, take_index};
+pub use presents::{Present, index_of, turn_beside};
 pub use undo_index::UndoIndex;

@@ -1,15 +1,16 @@
-//! What stands beside an object's row.
+//! An object's present inode, with an index of its journal.
 ghost use Rattle.std.specs.Prelude.{◌≡◌, ◌+◌, ◌^◌, ◌<◌, ◌++◌, List, IsSome, IfSome};
 ghost use Rattle.codec.specs.Entry.{EntryFields};
 ghost use Rattle.object_map.specs.Rows.{row_of};
-ghost use Rattle.version_store.specs.private.Beside.{Tells, TurnsBeside};
+ghost use Rattle.time_read.specs.Presents.{Tells, TurnsBeside};
+ghost use Rattle.time_read.specs.Rows.{IsRow, entries_of, inode_of, last_inode};
 
 use crate::inodes::inode_at;
 use crate::undo_index::UndoIndex;
 use block_log::Blocks;
 use codec::{Entry, Inode};
 use object_map::{ObjectMap, Row};
-use s4_types::ObjectId;
+use s4_types::{Moment, ObjectId};
 use std::alloc::Global;
 use undo_redo::laws::a_run_has_one_end_and_one_beginning;
 
@@ -82,7 +83,7 @@ impl Present {
 
 /// An object's row becomes this one, but for the stamp, which is one above the old row's; and what stands beside it is changed in its
 /// place: it has another inode, to which these entries lead. One search of the map finds both.
-pub(crate) fn turn_beside(
+pub fn turn_beside(
     objects: &mut ObjectMap<Present>,
     object: ObjectId,
     row: &Row,

@@ -1,5 +1,5 @@
 -- What stands beside the rows follows them: the present inode of each object, and the index of its entries.
-use Rattle.std.proofs.Common.{◌≡◌, ℕ, ◌+◌, ◌==◌, ◌++◌, true, false, cond, List, [], map, Option, Some, None, IfSome, refl, sym, ap, subst, ◌∙◌, inl, inr}
+use Rattle.std.proofs.Common.{◌≡◌, ℕ, ◌+◌, ◌==◌, ◌++◌, false, cond, List, [], Option, Some, None, refl, sym, ap, subst, ◌∙◌, inl, inr}
 use Rattle.std.specs.Prelude.{option_map}
 use Rattle.std.proofs.lemmas.Bool.{cases_Bool, cond-true, cond-false, eqb-true}
 use Rattle.std.proofs.lemmas.Option.{same_Some}
@@ -29,11 +29,6 @@ use Rattle.version_store.proofs.Telling.{same_entries}
 use Rattle.version_store.proofs.Steps.{row_here, row_beside}
 
 -- ---- what a map keeps
-
--- what follows of a value, where one is found
-pub if_found : {X : Type 0} (P Q : X → Type 0) (found : Option X) → ((x : X) → P x → Q x) → IfSome found P → IfSome found Q
-if_found P Q None f is = is
-if_found P Q (Some x) f is = f x is
 
 -- an object has its inode where it has its value
 pub inode_put : (values after : List (ℕ × Present)) (o : ℕ) (v : Present) → PutsAt values o v after → (q : ℕ) → inode_beside after q ≡ with_value (inode_beside values) o v.inode q

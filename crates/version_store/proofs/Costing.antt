@@ -1,13 +1,14 @@
 -- Sizes and counts as the code takes them.
 use Rattle.std.proofs.Common.{◌≡◌, ℕ, zero, suc, ◌+◌, ◌-◌, ◌*◌, ◌/◌, ◌%◌, ◌<◌, ◌≤◌, ◌==◌, ◌&&◌, leb, min, true, false, cond, List, ◌∷◌, length, sum, get_or, Option, Some, None, sym, ap, ◌∙◌, arith}
 use Rattle.std.specs.Prelude.{is_some}
+use Rattle.std.specs.List.{AllByRecursion}
 use Rattle.std.specs.Cmp.Lexicographic.{pointwise}
 use Rattle.std.proofs.lemmas.Bool.{and_left, lt-leb, le-leb}
 use Rattle.std.proofs.lemmas.List.Sums.{sum_by-cons}
 use Rattle.std.proofs.lemmas.List.{get_or_default}
 use lib.Pointwise.{bytes_decides}
 use Rattle.s4_types.specs.Pointer.{Place}
-use Rattle.s4_types.specs.declared.limits.TheConstants.{ENTRY_TRIPLES, SHORTEST_ENTRY_BYTES, TRIPLE_BYTES, OBJECT_BLOCKS, ATTRIBUTE_PAIR_BYTES, CHANGE_ENTRY_BYTES, CHANGE_ENTRIES}
+use Rattle.s4_types.specs.declared.limits.TheConstants.{ENTRY_TRIPLES, SHORTEST_ENTRY_BYTES, TRIPLE_BYTES, OBJECT_BLOCKS, ATTRIBUTE_PAIR_BYTES, CHANGE_ENTRY_BYTES, CHANGE_ENTRIES, JOURNAL_ENTRY_BYTES}
 use Rattle.codec.specs.Checkpoint.{pointer_at}
 use Rattle.codec.specs.Entry.{pair_length}
 use Rattle.codec.specs.declared.inodes.Inode.{Inode}
@@ -37,6 +38,17 @@ sizes_most count pair few short =
     let first : sum (entry_sizes count pair) ≡ (SHORTEST_ENTRY_BYTES + pair + TRIPLE_BYTES * min ENTRY_TRIPLES count) + sum (later_sizes (count - ENTRY_TRIPLES) (count - ENTRY_TRIPLES)) = sum-cons (SHORTEST_ENTRY_BYTES + pair + TRIPLE_BYTES * min ENTRY_TRIPLES count) (later_sizes (count - ENTRY_TRIPLES) (count - ENTRY_TRIPLES)) in
     let rest = later_most (count - ENTRY_TRIPLES) (CHANGE_ENTRIES - 1) (count - ENTRY_TRIPLES) (omega (arith, few)) in
     omega (arith, few, short, first, rest)
+
+-- each entry fits a block
+later_fit : (n count : ℕ) → AllByRecursion (λ size. size ≤ JOURNAL_ENTRY_BYTES) (later_sizes n count)
+unfolding later_sizes
+later_fit zero count = tt
+later_fit (suc n) zero = tt
+later_fit (suc n) (suc count) = (omega arith, later_fit n (suc count - ENTRY_TRIPLES))
+
+pub sizes_fit : (count pair : ℕ) → pair ≤ ATTRIBUTE_PAIR_BYTES → AllByRecursion (λ size. size ≤ JOURNAL_ENTRY_BYTES) (entry_sizes count pair)
+unfolding entry_sizes
+sizes_fit count pair short = (omega (arith, short), later_fit (count - ENTRY_TRIPLES) (count - ENTRY_TRIPLES))
 
 -- ---- the bytes of attributes
 

@@ -1,5 +1,5 @@
 -- Each kind of change: its entries can be written, and what it leaves.
-use Rattle.std.proofs.Common.{◌≡◌, ℕ, ◌+◌, ◌≤◌, ◌==◌, ◌&&◌, ◌||◌, leb, Bool, true, false, cond, List, [], length, map, drop, Option, Some, None, IsSome, refl, sym, ap, subst, ◌∙◌, inl, inr, arith}
+use Rattle.std.proofs.Common.{◌≡◌, ℕ, ◌+◌, ◌≤◌, ◌==◌, ◌&&◌, ◌||◌, leb, Bool, true, false, cond, List, [], length, map, drop, sum, Option, Some, None, IsSome, refl, sym, ap, subst, ◌∙◌, inl, inr, arith}
 use Rattle.std.specs.Prelude.{is_some}
 use Rattle.std.proofs.lemmas.Bool.{cases_Bool, cond-true, cond-false, or_right, eqb-true, eq-eqb, eqb-false, ne_eqb, false≢true, true≢false, and_left}
 use Rattle.std.proofs.Math.Bool.{or-false}
@@ -11,7 +11,7 @@ use Rattle.s4_types.specs.declared.limits.TheConstants.{OBJECT_BLOCKS, OBJECT_BY
 use Rattle.s4_model.specs.Effect.{effect, is_change_of, object_of}
 use Rattle.block_log.specs.Taken.{TakesPlaces}
 use Rattle.block_log.specs.Log.{Log}
-use Rattle.codec.specs.Entry.{EntryFields, entry_length}
+use Rattle.codec.specs.Entry.{EntryFields, entry_length, entries_length}
 use Rattle.codec.specs.declared.inodes.Inode.{Inode}
 use Rattle.journal_chain.specs.Sizes.{blocks_needed}
 use Rattle.undo_redo.specs.Runs.{blank}
@@ -34,7 +34,7 @@ use Rattle.version_store.proofs.Frames.{growth_stays, stays_inode}
 use Rattle.version_store.proofs.Naming.{NamesNew}
 use Rattle.version_store.proofs.Steps.{grown_store, grown_versions, added_store, added_versions, row_here, row_beside}
 use Rattle.version_store.proofs.Across.{above_has_none}
-use Rattle.version_store.proofs.Subjects.{IsSubject, free_of, counted, free_to_push}
+use Rattle.version_store.proofs.Subjects.{IsSubject, free_of, counted, room_to_push}
 
 -- ---- which inodes entries lead to
 
@@ -123,6 +123,10 @@ of_object s (FlushO object first last) ready q = absurd ready
 sizes_made : EntriesHaveSizes → (s : StoreFields) (change : Change) (m : ℕ) (i : Inode) (log : Log) (j : Inode) → Makes s change m i log j → map entry_length (entries_between i j m) ≡ sizes_by change i
 sizes_made sizes s change m i log j makes = counted sizes change i j m makes.moved makes.attribute
 
+-- so they have the bytes that were counted
+pub bytes_made : EntriesHaveSizes → SizesAddUp → (s : StoreFields) (change : Change) (m : ℕ) (i : Inode) (log : Log) (j : Inode) (bytes : ℕ) → Makes s change m i log j → bytes ≡ sum (sizes_by change i) → bytes ≡ entries_length (entries_between i j m)
+bytes_made sizes add_up s change m i log j bytes makes is = is ∙ sym (ap sum (sizes_made sizes s change m i log j makes)) ∙ add_up (entries_between i j m)
+
 -- ---- a change of an object that is there
 
 pub can_turn : OrderlyStays → RowStays → RowInodeStays → IsByStays → OnlyItsBlocksMatter → EntriesHaveSizes → SizesAddUp → (s : StoreFields) (change : Change) (m : ℕ) (log : Log) (i j : Inode)
@@ -142,8 +146,8 @@ can_turn orderly stands same by matter sizes add_up s change m log i j can subje
       lead = makes.lead;
       tidy = makes.tidy;
       pointers = makes.pointers;
-      free = free_to_push add_up change subject.row (object_of change) s.log.ahead log.ahead (entries_between i j m) i (free_of (room s) change subject.row i free_row)
-          (sizes_made sizes s change m i log j makes) (makes.grows.takes.ahead ∙ ap (λ n. drop n s.log.ahead) makes.amount);
+      room = room_to_push add_up change subject.row (object_of change) s.log.ahead log.ahead (entries_between i j m) i (free_of (room s) change subject.row i free_row)
+          (sizes_made sizes s change m i log j makes) can.fit (makes.grows.takes.ahead ∙ ap (λ n. drop n s.log.ahead) makes.amount);
     }
 
 -- exactly the object of the changed row has one that it may not have had
@@ -228,8 +232,8 @@ can_create stands by fresh later_by count holes sizes add_up s change m rows i j
       lead = makes.lead;
       tidy = makes.tidy;
       pointers = makes.pointers;
-      free = free_to_push add_up change (fresh_row m) (object_of change) s.log.ahead s.log.ahead (entries_between i j m) i (free_of (room s) change (fresh_row m) i free_row)
-          (sizes_made sizes s change m i s.log j makes) (sym (ap (λ n. drop n s.log.ahead) no_data));
+      room = room_to_push add_up change (fresh_row m) (object_of change) s.log.ahead s.log.ahead (entries_between i j m) i (free_of (room s) change (fresh_row m) i free_row)
+          (sizes_made sizes s change m i s.log j makes) can.fit (sym (ap (λ n. drop n s.log.ahead) no_data));
     }
 
 -- a row that replaces the one that was added is put among the older ones

@@ -1,13 +1,14 @@
 -- What a change of an object begins with, and when there is room for what it comes to.
-use Rattle.std.proofs.Common.{◌≡◌, ℕ, ◌+◌, ◌-◌, ◌≤◌, ltb, Bool, true, false, cond, List, length, map, drop, sum, Option, Some, None, refl, sym, ap, subst, ◌∙◌, inl, inr, arith}
-use Rattle.std.proofs.lemmas.Bool.{cases_Bool, cond-false, ltb-false, le-ltb, true≢false}
+use Rattle.std.proofs.Common.{◌≡◌, ℕ, ◌+◌, ◌-◌, ◌≤◌, ltb, Bool, true, false, cond, List, [], ◌∷◌, length, map, drop, sum, Option, Some, None, refl, sym, ap, subst, ◌∙◌, inl, inr, arith}
+use Rattle.std.specs.List.{AllByRecursion}
+use Rattle.std.proofs.lemmas.Bool.{cases_Bool, cond-false, ltb-false, true≢false}
 use Rattle.std.proofs.lemmas.List.{length-drop}
 use Rattle.std.proofs.lemmas.Option.{none-some}
 use Rattle.s4_types.specs.Pointer.{Place}
 use Rattle.s4_types.specs.declared.changes.Change.{Change}
 use Rattle.s4_types.specs.declared.refusals.Refusal.TheVariants.{ChainFull, NoSpace}
 use Rattle.s4_types.specs.declared.versions.Version.TheVariants.{Absent, Live}
-use Rattle.s4_types.specs.declared.limits.TheConstants.{CHAIN_ENTRY_BYTES, RESERVE_BLOCKS}
+use Rattle.s4_types.specs.declared.limits.TheConstants.{CHAIN_ENTRY_BYTES, RESERVE_BLOCKS, JOURNAL_ENTRY_BYTES}
 use Rattle.s4_model.specs.Refusals.{is_absent}
 use Rattle.block_log.specs.Log.{Stored}
 use Rattle.codec.specs.Entry.{EntryFields, entry_length, entries_length, pair_length}
@@ -15,7 +16,8 @@ use Rattle.codec.specs.declared.inodes.Inode.{Inode}
 use Rattle.journal_chain.specs.Sizes.{blocks_needed}
 use Rattle.undo_redo.specs.Between.{entries_between, triples_between, pair_between}
 use Rattle.undo_redo.specs.Sizes.{entry_sizes}
-use Rattle.journal_chain.specs.Push.{push_refusal}
+use Rattle.journal_chain.specs.Packing.{AllFit}
+use Rattle.journal_chain.specs.Push.{HasRoom}
 use Rattle.inode.specs.Contents.{contents_of, meaning, bytes_of}
 use Rattle.inode.specs.Tidiness.{Tidy, PointersHeld}
 use Rattle.object_map.specs.declared.map.Row.{Row}
@@ -95,18 +97,22 @@ counted sizes change i j m moved attribute =
     sizes i j m ∙ ap (λ n. entry_sizes n (pair_length (pair_between i.attribute j.attribute))) moved
     ∙ ap (λ (a : List ℕ). entry_sizes (pointers_moved change i) (pair_length (pair_between i.attribute a))) attribute
 
-not_refused : (a b : Bool) → a ≡ false → b ≡ false → cond a (Some ChainFull) (cond b (Some NoSpace) None) ≡ None
-not_refused a b x y = cond-false a (Some ChainFull) (cond b (Some NoSpace) None) x ∙ cond-false b (Some NoSpace) None y
+-- each entry fits a block where its size does
+all_fit : (entries : List EntryFields) → AllByRecursion (λ size. size ≤ JOURNAL_ENTRY_BYTES) (map entry_length entries) → AllFit entries
+all_fit [] fit = tt
+all_fit (e ∷ entries) fit = (fit.0, all_fit entries fit.1)
 
 -- so they can be pushed, once the data blocks were appended
-pub free_to_push : SizesAddUp → (change : Change) (row : Row) (o : ℕ) (before after : List Place) (entries : List EntryFields) (i : Inode) → IsFree (length before - RESERVE_BLOCKS) change row i
-    → map entry_length entries ≡ sizes_by change i → after ≡ drop (data_blocks change i) before → push_refusal (chain_of o row) after entries ≡ None
-free_to_push add_up change row o before after entries i free sizes ahead =
+pub room_to_push : SizesAddUp → (change : Change) (row : Row) (o : ℕ) (before after : List Place) (entries : List EntryFields) (i : Inode) → IsFree (length before - RESERVE_BLOCKS) change row i
+    → map entry_length entries ≡ sizes_by change i → AllByRecursion (λ size. size ≤ JOURNAL_ENTRY_BYTES) (sizes_by change i) → after ≡ drop (data_blocks change i) before → HasRoom (chain_of o row) after entries
+room_to_push add_up change row o before after entries i free sizes fit ahead =
     let bytes : sum (sizes_by change i) ≡ entries_length entries = sym (ap sum sizes) ∙ add_up entries in
     let blocks : blocks_needed row.head_bytes (map entry_length entries) ≡ blocks_needed row.head_bytes (sizes_by change i) = ap (blocks_needed row.head_bytes) sizes in
     let left : length after ≡ length before - data_blocks change i = ap length ahead ∙ length-drop (data_blocks change i) before in
     let chain = free.chain in
     let few = free.blocks in
-    not_refused (ltb CHAIN_ENTRY_BYTES (row.journal_bytes + entries_length entries)) (ltb (length after) (blocks_needed row.head_bytes (map entry_length entries)))
-    (le-ltb CHAIN_ENTRY_BYTES (row.journal_bytes + entries_length entries) (omega (arith, bytes, chain)))
-    (le-ltb (length after) (blocks_needed row.head_bytes (map entry_length entries)) (omega (arith, blocks, left, few)))
+    record {
+      fit = all_fit entries (subst (AllByRecursion (λ size. size ≤ JOURNAL_ENTRY_BYTES)) (sym sizes) fit);
+      bytes = omega (arith, bytes, chain);
+      blocks = omega (arith, blocks, left, few);
+    }

@@ -1,20 +1,18 @@
 -- The turn of an object to its next inode.
-use Rattle.std.proofs.Common.{◌≡◌, inl, inr, true, ℕ, ◌+◌, ◌-◌, ◌^◌, ◌<◌, ◌≤◌, ◌++◌, nat_le, if◌then◌else◌, ltb, List, length, map, Option, Some, None, sym, ap, refl, subst, ◌∙◌, arith}
+use Rattle.std.proofs.Common.{◌≡◌, inl, inr, true, ℕ, ◌+◌, ◌-◌, ◌^◌, ◌<◌, ◌≤◌, ◌++◌, nat_le, if◌then◌else◌, List, length, map, Option, Some, None, sym, ap, refl, subst, ◌∙◌, arith}
 use Rattle.std.specs.List.{AllByRecursion}
-use Rattle.std.proofs.lemmas.Bool.{ltb-false}
 use Rattle.std.proofs.lemmas.List.{length-map}
 use Rattle.std.proofs.lemmas.Option.{same_Some}
 use Rattle.s4_types.specs.Pointer.{Place}
-use Rattle.s4_types.specs.declared.limits.TheConstants.{CHAIN_ENTRY_BYTES}
 use Rattle.block_log.specs.Log.{Stored}
 use Rattle.block_log.specs.Taken.{TakesPlaces}
 use Rattle.block_log.specs.declared.kinds.BlockKind.TheVariants.{Checkpoint}
-use Rattle.codec.specs.Entry.{entry_length, entries_length}
+use Rattle.codec.specs.Entry.{entry_length}
 use Rattle.codec.specs.declared.inodes.Inode.{Inode}
 use Rattle.journal_chain.specs.Sizes.{blocks_needed}
 use Rattle.undo_redo.specs.Between.{AreOf, entries_between}
 use Rattle.journal_chain.specs.Chain.{OnlyJournalChanged}
-use Rattle.journal_chain.specs.Push.{push_refusal, pushed_blocks}
+use Rattle.journal_chain.specs.Push.{HasRoom, pushed_blocks}
 use Rattle.inode.specs.Laws.{OnlyItsBlocksMatter}
 use Rattle.inode.specs.Tidiness.{PointersHeld}
 use Rattle.object_map.specs.declared.map.Row.{Row}
@@ -29,14 +27,13 @@ use Rattle.version_store.specs.private.Turning.{CanTurn, Turns, blocks_turned}
 use Rattle.version_store.specs.private.Below.{OrderlyStays, RowStays, RowInodeStays, IsByStays, IsByLater, LastInodeStays, EntriesAreAt, EntriesAreSome, SomeBlocksAreNeeded}
 use Rattle.version_store.proofs.Telling.{same_checkpoint, between_led}
 use Rattle.version_store.proofs.Steps.{Records, recorded}
-use Rattle.version_store.proofs.Subjects.{neither}
 
 -- what is known of the row of an object that can turn
 pub record Known (s : StoreFields) (o : ℕ) (i j : Inode) (m : ℕ) (row : Row) : Type 0 where
   pub stands : IsRow s.log.held o row
   pub earlier : IsBy s.log.held o row (m - 1)
   pub before : i ≡ inode_of s.log.held o row (m - 1)
-  pub free : push_refusal (chain_of o row) s.log.ahead (entries_between i j m) ≡ None
+  pub room : HasRoom (chain_of o row) s.log.ahead (entries_between i j m)
   pub subject : subject_row s o m ≡ row
   pub stamp : row.stamp + 1 < 2 ^ 64
   pub last : LastInodeStays
@@ -53,7 +50,7 @@ known by last s o i j m row can there =
       stands = object.stands;
       earlier = by s.log.held o row s.latest (m - 1) le object.by;
       before = can.before ∙ ap (λ (r : Row). inode_of s.log.held o r s.latest) same ∙ sym (last s.log.held o row s.latest (m - 1) object.by le);
-      free = subst (λ (r : Row). push_refusal (chain_of o r) s.log.ahead (entries_between i j m) ≡ None) same can.free;
+      room = subst (λ (r : Row). HasRoom (chain_of o r) s.log.ahead (entries_between i j m)) same can.room;
       subject = ap (row_or_fresh m) there;
       stamp = omega (arith, bound, most);
       last = last;
@@ -106,8 +103,7 @@ pub turned : OrderlyStays → RowStays → RowInodeStays → IsByStays → IsByL
     → TakesPlaces (pushed_blocks (chain_of o row) (entries_between i j m)) s.log later.log → Turns s o m j (blocks_turned s o i j m) later
 turned orderly stands same by later_by matter are_some needed s later o m i j row next can there know latest records rest put takes =
     let later_is = can.later in
-    let tests = neither (ltb CHAIN_ENTRY_BYTES (row.journal_bytes + entries_length (entries_between i j m))) (ltb (length s.log.ahead) (pushed_blocks (chain_of o row) (entries_between i j m))) know.free in
-    let few : pushed_blocks (chain_of o row) (entries_between i j m) ≤ length s.log.ahead = ltb-false (length s.log.ahead) (pushed_blocks (chain_of o row) (entries_between i j m)) tests.1 in
+    let few : pushed_blocks (chain_of o row) (entries_between i j m) ≤ length s.log.ahead = know.room.blocks in
     let entries = (are_some i j m).0 in
     let count : length (map entry_length (entries_between i j m)) ≡ length (entries_between i j m) = length-map (entries_between i j m) entry_length in
     let least : 0 < blocks_needed row.head_bytes (map entry_length (entries_between i j m)) = needed row.head_bytes (map entry_length (entries_between i j m)) (omega (arith, count, entries)) in

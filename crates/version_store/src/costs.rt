@@ -1,7 +1,8 @@
 //! What a change takes of a store, counted from its object's inode before anything is written.
 
-ghost use Rattle.std.specs.Prelude.{◌≡◌, ◌+◌, ◌≤◌, length, sum, None, Some, MatchResult};
-ghost use Rattle.s4_types.specs.declared.limits.TheConstants.{OBJECT_BLOCKS, OBJECT_BYTES, ATTRIBUTE_PAIR_BYTES, CHANGE_ENTRY_BYTES};
+ghost use Rattle.std.specs.Prelude.{◌≡◌, ◌+◌, ◌≤◌, length, sum, None, Some, IfOk, OnOk, MatchResult};
+ghost use Rattle.s4_types.specs.declared.limits.TheConstants.{OBJECT_BLOCKS, OBJECT_BYTES, ATTRIBUTE_PAIR_BYTES, CHANGE_ENTRY_BYTES, JOURNAL_ENTRY_BYTES};
+ghost use Rattle.std.specs.List.{AllByRecursion};
 ghost use Rattle.s4_model.specs.Limits.{Fits};
 ghost use Rattle.codec.specs.Entry.{pair_length};
 ghost use Rattle.undo_redo.specs.Between.{pair_between};
@@ -112,13 +113,14 @@ fn attribute_bytes(change: &Change, inode: &Inode) -> usize
 }
 
 /// How many bytes each journal entry of a change of an inode has.
-#[tactic(auto, using(crate::proofs::Costing::sizes_most))]
+#[tactic(auto, using(crate::proofs::Costing::sizes_most, crate::proofs::Costing::sizes_fit))]
 fn sizes_of(change: &Change, inode: &Inode) -> Sizes
     requires fits { Fits change.now }
     requires size { inode.now.size ≤ OBJECT_BYTES }
     requires count { length inode.now.pointers ≡ OBJECT_BLOCKS }
     ensures exact { result.items ≡ sizes_by change.now inode.now }
     ensures most { sum result.items ≤ CHANGE_ENTRY_BYTES }
+    ensures fit { AllByRecursion (λ size. size ≤ JOURNAL_ENTRY_BYTES) result.items }
 {
     entry_sizes(
         pointers_moved(change, inode),
@@ -138,27 +140,30 @@ fn total(sizes: &[usize]) -> usize
     total
 }
 
-/// The refusal of a change of an inode, where its object has this row and so many blocks may be appended: ChainFull where the
-/// journal's entries would have more than 11,712 bytes, else NoSpace where the change needs more blocks.
-pub(crate) fn refusal(
+/// How many bytes the journal's entries of a change of an inode have, where its object has this row and so many blocks may be
+/// appended. ChainFull where all of the journal's would be more than 11,712, else NoSpace where the change needs more blocks.
+pub(crate) fn bytes_of_entries(
     space: usize,
     change: &Change,
     row: &Row,
     inode: &Inode,
-) -> Result<(), Refusal>
+) -> Result<usize, Refusal>
     requires fits { Fits change.now }
     requires size { inode.now.size ≤ OBJECT_BYTES }
     requires count { length inode.now.pointers ≡ OBJECT_BLOCKS }
-    ensures { MatchResult result (λ _. refusal_by space change.now row.now inode.now ≡ None) (λ e. refusal_by space change.now row.now inode.now ≡ Some e) }
+    ensures bytes { IfOk result (λ bytes. bytes ≡ sum (sizes_by change.now inode.now)) }
+    ensures fit { OnOk result (AllByRecursion (λ size. size ≤ JOURNAL_ENTRY_BYTES) (sizes_by change.now inode.now)) }
+    ensures answer { MatchResult result (λ _. refusal_by space change.now row.now inode.now ≡ None) (λ e. refusal_by space change.now row.now inode.now ≡ Some e) }
 {
     few_blocks_are_needed();
     let sizes = sizes_of(change, inode);
-    if row.journal_bytes as usize + total(sizes.as_slice()) > CHAIN_ENTRY_BYTES {
+    let bytes = total(sizes.as_slice());
+    if row.journal_bytes as usize + bytes > CHAIN_ENTRY_BYTES {
         return Err(Refusal::ChainFull);
     }
     let journal_blocks = blocks_needed(row.head_bytes as usize, sizes.as_slice());
     if space < data_blocks(change, inode) + journal_blocks {
         return Err(Refusal::NoSpace);
     }
-    Ok(())
+    Ok(bytes)
 }

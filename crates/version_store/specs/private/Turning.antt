@@ -1,7 +1,8 @@
 -- What one change leaves of a whole store. No public clause cites this file.
 use Rattle.std.specs.Prelude.{◌≡◌, ◌⊎◌, ℕ, ◌+◌, ◌^◌, ◌<◌, ◌≤◌, ◌==◌, ◌&&◌, ◌||◌, true, false, nat_le, if◌then◌else◌, length, Some, None, IsSome, is_some}
-use Rattle.std.specs.List.{Contains}
+use Rattle.std.specs.List.{Contains, AllByRecursion}
 use Rattle.s4_types.specs.Pointer.{Place}
+use Rattle.s4_types.specs.declared.limits.TheConstants.{JOURNAL_ENTRY_BYTES}
 use Rattle.s4_types.specs.declared.changes.Change.{Change}
 use Rattle.block_log.specs.declared.kinds.BlockKind.TheVariants.{Data}
 use Rattle.block_log.specs.Log.{of_kind}
@@ -12,7 +13,7 @@ use Rattle.object_map.specs.declared.map.Row.{Row}
 use Rattle.object_map.specs.Rows.{row_of, fresh_row}
 use Rattle.undo_redo.specs.Between.{CanLead, entries_between}
 use Rattle.journal_chain.specs.Chain.{OnlyJournalChanged}
-use Rattle.journal_chain.specs.Push.{push_refusal, pushed_blocks}
+use Rattle.journal_chain.specs.Push.{HasRoom, pushed_blocks}
 use Rattle.time_read.specs.Rows.{chain_of, inode_of}
 use Rattle.time_read.specs.Orderly.{IsOrderly}
 use Rattle.inode.specs.Contents.{contents_of, meaning}
@@ -20,17 +21,18 @@ use Rattle.inode.specs.Tidiness.{Tidy, PointersHeld}
 use Rattle.version_store.specs.Store.{StoreFields, IsStore, IsObject, HasNothing, pointers_of}
 use Rattle.version_store.specs.Across.{MakingsAscend, ChainsShareNoMoment}
 use Rattle.version_store.specs.Versions.{version_in, version_taken}
-use Rattle.version_store.specs.Costs.{subject_row, subject_inode, blocks_taken, change_refusal}
+use Rattle.version_store.specs.Costs.{subject_row, subject_inode, sizes_by, blocks_taken, change_refusal}
 use Rattle.s4_model.specs.Effect.{object_of}
 use Rattle.version_store.specs.Taking.{Takes, RowChanges, data_by, Appends}
 
--- A change that isn't refused can be taken at a moment, and begins with this inode.
+-- A change that isn't refused can be taken at a moment, and begins with this inode; each of its journal entries fits a block.
 pub record CanTake (s : StoreFields) (change : Change) (m : ℕ) (present : Inode) : Type 0 where
   pub store : IsStore s
   pub later : s.latest < m
   pub takes : Takes s change
   pub begins : present ≡ subject_inode s (object_of change) m
   pub free : change_refusal s change m ≡ None
+  pub fit : AllByRecursion (λ size. size ≤ JOURNAL_ENTRY_BYTES) (sizes_by change present)
 
 -- some pointer of an inode leads to this place
 abbrev pub LeadsTo : Inode → Place → Type 0
@@ -61,7 +63,7 @@ pub record CanTurn (s : StoreFields) (o : ℕ) (i j : Inode) (m : ℕ) : Type 0 
   pub lead : CanLead i j m
   pub tidy : Tidy (contents_of s.log.held) j
   pub pointers : PointersHeld s.log.held o j
-  pub free : push_refusal (chain_of o row) s.log.ahead (entries_between i j m) ≡ None
+  pub room : HasRoom (chain_of o row) s.log.ahead (entries_between i j m)
 
 -- how many blocks that takes
 abbrev pub blocks_turned : StoreFields → ℕ → Inode → Inode → ℕ → ℕ

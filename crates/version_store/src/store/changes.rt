@@ -1,5 +1,5 @@
 //! A change of an object, from the count of what it takes to its row.
-ghost use Rattle.std.specs.Prelude.{◌≡◌, ◌⊎◌, ℕ, ◌<◌, ◌≤◌, ◌==◌, ◌||◌, Some, None, IfOk, IfErr, OnOk, OnErr, MatchResult, is_some, length};
+ghost use Rattle.std.specs.Prelude.{◌≡◌, ◌⊎◌, ℕ, ◌<◌, ◌≤◌, ◌==◌, ◌||◌, Some, None, IfOk, IfErr, OnOk, OnErr, MatchResult, is_some, length, sum};
 ghost use Rattle.s4_types.specs.declared.changes.Change.TheVariants.{Create, Delete, Write, Truncate, SetAttr};
 ghost use Rattle.s4_types.specs.declared.refusals.Refusal.TheVariants.{NoMemory};
 ghost use Rattle.undo_redo.specs.Runs.{blank};
@@ -7,14 +7,16 @@ ghost use Rattle.undo_redo.specs.Between.{entries_between};
 ghost use Rattle.object_map.specs.Rows.{row_of, with_row, fresh_row};
 ghost use Rattle.version_store.specs.Store.{fields_of, IsStore};
 ghost use Rattle.version_store.specs.Versions.{version_in, version_taken};
-ghost use Rattle.version_store.specs.Costs.{subject_row, subject_inode, change_refusal};
+ghost use Rattle.version_store.specs.Costs.{subject_row, subject_inode, sizes_by, change_refusal};
+ghost use Rattle.codec.specs.Entry.{entries_length};
+ghost use Rattle.std.specs.List.{AllByRecursion};
+ghost use Rattle.s4_types.specs.declared.limits.TheConstants.{JOURNAL_ENTRY_BYTES};
 ghost use Rattle.s4_model.specs.Effect.{object_of};
 ghost use Rattle.version_store.specs.Taking.{Takes, RowChanges, AppendsBy};
 ghost use Rattle.version_store.specs.private.Turning.{CanTake, CanTurn, Turns, IsTaken, blocks_turned};
 
-use crate::costs::{object_of, refusal};
+use crate::costs::{bytes_of_entries, object_of};
 use crate::laws::{changes_begin_with_the_present, what_changes_rest_on};
-use crate::presents::{Present, turn_beside};
 use crate::store::Store;
 use block_log::Blocks;
 use codec::{Attribute, Entry, Inode};
@@ -24,7 +26,7 @@ use row_changes::laws::a_fresh_row_stands;
 use row_changes::record_change;
 use s4_types::{Change, Moment, ObjectId, Refusal};
 use std::slice::from_ref;
-use time_read::{Present, UndoIndex, take_index};
+use time_read::{Present, UndoIndex, turn_beside};
 use undo_redo::laws::a_blank_inode_has_holes_alone;
 use undo_redo::{blank, entries_between, only_entry_between};
 
@@ -42,6 +44,15 @@ fn attribute_of(bytes: &[u8]) -> Attribute
 struct Subject {
     row: Row,
     inode: Inode,
+}
+
+/// A change of an object that nothing refuses any more: the row and the inode that it begins with, and how many bytes its journal
+/// entries have. All is found and counted once.
+#[derive(Drop)]
+struct PlannedChange {
+    row: Row,
+    inode: Inode,
+    bytes: usize,
 }
 
 impl<B: Blocks> Store<B> {
@@ -63,18 +74,40 @@ impl<B: Blocks> Store<B> {
         }
     }
 
-    /// ChainFull or NoSpace, where a change at a moment is refused.
-    fn check(&self, change: &Change, subject: &Subject, moment: Moment) -> Result<(), Refusal>
+    /// How many bytes the journal entries of a change at a moment have. ChainFull or NoSpace, where it is refused.
+    fn count(&self, change: &Change, subject: &Subject, moment: Moment) -> Result<usize, Refusal>
         requires store { IsStore (fields_of B.log self.now) }
         requires takes { Takes (fields_of B.log self.now) change.now }
         requires row { subject.now.row ≡ subject_row (fields_of B.log self.now) (object_of change.now) moment }
         requires inode { subject.now.inode ≡ subject_inode (fields_of B.log self.now) (object_of change.now) moment }
-        ensures { MatchResult result (λ _. change_refusal (fields_of B.log self.now) change.now moment ≡ None)
+        ensures bytes { IfOk result (λ bytes. bytes ≡ sum (sizes_by change.now subject.now.inode)) }
+        ensures fit { OnOk result (AllByRecursion (λ size. size ≤ JOURNAL_ENTRY_BYTES) (sizes_by change.now subject.now.inode)) }
+        ensures answer { MatchResult result (λ _. change_refusal (fields_of B.log self.now) change.now moment ≡ None)
             (λ e. change_refusal (fields_of B.log self.now) change.now moment ≡ Some e) }
     {
         a_fresh_row_stands();
         a_blank_inode_has_holes_alone();
-        refusal(self.room(), change, &subject.row, &subject.inode)
+        bytes_of_entries(self.room(), change, &subject.row, &subject.inode)
+    }
+
+    /// Plans a change at a moment. ChainFull or NoSpace, where it is refused.
+    fn plan_change(&self, change: &Change, moment: Moment) -> Result<PlannedChange, Refusal>
+        requires store { IsStore (fields_of B.log self.now) }
+        requires takes { Takes (fields_of B.log self.now) change.now }
+        ensures row { IfOk result (λ plan. plan.row ≡ subject_row (fields_of B.log self.now) (object_of change.now) moment) }
+        ensures inode { IfOk result (λ plan. plan.inode ≡ subject_inode (fields_of B.log self.now) (object_of change.now) moment) }
+        ensures bytes { IfOk result (λ plan. plan.bytes ≡ sum (sizes_by change.now plan.inode)) }
+        ensures fit { IfOk result (λ plan. AllByRecursion (λ size. size ≤ JOURNAL_ENTRY_BYTES) (sizes_by change.now plan.inode)) }
+        ensures answer { MatchResult result (λ _. change_refusal (fields_of B.log self.now) change.now moment ≡ None)
+            (λ e. change_refusal (fields_of B.log self.now) change.now moment ≡ Some e) }
+    {
+        let subject = self.subject(object_of(change), moment);
+        let bytes = self.count(change, &subject, moment)?;
+        Ok(PlannedChange {
+            row: subject.row,
+            inode: subject.inode,
+            bytes,
+        })
     }
 
     /// From a moment on an object has another inode: these entries, which lead there, are appended to its journal, and its row
@@ -82,50 +115,57 @@ impl<B: Blocks> Store<B> {
     fn put_turn(
         &mut self,
         object: ObjectId,
-        subject: &Subject,
+        plan: &PlannedChange,
         after: &Inode,
         moment: Moment,
         entries: &[Entry],
     )
-        requires can { CanTurn (fields_of B.log self.old) object subject.now.inode after.now moment }
-        requires row { row_of self.old.rows object ≡ Some subject.now.row }
-        requires told { entries.now ≡ entries_between subject.now.inode after.now moment }
-        ensures { Turns (fields_of B.log self.old) object moment after.now (blocks_turned (fields_of B.log self.old) object subject.now.inode after.now moment) (fields_of B.log self.new) }
+        requires can { CanTurn (fields_of B.log self.old) object plan.now.inode after.now moment }
+        requires row { row_of self.old.rows object ≡ Some plan.now.row }
+        requires told { entries.now ≡ entries_between plan.now.inode after.now moment }
+        requires bytes { plan.now.bytes ≡ entries_length entries.now }
+        ensures { Turns (fields_of B.log self.old) object moment after.now (blocks_turned (fields_of B.log self.old) object plan.now.inode after.now moment) (fields_of B.log self.new) }
     {
         what_changes_rest_on();
-        let row = &subject.row;
-        let before = &subject.inode;
-        let Ok(next) = record_change(&mut self.table, object, row, before, after, moment, entries)
-        else {
-            unreachable!()
-        };
+        let next = record_change(
+            &mut self.table,
+            object,
+            &plan.row,
+            &plan.inode,
+            after,
+            moment,
+            entries,
+            plan.bytes,
+        );
         turn_beside(&mut self.objects, object, &next, after, entries);
         self.latest = moment;
     }
 
     /// [`Store::put_turn`] with the entries that lead there.
-    fn turn(&mut self, object: ObjectId, subject: &Subject, after: &Inode, moment: Moment)
-        requires can { CanTurn (fields_of B.log self.old) object subject.now.inode after.now moment }
-        requires row { row_of self.old.rows object ≡ Some subject.now.row }
-        ensures { Turns (fields_of B.log self.old) object moment after.now (blocks_turned (fields_of B.log self.old) object subject.now.inode after.now moment) (fields_of B.log self.new) }
+    fn turn(&mut self, object: ObjectId, plan: &PlannedChange, after: &Inode, moment: Moment)
+        requires can { CanTurn (fields_of B.log self.old) object plan.now.inode after.now moment }
+        requires row { row_of self.old.rows object ≡ Some plan.now.row }
+        requires bytes { plan.now.bytes ≡ entries_length (entries_between plan.now.inode after.now moment) }
+        ensures { Turns (fields_of B.log self.old) object moment after.now (blocks_turned (fields_of B.log self.old) object plan.now.inode after.now moment) (fields_of B.log self.new) }
     {
-        if let Some(entry) = only_entry_between(&subject.inode, after, moment) {
-            self.put_turn(object, subject, after, moment, from_ref(&entry));
+        if let Some(entry) = only_entry_between(&plan.inode, after, moment) {
+            self.put_turn(object, plan, after, moment, from_ref(&entry));
         } else {
-            let entries = entries_between(&subject.inode, after, moment);
-            self.put_turn(object, subject, after, moment, entries.as_slice());
+            let entries = entries_between(&plan.inode, after, moment);
+            self.put_turn(object, plan, after, moment, entries.as_slice());
         }
     }
 
     /// Takes a deletion.
-    fn delete(&mut self, object: ObjectId, subject: &Subject, moment: Moment)
-        requires can { CanTake (fields_of B.log self.old) (Delete object) moment subject.now.inode }
-        requires row { subject.now.row ≡ subject_row (fields_of B.log self.old) object moment }
-        ensures { IsTaken (fields_of B.log self.old) (Delete object) moment subject.now.inode (fields_of B.log self.new) }
+    fn delete(&mut self, object: ObjectId, plan: &PlannedChange, moment: Moment)
+        requires can { CanTake (fields_of B.log self.old) (Delete object) moment plan.now.inode }
+        requires row { plan.now.row ≡ subject_row (fields_of B.log self.old) object moment }
+        requires bytes { plan.now.bytes ≡ sum (sizes_by (Delete object) plan.now.inode) }
+        ensures { IsTaken (fields_of B.log self.old) (Delete object) moment plan.now.inode (fields_of B.log self.new) }
     {
         what_changes_rest_on();
-        let after = deleted(&subject.inode);
-        self.turn(object, subject, &after, moment);
+        let after = deleted(&plan.inode);
+        self.turn(object, plan, &after, moment);
     }
 
     /// Takes a change of the attribute.
@@ -133,17 +173,18 @@ impl<B: Blocks> Store<B> {
         &mut self,
         object: ObjectId,
         attribute: &[u8],
-        subject: &Subject,
+        plan: &PlannedChange,
         moment: Moment,
     )
-        requires can { CanTake (fields_of B.log self.old) (SetAttr object attribute.now) moment subject.now.inode }
-        requires row { subject.now.row ≡ subject_row (fields_of B.log self.old) object moment }
-        ensures { IsTaken (fields_of B.log self.old) (SetAttr object attribute.now) moment subject.now.inode (fields_of B.log self.new) }
+        requires can { CanTake (fields_of B.log self.old) (SetAttr object attribute.now) moment plan.now.inode }
+        requires row { plan.now.row ≡ subject_row (fields_of B.log self.old) object moment }
+        requires bytes { plan.now.bytes ≡ sum (sizes_by (SetAttr object attribute.now) plan.now.inode) }
+        ensures { IsTaken (fields_of B.log self.old) (SetAttr object attribute.now) moment plan.now.inode (fields_of B.log self.new) }
     {
         what_changes_rest_on();
         let attribute = attribute_of(attribute);
-        let after = with_attribute(&subject.inode, attribute, moment);
-        self.turn(object, subject, &after, moment);
+        let after = with_attribute(&plan.inode, attribute, moment);
+        self.turn(object, plan, &after, moment);
     }
 
     /// Takes a write.
@@ -152,34 +193,29 @@ impl<B: Blocks> Store<B> {
         object: ObjectId,
         offset: u64,
         bytes: &[u8],
-        subject: &Subject,
+        plan: &PlannedChange,
         moment: Moment,
     )
-        requires can { CanTake (fields_of B.log self.old) (Write object offset bytes.now) moment subject.now.inode }
-        requires row { subject.now.row ≡ subject_row (fields_of B.log self.old) object moment }
-        ensures { IsTaken (fields_of B.log self.old) (Write object offset bytes.now) moment subject.now.inode (fields_of B.log self.new) }
+        requires can { CanTake (fields_of B.log self.old) (Write object offset bytes.now) moment plan.now.inode }
+        requires row { plan.now.row ≡ subject_row (fields_of B.log self.old) object moment }
+        requires bytes { plan.now.bytes ≡ sum (sizes_by (Write object offset bytes.now) plan.now.inode) }
+        ensures { IsTaken (fields_of B.log self.old) (Write object offset bytes.now) moment plan.now.inode (fields_of B.log self.new) }
     {
         what_changes_rest_on();
-        let after = write(
-            &mut self.table,
-            object,
-            &subject.inode,
-            moment,
-            offset,
-            bytes,
-        );
-        self.turn(object, subject, &after, moment);
+        let after = write(&mut self.table, object, &plan.inode, moment, offset, bytes);
+        self.turn(object, plan, &after, moment);
     }
 
     /// Takes a truncation.
-    fn truncate(&mut self, object: ObjectId, size: u64, subject: &Subject, moment: Moment)
-        requires can { CanTake (fields_of B.log self.old) (Truncate object size) moment subject.now.inode }
-        requires row { subject.now.row ≡ subject_row (fields_of B.log self.old) object moment }
-        ensures { IsTaken (fields_of B.log self.old) (Truncate object size) moment subject.now.inode (fields_of B.log self.new) }
+    fn truncate(&mut self, object: ObjectId, size: u64, plan: &PlannedChange, moment: Moment)
+        requires can { CanTake (fields_of B.log self.old) (Truncate object size) moment plan.now.inode }
+        requires row { plan.now.row ≡ subject_row (fields_of B.log self.old) object moment }
+        requires bytes { plan.now.bytes ≡ sum (sizes_by (Truncate object size) plan.now.inode) }
+        ensures { IsTaken (fields_of B.log self.old) (Truncate object size) moment plan.now.inode (fields_of B.log self.new) }
     {
         what_changes_rest_on();
-        let after = truncate(&mut self.table, object, &subject.inode, moment, size as u32);
-        self.turn(object, subject, &after, moment);
+        let after = truncate(&mut self.table, object, &plan.inode, moment, size as u32);
+        self.turn(object, plan, &after, moment);
     }
 
     /// Gives an object its first row, and its inode beside it. NoMemory where they couldn't be stored; then nothing has changed.
@@ -206,45 +242,52 @@ impl<B: Blocks> Store<B> {
         &mut self,
         object: ObjectId,
         attribute: &[u8],
-        subject: &Subject,
+        plan: &PlannedChange,
         moment: Moment,
     ) -> Result<(), Refusal>
-        requires can { CanTake (fields_of B.log self.old) (Create object attribute.now) moment subject.now.inode }
-        requires row { subject.now.row ≡ subject_row (fields_of B.log self.old) object moment }
-        ensures taken { OnOk result (IsTaken (fields_of B.log self.old) (Create object attribute.now) moment subject.now.inode (fields_of B.log self.new)) }
+        requires can { CanTake (fields_of B.log self.old) (Create object attribute.now) moment plan.now.inode }
+        requires row { plan.now.row ≡ subject_row (fields_of B.log self.old) object moment }
+        requires bytes { plan.now.bytes ≡ sum (sizes_by (Create object attribute.now) plan.now.inode) }
+        ensures taken { OnOk result (IsTaken (fields_of B.log self.old) (Create object attribute.now) moment plan.now.inode (fields_of B.log self.new)) }
         ensures refusal { IfErr result (λ e. e ≡ NoMemory) }
         ensures unchanged { OnErr result (fields_of B.log self.new ≡ fields_of B.log self.old) }
     {
         what_changes_rest_on();
         let attribute = attribute_of(attribute);
-        self.add_object(object, &subject.inode, moment)?;
+        self.add_object(object, &plan.inode, moment)?;
         let after = created(attribute, moment);
-        self.turn(object, subject, &after, moment);
+        self.turn(object, plan, &after, moment);
         Ok(())
     }
 
     /// Takes a change that isn't refused. NoMemory of a creation alone, and then nothing has changed.
     #[tactic(auto, using(crate::proofs::Across::above_has_none))]
-    fn perform(&mut self, change: &Change, subject: &Subject, moment: Moment) -> Result<(), Refusal>
-        requires can { CanTake (fields_of B.log self.old) change.now moment subject.now.inode }
-        requires row { subject.now.row ≡ subject_row (fields_of B.log self.old) (object_of change.now) moment }
-        ensures taken { OnOk result (IsTaken (fields_of B.log self.old) change.now moment subject.now.inode (fields_of B.log self.new)) }
+    fn perform(
+        &mut self,
+        change: &Change,
+        plan: &PlannedChange,
+        moment: Moment,
+    ) -> Result<(), Refusal>
+        requires can { CanTake (fields_of B.log self.old) change.now moment plan.now.inode }
+        requires row { plan.now.row ≡ subject_row (fields_of B.log self.old) (object_of change.now) moment }
+        requires bytes { plan.now.bytes ≡ sum (sizes_by change.now plan.now.inode) }
+        ensures taken { OnOk result (IsTaken (fields_of B.log self.old) change.now moment plan.now.inode (fields_of B.log self.new)) }
         ensures refusal { IfErr result (λ e. (e ≡ NoMemory) × (row_of self.old.rows (object_of change.now) ≡ None)) }
         ensures unchanged { OnErr result (fields_of B.log self.new ≡ fields_of B.log self.old) }
     {
         match change {
             Change::Create { object, attribute } => {
-                self.create(*object, attribute.as_slice(), subject, moment)?;
+                self.create(*object, attribute.as_slice(), plan, moment)?;
             }
-            Change::Delete { object } => self.delete(*object, subject, moment),
+            Change::Delete { object } => self.delete(*object, plan, moment),
             Change::Write {
                 object,
                 offset,
                 bytes,
-            } => self.write(*object, *offset, bytes.as_slice(), subject, moment),
-            Change::Truncate { object, size } => self.truncate(*object, *size, subject, moment),
+            } => self.write(*object, *offset, bytes.as_slice(), plan, moment),
+            Change::Truncate { object, size } => self.truncate(*object, *size, plan, moment),
             Change::SetAttr { object, attribute } => {
-                self.set_attribute(*object, attribute.as_slice(), subject, moment);
+                self.set_attribute(*object, attribute.as_slice(), plan, moment);
             }
             Change::SetWindow { .. } => unreachable!(),
             Change::Flush { .. } => unreachable!(),
@@ -276,8 +319,7 @@ impl<B: Blocks> Store<B> {
         ensures memory { IfErr result (λ e. e ≡ NoMemory → (change_refusal (fields_of B.log self.old) change.now moment ≡ None) × (row_of self.old.rows (object_of change.now) ≡ None)) }
         ensures unchanged { OnErr result (fields_of B.log self.new ≡ fields_of B.log self.old) }
     {
-        let subject = self.subject(object_of(change), moment);
-        self.check(change, &subject, moment)?;
-        self.perform(change, &subject, moment)
+        let plan = self.plan_change(change, moment)?;
+        self.perform(change, &plan, moment)
     }
 }

@@ -1,4 +1,4 @@
-use Rattle.std.proofs.Common.{◌≤◌, ◌++◌, List, length, rules, refl, sym, ap, subst, ◌∙◌}
+use Rattle.std.proofs.Common.{◌++◌, List, rules, refl, sym, ap, subst, ◌∙◌}
 use Rattle.block_log.specs.declared.kinds.BlockKind.TheVariants.{Checkpoint}
 use Rattle.codec.specs.Entry.{EntryFields}
 use Rattle.undo_redo.specs.Runs.{Run, AllAt}
@@ -10,10 +10,6 @@ use Rattle.row_changes.proofs.changes.record_change.Goals as goal
 
 pub of-chain-requires-clause-one_block : goal.of-chain-requires-clause-one_block
 of-chain-requires-clause-one_block g c = c.later_entries_join_a_row.ensures.newest (g.B.Blocks.log c.args.table.now).held c.args.object c.args.row.now c.requires.row
-
-pub push-requires-clause-few : goal.push-requires-clause-few
-push-requires-clause-few g c =
-    subst (λ (es : List EntryFields). length es ≤ 3) (sym c.requires.told) (c.the_entries_between_two_inodes.ensures.count c.args.before.now c.args.after.now c.args.moment).1
 
 pub returns : goal.returns
 returns g c =
@@ -39,7 +35,7 @@ returns g c =
       run = subst (λ (es : List EntryFields). Run before es after) (sym told) (between.run before after m c.requires.lead);
       group = ap grouped told ∙ between.group before after m c.requires.lead;
       moments = subst (λ (es : List EntryFields). AllAt m es) (sym told) (between.moments before after m);
-      chain = holding held later o row head bytes filled new new c.of-chain.result c.push.new.self laws.chain c.of-chain.ensures c.push.ensures.object c.head.ensures c.bytes.ensures.bytes c.filled.ensures.filled refl c.in_ok-push.ensures.holds;
+      chain = holding held later o row head bytes filled new new c.of-chain.result c.push.new.self laws.chain c.of-chain.ensures c.push.ensures.object c.head.ensures c.bytes.ensures.bytes c.filled.ensures.filled refl c.push.ensures.holds;
       checkpoints = c.push.ensures.others Checkpoint o refl;
     } in
     record {
@@ -52,6 +48,4 @@ returns g c =
       fields = search rules;
       others = search rules;
       takes = search rules;
-      answer = search rules;
-      unchanged = search rules;
     }

@@ -1,28 +1,26 @@
 use Rattle.s4_types.specs.declared.changes.Change.TheVariants.{Delete}
 use Rattle.inode.specs.Contents.{contents_of}
 use Rattle.version_store.specs.Store.{StoreFields, fields_of}
-use Rattle.version_store.proofs.Kind.{can_turn, taken_of}
+use Rattle.version_store.proofs.Kind.{can_turn, bytes_made, taken_of}
 use Rattle.version_store.proofs.Making.{can_subject, subject_is, deleted_makes}
 use Rattle.version_store.proofs.store.Store.delete.Goals as goal
 
-pub turn-requires-clause-can : goal.turn-requires-clause-can
-turn-requires-clause-can g c =
+pub turn-requires : goal.turn-requires
+turn-requires g c =
     let s : StoreFields = fields_of g.B.Blocks.log c.args.self.now in
-    let subject = can_subject s (Delete c.args.object) c.args.moment c.args.subject.now.inode c.requires.can c.requires.can.takes.ready in
-    let makes = deleted_makes s c.args.object c.args.moment c.args.subject.now.inode c.deleted-after.result c.requires.can subject c.deleted-after.ensures.inode (c.deleted-after.ensures.meaning (contents_of s.log.held) c.args.object c.args.moment) (c.deleted-after.ensures.tidy (contents_of s.log.held) subject.tidy) in
-    can_turn c.what_changes_rest_on.ensures.orderly c.what_changes_rest_on.ensures.row c.what_changes_rest_on.ensures.inode c.what_changes_rest_on.ensures.journal c.what_changes_rest_on.ensures.meaning c.what_changes_rest_on.ensures.entry_sizes c.what_changes_rest_on.ensures.sizes_add_up
-    s (Delete c.args.object) c.args.moment s.log c.args.subject.now.inode c.deleted-after.result c.requires.can subject makes
-
-pub turn-requires-clause-row : goal.turn-requires-clause-row
-turn-requires-clause-row g c =
-    let s : StoreFields = fields_of g.B.Blocks.log c.args.self.now in
-    let subject = can_subject s (Delete c.args.object) c.args.moment c.args.subject.now.inode c.requires.can c.requires.can.takes.ready in
-    subject_is s c.args.object c.args.moment c.args.subject.now.inode c.args.subject.now.row subject c.requires.row
+    let subject = can_subject s (Delete c.args.object) c.args.moment c.args.plan.now.inode c.requires.can c.requires.can.takes.ready in
+    let makes = deleted_makes s c.args.object c.args.moment c.args.plan.now.inode c.deleted-after.result c.requires.can subject c.deleted-after.ensures.inode (c.deleted-after.ensures.meaning (contents_of s.log.held) c.args.object c.args.moment) (c.deleted-after.ensures.tidy (contents_of s.log.held) subject.tidy) in
+    record {
+      can = can_turn c.what_changes_rest_on.ensures.orderly c.what_changes_rest_on.ensures.row c.what_changes_rest_on.ensures.inode c.what_changes_rest_on.ensures.journal c.what_changes_rest_on.ensures.meaning c.what_changes_rest_on.ensures.entry_sizes c.what_changes_rest_on.ensures.sizes_add_up
+          s (Delete c.args.object) c.args.moment s.log c.args.plan.now.inode c.deleted-after.result c.requires.can subject makes;
+      row = subject_is s c.args.object c.args.moment c.args.plan.now.inode c.args.plan.now.row subject c.requires.row;
+      bytes = bytes_made c.what_changes_rest_on.ensures.entry_sizes c.what_changes_rest_on.ensures.sizes_add_up s (Delete c.args.object) c.args.moment c.args.plan.now.inode s.log c.deleted-after.result c.args.plan.now.bytes makes c.requires.bytes;
+    }
 
 pub returns : goal.returns
 returns g c =
     let s : StoreFields = fields_of g.B.Blocks.log c.args.self.now in
-    let subject = can_subject s (Delete c.args.object) c.args.moment c.args.subject.now.inode c.requires.can c.requires.can.takes.ready in
-    let makes = deleted_makes s c.args.object c.args.moment c.args.subject.now.inode c.deleted-after.result c.requires.can subject c.deleted-after.ensures.inode (c.deleted-after.ensures.meaning (contents_of s.log.held) c.args.object c.args.moment) (c.deleted-after.ensures.tidy (contents_of s.log.held) subject.tidy) in
+    let subject = can_subject s (Delete c.args.object) c.args.moment c.args.plan.now.inode c.requires.can c.requires.can.takes.ready in
+    let makes = deleted_makes s c.args.object c.args.moment c.args.plan.now.inode c.deleted-after.result c.requires.can subject c.deleted-after.ensures.inode (c.deleted-after.ensures.meaning (contents_of s.log.held) c.args.object c.args.moment) (c.deleted-after.ensures.tidy (contents_of s.log.held) subject.tidy) in
     taken_of c.what_changes_rest_on.ensures.places_add_up c.what_changes_rest_on.ensures.inode c.what_changes_rest_on.ensures.meaning c.what_changes_rest_on.ensures.entry_sizes
-    s (fields_of g.B.Blocks.log c.turn.new.self) (Delete c.args.object) c.args.moment s.log c.args.subject.now.inode c.deleted-after.result c.requires.can subject makes c.turn.ensures
+    s (fields_of g.B.Blocks.log c.turn.new.self) (Delete c.args.object) c.args.moment s.log c.args.plan.now.inode c.deleted-after.result c.requires.can subject makes c.turn.ensures

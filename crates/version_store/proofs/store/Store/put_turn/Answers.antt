@@ -2,41 +2,54 @@
 use Rattle.std.proofs.Common.{◌≡◌, ℕ, ◌+◌, ◌++◌, List, Option, Some, IfSome, refl, sym, ap, subst, ◌∙◌, arith}
 use Rattle.codec.specs.Entry.{EntryFields}
 use Rattle.codec.specs.declared.inodes.Inode.{Inode}
-use Rattle.time_read.specs.Rows.{entries_of}
+use Rattle.journal_chain.specs.Push.{HasRoom}
+use Rattle.time_read.specs.Rows.{chain_of, entries_of}
 use Rattle.object_map.specs.declared.map.Row.{Row}
 use Rattle.object_map.specs.Objects.{with_value}
 use Rattle.object_map.specs.Rows.{row_of}
 use Rattle.version_store.specs.Store.{StoreOf, StoreFields, fields_of}
 use Rattle.version_store.specs.private.Turning.{CanTurn, Turns, blocks_turned}
-use Rattle.version_store.specs.private.Beside.{inode_beside, TurnsBeside}
+use Rattle.time_read.specs.Presents.{TurnsBeside}
+use Rattle.version_store.specs.private.Beside.{inode_beside}
 use Rattle.version_store.proofs.Beside.{inode_put, turned_indexed}
 use Rattle.version_store.proofs.Steps.{Records}
 use Rattle.version_store.proofs.Present.{turned_keeps}
 use Rattle.version_store.proofs.Turning.{known, records_of, turned}
 use Rattle.version_store.proofs.store.Store.put_turn.Goals as goal
 
-pub record_change-requires-clause-earlier : goal.record_change-requires-clause-earlier
-record_change-requires-clause-earlier g c =
+pub record_change-next-requires-clause-earlier : goal.record_change-next-requires-clause-earlier
+record_change-next-requires-clause-earlier g c =
     let s : StoreFields = record { rows = c.self.inside.objects.rows; log = g.B.Blocks.log c.self.inside.table; latest = c.self.inside.latest } in
     let o = c.args.object in
-    let row = c.args.subject.now.row in
-    let before = c.args.subject.now.inode in
+    let row = c.args.plan.now.row in
+    let before = c.args.plan.now.inode in
     let can = subst (λ (v : StoreOf _). CanTurn (fields_of g.B.Blocks.log v) o before c.args.after.now c.args.moment) (sym c.self.view_is) c.requires.can in
     let there = subst (λ (v : StoreOf _). row_of v.rows o ≡ Some row) (sym c.self.view_is) c.requires.row in
     (known c.what_changes_rest_on.ensures.later c.what_changes_rest_on.ensures.last s o before c.args.after.now c.args.moment row can there).earlier
 
+pub record_change-next-requires-clause-room : goal.record_change-next-requires-clause-room
+record_change-next-requires-clause-room g c =
+    let s : StoreFields = record { rows = c.self.inside.objects.rows; log = g.B.Blocks.log c.self.inside.table; latest = c.self.inside.latest } in
+    let o = c.args.object in
+    let row = c.args.plan.now.row in
+    let before = c.args.plan.now.inode in
+    let can = subst (λ (v : StoreOf _). CanTurn (fields_of g.B.Blocks.log v) o before c.args.after.now c.args.moment) (sym c.self.view_is) c.requires.can in
+    let there = subst (λ (v : StoreOf _). row_of v.rows o ≡ Some row) (sym c.self.view_is) c.requires.row in
+    let room = (known c.what_changes_rest_on.ensures.later c.what_changes_rest_on.ensures.last s o before c.args.after.now c.args.moment row can there).room in
+    subst (HasRoom (chain_of o row) s.log.ahead) (sym c.requires.told) room
+
 pub returns : goal.returns
 returns g c =
     let s : StoreFields = record { rows = c.self.inside.objects.rows; log = g.B.Blocks.log c.self.inside.table; latest = c.self.inside.latest } in
-    let later : StoreFields = record { rows = c.turn_beside.new.objects.rows; log = g.B.Blocks.log c.record_change.new.table; latest = c.args.moment } in
+    let later : StoreFields = record { rows = c.turn_beside.new.objects.rows; log = g.B.Blocks.log c.record_change-next.new.table; latest = c.args.moment } in
     let rest = c.what_changes_rest_on.ensures in
     let o = c.args.object in
     let m = c.args.moment in
-    let row = c.args.subject.now.row in
-    let before = c.args.subject.now.inode in
+    let row = c.args.plan.now.row in
+    let before = c.args.plan.now.inode in
     let after = c.args.after.now in
-    let next = c.in-Ok.next in
-    let made = c.in-Ok.ensures in
+    let next = c.record_change-next.result in
+    let made = c.record_change-next.ensures in
     let can = subst (λ (v : StoreOf _). CanTurn (fields_of g.B.Blocks.log v) o before after m) (sym c.self.view_is) c.requires.can in
     let there = subst (λ (v : StoreOf _). row_of v.rows o ≡ Some row) (sym c.self.view_is) c.requires.row in
     let know = known rest.later rest.last s o before after m row can there in
@@ -49,15 +62,15 @@ returns g c =
 pub invariant_of-self : goal.invariant_of-self
 invariant_of-self g c =
     let s : StoreFields = record { rows = c.self.inside.objects.rows; log = g.B.Blocks.log c.self.inside.table; latest = c.self.inside.latest } in
-    let later : StoreFields = record { rows = c.turn_beside.new.objects.rows; log = g.B.Blocks.log c.record_change.new.table; latest = c.args.moment } in
+    let later : StoreFields = record { rows = c.turn_beside.new.objects.rows; log = g.B.Blocks.log c.record_change-next.new.table; latest = c.args.moment } in
     let rest = c.what_changes_rest_on.ensures in
     let o = c.args.object in
     let m = c.args.moment in
-    let row = c.args.subject.now.row in
-    let before = c.args.subject.now.inode in
+    let row = c.args.plan.now.row in
+    let before = c.args.plan.now.inode in
     let after = c.args.after.now in
-    let next = c.in-Ok.next in
-    let made = c.in-Ok.ensures in
+    let next = c.record_change-next.result in
+    let made = c.record_change-next.ensures in
     let can = subst (λ (v : StoreOf _). CanTurn (fields_of g.B.Blocks.log v) o before after m) (sym c.self.view_is) c.requires.can in
     let there = subst (λ (v : StoreOf _). row_of v.rows o ≡ Some row) (sym c.self.view_is) c.requires.row in
     let less = can.later in

@@ -3,30 +3,28 @@ use Rattle.std.proofs.Common.{ℕ, List, ap, ◌∙◌}
 use Rattle.s4_model.specs.Effect.{effect}
 use Rattle.inode.specs.Contents.{contents_of, meaning}
 use Rattle.version_store.specs.Store.{StoreFields, fields_of}
-use Rattle.version_store.proofs.Kind.{can_turn, taken_of}
+use Rattle.version_store.proofs.Kind.{can_turn, bytes_made, taken_of}
 use Rattle.version_store.proofs.Making.{can_subject, subject_is, set_makes}
 use Rattle.version_store.proofs.store.Store.set_attribute.Goals as goal
 
-pub turn-requires-clause-can : goal.turn-requires-clause-can
-turn-requires-clause-can g c =
+pub turn-requires : goal.turn-requires
+turn-requires g c =
     let s : StoreFields = fields_of g.B.Blocks.log c.args.self.now in
-    let subject = can_subject s (SetAttr c.args.object c.args.attribute.now) c.args.moment c.args.subject.now.inode c.requires.can c.requires.can.takes.ready in
-    let makes = set_makes s c.args.object c.args.moment c.args.attribute.now c.args.subject.now.inode c.with_attribute-after.result c.requires.can subject (c.with_attribute-after.ensures.inode ∙ ap (λ (a : List ℕ). record c.args.subject.now.inode { attribute = a; changed = c.args.moment }) c.attribute_of-attribute.ensures)
-    (c.with_attribute-after.ensures.meaning (contents_of s.log.held) c.args.object ∙ ap (λ (a : List ℕ). effect (SetAttr c.args.object a) c.args.moment (meaning (contents_of s.log.held) c.args.subject.now.inode)) c.attribute_of-attribute.ensures) (c.with_attribute-after.ensures.tidy (contents_of s.log.held) subject.tidy) in
-    can_turn c.what_changes_rest_on.ensures.orderly c.what_changes_rest_on.ensures.row c.what_changes_rest_on.ensures.inode c.what_changes_rest_on.ensures.journal c.what_changes_rest_on.ensures.meaning c.what_changes_rest_on.ensures.entry_sizes c.what_changes_rest_on.ensures.sizes_add_up
-    s (SetAttr c.args.object c.args.attribute.now) c.args.moment s.log c.args.subject.now.inode c.with_attribute-after.result c.requires.can subject makes
-
-pub turn-requires-clause-row : goal.turn-requires-clause-row
-turn-requires-clause-row g c =
-    let s : StoreFields = fields_of g.B.Blocks.log c.args.self.now in
-    let subject = can_subject s (SetAttr c.args.object c.args.attribute.now) c.args.moment c.args.subject.now.inode c.requires.can c.requires.can.takes.ready in
-    subject_is s c.args.object c.args.moment c.args.subject.now.inode c.args.subject.now.row subject c.requires.row
+    let subject = can_subject s (SetAttr c.args.object c.args.attribute.now) c.args.moment c.args.plan.now.inode c.requires.can c.requires.can.takes.ready in
+    let makes = set_makes s c.args.object c.args.moment c.args.attribute.now c.args.plan.now.inode c.with_attribute-after.result c.requires.can subject (c.with_attribute-after.ensures.inode ∙ ap (λ (a : List ℕ). record c.args.plan.now.inode { attribute = a; changed = c.args.moment }) c.attribute_of-attribute.ensures)
+    (c.with_attribute-after.ensures.meaning (contents_of s.log.held) c.args.object ∙ ap (λ (a : List ℕ). effect (SetAttr c.args.object a) c.args.moment (meaning (contents_of s.log.held) c.args.plan.now.inode)) c.attribute_of-attribute.ensures) (c.with_attribute-after.ensures.tidy (contents_of s.log.held) subject.tidy) in
+    record {
+      can = can_turn c.what_changes_rest_on.ensures.orderly c.what_changes_rest_on.ensures.row c.what_changes_rest_on.ensures.inode c.what_changes_rest_on.ensures.journal c.what_changes_rest_on.ensures.meaning c.what_changes_rest_on.ensures.entry_sizes c.what_changes_rest_on.ensures.sizes_add_up
+          s (SetAttr c.args.object c.args.attribute.now) c.args.moment s.log c.args.plan.now.inode c.with_attribute-after.result c.requires.can subject makes;
+      row = subject_is s c.args.object c.args.moment c.args.plan.now.inode c.args.plan.now.row subject c.requires.row;
+      bytes = bytes_made c.what_changes_rest_on.ensures.entry_sizes c.what_changes_rest_on.ensures.sizes_add_up s (SetAttr c.args.object c.args.attribute.now) c.args.moment c.args.plan.now.inode s.log c.with_attribute-after.result c.args.plan.now.bytes makes c.requires.bytes;
+    }
 
 pub returns : goal.returns
 returns g c =
     let s : StoreFields = fields_of g.B.Blocks.log c.args.self.now in
-    let subject = can_subject s (SetAttr c.args.object c.args.attribute.now) c.args.moment c.args.subject.now.inode c.requires.can c.requires.can.takes.ready in
-    let makes = set_makes s c.args.object c.args.moment c.args.attribute.now c.args.subject.now.inode c.with_attribute-after.result c.requires.can subject (c.with_attribute-after.ensures.inode ∙ ap (λ (a : List ℕ). record c.args.subject.now.inode { attribute = a; changed = c.args.moment }) c.attribute_of-attribute.ensures)
-    (c.with_attribute-after.ensures.meaning (contents_of s.log.held) c.args.object ∙ ap (λ (a : List ℕ). effect (SetAttr c.args.object a) c.args.moment (meaning (contents_of s.log.held) c.args.subject.now.inode)) c.attribute_of-attribute.ensures) (c.with_attribute-after.ensures.tidy (contents_of s.log.held) subject.tidy) in
+    let subject = can_subject s (SetAttr c.args.object c.args.attribute.now) c.args.moment c.args.plan.now.inode c.requires.can c.requires.can.takes.ready in
+    let makes = set_makes s c.args.object c.args.moment c.args.attribute.now c.args.plan.now.inode c.with_attribute-after.result c.requires.can subject (c.with_attribute-after.ensures.inode ∙ ap (λ (a : List ℕ). record c.args.plan.now.inode { attribute = a; changed = c.args.moment }) c.attribute_of-attribute.ensures)
+    (c.with_attribute-after.ensures.meaning (contents_of s.log.held) c.args.object ∙ ap (λ (a : List ℕ). effect (SetAttr c.args.object a) c.args.moment (meaning (contents_of s.log.held) c.args.plan.now.inode)) c.attribute_of-attribute.ensures) (c.with_attribute-after.ensures.tidy (contents_of s.log.held) subject.tidy) in
     taken_of c.what_changes_rest_on.ensures.places_add_up c.what_changes_rest_on.ensures.inode c.what_changes_rest_on.ensures.meaning c.what_changes_rest_on.ensures.entry_sizes
-    s (fields_of g.B.Blocks.log c.turn.new.self) (SetAttr c.args.object c.args.attribute.now) c.args.moment s.log c.args.subject.now.inode c.with_attribute-after.result c.requires.can subject makes c.turn.ensures
+    s (fields_of g.B.Blocks.log c.turn.new.self) (SetAttr c.args.object c.args.attribute.now) c.args.moment s.log c.args.plan.now.inode c.with_attribute-after.result c.requires.can subject makes c.turn.ensures

@@ -1,12 +1,12 @@
 use Rattle.version_store.specs.Store.{fields_of}
 use Rattle.s4_model.specs.Effect.{object_of}
 use Rattle.version_store.proofs.Present.{begins_tidy}
-use Rattle.version_store.proofs.store.Store.check.Goals as goal
+use Rattle.version_store.proofs.store.Store.count.Goals as goal
 
-pub refusal-requires-clause-size : goal.refusal-requires-clause-size
-refusal-requires-clause-size g c =
+pub bytes_of_entries-requires-clause-size : goal.bytes_of_entries-requires-clause-size
+bytes_of_entries-requires-clause-size g c =
     (begins_tidy c.a_fresh_row_stands.ensures.inode c.a_blank_inode_has_holes_alone.ensures.count c.a_blank_inode_has_holes_alone.ensures.holes (fields_of g.B.Blocks.log c.args.self.now) (object_of c.args.change.now) c.args.moment c.args.subject.now.inode c.requires.store c.requires.inode).size
 
-pub refusal-requires-clause-count : goal.refusal-requires-clause-count
-refusal-requires-clause-count g c =
+pub bytes_of_entries-requires-clause-count : goal.bytes_of_entries-requires-clause-count
+bytes_of_entries-requires-clause-count g c =
     (begins_tidy c.a_fresh_row_stands.ensures.inode c.a_blank_inode_has_holes_alone.ensures.count c.a_blank_inode_has_holes_alone.ensures.holes (fields_of g.B.Blocks.log c.args.self.now) (object_of c.args.change.now) c.args.moment c.args.subject.now.inode c.requires.store c.requires.inode).count

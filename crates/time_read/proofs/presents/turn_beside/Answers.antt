@@ -2,10 +2,10 @@ use Rattle.std.proofs.Common.{◌+◌, List, Option, sym, subst}
 use Rattle.object_map.specs.declared.map.Row.{Row}
 use Rattle.object_map.specs.Objects.{Puts}
 use Rattle.object_map.specs.Rows.{row_of}
-use Rattle.version_store.specs.declared.presents.Present.{Present}
-use Rattle.version_store.specs.private.Beside.{TellsOf, TurnsBeside}
-use Rattle.version_store.proofs.Beside.{if_found}
-use Rattle.version_store.proofs.presents.turn_beside.Goals as goal
+use Rattle.time_read.specs.declared.presents.Present.{Present}
+use Rattle.time_read.specs.Presents.{TellsOf, TurnsBeside}
+use Rattle.time_read.proofs.Presents.{if_found}
+use Rattle.time_read.proofs.presents.turn_beside.Goals as goal
 
 pub returns : goal.returns
 returns c =
