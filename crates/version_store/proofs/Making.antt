@@ -20,7 +20,7 @@ use Rattle.inode.specs.Laws.{HeldPointersLead}
 use Rattle.version_store.specs.Store.{StoreFields}
 use Rattle.object_map.specs.declared.map.Row.{Row}
 use Rattle.object_map.specs.Rows.{row_of, with_row, fresh_row}
-use Rattle.version_store.specs.Costs.{room, row_or_fresh, subject_row}
+use Rattle.version_store.specs.Costs.{row_or_fresh, subject_row}
 use Rattle.version_store.specs.Taking.{IsThere, IsAboveAll}
 use Rattle.version_store.specs.private.Turning.{CanTake}
 use Rattle.version_store.specs.private.Below.{OnePlace, FreshInode, BlankCount, BlankHoles}

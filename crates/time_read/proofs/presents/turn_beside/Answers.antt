@@ -1,4 +1,4 @@
-use Rattle.std.proofs.Common.{◌+◌, List, Option, sym, subst}
+use Rattle.std.proofs.Common.{◌+◌, Option, sym, subst}
 use Rattle.object_map.specs.declared.map.Row.{Row}
 use Rattle.object_map.specs.Objects.{Puts}
 use Rattle.object_map.specs.Rows.{row_of}
