@@ -2,6 +2,7 @@ mod AllRows
 mod Holding
 mod Telling
 mod Frames
+mod Ends
 mod Faults
 mod Retold
 mod SpanOrder

@@ -14,6 +14,7 @@ mod moments;
 mod objects;
 mod opening;
 pub mod opening_laws;
+mod round_trips;
 mod rows;
 mod saved_frames;
 mod saved_rows;
@@ -23,5 +24,6 @@ mod verifying;
 
 pub use images::Image;
 pub use opening::open;
+pub use round_trips::round_trip;
 pub use saving::save;
 pub use verifying::verify;
