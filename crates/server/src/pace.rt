@@ -34,7 +34,7 @@ pub(crate) struct Pace {
     /// Blocks of the drive, and how many changes may still take, when it was last looked at.
     blocks: u64,
     room: AtomicU64,
-    /// The clock from which on a round is worth its cost: three fifths of a window later than the last one began, and
+    /// The clock from which on a round is worth its cost: a quarter of a window later than the last one began, and
     /// no fewer moments than an eighth of its turns.
     ripe: AtomicU64,
     clock: AtomicU64,
@@ -185,7 +185,7 @@ impl Pace {
     /// A round begins.
     pub(crate) fn begin_round(&self, rt: &impl Wait) {
         let clock = self.clock.load(Ordering::SeqCst);
-        let part = self.window.load(Ordering::SeqCst) / 5 * 3;
+        let part = self.window.load(Ordering::SeqCst) / 4;
         self.ripe
             .store(clock.saturating_add(part), Ordering::SeqCst);
         let mut progress = self.progress.lock(rt);
