@@ -4,7 +4,7 @@ pub mod Locating
 pub mod Ordering
 pub mod Pins
 pub mod Planning
-pub mod Presents
+pub mod Found
 pub mod Reading
 pub mod Staying
 pub mod Undoing

@@ -4,7 +4,7 @@ use Rattle.object_map.specs.Objects.{Puts}
 use Rattle.object_map.specs.Rows.{row_of}
 use Rattle.time_read.specs.declared.presents.Present.{Present}
 use Rattle.time_read.specs.Presents.{TellsOf, TurnsBeside}
-use Rattle.time_read.proofs.Presents.{if_found}
+use Rattle.time_read.proofs.Found.{if_found}
 use Rattle.time_read.proofs.presents.turn_beside.Goals as goal
 
 pub returns : goal.returns
