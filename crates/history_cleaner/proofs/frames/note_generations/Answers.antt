@@ -7,7 +7,7 @@ pub push-requires : goal.push-requires
 push-requires g c =
     let below : c.loop-frame.frame < c.frame_count-frame-end.result = c.loop-frame-test.true in
     let noted : length c.loop-frame.noted.items ≡ c.loop-frame.frame = noted_count c.args.drive.now.store.table.drive.frames c.loop-frame.frame c.loop-frame.noted.items c.loop-frame.invariant.noted in
-    omega (arith, below, noted, c.frame_count-frame-end.ensures, c.rules.ensures.sizes.0)
+    omega (arith, below, noted, c.frame_count-frame-end.ensures, c.rules.ensures.frames.sizes.0)
 
 pub loop-frame-preserved : goal.loop-frame-preserved
 loop-frame-preserved g c =
