@@ -7,39 +7,39 @@ use Rattle.sha2.specs.Sha256.{sha256}
 use Rattle.block_log.specs.declared.kinds.BlockKind.{BlockKind}
 use Rattle.block_log.specs.declared.kinds.BlockKind.TheVariants.{Journal, Checkpoint, Data}
 use Rattle.codec.specs.Fields.{◌>>=◌, number, zeros, kept, byte_at, number_at, zeros_at, mark_at, many_at}
-use Rattle.codec.specs.declared.summaries.Part.{Part}
+use Rattle.codec.specs.declared.summaries.BlockRole.{BlockRole}
 
 -- a frame at one of its generations, and what its used payload blocks are, the first of them block 1
 pub record SummaryFields : Type 0 where
   pub frame : ℕ
   pub generation : ℕ
-  pub parts : List Part
+  pub roles : List BlockRole
 
 -- a used block is some object's
-abbrev pub has_object : Part → Bool
+abbrev pub has_object : BlockRole → Bool
 has_object p = nat_le 1 p.object
 
 -- the rules of a summary: generations are 1 to 2^32 - 2, one to 15 blocks are used, and each is some object's
 unfoldable pub summary_rules : SummaryFields → Bool
 summary_rules s =
-    nat_le 1 s.generation && (nat_lt (s.generation + 1) (2 ^ 32) && (nat_le 1 (length s.parts) && (nat_le (length s.parts) 15 && list_all has_object s.parts)))
+    nat_le 1 s.generation && (nat_lt (s.generation + 1) (2 ^ 32) && (nat_le 1 (length s.roles) && (nat_le (length s.roles) 15 && list_all has_object s.roles)))
 
 -- the rules in words
 pub record KeepsSummaryRules (s : SummaryFields) : Type 0 where
   pub least : 1 ≤ s.generation
   pub most : s.generation + 1 < 2 ^ 32
-  pub used : 1 ≤ length s.parts
-  pub room : length s.parts ≤ 15
-  pub objects : AllByRecursion (λ p. 1 ≤ p.object) s.parts
+  pub used : 1 ≤ length s.roles
+  pub room : length s.roles ≤ 15
+  pub objects : AllByRecursion (λ p. 1 ≤ p.object) s.roles
 
--- the number of a part's object is in its range
-abbrev pub IsPart : Part → Type 0
-IsPart p = p.object < 2 ^ 64
+-- the number of a role's object is in its range
+abbrev pub IsBlockRole : BlockRole → Type 0
+IsBlockRole p = p.object < 2 ^ 64
 
 -- the numbers of a summary are in their ranges
 pub record SummaryNumbers (s : SummaryFields) : Type 0 where
   pub frame : s.frame < 2 ^ 16
-  pub parts : AllByRecursion IsPart s.parts
+  pub roles : AllByRecursion IsBlockRole s.roles
 
 -- the summary has a spelling
 abbrev pub IsSummary : SummaryFields → Type 0
@@ -54,14 +54,14 @@ kind_number Checkpoint = 2
 kind_number Data = 3
 
 -- the nine bytes of a used block
-unfoldable pub part_spelling : Part → List ℕ
-part_spelling p = kind_number p.kind ∷ number w64 p.object
+unfoldable pub role_spelling : BlockRole → List ℕ
+role_spelling p = kind_number p.kind ∷ number w64 p.object
 
 -- The first 480 bytes of a summary: "S4sg", the numbers, nine bytes for each used block, and zeros. The nine bytes of
 -- each unused block, which are zeros too, are the first of these.
 unfoldable pub summary_head : SummaryFields → List ℕ
 summary_head s =
-    0x53 ∷ 0x34 ∷ 0x73 ∷ 0x67 ∷ (number w16 s.frame ++ (length s.parts ∷ 0 ∷ (number w32 s.generation ++ (zeros 4 ++ (flat_map part_spelling s.parts ++ zeros (464 - 9 * length s.parts))))))
+    0x53 ∷ 0x34 ∷ 0x73 ∷ 0x67 ∷ (number w16 s.frame ++ (length s.roles ∷ 0 ∷ (number w32 s.generation ++ (zeros 4 ++ (flat_map role_spelling s.roles ++ zeros (464 - 9 * length s.roles))))))
 
 -- the digest of a frame: of the head of its summary, and its payload blocks in their order
 abbrev pub frame_digest : List ℕ → List (List ℕ) → List ℕ
@@ -81,7 +81,7 @@ UnusedAreBlank used payload = AllByRecursion IsBlank (drop used payload)
 
 -- the block spells this summary in front of these payload blocks
 abbrev pub SpellsSummary : List (List ℕ) → List ℕ → SummaryFields → Type 0
-SpellsSummary payload block s = IsSummary s × (UnusedAreBlank (length s.parts) payload × (block ≡ summary_spelling s payload))
+SpellsSummary payload block s = IsSummary s × (UnusedAreBlank (length s.roles) payload × (block ≡ summary_spelling s payload))
 
 -- ---- reading
 
@@ -91,15 +91,15 @@ kind_at [] = None
 kind_at (b ∷ rest) = if b == 1 then Some (Journal, rest) else (if b == 2 then Some (Checkpoint, rest) else (if b == 3 then Some (Data, rest) else None))
 
 -- what a used block is, and the bytes after it
-unfoldable pub part_at : List ℕ → Option (Part × List ℕ)
-part_at bytes = do
+unfoldable pub role_at : List ℕ → Option (BlockRole × List ℕ)
+role_at bytes = do
   kind ← kind_at bytes
   object ← number_at w64 kind.1
   Some (record { kind = kind.0; object = object.0 }, object.1)
 
 -- what so many used blocks are, of at most 15
-unfoldable pub parts_at : ℕ → List ℕ → Option (List Part × List ℕ)
-parts_at used bytes = if nat_lt 15 used then None else many_at part_at used bytes
+unfoldable pub roles_at : ℕ → List ℕ → Option (List BlockRole × List ℕ)
+roles_at used bytes = if nat_lt 15 used then None else many_at role_at used bytes
 
 -- a summary that keeps the rules
 abbrev pub checked_summary : SummaryFields → Option SummaryFields
@@ -108,9 +108,9 @@ checked_summary s = kept (summary_rules s) s
 -- reading what stands behind the numbers in the head of a summary
 abbrev pub behind_numbers : ℕ → ℕ → ℕ → List ℕ → Option (SummaryFields × List ℕ)
 behind_numbers frame used generation bytes = do
-  parts ← parts_at used bytes
-  end ← zeros_at (464 - 9 * used) parts.1
-  made ← checked_summary (record { frame = frame; generation = generation; parts = parts.0 })
+  roles ← roles_at used bytes
+  end ← zeros_at (464 - 9 * used) roles.1
+  made ← checked_summary (record { frame = frame; generation = generation; roles = roles.0 })
   Some (made, end.1)
 
 -- reading what stands behind the marks in the head of a summary

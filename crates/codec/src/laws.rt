@@ -53,5 +53,5 @@ pub fn one_summary_a_spelling()
 
 /// The spelling of a summary has 512 bytes.
 pub fn summary_is_a_block()
-    ensures { (s : SummaryFields) (payload : List (List ℕ)) → length s.parts ≤ 15 → length (summary_spelling s payload) ≡ 512 }
+    ensures { (s : SummaryFields) (payload : List (List ℕ)) → length s.roles ≤ 15 → length (summary_spelling s payload) ≡ 512 }
 {}

@@ -40,7 +40,7 @@ pub use journal_reading::decode_journal;
 pub use journal_writing::{encode_entries, encode_journal};
 pub use journals::{Entries, JournalBlock};
 pub use pointers::{decode_ptr, encode_ptr};
-pub use summaries::{Part, Parts, Summary};
+pub use summaries::{BlockRole, BlockRoles, Summary};
 pub use summary_reading::decode_summary;
 pub use summary_writing::encode_summary;
 pub use writing::Writing;

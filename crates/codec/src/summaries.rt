@@ -13,25 +13,25 @@ use std::marker::Model;
 /// Bytes of a summary in front of its digest.
 pub(crate) const HEAD_BYTES: usize = 480;
 
-/// Bytes of a summary's head from its parts on.
-pub(crate) const PARTS_AND_ZEROS: usize = 464;
+/// Bytes of a summary's head from its roles on.
+pub(crate) const ROLES_AND_ZEROS: usize = 464;
 
-/// Bytes of a part.
-pub(crate) const PART_BYTES: usize = 9;
+/// Bytes of a role.
+pub(crate) const ROLE_BYTES: usize = 9;
 
 /// What a used payload block is for, and whose it is.
 #[derive(Clone, Copy, PartialEq, Eq)]
-pub struct Part {
+pub struct BlockRole {
     pub kind: BlockKind,
     pub object: ObjectId,
 }
 
-/// A journal block of no object: what stands in the unused room of `Parts`.
-impl Default for Part {
+/// A journal block of no object: what stands in the unused room of `BlockRoles`.
+impl Default for BlockRole {
     ghost is_default = { λ p. (p.kind ≡ Journal) × (p.object ≡ 0) };
 
-    fn default() -> Part {
-        Part {
+    fn default() -> BlockRole {
+        BlockRole {
             kind: BlockKind::Journal,
             object: ObjectId::new(0),
         }
@@ -39,7 +39,7 @@ impl Default for Part {
 }
 
 /// What the used payload blocks of a frame are, by ascending block from block 1 on.
-pub type Parts = ArrayVec<Part, PAYLOAD_BLOCKS>;
+pub type BlockRoles = ArrayVec<BlockRole, PAYLOAD_BLOCKS>;
 
 /// The summary of a frame at one of its generations: what its used payload blocks are.
 ///
@@ -48,7 +48,7 @@ pub type Parts = ArrayVec<Part, PAYLOAD_BLOCKS>;
 pub struct Summary {
     frame: u16,
     generation: u32,
-    parts: Parts,
+    roles: BlockRoles,
 }
 
 impl Model for Summary {
@@ -57,36 +57,36 @@ impl Model for Summary {
 
     ghost Value = { SummaryFields };
 
-    ghost view = { λ s. record { frame = s.frame; generation = s.generation; parts = s.parts.items } };
+    ghost view = { λ s. record { frame = s.frame; generation = s.generation; roles = s.roles.items } };
 
-    ghost invariant = { λ s. summary_rules (record { frame = s.frame; generation = s.generation; parts = s.parts.items }) ≡ true };
+    ghost invariant = { λ s. summary_rules (record { frame = s.frame; generation = s.generation; roles = s.roles.items }) ≡ true };
 }
 
-fn have_objects(parts: &[Part]) -> bool
-    ensures { result ≡ list_all has_object parts.now }
+fn have_objects(roles: &[BlockRole]) -> bool
+    ensures { result ≡ list_all has_object roles.now }
 {
-    parts.iter().all(|part| part.object.number() >= 1)
+    roles.iter().all(|role| role.object.number() >= 1)
 }
 
 #[tactic(auto, unfolding(crate::specs::Summary::summary_rules))]
-fn keeps_rules(generation: u32, parts: &Parts) -> bool
-    ensures { (frame : ℕ) → result ≡ summary_rules (record { frame = frame; generation = generation; parts = parts.now.items }) }
+fn keeps_rules(generation: u32, roles: &BlockRoles) -> bool
+    ensures { (frame : ℕ) → result ≡ summary_rules (record { frame = frame; generation = generation; roles = roles.now.items }) }
 {
-    generation >= 1 && generation < u32::MAX && parts.len() >= 1 && have_objects(parts.as_slice())
+    generation >= 1 && generation < u32::MAX && roles.len() >= 1 && have_objects(roles.as_slice())
 }
 
 impl Summary {
     /// The summary of a frame. None where it breaks a rule of summaries.
-    pub fn new(frame: u16, generation: u32, parts: Parts) -> Option<Self>
-        ensures { Reads (λ s. s) result (checked_summary (record { frame = frame; generation = generation; parts = parts.items })) }
+    pub fn new(frame: u16, generation: u32, roles: BlockRoles) -> Option<Self>
+        ensures { Reads (λ s. s) result (checked_summary (record { frame = frame; generation = generation; roles = roles.items })) }
     {
-        if !keeps_rules(generation, &parts) {
+        if !keeps_rules(generation, &roles) {
             return None;
         }
         Some(Summary {
             frame,
             generation,
-            parts,
+            roles,
         })
     }
 
@@ -108,12 +108,12 @@ impl Summary {
 
     /// What the used payload blocks are, of which there are one to 15, by ascending block from block 1 on.
     #[tactic(auto, unfolding(crate::specs::Summary::summary_rules))]
-    pub fn parts(&self) -> &[Part]
-        ensures parts { result.now ≡ self.now.parts }
-        ensures least { 1 ≤ length self.now.parts }
-        ensures most { length self.now.parts ≤ 15 }
+    pub fn roles(&self) -> &[BlockRole]
+        ensures roles { result.now ≡ self.now.roles }
+        ensures least { 1 ≤ length self.now.roles }
+        ensures most { length self.now.roles ≤ 15 }
         ensures rules { summary_rules self.now ≡ true }
     {
-        self.parts.as_slice()
+        self.roles.as_slice()
     }
 }

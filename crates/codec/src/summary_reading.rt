@@ -1,11 +1,11 @@
 ghost use Rattle.std.specs.Prelude.{◌≡◌, ◌≢◌, ℕ, ◌≤◌, List, length, Option, Some, IfSome, MatchBool};
 ghost use Rattle.std.specs.List.{AllByRecursion};
 ghost use Rattle.codec.specs.Fields.{Reads, all_of, zeros};
-ghost use Rattle.codec.specs.Summary.{SummaryFields, IsBlank, UnusedAreBlank, SpellsSummary, frame_digest, kind_at, part_at, parts_at, behind_numbers, behind_marks, head_at};
+ghost use Rattle.codec.specs.Summary.{SummaryFields, IsBlank, UnusedAreBlank, SpellsSummary, frame_digest, kind_at, role_at, roles_at, behind_numbers, behind_marks, head_at};
 
 use crate::fields::{read_byte, read_long, read_mark, read_short, read_word, read_zeros};
 use crate::frame_digests::digest_of;
-use crate::summaries::{HEAD_BYTES, PART_BYTES, PARTS_AND_ZEROS, Part, Parts, Summary};
+use crate::summaries::{BlockRole, BlockRoles, HEAD_BYTES, ROLE_BYTES, ROLES_AND_ZEROS, Summary};
 use arrayvec::ArrayVec;
 use block_log::{Block, BlockKind};
 use s4_types::ObjectId;
@@ -23,36 +23,36 @@ fn read_kind(bytes: &[u8]) -> Option<(BlockKind, &[u8])>
     }
 }
 
-#[tactic(auto, unfolding(crate::specs::Summary::part_at))]
-fn read_part(bytes: &[u8]) -> Option<(Part, &[u8])>
-    ensures { Reads (λ x. (x.0, x.1.now)) result (part_at bytes.now) }
+#[tactic(auto, unfolding(crate::specs::Summary::role_at))]
+fn read_role(bytes: &[u8]) -> Option<(BlockRole, &[u8])>
+    ensures { Reads (λ x. (x.0, x.1.now)) result (role_at bytes.now) }
 {
     let (kind, rest) = read_kind(bytes)?;
     let (object, rest) = read_long(rest)?;
-    let part = Part {
+    let role = BlockRole {
         kind,
         object: ObjectId::new(object),
     };
-    Some((part, rest))
+    Some((role, rest))
 }
 
-#[tactic(auto, unfolding(crate::specs::Summary::parts_at))]
-fn read_parts(used: u8, bytes: &[u8]) -> Option<(Parts, &[u8])>
-    ensures { Reads (λ x. (x.0.items, x.1.now)) result (parts_at used bytes.now) }
+#[tactic(auto, unfolding(crate::specs::Summary::roles_at))]
+fn read_roles(used: u8, bytes: &[u8]) -> Option<(BlockRoles, &[u8])>
+    ensures { Reads (λ x. (x.0.items, x.1.now)) result (roles_at used bytes.now) }
 {
     if used as usize > PAYLOAD_BLOCKS {
         return None;
     }
-    let mut parts: Parts = ArrayVec::new();
+    let mut roles: BlockRoles = ArrayVec::new();
     let mut rest = bytes;
     for _ in 0..used {
-        let Some((part, after)) = read_part(rest) else {
+        let Some((role, after)) = read_role(rest) else {
             return None;
         };
-        parts.push(part);
+        roles.push(role);
         rest = after;
     }
-    Some((parts, rest))
+    Some((roles, rest))
 }
 
 /// What stands behind the numbers in the head of a summary.
@@ -64,14 +64,14 @@ fn read_behind_numbers(
 ) -> Option<(Summary, &[u8])>
     ensures { Reads (λ x. (x.0, x.1.now)) result (behind_numbers frame used generation bytes.now) }
 {
-    let Some((parts, rest)) = read_parts(used, bytes) else {
+    let Some((roles, rest)) = read_roles(used, bytes) else {
         return None;
     };
     let rest = read_zeros(
-        PARTS_AND_ZEROS.saturating_sub(PART_BYTES * used as usize),
+        ROLES_AND_ZEROS.saturating_sub(ROLE_BYTES * used as usize),
         rest,
     )?;
-    let summary = Summary::new(frame, generation, parts)?;
+    let summary = Summary::new(frame, generation, roles)?;
     Some((summary, rest))
 }
 
@@ -152,7 +152,7 @@ pub fn decode_summary(block: &Block, payload: &[Block; PAYLOAD_BLOCKS]) -> Optio
     let Some(summary) = summary_in(head) else {
         return None;
     };
-    if !are_unused_blank(summary.parts().len(), payload) {
+    if !are_unused_blank(summary.roles().len(), payload) {
         return None;
     }
     if !is_digest(digest, head, payload) {

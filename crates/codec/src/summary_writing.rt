@@ -1,9 +1,9 @@
 ghost use Rattle.std.specs.Prelude.{◌≡◌, ℕ, ◌+◌, ◌*◌, ◌≤◌, ◌++◌, List, length};
 ghost use Rattle.std.specs.List.{flat_map, AllByRecursion};
-ghost use Rattle.codec.specs.Summary.{IsSummary, IsPart, UnusedAreBlank, SpellsSummary, kind_number, part_spelling, summary_head, summary_spelling};
+ghost use Rattle.codec.specs.Summary.{IsSummary, IsBlockRole, UnusedAreBlank, SpellsSummary, kind_number, role_spelling, summary_head, summary_spelling};
 
 use crate::frame_digests::digest_of;
-use crate::summaries::{PART_BYTES, PARTS_AND_ZEROS, Part, Summary};
+use crate::summaries::{BlockRole, ROLE_BYTES, ROLES_AND_ZEROS, Summary};
 use crate::writing::{Writing, finished, put, put_byte, put_long, put_short, put_word, put_zeros};
 use block_log::{Block, BlockKind};
 use s4_types::limits::PAYLOAD_BLOCKS;
@@ -18,25 +18,25 @@ fn number_of(kind: BlockKind) -> u8
     }
 }
 
-#[tactic(auto, unfolding(crate::specs::Summary::part_spelling))]
-fn put_part(out: &mut Writing, part: Part)
+#[tactic(auto, unfolding(crate::specs::Summary::role_spelling))]
+fn put_role(out: &mut Writing, role: BlockRole)
     requires { length out.old.items + 9 ≤ 512 }
-    ensures items { out.new.items ≡ out.old.items ++ part_spelling part }
+    ensures items { out.new.items ≡ out.old.items ++ role_spelling role }
     ensures len { length out.new.items ≡ length out.old.items + 9 }
-    ensures range { IsPart part }
+    ensures range { IsBlockRole role }
 {
-    put_byte(out, number_of(part.kind));
-    put_long(out, part.object.number());
+    put_byte(out, number_of(role.kind));
+    put_long(out, role.object.number());
 }
 
-fn put_parts(out: &mut Writing, parts: &[Part])
-    requires { length out.old.items + 9 * length parts.now ≤ 512 }
-    ensures items { out.new.items ≡ out.old.items ++ flat_map part_spelling parts.now }
-    ensures len { length out.new.items ≡ length out.old.items + 9 * length parts.now }
-    ensures range { AllByRecursion IsPart parts.now }
+fn put_roles(out: &mut Writing, roles: &[BlockRole])
+    requires { length out.old.items + 9 * length roles.now ≤ 512 }
+    ensures items { out.new.items ≡ out.old.items ++ flat_map role_spelling roles.now }
+    ensures len { length out.new.items ≡ length out.old.items + 9 * length roles.now }
+    ensures range { AllByRecursion IsBlockRole roles.now }
 {
-    for part in parts {
-        put_part(out, *part);
+    for role in roles {
+        put_role(out, *role);
     }
 }
 
@@ -47,16 +47,16 @@ fn head_of(summary: &Summary) -> Writing
     ensures len { length result.items ≡ 480 }
     ensures fits { IsSummary summary.now }
 {
-    let parts = summary.parts();
+    let roles = summary.roles();
     let mut out = Writing::new();
     put(&mut out, b"S4sg");
     put_short(&mut out, summary.frame());
-    put_byte(&mut out, parts.len() as u8);
+    put_byte(&mut out, roles.len() as u8);
     put_byte(&mut out, 0);
     put_word(&mut out, summary.generation());
     put_zeros(&mut out, 4);
-    put_parts(&mut out, parts);
-    put_zeros(&mut out, PARTS_AND_ZEROS - PART_BYTES * parts.len());
+    put_roles(&mut out, roles);
+    put_zeros(&mut out, ROLES_AND_ZEROS - ROLE_BYTES * roles.len());
     out
 }
 
@@ -64,7 +64,7 @@ fn head_of(summary: &Summary) -> Writing
 #[tactic(auto, unfolding(crate::specs::Summary::summary_spelling))]
 pub fn encode_summary(summary: &Summary, payload: &[Block; PAYLOAD_BLOCKS]) -> Block
     ensures exact { result ≡ summary_spelling summary.now payload.now }
-    ensures decodes { UnusedAreBlank (length summary.now.parts) payload.now → SpellsSummary payload.now result summary.now }
+    ensures decodes { UnusedAreBlank (length summary.now.roles) payload.now → SpellsSummary payload.now result summary.now }
 {
     let mut out = head_of(summary);
     let digest = digest_of(out.as_slice(), payload);

@@ -2,7 +2,7 @@
 use Rattle.std.specs.Prelude.{◌≡◌, ◌≢◌, ℕ, None, Some, IfSome, Result, OnOk, OnErr, MatchResult}
 use Rattle.s4_types.specs.declared.refusals.Refusal.{Refusal}
 use Rattle.undo_redo.specs.Runs.{AllBy}
-use Rattle.segment_word.specs.Frames.{Emptied}
+use Rattle.segment_word.specs.Frames.{Draining}
 use Rattle.segment_word.specs.Layout.{frame_at}
 use Rattle.segment_table.specs.Changes.{SealsFrame, MarksFrame, ReleasesFrame}
 use Rattle.object_map.specs.Rows.{row_of}
@@ -40,7 +40,7 @@ pub record Marks (f : ℕ) (d : DriveFields) (done : Result (Unit {0}) Refusal) 
 -- the frame isn't being emptied, and no object where it had a reader.
 pub record Releases (f : ℕ) (d : DriveFields) (done : Result (Unit {0}) Refusal) (later : DriveFields) : Type 0 where
   pub frame : ReleasesFrame f d.store.table done later.store.table
-  pub idle : OnErr done ((frame_at d.store.table.drive.frames f).phase ≢ Emptied → later ≡ d)
+  pub idle : OnErr done ((frame_at d.store.table.seat.frames f).phase ≢ Draining → later ≡ d)
   pub unchanged : OnErr done (store_of later ≡ store_of d)
   pub objects : KeepsObjects (store_of d) (store_of later)
   pub ledger : later.ledger ≡ d.ledger

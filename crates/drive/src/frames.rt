@@ -1,7 +1,7 @@
 //! The frames of a drive.
 use crate::drive::Drive;
 use block_log::Block;
-use codec::Part;
+use codec::BlockRole;
 use s4_types::limits::FRAME_BLOCKS;
 use s4_types::{ObjectId, Ptr, Refusal};
 use segment_table::OverFrames;
@@ -20,8 +20,8 @@ impl<J: Naming> OverFrames for Drive<J> {
         self.store.frame_count()
     }
 
-    fn is_emptied(&mut self, frame: u16) -> bool {
-        self.store.is_emptied(frame)
+    fn is_draining(&mut self, frame: u16) -> bool {
+        self.store.is_draining(frame)
     }
 
     fn generation(&mut self, frame: u16) -> Option<u32> {
@@ -44,8 +44,8 @@ impl<J: Naming> OverFrames for Drive<J> {
         self.store.listings();
     }
 
-    fn part(&mut self, place: Ptr) -> Option<Part> {
-        self.store.part(place)
+    fn role(&mut self, place: Ptr) -> Option<BlockRole> {
+        self.store.role(place)
     }
 
     fn block(&mut self, place: Ptr) -> Block {

@@ -74,11 +74,11 @@ impl NewDrive {
     /// The drive, under a name that says which one it is and what its history begins with.
     pub fn named<J: Naming>(self) -> Drive<J>
         requires accepts { self.accepts ≡ J.accepts }
-        requires frames { self.store.table.drive.table ≡ J.frames }
+        requires frames { self.store.table.seat.table ≡ J.frames }
         requires base { new_base self.window ≡ J.base }
         ensures ledger { result.ledger ≡ begun J.base }
         ensures store { result.store ≡ self.store }
-        ensures frames { result.store.table.drive.table ≡ J.frames }
+        ensures frames { result.store.table.seat.table ≡ J.frames }
     {
         let NewDrive {
             alloc,

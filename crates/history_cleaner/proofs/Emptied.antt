@@ -9,7 +9,7 @@ use Rattle.s4_types.specs.Pointer.{Place}
 use Rattle.s4_types.specs.declared.refusals.Refusal.{Refusal}
 use Rattle.s4_types.specs.declared.refusals.Refusal.TheVariants.{InUse}
 use Rattle.block_log.specs.Log.{Stored}
-use Rattle.segment_word.specs.Frames.{Phase, Free, Open, Sealed, Emptied, is_emptied, Frame, Releases, no_frame}
+use Rattle.segment_word.specs.Frames.{Phase, Free, Open, Sealed, Draining, is_draining, Frame, Releases, no_frame}
 use Rattle.segment_word.specs.Layout.{frame_at, word_of}
 use Rattle.segment_word.specs.Handles.{Drive, HasMissed}
 use Rattle.segment_word.specs.Steps.{released}
@@ -37,11 +37,11 @@ changed_count frames f k = length-set frames f k
 not_free : Free ≡ Sealed → ⊥
 not_free is = cc
 
-free_not_emptied : Free ≡ Emptied → ⊥
-free_not_emptied is = cc
+free_not_draining : Free ≡ Draining → ⊥
+free_not_draining is = cc
 
-not_emptied : Emptied ≡ Sealed → ⊥
-not_emptied is = cc
+not_draining : Draining ≡ Sealed → ⊥
+not_draining is = cc
 
 -- a frame that isn't free has a number
 inside : (frames : List Frame) (f : ℕ) → ((frame_at frames f).phase ≡ Free → ⊥) → f < length frames
@@ -90,26 +90,26 @@ none_marked d = record {
 }
 
 -- frame k is another one than that which was marked, or it is that one
-marked_frame : (old new : Table) (f k : ℕ) → IsMarked f old new → (k ≡ f → ⊥) → frame_at new.drive.frames k ≡ frame_at old.drive.frames k
-marked_frame old new f k done other = ap (λ (d : Drive). frame_at d.frames k) done.drive ∙ changed_else old.drive.frames f k (record (frame_at old.drive.frames f) { phase = Emptied }) other
+marked_frame : (old new : Table) (f k : ℕ) → IsMarked f old new → (k ≡ f → ⊥) → frame_at new.seat.frames k ≡ frame_at old.seat.frames k
+marked_frame old new f k done other = ap (λ (d : Drive). frame_at d.frames k) done.seat ∙ changed_else old.seat.frames f k (record (frame_at old.seat.frames f) { phase = Draining }) other
 
-marked_here : (old new : Table) (f : ℕ) → IsMarked f old new → frame_at new.drive.frames f ≡ record (frame_at old.drive.frames f) { phase = Emptied }
+marked_here : (old new : Table) (f : ℕ) → IsMarked f old new → frame_at new.seat.frames f ≡ record (frame_at old.seat.frames f) { phase = Draining }
 marked_here old new f done =
-    ap (λ (d : Drive). frame_at d.frames f) done.drive
-    ∙ changed_here old.drive.frames f (record (frame_at old.drive.frames f) { phase = Emptied }) (inside old.drive.frames f (λ free. not_free (sym free ∙ done.sealed)))
+    ap (λ (d : Drive). frame_at d.frames f) done.seat
+    ∙ changed_here old.seat.frames f (record (frame_at old.seat.frames f) { phase = Draining }) (inside old.seat.frames f (λ free. not_free (sym free ∙ done.sealed)))
 
 marked_more : (f : ℕ) (old d new : Table) → MarkedBelow f old d → IsMarked f d new → (log_of new).held ≡ (log_of d).held → MarkedBelow (f + 1) old new
 marked_more f old d new sofar done same = record {
-  count = ap (λ (x : Drive). length x.frames) done.drive ∙ changed_count d.drive.frames f (record (frame_at d.drive.frames f) { phase = Emptied }) ∙ sofar.count;
+  count = ap (λ (x : Drive). length x.frames) done.seat ∙ changed_count d.seat.frames f (record (frame_at d.seat.frames f) { phase = Draining }) ∙ sofar.count;
   generations = λ k. elim (cases_eq k f) [
-    | inl is ↦ ap (λ (n : ℕ). (frame_at new.drive.frames n).generation) is ∙ ap (λ (x : Frame). x.generation) (marked_here d new f done) ∙ ap (λ (n : ℕ). (frame_at d.drive.frames n).generation) (sym is) ∙ sofar.generations k
+    | inl is ↦ ap (λ (n : ℕ). (frame_at new.seat.frames n).generation) is ∙ ap (λ (x : Frame). x.generation) (marked_here d new f done) ∙ ap (λ (n : ℕ). (frame_at d.seat.frames n).generation) (sym is) ∙ sofar.generations k
     | inr other ↦ ap (λ (x : Frame). x.generation) (marked_frame d new f k done other) ∙ sofar.generations k
   ];
   marked = λ k below can. elim (cases_eq k f) [
-    | inl is ↦ not_emptied (sym (ap (λ (n : ℕ). (frame_at new.drive.frames n).phase) is ∙ ap (λ (x : Frame). x.phase) (marked_here d new f done)) ∙ can.0)
+    | inl is ↦ not_draining (sym (ap (λ (n : ℕ). (frame_at new.seat.frames n).phase) is ∙ ap (λ (x : Frame). x.phase) (marked_here d new f done)) ∙ can.0)
     | inr other ↦ sofar.marked k (omega arith) (sym (ap (λ (x : Frame). x.phase) (marked_frame d new f k done other)) ∙ can.0, none_again k new d (sym same) can.1)
   ];
-  releases = ap (λ (x : Drive). x.releases) done.drive ∙ sofar.releases;
+  releases = ap (λ (x : Drive). x.releases) done.seat ∙ sofar.releases;
 }
 
 marked_not : (f : ℕ) (old d : Table) → MarkedBelow f old d → (CanBeEmptied f d → ⊥) → MarkedBelow (f + 1) old d
@@ -183,36 +183,36 @@ none_released d = record {
   ledger = refl;
 }
 
-pub released_frame : (old new : Table) (f k : ℕ) → IsReleased f old new → (k ≡ f → ⊥) → frame_at new.drive.frames k ≡ frame_at old.drive.frames k
-released_frame old new f k done other = ap (λ (d : Drive). frame_at d.frames k) done.drive ∙ changed_else old.drive.frames f k (released (frame_at old.drive.frames f)) other
+pub released_frame : (old new : Table) (f k : ℕ) → IsReleased f old new → (k ≡ f → ⊥) → frame_at new.seat.frames k ≡ frame_at old.seat.frames k
+released_frame old new f k done other = ap (λ (d : Drive). frame_at d.frames k) done.seat ∙ changed_else old.seat.frames f k (released (frame_at old.seat.frames f)) other
 
-released_here : (old new : Table) (f : ℕ) → IsReleased f old new → frame_at new.drive.frames f ≡ released (frame_at old.drive.frames f)
-released_here old new f done = ap (λ (d : Drive). frame_at d.frames f) done.drive ∙ changed_here old.drive.frames f (released (frame_at old.drive.frames f)) done.inside
+released_here : (old new : Table) (f : ℕ) → IsReleased f old new → frame_at new.seat.frames f ≡ released (frame_at old.seat.frames f)
+released_here old new f done = ap (λ (d : Drive). frame_at d.frames f) done.seat ∙ changed_here old.seat.frames f (released (frame_at old.seat.frames f)) done.inside
 
 -- frame f was released
 released_more : (f : ℕ) (old d new : Table) → ReleasedBelow f old d → IsReleased f d new → ReleasedBelow (f + 1) old new
 released_more f old d new sofar done =
-    let low : old.drive.releases.tried ≤ d.drive.releases.tried = sofar.tried in
-    let tries : new.drive.releases.tried ≡ d.drive.releases.tried + 1 = ap (λ (x : Drive). x.releases.tried) done.drive in
+    let low : old.seat.releases.tried ≤ d.seat.releases.tried = sofar.tried in
+    let tries : new.seat.releases.tried ≡ d.seat.releases.tried + 1 = ap (λ (x : Drive). x.releases.tried) done.seat in
     record {
-      count = ap (λ (x : Drive). length x.frames) done.drive ∙ changed_count d.drive.frames f (released (frame_at d.drive.frames f)) ∙ sofar.count;
+      count = ap (λ (x : Drive). length x.frames) done.seat ∙ changed_count d.seat.frames f (released (frame_at d.seat.frames f)) ∙ sofar.count;
       below = λ k lt here. elim (cases_eq k f) [
-        | inl at ↦ free_not_emptied (sym (ap (λ (m : ℕ). (frame_at new.drive.frames m).phase) at ∙ ap (λ (x : Frame). x.phase) (released_here d new f done)) ∙ here)
+        | inl at ↦ free_not_draining (sym (ap (λ (m : ℕ). (frame_at new.seat.frames m).phase) at ∙ ap (λ (x : Frame). x.phase) (released_here d new f done)) ∙ here)
         | inr other ↦ sofar.below k (omega arith) (sym (ap (λ (x : Frame). x.phase) (released_frame d new f k done other)) ∙ here)
       ];
       sealed = λ k here. elim (cases_eq k f) [
-        | inl at ↦ absurd (not_free (sym (ap (λ (m : ℕ). (frame_at new.drive.frames m).phase) at ∙ ap (λ (x : Frame). x.phase) (released_here d new f done)) ∙ here))
+        | inl at ↦ absurd (not_free (sym (ap (λ (m : ℕ). (frame_at new.seat.frames m).phase) at ∙ ap (λ (x : Frame). x.phase) (released_here d new f done)) ∙ here))
         | inr other ↦ sofar.sealed k (sym (ap (λ (x : Frame). x.phase) (released_frame d new f k done other)) ∙ here)
       ];
       tried = omega (arith, low, tries);
     }
 
 -- frame f isn't being emptied
-released_not : (f : ℕ) (old d : Table) → ReleasedBelow f old d → is_emptied (frame_at d.drive.frames f).phase ≡ false → ReleasedBelow (f + 1) old d
+released_not : (f : ℕ) (old d : Table) → ReleasedBelow f old d → is_draining (frame_at d.seat.frames f).phase ≡ false → ReleasedBelow (f + 1) old d
 released_not f old d sofar not = record {
   count = sofar.count;
   below = λ k lt here. elim (cases_eq k f) [
-    | inl at ↦ false≢true (sym not ∙ ap is_emptied (ap (λ (m : ℕ). (frame_at d.drive.frames m).phase) (sym at) ∙ here))
+    | inl at ↦ false≢true (sym not ∙ ap is_draining (ap (λ (m : ℕ). (frame_at d.seat.frames m).phase) (sym at) ∙ here))
     | inr other ↦ sofar.below k (omega arith) here
   ];
   sealed = sofar.sealed;
@@ -228,7 +228,7 @@ release_step f old d e new last sofar same done objects ledger is =
       ledger = ledger ∙ before.ledger;
     })
 
-pub skip_step : (f : ℕ) (old d e last : DriveFields) → ReleasesSoFar f old d → e ≡ d → is_emptied (frame_at d.store.table.drive.frames f).phase ≡ false → last ≡ e → ReleasesSoFar (f + 1) old last
+pub skip_step : (f : ℕ) (old d e last : DriveFields) → ReleasesSoFar f old d → e ≡ d → is_draining (frame_at d.store.table.seat.frames f).phase ≡ false → last ≡ e → ReleasesSoFar (f + 1) old last
 skip_step f old d e last sofar same not is = subst (ReleasesSoFar (f + 1) old) (sym (is ∙ same)) (record {
   table = released_not f old.store.table d.store.table sofar.table not;
   objects = sofar.objects;
@@ -237,62 +237,62 @@ skip_step f old d e last sofar same not is = subst (ReleasesSoFar (f + 1) old) (
 
 -- ---- where a frame had a reader
 
-emptied_is : (p : Phase) → is_emptied p ≡ true → p ≡ Emptied
-emptied_is Free is = absurd (false≢true is)
-emptied_is Open is = absurd (false≢true is)
-emptied_is Sealed is = absurd (false≢true is)
-emptied_is Emptied is = refl
+draining_is : (p : Phase) → is_draining p ≡ true → p ≡ Draining
+draining_is Free is = absurd (false≢true is)
+draining_is Open is = absurd (false≢true is)
+draining_is Sealed is = absurd (false≢true is)
+draining_is Draining is = refl
 
-missed_from : (f : ℕ) (old d new : DriveFields) → ReleasesSoFar f old d → is_emptied (frame_at d.store.table.drive.frames f).phase ≡ true
-    → ((frame_at d.store.table.drive.frames f).phase ≡ Emptied → HasMissed f d.store.table.drive new.store.table.drive) → HasFoundReader old.store.table.drive new.store.table.drive
+missed_from : (f : ℕ) (old d new : DriveFields) → ReleasesSoFar f old d → is_draining (frame_at d.store.table.seat.frames f).phase ≡ true
+    → ((frame_at d.store.table.seat.frames f).phase ≡ Draining → HasMissed f d.store.table.seat new.store.table.seat) → HasFoundReader old.store.table.seat new.store.table.seat
 missed_from f old d new sofar is misses =
-    let emptied : (frame_at d.store.table.drive.frames f).phase ≡ Emptied = emptied_is (frame_at d.store.table.drive.frames f).phase is in
-    let miss : HasMissed f d.store.table.drive new.store.table.drive = misses emptied in
-    let last : new.store.table.drive.releases.last ≡ f = ap (λ (x : Drive). x.releases.last) miss.else_same in
-    let tries : new.store.table.drive.releases.tried ≡ d.store.table.drive.releases.tried + 1 = ap (λ (x : Drive). x.releases.tried) miss.else_same in
-    let low : old.store.table.drive.releases.tried ≤ d.store.table.drive.releases.tried = sofar.table.tried in
-    let frame : frame_at new.store.table.drive.frames new.store.table.drive.releases.last ≡ frame_at d.store.table.drive.frames f =
-    ap (frame_at new.store.table.drive.frames) last ∙ ap (λ (x : Drive). frame_at x.frames f) miss.else_same in
+    let draining : (frame_at d.store.table.seat.frames f).phase ≡ Draining = draining_is (frame_at d.store.table.seat.frames f).phase is in
+    let miss : HasMissed f d.store.table.seat new.store.table.seat = misses draining in
+    let last : new.store.table.seat.releases.last ≡ f = ap (λ (x : Drive). x.releases.last) miss.else_same in
+    let tries : new.store.table.seat.releases.tried ≡ d.store.table.seat.releases.tried + 1 = ap (λ (x : Drive). x.releases.tried) miss.else_same in
+    let low : old.store.table.seat.releases.tried ≤ d.store.table.seat.releases.tried = sofar.table.tried in
+    let frame : frame_at new.store.table.seat.frames new.store.table.seat.releases.last ≡ frame_at d.store.table.seat.frames f =
+    ap (frame_at new.store.table.seat.frames) last ∙ ap (λ (x : Drive). frame_at x.frames f) miss.else_same in
     record {
       since = omega (arith, tries, low);
-      emptied = ap (λ (k : Frame). k.phase) frame ∙ emptied;
+      draining = ap (λ (k : Frame). k.phase) frame ∙ draining;
       readers = miss.readers;
       some_reader = miss.some_reader;
       found = miss.found ∙ ap (λ (k : Frame). word_of k miss.readers) (sym frame);
     }
 
-pub missed : (f : ℕ) (old d e new : DriveFields) → ReleasesSoFar f old d → e ≡ d → is_emptied (frame_at d.store.table.drive.frames f).phase ≡ true
-    → ((frame_at e.store.table.drive.frames f).phase ≡ Emptied → HasMissed f e.store.table.drive new.store.table.drive) → HasFoundReader old.store.table.drive new.store.table.drive
+pub missed : (f : ℕ) (old d e new : DriveFields) → ReleasesSoFar f old d → e ≡ d → is_draining (frame_at d.store.table.seat.frames f).phase ≡ true
+    → ((frame_at e.store.table.seat.frames f).phase ≡ Draining → HasMissed f e.store.table.seat new.store.table.seat) → HasFoundReader old.store.table.seat new.store.table.seat
 missed f old d e new sofar same is misses =
-    missed_from f old d new sofar is (subst (λ (x : DriveFields). (frame_at x.store.table.drive.frames f).phase ≡ Emptied → HasMissed f x.store.table.drive new.store.table.drive) same misses)
+    missed_from f old d new sofar is (subst (λ (x : DriveFields). (frame_at x.store.table.seat.frames f).phase ≡ Draining → HasMissed f x.store.table.seat new.store.table.seat) same misses)
 
 -- the objects are as they were also then
 pub missed_keeps : (f : ℕ) (old d e new : DriveFields) → ReleasesSoFar f old d → e ≡ d → KeepsObjects (store_of e) (store_of new) → KeepsObjects (store_of old) (store_of new)
 missed_keeps f old d e new sofar same objects = kept_on (store_of old) (store_of d) (store_of new) sofar.objects (subst (λ (x : DriveFields). KeepsObjects (store_of x) (store_of new)) same objects)
 
-pub missed_count : (f : ℕ) (old d e new : DriveFields) → ReleasesSoFar f old d → e ≡ d → new.store.table.drive.frames ≡ e.store.table.drive.frames → length new.store.table.drive.frames ≡ length old.store.table.drive.frames
-missed_count f old d e new sofar same stays = ap (λ (ks : List Frame). length ks) stays ∙ ap (λ (x : DriveFields). length x.store.table.drive.frames) same ∙ sofar.table.count
+pub missed_count : (f : ℕ) (old d e new : DriveFields) → ReleasesSoFar f old d → e ≡ d → new.store.table.seat.frames ≡ e.store.table.seat.frames → length new.store.table.seat.frames ≡ length old.store.table.seat.frames
+missed_count f old d e new sofar same stays = ap (λ (ks : List Frame). length ks) stays ∙ ap (λ (x : DriveFields). length x.store.table.seat.frames) same ∙ sofar.table.count
 
 -- ---- at the end
 
-vacated_at : (phase : Phase) → (phase ≡ Sealed → ⊥) → (phase ≡ Emptied → ⊥) → (phase ≡ Open) ⊎ (phase ≡ Free)
-vacated_at Free sealed emptied = inr refl
-vacated_at Open sealed emptied = inl refl
-vacated_at Sealed sealed emptied = absurd (sealed refl)
-vacated_at Emptied sealed emptied = absurd (emptied refl)
+vacated_at : (phase : Phase) → (phase ≡ Sealed → ⊥) → (phase ≡ Draining → ⊥) → (phase ≡ Open) ⊎ (phase ≡ Free)
+vacated_at Free sealed draining = inr refl
+vacated_at Open sealed draining = inl refl
+vacated_at Sealed sealed draining = absurd (sealed refl)
+vacated_at Draining sealed draining = absurd (draining refl)
 
 -- all frames were marked, and then all released
-all_vacated : (count : ℕ) (old d new : Table) → count ≡ length old.drive.frames → MarkedBelow count old d → ReleasedBelow count d new → (log_of new).held ≡ (log_of d).held → AllVacated new
+all_vacated : (count : ℕ) (old d new : Table) → count ≡ length old.seat.frames → MarkedBelow count old d → ReleasedBelow count d new → (log_of new).held ≡ (log_of d).held → AllVacated new
 all_vacated count old d new whole marked released same f within none =
-    let low : f < length new.drive.frames = within in
-    let lengths : length new.drive.frames ≡ length old.drive.frames = released.count ∙ marked.count in
+    let low : f < length new.seat.frames = within in
+    let lengths : length new.seat.frames ≡ length old.seat.frames = released.count ∙ marked.count in
     let below : f < count = omega (arith, low, lengths, whole) in
-    vacated_at (frame_at new.drive.frames f).phase (λ sealed. marked.marked f below (released.sealed f sealed, none_again f new d (sym same) none)) (released.below f below)
+    vacated_at (frame_at new.seat.frames f).phase (λ sealed. marked.marked f below (released.sealed f sealed, none_again f new d (sym same) none)) (released.below f below)
 
 found_since : (old d new : Drive) → d.releases ≡ old.releases → HasFoundReader d new → HasFoundReader old new
 found_since old d new same found = record {
   since = subst (λ (m : ℕ). m < new.releases.tried) (ap (λ (r : Releases). r.tried) same) found.since;
-  emptied = found.emptied;
+  draining = found.draining;
   readers = found.readers;
   some_reader = found.some_reader;
   found = found.found;
@@ -301,14 +301,14 @@ found_since old d new same found = record {
 -- all that is promised of the answer
 pub record HasVacated (r : Result (Unit {0}) Refusal) (old new : DriveFields) : Type 0 where
   pub vacated : OnOk r (AllVacated new.store.table)
-  pub refusal : IfErr r (λ e. (e ≡ InUse) × HasFoundReader old.store.table.drive new.store.table.drive)
-  pub frames : length new.store.table.drive.frames ≡ length old.store.table.drive.frames
+  pub refusal : IfErr r (λ e. (e ≡ InUse) × HasFoundReader old.store.table.seat new.store.table.seat)
+  pub frames : length new.store.table.seat.frames ≡ length old.store.table.seat.frames
   pub objects : KeepsObjects (store_of old) (store_of new)
   pub ledger : new.ledger ≡ old.ledger
 
-pub has_vacated : (r : Result (Unit {0}) Refusal) (count : ℕ) (old d new : DriveFields) → count ≡ length old.store.table.drive.frames → MarksSoFar count old d
-    → OnOk r (ReleasedBelow count d.store.table new.store.table) → IfErr r (λ e. (e ≡ InUse) × HasFoundReader d.store.table.drive new.store.table.drive)
-    → length new.store.table.drive.frames ≡ length d.store.table.drive.frames → KeepsObjects (store_of d) (store_of new) → new.ledger ≡ d.ledger → HasVacated r old new
+pub has_vacated : (r : Result (Unit {0}) Refusal) (count : ℕ) (old d new : DriveFields) → count ≡ length old.store.table.seat.frames → MarksSoFar count old d
+    → OnOk r (ReleasedBelow count d.store.table new.store.table) → IfErr r (λ e. (e ≡ InUse) × HasFoundReader d.store.table.seat new.store.table.seat)
+    → length new.store.table.seat.frames ≡ length d.store.table.seat.frames → KeepsObjects (store_of d) (store_of new) → new.ledger ≡ d.ledger → HasVacated r old new
 has_vacated (Ok done) count old d new whole marked released refused frames objects ledger = record {
   vacated = all_vacated count old.store.table d.store.table new.store.table whole marked.table released objects.held;
   refusal = tt;
@@ -318,7 +318,7 @@ has_vacated (Ok done) count old d new whole marked released refused frames objec
 }
 has_vacated (Err e) count old d new whole marked released refused frames objects ledger = record {
   vacated = tt;
-  refusal = (refused.0, found_since old.store.table.drive d.store.table.drive new.store.table.drive marked.table.releases refused.1);
+  refusal = (refused.0, found_since old.store.table.seat d.store.table.seat new.store.table.seat marked.table.releases refused.1);
   frames = frames ∙ marked.table.count;
   objects = kept_on (store_of old) (store_of d) (store_of new) (kept_same (store_of old) (store_of d) marked.same) objects;
   ledger = ledger ∙ marked.ledger;

@@ -98,7 +98,7 @@ owner_of (Some block) = block.object
 
 -- the place of that number, at its frame's present generation
 abbrev place_at : Table → ℕ → Place
-place_at t c = record { frame = c / 16; block = c % 16; generation = (frame_at t.drive.frames (c / 16)).generation }
+place_at t c = record { frame = c / 16; block = c % 16; generation = (frame_at t.seat.frames (c / 16)).generation }
 
 abbrev owner_at : Table → ℕ → ℕ
 owner_at t c = owner_of (held_at t (place_at t c))
@@ -110,9 +110,9 @@ same_block : (f b : ℕ) → b < 16 → (16 * f + b) % 16 ≡ b
 same_block f b small = omega (arith, small)
 
 -- a block is held at a place of the frame's present generation alone
-held_now : (t : Table) (p : Place) (block : Stored) → held_at t p ≡ Some block → (frame_at t.drive.frames p.frame).generation ≡ p.generation
+held_now : (t : Table) (p : Place) (block : Stored) → held_at t p ≡ Some block → (frame_at t.seat.frames p.frame).generation ≡ p.generation
 held_now t p block is =
-    let k = frame_at t.drive.frames p.frame in
+    let k = frame_at t.seat.frames p.frame in
     let found = stored (block_slot (slots_at t.slots p.frame) p.block) (block_bytes k.contents p.block) in
     elim (cases_Bool (k.generation == p.generation)) [
       | inl same ↦ eqb-true k.generation p.generation same
@@ -124,9 +124,9 @@ place_is t p block place is =
     let low : p.block ≤ 15 = place.highest_block in
     let f : (16 * p.frame + p.block) / 16 ≡ p.frame = same_frame p.frame p.block (omega (arith, low)) in
     let b : (16 * p.frame + p.block) % 16 ≡ p.block = same_block p.frame p.block (omega (arith, low)) in
-    let g : (frame_at t.drive.frames ((16 * p.frame + p.block) / 16)).generation ≡ p.generation = ap (λ (n : ℕ). (frame_at t.drive.frames n).generation) f ∙ held_now t p block is in
-    ap (λ (n : ℕ). record { frame = n; block = (16 * p.frame + p.block) % 16; generation = (frame_at t.drive.frames ((16 * p.frame + p.block) / 16)).generation }) f
-    ∙ ap (λ (n : ℕ). record { frame = p.frame; block = n; generation = (frame_at t.drive.frames ((16 * p.frame + p.block) / 16)).generation }) b
+    let g : (frame_at t.seat.frames ((16 * p.frame + p.block) / 16)).generation ≡ p.generation = ap (λ (n : ℕ). (frame_at t.seat.frames n).generation) f ∙ held_now t p block is in
+    ap (λ (n : ℕ). record { frame = n; block = (16 * p.frame + p.block) % 16; generation = (frame_at t.seat.frames ((16 * p.frame + p.block) / 16)).generation }) f
+    ∙ ap (λ (n : ℕ). record { frame = p.frame; block = n; generation = (frame_at t.seat.frames ((16 * p.frame + p.block) / 16)).generation }) b
     ∙ ap (λ (n : ℕ). record { frame = p.frame; block = p.block; generation = n }) g
 
 -- a block of an object is held at a place

@@ -313,12 +313,12 @@ kept_untouched s later o kept = record {
 pub all_kept : (s mid later : StoreFields) (state : State) → ((o : ℕ) → IsCleaned s mid state o) → KeepsObjects mid later → (o : ℕ) → IsCleaned s later state o
 all_kept s mid later state all kept o = cleaned_stays s mid later state o (kept_untouched mid later o kept) (all o)
 
-pub stopped_at_reader : (d mid later : DriveFields) (e : Refusal) → ((o : ℕ) → IsCleaned (store_of d) (store_of mid) (state_in d) o) → KeepsObjects (store_of mid) (store_of later) → (e ≡ InUse) × HasFoundReader mid.store.table.drive later.store.table.drive
+pub stopped_at_reader : (d mid later : DriveFields) (e : Refusal) → ((o : ℕ) → IsCleaned (store_of d) (store_of mid) (state_in d) o) → KeepsObjects (store_of mid) (store_of later) → (e ≡ InUse) × HasFoundReader mid.store.table.seat later.store.table.seat
     → StoppedAt (store_of d) (store_of later) (state_in d) e ⊎ StoppedAtReader d later e
 stopped_at_reader d mid later e all kept found = inr (record {
   refusal = found.0;
   all = all_kept (store_of d) (store_of mid) (store_of later) (state_in d) all kept;
-  since = mid.store.table.drive;
+  since = mid.store.table.seat;
   reader = found.1;
 })
 

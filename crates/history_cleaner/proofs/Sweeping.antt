@@ -4,7 +4,7 @@ use Rattle.std.specs.Prelude.{◌≢◌, count_by}
 use Rattle.std.specs.List.{range_with_len}
 use Rattle.std.proofs.lemmas.List.{length-set}
 use Rattle.s4_types.specs.declared.refusals.Refusal.{Refusal}
-use Rattle.segment_word.specs.Frames.{Phase, Free, Open, Sealed, Emptied, is_emptied, Frame}
+use Rattle.segment_word.specs.Frames.{Phase, Free, Open, Sealed, Draining, is_draining, Frame}
 use Rattle.segment_word.specs.Layout.{frame_at}
 use Rattle.segment_word.specs.Handles.{Drive, HasMissed}
 use Rattle.segment_word.specs.Steps.{released}
@@ -17,7 +17,7 @@ use Rattle.history_cleaner.proofs.Emptied.{tally, count_more, released_frame, ke
 
 -- how far the tries have come in a drive
 pub record TriesSoFar (f : ℕ) (old new : DriveFields) : Type 0 where
-  pub table : TriedBelow f old.store.table.drive new.store.table.drive
+  pub table : TriedBelow f old.store.table.seat new.store.table.seat
   pub objects : KeepsObjects (store_of old) (store_of new)
   pub ledger : new.ledger ≡ old.ledger
 
@@ -32,7 +32,7 @@ none_tried d = record {
 tried_more : (f : ℕ) (old d new : Drive) → TriedBelow f old d → length new.frames ≡ length d.frames → ((k : ℕ) → f + 1 ≤ k → frame_at new.frames k ≡ frame_at d.frames k)
     → new.releases.tried ≡ d.releases.tried + tally (empties d.frames f) → TriedBelow (f + 1) old new
 tried_more f old d new sofar same others more =
-    let here : tally (empties d.frames f) ≡ tally (empties old.frames f) = ap (λ (k : Frame). tally (is_emptied k.phase)) (sofar.from f (omega arith)) in
+    let here : tally (empties d.frames f) ≡ tally (empties old.frames f) = ap (λ (k : Frame). tally (is_draining k.phase)) (sofar.from f (omega arith)) in
     let count = count_more (empties old.frames) (empties old.frames) f (λ k below. refl) in
     let before : d.releases.tried ≡ old.releases.tried + count_by (empties old.frames) (range_with_len 0 f) = sofar.tried in
     record {
@@ -42,49 +42,49 @@ tried_more f old d new sofar same others more =
     }
 
 -- it was released
-tried_released : (f : ℕ) (old d new : DriveFields) → TriedBelow f old.store.table.drive d.store.table.drive → IsReleased f d.store.table new.store.table → TriedBelow (f + 1) old.store.table.drive new.store.table.drive
+tried_released : (f : ℕ) (old d new : DriveFields) → TriedBelow f old.store.table.seat d.store.table.seat → IsReleased f d.store.table new.store.table → TriedBelow (f + 1) old.store.table.seat new.store.table.seat
 tried_released f old d new sofar done =
-    let one : tally (empties d.store.table.drive.frames f) ≡ 1 = ap (λ (p : Phase). tally (is_emptied p)) done.emptied in
-    let tries : new.store.table.drive.releases.tried ≡ d.store.table.drive.releases.tried + 1 = ap (λ (x : Drive). x.releases.tried) done.drive in
-    tried_more f old.store.table.drive d.store.table.drive new.store.table.drive sofar
-    (ap (λ (x : Drive). length x.frames) done.drive ∙ length-set d.store.table.drive.frames f (released (frame_at d.store.table.drive.frames f)))
+    let one : tally (empties d.store.table.seat.frames f) ≡ 1 = ap (λ (p : Phase). tally (is_draining p)) done.draining in
+    let tries : new.store.table.seat.releases.tried ≡ d.store.table.seat.releases.tried + 1 = ap (λ (x : Drive). x.releases.tried) done.seat in
+    tried_more f old.store.table.seat d.store.table.seat new.store.table.seat sofar
+    (ap (λ (x : Drive). length x.frames) done.seat ∙ length-set d.store.table.seat.frames f (released (frame_at d.store.table.seat.frames f)))
     (λ k le. released_frame d.store.table new.store.table f k done (λ at. omega (arith, at, le)))
     (omega (arith, one, tries))
 
 -- it had a reader
-tried_missed : (f : ℕ) (old d new : DriveFields) → TriedBelow f old.store.table.drive d.store.table.drive → (frame_at d.store.table.drive.frames f).phase ≡ Emptied → HasMissed f d.store.table.drive new.store.table.drive → TriedBelow (f + 1) old.store.table.drive new.store.table.drive
-tried_missed f old d new sofar emptied miss =
-    let one : tally (empties d.store.table.drive.frames f) ≡ 1 = ap (λ (p : Phase). tally (is_emptied p)) emptied in
-    let tries : new.store.table.drive.releases.tried ≡ d.store.table.drive.releases.tried + 1 = ap (λ (x : Drive). x.releases.tried) miss.else_same in
-    tried_more f old.store.table.drive d.store.table.drive new.store.table.drive sofar
+tried_missed : (f : ℕ) (old d new : DriveFields) → TriedBelow f old.store.table.seat d.store.table.seat → (frame_at d.store.table.seat.frames f).phase ≡ Draining → HasMissed f d.store.table.seat new.store.table.seat → TriedBelow (f + 1) old.store.table.seat new.store.table.seat
+tried_missed f old d new sofar draining miss =
+    let one : tally (empties d.store.table.seat.frames f) ≡ 1 = ap (λ (p : Phase). tally (is_draining p)) draining in
+    let tries : new.store.table.seat.releases.tried ≡ d.store.table.seat.releases.tried + 1 = ap (λ (x : Drive). x.releases.tried) miss.else_same in
+    tried_more f old.store.table.seat d.store.table.seat new.store.table.seat sofar
     (ap (λ (x : Drive). length x.frames) miss.else_same)
     (λ k le. ap (λ (x : Drive). frame_at x.frames k) miss.else_same)
     (omega (arith, one, tries))
 
 -- it isn't being emptied
-tried_not : (f : ℕ) (old d : DriveFields) → TriedBelow f old.store.table.drive d.store.table.drive → tally (empties d.store.table.drive.frames f) ≡ 0 → TriedBelow (f + 1) old.store.table.drive d.store.table.drive
-tried_not f old d sofar none = tried_more f old.store.table.drive d.store.table.drive d.store.table.drive sofar refl (λ k le. refl) (omega (arith, none))
+tried_not : (f : ℕ) (old d : DriveFields) → TriedBelow f old.store.table.seat d.store.table.seat → tally (empties d.store.table.seat.frames f) ≡ 0 → TriedBelow (f + 1) old.store.table.seat d.store.table.seat
+tried_not f old d sofar none = tried_more f old.store.table.seat d.store.table.seat d.store.table.seat sofar refl (λ k le. refl) (omega (arith, none))
 
-free_not : Free ≡ Emptied → ⊥
+free_not : Free ≡ Draining → ⊥
 free_not is = cc
 
-open_not : Open ≡ Emptied → ⊥
+open_not : Open ≡ Draining → ⊥
 open_not is = cc
 
-sealed_not : Sealed ≡ Emptied → ⊥
+sealed_not : Sealed ≡ Draining → ⊥
 sealed_not is = cc
 
 -- by what the frame is for
-tried_by : (p : Phase) (f : ℕ) (old d new : DriveFields) → (frame_at d.store.table.drive.frames f).phase ≡ p → TriedBelow f old.store.table.drive d.store.table.drive
-    → ((frame_at d.store.table.drive.frames f).phase ≡ Emptied → HasMissed f d.store.table.drive new.store.table.drive) → ((frame_at d.store.table.drive.frames f).phase ≢ Emptied → new ≡ d)
-    → TriedBelow (f + 1) old.store.table.drive new.store.table.drive
-tried_by Emptied f old d new is sofar missed idle = tried_missed f old d new sofar is (missed is)
+tried_by : (p : Phase) (f : ℕ) (old d new : DriveFields) → (frame_at d.store.table.seat.frames f).phase ≡ p → TriedBelow f old.store.table.seat d.store.table.seat
+    → ((frame_at d.store.table.seat.frames f).phase ≡ Draining → HasMissed f d.store.table.seat new.store.table.seat) → ((frame_at d.store.table.seat.frames f).phase ≢ Draining → new ≡ d)
+    → TriedBelow (f + 1) old.store.table.seat new.store.table.seat
+tried_by Draining f old d new is sofar missed idle = tried_missed f old d new sofar is (missed is)
 tried_by Free f old d new is sofar missed idle =
-    subst (λ (x : DriveFields). TriedBelow (f + 1) old.store.table.drive x.store.table.drive) (sym (idle (λ e. free_not (sym is ∙ e)))) (tried_not f old d sofar (ap (λ (p : Phase). tally (is_emptied p)) is))
+    subst (λ (x : DriveFields). TriedBelow (f + 1) old.store.table.seat x.store.table.seat) (sym (idle (λ e. free_not (sym is ∙ e)))) (tried_not f old d sofar (ap (λ (p : Phase). tally (is_draining p)) is))
 tried_by Open f old d new is sofar missed idle =
-    subst (λ (x : DriveFields). TriedBelow (f + 1) old.store.table.drive x.store.table.drive) (sym (idle (λ e. open_not (sym is ∙ e)))) (tried_not f old d sofar (ap (λ (p : Phase). tally (is_emptied p)) is))
+    subst (λ (x : DriveFields). TriedBelow (f + 1) old.store.table.seat x.store.table.seat) (sym (idle (λ e. open_not (sym is ∙ e)))) (tried_not f old d sofar (ap (λ (p : Phase). tally (is_draining p)) is))
 tried_by Sealed f old d new is sofar missed idle =
-    subst (λ (x : DriveFields). TriedBelow (f + 1) old.store.table.drive x.store.table.drive) (sym (idle (λ e. sealed_not (sym is ∙ e)))) (tried_not f old d sofar (ap (λ (p : Phase). tally (is_emptied p)) is))
+    subst (λ (x : DriveFields). TriedBelow (f + 1) old.store.table.seat x.store.table.seat) (sym (idle (λ e. sealed_not (sym is ∙ e)))) (tried_not f old d sofar (ap (λ (p : Phase). tally (is_draining p)) is))
 
 pub try_step : (r : Result (Unit {0}) Refusal) (f : ℕ) (old d new : DriveFields) → TriesSoFar f old d → Releases f d r new → TriesSoFar (f + 1) old new
 try_step (Ok u) f old d new sofar tries = record {
@@ -93,7 +93,7 @@ try_step (Ok u) f old d new sofar tries = record {
   ledger = tries.ledger ∙ sofar.ledger;
 }
 try_step (Err e) f old d new sofar tries = record {
-  table = tried_by (frame_at d.store.table.drive.frames f).phase f old d new refl sofar.table tries.frame.missed tries.idle;
+  table = tried_by (frame_at d.store.table.seat.frames f).phase f old d new refl sofar.table tries.frame.missed tries.idle;
   objects = kept_on (store_of old) (store_of d) (store_of new) sofar.objects tries.objects;
   ledger = tries.ledger ∙ sofar.ledger;
 }

@@ -59,4 +59,4 @@ pub record StoppedAtReader (old new : DriveFields) (e : Refusal) : Type 0 where
   pub refusal : e ≡ InUse
   pub all : (o : ℕ) → IsCleaned (store_of old) (store_of new) (state_in old) o
   pub since : Drive
-  pub reader : HasFoundReader since new.store.table.drive
+  pub reader : HasFoundReader since new.store.table.seat

@@ -2,7 +2,7 @@
 use Rattle.std.specs.Prelude.{◌≡◌, ◌⊎◌, ℕ, ◌+◌, ◌<◌, ◌≤◌, Bool, List, None, length, count_by}
 use Rattle.std.specs.List.{range_with_len}
 use Rattle.s4_types.specs.declared.refusals.Refusal.TheVariants.{NoMemory, NoRoom}
-use Rattle.segment_word.specs.Frames.{Frame, is_emptied}
+use Rattle.segment_word.specs.Frames.{Frame, is_draining}
 use Rattle.segment_word.specs.Layout.{frame_at}
 use Rattle.segment_word.specs.Handles.{Drive}
 use Rattle.segment_table.specs.Table.{Table}
@@ -18,7 +18,7 @@ use Rattle.history_cleaner.specs.Emptying.{MarkedBelow}
 
 -- whether frame f of a list is being emptied
 abbrev pub empties : List Frame → ℕ → Bool
-empties frames f = is_emptied (frame_at frames f).phase
+empties frames f = is_draining (frame_at frames f).phase
 
 -- The release of each frame below f that was being emptied was tried once, and no other; the frames from f on are as they were.
 pub record TriedBelow (f : ℕ) (old new : Drive) : Type 0 where
@@ -29,8 +29,8 @@ pub record TriedBelow (f : ℕ) (old new : Drive) : Type 0 where
 -- All frames of a table were marked that could be, and then the release of each that was being emptied was tried.
 pub record IsSwept (old new : Table) : Type 0 where
   pub between : Table
-  pub marked : MarkedBelow (length old.drive.frames) old between
-  pub tried : TriedBelow (length old.drive.frames) between.drive new.drive
+  pub marked : MarkedBelow (length old.seat.frames) old between
+  pub tried : TriedBelow (length old.seat.frames) between.seat new.seat
 
 -- the next object with a row was cleaned
 pub record CleansNext (s : StoreFields) (state : State) (passed object next : ℕ) (later : StoreFields) : Type 0 where

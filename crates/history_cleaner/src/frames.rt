@@ -33,13 +33,13 @@ pub(crate) fn mark_all<J: Naming>(drive: &mut Drive<J>, count: u16)
 /// Releases each of so many frames that is being emptied. At the first that has a reader it stops.
 fn release_all<J: Naming>(drive: &mut Drive<J>, count: u16) -> Result<(), Refusal>
     ensures released { OnOk result (ReleasedBelow count drive.old.store.table drive.new.store.table) }
-    ensures refusal { IfErr result (λ e. (e ≡ InUse) × HasFoundReader drive.old.store.table.drive drive.new.store.table.drive) }
-    ensures frames { length drive.new.store.table.drive.frames ≡ length drive.old.store.table.drive.frames }
+    ensures refusal { IfErr result (λ e. (e ≡ InUse) × HasFoundReader drive.old.store.table.seat drive.new.store.table.seat) }
+    ensures frames { length drive.new.store.table.seat.frames ≡ length drive.old.store.table.seat.frames }
     ensures objects { KeepsObjects (store_of drive.old) (store_of drive.new) }
     ensures ledger { drive.new.ledger ≡ drive.old.ledger }
 {
     for frame in 0..count {
-        if drive.is_emptied(frame) {
+        if drive.is_draining(frame) {
             drive.release(frame)?;
         }
     }
@@ -50,8 +50,8 @@ fn release_all<J: Naming>(drive: &mut Drive<J>, count: u16) -> Result<(), Refusa
 /// it stops.
 pub(crate) fn vacate<J: Naming>(drive: &mut Drive<J>) -> Result<(), Refusal>
     ensures vacated { OnOk result (AllVacated drive.new.store.table) }
-    ensures refusal { IfErr result (λ e. (e ≡ InUse) × HasFoundReader drive.old.store.table.drive drive.new.store.table.drive) }
-    ensures frames { length drive.new.store.table.drive.frames ≡ length drive.old.store.table.drive.frames }
+    ensures refusal { IfErr result (λ e. (e ≡ InUse) × HasFoundReader drive.old.store.table.seat drive.new.store.table.seat) }
+    ensures frames { length drive.new.store.table.seat.frames ≡ length drive.old.store.table.seat.frames }
     ensures objects { KeepsObjects (store_of drive.old) (store_of drive.new) }
     ensures ledger { drive.new.ledger ≡ drive.old.ledger }
 {
@@ -62,7 +62,7 @@ pub(crate) fn vacate<J: Naming>(drive: &mut Drive<J>) -> Result<(), Refusal>
 
 /// The generation of a frame, and 0 of one that isn't there.
 fn generation_of<J: Naming>(drive: &mut Drive<J>, frame: u16) -> u32
-    ensures generation { result ≡ (frame_at drive.old.store.table.drive.frames frame).generation }
+    ensures generation { result ≡ (frame_at drive.old.store.table.seat.frames frame).generation }
     ensures same { drive.new ≡ drive.old }
 {
     drive.generation(frame).unwrap_or(0)
@@ -70,7 +70,7 @@ fn generation_of<J: Naming>(drive: &mut Drive<J>, frame: u16) -> u32
 
 /// The generations of all frames, the first one's first. Takes no memory.
 pub(crate) fn note_generations<J: Naming>(drive: &mut Drive<J>) -> Generations
-    ensures noted { result.items ≡ generations_in drive.old.store.table.drive }
+    ensures noted { result.items ≡ generations_in drive.old.store.table.seat }
     ensures same { drive.new ≡ drive.old }
 {
     drive.rules();
@@ -83,7 +83,7 @@ pub(crate) fn note_generations<J: Naming>(drive: &mut Drive<J>) -> Generations
 
 /// Whether a frame has a greater generation than one that was noted.
 fn is_later<J: Naming>(drive: &mut Drive<J>, frame: u16, noted: u32) -> bool
-    ensures later { result ≡ nat_lt noted (frame_at drive.old.store.table.drive.frames frame).generation }
+    ensures later { result ≡ nat_lt noted (frame_at drive.old.store.table.seat.frames frame).generation }
     ensures same { drive.new ≡ drive.old }
 {
     noted < generation_of(drive, frame)
@@ -92,7 +92,7 @@ fn is_later<J: Naming>(drive: &mut Drive<J>, frame: u16, noted: u32) -> bool
 /// How many frames have a greater generation than was noted.
 pub(crate) fn count_risen<J: Naming>(drive: &mut Drive<J>, noted: &[u32]) -> u32
     requires few { length noted.now ≤ MOST_FRAMES }
-    ensures risen { result ≡ count_by (is_later noted.now drive.old.store.table.drive.frames) (range_with_len 0 (length noted.now)) }
+    ensures risen { result ≡ count_by (is_later noted.now drive.old.store.table.seat.frames) (range_with_len 0 (length noted.now)) }
     ensures same { drive.new ≡ drive.old }
 {
     let mut risen = 0;
@@ -112,9 +112,9 @@ pub(crate) fn count_risen<J: Naming>(drive: &mut Drive<J>, noted: &[u32]) -> u32
 /// InUse where a frame that is being emptied has a reader. It stops there: frames with lower numbers were released.
 pub fn empty_frames<J: Naming>(drive: &mut Drive<J>) -> Result<u32, Refusal>
     ensures vacated { OnOk result (AllVacated drive.new.store.table) }
-    ensures released { IfOk result (λ n. n ≡ frames_risen drive.old.store.table.drive drive.new.store.table.drive) }
-    ensures refusal { IfErr result (λ e. (e ≡ InUse) × HasFoundReader drive.old.store.table.drive drive.new.store.table.drive) }
-    ensures frames { length drive.new.store.table.drive.frames ≡ length drive.old.store.table.drive.frames }
+    ensures released { IfOk result (λ n. n ≡ frames_risen drive.old.store.table.seat drive.new.store.table.seat) }
+    ensures refusal { IfErr result (λ e. (e ≡ InUse) × HasFoundReader drive.old.store.table.seat drive.new.store.table.seat) }
+    ensures frames { length drive.new.store.table.seat.frames ≡ length drive.old.store.table.seat.frames }
     ensures objects { KeepsObjects (store_of drive.old) (store_of drive.new) }
     ensures ledger { drive.new.ledger ≡ drive.old.ledger }
 {

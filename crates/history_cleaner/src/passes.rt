@@ -153,7 +153,7 @@ pub fn full_pass<J: Naming>(alloc: Global, drive: &mut Drive<J>) -> Result<PassR
     ensures vacated { OnOk result (AllVacated drive.new.store.table) }
     ensures rewritten { IfOk result (λ report. IsCount (has_other_row drive.old.store.rows drive.new.store.rows) report.rewritten) }
     ensures removed { IfOk result (λ report. IsCount (has_lost_row drive.old.store.rows drive.new.store.rows) report.removed) }
-    ensures released { IfOk result (λ report. report.released ≡ frames_risen drive.old.store.table.drive drive.new.store.table.drive) }
+    ensures released { IfOk result (λ report. report.released ≡ frames_risen drive.old.store.table.seat drive.new.store.table.seat) }
     ensures refusal { IfErr result (λ e. StoppedAt (store_of drive.old) (store_of drive.new) (state_in drive.old) e ⊎ StoppedAtReader drive.old drive.new e) }
     ensures ledger { drive.new.ledger ≡ drive.old.ledger }
     ensures needed { KeepsVersions (state_in drive.old) (store_of drive.old) (store_of drive.new) }

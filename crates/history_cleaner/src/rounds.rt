@@ -34,7 +34,7 @@ pub struct Rounds {
 
 /// Tries the release of each of so many frames: those that are being emptied and have no reader are free afterwards.
 fn try_releases<J: Naming>(drive: &mut Drive<J>, count: u16)
-    ensures tried { TriedBelow count drive.old.store.table.drive drive.new.store.table.drive }
+    ensures tried { TriedBelow count drive.old.store.table.seat drive.new.store.table.seat }
     ensures objects { KeepsObjects (store_of drive.old) (store_of drive.new) }
     ensures ledger { drive.new.ledger ≡ drive.old.ledger }
 {

@@ -14,7 +14,7 @@ number_line frames objects clock window floor =
 
 -- the line of what an image tells
 abbrev pub image_line : ImageFields → List ℕ
-image_line image = number_line (length image.table.drive.frames) (length image.objects) image.clock image.window image.floor
+image_line image = number_line (length image.table.seat.frames) (length image.objects) image.clock image.window image.floor
 
 -- an image that was read and verified: the bytes, where they are known, spell a drive, and it is what they tell
 pub record IsVerified (known : Option (List ℕ)) (image : ImageFields) : Type 0 where

@@ -47,7 +47,7 @@ pub fn make_file<'a, F: Files>(
 
 // The image of a drive that was just made.
 fn save_new<J: Naming>(alloc: Global, made: NewDrive, asked: New<'_>) -> Result<Vec<u8>, Refusal>
-    requires frames { made.store.table.drive.table ≡ J.frames }
+    requires frames { made.store.table.seat.table ≡ J.frames }
     requires accepts { made.accepts ≡ J.accepts }
     requires base { new_base made.window ≡ J.base }
     requires window { made.window ≡ asked.window }

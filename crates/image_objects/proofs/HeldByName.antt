@@ -12,7 +12,7 @@ use Rattle.image_objects.specs.declared.rows.ImageRow.{ImageRow}
 use Rattle.image_objects.specs.Chains.{chain_view}
 use Rattle.checkpoint.specs.Held.{is_one_of}
 use Rattle.image_objects.specs.Inodes.{checkpoint_places_used}
-use Rattle.image_objects.specs.History.{named_at, checkpoint_view}
+use Rattle.image_objects.specs.VersionChain.{named_at, checkpoint_view}
 use Rattle.image_objects.specs.Objects.{pointers_used}
 use Rattle.image_objects.specs.Naming.{NamesUsed, IsNamedBy, HoldsWhatIsNamed}
 use Rattle.image_objects.specs.Rows.{RowsAscend}

@@ -1,4 +1,4 @@
--- A row whose history stands is a row where its blocks alone are held.
+-- A row whose version chain stands is a row where its blocks alone are held.
 use Rattle.std.proofs.Common.{◌≡◌, ℕ, ◌≤◌, cond, true, inl, inr, List, [], ◌∷◌, Option, Some, None, IsSome, is_some, refl, sym, ap, ◌∙◌, subst}
 use Rattle.std.specs.Prelude.{MatchOption}
 use Rattle.std.proofs.lemmas.Bool.{cases_Bool, false≢true}
@@ -21,7 +21,7 @@ use Rattle.time_read.specs.Orderly.{IsFromTo, BeginsDead, IsOrderlyChain, IsOrde
 use Rattle.image_objects.specs.declared.rows.ImageRow.{ImageRow}
 use Rattle.image_objects.specs.Chains.{entries_used, chain_fields, chain_view}
 use Rattle.image_objects.specs.Inodes.{CheckpointStands, first_before, first_used, checkpoint_places_used}
-use Rattle.image_objects.specs.History.{HistoryStands, named_at, checkpoint_view, kept_row, present_used}
+use Rattle.image_objects.specs.VersionChain.{VersionChainStands, named_at, checkpoint_view, kept_row, present_used}
 use Rattle.image_objects.proofs.Holding.{OneName, holds}
 use Rattle.image_objects.proofs.Beginning.{first_with}
 
@@ -120,7 +120,7 @@ record Same (used held : Place → Option Stored) (row : ImageRow) (stamp : ℕ)
   entries : entries_of held row.object (kept_row used row stamp) ≡ entries_used used row
   first : first_of held row.object (kept_row used row stamp) ≡ first_used used row
 
-same : OneName → RestsOnBlocks → OnePacking → ItsEntries → (used held : Place → Option Stored) (row : ImageRow) (clock stamp : ℕ) → HistoryStands used row clock
+same : OneName → RestsOnBlocks → OnePacking → ItsEntries → (used held : Place → Option Stored) (row : ImageRow) (clock stamp : ℕ) → VersionChainStands used row clock
     → ((p : Place) → of_kind Journal row.object held p ≡ chain_view used row p) → ((p : Place) → of_kind Checkpoint row.object held p ≡ checkpoint_view used row p) → Same used held row stamp
 same names rests again its used held row clock stamp h journal checkpoints =
     let chain : Holds held (chain_fields used row) (entries_used used row) = holds names again used held row clock h.chain journal in
@@ -136,7 +136,7 @@ current : (held : Place → Option Stored) (o : ℕ) (row : Row) (t : ℕ) → i
 unfolding inode_of
 current held o row t = refl
 
-pub is_row : OneName → RestsOnBlocks → OnePacking → ItsEntries → (used held : Place → Option Stored) (row : ImageRow) (clock stamp : ℕ) → 1 ≤ row.object → HistoryStands used row clock
+pub is_row : OneName → RestsOnBlocks → OnePacking → ItsEntries → (used held : Place → Option Stored) (row : ImageRow) (clock stamp : ℕ) → 1 ≤ row.object → VersionChainStands used row clock
     → ((p : Place) → of_kind Journal row.object held p ≡ chain_view used row p) → ((p : Place) → of_kind Checkpoint row.object held p ≡ checkpoint_view used row p) → IsRow held row.object (kept_row used row stamp)
 is_row names rests again its used held row clock stamp object h journal checkpoints =
     let s : Same used held row stamp = same names rests again its used held row clock stamp h journal checkpoints in
@@ -156,7 +156,7 @@ is_row names rests again its used held row clock stamp object h journal checkpoi
       created = ap (λ (i : Inode). i.created) s.first ∙ created_is used row clock (entries_used used row) row.checkpoint refl h.beginning;
     }
 
-pub is_orderly : OneName → RestsOnBlocks → OnePacking → ItsEntries → (used held : Place → Option Stored) (row : ImageRow) (clock stamp : ℕ) → IsFromTo 1 clock row.created → HistoryStands used row clock
+pub is_orderly : OneName → RestsOnBlocks → OnePacking → ItsEntries → (used held : Place → Option Stored) (row : ImageRow) (clock stamp : ℕ) → IsFromTo 1 clock row.created → VersionChainStands used row clock
     → ((p : Place) → of_kind Journal row.object held p ≡ chain_view used row p) → ((p : Place) → of_kind Checkpoint row.object held p ≡ checkpoint_view used row p) → IsOrderly held row.object (kept_row used row stamp) clock
 is_orderly names rests again its used held row clock stamp made h journal checkpoints =
     let s : Same used held row stamp = same names rests again its used held row clock stamp h journal checkpoints in

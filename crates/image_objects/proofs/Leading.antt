@@ -1,4 +1,4 @@
--- What the tests of a row's inodes say of its history.
+-- What the tests of a row's inodes say of its version chain.
 use Rattle.std.proofs.Common.{◌≡◌, ℕ, List, Option, sym, ap, ◌∙◌, subst}
 use Rattle.s4_types.specs.Pointer.{Place}
 use Rattle.block_log.specs.Log.{Stored}
@@ -10,7 +10,7 @@ use Rattle.std.specs.List.{AllByRecursion}
 use Rattle.image_objects.specs.declared.rows.ImageRow.{ImageRow}
 use Rattle.image_objects.specs.Chains.{ChainStands, entries_used}
 use Rattle.image_objects.specs.Inodes.{BeginningStands, first_before, first_used}
-use Rattle.image_objects.specs.History.{HistoryStands, present_used}
+use Rattle.image_objects.specs.VersionChain.{VersionChainStands, present_used}
 
 pub moments_of : (used : Place → Option Stored) (row : ImageRow) (clock : ℕ) (entries : List EntryFields) → ChainStands used row clock → entries ≡ entries_used used row → AllByRecursion (λ e. IsFromTo row.created clock e.moment) entries
 moments_of used row clock entries chain is = subst (λ (es : List EntryFields). AllByRecursion (λ e. IsFromTo row.created clock e.moment) es) (sym is) chain.moments
@@ -19,9 +19,9 @@ moments_of used row clock entries chain is = subst (λ (es : List EntryFields). 
 pub first_is : (used : Place → Option Stored) (row : ImageRow) (entries : List EntryFields) (first : Inode) → entries ≡ entries_used used row → first ≡ first_before used row entries → first ≡ first_used used row
 first_is used row entries first is made = made ∙ ap (first_before used row) is
 
-pub history_stands : (used : Place → Option Stored) (row : ImageRow) (clock : ℕ) (entries : List EntryFields) (first : Inode) → ChainStands used row clock → entries ≡ entries_used used row → BeginningStands used row clock entries → first ≡ first_before used row entries
-    → Run first entries (redone_all entries first) → IsOrderlyChain row.created clock first entries → HistoryStands used row clock
-history_stands used row clock entries first chain is beginning made run order =
+pub version_chain_stands : (used : Place → Option Stored) (row : ImageRow) (clock : ℕ) (entries : List EntryFields) (first : Inode) → ChainStands used row clock → entries ≡ entries_used used row → BeginningStands used row clock entries → first ≡ first_before used row entries
+    → Run first entries (redone_all entries first) → IsOrderlyChain row.created clock first entries → VersionChainStands used row clock
+version_chain_stands used row clock entries first chain is beginning made run order =
     let same : first ≡ first_used used row = first_is used row entries first is made in
     record {
       chain = chain;
@@ -30,14 +30,14 @@ history_stands used row clock entries first chain is beginning made run order =
       order = subst (λ (i : Inode). IsOrderlyChain row.created clock i (entries_used used row)) same (subst (λ (es : List EntryFields). IsOrderlyChain row.created clock first es) is order);
     }
 
-pub no_beginning : (used : Place → Option Stored) (row : ImageRow) (clock : ℕ) (entries : List EntryFields) → entries ≡ entries_used used row → (BeginningStands used row clock entries → ⊥) → HistoryStands used row clock → ⊥
+pub no_beginning : (used : Place → Option Stored) (row : ImageRow) (clock : ℕ) (entries : List EntryFields) → entries ≡ entries_used used row → (BeginningStands used row clock entries → ⊥) → VersionChainStands used row clock → ⊥
 no_beginning used row clock entries is never h = never (subst (λ (es : List EntryFields). BeginningStands used row clock es) (sym is) h.beginning)
 
 -- what the row's own run and order are of these entries and this first inode
-pub run_of : (used : Place → Option Stored) (row : ImageRow) (clock : ℕ) (entries : List EntryFields) (first : Inode) → entries ≡ entries_used used row → first ≡ first_before used row entries → HistoryStands used row clock → Run first entries (present_used used row)
+pub run_of : (used : Place → Option Stored) (row : ImageRow) (clock : ℕ) (entries : List EntryFields) (first : Inode) → entries ≡ entries_used used row → first ≡ first_before used row entries → VersionChainStands used row clock → Run first entries (present_used used row)
 run_of used row clock entries first is made h =
     subst (λ (i : Inode). Run i entries (present_used used row)) (sym (first_is used row entries first is made)) (subst (λ (es : List EntryFields). Run (first_used used row) es (present_used used row)) (sym is) h.run)
 
-pub order_of : (used : Place → Option Stored) (row : ImageRow) (clock : ℕ) (entries : List EntryFields) (first : Inode) → entries ≡ entries_used used row → first ≡ first_before used row entries → HistoryStands used row clock → IsOrderlyChain row.created clock first entries
+pub order_of : (used : Place → Option Stored) (row : ImageRow) (clock : ℕ) (entries : List EntryFields) (first : Inode) → entries ≡ entries_used used row → first ≡ first_before used row entries → VersionChainStands used row clock → IsOrderlyChain row.created clock first entries
 order_of used row clock entries first is made h =
     subst (λ (i : Inode). IsOrderlyChain row.created clock i entries) (sym (first_is used row entries first is made)) (subst (λ (es : List EntryFields). IsOrderlyChain row.created clock (first_used used row) es) (sym is) h.order)

@@ -182,7 +182,7 @@ stand_once ascend used (x ∷ rows) groups share =
 
 groups_of : (used : Place → Option Stored) (rows : List ImageRow) (clock : ℕ) → AllByRecursion (λ row. ObjectStands used row clock) rows → AllByRecursion (λ row. grouped (entries_used used row) ≡ true) rows
 groups_of used [] clock stand = tt
-groups_of used (x ∷ rows) clock stand = (stand.0.history.chain.groups, groups_of used rows clock stand.1)
+groups_of used (x ∷ rows) clock stand = (stand.0.versions.chain.groups, groups_of used rows clock stand.1)
 
 pub standing_once : GroupsAscend → (used : Place → Option Stored) (rows : List ImageRow) (clock : ℕ) → RowsStand used rows clock → StandOnce (moments_used used rows)
 standing_once ascend used rows clock stand = stand_once ascend used rows (groups_of used rows clock stand.objects) stand.apart

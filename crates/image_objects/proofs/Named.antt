@@ -130,9 +130,9 @@ stands_there has used row clock entries N (Some q) h p is = has used row.object 
 
 -- each named place has a used block of the object, of that kind
 pub named_is_used : OneName → HasBlocks → (used : Place → Option Stored) (row : ImageRow) (clock : ℕ) (kind : BlockKind) (p : Place) → ObjectStands used row clock → NamesUsed used row kind p → IsSome (of_kind kind row.object used p)
-named_is_used names has used row clock Journal p stands named = place_there used row p stands.history.chain.walk (there_once names (places_of_chain used row) p named)
+named_is_used names has used row clock Journal p stands named = place_there used row p stands.versions.chain.walk (there_once names (places_of_chain used row) p named)
 named_is_used names has used row clock Checkpoint p stands named =
-    stands_there has used row clock (entries_used used row) ((row.checkpoint_moment ≡ 0) × BeginsDead (entries_used used row)) row.checkpoint stands.history.beginning p named
+    stands_there has used row clock (entries_used used row) ((row.checkpoint_moment ≡ 0) × BeginsDead (entries_used used row)) row.checkpoint stands.versions.beginning p named
 named_is_used names has used row clock Data p stands named = All-contains (IsLed used row.object) (pointers_used used row) (Some p) stands.led named
 
 pub is_used : (kind : BlockKind) (o : ℕ) (block : Option Stored) → IsSome (seen_as kind o block) → IsSome block

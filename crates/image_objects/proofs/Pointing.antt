@@ -12,7 +12,7 @@ use Rattle.version_store.specs.Store.{StoreFields, IsNamed, pointers_of}
 use Rattle.version_store.specs.Versions.{inode_by, inode_in}
 use Rattle.version_store.specs.Laws.{InodesPointToWhatRowsName}
 use Rattle.image_objects.specs.declared.rows.ImageRow.{ImageRow}
-use Rattle.image_objects.specs.History.{kept_row}
+use Rattle.image_objects.specs.VersionChain.{kept_row}
 use Rattle.image_objects.specs.Objects.{inode_used}
 use Rattle.image_objects.specs.Laws.{InodesUsedPointToWhatRowsLeadTo}
 use Rattle.image_objects.proofs.Kept.{found_here}

@@ -25,7 +25,7 @@ use Rattle.time_read.specs.Orderly.{IsFromTo, IsOrderly, IsOrderlyChain, BeginsD
 use Rattle.version_store.specs.Store.{IsLed, IsObject, pointers_of}
 use Rattle.image_objects.specs.Chains.{ChainStands, entries_used}
 use Rattle.image_objects.specs.Inodes.{BeginningStands, CheckpointStands, first_used}
-use Rattle.image_objects.specs.History.{HistoryStands}
+use Rattle.image_objects.specs.VersionChain.{VersionChainStands}
 use Rattle.image_objects.specs.Objects.{ObjectStands}
 use Rattle.image_objects.specs.Saved.{saved_row, HoldsUsed, IsSavedAsHeld}
 use Rattle.image_objects.proofs.HeldByName.{Seen, seen}
@@ -42,7 +42,7 @@ pub record Laws : Type 0 where
   pub later : (held : Place → Option Stored) (o : ℕ) (row : Row) (a b : ℕ) → a ≤ b → IsOrderly held o row a → IsOrderly held o row b
   pub matter : OnlyItsBlocksMatter
 
--- ---- the history
+-- ---- the version chain
 
 chain_stands : Laws → (used held : Place → Option Stored) (o : ℕ) (row : Row) (clock : ℕ) → Walked used held o row → IsSavedAsHeld used held o row → IsRow held o row → IsOrderly held o row clock
     → ChainStands used (saved_row o row) clock
@@ -87,9 +87,9 @@ begins laws used held o row clock (Some p) holds stands is known within =
       place = has_its_place held o row (undone_all (entries_by row.checkpoint_moment (entries_of held o row)) c.inode) (first_is held o row p c is known);
     }
 
-history_stands : Laws → (used held : Place → Option Stored) (o : ℕ) (row : Row) (clock : ℕ) → HoldsUsed used held → IsSavedAsHeld used held o row → IsRow held o row → IsOrderly held o row clock
-    → HistoryStands used (saved_row o row) clock
-history_stands laws used held o row clock holds same stands orderly =
+version_chain_stands : Laws → (used held : Place → Option Stored) (o : ℕ) (row : Row) (clock : ℕ) → HoldsUsed used held → IsSavedAsHeld used held o row → IsRow held o row → IsOrderly held o row clock
+    → VersionChainStands used (saved_row o row) clock
+version_chain_stands laws used held o row clock holds same stands orderly =
     let es = entries_of held o row in
     let first = first_of held o row in
     let saved = saved_row o row in
@@ -137,7 +137,7 @@ object_stands laws used held o latest clock row holds object orderly by =
     let agree : (t : ℕ) → AgreeAt (contents_of held) (contents_of used) (inode_of held o row t) = λ t k p at. same_bytes used held o p holds (object.pointers t k p at) in
     let tidy : (t : ℕ) → Tidy (contents_of used) (inode_of held o row t) = λ t. (laws.matter (contents_of held) (contents_of used) (inode_of held o row t) (agree t)).1 (object.tidy t) in
     record {
-      history = history_stands laws used held o row clock holds same object.stands (laws.later held o row latest clock by orderly);
+      versions = version_chain_stands laws used held o row clock holds same object.stands (laws.later held o row latest clock by orderly);
       led = subst (λ (slots : List (Option Place)). All (IsLed used o) slots) (sym same.pointers) (all_led used held o (pointers_of held o row) holds object.led);
       tidy = λ t. subst (λ (i : Inode). Tidy (contents_of used) i) (sym (same.inodes t)) (tidy t);
     }

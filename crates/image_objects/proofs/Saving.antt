@@ -18,7 +18,7 @@ use Rattle.time_read.specs.Rows.{IsRow, inode_before, entries_of, checkpoint_of,
 use Rattle.version_store.specs.Store.{pointers_kept, sides_told, pointers_of}
 use Rattle.image_objects.specs.Chains.{blocks_used, entries_used}
 use Rattle.image_objects.specs.Inodes.{checkpoint_used, first_used}
-use Rattle.image_objects.specs.History.{kept_row}
+use Rattle.image_objects.specs.VersionChain.{kept_row}
 use Rattle.image_objects.specs.Objects.{pointers_used, inode_used}
 use Rattle.image_objects.specs.Saved.{saved_row, HoldsUsed, IsSavedAsHeld}
 use Rattle.image_objects.proofs.Checkpoints.{CheckpointLaws, same_checkpoint}

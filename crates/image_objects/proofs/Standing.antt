@@ -24,7 +24,7 @@ use Rattle.version_store.specs.Store.{IsLed, pointers_kept, sides_told, pointers
 use Rattle.image_objects.specs.declared.rows.ImageRow.{ImageRow}
 use Rattle.image_objects.specs.Chains.{ChainStands, entries_used, chain_fields, chain_view}
 use Rattle.image_objects.specs.Inodes.{checkpoint_used, first_used}
-use Rattle.image_objects.specs.History.{HistoryStands, named_at, checkpoint_view, kept_row, present_used}
+use Rattle.image_objects.specs.VersionChain.{VersionChainStands, named_at, checkpoint_view, kept_row, present_used}
 use Rattle.image_objects.specs.Objects.{ObjectStands, pointers_used, inode_used}
 use Rattle.image_objects.specs.Naming.{HoldsWhatIsNamed}
 use Rattle.image_objects.specs.Rows.{RowsAscend, RowsStand}
@@ -46,9 +46,9 @@ pub record Laws : Type 0 where
   pub told : (held later : Place → Option Stored) (o : ℕ) (p : Place) → ((q : Place) → is_one_of (checkpoint_places held o p) q ≡ true → of_checkpoints o later q ≡ of_checkpoints o held q) → checkpoint_held later o p ≡ checkpoint_held held o p
   pub chain : (used held : Place → Option Stored) (row : ImageRow) (clock : ℕ) → ChainStands used row clock → JournalIsHeld used held row → Holds held (chain_fields used row) (entries_used used row)
   pub entries : (held : Place → Option Stored) (chain : ChainFields) (entries : List EntryFields) → Holds held chain entries → entries_held held chain ≡ entries
-  pub row : (used held : Place → Option Stored) (row : ImageRow) (clock stamp : ℕ) → 1 ≤ row.object → HistoryStands used row clock → JournalIsHeld used held row → CheckpointIsHeld used held row
+  pub row : (used held : Place → Option Stored) (row : ImageRow) (clock stamp : ℕ) → 1 ≤ row.object → VersionChainStands used row clock → JournalIsHeld used held row → CheckpointIsHeld used held row
       → IsRow held row.object (kept_row used row stamp)
-  pub orderly : (used held : Place → Option Stored) (row : ImageRow) (clock stamp : ℕ) → IsFromTo 1 clock row.created → HistoryStands used row clock → JournalIsHeld used held row → CheckpointIsHeld used held row
+  pub orderly : (used held : Place → Option Stored) (row : ImageRow) (clock stamp : ℕ) → IsFromTo 1 clock row.created → VersionChainStands used row clock → JournalIsHeld used held row → CheckpointIsHeld used held row
       → IsOrderly held row.object (kept_row used row stamp) clock
   pub by : (held : Place → Option Stored) (o : ℕ) (row : Row) (latest : ℕ) → IsRow held o row → IsOrderly held o row latest → IsBy held o row latest
   pub last : (held : Place → Option Stored) (o t : ℕ) (row : Row) → AllBy t (entries_of held o row) → inode_of held o row t ≡ last_inode held o row
@@ -68,7 +68,7 @@ record Same (used held : Place → Option Stored) (row : ImageRow) (clock stamp 
   stands : IsRow held row.object (kept_row used row stamp)
   orderly : IsOrderly held row.object (kept_row used row stamp) clock
 
-same : Laws → (used held : Place → Option Stored) (rows : List ImageRow) (row : ImageRow) (clock stamp : ℕ) → RowsAscend clock 0 0 rows → HoldsWhatIsNamed used held rows → Contains rows row → HistoryStands used row clock → Same used held row clock stamp
+same : Laws → (used held : Place → Option Stored) (rows : List ImageRow) (row : ImageRow) (clock stamp : ℕ) → RowsAscend clock 0 0 rows → HoldsWhatIsNamed used held rows → Contains rows row → VersionChainStands used row clock → Same used held row clock stamp
 same laws used held rows row clock stamp ascend holds there h =
     let journal : JournalIsHeld used held row = journal_held used held rows clock row ascend holds there in
     let checkpoint : CheckpointIsHeld used held row = checkpoints_held used held rows clock row ascend holds there in
@@ -152,7 +152,7 @@ held_as_used laws used held rows row clock stamp ascend stand holds there =
     let o = row.object in
     let kept = kept_row used row stamp in
     let object : ObjectStands used row clock = stands_there used rows row clock stand there in
-    let s : Same used held row clock stamp = same laws used held rows row clock stamp ascend holds there object.history in
+    let s : Same used held row clock stamp = same laws used held rows row clock stamp ascend holds there object.versions in
     let leads : (p : Place) → Contains (pointers_used used row) (Some p) → LeadsTo used held o p = leads_to used held rows row clock holds there object in
     let inodes : (t : ℕ) → inode_of held o kept t ≡ inode_used used row t = λ t. same_inode used held row clock stamp t s in
     let pointers : pointers_of held o kept ≡ pointers_used used row = same_pointers used held row clock stamp s in

@@ -14,7 +14,7 @@ use Rattle.version_store.specs.Across.{MakingsAscend, ShareNoMoment, ChainsShare
 use Rattle.version_store.specs.Store.{IsObject, DataIsNamed, IsStore}
 use Rattle.image_objects.specs.declared.rows.ImageRow.{ImageRow}
 use Rattle.image_objects.specs.Chains.{entries_used}
-use Rattle.image_objects.specs.History.{kept_row}
+use Rattle.image_objects.specs.VersionChain.{kept_row}
 use Rattle.image_objects.specs.Naming.{IsNamedBy, HoldsWhatIsNamed}
 use Rattle.image_objects.specs.Rows.{RowsAscend, RowsStand, kept_rows}
 use Rattle.image_objects.specs.Laws.{IsHeldAsUsed}

@@ -11,7 +11,7 @@ use Rattle.version_store.specs.Store.{IsObject, DataIsNamed}
 use Rattle.image_objects.specs.declared.rows.ImageRow.{ImageRow}
 use Rattle.image_objects.specs.Chains.{entries_used}
 use Rattle.image_objects.specs.Inodes.{first_used}
-use Rattle.image_objects.specs.History.{kept_row, present_used}
+use Rattle.image_objects.specs.VersionChain.{kept_row, present_used}
 use Rattle.image_objects.specs.Objects.{pointers_used, inode_used}
 
 -- An object is held as it stands in the image, under the row that a drive keeps of it with this stamp. It has the entries, the

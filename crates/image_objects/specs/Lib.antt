@@ -7,4 +7,4 @@ pub mod Moments
 pub mod Saved
 pub mod Chains
 pub mod Inodes
-pub mod History
+pub mod VersionChain

@@ -1,4 +1,4 @@
--- When an object stands in an image: its row's history does, its pointers lead to its data, and its inodes are tidy.
+-- When an object stands in an image: its row's version chain does, its pointers lead to its data, and its inodes are tidy.
 use Rattle.std.specs.Prelude.{ℕ, List, ◌++◌, Option}
 use Rattle.std.specs.List.{All}
 use Rattle.s4_types.specs.Pointer.{Place}
@@ -11,7 +11,7 @@ use Rattle.version_store.specs.Store.{IsLed, pointers_kept, sides_told}
 use Rattle.image_objects.specs.declared.rows.ImageRow.{ImageRow}
 use Rattle.image_objects.specs.Chains.{entries_used}
 use Rattle.image_objects.specs.Inodes.{checkpoint_used, first_used}
-use Rattle.image_objects.specs.History.{HistoryStands}
+use Rattle.image_objects.specs.VersionChain.{VersionChainStands}
 
 -- All pointers to data that a row of an image leads to, holes among them: those of its checkpoint, and behind them both sides
 -- of each triple of its chain, the oldest entry first.
@@ -22,10 +22,10 @@ pointers_used used row = pointers_kept (checkpoint_used used row) ++ sides_told 
 abbrev pub inode_used : (Place → Option Stored) → ImageRow → ℕ → Inode
 inode_used used row t = inode_after (first_used used row) (entries_used used row) t
 
--- An object stands in an image up to its clock. Its history does; each pointer that its row leads to is a hole or leads to a
+-- An object stands in an image up to its clock. Its version chain does; each pointer that its row leads to is a hole or leads to a
 -- used data block of the object; and at each moment its inode is tidy. So an inode that stands between two entries of one
 -- moment need not be.
 pub record ObjectStands (used : Place → Option Stored) (row : ImageRow) (clock : ℕ) : Type 0 where
-  pub history : HistoryStands used row clock
+  pub versions : VersionChainStands used row clock
   pub led : All (IsLed used row.object) (pointers_used used row)
   pub tidy : (t : ℕ) → Tidy (contents_of used) (inode_used used row t)

@@ -7,7 +7,7 @@ use Rattle.object_map.specs.declared.map.Row.{Row}
 use Rattle.version_store.specs.Across.{ShareNoMoment}
 use Rattle.image_objects.specs.declared.rows.ImageRow.{ImageRow}
 use Rattle.image_objects.specs.Chains.{entries_used}
-use Rattle.image_objects.specs.History.{kept_row}
+use Rattle.image_objects.specs.VersionChain.{kept_row}
 use Rattle.image_objects.specs.Objects.{ObjectStands}
 
 -- objects and their makings ascend strictly, from above these two numbers, and each object was made by the clock

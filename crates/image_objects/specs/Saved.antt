@@ -8,7 +8,7 @@ use Rattle.time_read.specs.Rows.{entries_of, first_of, inode_of}
 use Rattle.image_objects.specs.declared.rows.ImageRow.{ImageRow}
 use Rattle.image_objects.specs.Chains.{entries_used}
 use Rattle.image_objects.specs.Inodes.{first_used}
-use Rattle.image_objects.specs.History.{kept_row}
+use Rattle.image_objects.specs.VersionChain.{kept_row}
 use Rattle.image_objects.specs.Objects.{pointers_used, inode_used}
 
 -- the row of an image that the row of a drive's object is saved as

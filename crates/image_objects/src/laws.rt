@@ -15,14 +15,16 @@ ghost use Rattle.object_map.specs.Rows.{row_of};
 ghost use Rattle.version_store.specs.Store.{IsStore};
 ghost use Rattle.image_objects.specs.declared.rows.ImageRow.{ImageRow};
 ghost use Rattle.image_objects.specs.Chains.{chain_view, entries_used};
-ghost use Rattle.image_objects.specs.History.{checkpoint_view, kept_row};
+ghost use Rattle.image_objects.specs.VersionChain.{checkpoint_view, kept_row};
 ghost use Rattle.image_objects.specs.Objects.{pointers_used};
 ghost use Rattle.image_objects.specs.Naming.{HoldsWhatIsNamed};
 ghost use Rattle.image_objects.specs.Rows.{RowsAscend, RowsShareNoMoment, RowsStand, kept_rows};
 ghost use Rattle.image_objects.specs.Moments.{moments_of_chain, moments_used, StandOnce};
 ghost use Rattle.image_objects.specs.Laws.{IsHeldAsUsed, InodesUsedPointToWhatRowsLeadTo};
 
-use crate::history_laws::{a_chain_that_stands_is_held, a_history_that_stands_is_a_row};
+use crate::version_chain_laws::{
+    a_chain_that_stands_is_held, a_version_chain_that_stands_is_a_row,
+};
 use checkpoint::laws::a_checkpoint_rests_on_its_blocks;
 use inode::laws::only_its_blocks_matter;
 use journal_chain::laws::a_chain_has_its_entries;
@@ -67,7 +69,7 @@ pub fn an_object_that_stands_is_held()
     a_checkpoint_rests_on_its_blocks();
     a_chain_that_stands_is_held();
     a_chain_has_its_entries();
-    a_history_that_stands_is_a_row();
+    a_version_chain_that_stands_is_a_row();
     an_orderly_row_is_by_its_moment();
     the_last_inode_is_current();
     only_its_blocks_matter();

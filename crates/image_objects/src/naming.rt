@@ -15,7 +15,7 @@ ghost use Rattle.image_objects.specs.Naming.{NamesUsed};
 ghost use Rattle.image_objects.specs.private.Places.{places_in, places_of_chain, places_named};
 
 use crate::pointers::checkpoint_of;
-use crate::{ImageHistory, ImageRow, UsedBlocks, read_journal};
+use crate::{ImageRow, UsedBlocks, VersionChain, read_journal};
 use block_log::laws::one_place_has_one_name;
 use checkpoint::laws::a_checkpoint_has_its_blocks;
 use codec::{Entry, Triple};
@@ -135,11 +135,11 @@ fn push_all<U: UsedBlocks>(
 pub fn push_named<U: UsedBlocks>(
     used: &U,
     row: &ImageRow,
-    history: &ImageHistory,
+    versions: &VersionChain,
     places: &mut Vec<Ptr>,
 ) -> Result<(), Refusal>
     requires stands { (clock : ℕ) × ObjectStands (U.used used.now) row.now clock }
-    requires entries { history.now.chain.entries.items ≡ entries_used (U.used used.now) row.now }
+    requires entries { versions.now.chain.entries.items ≡ entries_used (U.used used.now) row.now }
     ensures only { IfOk result (λ _. (p : Place) → Contains places.new.items p
         → Contains places.old.items p ⊎ ((kind : BlockKind) × NamesUsed (U.used used.now) row.now kind p)) }
     ensures all { IfOk result (λ _. (kind : BlockKind) (p : Place) → NamesUsed (U.used used.now) row.now kind p → Contains places.new.items p) }
@@ -149,7 +149,7 @@ pub fn push_named<U: UsedBlocks>(
 {
     one_place_has_one_name();
     a_checkpoint_has_its_blocks();
-    push_all(used, row, history.chain.entries.as_slice(), places)
+    push_all(used, row, versions.chain.entries.as_slice(), places)
 }
 
 /// Each place that a row of an object which stands in an image names has a used block of the object, of that kind.

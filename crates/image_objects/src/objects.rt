@@ -6,12 +6,12 @@ ghost use Rattle.codec.specs.Entry.{entries_length};
 ghost use Rattle.journal_chain.specs.Packing.{packed, filled_bytes};
 ghost use Rattle.image_objects.specs.Chains.{entries_used};
 ghost use Rattle.image_objects.specs.Inodes.{first_used};
-ghost use Rattle.image_objects.specs.History.{present_used};
+ghost use Rattle.image_objects.specs.VersionChain.{present_used};
 ghost use Rattle.image_objects.specs.Objects.{ObjectStands};
 
 use crate::pointers::is_row_led;
 use crate::tidiness::are_tidy;
-use crate::{ImageHistory, ImageRow, UsedBlocks, read_history};
+use crate::{ImageRow, UsedBlocks, VersionChain, read_version_chain};
 use s4_types::{Moment, Refusal};
 use std::alloc::Global;
 
@@ -23,26 +23,26 @@ pub fn read_object<U: UsedBlocks>(
     used: &U,
     row: &ImageRow,
     clock: Moment,
-) -> Result<Option<ImageHistory>, Refusal>
-    ensures stands { IfOk result (λ found. IfSome found (λ history. ObjectStands (U.used used.now) row.now clock)) }
+) -> Result<Option<VersionChain>, Refusal>
+    ensures stands { IfOk result (λ found. IfSome found (λ versions. ObjectStands (U.used used.now) row.now clock)) }
     ensures only { IfOk result (λ found. IfNone found (ObjectStands (U.used used.now) row.now clock → ⊥)) }
-    ensures entries { IfOk result (λ found. IfSome found (λ history. history.chain.entries.items ≡ entries_used (U.used used.now) row.now)) }
-    ensures bytes { IfOk result (λ found. IfSome found (λ history. history.chain.journal_bytes ≡ entries_length (entries_used (U.used used.now) row.now))) }
-    ensures head { IfOk result (λ found. IfSome found (λ history. history.chain.head_bytes ≡ filled_bytes (packed (entries_used (U.used used.now) row.now)))) }
-    ensures first { IfOk result (λ found. IfSome found (λ history. history.first ≡ first_used (U.used used.now) row.now)) }
-    ensures count { IfOk result (λ found. IfSome found (λ history. length history.first.pointers ≡ OBJECT_BLOCKS)) }
-    ensures present { IfOk result (λ found. IfSome found (λ history. history.present ≡ present_used (U.used used.now) row.now)) }
+    ensures entries { IfOk result (λ found. IfSome found (λ versions. versions.chain.entries.items ≡ entries_used (U.used used.now) row.now)) }
+    ensures bytes { IfOk result (λ found. IfSome found (λ versions. versions.chain.journal_bytes ≡ entries_length (entries_used (U.used used.now) row.now))) }
+    ensures head { IfOk result (λ found. IfSome found (λ versions. versions.chain.head_bytes ≡ filled_bytes (packed (entries_used (U.used used.now) row.now)))) }
+    ensures first { IfOk result (λ found. IfSome found (λ versions. versions.first ≡ first_used (U.used used.now) row.now)) }
+    ensures count { IfOk result (λ found. IfSome found (λ versions. length versions.first.pointers ≡ OBJECT_BLOCKS)) }
+    ensures present { IfOk result (λ found. IfSome found (λ versions. versions.present ≡ present_used (U.used used.now) row.now)) }
     ensures refusal { IfErr result (λ e. e ≡ NoMemory) }
 {
-    let Some(history) = read_history(alloc, used, row, clock)? else {
+    let Some(versions) = read_version_chain(alloc, used, row, clock)? else {
         return Ok(None);
     };
-    let entries = history.chain.entries.as_slice();
+    let entries = versions.chain.entries.as_slice();
     if !is_row_led(used, row, entries) {
         return Ok(None);
     }
-    if !are_tidy(used, &history.first, entries) {
+    if !are_tidy(used, &versions.first, entries) {
         return Ok(None);
     }
-    Ok(Some(history))
+    Ok(Some(versions))
 }

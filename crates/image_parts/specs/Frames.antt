@@ -72,7 +72,7 @@ pub record HasSummary (number : ℕ) (f : FrameFields) : Type 0 where
   pub frame : summary.frame ≡ number
   pub generation : summary.generation ≡ generation_of f.word
   pub spelled : SpellsSummary (drop 1 (blocks_of f.contents)) (slice_index_or (blocks_of f.contents) 0 []) summary
-  pub room : state_of f.word ≡ 1 → length summary.parts ≤ 14
+  pub room : state_of f.word ≡ 1 → length summary.roles ≤ 14
 
 -- What is read of a frame: nothing of a free one, and of any other the summary that its first block spells over those behind it.
 abbrev pub IsReadOf : FrameFields → FrameRead → Type 0

@@ -61,7 +61,7 @@ fn summary_of(number: u16, frame: &FramePart<'_>) -> Option<Summary>
     if summary.frame() != number || u64::from(summary.generation()) != generation_in(word) {
         return None;
     }
-    if state_in(word) == 1 && summary.parts().len() > OPEN_BLOCKS {
+    if state_in(word) == 1 && summary.roles().len() > OPEN_BLOCKS {
         return None;
     }
     Some(summary)

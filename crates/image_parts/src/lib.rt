@@ -30,7 +30,7 @@ pub use frame_rules::{FrameRead, read_frame};
 pub use frames::{FramePart, Frames};
 pub use headers::Header;
 pub use image_writing::{image_length, push_digest, push_frame, push_header, push_row, push_span};
-pub use parts::Parts;
+pub use parts::ImageParts;
 pub use reading::split_parts;
 pub use row_rules::rows_keep_rules;
 pub use rows::{RowPart, Rows};

@@ -12,14 +12,14 @@ use std::marker::Model;
 
 /// The parts of an image, which stand in the bytes that they were read from.
 #[derive(Drop)]
-pub struct Parts<'a> {
+pub struct ImageParts<'a> {
     header: Header,
     frames: &'a [u8],
     rows: &'a [u8],
     spans: &'a [u8],
 }
 
-impl<'a> Model for Parts<'a> {
+impl<'a> Model for ImageParts<'a> {
     ghost use Rattle.std.specs.Prelude.{◌*◌, ◌≤◌, length};
     ghost use Rattle.image_parts.specs.Frames.{frames_in, frames_length};
     ghost use Rattle.image_parts.specs.Rows.{rows_in};
@@ -33,7 +33,7 @@ impl<'a> Model for Parts<'a> {
     ghost invariant = { λ p. (frames_length p.header.frames p.frames.now ≤ length p.frames.now) × (40 * p.header.rows ≤ length p.rows.now) × (24 * p.header.spans ≤ length p.spans.now) };
 }
 
-impl<'a> Parts<'a> {
+impl<'a> ImageParts<'a> {
     /// The parts that a header and the words of the frames tell. None where these don't fill the bytes exactly.
     #[tactic(auto, unfolding(crate::specs::Image::image_in))]
     pub(crate) fn of(header: Header, bytes: &'a [u8]) -> Option<Self>
@@ -49,7 +49,7 @@ impl<'a> Parts<'a> {
             return None;
         }
         let (_, spans) = rows.split_at(row_bytes);
-        Some(Parts {
+        Some(ImageParts {
             header,
             frames,
             rows,

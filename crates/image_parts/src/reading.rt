@@ -5,7 +5,7 @@ ghost use Rattle.image_parts.specs.Causes.{FirstSplitCause};
 
 use crate::digests::DIGEST_BYTES;
 use crate::headers::{HEADER_BYTES, read_header};
-use crate::parts::Parts;
+use crate::parts::ImageParts;
 use s4_types::Cause;
 
 /// The parts that the bytes are split into by their header and the words of the frames. Otherwise the cause of the first of
@@ -13,7 +13,7 @@ use s4_types::Cause;
 /// the bytes exactly.
 ///
 /// No part was looked at yet, nor the digest. It takes no memory, and looks at no more than the header and a word of each frame.
-pub fn split_parts(bytes: &[u8]) -> Result<Parts<'_>, Cause>
+pub fn split_parts(bytes: &[u8]) -> Result<ImageParts<'_>, Cause>
     ensures damaged { IfErr result (λ cause. FirstSplitCause bytes.now (Some cause)) }
     ensures whole { IfOk result (λ parts. FirstSplitCause bytes.now None) }
     ensures read { IfOk result (λ parts. parts ≡ image_in bytes.now) }
@@ -27,7 +27,7 @@ pub fn split_parts(bytes: &[u8]) -> Result<Parts<'_>, Cause>
     let Some(header) = read_header(bytes) else {
         return Err(Cause::Header);
     };
-    let Some(parts) = Parts::of(header, bytes) else {
+    let Some(parts) = ImageParts::of(header, bytes) else {
         return Err(Cause::Length);
     };
     Ok(parts)

@@ -3,7 +3,7 @@ ghost use Rattle.image_parts.specs.Rows.{KeepsRowRules, KeepRowRules};
 ghost use Rattle.image_parts.specs.Image.{header_of};
 
 use crate::headers::Header;
-use crate::parts::Parts;
+use crate::parts::ImageParts;
 use crate::rows::RowPart;
 use s4_types::{Moment, ObjectId};
 
@@ -19,7 +19,7 @@ fn keeps_rules(header: &Header, object: ObjectId, created: Moment, row: &RowPart
 }
 
 /// Whether each row keeps the rules behind the one before it.
-pub fn rows_keep_rules(parts: &Parts<'_>) -> bool
+pub fn rows_keep_rules(parts: &ImageParts<'_>) -> bool
     ensures { MatchBool result (KeepRowRules (header_of parts.now) parts.now.rows) (KeepRowRules (header_of parts.now) parts.now.rows → ⊥) }
 {
     let header = parts.header();

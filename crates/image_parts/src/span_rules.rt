@@ -4,7 +4,7 @@ ghost use Rattle.image_parts.specs.Spans.{KeepsSpanRules, BeginsList, GoesOn, Sp
 ghost use Rattle.image_parts.specs.Image.{header_of};
 
 use crate::headers::Header;
-use crate::parts::Parts;
+use crate::parts::ImageParts;
 use crate::spans::Spans;
 use s4_types::Span;
 use s4_types::limits::{RUNS_IN_A_LIST, RUNS_IN_ALL};
@@ -35,7 +35,7 @@ fn place_behind(before: &Span, nth: usize, span: &Span) -> Option<usize>
 }
 
 /// Whether each span keeps the rules, by itself and behind the one before it.
-fn follow(header: &Header, parts: &Parts<'_>) -> bool
+fn follow(header: &Header, parts: &ImageParts<'_>) -> bool
     ensures { MatchBool result (SpansKeep header.now parts.now.spans) (SpansKeep header.now parts.now.spans → ⊥) }
 {
     let mut spans = parts.spans();
@@ -61,7 +61,7 @@ fn follow(header: &Header, parts: &Parts<'_>) -> bool
 }
 
 /// Whether the spans keep the rules, and are no more than an image may have.
-pub fn spans_keep_rules(parts: &Parts<'_>) -> bool
+pub fn spans_keep_rules(parts: &ImageParts<'_>) -> bool
     ensures { MatchBool result (KeepSpanRules (header_of parts.now) parts.now.spans) (KeepSpanRules (header_of parts.now) parts.now.spans → ⊥) }
 {
     parts.spans().len() as usize <= RUNS_IN_ALL && follow(&parts.header(), parts)

@@ -24,7 +24,7 @@ use Rattle.interleaving.specs.declared.steps.Step.TheVariants as step
 pub record Stands (begins : Base) (frames : TableId) (d : DriveFields) : Type 0 where
   pub decodes : DecodesWhereVisible (store_of d) (state_in d)
   pub base : (history_of d).base ≡ begins
-  pub table : d.store.table.drive.table ≡ frames
+  pub table : d.store.table.seat.table ≡ frames
   pub sound : IsSound (state_in d)
   pub store : IsStore (store_of d)
   pub past : (store_of d).latest ≤ (state_in d).clock

@@ -442,7 +442,7 @@ fn command_of<'a>(alloc: Global, words: &[&'a [u8]]) -> Result<Option<Command<'a
 
 /// A command, and the answer that must come.
 #[derive(Drop)]
-pub(crate) struct Part<'a> {
+pub(crate) struct Exchange<'a> {
     pub(crate) command: Command<'a>,
     pub(crate) expected: Option<&'a [u8]>,
 }
@@ -451,7 +451,7 @@ pub(crate) struct Part<'a> {
 #[derive(Drop)]
 pub(crate) struct Line<'a> {
     pub(crate) times: u64,
-    pub(crate) parts: Vec<Part<'a>>,
+    pub(crate) exchanges: Vec<Exchange<'a>>,
     pub(crate) text: &'a [u8],
 }
 
@@ -459,11 +459,11 @@ pub(crate) struct Line<'a> {
 const ARROW: &[u8] = b" -> ";
 
 /// Where the arrow before an answer stands: the first one outside of quotes.
-fn find_arrow(part: &[u8]) -> Option<usize> {
+fn find_arrow(exchange: &[u8]) -> Option<usize> {
     let mut is_quoted = false;
-    for place in 0..part.len() {
-        is_quoted = is_quoted != (part[place] == b'"');
-        if !is_quoted && part.get(place..).unwrap_or(&[]).starts_with(ARROW) {
+    for place in 0..exchange.len() {
+        is_quoted = is_quoted != (exchange[place] == b'"');
+        if !is_quoted && exchange.get(place..).unwrap_or(&[]).starts_with(ARROW) {
             return Some(place);
         }
     }
@@ -471,11 +471,11 @@ fn find_arrow(part: &[u8]) -> Option<usize> {
 }
 
 /// What stands before the arrow, and the answer behind it, if there is one.
-fn cut_answer(part: &[u8]) -> (&[u8], Option<&[u8]>) {
-    let Some(place) = find_arrow(part) else {
-        return (part, None);
+fn cut_answer(exchange: &[u8]) -> (&[u8], Option<&[u8]>) {
+    let Some(place) = find_arrow(exchange) else {
+        return (exchange, None);
     };
-    let (text, rest) = part.split_at(place.min(part.len()));
+    let (text, rest) = exchange.split_at(place.min(exchange.len()));
     match rest.get(ARROW.len()..) {
         Some(answer) => (text, Some(answer.trim_ascii())),
         None => (text, None),
@@ -494,28 +494,28 @@ fn times_of<'a, 'b>(words: &'b [&'a [u8]]) -> (u64, &'b [&'a [u8]]) {
 }
 
 /// Puts what a part says behind other parts, and how often it says that they are done. None where it spells no command.
-fn push_part<'a>(
+fn push_exchange<'a>(
     alloc: Global,
-    parts: &mut Vec<Part<'a>>,
-    part: &'a [u8],
+    exchanges: &mut Vec<Exchange<'a>>,
+    exchange: &'a [u8],
 ) -> Result<Option<u64>, Refusal> {
-    let (text, expected) = cut_answer(part);
+    let (text, expected) = cut_answer(exchange);
     let words = parts_of(alloc, text, b' ')?;
     let (times, words) = times_of(words.as_slice());
     let Some(command) = command_of(alloc, words)? else {
         return Ok(None);
     };
-    parts.push(Part { command, expected })?;
+    exchanges.push(Exchange { command, expected })?;
     Ok(Some(times))
 }
 
 /// What a line says, if it spells commands. Only its first part can say how often.
 pub(crate) fn line_of<'a>(alloc: Global, line: &'a [u8]) -> Result<Option<Line<'a>>, Refusal> {
-    let mut parts = Vec::new(alloc);
+    let mut exchanges = Vec::new(alloc);
     let mut times = 1;
     let spelled = parts_of(alloc, line, b';')?;
-    for (number, part) in spelled.iter().enumerate() {
-        match push_part(alloc, &mut parts, part)? {
+    for (number, exchange) in spelled.iter().enumerate() {
+        match push_exchange(alloc, &mut exchanges, exchange)? {
             Some(count) if number == 0 => times = count,
             Some(1) => {}
             _ => return Ok(None),
@@ -527,7 +527,7 @@ pub(crate) fn line_of<'a>(alloc: Global, line: &'a [u8]) -> Result<Option<Line<'
     let text = line.get(..line.len().saturating_sub(behind));
     Ok(Some(Line {
         times,
-        parts,
+        exchanges,
         text: text.unwrap_or(line),
     }))
 }

@@ -177,7 +177,7 @@ fn tell_frame<D: Played>(text: &mut Text, drive: &mut D, frame: u64) {
     };
     text.word("generation");
     text.number(generation as u64);
-    if drive.is_emptied(frame_of(frame)) {
+    if drive.is_draining(frame_of(frame)) {
         text.word("emptied");
     }
 }

@@ -89,7 +89,7 @@ pub(crate) trait Played {
 
     fn generation(&mut self, frame: u16) -> Option<u32>;
 
-    fn is_emptied(&mut self, frame: u16) -> bool;
+    fn is_draining(&mut self, frame: u16) -> bool;
 
     /// The frame's saved word, if it is there.
     fn word(&mut self, frame: u16) -> Option<u64>;
@@ -251,8 +251,8 @@ impl<J: Naming> Played for Party<J> {
         self.drive.generation(frame)
     }
 
-    fn is_emptied(&mut self, frame: u16) -> bool {
-        self.drive.is_emptied(frame)
+    fn is_draining(&mut self, frame: u16) -> bool {
+        self.drive.is_draining(frame)
     }
 
     fn word(&mut self, frame: u16) -> Option<u64> {
@@ -288,7 +288,7 @@ fn play_made<J: Naming, R: Threads>(
     made: NewDrive,
     player: &mut Player<'_>,
 ) -> Result<Start, Refusal>
-    requires frames { made.store.table.drive.table ≡ J.frames }
+    requires frames { made.store.table.seat.table ≡ J.frames }
     requires accepts { made.accepts ≡ J.accepts }
     requires base { new_base made.window ≡ J.base }
 {
@@ -301,7 +301,7 @@ fn play_opened<J: Naming, R: Threads>(
     opened: OpenedDrive,
     player: &mut Player<'_>,
 ) -> Result<Start, Refusal>
-    requires frames { opened.store.table.drive.table ≡ J.frames }
+    requires frames { opened.store.table.seat.table ≡ J.frames }
     requires accepts { opened.accepts ≡ J.accepts }
     requires base { base_of (fields_of log_of opened.store) opened.timeline opened.next ≡ J.base }
 {

@@ -1,6 +1,6 @@
 //! A script is played line by line.
 use crate::acting::{perform_acting, perform_asking, perform_tidying, perform_upkeep};
-use crate::commands::{Beginning, Command, Line, Part, Verb, line_of};
+use crate::commands::{Beginning, Command, Exchange, Line, Verb, line_of};
 use crate::comparing::{perform_comparing, watch};
 use crate::imaging::perform_imaging;
 use crate::looking::perform_look;
@@ -138,15 +138,15 @@ fn judged<'a>(
 
 /// What a part is answered, and whether that is right. Where it is done once more, what its line ends with may come the last time
 /// alone.
-fn do_part<'a, D: Played, R: Threads>(
+fn do_exchange<'a, D: Played, R: Threads>(
     rt: &R,
     stage: &mut Stage,
     drive: &mut D,
-    part: &Part<'a>,
+    exchange: &Exchange<'a>,
     is_awaited: bool,
 ) -> Result<Outcome<'a>, Refusal> {
-    let told = do_command(rt, stage, drive, &part.command)?;
-    let expected = if is_awaited { part.expected } else { None };
+    let told = do_command(rt, stage, drive, &exchange.command)?;
+    let expected = if is_awaited { exchange.expected } else { None };
     let is_excused = match expected {
         Some(_) => stage.is_partial,
         None => stage.is_excused,
@@ -164,11 +164,11 @@ fn do_line<'a, D: Played, R: Threads>(
     line: &Line<'a>,
 ) -> Result<Outcome<'a>, Refusal> {
     let mut outcome = done(stage.alloc)?;
-    let last = line.parts.len().saturating_sub(1);
+    let last = line.exchanges.len().saturating_sub(1);
     for time in 1..=line.times {
-        for (number, part) in line.parts.iter().enumerate() {
+        for (number, exchange) in line.exchanges.iter().enumerate() {
             let is_awaited = number < last || time == line.times;
-            outcome = do_part(rt, stage, drive, part, is_awaited)?;
+            outcome = do_exchange(rt, stage, drive, exchange, is_awaited)?;
             if !outcome.is_right || !stage.remark.is_empty() {
                 return Ok(outcome);
             }
@@ -273,7 +273,7 @@ impl<'a> Player<'a> {
     fn judge_start(
         &mut self,
         line: &Line<'_>,
-        part: &Part<'_>,
+        exchange: &Exchange<'_>,
         refusal: Option<Refusal>,
     ) -> Result<(), Refusal> {
         let mut text = Text::new(self.alloc);
@@ -281,7 +281,7 @@ impl<'a> Player<'a> {
             Some(refusal) => text.refusal(refusal),
             None => text.word("Done"),
         }
-        let outcome = judged(self.alloc, text.finish()?, part.expected)?;
+        let outcome = judged(self.alloc, text.finish()?, exchange.expected)?;
         self.judge(line, &outcome)
     }
 
@@ -291,21 +291,21 @@ impl<'a> Player<'a> {
         rt: &R,
         beginning: Beginning,
         line: &Line<'_>,
-        part: &Part<'_>,
+        exchange: &Exchange<'_>,
     ) -> Result<Option<Start>, Refusal> {
-        let started = match self.start_of(rt, beginning, &part.command) {
-            Err(Refusal::NoMemory) => self.start_of(rt, beginning, &part.command),
+        let started = match self.start_of(rt, beginning, &exchange.command) {
+            Err(Refusal::NoMemory) => self.start_of(rt, beginning, &exchange.command),
             started => started,
         };
         match started {
             Ok(None) => Ok(self.break_off(line.text)),
             Ok(start) => {
-                self.judge_start(line, part, None)?;
+                self.judge_start(line, exchange, None)?;
                 Ok(start)
             }
             Err(Refusal::NoMemory) => Err(Refusal::NoMemory),
             Err(refusal) => {
-                self.judge_start(line, part, Some(refusal))?;
+                self.judge_start(line, exchange, Some(refusal))?;
                 Ok(None)
             }
         }
@@ -328,10 +328,10 @@ impl<'a> Player<'a> {
         let Some(line) = line_of(self.alloc, text)? else {
             return Ok(self.break_off(text));
         };
-        if let [part] = line.parts.as_slice()
-            && let Verb::Begin(beginning) = part.command.verb
+        if let [exchange] = line.exchanges.as_slice()
+            && let Verb::Begin(beginning) = exchange.command.verb
         {
-            return self.begin(rt, beginning, &line, part);
+            return self.begin(rt, beginning, &line, exchange);
         }
         let outcome = do_line(rt, &mut self.stage, drive, &line)?;
         self.judge(&line, &outcome)?;

@@ -20,14 +20,14 @@ use Rattle.object_map.specs.declared.map.Row.{Row}
 use Rattle.journal_chain.specs.Chain.{BlockView, ChainFields, Holds, OnlyJournalChanged}
 use Rattle.time_read.specs.Rows.{chain_of, entries_of, inode_before, first_of, inode_of, checkpoint_of, IsRow}
 use Rattle.time_read.specs.Orderly.{IsFromTo, IsOrderlyChain, IsOrderly, BeginsDead}
-use Rattle.row_changes.specs.Rewritten.{OnlyHistoryChanged}
+use Rattle.row_changes.specs.Rewritten.{OnlyMetadataChanged}
 use Rattle.row_changes.specs.Moving.{CanTell, checkpoint_at, checkpoint_with, first_with}
 
 -- the row with another checkpoint, of the same moment, and another chain
 abbrev pub with_moved : Row → Option Place → Option Place → ℕ → ℕ → Row
 with_moved row p head bytes filled = record { created = row.created; checkpoint = p; checkpoint_moment = row.checkpoint_moment; head = head; journal_bytes = bytes; head_bytes = filled; stamp = row.stamp }
 
--- A history that an object's row can tell stands: its inode in a checkpoint at a place, if there is one, and its entries in a
+-- A journal that an object's row can tell stands: its inode in a checkpoint at a place, if there is one, and its entries in a
 -- chain; and no block of another checkpoint of the object is held.
 pub record Stands (held later : Place → Option Stored) (o : ℕ) (row : Row) (kept : Option Inode) (entries : List EntryFields) (p h : Option Place) (b f : ℕ) : Type 0 where
   pub was : IsRow held o row
@@ -142,8 +142,8 @@ no_checkpoint Journal same h = refl
 no_checkpoint Checkpoint same h = h
 no_checkpoint Data same h = refl
 
-pub history_alone : (held between later : Place → Option Stored) (o : ℕ) → OnlyCheckpointChanged o held between → OnlyJournalChanged o between later → OnlyHistoryChanged o held later
-history_alone held between later o checkpoints journal kind other h = journal kind other (no_journal kind (o == other) h) ∙ checkpoints kind other (no_checkpoint kind (o == other) h)
+pub metadata_alone : (held between later : Place → Option Stored) (o : ℕ) → OnlyCheckpointChanged o held between → OnlyJournalChanged o between later → OnlyMetadataChanged o held later
+metadata_alone held between later o checkpoints journal kind other h = journal kind other (no_journal kind (o == other) h) ∙ checkpoints kind other (no_checkpoint kind (o == other) h)
 
 -- ---- the places
 

@@ -6,7 +6,7 @@ use Rattle.block_log.specs.Taken.{TakesPlaces}
 use Rattle.block_log.specs.declared.kinds.BlockKind.{BlockKind}
 use Rattle.block_log.specs.declared.kinds.BlockKind.TheVariants.{Journal, Checkpoint, Data}
 use Rattle.checkpoint.specs.Held.{DropsCheckpoint}
-use Rattle.row_changes.specs.Rewritten.{OnlyHistoryChanged}
+use Rattle.row_changes.specs.Rewritten.{OnlyMetadataChanged}
 use Rattle.row_changes.proofs.Places.{Put}
 
 -- a view that is of neither the journal nor the checkpoints is of no journal, and of no checkpoints
@@ -21,8 +21,8 @@ no_checkpoint Checkpoint same h = h
 no_checkpoint Data same h = refl
 
 -- all other views are as they were
-pub history_only : (log between chained after : Place → Option Stored) (o : ℕ) (p : Place) (older : Option Place) → Put log between chained o p older → DropsCheckpoint chained o older after → OnlyHistoryChanged o log after
-history_only log between chained after o p older s d kind other h =
+pub metadata_only : (log between chained after : Place → Option Stored) (o : ℕ) (p : Place) (older : Option Place) → Put log between chained o p older → DropsCheckpoint chained o older after → OnlyMetadataChanged o log after
+metadata_only log between chained after o p older s d kind other h =
     d.others kind other (no_checkpoint kind (o == other) h)
     ∙ s.journal kind other (no_journal kind (o == other) h)
     ∙ s.put.others kind other (no_checkpoint kind (o == other) h)

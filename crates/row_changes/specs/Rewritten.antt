@@ -10,8 +10,8 @@ use Rattle.checkpoint.specs.Held.{is_checkpoint_kind, checkpoint_blocks}
 use Rattle.journal_chain.specs.Push.{whole_blocks}
 
 -- of all views, those of the object's journal and of its checkpoints alone have changed
-abbrev pub OnlyHistoryChanged : ℕ → (Place → Option Stored) → (Place → Option Stored) → Type 0
-OnlyHistoryChanged o held later = (kind : BlockKind) (other : ℕ) → ((same_kind Journal kind || is_checkpoint_kind kind) && o == other) ≡ false → of_kind kind other later ≡ of_kind kind other held
+abbrev pub OnlyMetadataChanged : ℕ → (Place → Option Stored) → (Place → Option Stored) → Type 0
+OnlyMetadataChanged o held later = (kind : BlockKind) (other : ℕ) → ((same_kind Journal kind || is_checkpoint_kind kind) && o == other) ≡ false → of_kind kind other later ≡ of_kind kind other held
 
 -- how many blocks a checkpoint of an inode and a whole chain of these entries are
 abbrev pub rewritten_blocks : Inode → List EntryFields → ℕ

@@ -15,7 +15,7 @@ ghost use Rattle.journal_chain.specs.Push.{whole_blocks};
 ghost use Rattle.checkpoint.specs.Held.{checkpoint_held, checkpoint_places, checkpoint_blocks, of_checkpoints, places_named, is_one_of, OnlyCheckpointChanged};
 ghost use Rattle.time_read.specs.Rows.{IsRow, chain_of, entries_of, first_of, checkpoint_of, inode_of};
 ghost use Rattle.time_read.specs.Orderly.{IsFromTo, IsOrderly, IsOrderlyChain, BeginsDead};
-ghost use Rattle.row_changes.specs.Rewritten.{OnlyHistoryChanged};
+ghost use Rattle.row_changes.specs.Rewritten.{OnlyMetadataChanged};
 ghost use Rattle.row_changes.specs.Moving.{CanTell, kept_blocks, inode_kept, checkpoint_at, checkpoint_with, first_with, moved_blocks, row_blocks};
 
 use crate::checkpoints::put_ahead;
@@ -191,7 +191,7 @@ pub(crate) fn move_chain<B: Blocks>(
 
 /// Writes an object's checkpoint, if it has one, with this inode, and then its whole journal afresh with these entries, the
 /// oldest first, in place of what stood; and answers its row after that. The checkpoint keeps its moment, and none appears
-/// where there was none. No block of the old history is held any more, and each of the new one is at a place that was
+/// where there was none. No block of the old journal is held any more, and each of the new one is at a place that was
 /// taken for it.
 ///
 /// At each moment the inode is then the one that the entries tell. A row whose new entries are in order is in order.
@@ -221,7 +221,7 @@ pub fn move_row<B: Blocks>(
       head_bytes = later.head_bytes;
     }) }
     ensures some { IfOk result (λ later. is_some later.checkpoint ≡ is_some row.now.checkpoint) }
-    ensures others { OnlyHistoryChanged object (B.log table.old).held (B.log table.new).held }
+    ensures others { OnlyMetadataChanged object (B.log table.old).held (B.log table.new).held }
     ensures takes { IfOk result (λ _. TakesPlaces (moved_blocks (option_copied kept.entry) entries.now) (B.log table.old) (B.log table.new)) }
     ensures journal { IfOk result (λ _. (p : Place) → IsSome (of_kind Journal object (B.log table.new).held p) → Contains (take (moved_blocks (option_copied kept.entry) entries.now) (B.log table.old).ahead) p) }
     ensures checkpoints { IfOk result (λ _. (p : Place) → IsSome (of_checkpoints object (B.log table.new).held p) → Contains (take (moved_blocks (option_copied kept.entry) entries.now) (B.log table.old).ahead) p) }

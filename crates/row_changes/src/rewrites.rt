@@ -11,7 +11,7 @@ ghost use Rattle.checkpoint.specs.Held.{checkpoint_blocks};
 ghost use Rattle.time_read.specs.Rows.{IsRow, entries_of, first_of, inode_of, last_inode};
 ghost use Rattle.time_read.specs.Orderly.{IsFromTo, IsOrderly, IsOrderlyChain};
 ghost use Rattle.row_changes.specs.Recent.{IsBy};
-ghost use Rattle.row_changes.specs.Rewritten.{OnlyHistoryChanged, rewritten_blocks};
+ghost use Rattle.row_changes.specs.Rewritten.{OnlyMetadataChanged, rewritten_blocks};
 
 use crate::checkpoints::put_ahead;
 use crate::moves::move_chain;
@@ -103,7 +103,7 @@ pub fn rewrite_row<B: Blocks>(
       head_bytes = later.head_bytes;
     }) }
     ensures some { IfOk result (λ later. IsSome later.checkpoint) }
-    ensures others { OnlyHistoryChanged object (B.log table.old).held (B.log table.new).held }
+    ensures others { OnlyMetadataChanged object (B.log table.old).held (B.log table.new).held }
     ensures takes { IfOk result (λ _. TakesPlaces (rewritten_blocks present.now entries.now) (B.log table.old) (B.log table.new)) }
     ensures answer { MatchResult result
         (λ _. rewritten_blocks present.now entries.now ≤ length (B.log table.old).ahead)

@@ -85,7 +85,7 @@ fn serve_named<J: Naming, R: Source, W: Sink>(
     reader: &mut R,
     writer: &mut W,
 ) -> Result<ServeEnd, Refusal>
-    requires frames { made.store.table.drive.table ≡ J.frames }
+    requires frames { made.store.table.seat.table ≡ J.frames }
     requires accepts { made.accepts ≡ J.accepts }
     requires base { new_base made.window ≡ J.base }
     requires window { made.window ≡ pipe.window }

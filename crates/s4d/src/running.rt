@@ -23,8 +23,11 @@ use std::time::Clock;
 use verifier::{open, save};
 
 /// A session over the files that it reads and writes.
-type FileClient<J, F> =
-    Client<J, ReadSource<<F as Files>::Reader>, WriteSink<<F as Files>::Writer>>;
+type FileClient<J, F> = Client<
+    J,
+    ReadSource<<F as Files>::Reader>,
+    WriteSink<<F as Files>::Writer>,
+>;
 
 /// How sessions are served.
 #[derive(Clone, Copy)]
@@ -90,27 +93,14 @@ pub fn run_file<'a, T: Threads + Wait + Clock + Sync, F: Files, E: Write>(
                 manner,
                 opened,
             };
-            run_begun::<Brand, T, F, E>(
-                rt,
-                alloc,
-                files,
-                begun,
-                asked.sessions.as_slice(),
-                errors,
-            )
+            run_begun::<Brand, T, F, E>(rt, alloc, files, begun, asked.sessions.as_slice(), errors)
         }
         Err(refusal) => Err(Fault::Refused(refusal)),
     }
 }
 
 // Serves the sessions of a drive that was just opened, and puts its image in its place.
-fn run_begun<
-    'a,
-    J: Naming + Send + Sync,
-    T: Threads + Wait + Clock + Sync,
-    F: Files,
-    E: Write,
->(
+fn run_begun<'a, J: Naming + Send + Sync, T: Threads + Wait + Clock + Sync, F: Files, E: Write>(
     rt: &T,
     alloc: Global,
     files: &mut F,
@@ -119,7 +109,7 @@ fn run_begun<
     errors: &mut E,
 ) -> Result<bool, Fault<'a>>
     requires accepts { begun.opened.accepts ≡ J.accepts }
-    requires frames { begun.opened.store.table.drive.table ≡ J.frames }
+    requires frames { begun.opened.store.table.seat.table ≡ J.frames }
     requires base { base_of (fields_of log_of begun.opened.store) begun.opened.timeline begun.opened.next ≡ J.base }
     requires sessions { length sessions.now ≤ 16 }
     requires claimed { F.leads begun.claim begun.path.now }
@@ -271,7 +261,7 @@ fn serve_named<
     clients: Vec<Client<J, S, W>>,
 ) -> (Vec<Client<J, S, W>>, Result<Vec<u8>, Refusal>)
     requires accepts { opened.accepts ≡ J.accepts }
-    requires frames { opened.store.table.drive.table ≡ J.frames }
+    requires frames { opened.store.table.seat.table ≡ J.frames }
     requires base { base_of (fields_of log_of opened.store) opened.timeline opened.next ≡ J.base }
     requires count { vec_len clients ≤ 16 }
     requires readers { All (λ c. S.failures c.reader + 1 < 2 ^ 64) clients.items }
@@ -282,10 +272,10 @@ fn serve_named<
     // seat for it.
     ensures left { LeavesDrive J.base
         (λ drive. (i : ℕ) (d : _) → i < vec_len clients
-            → IsSettled J.base (record { start = manner.start; tick = manner.tick }) drive.ledger (slice_index_or clients.items i d).role
-            (slice_index_or result.0.items i d).outcome (slice_index_or result.0.items i d).session
-            (S.remaining (slice_index_or clients.items i d).reader) (W.passed (slice_index_or clients.items i d).writer)
-            (S.remaining (slice_index_or result.0.items i d).reader) (W.passed (slice_index_or result.0.items i d).writer))
+        → IsSettled J.base (record { start = manner.start; tick = manner.tick }) drive.ledger (slice_index_or clients.items i d).role
+        (slice_index_or result.0.items i d).outcome (slice_index_or result.0.items i d).session
+        (S.remaining (slice_index_or clients.items i d).reader) (W.passed (slice_index_or clients.items i d).writer)
+        (S.remaining (slice_index_or result.0.items i d).reader) (W.passed (slice_index_or result.0.items i d).writer))
         (λ drive. IfOk result.1 (λ bytes. SpellsSaved drive bytes.items)) }
     // What is saved is a drive of this name.
     ensures saved { IfOk result.1 (λ bytes. IsSavedFrom J.base bytes.items) }

@@ -29,14 +29,14 @@ some_there [] p (k, h, e) none = absurd (omega arith)
 some_there (q ∷ places) p has none = absurd (cc)
 
 -- where the frame of a survey is sealed, its least object holds a block there
-lowest_holds : (t : Table) (f : ℕ) (s : Survey) → ListsAllHeld t → IsSurvey t f s → is_sealed (frame_at t.drive.frames f).phase ≡ true → HoldsIn t f s.lowest
+lowest_holds : (t : Table) (f : ℕ) (s : Survey) → ListsAllHeld t → IsSurvey t f s → is_sealed (frame_at t.seat.frames f).phase ≡ true → HoldsIn t f s.lowest
 lowest_holds t f s lists survey sealed =
     let p : Place = block_at t f survey.tells.block in
     some_there (pointers_in t s.lowest f) p (lists s.lowest p sealed survey.tells.holds)
 
 -- whether the frame of a survey is sealed, by what is listed of its least object
-pub sealed_by : (t : Table) (f : ℕ) (s : Survey) (places : List Place) (none : Bool) → ListsAllHeld t → IsSurvey t f s → places ≡ pointers_in t s.lowest f → none ≡ nat_eq (length places) 0 → not none ≡ is_sealed (frame_at t.drive.frames f).phase
-sealed_by t f s places none lists survey is none_is = elim (cases_Bool (is_sealed (frame_at t.drive.frames f).phase)) [
+pub sealed_by : (t : Table) (f : ℕ) (s : Survey) (places : List Place) (none : Bool) → ListsAllHeld t → IsSurvey t f s → places ≡ pointers_in t s.lowest f → none ≡ nat_eq (length places) 0 → not none ≡ is_sealed (frame_at t.seat.frames f).phase
+sealed_by t f s places none lists survey is none_is = elim (cases_Bool (is_sealed (frame_at t.seat.frames f).phase)) [
   | inl sealed ↦ (let some : places ≡ [] → ⊥ = (λ e. lowest_holds t f s lists survey sealed (sym is ∙ e)) in ap not (none_is ∙ is_some places some) ∙ sym sealed)
   | inr other ↦ (let listed : pointers_in t s.lowest f ≡ [] = ap (λ (b : Bool). if b then filter (λ p. is_of s.lowest (held_at t p)) (whole_of t f) else []) other in
       ap not (none_is ∙ ap (λ (l : List Place). nat_eq (length l) 0) (is ∙ listed)) ∙ sym other)
@@ -46,9 +46,9 @@ sealed_by t f s places none lists survey is none_is = elim (cases_Bool (is_seale
   is_some (p ∷ l) some = ne_eqb (suc (length l)) 0 (λ e. omega (arith, e))
 
 -- where the least object of a survey holds a block, it is the least that does
-pub lowest_object : (law : WhatIsListedIsHeld) (t : Table) (f : ℕ) (s : Survey) → ListsAllHeld t → IsSurvey t f s → (frame_at t.drive.frames f).phase ≡ Sealed → IsLowestObject t f s.lowest
+pub lowest_object : (law : WhatIsListedIsHeld) (t : Table) (f : ℕ) (s : Survey) → ListsAllHeld t → IsSurvey t f s → (frame_at t.seat.frames f).phase ≡ Sealed → IsLowestObject t f s.lowest
 lowest_object law t f s lists survey sealed = record {
-  holds = lowest_holds t f s lists survey (phase_sealed (frame_at t.drive.frames f).phase sealed);
+  holds = lowest_holds t f s lists survey (phase_sealed (frame_at t.seat.frames f).phase sealed);
   lowest = λ q some. least q (pointers_in t q f) refl some;
 } where
   same_place : (p : Place) (q : ℕ) → IsListed t q f p → is_of q (held_at t (block_at t f p.block)) ≡ true
@@ -83,8 +83,8 @@ best_without t f (Some b) before none = record {
 }
 
 -- so does one that isn't sealed
-pub best_unsealed : (t : Table) (f : ℕ) (best : Option Survey) → IsBestBelow t f best → is_sealed (frame_at t.drive.frames f).phase ≡ false → IsBestBelow t (f + 1) best
-best_unsealed t f best before other = best_without t f best before (λ sparse. not_sealed (frame_at t.drive.frames f).phase other sparse.sealed)
+pub best_unsealed : (t : Table) (f : ℕ) (best : Option Survey) → IsBestBelow t f best → is_sealed (frame_at t.seat.frames f).phase ≡ false → IsBestBelow t (f + 1) best
+best_unsealed t f best before other = best_without t f best before (λ sparse. not_sealed (frame_at t.seat.frames f).phase other sparse.sealed)
 
 -- so does one that doesn't come before the best
 pub best_stays : (t : Table) (f : ℕ) (best : Option Survey) (s : Survey) → IsBestBelow t f best → IsSurvey t f s
@@ -110,7 +110,7 @@ best_stays t f (Some b) s before survey first fewer =
     }
 
 -- one that comes before the best goes first
-pub best_goes : (t : Table) (f : ℕ) (best : Option Survey) (s : Survey) → IsBestBelow t f best → IsSurvey t f s → is_sealed (frame_at t.drive.frames f).phase ≡ true
+pub best_goes : (t : Table) (f : ℕ) (best : Option Survey) (s : Survey) → IsBestBelow t f best → IsSurvey t f s → is_sealed (frame_at t.seat.frames f).phase ≡ true
     → IfNone best (true ≡ nat_le s.count 7) → IfSome best (λ b. true ≡ nat_lt s.count b.count) → GoesFirst t (f + 1) s
 best_goes t f best s before survey sealed first fewer = record {
   survey = subst (λ (n : ℕ). IsSurvey t n s) (sym at) survey;
@@ -135,7 +135,7 @@ best_goes t f best s before survey sealed first fewer = record {
 
   is_sparse : IsSparse t f
   is_sparse = (let one : 1 ≤ s.count = survey.tells.some in record {
-    sealed = sealed_phase (frame_at t.drive.frames f).phase sealed;
+    sealed = sealed_phase (frame_at t.seat.frames f).phase sealed;
     life = survey.life;
     some = omega (arith, its, one);
     few = omega (arith, its, at_most best before first fewer);

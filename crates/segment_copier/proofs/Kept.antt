@@ -100,13 +100,13 @@ one_more pins places i p bytes copies h at so is =
     ∙ sym (ap (copies_of pins) (take_more places i p h) ∙ map-append copy (take i places) (get_or places i p ∷ []))
 
 -- a plan with a pin on its frame keeps its places
-pub pin_over : (law : WhatIsListedIsHeld) (t : Table) (o f : ℕ) (frames : TableId) (places : List Place) (held : Held) → held.table ≡ frames → held.pins ≡ pin_of t.drive.frames f ∷ [] → places ≡ data_in t o f
+pub pin_over : (law : WhatIsListedIsHeld) (t : Table) (o f : ℕ) (frames : TableId) (places : List Place) (held : Held) → held.table ≡ frames → held.pins ≡ pin_of t.seat.frames f ∷ [] → places ≡ data_in t o f
     → IsPinOver frames places held
 pin_over law t o f frames places held table pins is = record {
   table = table;
-  pinned = pin_of t.drive.frames f;
+  pinned = pin_of t.seat.frames f;
   alone = pins;
-  inside = subst (λ (l : List Place). AllByRecursion (IsPlaceIn (pin_of t.drive.frames f)) l) (sym is) (data_inside law t o f);
+  inside = subst (λ (l : List Place). AllByRecursion (IsPlaceIn (pin_of t.seat.frames f)) l) (sym is) (data_inside law t o f);
 }
 
 -- copies by such a pin are from what is remembered of it

@@ -6,7 +6,7 @@ use Rattle.std.proofs.lemmas.Bool.{cases_Bool}
 use Rattle.std.proofs.lemmas.List.Elements.{recursion_from_All, Contains-get_or}
 use Rattle.s4_types.specs.Pointer.{Place}
 use Rattle.block_log.specs.Log.{Stored}
-use Rattle.segment_word.specs.Frames.{Phase, Free, Open, Sealed, Emptied, is_sealed}
+use Rattle.segment_word.specs.Frames.{Phase, Free, Open, Sealed, Draining, is_sealed}
 use Rattle.segment_word.specs.Layout.{frame_at}
 use Rattle.segment_word.specs.Handles.{pin_of}
 use Rattle.segment_table.specs.Table.{Table, held_at, is_of}
@@ -58,15 +58,15 @@ pub sealed_phase : (p : Phase) → is_sealed p ≡ true → p ≡ Sealed
 sealed_phase Free e = absurd (cc)
 sealed_phase Open e = absurd (cc)
 sealed_phase Sealed e = refl
-sealed_phase Emptied e = absurd (cc)
+sealed_phase Draining e = absurd (cc)
 
 pub of_some : (o : ℕ) (held : Option Stored) → is_of o held ≡ true → IsSome held
 of_some o None e = absurd (cc)
 of_some o (Some block) e = refl
 
 -- where something is listed as held in a frame, the frame is sealed
-pub some_sealed : (t : Table) (o f : ℕ) → (pointers_in t o f ≡ [] → ⊥) → is_sealed (frame_at t.drive.frames f).phase ≡ true
-some_sealed t o f some = elim (cases_Bool (is_sealed (frame_at t.drive.frames f).phase)) [
+pub some_sealed : (t : Table) (o f : ℕ) → (pointers_in t o f ≡ [] → ⊥) → is_sealed (frame_at t.seat.frames f).phase ≡ true
+some_sealed t o f some = elim (cases_Bool (is_sealed (frame_at t.seat.frames f).phase)) [
   | inl sealed ↦ sealed
   | inr other ↦ absurd (some (ap (λ (b : Bool). if b then filter (λ p. is_of o (held_at t p)) (whole_of t f) else []) other))
 ]
@@ -78,8 +78,8 @@ data_listed law t o f p has =
     (law t o f p both.0, both.1)
 
 -- each of them is in the frame, as it can be pinned
-pub data_inside : (law : WhatIsListedIsHeld) (t : Table) (o f : ℕ) → AllByRecursion (IsPlaceIn (pin_of t.drive.frames f)) (data_in t o f)
-data_inside law t o f = all_of (IsPlaceIn (pin_of t.drive.frames f)) (data_in t o f)
+pub data_inside : (law : WhatIsListedIsHeld) (t : Table) (o f : ℕ) → AllByRecursion (IsPlaceIn (pin_of t.seat.frames f)) (data_in t o f)
+data_inside law t o f = all_of (IsPlaceIn (pin_of t.seat.frames f)) (data_in t o f)
     (λ p has. (let listed = (data_listed law t o f p has).0 in
     let most : p.block ≤ 15 = listed.payload.1 in
     (listed.frame, (listed.generation, omega arith))))

@@ -121,24 +121,24 @@ still_ascending : (t : Table) (f o : ℕ) (copies : List CopiedBlock) → AreSti
 still_ascending t f o copies there =
     let one : Place → Bool = λ p. is_of o (held_at t p) in
     let two : Place → Bool = λ p. is_data (held_at t p) in
-    let sealed : is_sealed (frame_at t.drive.frames f).phase ≡ true = some_sealed t o f there.some in
+    let sealed : is_sealed (frame_at t.seat.frames f).phase ≡ true = some_sealed t o f there.some in
     let is : map (λ (c : CopiedBlock). c.place) copies ≡ filter two (filter one (whole_of t f)) = there.places ∙ ap (λ (b : Bool). filter two (if b then filter one (whole_of t f) else [])) sealed in
-    ascending one two f (frame_at t.drive.frames f).generation 1 15 copies is
+    ascending one two f (frame_at t.seat.frames f).generation 1 15 copies is
 
 -- ---- bytes
 
 -- the bytes of a held block are those of its frame
-held_bytes : (t : Table) (p : Place) → IfSome (held_at t p) (λ block. block.bytes ≡ block_bytes (frame_at t.drive.frames p.frame).contents p.block)
+held_bytes : (t : Table) (p : Place) → IfSome (held_at t p) (λ block. block.bytes ≡ block_bytes (frame_at t.seat.frames p.frame).contents p.block)
 held_bytes t p =
-    let k : Frame = frame_at t.drive.frames p.frame in
+    let k : Frame = frame_at t.seat.frames p.frame in
     let slot : Slot = block_slot (slots_at t.slots p.frame) p.block in
     let bytes : List ℕ = block_bytes k.contents p.block in
     let IsIts : Option Stored → Type 0 = λ held. IfSome held (λ block. block.bytes ≡ bytes) in
     elim (cases_Bool (k.generation == p.generation)) [
       | inl current ↦ subst (λ (b : Bool). IsIts (if b then stored slot bytes else None)) (sym current)
           (elim (cases_Bool slot.held) [
-            | inl held ↦ subst (λ (b : Bool). IsIts (if b then Some (record { kind = slot.part.kind; object = slot.part.object; bytes = bytes }) else None)) (sym held) refl
-            | inr gone ↦ subst (λ (b : Bool). IsIts (if b then Some (record { kind = slot.part.kind; object = slot.part.object; bytes = bytes }) else None)) (sym gone) tt
+            | inl held ↦ subst (λ (b : Bool). IsIts (if b then Some (record { kind = slot.role.kind; object = slot.role.object; bytes = bytes }) else None)) (sym held) refl
+            | inr gone ↦ subst (λ (b : Bool). IsIts (if b then Some (record { kind = slot.role.kind; object = slot.role.object; bytes = bytes }) else None)) (sym gone) tt
           ])
       | inr older ↦ subst (λ (b : Bool). IsIts (if b then stored slot bytes else None)) (sym older) tt
     ]
@@ -157,22 +157,22 @@ still_listed listed t f o copies c there has =
     data_listed listed t o f c.place (subst (λ (l : List Place). Contains l c.place) there.places (has_mapped (λ (d : CopiedBlock). d.place) c copies has))
 
 -- copies that are remembered at the generation that their frame has are of what it holds
-pub still_copies : (listed : WhatIsListedIsHeld) (t : Table) (f o : ℕ) (copies : List CopiedBlock) (table : TableId) (m : Remembered) → AreStillThere t f o copies → IsMemoryOver table copies m → AllRemembered t.drive.frames m.remembered
+pub still_copies : (listed : WhatIsListedIsHeld) (t : Table) (f o : ℕ) (copies : List CopiedBlock) (table : TableId) (m : Remembered) → AreStillThere t f o copies → IsMemoryOver table copies m → AllRemembered t.seat.frames m.remembered
     → AreCopies (held_at t) o copies
 still_copies listed t f o copies table m there memory recalled =
     let q : Pinned = memory.pinned in
-    let true_of : IsRemembered t.drive.frames q = subst (λ (l : List Pinned). AllRemembered t.drive.frames l) memory.alone recalled 0 q refl in
+    let true_of : IsRemembered t.seat.frames q = subst (λ (l : List Pinned). AllRemembered t.seat.frames l) memory.alone recalled 0 q refl in
     record {
-      frame = all_in f (frame_at t.drive.frames f).generation copies (λ c has. (let here = (still_listed listed t f o copies c there has).0 in (here.frame, here.generation)));
+      frame = all_in f (frame_at t.seat.frames f).generation copies (λ c has. (let here = (still_listed listed t f o copies c there has).0 in (here.frame, here.generation)));
       ascending = still_ascending t f o copies there;
       bytes = all_of (λ c. of_kind Data o (held_at t) c.place ≡ Some c.bytes) copies
           (λ c has. (let both = still_listed listed t f o copies c there has in
           let from : IsCopyFrom q c = among (IsCopyFrom q) copies c memory.inside has in
           let number : f ≡ q.number = sym both.0.frame ∙ from.0.0 in
-          let generation : q.generation ≡ (frame_at t.drive.frames q.number).generation = sym from.0.1.0 ∙ both.0.generation ∙ ap (λ (n : ℕ). (frame_at t.drive.frames n).generation) number in
-          let contents : q.contents ≡ (frame_at t.drive.frames q.number).contents = (true_of.same generation).contents in
-          let bytes : block_bytes (frame_at t.drive.frames c.place.frame).contents c.place.block ≡ c.bytes =
-          ap (λ (n : ℕ). block_bytes (frame_at t.drive.frames n).contents c.place.block) from.0.0 ∙ sym (ap (λ (l : List ℕ). block_bytes l c.place.block) contents) ∙ sym from.1 in
+          let generation : q.generation ≡ (frame_at t.seat.frames q.number).generation = sym from.0.1.0 ∙ both.0.generation ∙ ap (λ (n : ℕ). (frame_at t.seat.frames n).generation) number in
+          let contents : q.contents ≡ (frame_at t.seat.frames q.number).contents = (true_of.same generation).contents in
+          let bytes : block_bytes (frame_at t.seat.frames c.place.frame).contents c.place.block ≡ c.bytes =
+          ap (λ (n : ℕ). block_bytes (frame_at t.seat.frames n).contents c.place.block) from.0.0 ∙ sym (ap (λ (l : List ℕ). block_bytes l c.place.block) contents) ∙ sym from.1 in
           seen_data o (held_at t c.place) c.bytes both.0.held both.1
           (subst (λ (l : List ℕ). IfSome (held_at t c.place) (λ block. block.bytes ≡ l)) bytes (held_bytes t c.place))));
     }
@@ -206,20 +206,20 @@ data_seen o (Some block) some = elim (cases_Bool (same_kind Data block.kind && b
 ]
 
 -- a place that is taken is in no sealed frame
-taken_elsewhere : (ahead : PlacesAheadAreInNoSealedFrame) (t : Table) (f n : ℕ) (p : Place) → is_sealed (frame_at t.drive.frames f).phase ≡ true → p.frame ≡ f → Contains (take n (places_ahead t)) p → ⊥
+taken_elsewhere : (ahead : PlacesAheadAreInNoSealedFrame) (t : Table) (f n : ℕ) (p : Place) → is_sealed (frame_at t.seat.frames f).phase ≡ true → p.frame ≡ f → Contains (take n (places_ahead t)) p → ⊥
 taken_elsewhere ahead t f n p sealed at has =
-    let other : is_sealed (frame_at t.drive.frames p.frame).phase ≡ false = ahead t p (taken_has n p (places_ahead t) has) in
-    let same : is_sealed (frame_at t.drive.frames p.frame).phase ≡ true = ap (λ (m : ℕ). is_sealed (frame_at t.drive.frames m).phase) at ∙ sealed in
+    let other : is_sealed (frame_at t.seat.frames p.frame).phase ≡ false = ahead t p (taken_has n p (places_ahead t) has) in
+    let same : is_sealed (frame_at t.seat.frames p.frame).phase ≡ true = ap (λ (m : ℕ). is_sealed (frame_at t.seat.frames m).phase) at ∙ sealed in
     cc
 
 -- a data block in the frame was copied, and so it isn't held any more
 left_data : (d later : DriveFields) (f o : ℕ) (row : Row) (copies : List CopiedBlock) (p : Place) → ListsAllHeld d.store.table → AreStillThere d.store.table f o copies
-    → is_sealed (frame_at d.store.table.drive.frames f).phase ≡ true → IsRelocated (store_of d) o row copies (store_of later) → p.frame ≡ f
+    → is_sealed (frame_at d.store.table.seat.frames f).phase ≡ true → IsRelocated (store_of d) o row copies (store_of later) → p.frame ≡ f
     → IsSome (of_kind Data o (store_of d).log.held p) → held_at later.store.table p ≡ None
 left_data d later f o row copies p lists there sealed moved at some =
     let t : Table = d.store.table in
     let both = data_seen o (held_at t p) some in
-    let has : Contains (pointers_in t o p.frame) p = lists o p (ap (λ (m : ℕ). is_sealed (frame_at t.drive.frames m).phase) at ∙ sealed) both.0 in
+    let has : Contains (pointers_in t o p.frame) p = lists o p (ap (λ (m : ℕ). is_sealed (frame_at t.seat.frames m).phase) at ∙ sealed) both.0 in
     let here : Contains (pointers_in t o f) p = subst (λ (m : ℕ). Contains (pointers_in t o m) p) at has in
     let among_data : Contains (data_in t o f) p = has_passed (λ q. is_data (held_at t q)) p both.1 (pointers_in t o f) here in
     let from = image (λ (c : CopiedBlock). c.place) copies p (subst (λ (l : List Place). Contains l p) (sym there.places) among_data) in
@@ -229,7 +229,7 @@ pub holds_none : (ahead : PlacesAheadAreInNoSealedFrame) (d later : DriveFields)
     → IsRelocated (store_of d) o row copies (store_of later) → HoldsNone later.store.table o f
 holds_none ahead d later f o row copies lists there moved p at =
     let t : Table = d.store.table in
-    let sealed : is_sealed (frame_at t.drive.frames f).phase ≡ true = some_sealed t o f there.some in
+    let sealed : is_sealed (frame_at t.seat.frames f).phase ≡ true = some_sealed t o f there.some in
     let n : ℕ = blocks_relocated (store_of d).log.held o row copies in
     elim (cases_Bool (is_of o (held_at later.store.table p))) [
       | inr none ↦ none

@@ -9,7 +9,7 @@ use Rattle.s4_types.specs.Pointer.{Place}
 use Rattle.block_log.specs.declared.kinds.BlockKind.{BlockKind}
 use Rattle.block_log.specs.declared.kinds.BlockKind.TheVariants.{Journal, Checkpoint, Data}
 use Rattle.block_log.specs.Log.{Stored, same_kind, seen_as, of_kind}
-use Rattle.segment_word.specs.Frames.{Phase, Free, Open, Sealed, Emptied, code_of, is_open, is_sealed}
+use Rattle.segment_word.specs.Frames.{Phase, Free, Open, Sealed, Draining, code_of, is_open, is_sealed}
 use Rattle.segment_word.specs.FrameRule.{AllRemembered, IsRemembered}
 use Rattle.segment_word.specs.Handles.{pin_of}
 use Rattle.segment_word.specs.Layout.{frame_at, block_bytes}
@@ -88,18 +88,18 @@ abbrev none_used : List ℕ → Option Stored
 none_used bytes = None
 
 -- a block is held in an open or sealed frame, at the frame's generation
-named_now : (t : Table) (p : Place) → HoldsUsedBlocks t → IsSome (held_at t p) → (is_named (frame_at t.drive.frames p.frame) ≡ true) × ((frame_at t.drive.frames p.frame).generation ≡ p.generation)
+named_now : (t : Table) (p : Place) → HoldsUsedBlocks t → IsSome (held_at t p) → (is_named (frame_at t.seat.frames p.frame) ≡ true) × ((frame_at t.seat.frames p.frame).generation ≡ p.generation)
 named_now t p used some = by_held (held_at t p) refl some where
-  by_held : (held : Option Stored) → held_at t p ≡ held → IsSome held → (is_named (frame_at t.drive.frames p.frame) ≡ true) × ((frame_at t.drive.frames p.frame).generation ≡ p.generation)
+  by_held : (held : Option Stored) → held_at t p ≡ held → IsSome held → (is_named (frame_at t.seat.frames p.frame) ≡ true) × ((frame_at t.seat.frames p.frame).generation ≡ p.generation)
   by_held None e there = absurd (cc)
-  by_held (Some block) e there = elim (cases_Bool (is_named (frame_at t.drive.frames p.frame) && (frame_at t.drive.frames p.frame).generation == p.generation)) [
+  by_held (Some block) e there = elim (cases_Bool (is_named (frame_at t.seat.frames p.frame) && (frame_at t.seat.frames p.frame).generation == p.generation)) [
     | inl both ↦
-        let parts = and_parts (is_named (frame_at t.drive.frames p.frame)) ((frame_at t.drive.frames p.frame).generation == p.generation) both in
-        (parts.0, eqb-true (frame_at t.drive.frames p.frame).generation p.generation parts.1)
+        let parts = and_parts (is_named (frame_at t.seat.frames p.frame)) ((frame_at t.seat.frames p.frame).generation == p.generation) both in
+        (parts.0, eqb-true (frame_at t.seat.frames p.frame).generation p.generation parts.1)
     | inr other ↦
         absurd (none-some block
-        (sym (cond-false (is_named (frame_at t.drive.frames p.frame) && (frame_at t.drive.frames p.frame).generation == p.generation)
-        (option_map (with_bytes (block_bytes (frame_at t.drive.frames p.frame).contents p.block)) (used_slot (slots_at t.slots p.frame) p.block)) None other) ∙ used p block e))
+        (sym (cond-false (is_named (frame_at t.seat.frames p.frame) && (frame_at t.seat.frames p.frame).generation == p.generation)
+        (option_map (with_bytes (block_bytes (frame_at t.seat.frames p.frame).contents p.block)) (used_slot (slots_at t.slots p.frame) p.block)) None other) ∙ used p block e))
   ]
 
 -- such a frame is sealed, where it isn't open
@@ -107,34 +107,34 @@ named_sealed : (phase : Phase) → 2 ≤ code_of phase → (is_open phase || is_
 named_sealed Free least named = absurd (omega arith)
 named_sealed Open least named = absurd (omega arith)
 named_sealed Sealed least named = refl
-named_sealed Emptied least named = named
+named_sealed Draining least named = named
 
 -- ---- what was planned
 
 -- the frame is sealed still, at the generation that it had
 record IsAsItWas (t later : Table) (f : ℕ) : Type 0 where
-  pub sealed : is_sealed (frame_at later.drive.frames f).phase ≡ true
-  pub generation : (frame_at later.drive.frames f).generation ≡ (frame_at t.drive.frames f).generation
+  pub sealed : is_sealed (frame_at later.seat.frames f).phase ≡ true
+  pub generation : (frame_at later.seat.frames f).generation ≡ (frame_at t.seat.frames f).generation
 
 frame_stays : WhatIsListedIsHeld → (t later : Table) (f o : ℕ) → (pointers_in t o f ≡ [] → ⊥) → ((kind : BlockKind) → of_kind kind o (held_at later) ≡ of_kind kind o (held_at t))
-    → AllRemembered later.drive.frames (pin_of t.drive.frames f ∷ []) → HoldsUsedBlocks later → IsAsItWas t later f
+    → AllRemembered later.seat.frames (pin_of t.seat.frames f ∷ []) → HoldsUsedBlocks later → IsAsItWas t later f
 frame_stays law t later f o some same memory used =
     let first = has_some (pointers_in t o f) some in
     let p : Place = first.0 in
     let listed : IsListed t o f p = law t o f p first.1 in
     let held : is_of o (held_at later p) ≡ true = carry o (held_at t p) (held_at later p) (λ kind. ap (λ (view : Place → Option (List ℕ)). view p) (same kind)) listed.held in
     let now = named_now later p used (of_some o (held_at later p) held) in
-    let generation : (frame_at later.drive.frames f).generation ≡ (frame_at t.drive.frames f).generation =
-    ap (λ (n : ℕ). (frame_at later.drive.frames n).generation) (sym listed.frame) ∙ now.1 ∙ listed.generation in
-    let true_of : IsRemembered later.drive.frames (pin_of t.drive.frames f) = memory 0 (pin_of t.drive.frames f) refl in
+    let generation : (frame_at later.seat.frames f).generation ≡ (frame_at t.seat.frames f).generation =
+    ap (λ (n : ℕ). (frame_at later.seat.frames n).generation) (sym listed.frame) ∙ now.1 ∙ listed.generation in
+    let true_of : IsRemembered later.seat.frames (pin_of t.seat.frames f) = memory 0 (pin_of t.seat.frames f) refl in
     record {
-      sealed = named_sealed (frame_at later.drive.frames f).phase (true_of.same (sym generation)).sealed (subst (λ (n : ℕ). is_named (frame_at later.drive.frames n) ≡ true) listed.frame now.0);
+      sealed = named_sealed (frame_at later.seat.frames f).phase (true_of.same (sym generation)).sealed (subst (λ (n : ℕ). is_named (frame_at later.seat.frames n) ≡ true) listed.frame now.0);
       generation = generation;
     }
 
 pub still_there : WhatIsListedIsHeld → (t later : Table) (f o : ℕ) (copies : List CopiedBlock) → (pointers_in t o f ≡ [] → ⊥) → map (λ c. c.place) copies ≡ data_in t o f
     → ((kind : BlockKind) → of_kind kind o (held_at later) ≡ of_kind kind o (held_at t))
-    → AllRemembered later.drive.frames (pin_of t.drive.frames f ∷ []) → HoldsUsedBlocks later → AreStillThere later f o copies
+    → AllRemembered later.seat.frames (pin_of t.seat.frames f ∷ []) → HoldsUsedBlocks later → AreStillThere later f o copies
 still_there law t later f o copies some places_are same memory used =
     let frame : IsAsItWas t later f = frame_stays law t later f o some same memory used in
     let seen_alike : (p : Place) → SeenAlike o (held_at t p) (held_at later p) = λ p kind. ap (λ (view : Place → Option (List ℕ)). view p) (same kind) in

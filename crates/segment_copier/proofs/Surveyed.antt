@@ -6,9 +6,9 @@ use Rattle.std.proofs.lemmas.List.{take_all}
 use Rattle.std.proofs.lemmas.List.Sums.{count_by_more_yes, count_by_more_no}
 use Rattle.s4_types.specs.Pointer.{Place}
 use Rattle.block_log.specs.Log.{Stored}
-use Rattle.codec.specs.declared.summaries.Part.{Part}
+use Rattle.codec.specs.declared.summaries.BlockRole.{BlockRole}
 use Rattle.segment_word.specs.Layout.{frame_at}
-use Rattle.segment_table.specs.Table.{Table, held_at, is_of, part_of}
+use Rattle.segment_table.specs.Table.{Table, held_at, is_of, role_of}
 use Rattle.segment_table.specs.Room.{places, whole_of}
 use Rattle.segment_copier.specs.declared.choices.Survey.{Survey}
 use Rattle.segment_copier.specs.Choosing.{held_count, IsSparse}
@@ -28,14 +28,14 @@ get_or-places f g b (suc n) zero d h = ap (λ (m : ℕ). record { frame = f; blo
 get_or-places f g b (suc n) (suc i) d h = get_or-places f g (b + 1) n i d (omega arith) ∙ ap (λ (m : ℕ). record { frame = f; block = m; generation = g }) (omega arith)
 
 length-whole_of : (t : Table) (f : ℕ) → length (whole_of t f) ≡ 15
-length-whole_of t f = length-places f (frame_at t.drive.frames f).generation 1 15
+length-whole_of t f = length-places f (frame_at t.seat.frames f).generation 1 15
 
 whole_at : (t : Table) (f n : ℕ) → n < 15 → get_or (whole_of t f) n (block_at t f (n + 1)) ≡ block_at t f (n + 1)
-whole_at t f n h = get_or-places f (frame_at t.drive.frames f).generation 1 15 n (block_at t f (n + 1)) h
-    ∙ ap (λ (m : ℕ). record { frame = f; block = m; generation = (frame_at t.drive.frames f).generation }) (omega arith)
+whole_at t f n h = get_or-places f (frame_at t.seat.frames f).generation 1 15 n (block_at t f (n + 1)) h
+    ∙ ap (λ (m : ℕ). record { frame = f; block = m; generation = (frame_at t.seat.frames f).generation }) (omega arith)
 
 -- the place of a block, from its numbers
-place_is : (t : Table) (f b m g : ℕ) (p : Place) → p ≡ record { frame = f; block = m; generation = g } → m ≡ b → g ≡ (frame_at t.drive.frames f).generation → p ≡ block_at t f b
+place_is : (t : Table) (f b m g : ℕ) (p : Place) → p ≡ record { frame = f; block = m; generation = g } → m ≡ b → g ≡ (frame_at t.seat.frames f).generation → p ≡ block_at t f b
 place_is t f b m g p is block generation = is ∙ ap (λ (n : ℕ). record { frame = f; block = n; generation = g }) block ∙ ap (λ (n : ℕ). record { frame = f; block = b; generation = n }) generation
 
 -- ---- how many blocks are held
@@ -149,28 +149,28 @@ step_held t f n (Some old) block s h is before first more = next_held t f n bloc
 
 -- ---- by the parts that are looked at
 
-pub step_without : (t : Table) (f n m g : ℕ) (found : Option Survey) (p : Place) → n < 15 → p ≡ record { frame = f; block = m; generation = g } → m ≡ n + 1 → g ≡ (frame_at t.drive.frames f).generation
-    → None ≡ option_map part_of (held_at t p) → IsFound t f n found → IsFound t f (n + 1) found
-step_without t f n m g found p h place block generation part before = step_none t f n found h
-    (none_held (held_at t (block_at t f (n + 1))) (part ∙ ap (λ (q : Place). option_map part_of (held_at t q)) (place_is t f (n + 1) m g p place block generation))) before where
-      none_held : (held : Option Stored) → None ≡ option_map part_of held → held ≡ None
+pub step_without : (t : Table) (f n m g : ℕ) (found : Option Survey) (p : Place) → n < 15 → p ≡ record { frame = f; block = m; generation = g } → m ≡ n + 1 → g ≡ (frame_at t.seat.frames f).generation
+    → None ≡ option_map role_of (held_at t p) → IsFound t f n found → IsFound t f (n + 1) found
+step_without t f n m g found p h place block generation role before = step_none t f n found h
+    (none_held (held_at t (block_at t f (n + 1))) (role ∙ ap (λ (q : Place). option_map role_of (held_at t q)) (place_is t f (n + 1) m g p place block generation))) before where
+      none_held : (held : Option Stored) → None ≡ option_map role_of held → held ≡ None
       none_held None e = refl
       none_held (Some block) e = absurd (cc)
 
-some_held : (t : Table) (f n : ℕ) (found : Option Survey) (held : Option Stored) (part : Part) (s : Survey) → n < 15 → held_at t (block_at t f (n + 1)) ≡ held → Some part ≡ option_map part_of held → IsFound t f n found
-    → IfNone found (s ≡ record { frame = f; count = 1; lowest = part.object }) → IfSome found (λ old. s ≡ record { frame = f; count = old.count + 1; lowest = min old.lowest part.object }) → Tells t f (n + 1) s
-some_held t f n found None part s h is e before first more = absurd (cc)
-some_held t f n found (Some block) part s h is e before first more =
-    let same : part ≡ part_of block = (cc) in
+some_held : (t : Table) (f n : ℕ) (found : Option Survey) (held : Option Stored) (role : BlockRole) (s : Survey) → n < 15 → held_at t (block_at t f (n + 1)) ≡ held → Some role ≡ option_map role_of held → IsFound t f n found
+    → IfNone found (s ≡ record { frame = f; count = 1; lowest = role.object }) → IfSome found (λ old. s ≡ record { frame = f; count = old.count + 1; lowest = min old.lowest role.object }) → Tells t f (n + 1) s
+some_held t f n found None role s h is e before first more = absurd (cc)
+some_held t f n found (Some block) role s h is e before first more =
+    let same : role ≡ role_of block = (cc) in
     step_held t f n found block s h is before
-    (subst (λ (x : Part). IfNone found (s ≡ record { frame = f; count = 1; lowest = x.object })) same first)
-    (subst (λ (x : Part). IfSome found (λ old. s ≡ record { frame = f; count = old.count + 1; lowest = min old.lowest x.object })) same more)
+    (subst (λ (x : BlockRole). IfNone found (s ≡ record { frame = f; count = 1; lowest = x.object })) same first)
+    (subst (λ (x : BlockRole). IfSome found (λ old. s ≡ record { frame = f; count = old.count + 1; lowest = min old.lowest x.object })) same more)
 
-pub step_with : (t : Table) (f n m g : ℕ) (found : Option Survey) (p : Place) (part : Part) (s : Survey) → n < 15 → p ≡ record { frame = f; block = m; generation = g } → m ≡ n + 1 → g ≡ (frame_at t.drive.frames f).generation
-    → Some part ≡ option_map part_of (held_at t p) → IsFound t f n found
-    → IfNone found (s ≡ record { frame = f; count = 1; lowest = part.object }) → IfSome found (λ old. s ≡ record { frame = f; count = old.count + 1; lowest = min old.lowest part.object }) → Tells t f (n + 1) s
-step_with t f n m g found p part s h place block generation is before first more = some_held t f n found (held_at t (block_at t f (n + 1))) part s h refl
-    (is ∙ ap (λ (q : Place). option_map part_of (held_at t q)) (place_is t f (n + 1) m g p place block generation)) before first more
+pub step_with : (t : Table) (f n m g : ℕ) (found : Option Survey) (p : Place) (role : BlockRole) (s : Survey) → n < 15 → p ≡ record { frame = f; block = m; generation = g } → m ≡ n + 1 → g ≡ (frame_at t.seat.frames f).generation
+    → Some role ≡ option_map role_of (held_at t p) → IsFound t f n found
+    → IfNone found (s ≡ record { frame = f; count = 1; lowest = role.object }) → IfSome found (λ old. s ≡ record { frame = f; count = old.count + 1; lowest = min old.lowest role.object }) → Tells t f (n + 1) s
+step_with t f n m g found p role s h place block generation is before first more = some_held t f n found (held_at t (block_at t f (n + 1))) role s h refl
+    (is ∙ ap (λ (q : Place). option_map role_of (held_at t q)) (place_is t f (n + 1) m g p place block generation)) before first more
 
 -- where nothing is found in a frame, no move can be made out of it
 pub none_sparse : (t : Table) (f n : ℕ) (found : Option Survey) → n ≡ 15 → IsFound t f n found → IfNone found (IsSparse t f → ⊥)

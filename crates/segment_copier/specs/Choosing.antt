@@ -23,8 +23,8 @@ IsLife g = (1 ≤ g) × (g + 1 < 2 ^ 32)
 
 -- a frame that a move can be made out of: it is sealed, and 1 to 7 of its blocks are held
 pub record IsSparse (t : Table) (f : ℕ) : Type 0 where
-  pub sealed : (frame_at t.drive.frames f).phase ≡ Sealed
-  pub life : IsLife (frame_at t.drive.frames f).generation
+  pub sealed : (frame_at t.seat.frames f).phase ≡ Sealed
+  pub life : IsLife (frame_at t.seat.frames f).generation
   pub some : 1 ≤ held_count t f
   pub few : held_count t f ≤ MOST_HELD
 

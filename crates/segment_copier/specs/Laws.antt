@@ -16,4 +16,4 @@ use Rattle.segment_copier.specs.Commits.{AreStillThere}
 abbrev pub WhatWasPlannedIsStillThere : Type 0
 WhatWasPlannedIsStillThere = (t later : Table) (f o : ℕ) (copies : List CopiedBlock) → (pointers_in t o f ≡ [] → ⊥) → map (λ c. c.place) copies ≡ data_in t o f
     → ((kind : BlockKind) → of_kind kind o (held_at later) ≡ of_kind kind o (held_at t))
-    → AllRemembered later.drive.frames (pin_of t.drive.frames f ∷ []) → HoldsUsedBlocks later → AreStillThere later f o copies
+    → AllRemembered later.seat.frames (pin_of t.seat.frames f ∷ []) → HoldsUsedBlocks later → AreStillThere later f o copies

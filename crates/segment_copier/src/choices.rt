@@ -59,8 +59,8 @@ fn survey_of<J: Naming>(drive: &mut Drive<J>, frame: u16) -> Option<Survey>
     let mut found = None;
     for index in 0..PAYLOAD_BLOCKS {
         let place = Ptr::new(frame, index as u8 + 1, generation)?;
-        if let Some(part) = drive.part(place) {
-            found = Some(with_block(found, frame, part.object));
+        if let Some(role) = drive.role(place) {
+            found = Some(with_block(found, frame, role.object));
         }
     }
     found
@@ -80,7 +80,7 @@ fn is_better(survey: &Survey, best: &Option<Survey>) -> bool
 // Whether the frame of a survey is sealed.
 fn is_of_sealed<J: Naming>(drive: &mut Drive<J>, survey: &Survey) -> Result<bool, Refusal>
     requires { IsSurvey drive.old.store.table survey.now.frame survey.now }
-    ensures sealed { IfOk result (λ sealed. sealed ≡ is_sealed (frame_at drive.old.store.table.drive.frames survey.now.frame).phase) }
+    ensures sealed { IfOk result (λ sealed. sealed ≡ is_sealed (frame_at drive.old.store.table.seat.frames survey.now.frame).phase) }
     ensures refusal { IfErr result (λ e. e ≡ NoMemory) }
     ensures same { drive.new ≡ drive.old }
 {

@@ -7,7 +7,7 @@ ghost use Rattle.segment_table.specs.Table.{held_at};
 ghost use Rattle.segment_copier.specs.Moves.{is_data};
 
 use block_log::BlockKind;
-use codec::Part;
+use codec::BlockRole;
 use drive::Drive;
 use s4_types::{Ptr, Refusal};
 use segment_table::OverFrames;
@@ -15,10 +15,10 @@ use segment_word::Naming;
 use std::alloc::Global;
 
 /// Whether a part is that of a data block.
-fn is_of_data(part: &Part) -> bool
-    ensures { result ≡ same_kind Data part.now.kind }
+fn is_of_data(role: &BlockRole) -> bool
+    ensures { result ≡ same_kind Data role.now.kind }
 {
-    matches!(part.kind, BlockKind::Data)
+    matches!(role.kind, BlockKind::Data)
 }
 
 /// Whether a pointer leads to a held data block.
@@ -26,8 +26,8 @@ fn leads_to_data<J: Naming>(drive: &mut Drive<J>, place: Ptr) -> bool
     ensures found { result ≡ is_data (held_at drive.old.store.table place) }
     ensures same { drive.new ≡ drive.old }
 {
-    match drive.part(place) {
-        Some(part) => is_of_data(&part),
+    match drive.role(place) {
+        Some(role) => is_of_data(&role),
         None => false,
     }
 }

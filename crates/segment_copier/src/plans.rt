@@ -147,7 +147,7 @@ pub fn plan_move<J: Naming>(
 ) -> Result<MovePlan<J>, Refusal>
     ensures told { MatchResult result (λ plan. IsMoveOf drive.old frame object plan.what) (IsUnplanned drive.old object) }
     ensures places { IfOk result (λ plan. plan.places ≡ data_in drive.old.store.table object frame) }
-    ensures pinned { IfOk result (λ plan. CountsOnFrame J.frames drive.old.store.table.drive.frames frame plan.what.is_empty plan.pin) }
+    ensures pinned { IfOk result (λ plan. CountsOnFrame J.frames drive.old.store.table.seat.frames frame plan.what.is_empty plan.pin) }
     ensures session { session.new ≡ session.old }
     ensures same { drive.new ≡ drive.old }
 {

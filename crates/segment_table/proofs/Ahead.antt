@@ -4,7 +4,7 @@ use Rattle.std.specs.List.{flat_map}
 use Rattle.std.proofs.lemmas.List.{get_or-set_same, reverse-reverse, reverse-append, length-reverse}
 use Rattle.std.proofs.lemmas.Bool.{and_parts, ltb-true}
 use Rattle.s4_types.specs.Pointer.{Place}
-use Rattle.segment_word.specs.Frames.{Phase, Free, Open, Sealed, Emptied, Frame, is_free, is_open}
+use Rattle.segment_word.specs.Frames.{Phase, Free, Open, Sealed, Draining, Frame, is_free, is_open}
 use Rattle.segment_word.specs.Layout.{frame_at}
 use Rattle.segment_word.specs.Handles.{Drive}
 use Rattle.segment_table.specs.declared.slots.Slot.{Slot}
@@ -18,13 +18,13 @@ pub open_phase : (p : Phase) → is_open p ≡ true → p ≡ Open
 open_phase Free e = absurd (cc)
 open_phase Open e = refl
 open_phase Sealed e = absurd (cc)
-open_phase Emptied e = absurd (cc)
+open_phase Draining e = absurd (cc)
 
 free_phase : (p : Phase) → is_free p ≡ true → p ≡ Free
 free_phase Free e = refl
 free_phase Open e = absurd (cc)
 free_phase Sealed e = absurd (cc)
-free_phase Emptied e = absurd (cc)
+free_phase Draining e = absurd (cc)
 
 pub record CanOpen (frames : List Frame) (f : ℕ) : Type 0 where
   pub inside : f < length frames
@@ -42,13 +42,13 @@ vacant_first frames f rest e =
     record { inside = here.0; free = free_phase (frame_at frames f).phase parts.0; goes_on = ltb-true _ _ parts.1 }
 
 -- the open frame
-pub filling_at : (t : Table) (f : ℕ) → IsFilling f t → (f < length t.drive.frames) × ((frame_at t.drive.frames f).phase ≡ Open)
+pub filling_at : (t : Table) (f : ℕ) → IsFilling f t → (f < length t.seat.frames) × ((frame_at t.seat.frames f).phase ≡ Open)
 filling_at t f e =
-    let found = numbers_first is_filling 0 f t.drive.frames [] e in
+    let found = numbers_first is_filling 0 f t.seat.frames [] e in
     let at : found.0 ≡ f = let is : f ≡ 0 + found.0 = found.1 in omega arith in
-    let P : ℕ → Type 0 = λ n. (n < length t.drive.frames) × (is_open (frame_at t.drive.frames n).phase ≡ true) in
+    let P : ℕ → Type 0 = λ n. (n < length t.seat.frames) × (is_open (frame_at t.seat.frames n).phase ≡ true) in
     let here : P f = subst P at (found.2, found.3) in
-    (here.0, open_phase (frame_at t.drive.frames f).phase here.1)
+    (here.0, open_phase (frame_at t.seat.frames f).phase here.1)
 
 -- a frame that is neither free before nor after
 pub vacant_same : (old new : Drive) (f : ℕ) → IsAlone f old new → is_free (frame_at old.frames f).phase ≡ false → is_free (frame_at new.frames f).phase ≡ false → numbers can_open 0 new.frames ≡ numbers can_open 0 old.frames
@@ -57,9 +57,9 @@ vacant_same old new f a before after =
     (ap (λ (x : Bool). x && nat_lt ((frame_at new.frames f).generation + 1) (2 ^ 32)) after
     ∙ sym (ap (λ (x : Bool). x && nat_lt ((frame_at old.frames f).generation + 1) (2 ^ 32)) before))
 
-wholes_same : (old new : Table) (f : ℕ) (l : List ℕ) → IsAlone f old.drive new.drive → KeepsGeneration f old.drive new.drive → flat_map (whole_of new) l ≡ flat_map (whole_of old) l
+wholes_same : (old new : Table) (f : ℕ) (l : List ℕ) → IsAlone f old.seat new.seat → KeepsGeneration f old.seat new.seat → flat_map (whole_of new) l ≡ flat_map (whole_of old) l
 wholes_same old new f l a k =
-    λ i. flat_map (λ (g : ℕ). places g (generation_alone old.drive new.drive f g a k i) 1 15) l
+    λ i. flat_map (λ (g : ℕ). places g (generation_alone old.seat new.seat f g a k i) 1 15) l
 
 places_cons : (f g b n : ℕ) → 0 < n → places f g b n ≡ (record { frame = f; block = b; generation = g }) ∷ places f g (b + 1) (n - 1)
 unfolding places
@@ -76,27 +76,27 @@ unfolding places
 places_none f g b = refl
 
 -- the places ahead where frame f is open, and where none is
-ahead_filling : (t : Table) (f : ℕ) → IsFilling f t → places_ahead t ≡ rest_of t f ++ flat_map (whole_of t) (numbers can_open 0 t.drive.frames)
+ahead_filling : (t : Table) (f : ℕ) → IsFilling f t → places_ahead t ≡ rest_of t f ++ flat_map (whole_of t) (numbers can_open 0 t.seat.frames)
 ahead_filling t f e =
-    ap (λ (l : List ℕ). flat_map (rest_of t) l ++ flat_map (whole_of t) (numbers can_open 0 t.drive.frames)) e
-    ∙ ap (λ (l : List Place). l ++ flat_map (whole_of t) (numbers can_open 0 t.drive.frames)) (append-nil (rest_of t f))
+    ap (λ (l : List ℕ). flat_map (rest_of t) l ++ flat_map (whole_of t) (numbers can_open 0 t.seat.frames)) e
+    ∙ ap (λ (l : List Place). l ++ flat_map (whole_of t) (numbers can_open 0 t.seat.frames)) (append-nil (rest_of t f))
 
-ahead_none : (t : Table) → NoneIsFilling t → places_ahead t ≡ flat_map (whole_of t) (numbers can_open 0 t.drive.frames)
-ahead_none t e = ap (λ (l : List ℕ). flat_map (rest_of t) l ++ flat_map (whole_of t) (numbers can_open 0 t.drive.frames)) e
+ahead_none : (t : Table) → NoneIsFilling t → places_ahead t ≡ flat_map (whole_of t) (numbers can_open 0 t.seat.frames)
+ahead_none t e = ap (λ (l : List ℕ). flat_map (rest_of t) l ++ flat_map (whole_of t) (numbers can_open 0 t.seat.frames)) e
 
 open_not_free : (p : Phase) → p ≡ Open → is_free p ≡ false
 open_not_free p e = ap is_free e
 
 -- a block that is put takes the first place ahead
 pub ahead_put : (old new : Table) (f : ℕ) (slot : Slot) (block : List ℕ) → IsFilling f old → IsFilling f new → f < length old.slots → length (slots_at old.slots f) < 15 → IsPut f slot block old new
-    → places_ahead old ≡ (record { frame = f; block = length (slots_at old.slots f) + 1; generation = (frame_at old.drive.frames f).generation }) ∷ places_ahead new
+    → places_ahead old ≡ (record { frame = f; block = length (slots_at old.slots f) + 1; generation = (frame_at old.seat.frames f).generation }) ∷ places_ahead new
 ahead_put old new f slot block before after inside room put =
     let used : ℕ = length (slots_at old.slots f) in
-    let g : ℕ = (frame_at old.drive.frames f).generation in
-    let g' : ℕ = (frame_at new.drive.frames f).generation in
+    let g : ℕ = (frame_at old.seat.frames f).generation in
+    let g' : ℕ = (frame_at new.seat.frames f).generation in
     let p : Place = record { frame = f; block = used + 1; generation = g } in
-    let opens : List ℕ = numbers can_open 0 old.drive.frames in
-    let phase : (frame_at old.drive.frames f).phase ≡ Open = (filling_at old f before).1 in
+    let opens : List ℕ = numbers can_open 0 old.seat.frames in
+    let phase : (frame_at old.seat.frames f).phase ≡ Open = (filling_at old f before).1 in
     let here : slots_at new.slots f ≡ slots_at old.slots f ++ slot ∷ [] = ap (λ (l : List (List Slot)). slots_at l f) put.slots ∙ get_or-set_same old.slots f (slots_at old.slots f ++ slot ∷ []) [] inside in
     let more : length (slots_at new.slots f) ≡ used + 1 = ap length here ∙ length-append (slots_at old.slots f) (slot ∷ []) in
     let rest : rest_of old f ≡ p ∷ rest_of new f =
@@ -109,64 +109,64 @@ ahead_put old new f slot block before after inside room put =
     ∙ ap (λ (l : List Place). l ++ flat_map (whole_of old) opens) rest
     ∙ ap (λ (l : List Place). p ∷ (rest_of new f ++ l))
     (sym (wholes_same old new f opens put.alone put.generation)
-    ∙ ap (λ (l : List ℕ). flat_map (whole_of new) l) (sym (vacant_same old.drive new.drive f put.alone (open_not_free _ phase) (open_not_free _ (put.phase ∙ phase)))))
+    ∙ ap (λ (l : List ℕ). flat_map (whole_of new) l) (sym (vacant_same old.seat new.seat f put.alone (open_not_free _ phase) (open_not_free _ (put.phase ∙ phase)))))
     ∙ ap (λ (l : List Place). p ∷ l) (sym (ahead_filling new f after))
 
 -- a frame that is sealed takes its rest with it
-pub ahead_sealed : (old new : Table) (f : ℕ) → IsFilling f old → NoneIsFilling new → IsAlone f old.drive new.drive → KeepsGeneration f old.drive new.drive → (frame_at new.drive.frames f).phase ≡ Sealed
+pub ahead_sealed : (old new : Table) (f : ℕ) → IsFilling f old → NoneIsFilling new → IsAlone f old.seat new.seat → KeepsGeneration f old.seat new.seat → (frame_at new.seat.frames f).phase ≡ Sealed
     → rest_of old f ++ places_ahead new ≡ places_ahead old
 ahead_sealed old new f before after a k phase =
-    let opens : List ℕ = numbers can_open 0 old.drive.frames in
+    let opens : List ℕ = numbers can_open 0 old.seat.frames in
     ap (λ (l : List Place). rest_of old f ++ l)
     (ahead_none new after
-    ∙ ap (λ (l : List ℕ). flat_map (whole_of new) l) (vacant_same old.drive new.drive f a (open_not_free _ (filling_at old f before).1) (ap is_free phase))
+    ∙ ap (λ (l : List ℕ). flat_map (whole_of new) l) (vacant_same old.seat new.seat f a (open_not_free _ (filling_at old f before).1) (ap is_free phase))
     ∙ wholes_same old new f opens a k)
     ∙ sym (ahead_filling old f before)
 
 -- a frame that is opened stays the next one
-pub ahead_opened : (old new : Table) (f : ℕ) (rest : List ℕ) → NoneIsFilling old → numbers can_open 0 old.drive.frames ≡ f ∷ rest → IsFilling f new → numbers can_open 0 new.drive.frames ≡ rest
-    → IsAlone f old.drive new.drive → KeepsGeneration f old.drive new.drive → new.slots ≡ old.slots → slots_at old.slots f ≡ [] → places_ahead new ≡ places_ahead old
+pub ahead_opened : (old new : Table) (f : ℕ) (rest : List ℕ) → NoneIsFilling old → numbers can_open 0 old.seat.frames ≡ f ∷ rest → IsFilling f new → numbers can_open 0 new.seat.frames ≡ rest
+    → IsAlone f old.seat new.seat → KeepsGeneration f old.seat new.seat → new.slots ≡ old.slots → slots_at old.slots f ≡ [] → places_ahead new ≡ places_ahead old
 ahead_opened old new f rest before first after others a k slots none =
-    let g : ℕ = (frame_at old.drive.frames f).generation in
+    let g : ℕ = (frame_at old.seat.frames f).generation in
     ahead_filling new f after
     ∙ ap (λ (l : List ℕ). rest_of new f ++ flat_map (whole_of new) l) others
-    ∙ ap (λ (l : List (List Slot)). places f (frame_at new.drive.frames f).generation (length (slots_at l f) + 1) (15 - length (slots_at l f)) ++ flat_map (whole_of new) rest) slots
-    ∙ ap (λ (l : List Slot). places f (frame_at new.drive.frames f).generation (length l + 1) (15 - length l) ++ flat_map (whole_of new) rest) none
+    ∙ ap (λ (l : List (List Slot)). places f (frame_at new.seat.frames f).generation (length (slots_at l f) + 1) (15 - length (slots_at l f)) ++ flat_map (whole_of new) rest) slots
+    ∙ ap (λ (l : List Slot). places f (frame_at new.seat.frames f).generation (length l + 1) (15 - length l) ++ flat_map (whole_of new) rest) none
     ∙ ap (λ (n : ℕ). places f n 1 15 ++ flat_map (whole_of new) rest) k
     ∙ ap (λ (l : List Place). places f g 1 15 ++ l) (wholes_same old new f rest a k)
     ∙ sym (ahead_none old before ∙ ap (λ (l : List ℕ). flat_map (whole_of old) l) first)
 
 -- only how many blocks are used counts
-rests_same : (old new : Table) (l : List ℕ) → new.drive ≡ old.drive → ((f : ℕ) → length (slots_at new.slots f) ≡ length (slots_at old.slots f)) → flat_map (rest_of new) l ≡ flat_map (rest_of old) l
+rests_same : (old new : Table) (l : List ℕ) → new.seat ≡ old.seat → ((f : ℕ) → length (slots_at new.slots f) ≡ length (slots_at old.slots f)) → flat_map (rest_of new) l ≡ flat_map (rest_of old) l
 rests_same old new l drive used =
     ap (λ (d : Drive). flat_map (λ (f : ℕ). places f (frame_at d.frames f).generation (length (slots_at new.slots f) + 1) (15 - length (slots_at new.slots f))) l) drive
-    ∙ (λ i. flat_map (λ (f : ℕ). places f (frame_at old.drive.frames f).generation (used f i + 1) (15 - used f i)) l)
+    ∙ (λ i. flat_map (λ (f : ℕ). places f (frame_at old.seat.frames f).generation (used f i + 1) (15 - used f i)) l)
 
-pub ahead_same : (old new : Table) → new.drive ≡ old.drive → ((f : ℕ) → length (slots_at new.slots f) ≡ length (slots_at old.slots f)) → places_ahead new ≡ places_ahead old
+pub ahead_same : (old new : Table) → new.seat ≡ old.seat → ((f : ℕ) → length (slots_at new.slots f) ≡ length (slots_at old.slots f)) → places_ahead new ≡ places_ahead old
 ahead_same old new drive used =
     ap (λ (d : Drive). flat_map (rest_of new) (numbers is_filling 0 d.frames) ++ flat_map (λ (f : ℕ). places f (frame_at d.frames f).generation 1 15) (numbers can_open 0 d.frames)) drive
-    ∙ ap (λ (l : List Place). l ++ flat_map (whole_of old) (numbers can_open 0 old.drive.frames)) (rests_same old new (numbers is_filling 0 old.drive.frames) drive used)
+    ∙ ap (λ (l : List Place). l ++ flat_map (whole_of old) (numbers can_open 0 old.seat.frames)) (rests_same old new (numbers is_filling 0 old.seat.frames) drive used)
 
 length_wholes : (t : Table) (l : List ℕ) → length (flat_map (whole_of t) l) ≡ 15 * length l
 length_wholes t [] = refl
 length_wholes t (f ∷ l) =
     let more : length (flat_map (whole_of t) l) ≡ 15 * length l = length_wholes t l in
-    let one : length (whole_of t f) ≡ 15 = length-places f (frame_at t.drive.frames f).generation 1 15 in
+    let one : length (whole_of t f) ≡ 15 = length-places f (frame_at t.seat.frames f).generation 1 15 in
     let sum : length (whole_of t f ++ flat_map (whole_of t) l) ≡ length (whole_of t f) + length (flat_map (whole_of t) l) = length-append (whole_of t f) (flat_map (whole_of t) l) in
     omega arith
 
-pub left_filling : (t : Table) (f : ℕ) (vacant : List ℕ) → IsFilling f t → vacant ≡ reverse (numbers can_open 0 t.drive.frames) → length (places_ahead t) ≡ 15 * length vacant + (15 - length (slots_at t.slots f))
+pub left_filling : (t : Table) (f : ℕ) (vacant : List ℕ) → IsFilling f t → vacant ≡ reverse (numbers can_open 0 t.seat.frames) → length (places_ahead t) ≡ 15 * length vacant + (15 - length (slots_at t.slots f))
 left_filling t f vacant e free =
-    let opens : List ℕ = numbers can_open 0 t.drive.frames in
+    let opens : List ℕ = numbers can_open 0 t.seat.frames in
     let count : length vacant ≡ length opens = ap length free ∙ length-reverse opens in
-    let rest : length (rest_of t f) ≡ 15 - length (slots_at t.slots f) = length-places f (frame_at t.drive.frames f).generation (length (slots_at t.slots f) + 1) (15 - length (slots_at t.slots f)) in
+    let rest : length (rest_of t f) ≡ 15 - length (slots_at t.slots f) = length-places f (frame_at t.seat.frames f).generation (length (slots_at t.slots f) + 1) (15 - length (slots_at t.slots f)) in
     let whole : length (flat_map (whole_of t) opens) ≡ 15 * length opens = length_wholes t opens in
     let sum : length (places_ahead t) ≡ length (rest_of t f) + length (flat_map (whole_of t) opens) = ap length (ahead_filling t f e) ∙ length-append (rest_of t f) (flat_map (whole_of t) opens) in
     omega arith
 
-pub left_none : (t : Table) (vacant : List ℕ) → NoneIsFilling t → vacant ≡ reverse (numbers can_open 0 t.drive.frames) → length (places_ahead t) ≡ 15 * length vacant
+pub left_none : (t : Table) (vacant : List ℕ) → NoneIsFilling t → vacant ≡ reverse (numbers can_open 0 t.seat.frames) → length (places_ahead t) ≡ 15 * length vacant
 left_none t vacant e free =
-    let opens : List ℕ = numbers can_open 0 t.drive.frames in
+    let opens : List ℕ = numbers can_open 0 t.seat.frames in
     let count : length vacant ≡ length opens = ap length free ∙ length-reverse opens in
     let whole : length (flat_map (whole_of t) opens) ≡ 15 * length opens = length_wholes t opens in
     let sum : length (places_ahead t) ≡ length (flat_map (whole_of t) opens) = ap length (ahead_none t e) in
@@ -189,7 +189,7 @@ apart : (p : Phase) (b : Bool) → (is_open p && (is_free p && b)) ≡ false
 apart Free b = refl
 apart Open b = refl
 apart Sealed b = refl
-apart Emptied b = refl
+apart Draining b = refl
 
 one_of_two : (filling vacant : Bool) (xs ys : List ℕ) (n m : ℕ) → (filling && vacant) ≡ false → length xs + length ys ≤ m → length (if filling then n ∷ xs else xs) + length (if vacant then n ∷ ys else ys) ≤ suc m
 one_of_two true true xs ys n m h le = absurd (cc)

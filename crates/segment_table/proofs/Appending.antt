@@ -3,7 +3,7 @@ use Rattle.std.proofs.Common.{◌≡◌, inl, inr, ℕ, ◌+◌, ◌<◌, ◌≤
 use Rattle.std.proofs.lemmas.List.{get_or-set_same}
 use Rattle.std.proofs.lemmas.Bool.{cases_lt}
 use Rattle.s4_types.specs.Pointer.{Place}
-use Rattle.codec.specs.declared.summaries.Part.{Part}
+use Rattle.codec.specs.declared.summaries.BlockRole.{BlockRole}
 use Rattle.segment_word.specs.Frames.{Open, is_open}
 use Rattle.segment_word.specs.Layout.{frame_at, block_bytes}
 use Rattle.segment_table.specs.declared.slots.Slot.{Slot}
@@ -17,31 +17,31 @@ use Rattle.segment_table.proofs.Ahead.{filling_at}
 
 -- a table without an open frame has none that is part-filled
 pub part_none : (t : Table) → NoneIsFilling t → IsPartFilled t
-part_none t none f inside phase = absurd (numbers_none is_filling 0 f t.drive.frames none inside (ap is_open phase))
+part_none t none f inside phase = absurd (numbers_none is_filling 0 f t.seat.frames none inside (ap is_open phase))
 
 pub part_one : (t : Table) (f : ℕ) → IsFilling f t → 1 ≤ length (slots_at t.slots f) → length (slots_at t.slots f) < 15 → IsPartFilled t
 part_one t f filling some room g inside phase =
-    let same : f ≡ g = numbers_one is_filling 0 f g t.drive.frames filling inside (ap is_open phase) ∙ omega arith in
+    let same : f ≡ g = numbers_one is_filling 0 f g t.seat.frames filling inside (ap is_open phase) ∙ omega arith in
     let P : ℕ → Type 0 = λ n. (1 ≤ length (slots_at t.slots n)) × (length (slots_at t.slots n) < 15) in
     subst P same (some, room)
 
 -- the block at the place that was taken, and those before it, once it was put
-record IsTaken (f n : ℕ) (part : Part) (block : List ℕ) (old new : Table) : Type 0 where
-  alone : IsAlone f old.drive new.drive
-  generation : KeepsGeneration f old.drive new.drive
+record IsTaken (f n : ℕ) (role : BlockRole) (block : List ℕ) (old new : Table) : Type 0 where
+  alone : IsAlone f old.seat new.seat
+  generation : KeepsGeneration f old.seat new.seat
   count : n ≡ length (slots_at old.slots f) + 1
-  bytes : block_bytes (frame_at new.drive.frames f).contents n ≡ block
-  others : (b : ℕ) → 1 ≤ b → b < n → KeepsBlock f b old.drive new.drive
-  slots : new.slots ≡ with_slot old.slots f (record { part = part; held = true })
+  bytes : block_bytes (frame_at new.seat.frames f).contents n ≡ block
+  others : (b : ℕ) → 1 ≤ b → b < n → KeepsBlock f b old.seat new.seat
+  slots : new.slots ≡ with_slot old.slots f (record { role = role; held = true })
   many : length (slots_at new.slots f) ≡ n
-  phase : (frame_at new.drive.frames f).phase ≡ Open
+  phase : (frame_at new.seat.frames f).phase ≡ Open
 
-taken : (old ready put : Table) (f : ℕ) (part : Part) (block : List ℕ) → IsReadyFrame f old ready → IsPut f (record { part = part; held = true }) block ready put → IsTaken f (length (slots_at ready.slots f) + 1) part block old put
-taken old ready put f part block r h =
-    let slot : Slot = record { part = part; held = true } in
+taken : (old ready put : Table) (f : ℕ) (role : BlockRole) (block : List ℕ) → IsReadyFrame f old ready → IsPut f (record { role = role; held = true }) block ready put → IsTaken f (length (slots_at ready.slots f) + 1) role block old put
+taken old ready put f role block r h =
+    let slot : Slot = record { role = role; held = true } in
     let s : List Slot = slots_at ready.slots f in
     record {
-      alone = alone_then old.drive ready.drive put.drive f r.alone h.alone;
+      alone = alone_then old.seat ready.seat put.seat f r.alone h.alone;
       generation = h.generation ∙ r.generation;
       count = ap (λ (l : List (List Slot)). length (slots_at l f) + 1) r.slots;
       bytes = h.bytes;
@@ -51,8 +51,8 @@ taken old ready put f part block r h =
       phase = h.phase ∙ (filling_at ready f r.filling).1;
     }
 
-appended_open : (old new : Table) (p : Place) (part : Part) (block : List ℕ) → p.block < 15 → IsTaken p.frame p.block part block old new → IsAppended p part block old new
-appended_open old new p part block room t = record {
+appended_open : (old new : Table) (p : Place) (role : BlockRole) (block : List ℕ) → p.block < 15 → IsTaken p.frame p.block role block old new → IsAppended p role block old new
+appended_open old new p role block room t = record {
   alone = t.alone;
   generation = t.generation;
   place = t.count;
@@ -64,12 +64,12 @@ appended_open old new p part block room t = record {
   summed = λ e. absurd (omega arith);
 }
 
-appended_full : (old put new : Table) (p : Place) (part : Part) (block : List ℕ) → p.block ≡ 15 → IsTaken p.frame p.block part block old put → IsSealedIn p.frame put new → IsAppended p part block old new
-appended_full old put new p part block full t s =
-    let S : List (List Slot) → Type 0 = λ l. IsSummed p.frame (frame_at new.drive.frames p.frame) (slots_at l p.frame) in
+appended_full : (old put new : Table) (p : Place) (role : BlockRole) (block : List ℕ) → p.block ≡ 15 → IsTaken p.frame p.block role block old put → IsSealedIn p.frame put new → IsAppended p role block old new
+appended_full old put new p role block full t s =
+    let S : List (List Slot) → Type 0 = λ l. IsSummed p.frame (frame_at new.seat.frames p.frame) (slots_at l p.frame) in
     let high : p.block ≤ length (slots_at put.slots p.frame) = let e : length (slots_at put.slots p.frame) ≡ p.block = t.many in omega arith in
     record {
-      alone = alone_then old.drive put.drive new.drive p.frame t.alone s.0.alone;
+      alone = alone_then old.seat put.seat new.seat p.frame t.alone s.0.alone;
       generation = s.0.generation ∙ t.generation;
       place = t.count;
       bytes = s.0.used p.block (omega arith) high ∙ t.bytes;
@@ -81,22 +81,22 @@ appended_full old put new p part block full t s =
     }
 
 -- what an append makes of a table
-pub append_made : (old ready put new : Table) (f : ℕ) (part : Part) (block : List ℕ) (p : Place) → IsReadyFrame f old ready → IsPut f (record { part = part; held = true }) block ready put → IsFilling f put
-    → p ≡ record { frame = f; block = length (slots_at ready.slots f) + 1; generation = (frame_at ready.drive.frames f).generation }
+pub append_made : (old ready put new : Table) (f : ℕ) (role : BlockRole) (block : List ℕ) (p : Place) → IsReadyFrame f old ready → IsPut f (record { role = role; held = true }) block ready put → IsFilling f put
+    → p ≡ record { frame = f; block = length (slots_at ready.slots f) + 1; generation = (frame_at ready.seat.frames f).generation }
     → (length (slots_at put.slots f) < 15 → new ≡ put)
     → (length (slots_at put.slots f) ≡ 15 → IsSealedIn f put new × NoneIsFilling new)
-    → IsAppended p part block old new × IsPartFilled new
-append_made old ready put new f part block p r h filling at room full =
-    let q : Place = record { frame = f; block = length (slots_at ready.slots f) + 1; generation = (frame_at ready.drive.frames f).generation } in
-    let A : Place → Type 0 = λ x. IsAppended x part block old new in
-    let t : IsTaken f q.block part block old put = taken old ready put f part block r h in
+    → IsAppended p role block old new × IsPartFilled new
+append_made old ready put new f role block p r h filling at room full =
+    let q : Place = record { frame = f; block = length (slots_at ready.slots f) + 1; generation = (frame_at ready.seat.frames f).generation } in
+    let A : Place → Type 0 = λ x. IsAppended x role block old new in
+    let t : IsTaken f q.block role block old put = taken old ready put f role block r h in
     let many : length (slots_at put.slots f) ≡ q.block = t.many in
     elim (cases_lt (length (slots_at put.slots f)) 15) [
-      | inl low ↦ (let T : Table → Type 0 = λ x. IsAppended q part block old x × IsPartFilled x in
-          let made = subst T (sym (room low)) (appended_open old put q part block (omega arith) t, part_one put f filling (omega arith) low) in
+      | inl low ↦ (let T : Table → Type 0 = λ x. IsAppended q role block old x × IsPartFilled x in
+          let made = subst T (sym (room low)) (appended_open old put q role block (omega arith) t, part_one put f filling (omega arith) low) in
           (subst A (sym at) made.0, made.1))
       | inr high ↦ (let before : length (slots_at ready.slots f) < 15 = r.room in
           let last : length (slots_at put.slots f) ≡ 15 = omega arith in
           let sealed = full last in
-          (subst A (sym at) (appended_full old put new q part block (omega arith) t sealed.0), part_none new sealed.1))
+          (subst A (sym at) (appended_full old put new q role block (omega arith) t sealed.0), part_none new sealed.1))
     ]

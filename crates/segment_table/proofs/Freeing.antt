@@ -5,7 +5,7 @@ use Rattle.std.specs.List.{AllByRecursion, flat_map}
 use Rattle.std.proofs.lemmas.List.{get_or-set_same, get_or-set_other, length-set, length-reverse}
 use Rattle.std.proofs.lemmas.Bool.{cases_eq, lt-ltb, le-ltb}
 use Rattle.s4_types.specs.Pointer.{Place}
-use Rattle.segment_word.specs.Frames.{Free, Open, Emptied, Frame, no_frame, code_of, is_free, is_open}
+use Rattle.segment_word.specs.Frames.{Free, Open, Draining, Frame, no_frame, code_of, is_free, is_open}
 use Rattle.segment_word.specs.Layout.{frame_at}
 use Rattle.segment_word.specs.Steps.{released}
 use Rattle.segment_word.specs.Handles.{Drive, with_changed, with_released}
@@ -23,7 +23,7 @@ use Rattle.segment_table.proofs.Spending.{spent_again}
 use Rattle.segment_table.proofs.Emptying.{none_held_at, same_sound, marked_here}
 
 -- a frame that is being emptied takes no append, open or free
-not_open : (frames : List Frame) (f : ℕ) → (frame_at frames f).phase ≡ Emptied → can_open (frame_at frames f) ≡ false
+not_open : (frames : List Frame) (f : ℕ) → (frame_at frames f).phase ≡ Draining → can_open (frame_at frames f) ≡ false
 not_open frames f e = ap (λ (b : Bool). b && nat_lt ((frame_at frames f).generation + 1) (2 ^ 32)) (ap is_free e)
 
 again_open : (k : Frame) → k.generation + 2 < 2 ^ 32 → can_open (released k) ≡ true
@@ -32,69 +32,69 @@ again_open k h = lt-ltb (k.generation + 1 + 1) (2 ^ 32) (omega arith)
 retired_closed : (k : Frame) → 2 ^ 32 ≤ k.generation + 2 → can_open (released k) ≡ false
 retired_closed k h = le-ltb (k.generation + 1 + 1) (2 ^ 32) (omega arith)
 
-pub frames_are : (old new : Table) (f : ℕ) → IsReleased f old new → new.drive.frames ≡ set old.drive.frames f (released (frame_at old.drive.frames f))
-frames_are old new f r = ap (λ (d : Drive). d.frames) r.drive
+pub frames_are : (old new : Table) (f : ℕ) → IsReleased f old new → new.seat.frames ≡ set old.seat.frames f (released (frame_at old.seat.frames f))
+frames_are old new f r = ap (λ (d : Drive). d.frames) r.seat
 
-frame_else : (old new : Table) (f g : ℕ) → IsReleased f old new → g ≢ f → frame_at new.drive.frames g ≡ frame_at old.drive.frames g
-frame_else old new f g r ne = ap (λ (l : List Frame). frame_at l g) (frames_are old new f r) ∙ get_or-set_other old.drive.frames f g (released (frame_at old.drive.frames f)) no_frame ne
+frame_else : (old new : Table) (f g : ℕ) → IsReleased f old new → g ≢ f → frame_at new.seat.frames g ≡ frame_at old.seat.frames g
+frame_else old new f g r ne = ap (λ (l : List Frame). frame_at l g) (frames_are old new f r) ∙ get_or-set_other old.seat.frames f g (released (frame_at old.seat.frames f)) no_frame ne
 
 slots_else : (old new : Table) (f g : ℕ) → IsReleased f old new → g ≢ f → slots_at new.slots g ≡ slots_at old.slots g
 slots_else old new f g r ne = ap (λ (l : List (List Slot)). slots_at l g) r.slots ∙ get_or-set_other old.slots f g [] [] ne
 
 -- the numbers of the frames that can be opened, where this one may be again and where it is retired
-pub vacant_again : (old new : Table) (f : ℕ) → IsReleased f old new → (frame_at old.drive.frames f).generation + 2 < 2 ^ 32 → Joins can_open f old.drive.frames (released (frame_at old.drive.frames f))
-vacant_again old new f r h = joins can_open f old.drive.frames (released (frame_at old.drive.frames f)) r.inside (not_open old.drive.frames f r.emptied) (again_open (frame_at old.drive.frames f) h)
+pub vacant_again : (old new : Table) (f : ℕ) → IsReleased f old new → (frame_at old.seat.frames f).generation + 2 < 2 ^ 32 → Joins can_open f old.seat.frames (released (frame_at old.seat.frames f))
+vacant_again old new f r h = joins can_open f old.seat.frames (released (frame_at old.seat.frames f)) r.inside (not_open old.seat.frames f r.draining) (again_open (frame_at old.seat.frames f) h)
 
-pub vacant_kept : (old new : Table) (f : ℕ) → IsReleased f old new → 2 ^ 32 ≤ (frame_at old.drive.frames f).generation + 2 → numbers can_open 0 (set old.drive.frames f (released (frame_at old.drive.frames f))) ≡ numbers can_open 0 old.drive.frames
+pub vacant_kept : (old new : Table) (f : ℕ) → IsReleased f old new → 2 ^ 32 ≤ (frame_at old.seat.frames f).generation + 2 → numbers can_open 0 (set old.seat.frames f (released (frame_at old.seat.frames f))) ≡ numbers can_open 0 old.seat.frames
 vacant_kept old new f r h =
-    numbers_same can_open 0 f old.drive.frames (released (frame_at old.drive.frames f)) (retired_closed (frame_at old.drive.frames f) h ∙ sym (not_open old.drive.frames f r.emptied))
+    numbers_same can_open 0 f old.seat.frames (released (frame_at old.seat.frames f)) (retired_closed (frame_at old.seat.frames f) h ∙ sym (not_open old.seat.frames f r.draining))
 
 -- the list of the frames that can be opened is as it is to be
-pub list_again : (old new : Table) (free free' : List ℕ) (current : Option ℕ) (f : ℕ) → IsSoundTable old free current → IsReleased f old new → (frame_at old.drive.frames f).generation + 2 < 2 ^ 32
+pub list_again : (old new : Table) (free free' : List ℕ) (current : Option ℕ) (f : ℕ) → IsSoundTable old free current → IsReleased f old new → (frame_at old.seat.frames f).generation + 2 < 2 ^ 32
     → IsPutBetween f free free'
-    → free' ≡ reverse (numbers can_open 0 (set old.drive.frames f (released (frame_at old.drive.frames f))))
+    → free' ≡ reverse (numbers can_open 0 (set old.seat.frames f (released (frame_at old.seat.frames f))))
 list_again old new free free' current f sound r h put =
-    let j : Joins can_open f old.drive.frames (released (frame_at old.drive.frames f)) = vacant_again old new f r h in
+    let j : Joins can_open f old.seat.frames (released (frame_at old.seat.frames f)) = vacant_again old new f r h in
     put_back_is free free' j.lower j.higher f (sound.vacant ∙ ap reverse j.was) j.below j.above put ∙ ap reverse (sym j.now)
 
-pub list_kept : (old new : Table) (free : List ℕ) (current : Option ℕ) (f : ℕ) → IsSoundTable old free current → IsReleased f old new → 2 ^ 32 ≤ (frame_at old.drive.frames f).generation + 2
-    → free ≡ reverse (numbers can_open 0 (set old.drive.frames f (released (frame_at old.drive.frames f))))
+pub list_kept : (old new : Table) (free : List ℕ) (current : Option ℕ) (f : ℕ) → IsSoundTable old free current → IsReleased f old new → 2 ^ 32 ≤ (frame_at old.seat.frames f).generation + 2
+    → free ≡ reverse (numbers can_open 0 (set old.seat.frames f (released (frame_at old.seat.frames f))))
 list_kept old new free current f sound r h = sound.vacant ∙ ap reverse (sym (vacant_kept old new f r h))
 
 -- so there is room for one more
-pub list_short : (old new : Table) (free : List ℕ) (current : Option ℕ) (f : ℕ) → IsSoundTable old free current → IsReleased f old new → length free < length old.drive.frames
+pub list_short : (old new : Table) (free : List ℕ) (current : Option ℕ) (f : ℕ) → IsSoundTable old free current → IsReleased f old new → length free < length old.seat.frames
 list_short old new free current f sound r =
-    let few : length (numbers can_open 0 old.drive.frames) < length old.drive.frames = numbers_fewer can_open 0 f old.drive.frames r.inside (not_open old.drive.frames f r.emptied) in
-    let count : length free ≡ length (numbers can_open 0 old.drive.frames) = ap length sound.vacant ∙ length-reverse (numbers can_open 0 old.drive.frames) in
+    let few : length (numbers can_open 0 old.seat.frames) < length old.seat.frames = numbers_fewer can_open 0 f old.seat.frames r.inside (not_open old.seat.frames f r.draining) in
+    let count : length free ≡ length (numbers can_open 0 old.seat.frames) = ap length sound.vacant ∙ length-reverse (numbers can_open 0 old.seat.frames) in
     omega arith
 
-pub released_generation : (old new : Table) (f : ℕ) → IsReleased f old new → (frame_at new.drive.frames f).generation ≡ (frame_at old.drive.frames f).generation + 1
+pub released_generation : (old new : Table) (f : ℕ) → IsReleased f old new → (frame_at new.seat.frames f).generation ≡ (frame_at old.seat.frames f).generation + 1
 released_generation old new f r =
-    let k : Frame = released (frame_at old.drive.frames f) in
-    ap (λ (l : List Frame). (frame_at l f).generation) (frames_are old new f r) ∙ ap (λ (x : Frame). x.generation) (get_or-set_same old.drive.frames f k no_frame r.inside)
+    let k : Frame = released (frame_at old.seat.frames f) in
+    ap (λ (l : List Frame). (frame_at l f).generation) (frames_are old new f r) ∙ ap (λ (x : Frame). x.generation) (get_or-set_same old.seat.frames f k no_frame r.inside)
 
 pub release_is : (old : Table) (free : List ℕ) (current : Option ℕ) (f : ℕ) (freed drive : Drive) (slots : List Slot) → IsSoundTable old free current → f < length old.slots
-    → (frame_at old.drive.frames f).phase ≡ Emptied → freed ≡ with_released old.drive f → (frame_at old.drive.frames f).generation + 1 < 2 ^ 32 → drive ≡ freed → slots ≡ []
-    → IsReleased f old (record { drive = drive; slots = set old.slots f slots })
-release_is old free current f freed drive slots sound within emptied is more same none = record {
+    → (frame_at old.seat.frames f).phase ≡ Draining → freed ≡ with_released old.seat f → (frame_at old.seat.frames f).generation + 1 < 2 ^ 32 → drive ≡ freed → slots ≡ []
+    → IsReleased f old (record { seat = drive; slots = set old.slots f slots })
+release_is old free current f freed drive slots sound within draining is more same none = record {
   inside = omega (arith, sound.counted);
-  emptied = emptied;
+  draining = draining;
   goes_on = more;
-  drive = same ∙ is;
+  seat = same ∙ is;
   slots = ap (λ (s : List Slot). set old.slots f s) none;
 }
 
 pub sound_released : (old new : Table) (free free' : List ℕ) (current : Option ℕ) (f : ℕ) → IsSoundTable old free current → IsReleased f old new
-    → free' ≡ reverse (numbers can_open 0 (set old.drive.frames f (released (frame_at old.drive.frames f)))) → IsSoundTable new free' current
+    → free' ≡ reverse (numbers can_open 0 (set old.seat.frames f (released (frame_at old.seat.frames f)))) → IsSoundTable new free' current
 sound_released old new free free' current f sound r vacant =
-    let k : Frame = released (frame_at old.drive.frames f) in
-    let d : Drive = with_changed old.drive f k in
-    let mid : Table = record { drive = d; slots = new.slots } in
-    let a : IsAlone f old.drive d = alone old.drive d f k r.inside refl in
-    let is : frame_at d.frames f ≡ k = put_here old.drive f k r.inside in
+    let k : Frame = released (frame_at old.seat.frames f) in
+    let d : Drive = with_changed old.seat f k in
+    let mid : Table = record { seat = d; slots = new.slots } in
+    let a : IsAlone f old.seat d = alone old.seat d f k r.inside refl in
+    let is : frame_at d.frames f ≡ k = put_here old.seat f k r.inside in
     let phase : (frame_at d.frames f).phase ≡ Free = ap (λ (x : Frame). x.phase) is in
-    let more : (frame_at old.drive.frames f).generation + 1 < 2 ^ 32 = r.goes_on in
-    let next : (frame_at d.frames f).generation ≡ (frame_at old.drive.frames f).generation + 1 = ap (λ (x : Frame). x.generation) is in
+    let more : (frame_at old.seat.frames f).generation + 1 < 2 ^ 32 = r.goes_on in
+    let next : (frame_at d.frames f).generation ≡ (frame_at old.seat.frames f).generation + 1 = ap (λ (x : Frame). x.generation) is in
     let fit : IsFit f (frame_at d.frames f) [] = record {
       lives = (omega (arith, next), omega (arith, next, more));
       few = omega arith;
@@ -102,30 +102,30 @@ sound_released old new free free' current f sound r vacant =
       whole = λ b low high. absurd (omega arith);
       free = λ e. refl;
       summed = λ h. absurd (let z : code_of (frame_at d.frames f).phase ≡ 0 = ap code_of phase in omega arith);
-      emptied = λ e. tt;
+      draining = λ e. tt;
     } in
     let made : IsSoundTable mid free' current = record {
-      least = omega (arith, length-alone old.drive d f a, sound.least);
-      most = omega (arith, length-alone old.drive d f a, sound.most);
-      counted = ap length r.slots ∙ length-set old.slots f [] ∙ sound.counted ∙ sym (length-alone old.drive d f a);
+      least = omega (arith, length-alone old.seat d f a, sound.least);
+      most = omega (arith, length-alone old.seat d f a, sound.most);
+      counted = ap length r.slots ∙ length-set old.slots f [] ∙ sound.counted ∙ sym (length-alone old.seat d f a);
       vacant = vacant;
-      filling = sound.filling ∙ sym (numbers_alone is_filling old.drive d f a (ap is_open phase ∙ sym (ap is_open r.emptied)));
-      fit = fits_changed old mid f [] (let inside : f < length old.drive.frames = r.inside in omega (arith, sound.counted)) a r.slots sound.fit fit;
+      filling = sound.filling ∙ sym (numbers_alone is_filling old.seat d f a (ap is_open phase ∙ sym (ap is_open r.draining)));
+      fit = fits_changed old mid f [] (let inside : f < length old.seat.frames = r.inside in omega (arith, sound.counted)) a r.slots sound.fit fit;
     } in
-    same_sound mid new.drive free' current made (frames_are old new f r)
+    same_sound mid new.seat free' current made (frames_are old new f r)
 
 held_released_at : (old new : Table) (f : ℕ) (q : Place) → f < length old.slots → IsReleased f old new → AllByRecursion IsLetGo (slots_at old.slots f) → held_at new q ≡ held_at old q
 held_released_at old new f q inside r gone = elim (cases_eq q.frame f) [
   | inl at ↦ (let none : slots_at new.slots f ≡ [] = ap (λ (l : List (List Slot)). slots_at l f) r.slots ∙ get_or-set_same old.slots f [] [] inside in
       none_held_at new f (subst (AllByRecursion IsLetGo) (sym none) tt) q at ∙ sym (none_held_at old f gone q at))
   | inr ne ↦ ap (λ (k : Frame). held_block k (slots_at new.slots q.frame) q.block q.generation) (frame_else old new f q.frame r ne)
-      ∙ ap (λ (s : List Slot). held_block (frame_at old.drive.frames q.frame) s q.block q.generation) (slots_else old new f q.frame r ne)
+      ∙ ap (λ (s : List Slot). held_block (frame_at old.seat.frames q.frame) s q.block q.generation) (slots_else old new f q.frame r ne)
 ]
 
 pub held_released : (old new : Table) (free : List ℕ) (current : Option ℕ) (f : ℕ) → IsSoundTable old free current → IsReleased f old new → held_at new ≡ held_at old
 held_released old new free current f sound r =
-    let inside : f < length old.drive.frames = r.inside in
-    λ i q. held_released_at old new f q (omega (arith, sound.counted)) r ((sound.fit f r.inside).emptied r.emptied) i
+    let inside : f < length old.seat.frames = r.inside in
+    λ i q. held_released_at old new f q (omega (arith, sound.counted)) r ((sound.fit f r.inside).draining r.draining) i
 
 -- places by number are the same where they are the same for each of the numbers
 alike : (u v : ℕ → List Place) (f : ℕ) (l : List ℕ) → ((g : ℕ) → g ≢ f → u g ≡ v g) → AllByRecursion (λ g. g ≢ f) l → flat_map u l ≡ flat_map v l
@@ -150,73 +150,73 @@ whole_else old new f r g ne = ap (λ (k : Frame). places g k.generation 1 15) (f
 rest_else : (old new : Table) (f : ℕ) → IsReleased f old new → (g : ℕ) → g ≢ f → rest_of new g ≡ rest_of old g
 rest_else old new f r g ne =
     ap (λ (k : Frame). places g k.generation (length (slots_at new.slots g) + 1) (15 - length (slots_at new.slots g))) (frame_else old new f g r ne)
-    ∙ ap (λ (s : List Slot). places g (frame_at old.drive.frames g).generation (length s + 1) (15 - length s)) (slots_else old new f g r ne)
+    ∙ ap (λ (s : List Slot). places g (frame_at old.seat.frames g).generation (length s + 1) (15 - length s)) (slots_else old new f g r ne)
 
 -- the open frame is another, so its unused blocks are as they were
-opens_same : (old new : Table) (f : ℕ) → IsReleased f old new → flat_map (rest_of new) (numbers is_filling 0 new.drive.frames) ≡ flat_map (rest_of old) (numbers is_filling 0 old.drive.frames)
+opens_same : (old new : Table) (f : ℕ) → IsReleased f old new → flat_map (rest_of new) (numbers is_filling 0 new.seat.frames) ≡ flat_map (rest_of old) (numbers is_filling 0 old.seat.frames)
 opens_same old new f r =
-    let same : numbers is_filling 0 new.drive.frames ≡ numbers is_filling 0 old.drive.frames =
+    let same : numbers is_filling 0 new.seat.frames ≡ numbers is_filling 0 old.seat.frames =
     ap (λ (l : List Frame). numbers is_filling 0 l) (frames_are old new f r)
-    ∙ numbers_same is_filling 0 f old.drive.frames (released (frame_at old.drive.frames f)) (sym (ap is_open r.emptied)) in
+    ∙ numbers_same is_filling 0 f old.seat.frames (released (frame_at old.seat.frames f)) (sym (ap is_open r.draining)) in
     ap (λ (l : List ℕ). flat_map (rest_of new) l) same
-    ∙ alike (rest_of new) (rest_of old) f (numbers is_filling 0 old.drive.frames) (rest_else old new f r) (apart_from is_filling f old.drive.frames (ap is_open r.emptied))
+    ∙ alike (rest_of new) (rest_of old) f (numbers is_filling 0 old.seat.frames) (rest_else old new f r) (apart_from is_filling f old.seat.frames (ap is_open r.draining))
 
-pub ahead_again : (old new : Table) (f : ℕ) → IsReleased f old new → (frame_at old.drive.frames f).generation + 2 < 2 ^ 32 → IsAheadAgain f old new
+pub ahead_again : (old new : Table) (f : ℕ) → IsReleased f old new → (frame_at old.seat.frames f).generation + 2 < 2 ^ 32 → IsAheadAgain f old new
 ahead_again old new f r h =
-    let j : Joins can_open f old.drive.frames (released (frame_at old.drive.frames f)) = vacant_again old new f r h in
-    let now : numbers can_open 0 new.drive.frames ≡ j.lower ++ f ∷ j.higher = ap (λ (l : List Frame). numbers can_open 0 l) (frames_are old new f r) ∙ j.now in
+    let j : Joins can_open f old.seat.frames (released (frame_at old.seat.frames f)) = vacant_again old new f r h in
+    let now : numbers can_open 0 new.seat.frames ≡ j.lower ++ f ∷ j.higher = ap (λ (l : List Frame). numbers can_open 0 l) (frames_are old new f r) ∙ j.now in
     record {
       lower = j.lower;
       higher = j.higher;
       vacant = j.was;
       below = j.below;
       above = j.above;
-      ahead = ap (λ (p : List Place). p ++ flat_map (whole_of new) (numbers can_open 0 new.drive.frames)) (opens_same old new f r)
-          ∙ ap (λ (p : List Place). flat_map (rest_of old) (numbers is_filling 0 old.drive.frames) ++ p)
+      ahead = ap (λ (p : List Place). p ++ flat_map (whole_of new) (numbers can_open 0 new.seat.frames)) (opens_same old new f r)
+          ∙ ap (λ (p : List Place). flat_map (rest_of old) (numbers is_filling 0 old.seat.frames) ++ p)
           (ap (λ (l : List ℕ). flat_map (whole_of new) l) now ∙ parts_of (whole_of new) j.lower (f ∷ j.higher)
           ∙ ap (λ (p : List Place). p ++ (whole_of new f ++ flat_map (whole_of new) j.higher)) (alike (whole_of new) (whole_of old) f j.lower (whole_else old new f r) (not_less f j.lower j.below))
           ∙ ap (λ (p : List Place). flat_map (whole_of old) j.lower ++ (whole_of new f ++ p)) (alike (whole_of new) (whole_of old) f j.higher (whole_else old new f r) (not_more f j.higher j.above)));
     }
 
-pub ahead_retired : (old new : Table) (f : ℕ) → IsReleased f old new → 2 ^ 32 ≤ (frame_at old.drive.frames f).generation + 2 → places_ahead new ≡ places_ahead old
+pub ahead_retired : (old new : Table) (f : ℕ) → IsReleased f old new → 2 ^ 32 ≤ (frame_at old.seat.frames f).generation + 2 → places_ahead new ≡ places_ahead old
 ahead_retired old new f r h =
-    let now : numbers can_open 0 new.drive.frames ≡ numbers can_open 0 old.drive.frames = ap (λ (l : List Frame). numbers can_open 0 l) (frames_are old new f r) ∙ vacant_kept old new f r h in
-    ap (λ (p : List Place). p ++ flat_map (whole_of new) (numbers can_open 0 new.drive.frames)) (opens_same old new f r)
-    ∙ ap (λ (p : List Place). flat_map (rest_of old) (numbers is_filling 0 old.drive.frames) ++ p)
+    let now : numbers can_open 0 new.seat.frames ≡ numbers can_open 0 old.seat.frames = ap (λ (l : List Frame). numbers can_open 0 l) (frames_are old new f r) ∙ vacant_kept old new f r h in
+    ap (λ (p : List Place). p ++ flat_map (whole_of new) (numbers can_open 0 new.seat.frames)) (opens_same old new f r)
+    ∙ ap (λ (p : List Place). flat_map (rest_of old) (numbers is_filling 0 old.seat.frames) ++ p)
     (ap (λ (l : List ℕ). flat_map (whole_of new) l) now
-    ∙ alike (whole_of new) (whole_of old) f (numbers can_open 0 old.drive.frames) (whole_else old new f r) (apart_from can_open f old.drive.frames (not_open old.drive.frames f r.emptied)))
+    ∙ alike (whole_of new) (whole_of old) f (numbers can_open 0 old.seat.frames) (whole_else old new f r) (apart_from can_open f old.seat.frames (not_open old.seat.frames f r.draining)))
 
 -- no frame is open that wasn't before
-pub part_marked : (old new : Table) (f : ℕ) → IsPartFilled old → f < length old.drive.frames → IsMarked f old new → IsPartFilled new
-part_marked old new f part inside m g within phase =
+pub part_marked : (old new : Table) (f : ℕ) → IsPartFilled old → f < length old.seat.frames → IsMarked f old new → IsPartFilled new
+part_marked old new f role inside m g within phase =
     let at = marked_here old new f inside m in
     let P : List (List Slot) → Type 0 = λ l. (1 ≤ length (slots_at l g)) × (length (slots_at l g) < 15) in
     elim (cases_eq g f) [
-      | inl same ↦ absurd (let is : Emptied ≡ Open = sym (ap (λ (k : Frame). k.phase) at.1) ∙ ap (λ (n : ℕ). (frame_at new.drive.frames n).phase) (sym same) ∙ phase in cc)
-      | inr ne ↦ subst P (sym m.slots) (part g (omega (arith, length-alone old.drive new.drive f at.0)) (ap (λ (k : Frame). k.phase) (sym (elsewhere old.drive new.drive f g at.0 ne)) ∙ phase))
+      | inl same ↦ absurd (let is : Draining ≡ Open = sym (ap (λ (k : Frame). k.phase) at.1) ∙ ap (λ (n : ℕ). (frame_at new.seat.frames n).phase) (sym same) ∙ phase in cc)
+      | inr ne ↦ subst P (sym m.slots) (role g (omega (arith, length-alone old.seat new.seat f at.0)) (ap (λ (k : Frame). k.phase) (sym (elsewhere old.seat new.seat f g at.0 ne)) ∙ phase))
     ]
 
 pub part_released : (old new : Table) (f : ℕ) → IsPartFilled old → IsReleased f old new → IsPartFilled new
-part_released old new f part r g within phase =
-    let k : Frame = released (frame_at old.drive.frames f) in
+part_released old new f role r g within phase =
+    let k : Frame = released (frame_at old.seat.frames f) in
     let P : List Slot → Type 0 = λ s. (1 ≤ length s) × (length s < 15) in
-    let count : length new.drive.frames ≡ length old.drive.frames = ap length (frames_are old new f r) ∙ length-set old.drive.frames f k in
+    let count : length new.seat.frames ≡ length old.seat.frames = ap length (frames_are old new f r) ∙ length-set old.seat.frames f k in
     elim (cases_eq g f) [
-      | inl same ↦ absurd (let here : frame_at new.drive.frames f ≡ k = ap (λ (l : List Frame). frame_at l f) (frames_are old new f r) ∙ get_or-set_same old.drive.frames f k no_frame r.inside in
-          let is : Free ≡ Open = sym (ap (λ (x : Frame). x.phase) here) ∙ ap (λ (n : ℕ). (frame_at new.drive.frames n).phase) (sym same) ∙ phase in cc)
-      | inr ne ↦ subst P (sym (slots_else old new f g r ne)) (part g (omega arith) (ap (λ (x : Frame). x.phase) (sym (frame_else old new f g r ne)) ∙ phase))
+      | inl same ↦ absurd (let here : frame_at new.seat.frames f ≡ k = ap (λ (l : List Frame). frame_at l f) (frames_are old new f r) ∙ get_or-set_same old.seat.frames f k no_frame r.inside in
+          let is : Free ≡ Open = sym (ap (λ (x : Frame). x.phase) here) ∙ ap (λ (n : ℕ). (frame_at new.seat.frames n).phase) (sym same) ∙ phase in cc)
+      | inr ne ↦ subst P (sym (slots_else old new f g r ne)) (role g (omega arith) (ap (λ (x : Frame). x.phase) (sym (frame_else old new f g r ne)) ∙ phase))
     ]
 
-pub part_same : (old new : Table) → IsPartFilled old → new.drive.frames ≡ old.drive.frames → new.slots ≡ old.slots → IsPartFilled new
-part_same old new part frames slots g within phase =
+pub part_same : (old new : Table) → IsPartFilled old → new.seat.frames ≡ old.seat.frames → new.slots ≡ old.slots → IsPartFilled new
+part_same old new role frames slots g within phase =
     let P : List (List Slot) → Type 0 = λ l. (1 ≤ length (slots_at l g)) × (length (slots_at l g) < 15) in
-    subst P (sym slots) (part g (subst (λ (l : List Frame). g < length l) frames within) (subst (λ (l : List Frame). (frame_at l g).phase ≡ Open) frames phase))
+    subst P (sym slots) (role g (subst (λ (l : List Frame). g < length l) frames within) (subst (λ (l : List Frame). (frame_at l g).phase ≡ Open) frames phase))
 
 -- no fewer places were ever taken
 pub spent_released : (old new : Table) (free : List ℕ) (current : Option ℕ) (f : ℕ) → IsSoundTable old free current → IsReleased f old new → places_spent old ≤ places_spent new
 spent_released old new free current f sound r =
-    let inside : f < length old.drive.frames = r.inside in
-    spent_again old new f (released (frame_at old.drive.frames f)) inside (omega (arith, sound.counted, inside)) (frames_are old new f r) (released_generation old new f r) (sound.fit f inside) r.slots
+    let inside : f < length old.seat.frames = r.inside in
+    spent_again old new f (released (frame_at old.seat.frames f)) inside (omega (arith, sound.counted, inside)) (frames_are old new f r) (released_generation old new f r) (sound.fit f inside) r.slots
 
 -- what a release that won leaves of the table
 pub released_so : (old new : Table) (free : List ℕ) (current : Option ℕ) (f : ℕ) → IsSoundTable old free current → IsReleased f old new → ReleasesFrame f old (Ok tt) new
@@ -230,6 +230,6 @@ released_so old new free current f sound r = record {
   idle = tt;
   refused = tt;
   log = tt;
-  table = ap (λ (d : Drive). d.table) r.drive;
+  table = ap (λ (d : Drive). d.table) r.seat;
   refusal = tt;
 }

@@ -4,7 +4,7 @@ use Rattle.std.proofs.lemmas.List.{get_or-set_same, get_or-set_other, get_or_pas
 use Rattle.std.proofs.lemmas.Bool.{cases_Bool, cases_eq, cases_lt, eq-eqb, ne_eqb}
 use Rattle.s4_types.specs.Pointer.{Place}
 use Rattle.block_log.specs.Log.{Stored, with_held, without}
-use Rattle.codec.specs.declared.summaries.Part.{Part}
+use Rattle.codec.specs.declared.summaries.BlockRole.{BlockRole}
 use Rattle.segment_word.specs.Frames.{Frame}
 use Rattle.segment_word.specs.Layout.{frame_at, block_bytes}
 use Rattle.segment_word.specs.Handles.{Drive}
@@ -29,22 +29,22 @@ held_same k k' s b g e same =
           ∙ sym (ap (λ (slot : Slot). if k.generation == g then stored slot (block_bytes k.contents b) else None) none)
     ]
 
-held_kept_at : (old new : Table) (f : ℕ) (q : Place) → IsAlone f old.drive new.drive → KeepsGeneration f old.drive new.drive
-    → ((b : ℕ) → 1 ≤ b → b ≤ length (slots_at old.slots f) → KeepsBlock f b old.drive new.drive)
+held_kept_at : (old new : Table) (f : ℕ) (q : Place) → IsAlone f old.seat new.seat → KeepsGeneration f old.seat new.seat
+    → ((b : ℕ) → 1 ≤ b → b ≤ length (slots_at old.slots f) → KeepsBlock f b old.seat new.seat)
     → new.slots ≡ old.slots → held_at new q ≡ held_at old q
 held_kept_at old new f q a k same e =
-    ap (λ (l : List (List Slot)). held_block (frame_at new.drive.frames q.frame) (slots_at l q.frame) q.block q.generation) e
-    ∙ held_same (frame_at old.drive.frames q.frame) (frame_at new.drive.frames q.frame) (slots_at old.slots q.frame) q.block q.generation (generation_alone old.drive new.drive f q.frame a k)
+    ap (λ (l : List (List Slot)). held_block (frame_at new.seat.frames q.frame) (slots_at l q.frame) q.block q.generation) e
+    ∙ held_same (frame_at old.seat.frames q.frame) (frame_at new.seat.frames q.frame) (slots_at old.slots q.frame) q.block q.generation (generation_alone old.seat new.seat f q.frame a k)
     (λ low high. elim (cases_eq q.frame f) [
-      | inl at ↦ (let P : ℕ → Type 0 = λ n. KeepsBlock n q.block old.drive new.drive in
+      | inl at ↦ (let P : ℕ → Type 0 = λ n. KeepsBlock n q.block old.seat new.seat in
           let H : ℕ → Type 0 = λ n. q.block ≤ length (slots_at old.slots n) in
           subst P (sym at) (same q.block low (subst H at high)))
-      | inr ne ↦ ap (λ (x : Frame). block_bytes x.contents q.block) (elsewhere old.drive new.drive f q.frame a ne)
+      | inr ne ↦ ap (λ (x : Frame). block_bytes x.contents q.block) (elsewhere old.seat new.seat f q.frame a ne)
     ])
 
 -- where the used blocks of the frame that changed are as they were, the same is held
-pub held_kept : (old new : Table) (f : ℕ) → IsAlone f old.drive new.drive → KeepsGeneration f old.drive new.drive
-    → ((b : ℕ) → 1 ≤ b → b ≤ length (slots_at old.slots f) → KeepsBlock f b old.drive new.drive)
+pub held_kept : (old new : Table) (f : ℕ) → IsAlone f old.seat new.seat → KeepsGeneration f old.seat new.seat
+    → ((b : ℕ) → 1 ≤ b → b ≤ length (slots_at old.slots f) → KeepsBlock f b old.seat new.seat)
     → new.slots ≡ old.slots → held_at new ≡ held_at old
 held_kept old new f a k same e = λ i q. held_kept_at old new f q a k same e i
 
@@ -64,59 +64,59 @@ slot_last s slot zero e = absurd (omega arith)
 slot_last s slot (suc b) e = get_or_push s slot no_slot b (omega arith)
 
 -- what the place of the new block holds, and the other places of its frame
-put_at : (k k' : Frame) (s : List Slot) (part : Part) (block : List ℕ) (b g : ℕ) → k'.generation ≡ k.generation → block_bytes k'.contents (length s + 1) ≡ block
+put_at : (k k' : Frame) (s : List Slot) (role : BlockRole) (block : List ℕ) (b g : ℕ) → k'.generation ≡ k.generation → block_bytes k'.contents (length s + 1) ≡ block
     → ((c : ℕ) → c < 16 → c ≢ length s + 1 → block_bytes k'.contents c ≡ block_bytes k.contents c) → length s < 15
-    → held_block k' (s ++ (record { part = part; held = true }) ∷ []) b g ≡ (if (length s + 1) == b && k.generation == g then Some (record { kind = part.kind; object = part.object; bytes = block }) else held_block k s b g)
-put_at k k' s part block b g e is others room =
-    let slot : Slot = record { part = part; held = true } in
+    → held_block k' (s ++ (record { role = role; held = true }) ∷ []) b g ≡ (if (length s + 1) == b && k.generation == g then Some (record { kind = role.kind; object = role.object; bytes = block }) else held_block k s b g)
+put_at k k' s role block b g e is others room =
+    let slot : Slot = record { role = role; held = true } in
     elim (cases_eq b (length s + 1)) [
       | inl at ↦ ap (λ (n : ℕ). if n == g then stored (block_slot (s ++ slot ∷ []) b) (block_bytes k'.contents b) else None) e
           ∙ ap (λ (x : Slot). if k.generation == g then stored x (block_bytes k'.contents b) else None) (slot_last s slot b at)
           ∙ ap (λ (x : List ℕ). if k.generation == g then stored slot x else None) (ap (λ (n : ℕ). block_bytes k'.contents n) at ∙ is)
           ∙ elim (cases_Bool (k.generation == g)) [
             | inl own ↦ ap (λ (x : Bool). if x then stored slot block else None) own
-                ∙ sym (ap (λ (x : Bool). if x && k.generation == g then Some (record { kind = part.kind; object = part.object; bytes = block }) else held_block k s b g) (eq-eqb (length s + 1) b (sym at))
-                ∙ ap (λ (x : Bool). if x then Some (record { kind = part.kind; object = part.object; bytes = block }) else held_block k s b g) own)
+                ∙ sym (ap (λ (x : Bool). if x && k.generation == g then Some (record { kind = role.kind; object = role.object; bytes = block }) else held_block k s b g) (eq-eqb (length s + 1) b (sym at))
+                ∙ ap (λ (x : Bool). if x then Some (record { kind = role.kind; object = role.object; bytes = block }) else held_block k s b g) own)
             | inr other ↦ ap (λ (x : Bool). if x then stored slot block else None) other
-                ∙ sym (ap (λ (x : Bool). if x && k.generation == g then Some (record { kind = part.kind; object = part.object; bytes = block }) else held_block k s b g) (eq-eqb (length s + 1) b (sym at))
-                ∙ ap (λ (x : Bool). if x then Some (record { kind = part.kind; object = part.object; bytes = block }) else held_block k s b g) other
+                ∙ sym (ap (λ (x : Bool). if x && k.generation == g then Some (record { kind = role.kind; object = role.object; bytes = block }) else held_block k s b g) (eq-eqb (length s + 1) b (sym at))
+                ∙ ap (λ (x : Bool). if x then Some (record { kind = role.kind; object = role.object; bytes = block }) else held_block k s b g) other
                 ∙ ap (λ (x : Bool). if x then stored (block_slot s b) (block_bytes k.contents b) else None) other)
           ]
       | inr ne ↦ ap (λ (x : Slot). if k'.generation == g then stored x (block_bytes k'.contents b) else None) (slot_more s slot b ne)
           ∙ held_same k k' s b g e (λ low high. others b (omega arith) ne)
-          ∙ sym (ap (λ (x : Bool). if x && k.generation == g then Some (record { kind = part.kind; object = part.object; bytes = block }) else held_block k s b g) (ne_eqb (length s + 1) b (λ (same : length s + 1 ≡ b). ne (sym same))))
+          ∙ sym (ap (λ (x : Bool). if x && k.generation == g then Some (record { kind = role.kind; object = role.object; bytes = block }) else held_block k s b g) (ne_eqb (length s + 1) b (λ (same : length s + 1 ≡ b). ne (sym same))))
     ]
 
-held_put_at : (old new : Table) (f : ℕ) (part : Part) (block : List ℕ) (q : Place) → f < length old.slots → length (slots_at old.slots f) < 15 → IsPut f (record { part = part; held = true }) block old new
-    → held_at new q ≡ with_held (held_at old) (record { frame = f; block = length (slots_at old.slots f) + 1; generation = (frame_at old.drive.frames f).generation }) (record { kind = part.kind; object = part.object; bytes = block }) q
-held_put_at old new f part block q inside room put =
-    let slot : Slot = record { part = part; held = true } in
+held_put_at : (old new : Table) (f : ℕ) (role : BlockRole) (block : List ℕ) (q : Place) → f < length old.slots → length (slots_at old.slots f) < 15 → IsPut f (record { role = role; held = true }) block old new
+    → held_at new q ≡ with_held (held_at old) (record { frame = f; block = length (slots_at old.slots f) + 1; generation = (frame_at old.seat.frames f).generation }) (record { kind = role.kind; object = role.object; bytes = block }) q
+held_put_at old new f role block q inside room put =
+    let slot : Slot = record { role = role; held = true } in
     let s : List Slot = slots_at old.slots f in
-    let k : Frame = frame_at old.drive.frames f in
-    let k' : Frame = frame_at new.drive.frames f in
-    let st : Stored = record { kind = part.kind; object = part.object; bytes = block } in
+    let k : Frame = frame_at old.seat.frames f in
+    let k' : Frame = frame_at new.seat.frames f in
+    let st : Stored = record { kind = role.kind; object = role.object; bytes = block } in
     elim (cases_eq q.frame f) [
-      | inl at ↦ (let P : ℕ → Type 0 = λ n. held_block (frame_at new.drive.frames n) (slots_at new.slots n) q.block q.generation ≡ (if f == n && ((length s + 1) == q.block && k.generation == q.generation) then Some st else held_block (frame_at old.drive.frames n) (slots_at old.slots n) q.block q.generation) in
+      | inl at ↦ (let P : ℕ → Type 0 = λ n. held_block (frame_at new.seat.frames n) (slots_at new.slots n) q.block q.generation ≡ (if f == n && ((length s + 1) == q.block && k.generation == q.generation) then Some st else held_block (frame_at old.seat.frames n) (slots_at old.slots n) q.block q.generation) in
           let here : slots_at new.slots f ≡ s ++ slot ∷ [] = ap (λ (l : List (List Slot)). slots_at l f) put.slots ∙ get_or-set_same old.slots f (s ++ slot ∷ []) [] inside in
           subst P (sym at)
           (ap (λ (l : List Slot). held_block k' l q.block q.generation) here
-          ∙ put_at k k' s part block q.block q.generation put.generation put.bytes put.others room
+          ∙ put_at k k' s role block q.block q.generation put.generation put.bytes put.others room
           ∙ sym (ap (λ (x : Bool). if x && ((length s + 1) == q.block && k.generation == q.generation) then Some st else held_block k s q.block q.generation) (eq-eqb f f refl))))
-      | inr ne ↦ ap (λ (l : List (List Slot)). held_block (frame_at new.drive.frames q.frame) (slots_at l q.frame) q.block q.generation) put.slots
-          ∙ ap (λ (l : List Slot). held_block (frame_at new.drive.frames q.frame) l q.block q.generation) (get_or-set_other old.slots f q.frame (s ++ slot ∷ []) [] ne)
-          ∙ ap (λ (x : Frame). held_block x (slots_at old.slots q.frame) q.block q.generation) (elsewhere old.drive new.drive f q.frame put.alone ne)
+      | inr ne ↦ ap (λ (l : List (List Slot)). held_block (frame_at new.seat.frames q.frame) (slots_at l q.frame) q.block q.generation) put.slots
+          ∙ ap (λ (l : List Slot). held_block (frame_at new.seat.frames q.frame) l q.block q.generation) (get_or-set_other old.slots f q.frame (s ++ slot ∷ []) [] ne)
+          ∙ ap (λ (x : Frame). held_block x (slots_at old.slots q.frame) q.block q.generation) (elsewhere old.seat new.seat f q.frame put.alone ne)
           ∙ sym (ap (λ (x : Bool). if x && ((length s + 1) == q.block && k.generation == q.generation) then Some st else held_at old q) (ne_eqb f q.frame (λ (same : f ≡ q.frame). ne (sym same))))
     ]
 
 -- a block that was put into a frame is held at its place, and all else as before
-pub held_put : (old new : Table) (f : ℕ) (part : Part) (block : List ℕ) → f < length old.slots → length (slots_at old.slots f) < 15 → IsPut f (record { part = part; held = true }) block old new
-    → held_at new ≡ with_held (held_at old) (record { frame = f; block = length (slots_at old.slots f) + 1; generation = (frame_at old.drive.frames f).generation }) (record { kind = part.kind; object = part.object; bytes = block })
-held_put old new f part block inside room put = λ i q. held_put_at old new f part block q inside room put i
+pub held_put : (old new : Table) (f : ℕ) (role : BlockRole) (block : List ℕ) → f < length old.slots → length (slots_at old.slots f) < 15 → IsPut f (record { role = role; held = true }) block old new
+    → held_at new ≡ with_held (held_at old) (record { frame = f; block = length (slots_at old.slots f) + 1; generation = (frame_at old.seat.frames f).generation }) (record { kind = role.kind; object = role.object; bytes = block })
+held_put old new f role block inside room put = λ i q. held_put_at old new f role block q inside room put i
 
 -- the next unused block holds nothing
-pub held_fresh : (t : Table) (f g : ℕ) → held_block (frame_at t.drive.frames f) (slots_at t.slots f) (length (slots_at t.slots f) + 1) g ≡ None
+pub held_fresh : (t : Table) (f g : ℕ) → held_block (frame_at t.seat.frames f) (slots_at t.slots f) (length (slots_at t.slots f) + 1) g ≡ None
 held_fresh t f g =
-    let k : Frame = frame_at t.drive.frames f in
+    let k : Frame = frame_at t.seat.frames f in
     let s : List Slot = slots_at t.slots f in
     let none : block_slot s (length s + 1) ≡ no_slot = ap (λ (n : ℕ). block_slot s n) (add-one (length s)) ∙ get_or_past s (length s) no_slot (omega arith) in
     ap (λ (x : Slot). if k.generation == g then stored x (block_bytes k.contents (length s + 1)) else None) none
@@ -154,27 +154,27 @@ gone_at k s p (suc b) g low =
           ∙ sym (ap (λ (x : Bool). if x && k.generation == g then None else held_block k s (suc b) g) (ne_eqb p (suc b) (λ (e : p ≡ suc b). ne (omega arith))))
     ]
 
-held_gone_at : (old new : Table) (p q : Place) → p.frame < length old.slots → 1 ≤ p.block → (frame_at old.drive.frames p.frame).generation ≡ p.generation → new.drive ≡ old.drive → new.slots ≡ set old.slots p.frame (let_go (slots_at old.slots p.frame) (p.block - 1))
+held_gone_at : (old new : Table) (p q : Place) → p.frame < length old.slots → 1 ≤ p.block → (frame_at old.seat.frames p.frame).generation ≡ p.generation → new.seat ≡ old.seat → new.slots ≡ set old.slots p.frame (let_go (slots_at old.slots p.frame) (p.block - 1))
     → held_at new q ≡ without (held_at old) p q
 held_gone_at old new p q inside low current drive slots =
     let f : ℕ = p.frame in
     let s : List Slot = slots_at old.slots f in
-    let k : Frame = frame_at old.drive.frames f in
+    let k : Frame = frame_at old.seat.frames f in
     ap (λ (d : Drive). held_block (frame_at d.frames q.frame) (slots_at new.slots q.frame) q.block q.generation) drive
     ∙ elim (cases_eq q.frame f) [
-      | inl at ↦ (let P : ℕ → Type 0 = λ n. held_block (frame_at old.drive.frames n) (slots_at new.slots n) q.block q.generation ≡ (if f == n && (p.block == q.block && p.generation == q.generation) then None else held_block (frame_at old.drive.frames n) (slots_at old.slots n) q.block q.generation) in
+      | inl at ↦ (let P : ℕ → Type 0 = λ n. held_block (frame_at old.seat.frames n) (slots_at new.slots n) q.block q.generation ≡ (if f == n && (p.block == q.block && p.generation == q.generation) then None else held_block (frame_at old.seat.frames n) (slots_at old.slots n) q.block q.generation) in
           let here : slots_at new.slots f ≡ let_go s (p.block - 1) = ap (λ (l : List (List Slot)). slots_at l f) slots ∙ get_or-set_same old.slots f (let_go s (p.block - 1)) [] inside in
           subst P (sym at)
           (ap (λ (l : List Slot). held_block k l q.block q.generation) here
           ∙ gone_at k s p.block q.block q.generation low
           ∙ ap (λ (n : ℕ). if p.block == q.block && n == q.generation then None else held_block k s q.block q.generation) current
           ∙ sym (ap (λ (x : Bool). if x && (p.block == q.block && p.generation == q.generation) then None else held_block k s q.block q.generation) (eq-eqb f f refl))))
-      | inr ne ↦ ap (λ (l : List (List Slot)). held_block (frame_at old.drive.frames q.frame) (slots_at l q.frame) q.block q.generation) slots
-          ∙ ap (λ (l : List Slot). held_block (frame_at old.drive.frames q.frame) l q.block q.generation) (get_or-set_other old.slots f q.frame (let_go s (p.block - 1)) [] ne)
+      | inr ne ↦ ap (λ (l : List (List Slot)). held_block (frame_at old.seat.frames q.frame) (slots_at l q.frame) q.block q.generation) slots
+          ∙ ap (λ (l : List Slot). held_block (frame_at old.seat.frames q.frame) l q.block q.generation) (get_or-set_other old.slots f q.frame (let_go s (p.block - 1)) [] ne)
           ∙ sym (ap (λ (x : Bool). if x && (p.block == q.block && p.generation == q.generation) then None else held_at old q) (ne_eqb f q.frame (λ (same : f ≡ q.frame). ne (sym same))))
     ]
 
 -- a block that was let go is held no longer, and all else as before
-pub held_gone : (old new : Table) (p : Place) → p.frame < length old.slots → 1 ≤ p.block → (frame_at old.drive.frames p.frame).generation ≡ p.generation → new.drive ≡ old.drive → new.slots ≡ set old.slots p.frame (let_go (slots_at old.slots p.frame) (p.block - 1))
+pub held_gone : (old new : Table) (p : Place) → p.frame < length old.slots → 1 ≤ p.block → (frame_at old.seat.frames p.frame).generation ≡ p.generation → new.seat ≡ old.seat → new.slots ≡ set old.slots p.frame (let_go (slots_at old.slots p.frame) (p.block - 1))
     → held_at new ≡ without (held_at old) p
 held_gone old new p inside low current drive slots = λ i q. held_gone_at old new p q inside low current drive slots i

@@ -17,4 +17,4 @@ pub mod Listing
 pub mod SavedBlocks
 pub mod UsedBlocks
 pub mod Unshared
-pub mod PartSteps
+pub mod BuilderSteps

@@ -6,7 +6,7 @@ use Rattle.std.proofs.lemmas.Bool.{cases_Bool, cases_lt, and_parts}
 use Rattle.std.proofs.lemmas.List.Elements.{All-from_recursion, All-contains}
 use Rattle.s4_types.specs.Pointer.{Place}
 use Rattle.block_log.specs.Log.{Stored}
-use Rattle.segment_word.specs.Frames.{Phase, Free, Open, Sealed, Emptied, Frame, is_free, is_open, is_sealed}
+use Rattle.segment_word.specs.Frames.{Phase, Free, Open, Sealed, Draining, Frame, is_free, is_open, is_sealed}
 use Rattle.segment_word.specs.Layout.{frame_at}
 use Rattle.segment_table.specs.declared.slots.Slot.{Slot}
 use Rattle.segment_table.specs.Table.{Table, slots_at, held_at, is_of}
@@ -88,19 +88,19 @@ open_unsealed : (p : Phase) → is_open p ≡ true → is_sealed p ≡ false
 open_unsealed Free e = refl
 open_unsealed Open e = refl
 open_unsealed Sealed e = absurd (cc)
-open_unsealed Emptied e = refl
+open_unsealed Draining e = refl
 
 free_unsealed : (p : Phase) → is_free p ≡ true → is_sealed p ≡ false
 free_unsealed Free e = refl
 free_unsealed Open e = refl
 free_unsealed Sealed e = absurd (cc)
-free_unsealed Emptied e = refl
+free_unsealed Draining e = refl
 
 -- ---- the laws
 
 pub ahead_unsealed : PlacesAheadAreInNoSealedFrame
 ahead_unsealed t p has =
-    let frames : List Frame = t.drive.frames in
+    let frames : List Frame = t.seat.frames in
     let Q : ℕ → Type 0 = λ f. is_sealed (frame_at frames f).phase ≡ false in
     let P : Place → Type 0 = λ q. is_sealed (frame_at frames q.frame).phase ≡ false in
     let from_first : (i : ℕ) → i ≡ 0 + i = λ i. omega arith in
@@ -116,9 +116,9 @@ abbrev none_listed : List Place
 none_listed = []
 
 pub listed_held : WhatIsListedIsHeld
-listed_held t o f p has = elim (cases_Bool (is_sealed (frame_at t.drive.frames f).phase)) [
+listed_held t o f p has = elim (cases_Bool (is_sealed (frame_at t.seat.frames f).phase)) [
   | inl passes ↦ (let test : Place → Bool = λ q. is_of o (held_at t q) in
-      let g : ℕ = (frame_at t.drive.frames f).generation in
+      let g : ℕ = (frame_at t.seat.frames f).generation in
       let Q : Place → Type 0 = λ q. (q.frame ≡ f) × (q.generation ≡ g) × (1 ≤ q.block) × (q.block ≤ 15) in
       let whole : AllByRecursion Q (whole_of t f) = all_places Q f g 1 15 (λ k low high. (refl, refl, low, omega arith)) in
       let all : AllByRecursion (IsListed t o f) (filter test (whole_of t f)) = all_passed Q (IsListed t o f) test
@@ -136,15 +136,15 @@ of_some o (Some block) e = refl
 
 pub lists_all : (t : Table) → ((f : ℕ) → length (slots_at t.slots f) ≤ 15) → ListsAllHeld t
 lists_all t few o p sealed held =
-    let used : IsUsed (frame_at t.drive.frames p.frame) (slots_at t.slots p.frame) p.block p.generation = held_used _ _ _ _ (of_some o (held_at t p) held) in
+    let used : IsUsed (frame_at t.seat.frames p.frame) (slots_at t.slots p.frame) p.block p.generation = held_used _ _ _ _ (of_some o (held_at t p) held) in
     let most : length (slots_at t.slots p.frame) ≤ 15 = few p.frame in
     let low : 1 ≤ p.block = used.low in
     let high : p.block ≤ length (slots_at t.slots p.frame) = used.high in
     let k : ℕ = p.block - 1 in
     let at : 1 + k ≡ p.block = omega arith in
-    let has : Contains (whole_of t p.frame) (record { frame = p.frame; block = 1 + k; generation = (frame_at t.drive.frames p.frame).generation }) = has_place p.frame _ 1 15 k (omega arith) in
+    let has : Contains (whole_of t p.frame) (record { frame = p.frame; block = 1 + k; generation = (frame_at t.seat.frames p.frame).generation }) = has_place p.frame _ 1 15 k (omega arith) in
     let here : Contains (whole_of t p.frame) p = subst (λ (g : ℕ). Contains (whole_of t p.frame) (record { frame = p.frame; block = p.block; generation = g })) used.generation
-    (subst (λ (b : ℕ). Contains (whole_of t p.frame) (record { frame = p.frame; block = b; generation = (frame_at t.drive.frames p.frame).generation })) at has) in
+    (subst (λ (b : ℕ). Contains (whole_of t p.frame) (record { frame = p.frame; block = b; generation = (frame_at t.seat.frames p.frame).generation })) at has) in
     subst (λ (b : Bool). Contains (if b then filter (λ q. is_of o (held_at t q)) (whole_of t p.frame) else []) p) (sym sealed)
     (passed_has (λ q. is_of o (held_at t q)) p held (whole_of t p.frame) here)
 
@@ -154,9 +154,9 @@ few_outside (s ∷ ss) zero h = absurd (omega arith)
 few_outside (s ∷ ss) (suc f) h = few_outside ss f (omega arith)
 
 -- no frame has more than its 15 blocks in use, so that all that is held is listed
-pub lists_fit : (t : Table) → length t.slots ≡ length t.drive.frames → ((f : ℕ) → f < length t.drive.frames → IsFit f (frame_at t.drive.frames f) (slots_at t.slots f)) → ListsAllHeld t
+pub lists_fit : (t : Table) → length t.slots ≡ length t.seat.frames → ((f : ℕ) → f < length t.seat.frames → IsFit f (frame_at t.seat.frames f) (slots_at t.slots f)) → ListsAllHeld t
 lists_fit t counted fit = lists_all t
-    (λ f. elim (cases_lt f (length t.drive.frames)) [
+    (λ f. elim (cases_lt f (length t.seat.frames)) [
       | inl inside ↦ (fit f inside).few
       | inr outside ↦ few_outside t.slots f (omega arith)
     ])

@@ -5,7 +5,7 @@ use Rattle.std.proofs.lemmas.List.{take_more_set, length-map, get_or-replicate, 
 use borrow.Rule.Slice.PartMut.{put_mid}
 use Rattle.codec.specs.Fields.{zeros}
 use Rattle.codec.specs.Summary.{SummaryFields, IsBlank, UnusedAreBlank, SpellsSummary}
-use Rattle.segment_word.specs.Frames.{Phase, Free, Open, Sealed, Emptied, Frame, code_of}
+use Rattle.segment_word.specs.Frames.{Phase, Free, Open, Sealed, Draining, Frame, code_of}
 use Rattle.segment_word.specs.Layout.{block_bytes}
 use Rattle.segment_table.specs.declared.slots.Slot.{Slot}
 use Rattle.segment_table.specs.Sealing.{blocks_from, payload_of, summary_of, IsFit}
@@ -50,7 +50,7 @@ phase_cases : (p : Phase) → (p ≡ Free) ⊎ ((p ≡ Open) ⊎ (2 ≤ code_of 
 phase_cases Free = inl refl
 phase_cases Open = inr (inl refl)
 phase_cases Sealed = inr (inr (omega arith))
-phase_cases Emptied = inr (inr (omega arith))
+phase_cases Draining = inr (inr (omega arith))
 
 -- a frame that isn't free and isn't open has its summary
 pub others_are_summed : (p : Phase) → 0 < code_of p → p ≢ Open → 2 ≤ code_of p
@@ -67,9 +67,9 @@ all_zeros b low = get_or-replicate 15 b (replicate 512 0) [] low
 
 -- A frame's blocks, of which these are used: its summary in front of a payload of which the unused blocks are zeros.
 pub spelled_as : (f : ℕ) (k : Frame) (slots : List Slot) (blocks payload : List (List ℕ)) (block : List ℕ) (s : SummaryFields) → blocks ≡ block ∷ payload → s ≡ summary_of f k slots → UnusedAreBlank (length slots) payload
-    → (UnusedAreBlank (length s.parts) payload → SpellsSummary payload block s) → SpellsSummary (drop 1 blocks) (get_or blocks 0 []) (summary_of f k slots)
+    → (UnusedAreBlank (length s.roles) payload → SpellsSummary payload block s) → SpellsSummary (drop 1 blocks) (get_or blocks 0 []) (summary_of f k slots)
 spelled_as f k slots blocks payload block s are is blank spells =
-    let count : length s.parts ≡ length slots = ap (λ (x : SummaryFields). length x.parts) is ∙ length-map slots (λ (slot : Slot). slot.part) in
+    let count : length s.roles ≡ length slots = ap (λ (x : SummaryFields). length x.roles) is ∙ length-map slots (λ (slot : Slot). slot.role) in
     let U : ℕ → Type 0 = λ n. UnusedAreBlank n payload in
     let A : List (List ℕ) → Type 0 = λ l. SpellsSummary (drop 1 l) (get_or l 0 []) (summary_of f k slots) in
     let B : SummaryFields → Type 0 = λ x. SpellsSummary payload block x in

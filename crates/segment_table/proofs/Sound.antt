@@ -4,10 +4,10 @@ use Rattle.std.specs.List.{AllByRecursion, range_with_len}
 use Rattle.std.proofs.lemmas.List.{get_or-set_same, get_or-set_other, set-get_or, length-set, reverse-reverse, get_or-replicate, length-replicate}
 use Rattle.std.proofs.lemmas.Bool.{cases_eq}
 use Rattle.std.proofs.Math.Seq.{map-set_same}
-use Rattle.codec.specs.declared.summaries.Part.{Part}
+use Rattle.codec.specs.declared.summaries.BlockRole.{BlockRole}
 use Rattle.codec.specs.Summary.{SpellsSummary}
 use Rattle.s4_types.specs.declared.limits.TheConstants.{FEWEST_FRAMES}
-use Rattle.segment_word.specs.Frames.{Free, Open, Sealed, Emptied, Frame, no_frame, code_of, is_free, is_open}
+use Rattle.segment_word.specs.Frames.{Free, Open, Sealed, Draining, Frame, no_frame, code_of, is_free, is_open}
 use Rattle.segment_word.specs.Layout.{frame_at, block_bytes}
 use Rattle.segment_word.specs.Handles.{Drive, with_changed, fresh_frame}
 use Rattle.segment_table.specs.declared.slots.Slot.{Slot}
@@ -21,18 +21,18 @@ use Rattle.segment_table.proofs.Alone.{put_here, alone, unchanged, length-alone,
 use Rattle.segment_table.proofs.Ahead.{vacant_first, filling_at, vacant_same, popped}
 
 -- the frame that changed fits, and so do the others
-pub fits_changed : (old new : Table) (f : ℕ) (s : List Slot) → f < length old.slots → IsAlone f old.drive new.drive → new.slots ≡ set old.slots f s
-    → ((g : ℕ) → g < length old.drive.frames → IsFit g (frame_at old.drive.frames g) (slots_at old.slots g)) → IsFit f (frame_at new.drive.frames f) s
-    → (g : ℕ) → g < length new.drive.frames → IsFit g (frame_at new.drive.frames g) (slots_at new.slots g)
+pub fits_changed : (old new : Table) (f : ℕ) (s : List Slot) → f < length old.slots → IsAlone f old.seat new.seat → new.slots ≡ set old.slots f s
+    → ((g : ℕ) → g < length old.seat.frames → IsFit g (frame_at old.seat.frames g) (slots_at old.slots g)) → IsFit f (frame_at new.seat.frames f) s
+    → (g : ℕ) → g < length new.seat.frames → IsFit g (frame_at new.seat.frames g) (slots_at new.slots g)
 fits_changed old new f s inside a slots fits fit g h = elim (cases_eq g f) [
-  | inl at ↦ (let P : ℕ → Type 0 = λ n. IsFit n (frame_at new.drive.frames n) (slots_at new.slots n) in
-      let Q : List Slot → Type 0 = λ l. IsFit f (frame_at new.drive.frames f) l in
+  | inl at ↦ (let P : ℕ → Type 0 = λ n. IsFit n (frame_at new.seat.frames n) (slots_at new.slots n) in
+      let Q : List Slot → Type 0 = λ l. IsFit f (frame_at new.seat.frames f) l in
       subst P (sym at) (subst Q (sym (ap (λ (l : List (List Slot)). slots_at l f) slots ∙ get_or-set_same old.slots f s [] inside)) fit))
   | inr ne ↦ (let P : Frame → Type 0 = λ k. IsFit g k (slots_at old.slots g) in
-      let Q : List Slot → Type 0 = λ l. IsFit g (frame_at new.drive.frames g) l in
-      let within : g < length old.drive.frames = omega (arith, length-alone old.drive new.drive f a) in
+      let Q : List Slot → Type 0 = λ l. IsFit g (frame_at new.seat.frames g) l in
+      let within : g < length old.seat.frames = omega (arith, length-alone old.seat new.seat f a) in
       subst Q (sym (ap (λ (l : List (List Slot)). slots_at l g) slots ∙ get_or-set_other old.slots f g s [] ne))
-      (subst P (sym (elsewhere old.drive new.drive f g a ne)) (fits g within)))
+      (subst P (sym (elsewhere old.seat new.seat f g a ne)) (fits g within)))
 ]
 
 pub stays : (l : List (List Slot)) (f : ℕ) → l ≡ set l f (slots_at l f)
@@ -65,23 +65,23 @@ fit_opened f k k' s fit phase generation contents = record {
   whole = λ b low high. ap (λ (l : List ℕ). length (block_bytes l b)) contents ∙ fit.whole b low high;
   free = λ e. absurd (let is : Open ≡ Free = sym phase ∙ e in cc);
   summed = λ h. absurd (let is : code_of k'.phase ≡ 1 = ap code_of phase in omega arith);
-  emptied = λ e. absurd (let is : Open ≡ Emptied = sym phase ∙ e in cc);
+  draining = λ e. absurd (let is : Open ≡ Draining = sym phase ∙ e in cc);
 }
 
-pub sound_opened : (old new : Table) (free free' : List ℕ) (current : Option ℕ) (f : ℕ) → IsSoundTable old free current → NoneIsFilling old → free ≡ free' ++ f ∷ [] → new.drive ≡ with_changed old.drive f (record (frame_at old.drive.frames f) { phase = Open }) → new.slots ≡ old.slots
+pub sound_opened : (old new : Table) (free free' : List ℕ) (current : Option ℕ) (f : ℕ) → IsSoundTable old free current → NoneIsFilling old → free ≡ free' ++ f ∷ [] → new.seat ≡ with_changed old.seat f (record (frame_at old.seat.frames f) { phase = Open }) → new.slots ≡ old.slots
     → IsSoundTable new free' (Some f)
 sound_opened old new free free' current f sound none split changed slots =
-    let first : numbers can_open 0 old.drive.frames ≡ f ∷ reverse free' = popped (numbers can_open 0 old.drive.frames) free free' f sound.vacant split in
-    let inside : f < length old.drive.frames = (vacant_first old.drive.frames f (reverse free') first).inside in
-    let a = opened_alone old.drive new.drive f inside changed in
+    let first : numbers can_open 0 old.seat.frames ≡ f ∷ reverse free' = popped (numbers can_open 0 old.seat.frames) free free' f sound.vacant split in
+    let inside : f < length old.seat.frames = (vacant_first old.seat.frames f (reverse free') first).inside in
+    let a = opened_alone old.seat new.seat f inside changed in
     record {
-      least = omega (arith, length-alone old.drive new.drive f a.0, sound.least);
-      most = omega (arith, length-alone old.drive new.drive f a.0, sound.most);
-      counted = ap length slots ∙ sound.counted ∙ sym (length-alone old.drive new.drive f a.0);
-      vacant = sym (ap reverse (opened_vacant old.drive new.drive f (reverse free') first changed) ∙ reverse-reverse free');
-      filling = sym (opened_filling old.drive new.drive f inside none changed);
+      least = omega (arith, length-alone old.seat new.seat f a.0, sound.least);
+      most = omega (arith, length-alone old.seat new.seat f a.0, sound.most);
+      counted = ap length slots ∙ sound.counted ∙ sym (length-alone old.seat new.seat f a.0);
+      vacant = sym (ap reverse (opened_vacant old.seat new.seat f (reverse free') first changed) ∙ reverse-reverse free');
+      filling = sym (opened_filling old.seat new.seat f inside none changed);
       fit = fits_changed old new f (slots_at old.slots f) (omega (arith, sound.counted)) a.0 (slots ∙ stays old.slots f) sound.fit
-          (fit_opened f (frame_at old.drive.frames f) (frame_at new.drive.frames f) (slots_at old.slots f) (sound.fit f inside) (ap (λ (k : Frame). k.phase) a.1) (ap (λ (k : Frame). k.generation) a.1)
+          (fit_opened f (frame_at old.seat.frames f) (frame_at new.seat.frames f) (slots_at old.slots f) (sound.fit f inside) (ap (λ (k : Frame). k.phase) a.1) (ap (λ (k : Frame). k.generation) a.1)
           (ap (λ (k : Frame). k.contents) a.1));
     }
 
@@ -91,38 +91,38 @@ owned_more (x ∷ s) slot all h = (all.0, owned_more s slot all.1 h)
 
 -- one block more is used, and has 512 bytes
 put_whole : (old new : Table) (f : ℕ) (slot : Slot) (block : List ℕ) → length (slots_at old.slots f) < 15 → length block ≡ 512 → IsPut f slot block old new
-    → AreWhole (frame_at old.drive.frames f).contents (length (slots_at old.slots f)) → AreWhole (frame_at new.drive.frames f).contents (length (slots_at old.slots f ++ slot ∷ []))
+    → AreWhole (frame_at old.seat.frames f).contents (length (slots_at old.slots f)) → AreWhole (frame_at new.seat.frames f).contents (length (slots_at old.slots f ++ slot ∷ []))
 put_whole old new f slot block room size put whole b low high = elim (cases_eq b (length (slots_at old.slots f) + 1)) [
-  | inl at ↦ ap (λ (n : ℕ). length (block_bytes (frame_at new.drive.frames f).contents n)) at ∙ ap length put.bytes ∙ size
+  | inl at ↦ ap (λ (n : ℕ). length (block_bytes (frame_at new.seat.frames f).contents n)) at ∙ ap length put.bytes ∙ size
   | inr ne ↦ (let few : b ≤ length (slots_at old.slots f) + 1 = omega (arith, length-append (slots_at old.slots f) (slot ∷ [])) in
       ap length (put.others b (omega arith) ne) ∙ whole b low (omega arith))
 ]
 
 pub put_filling : (old new : Table) (f : ℕ) (slot : Slot) (block : List ℕ) → IsFilling f old → IsPut f slot block old new → IsFilling f new
 put_filling old new f slot block e put =
-    numbers_alone is_filling old.drive new.drive f put.alone (ap is_open put.phase) ∙ e
+    numbers_alone is_filling old.seat new.seat f put.alone (ap is_open put.phase) ∙ e
 
 pub sound_put : (old new : Table) (free : List ℕ) (current : Option ℕ) (f : ℕ) (slot : Slot) (block : List ℕ) → IsSoundTable old free current → IsFilling f old → length (slots_at old.slots f) < 15 → IsOwned slot → length block ≡ 512 → IsPut f slot block old new → IsSoundTable new free current
 sound_put old new free current f slot block sound filling room own size put =
     let at = filling_at old f filling in
-    let inside : f < length old.drive.frames = at.0 in
-    let phase : (frame_at new.drive.frames f).phase ≡ Open = put.phase ∙ at.1 in
-    let fit : IsFit f (frame_at old.drive.frames f) (slots_at old.slots f) = sound.fit f inside in
-    let changed : IsFit f (frame_at new.drive.frames f) (slots_at old.slots f ++ slot ∷ []) = record {
-      lives = same_lives (frame_at old.drive.frames f) (frame_at new.drive.frames f) put.generation fit.lives;
+    let inside : f < length old.seat.frames = at.0 in
+    let phase : (frame_at new.seat.frames f).phase ≡ Open = put.phase ∙ at.1 in
+    let fit : IsFit f (frame_at old.seat.frames f) (slots_at old.slots f) = sound.fit f inside in
+    let changed : IsFit f (frame_at new.seat.frames f) (slots_at old.slots f ++ slot ∷ []) = record {
+      lives = same_lives (frame_at old.seat.frames f) (frame_at new.seat.frames f) put.generation fit.lives;
       few = omega (arith, length-append (slots_at old.slots f) (slot ∷ []));
       owned = owned_more (slots_at old.slots f) slot fit.owned own;
       whole = put_whole old new f slot block room size put fit.whole;
       free = λ e. absurd (let is : Open ≡ Free = sym phase ∙ e in cc);
-      summed = λ h. absurd (let is : code_of (frame_at new.drive.frames f).phase ≡ 1 = ap code_of phase in omega arith);
-      emptied = λ e. absurd (let is : Open ≡ Emptied = sym phase ∙ e in cc);
+      summed = λ h. absurd (let is : code_of (frame_at new.seat.frames f).phase ≡ 1 = ap code_of phase in omega arith);
+      draining = λ e. absurd (let is : Open ≡ Draining = sym phase ∙ e in cc);
     } in
     record {
-      least = omega (arith, length-alone old.drive new.drive f put.alone, sound.least);
-      most = omega (arith, length-alone old.drive new.drive f put.alone, sound.most);
-      counted = ap length put.slots ∙ length-set old.slots f (slots_at old.slots f ++ slot ∷ []) ∙ sound.counted ∙ sym (length-alone old.drive new.drive f put.alone);
-      vacant = sound.vacant ∙ ap reverse (sym (vacant_same old.drive new.drive f put.alone (ap is_free at.1) (ap is_free phase)));
-      filling = sound.filling ∙ sym (numbers_alone is_filling old.drive new.drive f put.alone (ap is_open put.phase));
+      least = omega (arith, length-alone old.seat new.seat f put.alone, sound.least);
+      most = omega (arith, length-alone old.seat new.seat f put.alone, sound.most);
+      counted = ap length put.slots ∙ length-set old.slots f (slots_at old.slots f ++ slot ∷ []) ∙ sound.counted ∙ sym (length-alone old.seat new.seat f put.alone);
+      vacant = sound.vacant ∙ ap reverse (sym (vacant_same old.seat new.seat f put.alone (ap is_free at.1) (ap is_free phase)));
+      filling = sound.filling ∙ sym (numbers_alone is_filling old.seat new.seat f put.alone (ap is_open put.phase));
       fit = fits_changed old new f (slots_at old.slots f ++ slot ∷ []) (omega (arith, sound.counted)) put.alone put.slots sound.fit changed;
     }
 
@@ -130,26 +130,26 @@ pub sealed_filling : (old new : Drive) (f : ℕ) → numbers is_filling 0 old.fr
 sealed_filling old new f e a phase =
     ap (λ (d : Drive). numbers is_filling 0 d.frames) a ∙ numbers_lost is_filling 0 f old.frames (frame_at new.frames f) [] (e ∙ ap (λ (n : ℕ). n ∷ []) (omega arith)) (ap is_open phase)
 
-pub sound_sealed : (old new : Table) (free : List ℕ) (current : Option ℕ) (f : ℕ) → IsSoundTable old free current → IsFilling f old → IsSealed f (slots_at old.slots f) old.drive new.drive → new.slots ≡ old.slots → IsSoundTable new free None
+pub sound_sealed : (old new : Table) (free : List ℕ) (current : Option ℕ) (f : ℕ) → IsSoundTable old free current → IsFilling f old → IsSealed f (slots_at old.slots f) old.seat new.seat → new.slots ≡ old.slots → IsSoundTable new free None
 sound_sealed old new free current f sound filling sealed slots =
     let at = filling_at old f filling in
-    let inside : f < length old.drive.frames = at.0 in
-    let fit : IsFit f (frame_at old.drive.frames f) (slots_at old.slots f) = sound.fit f inside in
-    let changed : IsFit f (frame_at new.drive.frames f) (slots_at old.slots f) = record {
-      lives = same_lives (frame_at old.drive.frames f) (frame_at new.drive.frames f) sealed.generation fit.lives;
+    let inside : f < length old.seat.frames = at.0 in
+    let fit : IsFit f (frame_at old.seat.frames f) (slots_at old.slots f) = sound.fit f inside in
+    let changed : IsFit f (frame_at new.seat.frames f) (slots_at old.slots f) = record {
+      lives = same_lives (frame_at old.seat.frames f) (frame_at new.seat.frames f) sealed.generation fit.lives;
       few = fit.few;
       owned = fit.owned;
       whole = λ b low high. ap length (sealed.used b low high) ∙ fit.whole b low high;
       free = λ e. absurd (let is : Sealed ≡ Free = sym sealed.phase ∙ e in cc);
       summed = λ h. sealed.summed;
-      emptied = λ e. absurd (let is : Sealed ≡ Emptied = sym sealed.phase ∙ e in cc);
+      draining = λ e. absurd (let is : Sealed ≡ Draining = sym sealed.phase ∙ e in cc);
     } in
     record {
-      least = omega (arith, length-alone old.drive new.drive f sealed.alone, sound.least);
-      most = omega (arith, length-alone old.drive new.drive f sealed.alone, sound.most);
-      counted = ap length slots ∙ sound.counted ∙ sym (length-alone old.drive new.drive f sealed.alone);
-      vacant = sound.vacant ∙ ap reverse (sym (vacant_same old.drive new.drive f sealed.alone (ap is_free at.1) (ap is_free sealed.phase)));
-      filling = sym (sealed_filling old.drive new.drive f filling sealed.alone sealed.phase);
+      least = omega (arith, length-alone old.seat new.seat f sealed.alone, sound.least);
+      most = omega (arith, length-alone old.seat new.seat f sealed.alone, sound.most);
+      counted = ap length slots ∙ sound.counted ∙ sym (length-alone old.seat new.seat f sealed.alone);
+      vacant = sound.vacant ∙ ap reverse (sym (vacant_same old.seat new.seat f sealed.alone (ap is_free at.1) (ap is_free sealed.phase)));
+      filling = sym (sealed_filling old.seat new.seat f filling sealed.alone sealed.phase);
       fit = fits_changed old new f (slots_at old.slots f) (omega (arith, sound.counted)) sealed.alone (slots ∙ stays old.slots f) sound.fit changed;
     }
 
@@ -171,16 +171,16 @@ gone_let_go (x ∷ s) (suc i) slot all h = (all.0, gone_let_go s i slot all.1 h)
 fit_gone : (f : ℕ) (k : Frame) (s : List Slot) (i : ℕ) → IsFit f k s → IsFit f k (let_go s i)
 fit_gone f k s i fit =
     let slot : Slot = record (get_or s i no_slot) { held = false } in
-    let P : List Part → Type 0 = λ parts. SpellsSummary (payload_of k.contents) (block_bytes k.contents 0) (record { frame = f; generation = k.generation; parts = parts }) in
-    let parts : map (λ (x : Slot). x.part) (set s i slot) ≡ map (λ (x : Slot). x.part) s = map-set_same (λ (x : Slot). x.part) s i slot no_slot refl in
+    let P : List BlockRole → Type 0 = λ roles. SpellsSummary (payload_of k.contents) (block_bytes k.contents 0) (record { frame = f; generation = k.generation; roles = roles }) in
+    let roles : map (λ (x : Slot). x.role) (set s i slot) ≡ map (λ (x : Slot). x.role) s = map-set_same (λ (x : Slot). x.role) s i slot no_slot refl in
     record {
       lives = fit.lives;
       few = omega (arith, length-set s i slot, fit.few);
       owned = gone_owned s i slot fit.owned (λ low. owned_at s i fit.owned low);
       whole = λ b low high. fit.whole b low (omega (arith, length-set s i slot));
       free = λ e. ap (λ (l : List Slot). set l i slot) (fit.free e);
-      summed = λ h. subst P (sym parts) (fit.summed h);
-      emptied = λ e. gone_let_go s i slot (fit.emptied e) refl;
+      summed = λ h. subst P (sym roles) (fit.summed h);
+      draining = λ e. gone_let_go s i slot (fit.draining e) refl;
     }
 
 pub used_gone : (old : List (List Slot)) (f i g : ℕ) → f < length old → length (slots_at (set old f (let_go (slots_at old f) i)) g) ≡ length (slots_at old g)
@@ -191,23 +191,23 @@ used_gone old f i g inside = elim (cases_eq g f) [
   | inr ne ↦ ap length (get_or-set_other old f g (let_go (slots_at old f) i) [] ne)
 ]
 
-pub parts_gone : (old : List (List Slot)) (f i g : ℕ) → f < length old
-    → map (λ (x : Slot). x.part) (slots_at (set old f (let_go (slots_at old f) i)) g) ≡ map (λ (x : Slot). x.part) (slots_at old g)
-parts_gone old f i g inside = elim (cases_eq g f) [
-  | inl at ↦ (let P : ℕ → Type 0 = λ n. map (λ (x : Slot). x.part) (slots_at (set old f (let_go (slots_at old f) i)) n) ≡ map (λ (x : Slot). x.part) (slots_at old n) in
+pub roles_gone : (old : List (List Slot)) (f i g : ℕ) → f < length old
+    → map (λ (x : Slot). x.role) (slots_at (set old f (let_go (slots_at old f) i)) g) ≡ map (λ (x : Slot). x.role) (slots_at old g)
+roles_gone old f i g inside = elim (cases_eq g f) [
+  | inl at ↦ (let P : ℕ → Type 0 = λ n. map (λ (x : Slot). x.role) (slots_at (set old f (let_go (slots_at old f) i)) n) ≡ map (λ (x : Slot). x.role) (slots_at old n) in
       subst P (sym at)
-      (ap (map (λ (x : Slot). x.part)) (get_or-set_same old f (let_go (slots_at old f) i) [] inside)
-      ∙ map-set_same (λ (x : Slot). x.part) (slots_at old f) i (record (get_or (slots_at old f) i no_slot) { held = false }) no_slot refl))
-  | inr ne ↦ ap (map (λ (x : Slot). x.part)) (get_or-set_other old f g (let_go (slots_at old f) i) [] ne)
+      (ap (map (λ (x : Slot). x.role)) (get_or-set_same old f (let_go (slots_at old f) i) [] inside)
+      ∙ map-set_same (λ (x : Slot). x.role) (slots_at old f) i (record (get_or (slots_at old f) i no_slot) { held = false }) no_slot refl))
+  | inr ne ↦ ap (map (λ (x : Slot). x.role)) (get_or-set_other old f g (let_go (slots_at old f) i) [] ne)
 ]
 
 pub unchanged_drive : (d e : Drive) (f : ℕ) → e ≡ d → IsAlone f d e
 unchanged_drive d e f same = same ∙ unchanged d f ∙ ap (λ (x : Drive). with_changed d f (frame_at x.frames f)) (sym same)
 
-pub sound_gone : (old new : Table) (free : List ℕ) (current : Option ℕ) (f i : ℕ) → IsSoundTable old free current → f < length old.slots → new.drive ≡ old.drive → new.slots ≡ set old.slots f (let_go (slots_at old.slots f) i) → IsSoundTable new free current
+pub sound_gone : (old new : Table) (free : List ℕ) (current : Option ℕ) (f i : ℕ) → IsSoundTable old free current → f < length old.slots → new.seat ≡ old.seat → new.slots ≡ set old.slots f (let_go (slots_at old.slots f) i) → IsSoundTable new free current
 sound_gone old new free current f i sound inside drive slots =
     let s : List Slot = slots_at old.slots f in
-    let within : f < length old.drive.frames = omega (arith, sound.counted) in
+    let within : f < length old.seat.frames = omega (arith, sound.counted) in
     let P : Frame → Type 0 = λ k. IsFit f k (let_go s i) in
     record {
       least = omega (arith, ap (λ (d : Drive). length d.frames) drive, sound.least);
@@ -215,8 +215,8 @@ sound_gone old new free current f i sound inside drive slots =
       counted = ap length slots ∙ length-set old.slots f (let_go s i) ∙ sound.counted ∙ sym (ap (λ (d : Drive). length d.frames) drive);
       vacant = sound.vacant ∙ sym (ap (λ (d : Drive). reverse (numbers can_open 0 d.frames)) drive);
       filling = sound.filling ∙ sym (ap (λ (d : Drive). numbers is_filling 0 d.frames) drive);
-      fit = fits_changed old new f (let_go s i) inside (unchanged_drive old.drive new.drive f drive) slots sound.fit
-          (subst P (sym (ap (λ (d : Drive). frame_at d.frames f) drive)) (fit_gone f (frame_at old.drive.frames f) s i (sound.fit f within)));
+      fit = fits_changed old new f (let_go s i) inside (unchanged_drive old.seat new.seat f drive) slots sound.fit
+          (subst P (sym (ap (λ (d : Drive). frame_at d.frames f) drive)) (fit_gone f (frame_at old.seat.frames f) s i (sound.fit f within)));
     }
 
 fit_fresh : (f : ℕ) → IsFit f fresh_frame []
@@ -227,13 +227,13 @@ fit_fresh f = record {
   whole = λ b low high. absurd (omega arith);
   free = λ e. refl;
   summed = λ h. absurd (omega arith);
-  emptied = λ e. tt;
+  draining = λ e. tt;
 }
 
 -- a new table
-pub sound_new : (t : Table) (count : ℕ) → FEWEST_FRAMES ≤ count → count ≤ 1024 → t.drive.frames ≡ replicate count fresh_frame → t.slots ≡ replicate count [] → (free : List ℕ) → free ≡ reverse (range_with_len 0 count) → IsSoundTable t free None
+pub sound_new : (t : Table) (count : ℕ) → FEWEST_FRAMES ≤ count → count ≤ 1024 → t.seat.frames ≡ replicate count fresh_frame → t.slots ≡ replicate count [] → (free : List ℕ) → free ≡ reverse (range_with_len 0 count) → IsSoundTable t free None
 sound_new t count enough small frames slots free e =
-    let long : length t.drive.frames ≡ count = ap length frames ∙ length-replicate count fresh_frame in
+    let long : length t.seat.frames ≡ count = ap length frames ∙ length-replicate count fresh_frame in
     record {
       least = omega (arith, long);
       most = omega (arith, long);

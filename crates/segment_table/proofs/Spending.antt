@@ -42,53 +42,53 @@ sums_most u f (suc n) b most =
     omega (arith, first, rest)
 
 -- the same number of places of a frame
-spent_alike : (old new : Table) (g : ℕ) → KeepsGeneration g old.drive new.drive → length (slots_at new.slots g) ≡ length (slots_at old.slots g) → spent_at new g ≡ spent_at old g
+spent_alike : (old new : Table) (g : ℕ) → KeepsGeneration g old.seat new.seat → length (slots_at new.slots g) ≡ length (slots_at old.slots g) → spent_at new g ≡ spent_at old g
 spent_alike old new g generation used =
-    ap (λ (n : ℕ). 15 * (n - 1) + length (slots_at new.slots g)) generation ∙ ap (λ (n : ℕ). 15 * ((frame_at old.drive.frames g).generation - 1) + n) used
+    ap (λ (n : ℕ). 15 * (n - 1) + length (slots_at new.slots g)) generation ∙ ap (λ (n : ℕ). 15 * ((frame_at old.seat.frames g).generation - 1) + n) used
 
 -- as many places as before were taken where no generation and no number of used blocks has changed
-pub spent_same : (old new : Table) (f : ℕ) → IsAlone f old.drive new.drive → KeepsGeneration f old.drive new.drive → ((g : ℕ) → length (slots_at new.slots g) ≡ length (slots_at old.slots g)) → places_spent new ≡ places_spent old
+pub spent_same : (old new : Table) (f : ℕ) → IsAlone f old.seat new.seat → KeepsGeneration f old.seat new.seat → ((g : ℕ) → length (slots_at new.slots g) ≡ length (slots_at old.slots g)) → places_spent new ≡ places_spent old
 spent_same old new f alone generation used =
-    ap (λ (n : ℕ). sum_over (spent_at new) 0 n) (length-alone old.drive new.drive f alone)
-    ∙ sums_same (spent_at new) (spent_at old) 0 (length old.drive.frames) (λ g low high. spent_alike old new g (generation_alone old.drive new.drive f g alone generation) (used g))
+    ap (λ (n : ℕ). sum_over (spent_at new) 0 n) (length-alone old.seat new.seat f alone)
+    ∙ sums_same (spent_at new) (spent_at old) 0 (length old.seat.frames) (λ g low high. spent_alike old new g (generation_alone old.seat new.seat f g alone generation) (used g))
 
-pub spent_kept : (old new : Table) (f : ℕ) → IsAlone f old.drive new.drive → KeepsGeneration f old.drive new.drive → new.slots ≡ old.slots → places_spent new ≡ places_spent old
+pub spent_kept : (old new : Table) (f : ℕ) → IsAlone f old.seat new.seat → KeepsGeneration f old.seat new.seat → new.slots ≡ old.slots → places_spent new ≡ places_spent old
 spent_kept old new f alone generation slots = spent_same old new f alone generation (λ g. ap (λ (l : List (List Slot)). length (slots_at l g)) slots)
 
 -- a block that was put takes one more
-pub spent_put : (old new : Table) (f : ℕ) (slot : Slot) (block : List ℕ) → f < length old.drive.frames → f < length old.slots → IsPut f slot block old new → places_spent new ≡ 1 + places_spent old
+pub spent_put : (old new : Table) (f : ℕ) (slot : Slot) (block : List ℕ) → f < length old.seat.frames → f < length old.slots → IsPut f slot block old new → places_spent new ≡ 1 + places_spent old
 spent_put old new f slot block inside within put =
     let used : length (slots_at new.slots f) ≡ 1 + length (slots_at old.slots f) =
     ap (λ (l : List (List Slot)). length (slots_at l f)) put.slots
     ∙ ap length (get_or-set_same old.slots f (slots_at old.slots f ++ slot ∷ []) [] within)
     ∙ length-append (slots_at old.slots f) (slot ∷ [])
     ∙ omega arith in
-    let generation : KeepsGeneration f old.drive new.drive = put.generation in
-    ap (λ (n : ℕ). sum_over (spent_at new) 0 n) (length-alone old.drive new.drive f put.alone)
-    ∙ sums_more (spent_at new) (spent_at old) 0 (length old.drive.frames) f 1 (omega arith) (omega (arith, inside)) (omega (arith, used, generation))
-    (λ g ne. spent_alike old new g (generation_alone old.drive new.drive f g put.alone put.generation)
+    let generation : KeepsGeneration f old.seat new.seat = put.generation in
+    ap (λ (n : ℕ). sum_over (spent_at new) 0 n) (length-alone old.seat new.seat f put.alone)
+    ∙ sums_more (spent_at new) (spent_at old) 0 (length old.seat.frames) f 1 (omega arith) (omega (arith, inside)) (omega (arith, used, generation))
+    (λ g ne. spent_alike old new g (generation_alone old.seat new.seat f g put.alone put.generation)
     (ap (λ (l : List (List Slot)). length (slots_at l g)) put.slots ∙ ap length (get_or-set_other old.slots f g (slots_at old.slots f ++ slot ∷ []) [] ne)))
 
 -- a frame at its next generation without used blocks counts its life as whole
-pub spent_again : (old new : Table) (f : ℕ) (k : Frame) → f < length old.drive.frames → f < length old.slots → new.drive.frames ≡ set old.drive.frames f k → (frame_at new.drive.frames f).generation ≡ (frame_at old.drive.frames f).generation + 1
-    → IsFit f (frame_at old.drive.frames f) (slots_at old.slots f) → new.slots ≡ set old.slots f [] → places_spent old ≤ places_spent new
+pub spent_again : (old new : Table) (f : ℕ) (k : Frame) → f < length old.seat.frames → f < length old.slots → new.seat.frames ≡ set old.seat.frames f k → (frame_at new.seat.frames f).generation ≡ (frame_at old.seat.frames f).generation + 1
+    → IsFit f (frame_at old.seat.frames f) (slots_at old.slots f) → new.slots ≡ set old.slots f [] → places_spent old ≤ places_spent new
 spent_again old new f k inside within frames next fit slots =
     let used : length (slots_at new.slots f) ≡ 0 = ap (λ (l : List (List Slot)). length (slots_at l f)) slots ∙ ap length (get_or-set_same old.slots f [] [] within) in
-    let lives : 1 ≤ (frame_at old.drive.frames f).generation = fit.lives.0 in
+    let lives : 1 ≤ (frame_at old.seat.frames f).generation = fit.lives.0 in
     let few : length (slots_at old.slots f) ≤ 15 = fit.few in
-    let sum : sum_over (spent_at new) 0 (length new.drive.frames) ≡ (15 - length (slots_at old.slots f)) + sum_over (spent_at old) 0 (length old.drive.frames) =
-    ap (λ (n : ℕ). sum_over (spent_at new) 0 n) (ap length frames ∙ length-set old.drive.frames f k)
-    ∙ sums_more (spent_at new) (spent_at old) 0 (length old.drive.frames) f (15 - length (slots_at old.slots f)) (omega arith) (omega (arith, inside)) (omega (arith, used, next, lives, few))
-    (λ g ne. spent_alike old new g (ap (λ (l : List Frame). (frame_at l g).generation) frames ∙ ap (λ (x : Frame). x.generation) (get_or-set_other old.drive.frames f g k no_frame ne))
+    let sum : sum_over (spent_at new) 0 (length new.seat.frames) ≡ (15 - length (slots_at old.slots f)) + sum_over (spent_at old) 0 (length old.seat.frames) =
+    ap (λ (n : ℕ). sum_over (spent_at new) 0 n) (ap length frames ∙ length-set old.seat.frames f k)
+    ∙ sums_more (spent_at new) (spent_at old) 0 (length old.seat.frames) f (15 - length (slots_at old.slots f)) (omega arith) (omega (arith, inside)) (omega (arith, used, next, lives, few))
+    (λ g ne. spent_alike old new g (ap (λ (l : List Frame). (frame_at l g).generation) frames ∙ ap (λ (x : Frame). x.generation) (get_or-set_other old.seat.frames f g k no_frame ne))
     (ap (λ (l : List (List Slot)). length (slots_at l g)) slots ∙ ap length (get_or-set_other old.slots f g [] [] ne))) in
     omega (arith, sum)
 
 -- none of a new table's places was taken
-pub spent_new : (t : Table) (count : ℕ) → t.drive.frames ≡ replicate count fresh_frame → t.slots ≡ replicate count [] → places_spent t ≡ 0
+pub spent_new : (t : Table) (count : ℕ) → t.seat.frames ≡ replicate count fresh_frame → t.slots ≡ replicate count [] → places_spent t ≡ 0
 spent_new t count frames slots =
-    let long : length t.drive.frames ≡ count = ap length frames ∙ length-replicate count fresh_frame in
-    let most : sum_over (spent_at t) 0 (length t.drive.frames) ≤ length t.drive.frames * 0 = sums_most (spent_at t) 0 (length t.drive.frames) 0 (λ g low high.
-    let generation : (frame_at t.drive.frames g).generation ≡ 1 = ap (λ (l : List Frame). (frame_at l g).generation) frames ∙ ap (λ (k : Frame). k.generation) (get_or-replicate count g fresh_frame no_frame (omega (arith, high, long))) in
+    let long : length t.seat.frames ≡ count = ap length frames ∙ length-replicate count fresh_frame in
+    let most : sum_over (spent_at t) 0 (length t.seat.frames) ≤ length t.seat.frames * 0 = sums_most (spent_at t) 0 (length t.seat.frames) 0 (λ g low high.
+    let generation : (frame_at t.seat.frames g).generation ≡ 1 = ap (λ (l : List Frame). (frame_at l g).generation) frames ∙ ap (λ (k : Frame). k.generation) (get_or-replicate count g fresh_frame no_frame (omega (arith, high, long))) in
     let used : length (slots_at t.slots g) ≡ 0 = ap (λ (l : List (List Slot)). length (slots_at l g)) slots ∙ ap length (get_or-replicate count g [] [] (omega (arith, high, long))) in
     omega (arith, generation, used)) in
     omega (arith, most)
@@ -96,10 +96,10 @@ spent_new t count frames slots =
 -- and over all lives of all frames they are fewer than 1,024 times 15 times 2^32
 pub spent_most : (t : Table) (free : List ℕ) (current : Option ℕ) → IsSoundTable t free current → places_spent t ≤ 1024 * (15 * 2 ^ 32)
 spent_most t free current sound =
-    let some : length t.drive.frames ≤ 1024 = sound.most in
-    let most : sum_over (spent_at t) 0 (length t.drive.frames) ≤ length t.drive.frames * (15 * 2 ^ 32) = sums_most (spent_at t) 0 (length t.drive.frames) (15 * 2 ^ 32) (λ g low high.
+    let some : length t.seat.frames ≤ 1024 = sound.most in
+    let most : sum_over (spent_at t) 0 (length t.seat.frames) ≤ length t.seat.frames * (15 * 2 ^ 32) = sums_most (spent_at t) 0 (length t.seat.frames) (15 * 2 ^ 32) (λ g low high.
     let fit = sound.fit g (omega (arith, high)) in
-    let lives : (frame_at t.drive.frames g).generation < 2 ^ 32 = fit.lives.1 in
+    let lives : (frame_at t.seat.frames g).generation < 2 ^ 32 = fit.lives.1 in
     let few : length (slots_at t.slots g) ≤ 15 = fit.few in
     omega (arith, lives, few)) in
     omega (arith, some, most)

@@ -4,7 +4,7 @@ use Rattle.std.specs.List.{AllByRecursion, list_all}
 use Rattle.std.proofs.lemmas.List.{length-map}
 use Rattle.std.proofs.lemmas.Bool.{and_from, le-leb, lt-ltb}
 use Rattle.codec.specs.Fields.{Reads}
-use Rattle.codec.specs.declared.summaries.Part.{Part}
+use Rattle.codec.specs.declared.summaries.BlockRole.{BlockRole}
 use Rattle.codec.specs.Summary.{SummaryFields, has_object, summary_rules, IsBlank, UnusedAreBlank, SpellsSummary, checked_summary}
 use Rattle.segment_word.specs.Frames.{Sealed, Frame}
 use Rattle.segment_word.specs.Layout.{frame_at, block_bytes, with_block}
@@ -14,12 +14,12 @@ use Rattle.segment_table.specs.Sealing.{blocks_from, payload_of, summary_of, IsO
 use Rattle.segment_table.specs.Changes.{IsAlone, KeepsBlock, IsCleared, IsSealed}
 use Rattle.segment_table.proofs.Alone.{put_here, alone, alone_then, length-alone}
 
-abbrev parts_of : List Slot → List Part
-parts_of slots = map (λ (slot : Slot). slot.part) slots
+abbrev roles_of : List Slot → List BlockRole
+roles_of slots = map (λ (slot : Slot). slot.role) slots
 
-have_objects : (slots : List Slot) → AllByRecursion IsOwned slots → list_all has_object (parts_of slots) ≡ true
+have_objects : (slots : List Slot) → AllByRecursion IsOwned slots → list_all has_object (roles_of slots) ≡ true
 have_objects [] all = refl
-have_objects (x ∷ slots) all = and_from (has_object x.part) (list_all has_object (parts_of slots)) (le-leb 1 x.part.object all.0) (have_objects slots all.1)
+have_objects (x ∷ slots) all = and_from (has_object x.role) (list_all has_object (roles_of slots)) (le-leb 1 x.role.object all.0) (have_objects slots all.1)
 
 -- what the summary needs of a frame
 pub record CanSum (g : ℕ) (slots : List Slot) : Type 0 where
@@ -29,32 +29,32 @@ pub record CanSum (g : ℕ) (slots : List Slot) : Type 0 where
   pub few : length slots ≤ 15
   pub owned : AllByRecursion IsOwned slots
 
-rules_kept : (f g : ℕ) (slots : List Slot) → CanSum g slots → summary_rules (record { frame = f; generation = g; parts = parts_of slots }) ≡ true
+rules_kept : (f g : ℕ) (slots : List Slot) → CanSum g slots → summary_rules (record { frame = f; generation = g; roles = roles_of slots }) ≡ true
 unfolding summary_rules
 rules_kept f g slots can =
-    let count : length (parts_of slots) ≡ length slots = length-map slots (λ (slot : Slot). slot.part) in
-    and_from (nat_le 1 g) (nat_lt (g + 1) (2 ^ 32) && (nat_le 1 (length (parts_of slots)) && (nat_le (length (parts_of slots)) 15 && list_all has_object (parts_of slots)))) (le-leb 1 g can.started)
-    (and_from (nat_lt (g + 1) (2 ^ 32)) (nat_le 1 (length (parts_of slots)) && (nat_le (length (parts_of slots)) 15 && list_all has_object (parts_of slots))) (lt-ltb (g + 1) (2 ^ 32) can.goes_on)
-    (and_from (nat_le 1 (length (parts_of slots))) (nat_le (length (parts_of slots)) 15 && list_all has_object (parts_of slots)) (le-leb 1 (length (parts_of slots)) (omega arith))
-    (and_from (nat_le (length (parts_of slots)) 15) (list_all has_object (parts_of slots)) (le-leb (length (parts_of slots)) 15 (omega arith)) (have_objects slots can.owned))))
+    let count : length (roles_of slots) ≡ length slots = length-map slots (λ (slot : Slot). slot.role) in
+    and_from (nat_le 1 g) (nat_lt (g + 1) (2 ^ 32) && (nat_le 1 (length (roles_of slots)) && (nat_le (length (roles_of slots)) 15 && list_all has_object (roles_of slots)))) (le-leb 1 g can.started)
+    (and_from (nat_lt (g + 1) (2 ^ 32)) (nat_le 1 (length (roles_of slots)) && (nat_le (length (roles_of slots)) 15 && list_all has_object (roles_of slots))) (lt-ltb (g + 1) (2 ^ 32) can.goes_on)
+    (and_from (nat_le 1 (length (roles_of slots))) (nat_le (length (roles_of slots)) 15 && list_all has_object (roles_of slots)) (le-leb 1 (length (roles_of slots)) (omega arith))
+    (and_from (nat_le (length (roles_of slots)) 15) (list_all has_object (roles_of slots)) (le-leb (length (roles_of slots)) 15 (omega arith)) (have_objects slots can.owned))))
 
-summed : (f g : ℕ) (slots : List Slot) (parts : List Part) → CanSum g slots → parts ≡ parts_of slots → checked_summary (record { frame = f; generation = g; parts = parts }) ≡ Some (record { frame = f; generation = g; parts = parts_of slots })
-summed f g slots parts can e =
-    ap (λ (l : List Part). checked_summary (record { frame = f; generation = g; parts = l })) e
-    ∙ ap (λ (b : Bool). if b then Some (record { frame = f; generation = g; parts = parts_of slots }) else None) (rules_kept f g slots can)
+summed : (f g : ℕ) (slots : List Slot) (roles : List BlockRole) → CanSum g slots → roles ≡ roles_of slots → checked_summary (record { frame = f; generation = g; roles = roles }) ≡ Some (record { frame = f; generation = g; roles = roles_of slots })
+summed f g slots roles can e =
+    ap (λ (l : List BlockRole). checked_summary (record { frame = f; generation = g; roles = l })) e
+    ∙ ap (λ (b : Bool). if b then Some (record { frame = f; generation = g; roles = roles_of slots }) else None) (rules_kept f g slots can)
 
 -- a summary is never refused
-pub never_refused : (f g : ℕ) (slots : List Slot) (parts : List Part) (made : Option SummaryFields) → CanSum g slots → parts ≡ parts_of slots
-    → Reads (λ s. s) made (checked_summary (record { frame = f; generation = g; parts = parts })) → IsSome made
-never_refused f g slots parts None can e made =
-    let some : checked_summary (record { frame = f; generation = g; parts = parts }) ≡ Some (record { frame = f; generation = g; parts = parts_of slots }) = summed f g slots parts can e in
+pub never_refused : (f g : ℕ) (slots : List Slot) (roles : List BlockRole) (made : Option SummaryFields) → CanSum g slots → roles ≡ roles_of slots
+    → Reads (λ s. s) made (checked_summary (record { frame = f; generation = g; roles = roles })) → IsSome made
+never_refused f g slots roles None can e made =
+    let some : checked_summary (record { frame = f; generation = g; roles = roles }) ≡ Some (record { frame = f; generation = g; roles = roles_of slots }) = summed f g slots roles can e in
     absurd (cc)
-never_refused f g slots parts (Some s) can e made = refl
+never_refused f g slots roles (Some s) can e made = refl
 
 -- it has the frame's fields
-pub summary_is : (f g : ℕ) (slots : List Slot) (parts : List Part) (s : SummaryFields) → CanSum g slots → parts ≡ parts_of slots → checked_summary (record { frame = f; generation = g; parts = parts }) ≡ Some s → s ≡ record { frame = f; generation = g; parts = parts_of slots }
-summary_is f g slots parts s can e made =
-    let some : checked_summary (record { frame = f; generation = g; parts = parts }) ≡ Some (record { frame = f; generation = g; parts = parts_of slots }) = summed f g slots parts can e in
+pub summary_is : (f g : ℕ) (slots : List Slot) (roles : List BlockRole) (s : SummaryFields) → CanSum g slots → roles ≡ roles_of slots → checked_summary (record { frame = f; generation = g; roles = roles }) ≡ Some s → s ≡ record { frame = f; generation = g; roles = roles_of slots }
+summary_is f g slots roles s can e made =
+    let some : checked_summary (record { frame = f; generation = g; roles = roles }) ≡ Some (record { frame = f; generation = g; roles = roles_of slots }) = summed f g slots roles can e in
     cc
 
 drop_blocks : (contents : List ℕ) (u b n : ℕ) → drop u (blocks_from contents b n) ≡ blocks_from contents (b + u) (n - u)
@@ -99,7 +99,7 @@ pub sealed_is : (f : ℕ) (slots : List Slot) (old cleared stored sealed : Drive
     → sealed ≡ with_changed stored f (record (frame_at stored.frames f) { phase = Sealed })
     → payload ≡ payload_of (frame_at cleared.frames f).contents
     → s ≡ summary_of f (frame_at cleared.frames f) slots
-    → (UnusedAreBlank (length s.parts) payload → SpellsSummary payload block s)
+    → (UnusedAreBlank (length s.roles) payload → SpellsSummary payload block s)
     → IsSealed f slots old sealed
 sealed_is f slots old cleared stored sealed block payload s inside few clear changed at others raised is_payload is_s spells =
     let k1 : Frame = with_block (frame_at cleared.frames f) 0 block in
@@ -117,11 +117,11 @@ sealed_is f slots old cleared stored sealed block payload s inside few clear cha
     is_payload ∙ sym (blocks_same (frame_at sealed.frames f).contents (frame_at cleared.frames f).contents 1 15 (λ c low high. keeps c low (omega arith))) in
     let zeroth : block ≡ block_bytes (frame_at sealed.frames f).contents 0 = sym (ap (λ (l : List ℕ). block_bytes l 0) contents ∙ at) in
     let named : s ≡ summary_of f (frame_at sealed.frames f) slots =
-    is_s ∙ ap (λ (g : ℕ). record { frame = f; generation = g; parts = parts_of slots }) (sym generation) in
-    let count : length s.parts ≡ length slots = ap (λ (x : SummaryFields). length x.parts) is_s ∙ length-map slots (λ (slot : Slot). slot.part) in
+    is_s ∙ ap (λ (g : ℕ). record { frame = f; generation = g; roles = roles_of slots }) (sym generation) in
+    let count : length s.roles ≡ length slots = ap (λ (x : SummaryFields). length x.roles) is_s ∙ length-map slots (λ (slot : Slot). slot.role) in
     let U : ℕ → Type 0 = λ n. UnusedAreBlank n payload in
     let V : List (List ℕ) → Type 0 = λ l. UnusedAreBlank (length slots) l in
-    let blank : UnusedAreBlank (length s.parts) payload = subst U (sym count) (subst V (sym is_payload) (unused_blank f (length slots) old cleared few clear)) in
+    let blank : UnusedAreBlank (length s.roles) payload = subst U (sym count) (subst V (sym is_payload) (unused_blank f (length slots) old cleared few clear)) in
     let A : List (List ℕ) → Type 0 = λ l. SpellsSummary l block s in
     let B : List ℕ → Type 0 = λ x. SpellsSummary (payload_of (frame_at sealed.frames f).contents) x s in
     let C : SummaryFields → Type 0 = λ x. SpellsSummary (payload_of (frame_at sealed.frames f).contents) (block_bytes (frame_at sealed.frames f).contents 0) x in

@@ -6,9 +6,9 @@ use Rattle.std.proofs.lemmas.Bool.{cases_Bool, cases_eq, cases_lt, eq-eqb, ne_eq
 use Rattle.std.proofs.Math.Seq.{map-set_same}
 use Rattle.s4_types.specs.Pointer.{Place}
 use Rattle.block_log.specs.Log.{Stored, same_place}
-use Rattle.codec.specs.declared.summaries.Part.{Part}
+use Rattle.codec.specs.declared.summaries.BlockRole.{BlockRole}
 use Rattle.codec.specs.Summary.{SpellsSummary}
-use Rattle.segment_word.specs.Frames.{Phase, Free, Open, Sealed, Emptied, Frame, is_open, is_sealed}
+use Rattle.segment_word.specs.Frames.{Phase, Free, Open, Sealed, Draining, Frame, is_open, is_sealed}
 use Rattle.segment_word.specs.Layout.{frame_at, block_bytes}
 use Rattle.segment_word.specs.Handles.{Drive}
 use Rattle.segment_table.specs.declared.slots.Slot.{Slot}
@@ -70,9 +70,9 @@ used_is k s b g some = elim (cases_Bool (is_named k)) [
 ]
 
 -- a used block's frame is there
-pub used_inside : (t : Table) (p : Place) → length t.slots ≡ length t.drive.frames → IsSome (used_at t p) → p.frame < length t.drive.frames
+pub used_inside : (t : Table) (p : Place) → length t.slots ≡ length t.seat.frames → IsSome (used_at t p) → p.frame < length t.seat.frames
 used_inside t p counted some =
-    let at : IsUsedAt (frame_at t.drive.frames p.frame) (slots_at t.slots p.frame) p.block p.generation = used_is (frame_at t.drive.frames p.frame) (slots_at t.slots p.frame) p.block p.generation some in
+    let at : IsUsedAt (frame_at t.seat.frames p.frame) (slots_at t.slots p.frame) p.block p.generation = used_is (frame_at t.seat.frames p.frame) (slots_at t.slots p.frame) p.block p.generation some in
     elim (cases_lt p.frame (length t.slots)) [
       | inl low ↦ omega arith
       | inr past ↦ (let none : length (slots_at t.slots p.frame) ≡ 0 = ap length (get_or_past t.slots p.frame [] past) in
@@ -82,11 +82,11 @@ used_inside t p counted some =
     ]
 
 -- a frame that pointers name isn't free, nor being emptied
-pub named_phase : (p : Phase) → (is_open p || is_sealed p) ≡ true → (p ≢ Free) × (p ≢ Emptied)
+pub named_phase : (p : Phase) → (is_open p || is_sealed p) ≡ true → (p ≢ Free) × (p ≢ Draining)
 named_phase Free e = absurd (cc)
 named_phase Open e = (λ same. cc, λ same. cc)
 named_phase Sealed e = (λ same. cc, λ same. cc)
-named_phase Emptied e = absurd (cc)
+named_phase Draining e = absurd (cc)
 
 -- ---- holding one
 
@@ -133,66 +133,66 @@ held_on_at k s p (suc b) g low high =
     ]
 
 -- a block that was put on hold is held, and all else as before
-pub held_on : (old new : Table) (p q : Place) → p.frame < length old.slots → IsUsedAt (frame_at old.drive.frames p.frame) (slots_at old.slots p.frame) p.block p.generation
-    → new.drive ≡ old.drive → new.slots ≡ set old.slots p.frame (hold_on (slots_at old.slots p.frame) (p.block - 1))
+pub held_on : (old new : Table) (p q : Place) → p.frame < length old.slots → IsUsedAt (frame_at old.seat.frames p.frame) (slots_at old.slots p.frame) p.block p.generation
+    → new.seat ≡ old.seat → new.slots ≡ set old.slots p.frame (hold_on (slots_at old.slots p.frame) (p.block - 1))
     → held_at new q ≡ (if same_place p q then used_at old p else held_at old q)
 held_on old new p q inside used drive slots =
     let f : ℕ = p.frame in
     let s : List Slot = slots_at old.slots f in
-    let k : Frame = frame_at old.drive.frames f in
+    let k : Frame = frame_at old.seat.frames f in
     let it : Stored = with_bytes (block_bytes k.contents p.block) (get_or s (p.block - 1) no_slot) in
     ap (λ (d : Drive). held_block (frame_at d.frames q.frame) (slots_at new.slots q.frame) q.block q.generation) drive
     ∙ elim (cases_eq q.frame f) [
-      | inl at ↦ (let P : ℕ → Type 0 = λ n. held_block (frame_at old.drive.frames n) (slots_at new.slots n) q.block q.generation ≡ (if f == n && (p.block == q.block && p.generation == q.generation) then Some it else held_block (frame_at old.drive.frames n) (slots_at old.slots n) q.block q.generation) in
+      | inl at ↦ (let P : ℕ → Type 0 = λ n. held_block (frame_at old.seat.frames n) (slots_at new.slots n) q.block q.generation ≡ (if f == n && (p.block == q.block && p.generation == q.generation) then Some it else held_block (frame_at old.seat.frames n) (slots_at old.slots n) q.block q.generation) in
           let here : slots_at new.slots f ≡ hold_on s (p.block - 1) = ap (λ (l : List (List Slot)). slots_at l f) slots ∙ get_or-set_same old.slots f (hold_on s (p.block - 1)) [] inside in
           subst P (sym at)
           (ap (λ (l : List Slot). held_block k l q.block q.generation) here
           ∙ held_on_at k s p.block q.block q.generation used.low used.high
           ∙ ap (λ (n : ℕ). if p.block == q.block && n == q.generation then Some it else held_block k s q.block q.generation) used.generation
           ∙ sym (ap (λ (x : Bool). if x && (p.block == q.block && p.generation == q.generation) then Some it else held_block k s q.block q.generation) (eq-eqb f f refl))))
-      | inr ne ↦ ap (λ (l : List (List Slot)). held_block (frame_at old.drive.frames q.frame) (slots_at l q.frame) q.block q.generation) slots
-          ∙ ap (λ (l : List Slot). held_block (frame_at old.drive.frames q.frame) l q.block q.generation) (get_or-set_other old.slots f q.frame (hold_on s (p.block - 1)) [] ne)
+      | inr ne ↦ ap (λ (l : List (List Slot)). held_block (frame_at old.seat.frames q.frame) (slots_at l q.frame) q.block q.generation) slots
+          ∙ ap (λ (l : List Slot). held_block (frame_at old.seat.frames q.frame) l q.block q.generation) (get_or-set_other old.slots f q.frame (hold_on s (p.block - 1)) [] ne)
           ∙ sym (ap (λ (x : Bool). if x && (p.block == q.block && p.generation == q.generation) then Some it else held_at old q) (ne_eqb f q.frame (λ (same : f ≡ q.frame). ne (sym same))))
     ]
     ∙ ap (λ (o : Option Stored). if same_place p q then o else held_at old q) (sym used.is)
 
 -- and what is used stays
-pub used_still : (old new : Table) (f i : ℕ) (q : Place) → f < length old.slots → new.drive ≡ old.drive → new.slots ≡ set old.slots f (hold_on (slots_at old.slots f) i) → used_at new q ≡ used_at old q
+pub used_still : (old new : Table) (f i : ℕ) (q : Place) → f < length old.slots → new.seat ≡ old.seat → new.slots ≡ set old.slots f (hold_on (slots_at old.slots f) i) → used_at new q ≡ used_at old q
 used_still old new f i q inside drive slots =
     ap (λ (d : Drive). used_block (frame_at d.frames q.frame) (slots_at new.slots q.frame) q.block q.generation) drive
-    ∙ ap (λ (l : List (List Slot)). used_block (frame_at old.drive.frames q.frame) (slots_at l q.frame) q.block q.generation) slots
+    ∙ ap (λ (l : List (List Slot)). used_block (frame_at old.seat.frames q.frame) (slots_at l q.frame) q.block q.generation) slots
     ∙ elim (cases_eq q.frame f) [
-      | inl at ↦ (let P : ℕ → Type 0 = λ n. used_block (frame_at old.drive.frames n) (slots_at (set old.slots f (hold_on (slots_at old.slots f) i)) n) q.block q.generation ≡ used_block (frame_at old.drive.frames n) (slots_at old.slots n) q.block q.generation in
+      | inl at ↦ (let P : ℕ → Type 0 = λ n. used_block (frame_at old.seat.frames n) (slots_at (set old.slots f (hold_on (slots_at old.slots f) i)) n) q.block q.generation ≡ used_block (frame_at old.seat.frames n) (slots_at old.slots n) q.block q.generation in
           subst P (sym at)
-          (ap (λ (l : List Slot). used_block (frame_at old.drive.frames f) l q.block q.generation) (get_or-set_same old.slots f (hold_on (slots_at old.slots f) i) [] inside)
-          ∙ used_kept (frame_at old.drive.frames f) (slots_at old.slots f) i q.block q.generation))
-      | inr ne ↦ ap (λ (l : List Slot). used_block (frame_at old.drive.frames q.frame) l q.block q.generation) (get_or-set_other old.slots f q.frame (hold_on (slots_at old.slots f) i) [] ne)
+          (ap (λ (l : List Slot). used_block (frame_at old.seat.frames f) l q.block q.generation) (get_or-set_same old.slots f (hold_on (slots_at old.slots f) i) [] inside)
+          ∙ used_kept (frame_at old.seat.frames f) (slots_at old.slots f) i q.block q.generation))
+      | inr ne ↦ ap (λ (l : List Slot). used_block (frame_at old.seat.frames q.frame) l q.block q.generation) (get_or-set_other old.slots f q.frame (hold_on (slots_at old.slots f) i) [] ne)
     ]
 
 -- and what the used blocks are for
-pub parts_still : (old : List (List Slot)) (f i g : ℕ) → f < length old → map (λ (x : Slot). x.part) (slots_at (set old f (hold_on (slots_at old f) i)) g) ≡ map (λ (x : Slot). x.part) (slots_at old g)
-parts_still old f i g inside = elim (cases_eq g f) [
-  | inl at ↦ (let P : ℕ → Type 0 = λ n. map (λ (x : Slot). x.part) (slots_at (set old f (hold_on (slots_at old f) i)) n) ≡ map (λ (x : Slot). x.part) (slots_at old n) in
+pub roles_still : (old : List (List Slot)) (f i g : ℕ) → f < length old → map (λ (x : Slot). x.role) (slots_at (set old f (hold_on (slots_at old f) i)) g) ≡ map (λ (x : Slot). x.role) (slots_at old g)
+roles_still old f i g inside = elim (cases_eq g f) [
+  | inl at ↦ (let P : ℕ → Type 0 = λ n. map (λ (x : Slot). x.role) (slots_at (set old f (hold_on (slots_at old f) i)) n) ≡ map (λ (x : Slot). x.role) (slots_at old n) in
       subst P (sym at)
-      (ap (map (λ (x : Slot). x.part)) (get_or-set_same old f (hold_on (slots_at old f) i) [] inside)
-      ∙ map-set_same (λ (x : Slot). x.part) (slots_at old f) i (record (get_or (slots_at old f) i no_slot) { held = true }) no_slot refl))
-  | inr ne ↦ ap (map (λ (x : Slot). x.part)) (get_or-set_other old f g (hold_on (slots_at old f) i) [] ne)
+      (ap (map (λ (x : Slot). x.role)) (get_or-set_same old f (hold_on (slots_at old f) i) [] inside)
+      ∙ map-set_same (λ (x : Slot). x.role) (slots_at old f) i (record (get_or (slots_at old f) i no_slot) { held = true }) no_slot refl))
+  | inr ne ↦ ap (map (λ (x : Slot). x.role)) (get_or-set_other old f g (hold_on (slots_at old f) i) [] ne)
 ]
 
 -- the frame of a block that was put on hold fits
-pub fit_held_on : (f : ℕ) (k : Frame) (s : List Slot) (i : ℕ) → IsFit f k s → k.phase ≢ Emptied → IsFit f k (hold_on s i)
+pub fit_held_on : (f : ℕ) (k : Frame) (s : List Slot) (i : ℕ) → IsFit f k s → k.phase ≢ Draining → IsFit f k (hold_on s i)
 fit_held_on f k s i fit ne =
     let slot : Slot = record (get_or s i no_slot) { held = true } in
-    let P : List Part → Type 0 = λ parts. SpellsSummary (payload_of k.contents) (block_bytes k.contents 0) (record { frame = f; generation = k.generation; parts = parts }) in
-    let parts : map (λ (x : Slot). x.part) (set s i slot) ≡ map (λ (x : Slot). x.part) s = map-set_same (λ (x : Slot). x.part) s i slot no_slot refl in
+    let P : List BlockRole → Type 0 = λ roles. SpellsSummary (payload_of k.contents) (block_bytes k.contents 0) (record { frame = f; generation = k.generation; roles = roles }) in
+    let roles : map (λ (x : Slot). x.role) (set s i slot) ≡ map (λ (x : Slot). x.role) s = map-set_same (λ (x : Slot). x.role) s i slot no_slot refl in
     record {
       lives = fit.lives;
       few = omega (arith, length-set s i slot, fit.few);
       owned = gone_owned s i slot fit.owned (λ low. owned_at s i fit.owned low);
       whole = λ b low high. fit.whole b low (omega (arith, length-set s i slot));
       free = λ e. ap (λ (l : List Slot). set l i slot) (fit.free e);
-      summed = λ h. subst P (sym parts) (fit.summed h);
-      emptied = λ e. absurd (ne e);
+      summed = λ h. subst P (sym roles) (fit.summed h);
+      draining = λ e. absurd (ne e);
     }
 
 -- ---- what holds of all
@@ -216,7 +216,7 @@ used_whole k s b g whole =
 
 pub all_whole : (t : Table) (free : List ℕ) (current : Option ℕ) → IsSoundTable t free current → HasWholeBlocks t
 all_whole t free current sound p =
-    let k : Frame = frame_at t.drive.frames p.frame in
+    let k : Frame = frame_at t.seat.frames p.frame in
     let s : List Slot = slots_at t.slots p.frame in
     used_whole k s p.block p.generation (elim (cases_lt p.frame (length t.slots)) [
       | inl low ↦ (sound.fit p.frame (omega (arith, sound.counted))).whole
@@ -236,7 +236,7 @@ named_when p (inr e) = ap (λ (x : Phase). is_open x || is_sealed x) e
 
 pub all_used : (t : Table) (free : List ℕ) (current : Option ℕ) → IsSoundTable t free current → HoldsUsedBlocks t
 all_used t free current sound p block is =
-    let k : Frame = frame_at t.drive.frames p.frame in
+    let k : Frame = frame_at t.seat.frames p.frame in
     let s : List Slot = slots_at t.slots p.frame in
     let some : IsSome (held_at t p) = subst IsSome (sym is) refl in
     let used : IsUsed k s p.block p.generation = held_used k s p.block p.generation some in

@@ -5,8 +5,8 @@ use Rattle.s4_types.specs.Pointer.{Place}
 use Rattle.s4_types.specs.declared.refusals.Refusal.{Refusal}
 use Rattle.s4_types.specs.declared.refusals.Refusal.TheVariants.{InUse}
 use Rattle.codec.specs.Summary.{IsBlank}
-use Rattle.codec.specs.declared.summaries.Part.{Part}
-use Rattle.segment_word.specs.Frames.{Open, Sealed, Emptied}
+use Rattle.codec.specs.declared.summaries.BlockRole.{BlockRole}
+use Rattle.segment_word.specs.Frames.{Open, Sealed, Draining}
 use Rattle.segment_word.specs.Layout.{frame_at, block_bytes}
 use Rattle.segment_word.specs.Handles.{Drive, HasMissed, with_changed, with_released}
 use Rattle.segment_table.specs.declared.slots.Slot.{Slot}
@@ -16,11 +16,11 @@ use Rattle.segment_table.specs.Sealing.{IsSummed}
 
 -- frame f is the only open one
 abbrev pub IsFilling : ℕ → Table → Type 0
-IsFilling f t = numbers is_filling 0 t.drive.frames ≡ f ∷ []
+IsFilling f t = numbers is_filling 0 t.seat.frames ≡ f ∷ []
 
 -- no frame is open
 abbrev pub NoneIsFilling : Table → Type 0
-NoneIsFilling t = numbers is_filling 0 t.drive.frames ≡ []
+NoneIsFilling t = numbers is_filling 0 t.seat.frames ≡ []
 
 -- no other frame than f has changed
 abbrev pub IsAlone : ℕ → Drive → Drive → Type 0
@@ -54,14 +54,14 @@ pub record IsSealed (f : ℕ) (slots : List Slot) (old new : Drive) : Type 0 whe
 
 -- frame f of a table was sealed, and nothing else has changed
 abbrev pub IsSealedIn : ℕ → Table → Table → Type 0
-IsSealedIn f old new = IsSealed f (slots_at old.slots f) old.drive new.drive × (new.slots ≡ old.slots)
+IsSealedIn f old new = IsSealed f (slots_at old.slots f) old.seat new.seat × (new.slots ≡ old.slots)
 
 -- Frame f is the open one and takes the next append: it was so before, or it was free and has been opened. No block has
 -- changed.
 pub record IsReadyFrame (f : ℕ) (old new : Table) : Type 0 where
-  pub alone : IsAlone f old.drive new.drive
-  pub generation : KeepsGeneration f old.drive new.drive
-  pub contents : (frame_at new.drive.frames f).contents ≡ (frame_at old.drive.frames f).contents
+  pub alone : IsAlone f old.seat new.seat
+  pub generation : KeepsGeneration f old.seat new.seat
+  pub contents : (frame_at new.seat.frames f).contents ≡ (frame_at old.seat.frames f).contents
   pub slots : new.slots ≡ old.slots
   pub within : f < length new.slots
   pub filling : IsFilling f new
@@ -73,25 +73,25 @@ with_slot slots f slot = slice_set slots f (slots_at slots f ++ slot ∷ [])
 
 -- a block was put into the lowest unused block of frame f
 pub record IsPut (f : ℕ) (slot : Slot) (block : List ℕ) (old new : Table) : Type 0 where
-  pub alone : IsAlone f old.drive new.drive
-  pub phase : (frame_at new.drive.frames f).phase ≡ (frame_at old.drive.frames f).phase
-  pub generation : KeepsGeneration f old.drive new.drive
-  pub bytes : block_bytes (frame_at new.drive.frames f).contents (length (slots_at old.slots f) + 1) ≡ block
-  pub others : (b : ℕ) → b < 16 → b ≢ length (slots_at old.slots f) + 1 → KeepsBlock f b old.drive new.drive
+  pub alone : IsAlone f old.seat new.seat
+  pub phase : (frame_at new.seat.frames f).phase ≡ (frame_at old.seat.frames f).phase
+  pub generation : KeepsGeneration f old.seat new.seat
+  pub bytes : block_bytes (frame_at new.seat.frames f).contents (length (slots_at old.slots f) + 1) ≡ block
+  pub others : (b : ℕ) → b < 16 → b ≢ length (slots_at old.slots f) + 1 → KeepsBlock f b old.seat new.seat
   pub slots : new.slots ≡ with_slot old.slots f slot
 
 -- A block was appended at place p, which was the lowest unused block of its frame. The frame is open, or sealed where
 -- this was its last block.
-pub record IsAppended (p : Place) (part : Part) (block : List ℕ) (old new : Table) : Type 0 where
-  pub alone : IsAlone p.frame old.drive new.drive
-  pub generation : KeepsGeneration p.frame old.drive new.drive
+pub record IsAppended (p : Place) (role : BlockRole) (block : List ℕ) (old new : Table) : Type 0 where
+  pub alone : IsAlone p.frame old.seat new.seat
+  pub generation : KeepsGeneration p.frame old.seat new.seat
   pub place : p.block ≡ length (slots_at old.slots p.frame) + 1
-  pub bytes : block_bytes (frame_at new.drive.frames p.frame).contents p.block ≡ block
-  pub others : (b : ℕ) → 1 ≤ b → b < p.block → KeepsBlock p.frame b old.drive new.drive
-  pub slots : new.slots ≡ with_slot old.slots p.frame (record { part = part; held = true })
-  pub filling : p.block < 15 → (frame_at new.drive.frames p.frame).phase ≡ Open
-  pub sealed : p.block ≡ 15 → (frame_at new.drive.frames p.frame).phase ≡ Sealed
-  pub summed : p.block ≡ 15 → IsSummed p.frame (frame_at new.drive.frames p.frame) (slots_at new.slots p.frame)
+  pub bytes : block_bytes (frame_at new.seat.frames p.frame).contents p.block ≡ block
+  pub others : (b : ℕ) → 1 ≤ b → b < p.block → KeepsBlock p.frame b old.seat new.seat
+  pub slots : new.slots ≡ with_slot old.slots p.frame (record { role = role; held = true })
+  pub filling : p.block < 15 → (frame_at new.seat.frames p.frame).phase ≡ Open
+  pub sealed : p.block ≡ 15 → (frame_at new.seat.frames p.frame).phase ≡ Sealed
+  pub summed : p.block ≡ 15 → IsSummed p.frame (frame_at new.seat.frames p.frame) (slots_at new.slots p.frame)
 
 -- none of the blocks of frame f is held
 abbrev pub NoneHeld : ℕ → Table → Type 0
@@ -99,21 +99,21 @@ NoneHeld f t = (p : Place) → p.frame ≡ f → held_at t p ≡ None
 
 -- frame f is sealed, and none of its blocks is held
 abbrev pub CanBeEmptied : ℕ → Table → Type 0
-CanBeEmptied f t = ((frame_at t.drive.frames f).phase ≡ Sealed) × NoneHeld f t
+CanBeEmptied f t = ((frame_at t.seat.frames f).phase ≡ Sealed) × NoneHeld f t
 
 -- frame f was sealed and none of its blocks was held: it is being emptied, and nothing else has changed
 pub record IsMarked (f : ℕ) (old new : Table) : Type 0 where
-  pub sealed : (frame_at old.drive.frames f).phase ≡ Sealed
+  pub sealed : (frame_at old.seat.frames f).phase ≡ Sealed
   pub unheld : NoneHeld f old
-  pub drive : new.drive ≡ with_changed old.drive f (record (frame_at old.drive.frames f) { phase = Emptied })
+  pub seat : new.seat ≡ with_changed old.seat f (record (frame_at old.seat.frames f) { phase = Draining })
   pub slots : new.slots ≡ old.slots
 
 -- frame f was being emptied and had no reader: it is free at its next generation, and none of its blocks is used
 pub record IsReleased (f : ℕ) (old new : Table) : Type 0 where
-  pub inside : f < length old.drive.frames
-  pub emptied : (frame_at old.drive.frames f).phase ≡ Emptied
-  pub goes_on : (frame_at old.drive.frames f).generation + 1 < 2 ^ 32
-  pub drive : new.drive ≡ with_released old.drive f
+  pub inside : f < length old.seat.frames
+  pub draining : (frame_at old.seat.frames f).phase ≡ Draining
+  pub goes_on : (frame_at old.seat.frames f).generation + 1 < 2 ^ 32
+  pub seat : new.seat ≡ with_released old.seat f
   pub slots : new.slots ≡ slice_set old.slots f []
 
 -- The 15 blocks of frame f, at its new generation, are among the places ahead: behind the unused blocks of the open frame
@@ -121,10 +121,10 @@ pub record IsReleased (f : ℕ) (old new : Table) : Type 0 where
 pub record IsAheadAgain (f : ℕ) (old new : Table) : Type 0 where
   pub lower : List ℕ
   pub higher : List ℕ
-  pub vacant : numbers can_open 0 old.drive.frames ≡ lower ++ higher
+  pub vacant : numbers can_open 0 old.seat.frames ≡ lower ++ higher
   pub below : AllByRecursion (λ n. n < f) lower
   pub above : AllByRecursion (λ n. f < n) higher
-  pub ahead : places_ahead new ≡ flat_map (rest_of old) (numbers is_filling 0 old.drive.frames) ++ (flat_map (whole_of old) lower ++ (whole_of new f ++ flat_map (whole_of old) higher))
+  pub ahead : places_ahead new ≡ flat_map (rest_of old) (numbers is_filling 0 old.seat.frames) ++ (flat_map (whole_of old) lower ++ (whole_of new f ++ flat_map (whole_of old) higher))
 
 -- ---- what a call on the frames of a table leaves, and when it is refused
 
@@ -154,11 +154,11 @@ pub record ReleasesFrame (f : ℕ) (old : Table) (done : Result (Unit {0}) Refus
   pub released : OnOk done (IsReleased f old new)
   pub held : (log_of new).held ≡ (log_of old).held
   pub spent : OnOk done ((log_of old).spent ≤ (log_of new).spent)
-  pub again : OnOk done ((frame_at old.drive.frames f).generation + 2 < 2 ^ 32 → IsAheadAgain f old new)
-  pub retired : OnOk done ((frame_at old.drive.frames f).generation + 2 ≡ 2 ^ 32 → places_ahead new ≡ places_ahead old)
-  pub missed : OnErr done ((frame_at old.drive.frames f).phase ≡ Emptied → HasMissed f old.drive new.drive)
-  pub idle : OnErr done ((frame_at old.drive.frames f).phase ≢ Emptied → new ≡ old)
-  pub refused : OnErr done ((new.drive.frames ≡ old.drive.frames) × (new.slots ≡ old.slots))
+  pub again : OnOk done ((frame_at old.seat.frames f).generation + 2 < 2 ^ 32 → IsAheadAgain f old new)
+  pub retired : OnOk done ((frame_at old.seat.frames f).generation + 2 ≡ 2 ^ 32 → places_ahead new ≡ places_ahead old)
+  pub missed : OnErr done ((frame_at old.seat.frames f).phase ≡ Draining → HasMissed f old.seat new.seat)
+  pub idle : OnErr done ((frame_at old.seat.frames f).phase ≢ Draining → new ≡ old)
+  pub refused : OnErr done ((new.seat.frames ≡ old.seat.frames) × (new.slots ≡ old.slots))
   pub log : OnErr done (log_of new ≡ log_of old)
-  pub table : new.drive.table ≡ old.drive.table
+  pub table : new.seat.table ≡ old.seat.table
   pub refusal : IfErr done (λ e. e ≡ InUse)

@@ -10,9 +10,9 @@ use Rattle.segment_table.specs.Room.{places_ahead, pointers_in}
 -- A place of a sealed frame, at the frame's generation, at which a block of an object is held.
 pub record IsListed (t : Table) (o f : ℕ) (p : Place) : Type 0 where
   pub frame : p.frame ≡ f
-  pub generation : p.generation ≡ (frame_at t.drive.frames f).generation
+  pub generation : p.generation ≡ (frame_at t.seat.frames f).generation
   pub payload : (1 ≤ p.block) × (p.block ≤ 15)
-  pub sealed : is_sealed (frame_at t.drive.frames f).phase ≡ true
+  pub sealed : is_sealed (frame_at t.seat.frames f).phase ≡ true
   pub held : is_of o (held_at t p) ≡ true
 
 -- What is listed as held in a frame is held there, and the frame is sealed.
@@ -21,8 +21,8 @@ WhatIsListedIsHeld = (t : Table) (o f : ℕ) (p : Place) → Contains (pointers_
 
 -- each held block of an object in a sealed frame is listed
 abbrev pub ListsAllHeld : Table → Type 0
-ListsAllHeld t = (o : ℕ) (p : Place) → is_sealed (frame_at t.drive.frames p.frame).phase ≡ true → is_of o (held_at t p) ≡ true → Contains (pointers_in t o p.frame) p
+ListsAllHeld t = (o : ℕ) (p : Place) → is_sealed (frame_at t.seat.frames p.frame).phase ≡ true → is_of o (held_at t p) ≡ true → Contains (pointers_in t o p.frame) p
 
 -- The places that the next appends take lie in the open frame or in free ones.
 abbrev pub PlacesAheadAreInNoSealedFrame : Type 0
-PlacesAheadAreInNoSealedFrame = (t : Table) (p : Place) → Contains (places_ahead t) p → is_sealed (frame_at t.drive.frames p.frame).phase ≡ false
+PlacesAheadAreInNoSealedFrame = (t : Table) (p : Place) → Contains (places_ahead t) p → is_sealed (frame_at t.seat.frames p.frame).phase ≡ false

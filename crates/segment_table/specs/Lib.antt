@@ -3,7 +3,7 @@ pub mod Table
 pub mod Used
 pub mod Room
 pub mod Sealing
-pub mod Parts
+pub mod Building
 pub mod Changes
 pub mod Rules
 pub mod Laws

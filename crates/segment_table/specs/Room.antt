@@ -27,21 +27,21 @@ places f g b (suc n) = record { frame = f; block = b; generation = g } ∷ place
 
 -- the unused payload blocks of frame f
 abbrev pub rest_of : Table → ℕ → List Place
-rest_of t f = let used = length (slots_at t.slots f) in places f (frame_at t.drive.frames f).generation (used + 1) (15 - used)
+rest_of t f = let used = length (slots_at t.slots f) in places f (frame_at t.seat.frames f).generation (used + 1) (15 - used)
 
 -- all payload blocks of frame f
 abbrev pub whole_of : Table → ℕ → List Place
-whole_of t f = places f (frame_at t.drive.frames f).generation 1 15
+whole_of t f = places f (frame_at t.seat.frames f).generation 1 15
 
 -- The places that the next appends take, in order: the unused blocks of the open frame, then all of the free
 -- frames that can be opened, by ascending number.
 abbrev pub places_ahead : Table → List Place
-places_ahead t = flat_map (rest_of t) (numbers is_filling 0 t.drive.frames) ++ flat_map (whole_of t) (numbers can_open 0 t.drive.frames)
+places_ahead t = flat_map (rest_of t) (numbers is_filling 0 t.seat.frames) ++ flat_map (whole_of t) (numbers can_open 0 t.seat.frames)
 
 -- How many places of frame f were ever taken: the used blocks of its present life, and all 15 of each earlier one. A life
 -- that ended with unused blocks counts as if they had been used.
 abbrev pub spent_at : Table → ℕ → ℕ
-spent_at t f = 15 * ((frame_at t.drive.frames f).generation - 1) + length (slots_at t.slots f)
+spent_at t f = 15 * ((frame_at t.seat.frames f).generation - 1) + length (slots_at t.slots f)
 
 -- the sum of a number of each of n frames, from frame f on
 abbrev pub sum_over : (ℕ → ℕ) → ℕ → ℕ → ℕ
@@ -50,7 +50,7 @@ sum_over number f (suc n) = number f + sum_over number (f + 1) n
 
 -- how many places of all frames were ever taken
 abbrev pub places_spent : Table → ℕ
-places_spent t = sum_over (spent_at t) 0 (length t.drive.frames)
+places_spent t = sum_over (spent_at t) 0 (length t.seat.frames)
 
 -- the table as a log
 abbrev pub log_of : Table → Log
@@ -62,4 +62,4 @@ new_places n = flat_map (λ f. places f 1 1 15) (range_with_len 0 n)
 
 -- the pointers to the held blocks of an object in frame f, by ascending block, where the frame is sealed
 abbrev pub pointers_in : Table → ℕ → ℕ → List Place
-pointers_in t o f = if is_sealed (frame_at t.drive.frames f).phase then filter (λ p. is_of o (held_at t p)) (whole_of t f) else []
+pointers_in t o f = if is_sealed (frame_at t.seat.frames f).phase then filter (λ p. is_of o (held_at t p)) (whole_of t f) else []

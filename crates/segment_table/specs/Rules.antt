@@ -13,12 +13,12 @@ use Rattle.segment_table.specs.Sealing.{IsFit, IsPartFilled}
 -- block has 512 bytes and is used. The places that were ever taken and those ahead are fewer than 2^46, over all lives of the
 -- frames.
 pub record HasFramesInOrder (named : TableId) (t : Table) : Type 0 where
-  pub table : t.drive.table ≡ named
-  pub fit : (f : ℕ) → f < length t.drive.frames → IsFit f (frame_at t.drive.frames f) (slots_at t.slots f)
-  pub one_open : length (numbers is_filling 0 t.drive.frames) ≤ 1
+  pub table : t.seat.table ≡ named
+  pub fit : (f : ℕ) → f < length t.seat.frames → IsFit f (frame_at t.seat.frames f) (slots_at t.slots f)
+  pub one_open : length (numbers is_filling 0 t.seat.frames) ≤ 1
   pub whole : HoldsWholeBlocks t
   pub part_filled : IsPartFilled t
   pub used : HoldsUsedBlocks t
-  pub count : IsFrameCount (length t.drive.frames)
-  pub sizes : (length t.drive.frames ≤ 1024) × (length t.slots ≡ length t.drive.frames)
+  pub count : IsFrameCount (length t.seat.frames)
+  pub sizes : (length t.seat.frames ≤ 1024) × (length t.slots ≡ length t.seat.frames)
   pub bounded : (log_of t).spent + length (log_of t).ahead < 2 ^ 46

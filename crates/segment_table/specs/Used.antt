@@ -14,7 +14,7 @@ used_slot slots (suc b) = slice_get slots b
 
 -- a used block with its bytes
 abbrev pub with_bytes : List ℕ → Slot → Stored
-with_bytes bytes slot = record { kind = slot.part.kind; object = slot.part.object; bytes = bytes }
+with_bytes bytes slot = record { kind = slot.role.kind; object = slot.role.object; bytes = bytes }
 
 -- whether pointers may name blocks of a frame: it is open or sealed
 abbrev pub is_named : Frame → Bool
@@ -27,7 +27,7 @@ used_block k slots b g =
 
 -- The used block that a place names in an open or sealed frame at the frame's generation, held or not.
 abbrev pub used_at : Table → Place → Option Stored
-used_at t p = used_block (frame_at t.drive.frames p.frame) (slots_at t.slots p.frame) p.block p.generation
+used_at t p = used_block (frame_at t.seat.frames p.frame) (slots_at t.slots p.frame) p.block p.generation
 
 -- each used block of an open or sealed frame has 512 bytes
 abbrev pub HasWholeBlocks : Table → Type 0

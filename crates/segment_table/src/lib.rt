@@ -13,23 +13,23 @@
 //! generation, 2^32 - 1, are retired.
 //!
 //! A drive is saved frame by frame: `saved_word` gives a frame's state, and `save_blocks` its blocks, those of the open frame as
-//! sealing it now would leave them. It is opened from what was saved by way of [`TableParts`], which has the frames before they
+//! sealing it now would leave them. It is opened from what was saved by way of [`TableBuilder`], which has the frames before they
 //! are shared: each free one gets its generation, each other one the blocks that its summary tells of. None of these is held
 //! until `hold` says so; `used` tells what a pointer names, held or not. A table made of them has the same log.
 //!
 //! That the saved bytes make an image, and which pointers an image's rows name, is not told here.
 #![tactic(auto)]
 
+mod builder;
 pub mod laws;
 mod over_frames;
-mod parts;
 mod saving;
 mod seals;
 mod segments;
 mod slots;
 mod table;
 
+pub use builder::{TableBuilder, UsedBlock};
 pub use over_frames::OverFrames;
-pub use parts::{TableParts, UsedBlock};
 pub use slots::Slot;
 pub use table::SegmentTable;

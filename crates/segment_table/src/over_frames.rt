@@ -3,18 +3,18 @@ ghost use Rattle.std.specs.Prelude.{◌≡◌, ℕ, ◌<◌, ◌≤◌, ◌⊎�
 ghost use Rattle.atomic_table.specs.Seated.{TableId};
 ghost use Rattle.s4_types.specs.declared.refusals.Refusal.TheVariants.{NoMemory, Busy};
 ghost use Rattle.codec.specs.Summary.{SpellsSummary};
-ghost use Rattle.segment_word.specs.Frames.{Sealed, code_of, is_emptied};
+ghost use Rattle.segment_word.specs.Frames.{Sealed, code_of, is_draining};
 ghost use Rattle.segment_word.specs.Layout.{word_of, frame_at, block_bytes};
 ghost use Rattle.segment_word.specs.FrameRule.{AllRemembered};
 ghost use Rattle.segment_word.specs.Handles.{pin_of};
-ghost use Rattle.segment_table.specs.Table.{Table, slots_at, held_at, part_of};
+ghost use Rattle.segment_table.specs.Table.{Table, slots_at, held_at, role_of};
 ghost use Rattle.segment_table.specs.Room.{pointers_in};
 ghost use Rattle.segment_table.specs.Sealing.{summary_of};
 ghost use Rattle.segment_table.specs.Rules.{HasFramesInOrder};
 ghost use Rattle.segment_table.specs.Laws.{ListsAllHeld};
 
 use block_log::Block;
-use codec::Part;
+use codec::BlockRole;
 use s4_types::limits::FRAME_BLOCKS;
 use s4_types::{ObjectId, Ptr, Refusal};
 use segment_word::{Memory, Pin};
@@ -34,34 +34,34 @@ pub trait OverFrames {
 
     /// How many frames there are.
     fn frame_count(&self) -> u16
-        ensures { result ≡ length (table self.now).drive.frames };
+        ensures { result ≡ length (table self.now).seat.frames };
 
     /// Whether a frame is being emptied; one that isn't there is not.
-    fn is_emptied(&mut self, frame: u16) -> bool
-        ensures emptied { result ≡ is_emptied (frame_at (table self.old).drive.frames frame).phase }
+    fn is_draining(&mut self, frame: u16) -> bool
+        ensures draining { result ≡ is_draining (frame_at (table self.old).seat.frames frame).phase }
         ensures same { self.new ≡ self.old };
 
     /// The generation of a frame, and none where it isn't there.
     fn generation(&mut self, frame: u16) -> Option<u32>
-        ensures inside { IfSome result (λ g. frame < length (table self.old).drive.frames) }
-        ensures generation { IfSome result (λ g. g ≡ (frame_at (table self.old).drive.frames frame).generation) }
-        ensures outside { IfNone result (length (table self.old).drive.frames ≤ frame) }
+        ensures inside { IfSome result (λ g. frame < length (table self.old).seat.frames) }
+        ensures generation { IfSome result (λ g. g ≡ (frame_at (table self.old).seat.frames frame).generation) }
+        ensures outside { IfNone result (length (table self.old).seat.frames ≤ frame) }
         ensures same { self.new ≡ self.old };
 
     /// The state word of a frame as it is saved: it counts no reader.
     fn saved_word(&mut self, frame: u16) -> u64
-        requires { frame < length (table self.old).drive.frames }
-        ensures word { result ≡ word_of (frame_at (table self.old).drive.frames frame) 0 }
+        requires { frame < length (table self.old).seat.frames }
+        ensures word { result ≡ word_of (frame_at (table self.old).seat.frames frame) 0 }
         ensures same { self.new ≡ self.old };
 
     /// The 16 blocks of a frame that isn't free, as they are saved. Those of the open frame are what sealing it now would leave:
     /// its summary first, and zeros in its unused blocks.
     fn save_blocks(&mut self, frame: u16, blocks: &mut [Block; FRAME_BLOCKS])
-        requires inside { frame < length (table self.old).drive.frames }
-        requires used { 0 < code_of (frame_at (table self.old).drive.frames frame).phase }
-        ensures spelled { SpellsSummary (drop 1 blocks.new) (slice_index_or blocks.new 0 []) (summary_of frame (frame_at (table self.old).drive.frames frame) (slots_at (table self.old).slots frame)) }
-        ensures kept { (b : ℕ) → 1 ≤ b → b ≤ length (slots_at (table self.old).slots frame) → slice_index_or blocks.new b [] ≡ block_bytes (frame_at (table self.old).drive.frames frame).contents b }
-        ensures whole { 2 ≤ code_of (frame_at (table self.old).drive.frames frame).phase → (b : ℕ) → b < 16 → slice_index_or blocks.new b [] ≡ block_bytes (frame_at (table self.old).drive.frames frame).contents b }
+        requires inside { frame < length (table self.old).seat.frames }
+        requires used { 0 < code_of (frame_at (table self.old).seat.frames frame).phase }
+        ensures spelled { SpellsSummary (drop 1 blocks.new) (slice_index_or blocks.new 0 []) (summary_of frame (frame_at (table self.old).seat.frames frame) (slots_at (table self.old).slots frame)) }
+        ensures kept { (b : ℕ) → 1 ≤ b → b ≤ length (slots_at (table self.old).slots frame) → slice_index_or blocks.new b [] ≡ block_bytes (frame_at (table self.old).seat.frames frame).contents b }
+        ensures whole { 2 ≤ code_of (frame_at (table self.old).seat.frames frame).phase → (b : ℕ) → b < 16 → slice_index_or blocks.new b [] ≡ block_bytes (frame_at (table self.old).seat.frames frame).contents b }
         ensures same { self.new ≡ self.old };
 
     /// The pointers to the held blocks of an object in a frame, by ascending block, and none where the frame isn't sealed or
@@ -78,8 +78,8 @@ pub trait OverFrames {
         ensures { ListsAllHeld (table self.now) };
 
     /// What the block is for that a pointer leads to. None where the pointer isn't held.
-    fn part(&mut self, place: Ptr) -> Option<Part>
-        ensures part { result ≡ option_map part_of (held_at (table self.old) place) }
+    fn role(&mut self, place: Ptr) -> Option<BlockRole>
+        ensures role { result ≡ option_map role_of (held_at (table self.old) place) }
         ensures same { self.new ≡ self.old };
 
     /// The bytes of a held block.
@@ -96,9 +96,9 @@ pub trait OverFrames {
     /// times.
     fn pin(&mut self, place: Ptr) -> Result<Pin, Refusal>
         requires held { IsSome (held_at (table self.old) place) }
-        requires sealed { (frame_at (table self.old).drive.frames place.frame).phase ≡ Sealed }
+        requires sealed { (frame_at (table self.old).seat.frames place.frame).phase ≡ Sealed }
         ensures table { IfOk result (λ pin. pin.table ≡ name self.old) }
-        ensures pinned { IfOk result (λ pin. pin.pins ≡ pin_of (table self.old).drive.frames place.frame ∷ []) }
+        ensures pinned { IfOk result (λ pin. pin.pins ≡ pin_of (table self.old).seat.frames place.frame ∷ []) }
         ensures refusal { IfErr result (λ e. (e ≡ NoMemory) ⊎ (e ≡ Busy)) }
         ensures same { self.new ≡ self.old };
 
@@ -106,6 +106,6 @@ pub trait OverFrames {
     /// while it is at that one, it is sealed or being emptied with the contents that it had.
     fn recall(&mut self, memory: &mut Memory)
         requires { memory.old.table ≡ name self.old }
-        ensures remembered { AllRemembered (table self.old).drive.frames memory.old.remembered }
+        ensures remembered { AllRemembered (table self.old).seat.frames memory.old.remembered }
         ensures same { (self.new ≡ self.old) × (memory.new ≡ memory.old) };
 }

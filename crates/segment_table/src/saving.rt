@@ -57,7 +57,7 @@ pub fn save_sealed(
     let number = frame as usize;
     let payload = sealed_payload(seat, number, slots.len());
     let generation = seat.generation(number);
-    let summary = Summary::new(frame, generation, slots.parts()).unwrap();
+    let summary = Summary::new(frame, generation, slots.roles()).unwrap();
     write_blocks(blocks, &encode_summary(&summary, &payload), &payload);
 }
 

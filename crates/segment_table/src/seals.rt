@@ -48,7 +48,7 @@ pub fn seal(seat: &mut DriveSeat, frame: u16, slots: &Slots)
     let number = frame as usize;
     clear_unused(seat, number, slots.len());
     let generation = seat.generation(number);
-    let summary = Summary::new(frame, generation, slots.parts()).unwrap();
+    let summary = Summary::new(frame, generation, slots.roles()).unwrap();
     let payload = payload(seat, number);
     seat.store(number, 0, &encode_summary(&summary, &payload));
     seat.seal(number);

@@ -6,7 +6,7 @@ ghost use Rattle.s4_types.specs.declared.limits.TheConstants.{BLOCK_BYTES};
 ghost use Rattle.block_log.specs.Log.{appended, dropped};
 ghost use Rattle.segment_word.specs.Frames.{is_sealed};
 ghost use Rattle.segment_word.specs.Layout.{frame_at};
-ghost use Rattle.segment_table.specs.Table.{Table, slots_at, held_at, is_of, part_of};
+ghost use Rattle.segment_table.specs.Table.{Table, slots_at, held_at, is_of, role_of};
 ghost use Rattle.segment_table.specs.Room.{is_filling, numbers, rest_of, places_ahead, places_spent, log_of, pointers_in};
 ghost use Rattle.segment_table.specs.Sealing.{IsSoundTable, IsPartFilled};
 ghost use Rattle.segment_table.specs.Changes.{IsFilling, NoneIsFilling, IsReadyFrame, IsPut, IsSealed, IsSealedIn, MarksFrame, ReleasesFrame};
@@ -15,7 +15,7 @@ ghost use Rattle.segment_table.specs.private.Putting.{IsPutBetween};
 use crate::seals;
 use crate::slots::Slots;
 use block_log::Block;
-use codec::Part;
+use codec::BlockRole;
 use s4_types::limits::PAYLOAD_BLOCKS;
 use s4_types::{ObjectId, Ptr, Refusal};
 use segment_word::DriveSeat;
@@ -40,9 +40,9 @@ impl Model for Segments {
 
     ghost Value = { Table };
 
-    ghost view = { λ s. record { drive = s.seat; slots = s.slots.items } };
+    ghost view = { λ s. record { seat = s.seat; slots = s.slots.items } };
 
-    ghost invariant = { λ s. IsSoundTable (record { drive = s.seat; slots = s.slots.items }) s.free.items s.current × (length s.seat.frames ≤ vec_capacity s.free) };
+    ghost invariant = { λ s. IsSoundTable (record { seat = s.seat; slots = s.slots.items }) s.free.items s.current × (length s.seat.frames ≤ vec_capacity s.free) };
 }
 
 // Puts a number into a list between those that are greater and those that are less.
@@ -64,9 +64,9 @@ impl Segments {
         free: Vec<u16>,
         current: Option<u16>,
     ) -> Self
-        requires sound { IsSoundTable (record { drive = seat; slots = slots.items }) free.items current }
+        requires sound { IsSoundTable (record { seat = seat; slots = slots.items }) free.items current }
         requires room { length seat.frames ≤ vec_capacity free }
-        ensures { result ≡ record { drive = seat; slots = slots.items } }
+        ensures { result ≡ record { seat = seat; slots = slots.items } }
     {
         Segments {
             seat,
@@ -78,7 +78,7 @@ impl Segments {
 
     /// The number of the open frame.
     pub fn open_frame(&self) -> Option<u16>
-        ensures { option_to_list result ≡ numbers is_filling 0 self.now.drive.frames }
+        ensures { option_to_list result ≡ numbers is_filling 0 self.now.seat.frames }
     {
         self.current
     }
@@ -113,7 +113,7 @@ impl Segments {
     fn next_place(&mut self, frame: u16) -> Ptr
         requires filling { IsFilling frame self.old }
         requires room { length (slots_at self.old.slots frame) < 15 }
-        ensures place { result ≡ record { frame = frame; block = length (slots_at self.old.slots frame) + 1; generation = (frame_at self.old.drive.frames frame).generation } }
+        ensures place { result ≡ record { frame = frame; block = length (slots_at self.old.slots frame) + 1; generation = (frame_at self.old.seat.frames frame).generation } }
         ensures same { self.new ≡ self.old }
     {
         let number = frame as usize;
@@ -123,32 +123,32 @@ impl Segments {
     }
 
     // Puts a block into the lowest unused block of the open frame.
-    fn fill(&mut self, frame: u16, part: Part, block: &Block)
+    fn fill(&mut self, frame: u16, role: BlockRole, block: &Block)
         requires filling { IsFilling frame self.old }
         requires room { length (slots_at self.old.slots frame) < 15 }
-        requires owned { 1 ≤ part.object }
-        ensures put { IsPut frame (record { part = part; held = true }) block.now self.old self.new }
+        requires owned { 1 ≤ role.object }
+        ensures put { IsPut frame (record { role = role; held = true }) block.now self.old self.new }
         ensures inside { frame < length self.old.slots }
     {
         let number = frame as usize;
         let next = self.slots[number].len() + 1;
         self.seat.store(number, next, block);
-        self.slots[number].push(part);
+        self.slots[number].push(role);
     }
 
     /// Puts a block into the lowest unused block of the open frame, and answers its place.
-    pub fn put(&mut self, frame: u16, part: Part, block: &Block) -> Ptr
+    pub fn put(&mut self, frame: u16, role: BlockRole, block: &Block) -> Ptr
         requires filling { IsFilling frame self.old }
         requires room { length (slots_at self.old.slots frame) < 15 }
-        requires owned { 1 ≤ part.object }
-        ensures put { IsPut frame (record { part = part; held = true }) block.now self.old self.new }
+        requires owned { 1 ≤ role.object }
+        ensures put { IsPut frame (record { role = role; held = true }) block.now self.old self.new }
         ensures filling { IsFilling frame self.new }
-        ensures place { result ≡ record { frame = frame; block = length (slots_at self.old.slots frame) + 1; generation = (frame_at self.old.drive.frames frame).generation } }
-        ensures appended { appended (log_of self.old) (record { kind = part.kind; object = part.object; bytes = block.now }) ≡ Some (result, log_of self.new) }
+        ensures place { result ≡ record { frame = frame; block = length (slots_at self.old.slots frame) + 1; generation = (frame_at self.old.seat.frames frame).generation } }
+        ensures appended { appended (log_of self.old) (record { kind = role.kind; object = role.object; bytes = block.now }) ≡ Some (result, log_of self.new) }
         ensures fresh { held_at self.old result ≡ None }
     {
         let place = self.next_place(frame);
-        self.fill(frame, part, block);
+        self.fill(frame, role, block);
         place
     }
 
@@ -156,7 +156,7 @@ impl Segments {
     pub fn seal(&mut self, frame: u16)
         requires filling { IsFilling frame self.old }
         requires used { 1 ≤ length (slots_at self.old.slots frame) }
-        ensures sealed { IsSealed frame (slots_at self.old.slots frame) self.old.drive self.new.drive }
+        ensures sealed { IsSealed frame (slots_at self.old.slots frame) self.old.seat self.new.seat }
         ensures slots { self.new.slots ≡ self.old.slots }
         ensures filling { NoneIsFilling self.new }
         ensures held { (log_of self.new).held ≡ (log_of self.old).held }
@@ -171,7 +171,7 @@ impl Segments {
     pub fn seal_full(&mut self, frame: u16)
         requires filling { IsFilling frame self.old }
         requires used { 1 ≤ length (slots_at self.old.slots frame) }
-        ensures part { length (slots_at self.old.slots frame) < 15 → self.new ≡ self.old }
+        ensures role { length (slots_at self.old.slots frame) < 15 → self.new ≡ self.old }
         ensures full { length (slots_at self.old.slots frame) ≡ 15 → IsSealedIn frame self.old self.new × NoneIsFilling self.new }
         ensures log { log_of self.new ≡ log_of self.old }
     {
@@ -211,7 +211,7 @@ impl Segments {
 
     /// Whether the frame that a pointer names is at the pointer's generation.
     pub fn is_current(&mut self, place: Ptr) -> bool
-        ensures found { MatchBool result ((place.frame < length self.old.drive.frames) × ((frame_at self.old.drive.frames place.frame).generation ≡ place.generation)) (held_at self.old place ≡ None) }
+        ensures found { MatchBool result ((place.frame < length self.old.seat.frames) × ((frame_at self.old.seat.frames place.frame).generation ≡ place.generation)) (held_at self.old place ≡ None) }
         ensures same { self.new ≡ self.old }
     {
         let number = place.frame() as usize;
@@ -219,10 +219,10 @@ impl Segments {
     }
 
     /// What the block is for that a pointer at its frame's generation leads to, where it is held.
-    pub fn current_part(&self, place: Ptr) -> Option<Part>
-        requires inside { place.frame < length self.now.drive.frames }
-        requires current { (frame_at self.now.drive.frames place.frame).generation ≡ place.generation }
-        ensures { result ≡ option_map part_of (held_at self.now place) }
+    pub fn current_role(&self, place: Ptr) -> Option<BlockRole>
+        requires inside { place.frame < length self.now.seat.frames }
+        requires current { (frame_at self.now.seat.frames place.frame).generation ≡ place.generation }
+        ensures { result ≡ option_map role_of (held_at self.now place) }
     {
         self.slots[place.frame() as usize].held(place.block() as usize)
     }
@@ -230,9 +230,9 @@ impl Segments {
     /// The pointer is held no longer. Where it wasn't, nothing changes.
     pub fn drop_block(&mut self, place: Ptr)
         ensures log { log_of self.new ≡ dropped (log_of self.old) place }
-        ensures drive { self.new.drive ≡ self.old.drive }
+        ensures seat { self.new.seat ≡ self.old.seat }
         ensures used { (f : ℕ) → length (slots_at self.new.slots f) ≡ length (slots_at self.old.slots f) }
-        ensures parts { (f : ℕ) → map (λ slot. slot.part) (slots_at self.new.slots f) ≡ map (λ slot. slot.part) (slots_at self.old.slots f) }
+        ensures roles { (f : ℕ) → map (λ slot. slot.role) (slots_at self.new.slots f) ≡ map (λ slot. slot.role) (slots_at self.old.slots f) }
     {
         if self.is_current(place) {
             self.slots[place.frame() as usize].let_go(place.block() as usize);
@@ -241,11 +241,11 @@ impl Segments {
 
     // The generation of a frame, where it is there and sealed.
     fn sealed_generation(&mut self, frame: u16) -> Option<u32>
-        ensures inside { IfSome result (λ g. frame < length self.old.drive.frames) }
-        ensures sealed { IfSome result (λ g. is_sealed (frame_at self.old.drive.frames frame).phase ≡ true) }
-        ensures generation { IfSome result (λ g. g ≡ (frame_at self.old.drive.frames frame).generation) }
+        ensures inside { IfSome result (λ g. frame < length self.old.seat.frames) }
+        ensures sealed { IfSome result (λ g. is_sealed (frame_at self.old.seat.frames frame).phase ≡ true) }
+        ensures generation { IfSome result (λ g. g ≡ (frame_at self.old.seat.frames frame).generation) }
         ensures range { IfSome result (λ g. (1 ≤ g) × (g + 1 < 2 ^ 32)) }
-        ensures other { IfNone result (is_sealed (frame_at self.old.drive.frames frame).phase ≡ false) }
+        ensures other { IfNone result (is_sealed (frame_at self.old.seat.frames frame).phase ≡ false) }
         ensures same { self.new ≡ self.old }
     {
         let number = frame as usize;
@@ -288,12 +288,12 @@ impl Segments {
 
     // Whether a pointer at its frame's generation leads to a held block of this object.
     fn is_of(&self, object: ObjectId, place: Ptr) -> bool
-        requires inside { place.frame < length self.now.drive.frames }
-        requires current { (frame_at self.now.drive.frames place.frame).generation ≡ place.generation }
+        requires inside { place.frame < length self.now.seat.frames }
+        requires current { (frame_at self.now.seat.frames place.frame).generation ≡ place.generation }
         ensures { result ≡ is_of object (held_at self.now place) }
     {
-        match self.current_part(place) {
-            Some(part) => part.object == object,
+        match self.current_role(place) {
+            Some(role) => role.object == object,
             None => false,
         }
     }

@@ -2,11 +2,11 @@
 ghost use Rattle.std.specs.Prelude.{◌≡◌, ℕ, ◌+◌, ◌-◌, ◌<◌, ◌≤◌, true, false, [], ◌∷◌, ◌++◌, length, map, option_map, replicate, slice_set, slice_get, IfOk, IfErr};
 ghost use Rattle.s4_types.specs.declared.refusals.Refusal.TheVariants.{NoMemory};
 ghost use Rattle.std.specs.List.{list_any};
-ghost use Rattle.segment_table.specs.Slots.{hold_on, let_go, held_part, unheld};
+ghost use Rattle.segment_table.specs.Slots.{hold_on, let_go, held_role, unheld};
 
 use arrayvec::ArrayVec;
 use block_log::BlockKind;
-use codec::{Part, Parts};
+use codec::{BlockRole, BlockRoles};
 use s4_types::limits::PAYLOAD_BLOCKS;
 use s4_types::{ObjectId, Refusal};
 use std::alloc::Global;
@@ -15,14 +15,14 @@ use std::marker::Model;
 /// A used payload block: what it is for, whose it is, and whether some pointer still leads to it.
 #[derive(Clone, Copy, PartialEq, Eq)]
 pub struct Slot {
-    pub part: Part,
+    pub role: BlockRole,
     pub held: bool,
 }
 
 impl Default for Slot {
     fn default() -> Self {
         Slot {
-            part: Part::default(),
+            role: BlockRole::default(),
             held: false,
         }
     }
@@ -66,14 +66,14 @@ impl Slots {
     }
 
     /// Used blocks that are for these things, none of them held.
-    pub fn unheld(parts: &[Part]) -> Self
-        requires { length parts.now ≤ 15 }
-        ensures { result ≡ unheld parts.now }
+    pub fn unheld(roles: &[BlockRole]) -> Self
+        requires { length roles.now ≤ 15 }
+        ensures { result ≡ unheld roles.now }
     {
         let mut slots = ArrayVec::new();
-        for part in parts {
+        for role in roles {
             slots.push(Slot {
-                part: *part,
+                role: *role,
                 held: false,
             });
         }
@@ -89,28 +89,28 @@ impl Slots {
     }
 
     /// The next block is used and held from now on.
-    pub fn push(&mut self, part: Part)
+    pub fn push(&mut self, role: BlockRole)
         requires { length self.old < 15 }
-        ensures { self.new ≡ self.old ++ (record { part = part; held = true }) ∷ [] }
+        ensures { self.new ≡ self.old ++ (record { role = role; held = true }) ∷ [] }
     {
-        self.slots.push(Slot { part, held: true });
+        self.slots.push(Slot { role, held: true });
     }
 
     /// What the block of that number, from 1 on, is for, where it is held.
-    pub fn held(&self, block: usize) -> Option<Part>
+    pub fn held(&self, block: usize) -> Option<BlockRole>
         requires { 1 ≤ block }
-        ensures { result ≡ held_part (slice_get self.now (block - 1)) }
+        ensures { result ≡ held_role (slice_get self.now (block - 1)) }
     {
         let slot = self.slots.as_slice().get(block - 1)?;
-        if slot.held { Some(slot.part) } else { None }
+        if slot.held { Some(slot.role) } else { None }
     }
 
     /// What the block of that number, from 1 on, is for, held or not. None where it isn't used.
-    pub fn used(&self, block: usize) -> Option<Part>
+    pub fn used(&self, block: usize) -> Option<BlockRole>
         requires { 1 ≤ block }
-        ensures { result ≡ option_map (λ slot. slot.part) (slice_get self.now (block - 1)) }
+        ensures { result ≡ option_map (λ slot. slot.role) (slice_get self.now (block - 1)) }
     {
-        Some(self.slots.as_slice().get(block - 1)?.part)
+        Some(self.slots.as_slice().get(block - 1)?.role)
     }
 
     /// The block of that number, from 1 on, is held from now on. Where it isn't used, nothing changes.
@@ -148,13 +148,13 @@ impl Slots {
     }
 
     /// What the used blocks are for.
-    pub fn parts(&self) -> Parts
-        ensures { result.items ≡ map (λ slot. slot.part) self.now }
+    pub fn roles(&self) -> BlockRoles
+        ensures { result.items ≡ map (λ slot. slot.role) self.now }
     {
-        let mut parts = Parts::new();
+        let mut roles = BlockRoles::new();
         for slot in self.slots.as_slice() {
-            parts.push(slot.part);
+            roles.push(slot.role);
         }
-        parts
+        roles
     }
 }

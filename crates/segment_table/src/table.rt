@@ -4,7 +4,7 @@ ghost use Rattle.s4_types.specs.Sizes.{IsFrameCount};
 ghost use Rattle.s4_types.specs.declared.limits.TheConstants.{BLOCK_BYTES};
 ghost use Rattle.s4_types.specs.declared.refusals.Refusal.TheVariants.{NoMemory, Busy, NoSpace, InUse};
 ghost use Rattle.block_log.specs.Log.{appended, dropped};
-ghost use Rattle.segment_word.specs.Frames.{Pinned, is_emptied};
+ghost use Rattle.segment_word.specs.Frames.{Pinned, is_draining};
 ghost use Rattle.segment_word.specs.Frames.Phase.{Open, Sealed};
 ghost use Rattle.segment_word.specs.Layout.{frame_at, block_bytes};
 ghost use Rattle.segment_word.specs.Counting.{pins_in};
@@ -15,12 +15,12 @@ ghost use Rattle.segment_table.specs.Room.{is_filling, log_of, new_places};
 ghost use Rattle.segment_table.specs.Sealing.{IsPartFilled};
 ghost use Rattle.segment_table.specs.Changes.{IsAppended, SealsFrame, MarksFrame, ReleasesFrame};
 
+use crate::builder::TableBuilder;
 use crate::over_frames::OverFrames;
-use crate::parts::TableParts;
 use crate::saving;
 use crate::segments::Segments;
 use block_log::{Block, BlockKind, Blocks};
-use codec::Part;
+use codec::BlockRole;
 use s4_types::limits::{FRAME_BLOCKS, PAYLOAD_BLOCKS};
 use s4_types::{ObjectId, Ptr, Refusal};
 use segment_word::{Frames, Memory, Pin};
@@ -44,7 +44,7 @@ impl Model for SegmentTable {
 
     ghost view = { λ t. t.segments };
 
-    ghost invariant = { λ t. (t.frames ≡ t.segments.drive.table) × IsPartFilled t.segments };
+    ghost invariant = { λ t. (t.frames ≡ t.segments.seat.table) × IsPartFilled t.segments };
 }
 
 impl SegmentTable {
@@ -54,25 +54,25 @@ impl SegmentTable {
     /// `count_on` and `held_in` takes memory.
     pub fn new(alloc: Global, frames: usize) -> Result<Self, Refusal>
         requires { IsFrameCount frames }
-        ensures frames { IfOk result (λ t. t.drive.frames ≡ replicate frames fresh_frame) }
+        ensures frames { IfOk result (λ t. t.seat.frames ≡ replicate frames fresh_frame) }
         ensures unused { IfOk result (λ t. t.slots ≡ replicate frames []) }
         ensures log { IfOk result (λ t. log_of t ≡ record { held = λ p. None; ahead = new_places frames; spent = 0 }) }
         ensures refusal { IfErr result (λ e. (e ≡ NoMemory) ⊎ (e ≡ Busy)) }
     {
-        let parts = TableParts::new(alloc, frames)?;
-        Self::from_parts(alloc, parts)
+        let builder = TableBuilder::new(alloc, frames)?;
+        Self::from_parts(alloc, builder)
     }
 
     /// The table of a drive that was saved.
     ///
     /// NoMemory where memory was refused, Busy where the count of those that share it was full.
-    pub fn from_parts(alloc: Global, parts: TableParts) -> Result<Self, Refusal>
-        ensures frames { IfOk result (λ t. t.drive.frames ≡ parts.drive.frames) }
-        ensures slots { IfOk result (λ t. t.slots ≡ parts.slots) }
-        ensures log { IfOk result (λ t. log_of t ≡ log_of parts) }
+    pub fn from_parts(alloc: Global, builder: TableBuilder) -> Result<Self, Refusal>
+        ensures frames { IfOk result (λ t. t.seat.frames ≡ builder.seat.frames) }
+        ensures slots { IfOk result (λ t. t.slots ≡ builder.slots) }
+        ensures log { IfOk result (λ t. log_of t ≡ log_of builder) }
         ensures refusal { IfErr result (λ e. (e ≡ NoMemory) ⊎ (e ≡ Busy)) }
     {
-        let (frames, segments) = parts.shared(alloc)?;
+        let (frames, segments) = builder.shared(alloc)?;
         Ok(SegmentTable {
             frames,
             segments,
@@ -92,8 +92,8 @@ impl SegmentTable {
 
     // Whether a frame is the open one.
     fn is_filling(&self, frame: u16) -> bool
-        requires { frame < length self.now.drive.frames }
-        ensures { MatchBool result ((frame_at self.now.drive.frames frame).phase ≡ Open) ((frame_at self.now.drive.frames frame).phase ≢ Open) }
+        requires { frame < length self.now.seat.frames }
+        ensures { MatchBool result ((frame_at self.now.seat.frames frame).phase ≡ Open) ((frame_at self.now.seat.frames frame).phase ≢ Open) }
     {
         match self.segments.current {
             Some(open) => open == frame,
@@ -125,7 +125,7 @@ impl SegmentTable {
     /// Whether a held block lies in the open frame; else its frame is sealed.
     pub fn is_open(&self, place: Ptr) -> bool
         requires { IsSome (held_at self.now place) }
-        ensures { MatchBool result ((frame_at self.now.drive.frames place.frame).phase ≡ Open) ((frame_at self.now.drive.frames place.frame).phase ≡ Sealed) }
+        ensures { MatchBool result ((frame_at self.now.seat.frames place.frame).phase ≡ Open) ((frame_at self.now.seat.frames place.frame).phase ≡ Sealed) }
     {
         match self.segments.current {
             Some(frame) => frame == place.frame(),
@@ -135,7 +135,7 @@ impl SegmentTable {
 
     /// A pin without frames, which `count_on` gives some. Busy where all 64 seats are in use, or the count of those that share the memory is full.
     pub fn new_pin(&self) -> Result<Pin, Refusal>
-        ensures pin { IfOk result (λ p. (p.table ≡ self.now.drive.table) × (p.pins ≡ [])) }
+        ensures pin { IfOk result (λ p. (p.table ≡ self.now.seat.table) × (p.pins ≡ [])) }
         ensures busy { IfErr result (λ e. e ≡ Busy) }
     {
         self.frames.seat()
@@ -147,11 +147,11 @@ impl SegmentTable {
     /// NoMemory where there was none for the frame's number. Busy where the frame has 1,048,576 readers, or where other
     /// threads changed its word between load and exchange 64 times. After either, nothing has changed.
     pub fn count_on(&mut self, pin: &mut Pin, place: Ptr) -> Result<(), Refusal>
-        requires table { pin.old.table ≡ self.old.drive.table }
+        requires table { pin.old.table ≡ self.old.seat.table }
         requires held { IsSome (held_at self.old place) }
-        requires sealed { (frame_at self.old.drive.frames place.frame).phase ≡ Sealed }
+        requires sealed { (frame_at self.old.seat.frames place.frame).phase ≡ Sealed }
         ensures again { 0 < pins_in place.frame pin.old.pins → IsOk result × (pin.new ≡ pin.old) }
-        ensures pinned { pins_in place.frame pin.old.pins ≡ 0 → OnOk result (pin.new ≡ record pin.old { pins = pin_of self.old.drive.frames place.frame ∷ pin.old.pins }) }
+        ensures pinned { pins_in place.frame pin.old.pins ≡ 0 → OnOk result (pin.new ≡ record pin.old { pins = pin_of self.old.seat.frames place.frame ∷ pin.old.pins }) }
         ensures counted { OnOk result (0 < pins_in place.frame pin.new.pins) }
         ensures bytes { OnOk result ((p : Pinned) → IsAmong p pin.new.pins → p.number ≡ place.frame → IfSome (held_at self.old place) (λ block. block_bytes p.contents place.block ≡ block.bytes)) }
         ensures others { (p : Pinned) → IsAmong p pin.old.pins → IsAmong p pin.new.pins }
@@ -168,8 +168,8 @@ impl SegmentTable {
 
     /// Shows that each frame that a pin of this table counts on has the pin's generation and contents.
     pub fn confirm(&mut self, pin: &mut Pin)
-        requires { pin.old.table ≡ self.old.drive.table }
-        ensures agree { AllAgree self.old.drive.frames pin.old.pins }
+        requires { pin.old.table ≡ self.old.seat.table }
+        ensures agree { AllAgree self.old.seat.frames pin.old.pins }
         ensures same { (self.new ≡ self.old) × (pin.new ≡ pin.old) }
     {
         pin.confirm(&mut self.segments.seat);
@@ -177,7 +177,7 @@ impl SegmentTable {
 }
 
 impl OverFrames for SegmentTable {
-    ghost name = { λ t. t.drive.table };
+    ghost name = { λ t. t.seat.table };
 
     ghost table = { λ t. t };
 
@@ -185,9 +185,9 @@ impl OverFrames for SegmentTable {
         self.segments.slots.len() as u16
     }
 
-    fn is_emptied(&mut self, frame: u16) -> bool {
+    fn is_draining(&mut self, frame: u16) -> bool {
         let number = frame as usize;
-        number < self.segments.slots.len() && self.segments.seat.is_emptied(number)
+        number < self.segments.slots.len() && self.segments.seat.is_draining(number)
     }
 
     fn generation(&mut self, frame: u16) -> Option<u32> {
@@ -224,11 +224,11 @@ impl OverFrames for SegmentTable {
         self.frame_rules();
     }
 
-    fn part(&mut self, place: Ptr) -> Option<Part> {
+    fn role(&mut self, place: Ptr) -> Option<BlockRole> {
         if !self.segments.is_current(place) {
             return None;
         }
-        self.segments.current_part(place)
+        self.segments.current_role(place)
     }
 
     fn block(&mut self, place: Ptr) -> Block {
@@ -260,7 +260,7 @@ impl Blocks for SegmentTable {
         let Some(frame) = self.segments.ready_frame() else {
             return Err(Refusal::NoSpace);
         };
-        let place = self.segments.put(frame, Part { kind, object }, block);
+        let place = self.segments.put(frame, BlockRole { kind, object }, block);
         self.segments.seal_full(frame);
         Ok(place)
     }
@@ -294,9 +294,9 @@ impl Blocks for SegmentTable {
 
     fn drop_block(&mut self, place: Ptr)
         ensures log { log_of self.new ≡ dropped (log_of self.old) place }
-        ensures drive { self.new.drive ≡ self.old.drive }
+        ensures seat { self.new.seat ≡ self.old.seat }
         ensures used { (f : ℕ) → length (slots_at self.new.slots f) ≡ length (slots_at self.old.slots f) }
-        ensures parts { (f : ℕ) → map (λ slot. slot.part) (slots_at self.new.slots f) ≡ map (λ slot. slot.part) (slots_at self.old.slots f) }
+        ensures roles { (f : ℕ) → map (λ slot. slot.role) (slots_at self.new.slots f) ≡ map (λ slot. slot.role) (slots_at self.old.slots f) }
     {
         self.segments.drop_block(place);
     }

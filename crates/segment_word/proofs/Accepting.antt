@@ -10,7 +10,7 @@ use Rattle.s4_types.specs.declared.changes.Change.{Change}
 use Rattle.s4_types.specs.History.{Base, accepted}
 use Rattle.segment_word.specs.AcceptViews.{Told, Ledger, AcceptView, Driving, Lent, Attending, Beside, begun, blank_base, new_session, ledger_of, told_of, with_moment, with_change, next_change, count_of, caught_up, credited}
 use Rattle.segment_word.specs.AcceptRule.{FitsLedger, Suits, AreNumbered, AcceptRules, AcceptRule, first_ledger}
-use Rattle.segment_word.specs.AcceptSteps.{AcceptSat, TakesChange, Learns, Notes, CountsChanges, Begins, Comes, Parts}
+use Rattle.segment_word.specs.AcceptSteps.{AcceptSat, TakesChange, Learns, Notes, CountsChanges, Begins, Comes, Sheds}
 use Rattle.segment_word.proofs.AcceptLists.{prefix_all, prefix_trans, after_moment, after_change, count-change, numbered_one_more}
 use Rattle.segment_word.proofs.AcceptFits.{fits_new, fits_caught_up, fits_credited, suits_more}
 use Rattle.segment_word.proofs.AcceptViews.{first-at, first-kept, first-added, suits_set, suits_added, drive_step, same_ledger}
@@ -107,8 +107,8 @@ comes slots v s rule _ small =
       (length s.views, refl),
     )
 
-pub parts : (slots id : ℕ) (t u : Told) → Allows AcceptRule slots id (Beside t u, []) 0 (λ n. n) (Parts (step slots 0 0 0 none) (Beside t u, []))
-parts slots id t u s rule _ at small =
+pub sheds : (slots id : ℕ) (t u : Told) → Allows AcceptRule slots id (Beside t u, []) 0 (λ n. n) (Sheds (step slots 0 0 0 none) (Beside t u, []))
+sheds slots id t u s rule _ at small =
     let l : Ledger = first_ledger s.views in
     let mine : Suits l id (Beside t u) = rule.suits id (Beside t u) at in (
       Attending t,
@@ -133,5 +133,5 @@ notes_of slots id m me z is = subst (λ (x : AcceptSat). Allows AcceptRule slots
 pub begins_of : (slots id : ℕ) (base : Base) (me : AcceptSat) → id ≡ 0 → me ≡ (Driving (begun blank_base), []) → Allows AcceptRule slots id me 0 (λ n. n) (Begins base (step slots 0 0 0 none) me)
 begins_of slots id base me z is = subst (λ (x : AcceptSat). Allows AcceptRule slots id x 0 (λ n. n) (Begins base (step slots 0 0 0 none) x)) (sym is) (begins slots id base z)
 
-pub parts_of : (slots id : ℕ) (me : AcceptSat) (t u : Told) → me ≡ (Beside t u, []) → Allows AcceptRule slots id me 0 (λ n. n) (Parts (step slots 0 0 0 none) me)
-parts_of slots id me t u is = subst (λ (x : AcceptSat). Allows AcceptRule slots id x 0 (λ n. n) (Parts (step slots 0 0 0 none) x)) (sym is) (parts slots id t u)
+pub sheds_of : (slots id : ℕ) (me : AcceptSat) (t u : Told) → me ≡ (Beside t u, []) → Allows AcceptRule slots id me 0 (λ n. n) (Sheds (step slots 0 0 0 none) me)
+sheds_of slots id me t u is = subst (λ (x : AcceptSat). Allows AcceptRule slots id x 0 (λ n. n) (Sheds (step slots 0 0 0 none) x)) (sym is) (sheds slots id t u)

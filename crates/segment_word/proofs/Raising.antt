@@ -3,7 +3,7 @@ use Rattle.std.proofs.Common.{◌≡◌, ◌⊎◌, inl, inr, ℕ, ◌+◌, ◌*
 use mathlib.Core.Option.{none, some}
 use lib.ListN.{get_elem?}
 use Rattle.atomic_table.specs.Table.{step, keeps, Allows}
-use Rattle.segment_word.specs.Frames.{Phase, Free, Open, Sealed, Emptied, Frame, Pinned, View, code_of}
+use Rattle.segment_word.specs.Frames.{Phase, Free, Open, Sealed, Draining, Frame, Pinned, View, code_of}
 use Rattle.segment_word.specs.Layout.{word_of, frame_at}
 use Rattle.segment_word.specs.Counting.{readers, drive_frames}
 use Rattle.segment_word.specs.FrameRule.{IsKeptFrame, Agrees, AllAgree, FrameRules, FrameRule}
@@ -16,19 +16,19 @@ next_code : (p : Phase) → code_of p < 3 → code_of (next_phase p) ≡ code_of
 next_code Free h = omega arith
 next_code Open h = omega arith
 next_code Sealed h = omega arith
-next_code Emptied h = absurd (omega arith)
+next_code Draining h = absurd (omega arith)
 
 still_sealed : (p : Phase) → 2 ≤ code_of p → 2 ≤ code_of (next_phase p)
 still_sealed Free h = absurd (omega arith)
 still_sealed Open h = absurd (omega arith)
 still_sealed Sealed h = omega arith
-still_sealed Emptied h = omega arith
+still_sealed Draining h = omega arith
 
 zero_or : (p : Phase) → (code_of p ≡ 0) ⊎ (0 < code_of p)
 zero_or Free = inl refl
 zero_or Open = inr (omega arith)
 zero_or Sealed = inr (omega arith)
-zero_or Emptied = inr (omega arith)
+zero_or Draining = inr (omega arith)
 
 -- what is known of the frame after its word rose by one
 pub raised_kept : (words : List ℕ) (n f x : ℕ) (k : Frame) → IsKeptFrame words n f k → 1025 * f < length words → code_of k.phase < 3 → (code_of k.phase ≡ 0 → k.generation + 1 < 2 ^ 32)

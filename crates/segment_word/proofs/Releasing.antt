@@ -7,7 +7,7 @@ use lib.ListN.{get_elem?}
 use lib.Seq.{set-get_or}
 use prog.Atomic.{either}
 use Rattle.atomic_table.specs.Table.{step, keeps, stepped, Allows}
-use Rattle.segment_word.specs.Frames.{Emptied, Frame, Pinned, View, code_of}
+use Rattle.segment_word.specs.Frames.{Draining, Frame, Pinned, View, code_of}
 use Rattle.segment_word.specs.Layout.{word_of, frame_at}
 use Rattle.segment_word.specs.Counting.{pins_in, readers, drive_frames}
 use Rattle.segment_word.specs.FrameRule.{IsKeptFrame, AllAgree, AllRemembered, FrameRules, FrameRule}
@@ -29,10 +29,10 @@ none_of f (x ∷ xs) z zero p e = λ is. let one = counts_one x.number f (ap (λ
 none_of f (x ∷ xs) z (suc i) p e = none_of f xs (omega arith) i p e
 
 -- what is known of a frame in its next life
-released_kept : (words : List ℕ) (n f x : ℕ) (k : Frame) → IsKeptFrame words n f k → n ≡ 0 → 1025 * f < length words → k.phase ≡ Emptied → x ≡ word_of (released k) 0
+released_kept : (words : List ℕ) (n f x : ℕ) (k : Frame) → IsKeptFrame words n f k → n ≡ 0 → 1025 * f < length words → k.phase ≡ Draining → x ≡ word_of (released k) 0
     → IsKeptFrame (set words (1025 * f) x) n f (released k)
-released_kept words n f x k is unread inside emptied e =
-    let code : code_of k.phase ≡ 3 = ap code_of emptied in
+released_kept words n f x k is unread inside draining e =
+    let code : code_of k.phase ≡ 3 = ap code_of draining in
     let free : code_of (released k).phase ≡ 0 = refl in
     let more : k.generation + 1 < 2 ^ 32 = is.goes_on (omega arith) in
     record {
@@ -60,15 +60,15 @@ state_of words n f k is = record {
 
 -- the rule after a release that won
 won : (words : List ℕ) (views : List View) (frames : List Frame) (id : ℕ) (v w : View) (f x : ℕ) → FrameRules words views frames → get_elem? views id ≡ some v → w.pins ≡ v.pins → w.remembered ≡ v.remembered
-    → f < length frames → (frame_at frames f).phase ≡ Emptied → readers f views ≡ 0 → x ≡ word_of (released (frame_at frames f)) 0
+    → f < length frames → (frame_at frames f).phase ≡ Draining → readers f views ≡ 0 → x ≡ word_of (released (frame_at frames f)) 0
     → FrameRules (set words (1025 * f) x) (set views id w) (set frames f (released (frame_at frames f)))
-won words views frames id v w f x r at same memory inside emptied unread e =
+won words views frames id v w f x r at same memory inside draining unread e =
     let k : Frame = frame_at frames f in
     let after : List Frame = set frames f (released k) in
     let place : 1025 * f < length words = omega (arith, r.sized) in
     let count : (g : ℕ) → readers g (set views id w) ≡ readers g views = λ g. let t = readers-set g views id v w at in let o : pins_in g w.pins ≡ pins_in g v.pins = ap (pins_in g) same in omega arith in
     let kept : IsKeptFrame (set words (1025 * f) x) (readers f (set views id w)) f (released k) =
-    subst (λ (n : ℕ). IsKeptFrame (set words (1025 * f) x) n f (released k)) (sym (count f)) (released_kept words (readers f views) f x k (r.kept f inside) unread place emptied e) in
+    subst (λ (n : ℕ). IsKeptFrame (set words (1025 * f) x) n f (released k)) (sym (count f)) (released_kept words (readers f views) f x k (r.kept f inside) unread place draining e) in
     let goes : GoesOn k (released k) = record { later = omega arith; kept = λ e _. absurd (omega arith) } in
     let agree : (j : ℕ) (y : View) → get_elem? views j ≡ some y → AllAgree after y.pins =
     λ j y there i p q. agrees_set frames f (released k) p (r.pinned j y there i p q) goes (λ here. absurd (none_of f y.pins (none_in f views unread j y there) i p q here)) in
@@ -93,16 +93,16 @@ unread_word : (k : Frame) (n m old : ℕ) → m ≡ word_of k n → m ≡ old �
 unread_word k n m old is hit was = omega arith
 
 -- the word of the next life, from that of a frame that is being emptied
-pub next_word : (k : Frame) (old new : ℕ) → k.phase ≡ Emptied → old ≡ word_of k 0 → new ≡ old - 3 + 2 ^ 32 → new ≡ word_of (released k) 0
-next_word k old new emptied was is =
-    let code : code_of k.phase ≡ 3 = ap code_of emptied in
+pub next_word : (k : Frame) (old new : ℕ) → k.phase ≡ Draining → old ≡ word_of k 0 → new ≡ old - 3 + 2 ^ 32 → new ≡ word_of (released k) 0
+next_word k old new draining was is =
+    let code : code_of k.phase ≡ 3 = ap code_of draining in
     let free : code_of (released k).phase ≡ 0 = refl in
     omega arith
 
-pub frees : (slots id : ℕ) (me : Sat) (f old new : ℕ) → id ≡ 0 → f < length me.0.frames → (frame_at me.0.frames f).phase ≡ Emptied
+pub frees : (slots id : ℕ) (me : Sat) (f old new : ℕ) → id ≡ 0 → f < length me.0.frames → (frame_at me.0.frames f).phase ≡ Draining
     → old ≡ word_of (frame_at me.0.frames f) 0 → new ≡ word_of (released (frame_at me.0.frames f)) 0
     → Allows FrameRule slots id me (1025 * f) (λ n. either (eqb n old) new n) (Frees (step slots (1025 * f) old new none) me)
-frees slots id me f old new z inside emptied was next s rule _ at small =
+frees slots id me f old new z inside draining was next s rule _ at small =
     let n : ℕ = slice_index s.words (1025 * f) in
     let known : drive_frames s.views ≡ me.0.frames = frames-first s.views id me.0 z at in
     let r : FrameRules s.words s.views me.0.frames = subst (λ (l : List Frame). FrameRules s.words s.views l) known rule in
@@ -113,7 +113,7 @@ frees slots id me f old new z inside emptied was next s rule _ at small =
     (λ hit.
     let w : View = with_try (with_frame me.0 f (released k)) f n in
     let unread : readers f s.views ≡ 0 = unread_word k (readers f s.views) n old (r.kept f inside).state hit was in
-    let after : FrameRules (set s.words (1025 * f) new) (set s.views id w) (set me.0.frames f (released k)) = won s.words s.views me.0.frames id me.0 w f new r at refl refl inside emptied unread next in (
+    let after : FrameRules (set s.words (1025 * f) new) (set s.views id w) (set me.0.frames f (released k)) = won s.words s.views me.0.frames id me.0 w f new r at refl refl inside draining unread next in (
       w,
       keeps,
       tt,

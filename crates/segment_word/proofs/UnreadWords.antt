@@ -9,7 +9,7 @@ use Rattle.std.specs.Vec.{with_items}
 use Rattle.std.proofs.lemmas.List.{with_items_is}
 use Rattle.std.proofs.lemmas.Slice.{put_mid-paste}
 use Rattle.byteorder.specs.Endian.{big_bytes}
-use Rattle.segment_word.specs.Frames.{Phase, Free, Open, Sealed, Emptied, Frame, code_of, no_frame}
+use Rattle.segment_word.specs.Frames.{Phase, Free, Open, Sealed, Draining, Frame, code_of, no_frame}
 use Rattle.segment_word.specs.Layout.{frame_at, frame_of, frames_of, phase_of, block_bytes, block_words, with_block}
 use Rattle.segment_word.specs.private.UnreadWords.{IsUnreadWord, AreFrameWords}
 use Rattle.s4_types.specs.Sizes.{IsFrameCount}
@@ -73,7 +73,7 @@ phase_of-code_of : (p : Phase) → phase_of (code_of p) ≡ p
 phase_of-code_of Free = refl
 phase_of-code_of Open = refl
 phase_of-code_of Sealed = refl
-phase_of-code_of Emptied = refl
+phase_of-code_of Draining = refl
 
 -- a phase and a generation make a state word that counts no reader
 pub made_unread : (p : Phase) (g x : ℕ) → x ≡ code_of p + g * 2 ^ 32 → 1 ≤ g → g < 2 ^ 32 → (0 < code_of p → g + 1 < 2 ^ 32) → IsUnreadWord x

@@ -126,7 +126,7 @@ SharesNone (Carried t) = Unit {0}
 SharesNone Spent = Unit {0}
 
 -- a load by a session's seat that took in another: it is as it was before, and shares no number with that one
-pub record Parts (st : Step (Unit {0})) (me : AcceptSat) (n : ℕ) (me' : AcceptSat) : Type 0 where
+pub record Sheds (st : Step (Unit {0})) (me : AcceptSat) (n : ℕ) (me' : AcceptSat) : Type 0 where
   pub view : me' ≡ (parted me.0, me.1)
   pub none : SharesNone me.0
 

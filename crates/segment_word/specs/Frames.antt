@@ -6,38 +6,38 @@ pub data Phase : Type 0 where
   Free : Phase
   Open : Phase
   Sealed : Phase
-  Emptied : Phase
+  Draining : Phase
 
 -- the two low bits of the frame's word
 abbrev pub code_of : Phase → ℕ
 code_of Free = 0
 code_of Open = 1
 code_of Sealed = 2
-code_of Emptied = 3
+code_of Draining = 3
 
 abbrev pub is_free : Phase → Bool
 is_free Free = true
 is_free Open = false
 is_free Sealed = false
-is_free Emptied = false
+is_free Draining = false
 
 abbrev pub is_open : Phase → Bool
 is_open Free = false
 is_open Open = true
 is_open Sealed = false
-is_open Emptied = false
+is_open Draining = false
 
 abbrev pub is_sealed : Phase → Bool
 is_sealed Free = false
 is_sealed Open = false
 is_sealed Sealed = true
-is_sealed Emptied = false
+is_sealed Draining = false
 
-abbrev pub is_emptied : Phase → Bool
-is_emptied Free = false
-is_emptied Open = false
-is_emptied Sealed = false
-is_emptied Emptied = true
+abbrev pub is_draining : Phase → Bool
+is_draining Free = false
+is_draining Open = false
+is_draining Sealed = false
+is_draining Draining = true
 
 -- a frame: what it is for, its generation, and its 1,024 block words
 pub record Frame : Type 0 where

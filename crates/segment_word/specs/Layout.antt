@@ -2,7 +2,7 @@
 -- 64 words for each of its 16 blocks.
 use Rattle.std.specs.Prelude.{ℕ, zero, suc, ◌+◌, ◌*◌, ◌/◌, ◌%◌, ◌^◌, List, [], ◌∷◌, ◌++◌, length, take, drop, flat_map, slice_index, slice_index_or, if◌then◌else◌, ◌==◌}
 use Rattle.byteorder.specs.Endian.{big_bytes, big_number}
-use Rattle.segment_word.specs.Frames.{Phase, Free, Open, Sealed, Emptied, Frame, code_of, no_frame}
+use Rattle.segment_word.specs.Frames.{Phase, Free, Open, Sealed, Draining, Frame, code_of, no_frame}
 
 -- the state word of a frame: its phase in the 2 low bits, its readers in the next 30, its generation in the 32 high ones
 abbrev pub word_of : Frame → ℕ → ℕ
@@ -14,7 +14,7 @@ frame_at frames f = slice_index_or frames f no_frame
 
 -- the phase that two low bits name
 abbrev pub phase_of : ℕ → Phase
-phase_of code = if code == 0 then Free else (if code == 1 then Open else (if code == 2 then Sealed else Emptied))
+phase_of code = if code == 0 then Free else (if code == 1 then Open else (if code == 2 then Sealed else Draining))
 
 -- the frame that the words from its state word on spell
 abbrev pub frame_of : List ℕ → Frame

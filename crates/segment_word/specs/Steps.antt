@@ -4,7 +4,7 @@ use mathlib.Core.Option.{some}
 use lib.ListN.{get_elem?}
 use Rattle.atomic_table.specs.Table.{Me, Step}
 use Rattle.atomic_table.specs.declared.shared.Seat.{Seat}
-use Rattle.segment_word.specs.Frames.{Phase, Free, Open, Sealed, Emptied, Frame, Pinned, Releases, View, code_of, nothing_known}
+use Rattle.segment_word.specs.Frames.{Phase, Free, Open, Sealed, Draining, Frame, Pinned, Releases, View, code_of, nothing_known}
 use Rattle.segment_word.specs.Layout.{word_of, frame_at}
 use Rattle.segment_word.specs.FrameRule.{AllAgree, AllRemembered}
 
@@ -15,8 +15,8 @@ Sat = Me (Unit {0}) View
 abbrev pub next_phase : Phase → Phase
 next_phase Free = Open
 next_phase Open = Sealed
-next_phase Sealed = Emptied
-next_phase Emptied = Emptied
+next_phase Sealed = Draining
+next_phase Draining = Draining
 
 -- the frame in its next phase
 abbrev pub raised : Frame → Frame

@@ -1,8 +1,8 @@
 //! The drive's seat.
 ghost use Rattle.std.specs.Prelude.{◌≡◌, ◌≢◌, ℕ, ◌+◌, ◌-◌, ◌*◌, ◌^◌, ◌<◌, ◌≤◌, ◌++◌, length, take, drop, OnOk, OnErr, IfErr};
 ghost use Rattle.s4_types.specs.declared.refusals.Refusal.TheVariants.{InUse, NoMemory};
-ghost use Rattle.segment_word.specs.Frames.{Frame, code_of, is_sealed, is_emptied};
-ghost use Rattle.segment_word.specs.Frames.Phase.{Free, Open, Sealed, Emptied};
+ghost use Rattle.segment_word.specs.Frames.{Frame, code_of, is_sealed, is_draining};
+ghost use Rattle.segment_word.specs.Frames.Phase.{Free, Open, Sealed, Draining};
 ghost use Rattle.segment_word.specs.Layout.{word_of, frame_at, block_bytes, with_block};
 ghost use Rattle.segment_word.specs.FrameRule.{AllRemembered};
 ghost use Rattle.segment_word.specs.Steps.{raised, IsStateOf};
@@ -68,7 +68,7 @@ impl DriveSeat {
     pub fn mark(&mut self, frame: usize)
         requires inside { frame < length self.old.frames }
         requires sealed { (frame_at self.old.frames frame).phase ≡ Sealed }
-        ensures { self.new ≡ with_changed self.old frame (record (frame_at self.old.frames frame) { phase = Emptied }) }
+        ensures { self.new ≡ with_changed self.old frame (record (frame_at self.old.frames frame) { phase = Draining }) }
     {
         let words = &self.board.table.shared;
         raise(words, &mut self.seat, frame);
@@ -80,10 +80,10 @@ impl DriveSeat {
     /// exchange that was tried: no frame has changed then, and the try is noted with the word that it found.
     pub fn release(&mut self, frame: usize) -> Result<(), Refusal>
         requires { frame < length self.old.frames }
-        ensures freed { OnOk result (((frame_at self.old.frames frame).phase ≡ Emptied) × (self.new ≡ with_released self.old frame)) }
+        ensures freed { OnOk result (((frame_at self.old.frames frame).phase ≡ Draining) × (self.new ≡ with_released self.old frame)) }
         ensures goes_on { OnOk result ((frame_at self.old.frames frame).generation + 1 < 2 ^ 32) }
-        ensures missed { OnErr result ((frame_at self.old.frames frame).phase ≡ Emptied → HasMissed frame self.old self.new) }
-        ensures idle { OnErr result ((frame_at self.old.frames frame).phase ≢ Emptied → self.new ≡ self.old) }
+        ensures missed { OnErr result ((frame_at self.old.frames frame).phase ≡ Draining → HasMissed frame self.old self.new) }
+        ensures idle { OnErr result ((frame_at self.old.frames frame).phase ≢ Draining → self.new ≡ self.old) }
         ensures refused { OnErr result ((self.new.table ≡ self.old.table) × (self.new.frames ≡ self.old.frames)) }
         ensures refusal { IfErr result (λ e. e ≡ InUse) }
     {
@@ -192,9 +192,9 @@ impl DriveSeat {
     }
 
     /// Whether a frame is being emptied.
-    pub fn is_emptied(&mut self, frame: usize) -> bool
+    pub fn is_draining(&mut self, frame: usize) -> bool
         requires { frame < length self.old.frames }
-        ensures emptied { result ≡ is_emptied (frame_at self.old.frames frame).phase }
+        ensures draining { result ≡ is_draining (frame_at self.old.frames frame).phase }
         ensures same { self.new ≡ self.old }
     {
         self.state(frame) % ONE_READER == EMPTIED

@@ -26,7 +26,7 @@ pub enum FrameState {
     /// It is full, and may be read.
     Sealed,
     /// It is being emptied: its blocks stay until nobody reads it.
-    Emptied,
+    Draining,
 }
 
 impl FrameState {
@@ -38,7 +38,7 @@ impl FrameState {
             FrameState::Free => FREE,
             FrameState::Open => OPEN,
             FrameState::Sealed => SEALED,
-            FrameState::Emptied => EMPTIED,
+            FrameState::Draining => EMPTIED,
         }
     }
 
@@ -50,7 +50,7 @@ impl FrameState {
             FREE => FrameState::Free,
             OPEN => FrameState::Open,
             SEALED => FrameState::Sealed,
-            _ => FrameState::Emptied,
+            _ => FrameState::Draining,
         }
     }
 }

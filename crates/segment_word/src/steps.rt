@@ -3,7 +3,7 @@ ghost use Rattle.std.specs.Prelude.{◌≡◌, ◌+◌, ◌*◌, ◌/◌, ◌%�
 ghost use mathlib.Core.Option.{none};
 ghost use Rattle.atomic_table.specs.Table.{step};
 ghost use Rattle.segment_word.specs.Frames.{Pinned};
-ghost use Rattle.segment_word.specs.Frames.Phase.{Open, Emptied};
+ghost use Rattle.segment_word.specs.Frames.Phase.{Open, Draining};
 ghost use Rattle.segment_word.specs.Layout.{frame_at, word_of};
 ghost use Rattle.segment_word.specs.Steps.{Looks, ReadsBlockWord, IsStateOf, raised, released, with_word, with_frame, with_try, with_pins, older, IsSameSeat, CanRise, GainsPin, joined_view, without_pins, pins_of, memory_of};
 
@@ -37,7 +37,7 @@ pub fn free(words: &Words, seat: &mut Place, frame: usize, unread: u64) -> u64
     requires drive { seat.old.id ≡ 0 }
     requires inside { frame < length seat.old.me.0.frames }
     requires sized { (words.now.table_id.words ≡ 1025 * length seat.old.me.0.frames) × (length seat.old.me.0.frames ≤ 1024) }
-    requires emptied { (frame_at seat.old.me.0.frames frame).phase ≡ Emptied }
+    requires draining { (frame_at seat.old.me.0.frames frame).phase ≡ Draining }
     requires goes_on { (frame_at seat.old.me.0.frames frame).generation + 1 < 2 ^ 32 }
     requires unread { unread ≡ word_of (frame_at seat.old.me.0.frames frame) 0 }
     ensures seat { IsSameSeat seat.old seat.new }

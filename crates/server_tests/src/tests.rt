@@ -50,7 +50,7 @@ fn play_named<J: Naming + Send + Sync, R: Abort + Threads + Wait + Sync>(
     made: NewDrive,
     scene: Scene,
 ) -> Result<(), Fail>
-    requires frames { made.store.table.drive.table ≡ J.frames }
+    requires frames { made.store.table.seat.table ≡ J.frames }
     requires accepts { made.accepts ≡ J.accepts }
     requires base { new_base made.window ≡ J.base }
 {

@@ -17,9 +17,9 @@ use Rattle.time_read.proofs.Pins.{pinned_bytes}
 
 -- what is told of a pin that counts on a held block's frame
 pub record Counted (t : Table) (p : Place) (old new : Held) : Type 0 where
-  pub at : old.table ≡ t.drive.table
+  pub at : old.table ≡ t.seat.table
   pub again : 0 < pins_in p.frame old.pins → new ≡ old
-  pub pinned : pins_in p.frame old.pins ≡ 0 → new ≡ record old { pins = pin_of t.drive.frames p.frame ∷ old.pins }
+  pub pinned : pins_in p.frame old.pins ≡ 0 → new ≡ record old { pins = pin_of t.seat.frames p.frame ∷ old.pins }
   pub counted : 0 < pins_in p.frame new.pins
   pub bytes : (q : Pinned) → IsAmong q new.pins → q.number ≡ p.frame → IfSome (held_at t p) (λ block. block_bytes q.contents p.block ≡ block.bytes)
   pub held : IsSome (held_at t p)
@@ -61,7 +61,7 @@ contents_kept t p old new c f some = elim (cases_lt 0 (pins_in p.frame old.pins)
   | inr none ↦
       let no_pin : pins_in p.frame old.pins ≡ 0 = omega arith in
       ap (λ (h : Held). contents_pinned f h.pins) (c.pinned no_pin)
-      ∙ in_front f p.frame old.pins (pin_of t.drive.frames p.frame) refl no_pin some
+      ∙ in_front f p.frame old.pins (pin_of t.seat.frames p.frame) refl no_pin some
 ]
 
 frames_counted : (t : Table) (p : Place) (old new : Held) → Counted t p old new → (f : ℕ) → (0 < pins_in f new.pins) ↔ ((0 < pins_in f old.pins) ⊎ (p.frame ≡ f))
@@ -76,7 +76,7 @@ frames_counted t p old new c f = elim (cases_lt 0 (pins_in p.frame old.pins)) [
       )
   | inr none ↦
       let no_pin : pins_in p.frame old.pins ≡ 0 = omega arith in
-      subst (λ (h : Held). (0 < pins_in f h.pins) ↔ ((0 < pins_in f old.pins) ⊎ (p.frame ≡ f))) (sym (c.pinned no_pin)) (one_more f p.frame old.pins (pin_of t.drive.frames p.frame) refl)
+      subst (λ (h : Held). (0 < pins_in f h.pins) ↔ ((0 < pins_in f old.pins) ⊎ (p.frame ≡ f))) (sym (c.pinned no_pin)) (one_more f p.frame old.pins (pin_of t.seat.frames p.frame) refl)
 ]
 
 from_counted : (t : Table) (p : Place) (before : PlanFields) (old new : Held) → old.pins ≡ pins_held before.pin → new.table ≡ old.table → Counted t p old new → CountsOn t p before (record before { pin = Some new })
@@ -91,8 +91,8 @@ from_counted t p before old new old_is table c = record {
 }
 
 -- a plan whose pin was told to count on the frame of a held block
-pub counts_on : (t : Table) (p : Place) (before after : PlanFields) (old new : Held) (r : Result (Unit {0}) Refusal) → old.table ≡ t.drive.table → old.pins ≡ pins_held before.pin
-    → (0 < pins_in p.frame old.pins → IsOk r × (new ≡ old)) → (pins_in p.frame old.pins ≡ 0 → OnOk r (new ≡ record old { pins = pin_of t.drive.frames p.frame ∷ old.pins })) → OnOk r (0 < pins_in p.frame new.pins)
+pub counts_on : (t : Table) (p : Place) (before after : PlanFields) (old new : Held) (r : Result (Unit {0}) Refusal) → old.table ≡ t.seat.table → old.pins ≡ pins_held before.pin
+    → (0 < pins_in p.frame old.pins → IsOk r × (new ≡ old)) → (pins_in p.frame old.pins ≡ 0 → OnOk r (new ≡ record old { pins = pin_of t.seat.frames p.frame ∷ old.pins })) → OnOk r (0 < pins_in p.frame new.pins)
     → OnOk r ((q : Pinned) → IsAmong q new.pins → q.number ≡ p.frame → IfSome (held_at t p) (λ block. block_bytes q.contents p.block ≡ block.bytes))
     → new.table ≡ old.table → IsSome (held_at t p) → after ≡ record before { pin = Some new } → OnOk r (CountsOn t p before after)
 counts_on t p before after old new (Err e) at old_is again pinned counted bytes table held is = tt

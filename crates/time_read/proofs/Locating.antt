@@ -12,14 +12,14 @@ use Rattle.time_read.specs.Plans.{Piece, Hole, Copied, Pinned, PlanFields, pins_
 use Rattle.time_read.specs.private.Planning.{Keeps, CountsOn, Locates}
 
 phase_of_place : Table → Place → Phase
-phase_of_place t p = (frame_at t.drive.frames p.frame).phase
+phase_of_place t p = (frame_at t.seat.frames p.frame).phase
 
 -- what a block of the open frame gives, and one of a sealed frame
-pub open_piece : (t : Table) (p : Place) → (frame_at t.drive.frames p.frame).phase ≡ Open → piece_of t (Some p) ≡ Copied (contents_of (held_at t) p)
-open_piece t p phase = cond-true (is_open (frame_at t.drive.frames p.frame).phase) (Copied (contents_of (held_at t) p)) (Pinned p.frame p.block) (ap is_open phase)
+pub open_piece : (t : Table) (p : Place) → (frame_at t.seat.frames p.frame).phase ≡ Open → piece_of t (Some p) ≡ Copied (contents_of (held_at t) p)
+open_piece t p phase = cond-true (is_open (frame_at t.seat.frames p.frame).phase) (Copied (contents_of (held_at t) p)) (Pinned p.frame p.block) (ap is_open phase)
 
-pub sealed_piece : (t : Table) (p : Place) → (frame_at t.drive.frames p.frame).phase ≡ Sealed → piece_of t (Some p) ≡ Pinned p.frame p.block
-sealed_piece t p phase = cond-false (is_open (frame_at t.drive.frames p.frame).phase) (Copied (contents_of (held_at t) p)) (Pinned p.frame p.block) (ap is_open phase)
+pub sealed_piece : (t : Table) (p : Place) → (frame_at t.seat.frames p.frame).phase ≡ Sealed → piece_of t (Some p) ≡ Pinned p.frame p.block
+sealed_piece t p phase = cond-false (is_open (frame_at t.seat.frames p.frame).phase) (Copied (contents_of (held_at t) p)) (Pinned p.frame p.block) (ap is_open phase)
 
 -- a pin that stays keeps all
 stays : (t : Table) (plan : PlanFields) → IsAt t plan.pin → Keeps t plan.pin plan.pin
@@ -45,7 +45,7 @@ located_hole t slot plan at is = subst (λ (x : Option Place). Locates t x plan 
   rest = refl;
 })
 
-pub located_copied : (t : Table) (slot : Option Place) (p : Place) (plan : PlanFields) → IsAt t plan.pin → slot ≡ Some p → (frame_at t.drive.frames p.frame).phase ≡ Open → Locates t slot plan plan
+pub located_copied : (t : Table) (slot : Option Place) (p : Place) (plan : PlanFields) → IsAt t plan.pin → slot ≡ Some p → (frame_at t.seat.frames p.frame).phase ≡ Open → Locates t slot plan plan
 unfolding slot_bytes
 located_copied t slot p plan at is phase = subst (λ (x : Option Place). Locates t x plan plan) (sym is) (record {
   keeps = stays t plan at;
@@ -59,7 +59,7 @@ pinned_here : (f : ℕ) (p : Place) (piece : Piece) → piece ≡ Pinned p.frame
 pinned_here f p piece is =
     ((λ same. ap (is_pinned_in f) is ∙ eq-eqb p.frame f same), (λ here. eqb-true p.frame f (sym (ap (is_pinned_in f) is) ∙ here)))
 
-pub located_pinned : (t : Table) (slot : Option Place) (p : Place) (before after : PlanFields) → slot ≡ Some p → (frame_at t.drive.frames p.frame).phase ≡ Sealed → CountsOn t p before after → Locates t slot before after
+pub located_pinned : (t : Table) (slot : Option Place) (p : Place) (before after : PlanFields) → slot ≡ Some p → (frame_at t.seat.frames p.frame).phase ≡ Sealed → CountsOn t p before after → Locates t slot before after
 unfolding slot_bytes
 located_pinned t slot p before after is phase counts = subst (λ (x : Option Place). Locates t x before after) (sym is) (record {
   keeps = counts.keeps;

@@ -56,7 +56,7 @@ bytes_planned plan = listed (byte_planned plan) plan.skip plan.length
 -- where the bytes of the block behind a slot come from: a block of the open frame is copied, one of any other frame is pinned
 abbrev pub piece_of : Table → Option Place → Piece
 piece_of t None = Hole
-piece_of t (Some p) = if is_open (frame_at t.drive.frames p.frame).phase then Copied (contents_of (held_at t) p) else Pinned p.frame p.block
+piece_of t (Some p) = if is_open (frame_at t.seat.frames p.frame).phase then Copied (contents_of (held_at t) p) else Pinned p.frame p.block
 
 -- the pieces of so many bytes of an inode from an offset on: one for each block that has one of them, by ascending index
 abbrev pub pieces_of : Table → Inode → ℕ → ℕ → List Piece
@@ -80,4 +80,4 @@ AllCounted pins pieces = (k frame block : ℕ) → slice_index_or pieces k Hole 
 
 -- a plan's pin, where it has one, is at this table
 abbrev pub IsAt : Table → Option Held → Type 0
-IsAt t pin = (held : Held) → pin ≡ Some held → held.table ≡ t.drive.table
+IsAt t pin = (held : Held) → pin ≡ Some held → held.table ≡ t.seat.table

@@ -8,12 +8,12 @@ use Rattle.time_read.specs.Undoings.{Undoing, undoing_of}
 use Rattle.time_read.specs.declared.presents.Present.{Present}
 
 -- an index that is there tells what undoes each of these entries
-abbrev pub Tells : Option (List Undoing) → List EntryFields → Type 0
-Tells index entries = IfSome index (λ undoings. undoings ≡ map undoing_of entries)
+abbrev pub IsIndexOf : Option (List Undoing) → List EntryFields → Type 0
+IsIndexOf index entries = IfSome index (λ undoings. undoings ≡ map undoing_of entries)
 
 -- so does the index of an object of which this is kept, if anything is
-abbrev pub TellsOf : Option Present → List EntryFields → Type 0
-TellsOf present entries = IfSome present (λ p. Tells p.index entries)
+abbrev pub KeepsIndexOf : Option Present → List EntryFields → Type 0
+KeepsIndexOf present entries = IfSome present (λ p. IsIndexOf p.index entries)
 
 -- An object has this row, and beside it this inode and an index, if there is one, that tells these entries behind those that it told;
 -- all others are as they were.
@@ -21,4 +21,4 @@ pub record TurnsBeside (m : MapOf Present) (o : ℕ) (row : Row) (i : Inode) (en
   pub present : Present
   pub put : Puts m o row present later
   pub inode : present.inode ≡ i
-  pub told : (older : List EntryFields) → TellsOf (value_of m.values o) older → Tells present.index (older ++ entries)
+  pub told : (older : List EntryFields) → KeepsIndexOf (value_of m.values o) older → IsIndexOf present.index (older ++ entries)

@@ -160,7 +160,7 @@ impl Model for ReadPlan {
 // The pin that a plan has, or a new one without frames.
 fn pin_at(table: &SegmentTable, pin: Option<Pin>) -> Result<Pin, Refusal>
     requires { IsAt table.now pin }
-    ensures pin { IfOk result (λ p. (p.table ≡ table.now.drive.table) × (p.pins ≡ pins_held pin)) }
+    ensures pin { IfOk result (λ p. (p.table ≡ table.now.seat.table) × (p.pins ≡ pins_held pin)) }
     ensures none { IfErr result (λ e. (e ≡ Busy) × (pin ≡ None)) }
 {
     match pin {
@@ -229,7 +229,7 @@ impl ReadPlan {
     fn count_on(&mut self, table: &mut SegmentTable, place: Ptr) -> Result<(), Refusal>
         requires at { IsAt table.old self.old.pin }
         requires held { IsSome (held_at table.old place) }
-        requires sealed { (frame_at table.old.drive.frames place.frame).phase ≡ Sealed }
+        requires sealed { (frame_at table.old.seat.frames place.frame).phase ≡ Sealed }
         ensures counts { OnOk result (CountsOn table.old place self.old self.new) }
         ensures refusal { IfErr result (λ e. (e ≡ NoMemory) ⊎ (e ≡ Busy)) }
         ensures same { table.new ≡ table.old }

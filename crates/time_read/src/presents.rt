@@ -2,7 +2,7 @@
 ghost use Rattle.std.specs.Prelude.{◌≡◌, ◌+◌, ◌^◌, ◌<◌, ◌++◌, List, IsSome, IfSome};
 ghost use Rattle.codec.specs.Entry.{EntryFields};
 ghost use Rattle.object_map.specs.Rows.{row_of};
-ghost use Rattle.time_read.specs.Presents.{Tells, TurnsBeside};
+ghost use Rattle.time_read.specs.Presents.{IsIndexOf, TurnsBeside};
 ghost use Rattle.time_read.specs.Rows.{IsRow, entries_of, inode_of, last_inode};
 
 use crate::inodes::inode_at;
@@ -34,7 +34,7 @@ impl Present {
         inode: &mut Inode,
     )
         requires row { IsRow (B.log table.old).held object row.now }
-        requires index { Tells self.now.index (entries_of (B.log table.old).held object row.now) }
+        requires index { IsIndexOf self.now.index (entries_of (B.log table.old).held object row.now) }
         requires present { inode.old ≡ last_inode (B.log table.old).held object row.now }
         ensures inode { inode.new ≡ inode_of (B.log table.old).held object row.now at }
         ensures same { B.log table.new ≡ B.log table.old }
@@ -50,7 +50,7 @@ impl Present {
 
 /// An index of these entries, and none where memory for it is refused.
 pub fn index_of(alloc: Global, entries: &[Entry]) -> Option<UndoIndex>
-    ensures { Tells result entries.now }
+    ensures { IsIndexOf result entries.now }
 {
     let mut index = UndoIndex::new(alloc);
     match index.push(entries) {
@@ -61,7 +61,7 @@ pub fn index_of(alloc: Global, entries: &[Entry]) -> Option<UndoIndex>
 
 /// Appends to an index, if there is one, what undoes these entries. There is none any more where memory for that is refused.
 fn lengthen(index: &mut Option<UndoIndex>, entries: &[Entry])
-    ensures { (older : List EntryFields) → Tells index.old older → Tells index.new (older ++ entries.now) }
+    ensures { (older : List EntryFields) → IsIndexOf index.old older → IsIndexOf index.new (older ++ entries.now) }
 {
     if let Some(undoings) = index {
         if undoings.push(entries).is_err() {
@@ -74,7 +74,7 @@ impl Present {
     /// The object has another inode, to which these entries lead.
     fn turn(&mut self, after: &Inode, entries: &[Entry])
         ensures inode { self.new.inode ≡ after.now }
-        ensures told { (older : List EntryFields) → Tells self.old.index older → Tells self.new.index (older ++ entries.now) }
+        ensures told { (older : List EntryFields) → IsIndexOf self.old.index older → IsIndexOf self.new.index (older ++ entries.now) }
     {
         self.inode = *after;
         lengthen(&mut self.index, entries);

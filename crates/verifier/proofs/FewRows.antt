@@ -92,17 +92,17 @@ row_owns laws held o latest row checkpoint head stands orderly =
 -- ---- the blocks of a table are numbered, those of a frame one by one
 
 abbrev owner : Table → ℕ → ℕ
-owner t n = (block_slot (slots_at t.slots (n / 16)) (n % 16)).part.object
+owner t n = (block_slot (slots_at t.slots (n / 16)) (n % 16)).role.object
 
 some_of : {A : Type 0} (b : Bool) (x : Option A) (y : A) → cond b x None ≡ Some y → x ≡ Some y
 some_of true x y h = h
 some_of false x y h = absurd (none-some y h)
 
-owner_is : (t : Table) (p : Place) (block : Stored) → held_at t p ≡ Some block → (block_slot (slots_at t.slots p.frame) p.block).part.object ≡ block.object
+owner_is : (t : Table) (p : Place) (block : Stored) → held_at t p ≡ Some block → (block_slot (slots_at t.slots p.frame) p.block).role.object ≡ block.object
 owner_is t p block h =
-    let k = frame_at t.drive.frames p.frame in
+    let k = frame_at t.seat.frames p.frame in
     let slot : Slot = block_slot (slots_at t.slots p.frame) p.block in
-    let here : Stored = record { kind = slot.part.kind; object = slot.part.object; bytes = block_bytes k.contents p.block } in
+    let here : Stored = record { kind = slot.role.kind; object = slot.role.object; bytes = block_bytes k.contents p.block } in
     let there : stored slot (block_bytes k.contents p.block) ≡ Some block = some_of (k.generation == p.generation) (stored slot (block_bytes k.contents p.block)) block h in
     ap (λ (b : Stored). b.object) (same_Some here block (some_of slot.held (Some here) block there))
 
@@ -121,8 +121,8 @@ numbered t o h =
     record {
       number = 16 * h.place.frame + h.place.block;
       small = omega arith;
-      own = ap (λ f. (block_slot (slots_at t.slots f) ((16 * h.place.frame + h.place.block) % 16)).part.object) whole
-          ∙ ap (λ b. (block_slot (slots_at t.slots h.place.frame) b).part.object) part
+      own = ap (λ f. (block_slot (slots_at t.slots f) ((16 * h.place.frame + h.place.block) % 16)).role.object) whole
+          ∙ ap (λ b. (block_slot (slots_at t.slots h.place.frame) b).role.object) part
           ∙ owner_is t h.place h.block h.there ∙ h.own;
     }
 

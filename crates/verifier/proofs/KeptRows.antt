@@ -12,7 +12,7 @@ use Rattle.image_parts.specs.declared.headers.Header.{Header}
 use Rattle.image_parts.specs.declared.rows.RowPart.{RowPart}
 use Rattle.image_parts.specs.Rows.{RowsFollow}
 use Rattle.image_objects.specs.declared.rows.ImageRow.{ImageRow}
-use Rattle.image_objects.specs.History.{kept_row}
+use Rattle.image_objects.specs.VersionChain.{kept_row}
 use Rattle.image_objects.specs.Rows.{RowsAscend, kept_rows}
 use Rattle.image_objects.specs.Laws.{IsHeldAsUsed}
 use Rattle.verifier.specs.Rows.{SpellRows}

@@ -70,13 +70,13 @@ one_payload (suc used) (x ∷ xs) (y ∷ ys) count same blank_x blank_y =
     ∙ ap (λ (l : List (List ℕ)). y ∷ l) (one_payload used xs ys (omega arith) (λ j few. same (suc j) (omega arith)) blank_x blank_y)
 
 -- the blocks of a frame, by its summary and its used payload blocks
-one_list_of_blocks : (s : SummaryFields) (used : ℕ) (xs ys : List (List ℕ)) → length s.parts ≡ used → length xs ≡ length ys → SpellsSummary (drop 1 xs) (get_or xs 0 []) s → SpellsSummary (drop 1 ys) (get_or ys 0 []) s
+one_list_of_blocks : (s : SummaryFields) (used : ℕ) (xs ys : List (List ℕ)) → length s.roles ≡ used → length xs ≡ length ys → SpellsSummary (drop 1 xs) (get_or xs 0 []) s → SpellsSummary (drop 1 ys) (get_or ys 0 []) s
     → ((b : ℕ) → 1 ≤ b → b ≤ used → get_or xs b [] ≡ get_or ys b []) → xs ≡ ys
 one_list_of_blocks s used [] [] parts count spelled_x spelled_y same = refl
 one_list_of_blocks s used [] (y ∷ ys) parts count spelled_x spelled_y same = absurd (omega arith)
 one_list_of_blocks s used (x ∷ xs) [] parts count spelled_x spelled_y same = absurd (omega arith)
 one_list_of_blocks s used (x ∷ xs) (y ∷ ys) parts count spelled_x spelled_y same =
-    let payload : xs ≡ ys = one_payload (length s.parts) xs ys (omega arith) (λ j few. same (suc j) (omega arith) (omega arith)) spelled_x.1.0 spelled_y.1.0 in
+    let payload : xs ≡ ys = one_payload (length s.roles) xs ys (omega arith) (λ j few. same (suc j) (omega arith) (omega arith)) spelled_x.1.0 spelled_y.1.0 in
     let summary : x ≡ y = spelled_x.1.1 ∙ ap (summary_spelling s) payload ∙ sym spelled_y.1.1 in
     ap (λ (b : List ℕ). b ∷ xs) summary ∙ ap (λ (l : List (List ℕ)). y ∷ l) payload
 
@@ -92,7 +92,7 @@ nothing_told f is free = none_left f.contents (is.contents ∙ ap (λ (b : Bool)
 
 used_contents : (number : ℕ) (f g : FrameFields) (k : Frame) (slots : List Slot) → length f.contents ≡ 8192 → length g.contents ≡ 8192 → k.phase ≢ Free → IsFrameOf number f k slots → IsFrameOf number g k slots → f.contents ≡ g.contents
 used_contents number f g k slots whole_f whole_g used of_f of_g =
-    let parts : length (summary_of number k slots).parts ≡ length slots = length-map slots (λ (slot : Slot). slot.part) in
+    let parts : length (summary_of number k slots).roles ≡ length slots = length-map slots (λ (slot : Slot). slot.role) in
     let count : length (blocks_of f.contents) ≡ length (blocks_of g.contents) = block_count f.contents whole_f ∙ sym (block_count g.contents whole_g) in
     let blocks : blocks_of f.contents ≡ blocks_of g.contents =
     one_list_of_blocks (summary_of number k slots) (length slots) (blocks_of f.contents) (blocks_of g.contents) parts count (of_f.summary used) (of_g.summary used) (λ b low high. sym (of_f.blocks used b low high) ∙ of_g.blocks used b low high) in
@@ -131,5 +131,5 @@ one_list_of_frames t frames others is_f is_g rules_f rules_g of_f of_g =
     let N : FrameFields → Type 0 = λ f. readers_of f.word ≡ 0 in
     let count : length frames ≡ length others = sym of_f.frame_count ∙ of_g.frame_count in
     ext_get_or no_part frames others count (λ n inside. (let there : n < length others = omega arith in
-    one_frame n (get_or frames n no_part) (get_or others n no_part) (frame_at t.drive.frames n) (slots_at t.slots n) (each_at IsFrame frames n inside is_f) (each_at IsFrame others n there is_g)
+    one_frame n (get_or frames n no_part) (get_or others n no_part) (frame_at t.seat.frames n) (slots_at t.slots n) (each_at IsFrame frames n inside is_f) (each_at IsFrame others n there is_g)
     (each_at N frames n inside (without_readers 0 frames rules_f.each)) (each_at N others n there (without_readers 0 others rules_g.each)) (of_f.each n inside) (of_g.each n there)))

@@ -35,10 +35,10 @@ rows_stand summary pointer parts t rows is spelled stand =
     subst U (used_same summary parts.frames stand.table t stand.frames is) (subst R (rows_same pointer parts.rows stand.rows rows stand.spelled spelled) stand.stand)
 
 -- as a log a table is its frames and what is used and held of them
-log_same : (t u : Table) → t.drive.frames ≡ u.drive.frames → t.slots ≡ u.slots → log_of t ≡ log_of u
+log_same : (t u : Table) → t.seat.frames ≡ u.seat.frames → t.slots ≡ u.slots → log_of t ≡ log_of u
 log_same t u frames slots =
-    ap (λ (l : List Frame). log_of (record { drive = record { table = t.drive.table; frames = l; releases = t.drive.releases }; slots = t.slots })) frames
-    ∙ ap (λ (l : List (List Slot)). log_of (record { drive = u.drive; slots = l })) slots
+    ap (λ (l : List Frame). log_of (record { seat = record { table = t.seat.table; frames = l; releases = t.seat.releases }; slots = t.slots })) frames
+    ∙ ap (λ (l : List (List Slot)). log_of (record { seat = u.seat; slots = l })) slots
 
 store_same : (image : ImageFields) (x : OpenedFields) → IsOpenedOf image x → fields_of log_of x.store ≡ store_in image
 store_same image x opened =

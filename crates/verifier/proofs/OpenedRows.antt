@@ -11,7 +11,7 @@ use Rattle.object_map.specs.Rows.{row_of}
 use Rattle.version_store.specs.Versions.{inode_by, version_by}
 use Rattle.image_parts.specs.declared.rows.RowPart.{RowPart}
 use Rattle.image_objects.specs.declared.rows.ImageRow.{ImageRow}
-use Rattle.image_objects.specs.History.{kept_row}
+use Rattle.image_objects.specs.VersionChain.{kept_row}
 use Rattle.image_objects.specs.Objects.{inode_used}
 use Rattle.image_objects.specs.Rows.{RowsAscend, kept_rows}
 use Rattle.image_objects.specs.Laws.{IsHeldAsUsed}

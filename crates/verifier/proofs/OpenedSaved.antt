@@ -39,10 +39,10 @@ spans_begun : (s : StoreFields) (w : Timeline) (next : ℕ) → spans_of (state_
 spans_begun s w next = append-nil w.runs
 
 -- the frames of an image are those of each table that has the same frames and slots
-table_same : (frames : List FrameFields) (t u : Table) → IsTableOf frames t → u.drive.frames ≡ t.drive.frames → u.slots ≡ t.slots → IsTableOf frames u
+table_same : (frames : List FrameFields) (t u : Table) → IsTableOf frames t → u.seat.frames ≡ t.seat.frames → u.slots ≡ t.slots → IsTableOf frames u
 table_same frames t u is same slots =
     table_held frames t u is same (ap length slots ∙ is.slot_count ∙ sym (ap length same ∙ is.frame_count))
-    (λ f. ap (λ (l : List (List Slot)). map (λ (slot : Slot). slot.part) (slots_at l f)) slots)
+    (λ f. ap (λ (l : List (List Slot)). map (λ (slot : Slot). slot.role) (slots_at l f)) slots)
 
 pub spells_named : (bytes : List ℕ) (parts : Image) (image : ImageFields) (x : OpenedFields) (d : DriveFields) → SpellsDrive bytes parts → IsImageOf parts image → IsOpenedOf image x → IsNamedOf x d → SpellsSaved d bytes
 spells_named bytes parts image x d spells is opened named =
@@ -66,7 +66,7 @@ spells_named bytes parts image x d spells is opened named =
         floor = sym (ap (λ (s : State). s.floor) state ∙ floor_begun (fields_of log_of x.store) w x.next (omega arith) ∙ floor);
         next = sym (ap (λ (s : State). s.next) state ∙ opened.next ∙ is.next);
         frames = table_same parts.frames image.table d.store.table is.frames
-            (ap (λ (s : StoreOf Table). s.table.drive.frames) named.store ∙ opened.frames) (ap (λ (s : StoreOf Table). s.table.slots) named.store ∙ opened.slots);
+            (ap (λ (s : StoreOf Table). s.table.seat.frames) named.store ∙ opened.frames) (ap (λ (s : StoreOf Table). s.table.slots) named.store ∙ opened.slots);
         rows = d.store.rows;
         ascending = subst (λ (l : List (ℕ × Row)). ObjectsAscend 1 l) (sym rows) (kept_ascend used parts.clock 0 0 is.rows ascend);
         listed = λ o. refl;

@@ -6,12 +6,12 @@ use Rattle.std.proofs.lemmas.Bool.{cases_lt}
 use Rattle.std.proofs.lemmas.List.{get_or_past, length-map}
 use Rattle.s4_types.specs.Pointer.{Place}
 use Rattle.block_log.specs.Log.{Stored}
-use Rattle.codec.specs.declared.summaries.Part.{Part}
+use Rattle.codec.specs.declared.summaries.BlockRole.{BlockRole}
 use Rattle.codec.specs.Summary.{SummaryFields, SpellsSummary}
 use Rattle.image_parts.specs.Frames.{FrameFields, blocks_of}
 use Rattle.image_parts.specs.Image.{Image}
 use Rattle.image_parts.specs.declared.rows.RowPart.{RowPart}
-use Rattle.segment_word.specs.Frames.{Phase, Free, Open, Sealed, Emptied, Frame, no_frame, is_open, is_sealed}
+use Rattle.segment_word.specs.Frames.{Phase, Free, Open, Sealed, Draining, Frame, no_frame, is_open, is_sealed}
 use Rattle.segment_word.specs.Layout.{frame_at, block_bytes}
 use Rattle.segment_table.specs.declared.slots.Slot.{Slot}
 use Rattle.segment_table.specs.Table.{Table, slots_at, held_at}
@@ -28,17 +28,17 @@ use Rattle.verifier.proofs.Frames.{OneSummaryASpelling}
 
 -- ---- what a block is named for
 
-abbrev parts_in : List Slot → List Part
-parts_in slots = map (λ slot. slot.part) slots
+abbrev parts_in : List Slot → List BlockRole
+parts_in slots = map (λ slot. slot.role) slots
 
 same_slot : (slots others : List Slot) (bytes more : List ℕ) (b : ℕ) → parts_in slots ≡ parts_in others → (b < length slots → bytes ≡ more) → option_map (with_bytes bytes) (slice_get slots b) ≡ option_map (with_bytes more) (slice_get others b)
 same_slot [] [] bytes more b e h = refl
 same_slot [] (y ∷ others) bytes more b e h = absurd (cc)
 same_slot (x ∷ slots) [] bytes more b e h = absurd (cc)
 same_slot (x ∷ slots) (y ∷ others) bytes more zero e h =
-    let part : x.part ≡ y.part = cc in
+    let part : x.role ≡ y.role = cc in
     let all : bytes ≡ more = h (omega arith) in
-    ap (λ (l : List ℕ). Some (with_bytes l x)) all ∙ ap (λ (q : Part). Some (record { kind = q.kind; object = q.object; bytes = more })) part
+    ap (λ (l : List ℕ). Some (with_bytes l x)) all ∙ ap (λ (q : BlockRole). Some (record { kind = q.kind; object = q.object; bytes = more })) part
 same_slot (x ∷ slots) (y ∷ others) bytes more (suc b) e h =
     let rest : parts_in slots ≡ parts_in others = cc in
     same_slot slots others bytes more b rest (λ low. h (omega arith))
@@ -55,7 +55,7 @@ same_named : (p : Phase) (n g : ℕ) (x y : Option Stored) → (p ≢ Free → x
 same_named Free n g x y h = refl
 same_named Open n g x y h = ap (named_by Open n g) (h (λ e. cc))
 same_named Sealed n g x y h = ap (named_by Sealed n g) (h (λ e. cc))
-same_named Emptied n g x y h = refl
+same_named Draining n g x y h = refl
 
 same_block : (k m : Frame) (slots others : List Slot) (b g : ℕ) → k.phase ≡ m.phase → k.generation ≡ m.generation
     → (k.phase ≢ Free → option_map (with_bytes (block_bytes k.contents b)) (used_slot slots b) ≡ option_map (with_bytes (block_bytes m.contents b)) (used_slot others b)) → used_block k slots b g ≡ used_block m others b g
@@ -65,7 +65,7 @@ same_block k m slots others b g phase generation h =
     ∙ ap (λ (p : Phase). named_by p k.generation g y) phase ∙ ap (λ (n : ℕ). named_by m.phase n g y) generation
 
 same_parts : OneSummaryASpelling → (n : ℕ) (f : FrameFields) (k m : Frame) (slots others : List Slot) → IsFrameOf n f k slots → IsFrameOf n f m others → k.phase ≢ Free → m.phase ≢ Free → parts_in slots ≡ parts_in others
-same_parts one n f k m slots others a b used also = ap (λ (s : SummaryFields). s.parts) (one _ _ (summary_of n k slots) (summary_of n m others) (a.summary used) (b.summary also))
+same_parts one n f k m slots others a b used also = ap (λ (s : SummaryFields). s.roles) (one _ _ (summary_of n k slots) (summary_of n m others) (a.summary used) (b.summary also))
 
 same_frame : OneSummaryASpelling → (n : ℕ) (f : FrameFields) (k m : Frame) (slots others : List Slot) (b g : ℕ) → IsFrameOf n f k slots → IsFrameOf n f m others → used_block k slots b g ≡ used_block m others b g
 same_frame one n f k m slots others b g is other =
@@ -73,15 +73,15 @@ same_frame one n f k m slots others b g is other =
     same_block k m slots others b g phase (is.generation ∙ sym other.generation) (λ used.
     let also : m.phase ≢ Free = λ e. used (phase ∙ e) in
     let parts : parts_in slots ≡ parts_in others = same_parts one n f k m slots others is other used also in
-    let count : length slots ≡ length others = sym (length-map slots (λ (slot : Slot). slot.part)) ∙ ap length parts ∙ length-map others (λ (slot : Slot). slot.part) in
+    let count : length slots ≡ length others = sym (length-map slots (λ (slot : Slot). slot.role)) ∙ ap length parts ∙ length-map others (λ (slot : Slot). slot.role) in
     same_used_slot slots others k.contents m.contents b parts (λ i low high. is.blocks used i low high ∙ sym (other.blocks also i low (omega arith))))
 
-no_block : (t : Table) (f b g : ℕ) → length t.drive.frames ≤ f → used_block (frame_at t.drive.frames f) (slots_at t.slots f) b g ≡ None
-no_block t f b g past = ap (λ (k : Frame). used_block k (slots_at t.slots f) b g) (get_or_past t.drive.frames f no_frame past)
+no_block : (t : Table) (f b g : ℕ) → length t.seat.frames ≤ f → used_block (frame_at t.seat.frames f) (slots_at t.slots f) b g ≡ None
+no_block t f b g past = ap (λ (k : Frame). used_block k (slots_at t.slots f) b g) (get_or_past t.seat.frames f no_frame past)
 
 used_same_at : OneSummaryASpelling → (frames : List FrameFields) (t u : Table) → IsTableOf frames t → IsTableOf frames u → (p : Place) → used_at t p ≡ used_at u p
 used_same_at one frames t u is other p = elim (cases_lt p.frame (length frames)) [
-  | inl inside ↦ same_frame one p.frame (get_or frames p.frame no_part) (frame_at t.drive.frames p.frame) (frame_at u.drive.frames p.frame) (slots_at t.slots p.frame) (slots_at u.slots p.frame) p.block p.generation (is.each p.frame inside) (other.each p.frame inside)
+  | inl inside ↦ same_frame one p.frame (get_or frames p.frame no_part) (frame_at t.seat.frames p.frame) (frame_at u.seat.frames p.frame) (slots_at t.slots p.frame) (slots_at u.slots p.frame) p.block p.generation (is.each p.frame inside) (other.each p.frame inside)
   | inr past ↦ no_block t p.frame p.block p.generation (omega (arith, is.frame_count)) ∙ sym (no_block u p.frame p.block p.generation (omega (arith, other.frame_count)))
 ]
 
@@ -96,8 +96,8 @@ none_in (x ∷ slots) e = absurd (cc)
 
 frame_held : (n : ℕ) (f : FrameFields) (k : Frame) (slots later : List Slot) → IsFrameOf n f k slots → parts_in later ≡ parts_in slots → IsFrameOf n f k later
 frame_held n f k slots later is parts =
-    let S : List Part → Type 0 = λ l. SpellsSummary (drop 1 (blocks_of f.contents)) (get_or (blocks_of f.contents) 0 []) (record { frame = n; generation = k.generation; parts = l }) in
-    let count : length later ≡ length slots = sym (length-map later (λ (slot : Slot). slot.part)) ∙ ap length parts ∙ length-map slots (λ (slot : Slot). slot.part) in
+    let S : List BlockRole → Type 0 = λ l. SpellsSummary (drop 1 (blocks_of f.contents)) (get_or (blocks_of f.contents) 0 []) (record { frame = n; generation = k.generation; roles = l }) in
+    let count : length later ≡ length slots = sym (length-map later (λ (slot : Slot). slot.role)) ∙ ap length parts ∙ length-map slots (λ (slot : Slot). slot.role) in
     record {
       phase = is.phase;
       generation = is.generation;
@@ -107,16 +107,16 @@ frame_held n f k slots later is parts =
     }
 
 -- the same frames, for the same things, are a table of the same image
-pub table_held : (frames : List FrameFields) (t u : Table) → IsTableOf frames t → u.drive.frames ≡ t.drive.frames → length u.slots ≡ length u.drive.frames
-    → ((f : ℕ) → map (λ (slot : Slot). slot.part) (slots_at u.slots f) ≡ map (λ (slot : Slot). slot.part) (slots_at t.slots f)) → IsTableOf frames u
+pub table_held : (frames : List FrameFields) (t u : Table) → IsTableOf frames t → u.seat.frames ≡ t.seat.frames → length u.slots ≡ length u.seat.frames
+    → ((f : ℕ) → map (λ (slot : Slot). slot.role) (slots_at u.slots f) ≡ map (λ (slot : Slot). slot.role) (slots_at t.slots f)) → IsTableOf frames u
 table_held frames t u is same counted parts =
-    let count : length u.drive.frames ≡ length frames = ap length same ∙ is.frame_count in
+    let count : length u.seat.frames ≡ length frames = ap length same ∙ is.frame_count in
     record {
       frame_count = count;
       slot_count = counted ∙ count;
       each = λ n h.
           let F : List Frame → Type 0 = λ l. IsFrameOf n (get_or frames n no_part) (frame_at l n) (slots_at u.slots n) in
-          subst F (sym same) (frame_held n (get_or frames n no_part) (frame_at t.drive.frames n) (slots_at t.slots n) (slots_at u.slots n) (is.each n h) (parts n));
+          subst F (sym same) (frame_held n (get_or frames n no_part) (frame_at t.seat.frames n) (slots_at t.slots n) (slots_at u.slots n) (is.each n h) (parts n));
     }
 
 -- ---- chains

@@ -11,7 +11,7 @@ use Rattle.codec.specs.Fields.{number, zeros}
 use Rattle.codec.specs.Summary.{SummaryFields, KeepsSummaryRules, SpellsSummary, UnusedAreBlank, summary_spelling}
 use Rattle.image_parts.specs.Header.{AreBytes}
 use Rattle.image_parts.specs.Frames.{FrameFields, IsFrame, state_of, readers_of, generation_of, contents_length, blocks_of, frame_bytes, KeepsFrameRules, EachKeepsFrameRules, is_open}
-use Rattle.segment_word.specs.Frames.{Phase, Free, Open, Sealed, Emptied, Frame, code_of, is_open as phase_is_open}
+use Rattle.segment_word.specs.Frames.{Phase, Free, Open, Sealed, Draining, Frame, code_of, is_open as phase_is_open}
 use Rattle.segment_word.specs.Layout.{word_of, phase_of, frame_at, block_bytes}
 use Rattle.segment_table.specs.declared.slots.Slot.{Slot}
 use Rattle.segment_table.specs.Table.{Table, slots_at}
@@ -27,25 +27,25 @@ code_most : (p : Phase) → code_of p < 4
 code_most Free = omega arith
 code_most Open = omega arith
 code_most Sealed = omega arith
-code_most Emptied = omega arith
+code_most Draining = omega arith
 
 phase_again : (p : Phase) → phase_of (code_of p) ≡ p
 phase_again Free = refl
 phase_again Open = refl
 phase_again Sealed = refl
-phase_again Emptied = refl
+phase_again Draining = refl
 
 free_code : (p : Phase) → code_of p ≡ 0 → p ≡ Free
 free_code Free e = refl
 free_code Open e = absurd (omega arith)
 free_code Sealed e = absurd (omega arith)
-free_code Emptied e = absurd (omega arith)
+free_code Draining e = absurd (omega arith)
 
 open_code : (p : Phase) → code_of p ≡ 1 → p ≡ Open
 open_code Free e = absurd (omega arith)
 open_code Open e = refl
 open_code Sealed e = absurd (omega arith)
-open_code Emptied e = absurd (omega arith)
+open_code Draining e = absurd (omega arith)
 
 -- What a word tells that counts no reader.
 record IsWordOf (k : Frame) (word : ℕ) : Type 0 where
@@ -111,7 +111,7 @@ all_whole (b ∷ payload) zero first rest = (ap length rest.0 ∙ blank_length 5
 all_whole (b ∷ payload) (suc used) first rest = (first 0 (omega arith), all_whole payload used (λ j h. first (suc j) (omega arith)) rest)
 
 -- a frame's blocks have 512 bytes each
-blocks_whole : (blocks : List (List ℕ)) (s : SummaryFields) (used : ℕ) → length blocks ≡ 16 → length s.parts ≡ used → IsBlock (summary_spelling s (drop 1 blocks)) → SpellsSummary (drop 1 blocks) (get_or blocks 0 []) s
+blocks_whole : (blocks : List (List ℕ)) (s : SummaryFields) (used : ℕ) → length blocks ≡ 16 → length s.roles ≡ used → IsBlock (summary_spelling s (drop 1 blocks)) → SpellsSummary (drop 1 blocks) (get_or blocks 0 []) s
     → ((b : ℕ) → 1 ≤ b → b ≤ used → IsBlock (get_or blocks b [])) → AllByRecursion IsBlock blocks
 blocks_whole [] s used count parts head spelled kept = absurd (omega arith)
 blocks_whole (block ∷ payload) s used count parts head spelled kept =
@@ -173,7 +173,7 @@ used_saved : (number word : ℕ) (k : Frame) (slots : List Slot) (blocks : List 
     → SpellsSummary (drop 1 blocks) (get_or blocks 0 []) (summary_of number k slots) → ((b : ℕ) → 1 ≤ b → b ≤ length slots → get_or blocks b [] ≡ block_bytes k.contents b)
     → IsSaved number (record { word = word; contents = concat blocks }) k slots
 used_saved number word k slots blocks fit filled is used count head bytes keeps spelled kept =
-    let parts : length (summary_of number k slots).parts ≡ length slots = length-map slots (λ (slot : Slot). slot.part) in
+    let parts : length (summary_of number k slots).roles ≡ length slots = length-map slots (λ (slot : Slot). slot.role) in
     let long : AllByRecursion IsBlock blocks = blocks_whole blocks (summary_of number k slots) (length slots) count parts head spelled (λ b low high. ap length (kept b low high) ∙ fit.whole b low high) in
     let tells : IsWordOf k word = word_tells k word fit.lives.1 is in
     let again : blocks_of (concat blocks) ≡ blocks = blocks_again blocks long in
@@ -193,7 +193,7 @@ used_saved number word k slots blocks fit filled is used count head bytes keeps 
           spelled = told;
           room = λ e. (let open_frame : k.phase ≡ Open = open_code k.phase (sym tells.state ∙ e) in
               let few : length slots < 15 = filled open_frame in
-              omega (arith, length-map slots (λ (slot : Slot). slot.part)));
+              omega (arith, length-map slots (λ (slot : Slot). slot.role)));
         };
       };
       of = record {
@@ -205,24 +205,24 @@ used_saved number word k slots blocks fit filled is used count head bytes keeps 
       };
     }
 
-pub free_added : (t : Table) (n word : ℕ) (before after : List ℕ) → IsFit n (frame_at t.drive.frames n) (slots_at t.slots n) → word ≡ word_of (frame_at t.drive.frames n) 0 → word % 4 ≡ 0
+pub free_added : (t : Table) (n word : ℕ) (before after : List ℕ) → IsFit n (frame_at t.seat.frames n) (slots_at t.slots n) → word ≡ word_of (frame_at t.seat.frames n) 0 → word % 4 ≡ 0
     → after ≡ before ++ (number w64 word ++ []) → AddsFrame t n before after
 free_added t n word before after fit is free bytes =
-    let saved : IsSaved n (record { word = word; contents = [] }) (frame_at t.drive.frames n) (slots_at t.slots n) = free_saved n word (frame_at t.drive.frames n) (slots_at t.slots n) fit is free in
+    let saved : IsSaved n (record { word = word; contents = [] }) (frame_at t.seat.frames n) (slots_at t.slots n) = free_saved n word (frame_at t.seat.frames n) (slots_at t.slots n) fit is free in
     record { frame = record { word = word; contents = [] }; is = saved.is; rules = saved.rules; of = saved.of; bytes = bytes }
 
 -- What the 16 blocks of a used frame tell as they are saved.
 pub record AreBlocksOf (t : Table) (n : ℕ) (blocks : List (List ℕ)) : Type 0 where
-  pub spelled : SpellsSummary (drop 1 blocks) (get_or blocks 0 []) (summary_of n (frame_at t.drive.frames n) (slots_at t.slots n))
-  pub kept : (b : ℕ) → 1 ≤ b → b ≤ length (slots_at t.slots n) → get_or blocks b [] ≡ block_bytes (frame_at t.drive.frames n).contents b
+  pub spelled : SpellsSummary (drop 1 blocks) (get_or blocks 0 []) (summary_of n (frame_at t.seat.frames n) (slots_at t.slots n))
+  pub kept : (b : ℕ) → 1 ≤ b → b ≤ length (slots_at t.slots n) → get_or blocks b [] ≡ block_bytes (frame_at t.seat.frames n).contents b
 
-pub used_added : (t : Table) (n word : ℕ) (blocks : List (List ℕ)) (before after : List ℕ) → IsFit n (frame_at t.drive.frames n) (slots_at t.slots n)
-    → ((frame_at t.drive.frames n).phase ≡ Open → length (slots_at t.slots n) < 15) → word ≡ word_of (frame_at t.drive.frames n) 0 → word % 4 ≢ 0
-    → length blocks ≡ 16 → IsBlock (summary_spelling (summary_of n (frame_at t.drive.frames n) (slots_at t.slots n)) (drop 1 blocks)) → ((i d : ℕ) → i < length after → get_or after i d < 256) → KeepsSummaryRules (summary_of n (frame_at t.drive.frames n) (slots_at t.slots n))
+pub used_added : (t : Table) (n word : ℕ) (blocks : List (List ℕ)) (before after : List ℕ) → IsFit n (frame_at t.seat.frames n) (slots_at t.slots n)
+    → ((frame_at t.seat.frames n).phase ≡ Open → length (slots_at t.slots n) < 15) → word ≡ word_of (frame_at t.seat.frames n) 0 → word % 4 ≢ 0
+    → length blocks ≡ 16 → IsBlock (summary_spelling (summary_of n (frame_at t.seat.frames n) (slots_at t.slots n)) (drop 1 blocks)) → ((i d : ℕ) → i < length after → get_or after i d < 256) → KeepsSummaryRules (summary_of n (frame_at t.seat.frames n) (slots_at t.slots n))
     → AreBlocksOf t n blocks → after ≡ before ++ (number w64 word ++ concat blocks) → AddsFrame t n before after
 used_added t n word blocks before after fit filled is used count head bytes keeps of added =
-    let saved : IsSaved n (record { word = word; contents = concat blocks }) (frame_at t.drive.frames n) (slots_at t.slots n) =
-    used_saved n word (frame_at t.drive.frames n) (slots_at t.slots n) blocks fit filled is used count head (bytes_behind before (number w64 word) (concat blocks) after added bytes) keeps of.spelled of.kept in
+    let saved : IsSaved n (record { word = word; contents = concat blocks }) (frame_at t.seat.frames n) (slots_at t.slots n) =
+    used_saved n word (frame_at t.seat.frames n) (slots_at t.slots n) blocks fit filled is used count head (bytes_behind before (number w64 word) (concat blocks) after added bytes) keeps of.spelled of.kept in
     record { frame = record { word = word; contents = concat blocks }; is = saved.is; rules = saved.rules; of = saved.of; bytes = added }
 
 -- ---- all frames
@@ -233,7 +233,7 @@ pub record AreAdded (t : Table) (n : ℕ) (before after : List ℕ) : Type 0 whe
   pub count : length frames ≡ n
   pub is : AllByRecursion IsFrame frames
   pub rules : EachKeepsFrameRules 0 frames
-  pub each : (i : ℕ) → i < n → IsFrameOf i (get_or frames i no_part) (frame_at t.drive.frames i) (slots_at t.slots i)
+  pub each : (i : ℕ) → i < n → IsFrameOf i (get_or frames i no_part) (frame_at t.seat.frames i) (slots_at t.slots i)
   pub bytes : after ≡ before ++ flat_map frame_bytes frames
 
 pub none_added : (t : Table) (before : List ℕ) → AreAdded t 0 before before
@@ -259,11 +259,11 @@ one_added t n before old new were one =
       each = λ i h. elim (cases_eq i n) [
         | inl at ↦ (let first : i - n ≡ 0 = omega arith in
             let there : get_or (frames ++ f ∷ []) i no_part ≡ f = get_or-append_right frames (f ∷ []) n i no_part were.count (omega arith) ∙ ap (λ (j : ℕ). get_or (f ∷ []) j no_part) first in
-            let F : ℕ → Type 0 = λ j. IsFrameOf j f (frame_at t.drive.frames j) (slots_at t.slots j) in
-            let G : FrameFields → Type 0 = λ x. IsFrameOf i x (frame_at t.drive.frames i) (slots_at t.slots i) in
+            let F : ℕ → Type 0 = λ j. IsFrameOf j f (frame_at t.seat.frames j) (slots_at t.slots j) in
+            let G : FrameFields → Type 0 = λ x. IsFrameOf i x (frame_at t.seat.frames i) (slots_at t.slots i) in
             subst G (sym there) (subst F (sym at) one.of))
         | inr ne ↦ (let before_it : i < n = omega arith in
-            let G : FrameFields → Type 0 = λ x. IsFrameOf i x (frame_at t.drive.frames i) (slots_at t.slots i) in
+            let G : FrameFields → Type 0 = λ x. IsFrameOf i x (frame_at t.seat.frames i) (slots_at t.slots i) in
             subst G (sym (get_or_append_left frames (f ∷ []) no_part i (omega (arith, were.count)))) (were.each i before_it))
       ];
       bytes =
@@ -274,7 +274,7 @@ one_added t n before old new were one =
 
 -- ---- at most one is open
 
-by_others : (c : Bool) → phase_is_open (cond c Sealed Emptied) ≡ false
+by_others : (c : Bool) → phase_is_open (cond c Sealed Draining) ≡ false
 by_others true = refl
 by_others false = refl
 
@@ -303,11 +303,11 @@ counted_alike (f ∷ fs) (k ∷ ks) m same each =
     ∙ ap (λ (n : ℕ). cond (is_filling k) 1 0 + n) more
     ∙ sym (listed_or_not (is_filling k) m (numbers is_filling (m + 1) ks))
 
-pub all_added : (t : Table) (n : ℕ) (before after : List ℕ) → AreAdded t n before after → n ≡ length t.drive.frames → length t.slots ≡ length t.drive.frames → length (numbers is_filling 0 t.drive.frames) ≤ 1 → AddsFrames t before after
+pub all_added : (t : Table) (n : ℕ) (before after : List ℕ) → AreAdded t n before after → n ≡ length t.seat.frames → length t.slots ≡ length t.seat.frames → length (numbers is_filling 0 t.seat.frames) ≤ 1 → AddsFrames t before after
 all_added t n before after are all slots one =
-    let alike : (i : ℕ) → i < length are.frames → is_open (get_or are.frames i no_part) ≡ is_filling (frame_at t.drive.frames i) =
+    let alike : (i : ℕ) → i < length are.frames → is_open (get_or are.frames i no_part) ≡ is_filling (frame_at t.seat.frames i) =
     λ i h. open_alike (state_of (get_or are.frames i no_part).word) ∙ ap phase_is_open (sym (are.each i (omega (arith, are.count))).phase) in
-    let counted : count_by is_open are.frames ≡ length (numbers is_filling 0 t.drive.frames) = counted_alike are.frames t.drive.frames 0 (omega (arith, are.count)) alike in
+    let counted : count_by is_open are.frames ≡ length (numbers is_filling 0 t.seat.frames) = counted_alike are.frames t.seat.frames 0 (omega (arith, are.count)) alike in
     record {
       frames = are.frames;
       is = are.is;

@@ -141,7 +141,7 @@ pub record Shown (d : DriveFields) : Type 0 where
   pub past : (store_of d).latest ≤ (state_in d).clock
   pub unborn : NoneFrom (state_in d).next (store_of d)
   pub used : HoldsUsedBlocks d.store.table
-  pub count : IsFrameCount (length d.store.table.drive.frames)
+  pub count : IsFrameCount (length d.store.table.seat.frames)
 
 -- what its spans are
 pub record SpansShown (d : DriveFields) (spans : List Span) : Type 0 where
@@ -155,7 +155,7 @@ pub record SpansShown (d : DriveFields) (spans : List Span) : Type 0 where
 
 -- the header that is written, by the numbers of rows and of spans
 pub record HeaderShown (d : DriveFields) (rows spans : ℕ) (h : Header) : Type 0 where
-  pub frames : h.frames ≡ length d.store.table.drive.frames
+  pub frames : h.frames ≡ length d.store.table.seat.frames
   pub clock : h.clock ≡ (state_in d).clock
   pub window : h.window ≡ (state_in d).window
   pub floor : h.floor ≡ (state_in d).floor
@@ -202,7 +202,7 @@ saves d rows spans h after out checkpoints stand ascending shown saved seen head
     let s : State = state_in d in
     let t : Table = d.store.table in
     let image : Image = record { clock = s.clock; window = s.window; floor = s.floor; next = s.next; frames = adds.frames; rows = rows; spans = spans } in
-    let frames : length t.drive.frames ≡ length adds.frames = adds.table.frame_count in
+    let frames : length t.seat.frames ≡ length adds.frames = adds.table.frame_count in
     let same : h ≡ header_of image = same_header h (header_of image) (head.frames ∙ frames) head.clock head.window head.floor head.next head.row_count head.span_count in
     let listed : StoreFields = record { rows = saved.rows; log = log_of t; latest = d.store.latest } in
     let store : IsStore listed = listed_store (store_of d) saved.rows shown.store saved.listed in

@@ -25,7 +25,7 @@ use Rattle.verifier.specs.Images.{ImageFields}
 -- An opened drive has what an image has: its frames with what they are used for and hold, its rows, its spans and its numbers; and its last
 -- change was at the image's clock.
 pub record IsOpenedOf (image : ImageFields) (d : OpenedFields) : Type 0 where
-  pub frames : d.store.table.drive.frames ≡ image.table.drive.frames
+  pub frames : d.store.table.seat.frames ≡ image.table.seat.frames
   pub slots : d.store.table.slots ≡ image.table.slots
   pub rows : d.store.rows ≡ rows_opened image.objects
   pub latest : d.store.latest ≡ image.clock

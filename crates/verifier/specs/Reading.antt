@@ -7,7 +7,7 @@ use Rattle.segment_table.specs.Used.{used_at}
 use Rattle.version_store.specs.Opening.{OpenedFields, IndexesEntries}
 use Rattle.image_objects.specs.declared.rows.ImageRow.{ImageRow}
 use Rattle.image_objects.specs.Chains.{entries_used}
-use Rattle.image_objects.specs.History.{kept_row, present_used}
+use Rattle.image_objects.specs.VersionChain.{kept_row, present_used}
 use Rattle.image_objects.specs.Naming.{HoldsWhatIsNamed}
 use Rattle.image_objects.specs.Rows.{RowsStand}
 use Rattle.image_parts.specs.declared.rows.RowPart.{RowPart}

@@ -10,5 +10,5 @@ pub record AddsFrame (t : Table) (number : ℕ) (before after : List ℕ) : Type
   pub frame : FrameFields
   pub is : IsFrame frame
   pub rules : KeepsFrameRules number frame
-  pub of : IsFrameOf number frame (frame_at t.drive.frames number) (slots_at t.slots number)
+  pub of : IsFrameOf number frame (frame_at t.seat.frames number) (slots_at t.slots number)
   pub bytes : after ≡ before ++ frame_bytes frame

@@ -27,6 +27,6 @@ pub record IsFrameOf (number : ℕ) (f : FrameFields) (k : Frame) (slots : List 
 
 -- the frames of an image are those of a table, in their order
 pub record IsTableOf (frames : List FrameFields) (t : Table) : Type 0 where
-  pub frame_count : length t.drive.frames ≡ length frames
+  pub frame_count : length t.seat.frames ≡ length frames
   pub slot_count : length t.slots ≡ length frames
-  pub each : (n : ℕ) → n < length frames → IsFrameOf n (slice_index_or frames n no_part) (frame_at t.drive.frames n) (slots_at t.slots n)
+  pub each : (n : ℕ) → n < length frames → IsFrameOf n (slice_index_or frames n no_part) (frame_at t.seat.frames n) (slots_at t.slots n)

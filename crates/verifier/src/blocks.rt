@@ -8,12 +8,12 @@ ghost use Rattle.verifier.specs.private.Holding.{HoldsAlso, IsUsedAlike};
 use block_log::laws::one_place_has_one_name;
 use image_objects::{UsedBlock, UsedBlocks};
 use s4_types::Ptr;
-use segment_table::TableParts;
+use segment_table::TableBuilder;
 
 /// The used blocks of the frames of an image, whether they are held or not.
 #[derive(Clone, Copy)]
 pub(crate) struct TableBlocks<'a> {
-    pub(crate) table: &'a TableParts,
+    pub(crate) table: &'a TableBuilder,
 }
 
 impl UsedBlocks for TableBlocks<'_> {
@@ -23,17 +23,17 @@ impl UsedBlocks for TableBlocks<'_> {
 
     fn block(&self, place: Ptr) -> Option<UsedBlock> {
         let block = self.table.used(place)?;
-        let part = block.part();
+        let role = block.role();
         Some(UsedBlock {
-            kind: part.kind,
-            object: part.object,
+            kind: role.kind,
+            object: role.object,
             bytes: *block.bytes(),
         })
     }
 }
 
 /// The used blocks at these places are held from now on. Where one was, nothing changes.
-pub(crate) fn hold_all(table: &mut TableParts, places: &[Ptr])
+pub(crate) fn hold_all(table: &mut TableBuilder, places: &[Ptr])
     requires { All (λ p. IsSome (used_at table.old p)) places.now }
     ensures also { HoldsAlso (used_at table.old) (held_at table.old) (held_at table.new) places.now }
     ensures alike { IsUsedAlike table.old table.new }

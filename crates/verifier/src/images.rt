@@ -2,7 +2,7 @@
 ghost use Rattle.std.specs.Prelude.{◌≡◌, length};
 
 use s4_types::{Moment, ObjectId, Span};
-use segment_table::TableParts;
+use segment_table::TableBuilder;
 use std::marker::Model;
 use version_store::OpenedObject;
 
@@ -13,7 +13,7 @@ pub struct Image {
     pub(crate) window: u64,
     pub(crate) floor: Moment,
     pub(crate) next: ObjectId,
-    pub(crate) table: TableParts,
+    pub(crate) table: TableBuilder,
     pub(crate) objects: Vec<OpenedObject>,
     pub(crate) spans: Vec<Span>,
 }
@@ -31,7 +31,7 @@ impl Model for Image {
 impl Image {
     /// How many frames the drive has.
     pub fn frames(&self) -> u16
-        ensures { result ≡ length self.now.table.drive.frames }
+        ensures { result ≡ length self.now.table.seat.frames }
     {
         self.table.frame_count()
     }

@@ -3,7 +3,7 @@ ghost use Rattle.std.specs.Prelude.{◌≡◌, ◌↔◌, ℕ, List, Option, Som
 ghost use Rattle.s4_types.specs.declared.refusals.Cause.{Cause as Found};
 ghost use Rattle.s4_types.specs.declared.spans.Span.{Span as Hidden};
 ghost use Rattle.image_parts.specs.Header.{AreBytes};
-ghost use Rattle.image_parts.specs.Image.{Image as Parts, image_in};
+ghost use Rattle.image_parts.specs.Image.{Image as ImageParts, image_in};
 ghost use Rattle.window.specs.Runs.{Ascend, AllBeginFrom};
 ghost use Rattle.window.specs.Timeline.{CoverAlike};
 ghost use Rattle.drive.specs.Fields.{DriveFields};
@@ -14,7 +14,7 @@ use image_parts::laws::{an_image_is_read, what_no_test_refuses_is_an_image};
 
 /// Bytes in which a fault is found spell no image of a drive.
 pub fn what_has_a_fault_spells_nothing()
-    ensures { (bytes : List ℕ) (cause : Found) (image : Parts) → FirstFault bytes (Some cause) → SpellsDrive bytes image → ⊥ }
+    ensures { (bytes : List ℕ) (cause : Found) (image : ImageParts) → FirstFault bytes (Some cause) → SpellsDrive bytes image → ⊥ }
 {
     an_image_is_read();
 }
@@ -22,7 +22,7 @@ pub fn what_has_a_fault_spells_nothing()
 /// Bytes in which no fault is found are those that spell the image of a drive: the one that is read from them.
 pub fn what_has_no_fault_is_an_image()
     ensures image { (bytes : List ℕ) → AreBytes bytes → FirstFault bytes None ↔ SpellsDrive bytes (image_in bytes) }
-    ensures read { (bytes : List ℕ) (image : Parts) → SpellsDrive bytes image → image_in bytes ≡ image }
+    ensures read { (bytes : List ℕ) (image : ImageParts) → SpellsDrive bytes image → image_in bytes ≡ image }
 {
     an_image_is_read();
     what_no_test_refuses_is_an_image();

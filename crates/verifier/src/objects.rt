@@ -16,25 +16,25 @@ use crate::blocks::{TableBlocks, hold_all};
 use crate::moments::{are_apart, push_moments};
 use crate::rows::row_of;
 use image_objects::laws::moments_told_once_are_not_shared;
-use image_objects::{ImageHistory, ImageRow, push_named, read_object, what_a_row_names_is_used};
-use image_parts::{Parts, RowPart};
+use image_objects::{ImageRow, VersionChain, push_named, read_object, what_a_row_names_is_used};
+use image_parts::{ImageParts, RowPart};
 use object_map::Row;
 use s4_types::{Moment, Ptr, Refusal};
-use segment_table::TableParts;
+use segment_table::TableBuilder;
 use std::alloc::Global;
 use version_store::OpenedObject;
 
 /// What a drive keeps of the objects of an image, and the frames with all held that their rows name.
 #[derive(Drop)]
 pub(crate) struct Read {
-    pub(crate) table: TableParts,
+    pub(crate) table: TableBuilder,
     pub(crate) objects: Vec<OpenedObject>,
 }
 
 /// What was read of the rows so far.
 #[derive(Drop)]
 struct ReadRows {
-    table: TableParts,
+    table: TableBuilder,
     objects: Vec<OpenedObject>,
     // of all chains, those of each chain once
     moments: Vec<u64>,
@@ -43,30 +43,30 @@ struct ReadRows {
 }
 
 /// What a drive keeps of an object of an image. Where memory for its index is refused it has none.
-fn kept_of(alloc: Global, row: &ImageRow, history: &ImageHistory) -> OpenedObject
-    ensures { (used : Place → Option Stored) → TellsOfRow used row.now history.now → IsKept used row.now result }
+fn kept_of(alloc: Global, row: &ImageRow, versions: &VersionChain) -> OpenedObject
+    ensures { (used : Place → Option Stored) → TellsOfRow used row.now versions.now → IsKept used row.now result }
 {
     let kept = Row {
         created: row.created,
         checkpoint: row.checkpoint,
         checkpoint_moment: row.checkpoint_moment,
         head: row.head,
-        journal_bytes: history.chain.journal_bytes,
-        head_bytes: history.chain.head_bytes,
+        journal_bytes: versions.chain.journal_bytes,
+        head_bytes: versions.chain.head_bytes,
         stamp: 0,
     };
     OpenedObject::new(
         alloc,
         row.object,
         &kept,
-        &history.present,
-        history.chain.entries.as_slice(),
+        &versions.present,
+        versions.chain.entries.as_slice(),
     )
 }
 
 impl ReadRows {
     /// No row was read.
-    fn new(alloc: Global, table: TableParts) -> Self
+    fn new(alloc: Global, table: TableBuilder) -> Self
         ensures table { result.table ≡ table }
         ensures objects { result.objects.items ≡ [] }
         ensures moments { result.moments.items ≡ [] }
@@ -90,13 +90,13 @@ impl ReadRows {
             return Ok(false);
         };
         let blocks = TableBlocks { table: &self.table };
-        let Some(history) = read_object(alloc, &blocks, &row, clock)? else {
+        let Some(versions) = read_object(alloc, &blocks, &row, clock)? else {
             return Ok(false);
         };
-        push_moments(history.chain.entries.as_slice(), &mut self.moments)?;
+        push_moments(versions.chain.entries.as_slice(), &mut self.moments)?;
         self.places.clear();
-        push_named(&blocks, &row, &history, &mut self.places)?;
-        self.objects.push(kept_of(alloc, &row, &history))?;
+        push_named(&blocks, &row, &versions, &mut self.places)?;
+        self.objects.push(kept_of(alloc, &row, &versions))?;
         hold_all(&mut self.table, self.places.as_slice());
         Ok(true)
     }
@@ -127,8 +127,8 @@ impl ReadRows {
 /// NoMemory alone. Linear in the image but for the order of moments.
 pub(crate) fn read_objects(
     alloc: Global,
-    table: TableParts,
-    parts: &Parts<'_>,
+    table: TableBuilder,
+    parts: &ImageParts<'_>,
     clock: Moment,
 ) -> Result<Option<Read>, Refusal>
     requires { (p : Place) → held_at table p ≡ None }
@@ -136,9 +136,9 @@ pub(crate) fn read_objects(
     ensures none { IfOk result (λ found. IfNone found ((rows : List RowFields)
         → SpellRows parts.now.rows rows → RowsStand (used_at table) rows clock → ⊥)) }
     ensures used { IfOk result (λ found. IfSome found (λ read. (p : Place) → used_at read.table p ≡ used_at table p)) }
-    ensures frames { IfOk result (λ found. IfSome found (λ read. read.table.drive.frames ≡ table.drive.frames)) }
+    ensures frames { IfOk result (λ found. IfSome found (λ read. read.table.seat.frames ≡ table.seat.frames)) }
     ensures slots { IfOk result (λ found. IfSome found (λ read. (f : ℕ)
-        → map (λ slot. slot.part) (slots_at read.table.slots f) ≡ map (λ slot. slot.part) (slots_at table.slots f))) }
+        → map (λ slot. slot.role) (slots_at read.table.slots f) ≡ map (λ slot. slot.role) (slots_at table.slots f))) }
     ensures refusal { IfErr result (λ e. e ≡ NoMemory) }
 {
     moments_told_once_are_not_shared();

@@ -4,7 +4,7 @@ ghost use Rattle.s4_types.specs.declared.refusals.Refusal.TheVariants.{NoMemory,
 ghost use Rattle.segment_table.specs.Room.{log_of};
 ghost use Rattle.version_store.specs.Store.{fields_of};
 ghost use Rattle.drive.specs.Opened.{base_of};
-ghost use Rattle.image_parts.specs.Image.{Image as Parts};
+ghost use Rattle.image_parts.specs.Image.{Image as ImageParts};
 ghost use Rattle.verifier.specs.Grammar.{SpellsDrive};
 ghost use Rattle.verifier.specs.Images.{IsImageOf};
 ghost use Rattle.verifier.specs.Opened.{IsOpenedOf, IsToldBy};
@@ -24,7 +24,7 @@ use window::Window;
 /// NoMemory where memory was refused, Busy where a count of those that share a part of the drive was full.
 pub fn open(alloc: Global, image: Image) -> Result<OpenedDrive, Refusal>
     ensures opened { IfOk result (λ d. IsOpenedOf image d) }
-    ensures base { IfOk result (λ d. (bytes : List ℕ) (parts : Parts) → SpellsDrive bytes parts → IsImageOf parts image
+    ensures base { IfOk result (λ d. (bytes : List ℕ) (parts : ImageParts) → SpellsDrive bytes parts → IsImageOf parts image
         → IsToldBy parts (base_of (fields_of log_of d.store) d.timeline d.next)) }
     ensures refusal { IfErr result (λ e. (e ≡ NoMemory) ⊎ (e ≡ Busy)) }
 {

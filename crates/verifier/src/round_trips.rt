@@ -5,7 +5,7 @@ ghost use Rattle.s4_types.specs.declared.refusals.Refusal.TheVariants.{NoMemory,
 ghost use Rattle.segment_table.specs.Room.{log_of};
 ghost use Rattle.version_store.specs.Store.{fields_of};
 ghost use Rattle.drive.specs.Opened.{base_of};
-ghost use Rattle.image_parts.specs.Image.{Image as Parts, image_in};
+ghost use Rattle.image_parts.specs.Image.{Image as ImageParts, image_in};
 ghost use Rattle.verifier.specs.Grammar.{SpellsDrive, FirstFault};
 ghost use Rattle.verifier.specs.Images.{ImageFields, IsImageOf};
 ghost use Rattle.verifier.specs.Opened.{IsOpenedOf};
@@ -39,9 +39,9 @@ pub fn round_trip<R: Threads>(rt: &R, alloc: Global, bytes: &[u8]) -> Result<Vec
 // The image of a drive that was just opened.
 fn save_named<J: Naming>(alloc: Global, opened: OpenedDrive) -> Result<Vec<u8>, Refusal>
     requires accepts { opened.accepts ≡ J.accepts }
-    requires frames { opened.store.table.drive.table ≡ J.frames }
+    requires frames { opened.store.table.seat.table ≡ J.frames }
     requires base { base_of (fields_of log_of opened.store) opened.timeline opened.next ≡ J.base }
-    ensures same { IfOk result (λ saved. (bytes : List ℕ) (parts : Parts) (image : ImageFields) → SpellsDrive bytes parts → IsImageOf parts image → IsOpenedOf image opened
+    ensures same { IfOk result (λ saved. (bytes : List ℕ) (parts : ImageParts) (image : ImageFields) → SpellsDrive bytes parts → IsImageOf parts image → IsOpenedOf image opened
         → saved.items ≡ bytes) }
     ensures refusal { IfErr result (λ e. e ≡ NoMemory) }
 {

@@ -24,7 +24,7 @@ fn push_saved<J: Naming>(
     blocks: &mut [Block; FRAME_BLOCKS],
     out: &mut Vec<u8>,
 ) -> Result<(), Refusal>
-    requires { frame < length drive.old.store.table.drive.frames }
+    requires { frame < length drive.old.store.table.seat.frames }
     ensures frame { IfOk result (λ _. AddsFrame drive.old.store.table frame out.old.items out.new.items) }
     ensures refusal { IfErr result (λ e. e ≡ NoMemory) }
     ensures same { drive.new ≡ drive.old }

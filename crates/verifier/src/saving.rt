@@ -17,7 +17,7 @@ use std::alloc::Global;
 
 /// The header of the image of a drive, by the numbers of its rows and of its spans.
 fn header_of<J: Naming>(drive: &Drive<J>, rows: u32, spans: u32) -> Header
-    ensures frames { result.frames ≡ length drive.now.store.table.drive.frames }
+    ensures frames { result.frames ≡ length drive.now.store.table.seat.frames }
     ensures clock { result.clock ≡ (state_in drive.now).clock }
     ensures window { result.window ≡ (state_in drive.now).window }
     ensures floor { result.floor ≡ (state_in drive.now).floor }

@@ -15,10 +15,10 @@ ghost use Rattle.verifier.specs.Tables.{IsFrameOf, IsTableOf};
 use block_log::Block;
 use codec::Summary;
 use codec::laws::{one_summary_a_spelling, rules_of_a_summary};
-use image_parts::{FramePart, FrameRead, Parts, read_frame};
+use image_parts::{FramePart, FrameRead, ImageParts, read_frame};
 use s4_types::Refusal;
 use s4_types::limits::FRAME_BLOCKS;
-use segment_table::TableParts;
+use segment_table::TableBuilder;
 use segment_word::FrameState;
 use std::alloc::Global;
 
@@ -35,7 +35,7 @@ fn state_in(word: u64) -> FrameState
         0 => FrameState::Free,
         1 => FrameState::Open,
         2 => FrameState::Sealed,
-        _ => FrameState::Emptied,
+        _ => FrameState::Draining,
     }
 }
 
@@ -46,16 +46,16 @@ fn generation_in(word: u64) -> u32
 }
 
 /// Sets a frame that is free in a table to one of an image that isn't, and has this summary.
-fn set_used(table: &mut TableParts, number: u16, frame: &FramePart<'_>, summary: &Summary)
+fn set_used(table: &mut TableBuilder, number: u16, frame: &FramePart<'_>, summary: &Summary)
     requires used { state_of frame.now.word ≢ 0 }
     requires rules { KeepsFrameRules number frame.now }
     requires spelled { SpellsSummary (drop 1 (blocks_of frame.now.contents)) (slice_index_or (blocks_of frame.now.contents) 0 []) summary.now }
-    requires inside { number < length table.old.drive.frames }
-    requires counted { length table.old.slots ≡ length table.old.drive.frames }
-    requires free { (frame_at table.old.drive.frames number).phase ≡ Free }
-    requires one_open { state_of frame.now.word ≡ 1 → numbers is_filling 0 table.old.drive.frames ≡ [] }
-    ensures frame { IsFrameOf number frame.now (frame_at table.new.drive.frames number) (slots_at table.new.slots number) }
-    ensures frames { table.new.drive.frames ≡ slice_set table.old.drive.frames number (frame_at table.new.drive.frames number) }
+    requires inside { number < length table.old.seat.frames }
+    requires counted { length table.old.slots ≡ length table.old.seat.frames }
+    requires free { (frame_at table.old.seat.frames number).phase ≡ Free }
+    requires one_open { state_of frame.now.word ≡ 1 → numbers is_filling 0 table.old.seat.frames ≡ [] }
+    ensures frame { IsFrameOf number frame.now (frame_at table.new.seat.frames number) (slots_at table.new.slots number) }
+    ensures frames { table.new.seat.frames ≡ slice_set table.old.seat.frames number (frame_at table.new.seat.frames number) }
     ensures slots { table.new.slots ≡ slice_set table.old.slots number (slots_at table.new.slots number) }
     ensures held { (p : Place) → held_at table.new p ≡ held_at table.old p }
 {
@@ -69,16 +69,16 @@ fn set_used(table: &mut TableParts, number: u16, frame: &FramePart<'_>, summary:
 }
 
 /// Sets a frame that is free in a table, and has no used block, to that of an image of which this was read.
-fn set_frame(table: &mut TableParts, number: u16, frame: &FramePart<'_>, read: &FrameRead)
+fn set_frame(table: &mut TableBuilder, number: u16, frame: &FramePart<'_>, read: &FrameRead)
     requires rules { KeepsFrameRules number frame.now }
     requires read { IsReadOf frame.now read.now }
-    requires inside { number < length table.old.drive.frames }
-    requires counted { length table.old.slots ≡ length table.old.drive.frames }
-    requires free { (frame_at table.old.drive.frames number).phase ≡ Free }
+    requires inside { number < length table.old.seat.frames }
+    requires counted { length table.old.slots ≡ length table.old.seat.frames }
+    requires free { (frame_at table.old.seat.frames number).phase ≡ Free }
     requires empty { slots_at table.old.slots number ≡ [] }
-    requires one_open { state_of frame.now.word ≡ 1 → numbers is_filling 0 table.old.drive.frames ≡ [] }
-    ensures frame { IsFrameOf number frame.now (frame_at table.new.drive.frames number) (slots_at table.new.slots number) }
-    ensures frames { table.new.drive.frames ≡ slice_set table.old.drive.frames number (frame_at table.new.drive.frames number) }
+    requires one_open { state_of frame.now.word ≡ 1 → numbers is_filling 0 table.old.seat.frames ≡ [] }
+    ensures frame { IsFrameOf number frame.now (frame_at table.new.seat.frames number) (slots_at table.new.slots number) }
+    ensures frames { table.new.seat.frames ≡ slice_set table.old.seat.frames number (frame_at table.new.seat.frames number) }
     ensures slots { table.new.slots ≡ slice_set table.old.slots number (slots_at table.new.slots number) }
     ensures held { (p : Place) → held_at table.new p ≡ held_at table.old p }
 {
@@ -93,7 +93,10 @@ fn set_frame(table: &mut TableParts, number: u16, frame: &FramePart<'_>, read: &
 ///
 /// Each frame is judged and set in one step, so that its summary is decoded once. NoMemory alone, where memory for the table is
 /// refused.
-pub(crate) fn read_frames(alloc: Global, parts: &Parts<'_>) -> Result<Option<TableParts>, Refusal>
+pub(crate) fn read_frames(
+    alloc: Global,
+    parts: &ImageParts<'_>,
+) -> Result<Option<TableBuilder>, Refusal>
     requires counted { IsFrameCount (length parts.now.frames) }
     ensures table { IfOk result (λ found. IfSome found (λ table. IsTableOf parts.now.frames table)) }
     ensures nothing { IfOk result (λ found. IfSome found (λ table. (p : Place) → held_at table p ≡ None)) }
@@ -102,7 +105,7 @@ pub(crate) fn read_frames(alloc: Global, parts: &Parts<'_>) -> Result<Option<Tab
     ensures refusal { IfErr result (λ e. e ≡ NoMemory) }
 {
     let frames = parts.frames();
-    let mut table = TableParts::new(alloc, frames.len() as usize)?;
+    let mut table = TableBuilder::new(alloc, frames.len() as usize)?;
     let mut number = 0;
     let mut has_open = false;
     for frame in frames {

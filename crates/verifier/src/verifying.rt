@@ -22,14 +22,14 @@ use image_objects::laws::{
     an_object_that_stands_is_held, kept_rows_are_listed, rows_that_stand_make_a_store,
 };
 use image_parts::laws::{a_list_has_few_spans, what_no_test_refuses_is_an_image};
-use image_parts::{Parts, has_digest, rows_keep_rules, spans_keep_rules, split_parts};
+use image_parts::{ImageParts, has_digest, rows_keep_rules, spans_keep_rules, split_parts};
 use s4_types::{Cause, Refusal, Span};
-use segment_table::TableParts;
+use segment_table::TableBuilder;
 use std::alloc::Global;
 use std::thread::{Threads, join};
 
 /// The spans of an image, in their order. NoMemory alone.
-fn spans_of(alloc: Global, parts: &Parts<'_>) -> Result<Vec<Span>, Refusal>
+fn spans_of(alloc: Global, parts: &ImageParts<'_>) -> Result<Vec<Span>, Refusal>
     ensures spans { IfOk result (λ spans. spans.items ≡ parts.now.spans) }
     ensures refusal { IfErr result (λ e. e ≡ NoMemory) }
 {
@@ -42,7 +42,11 @@ fn spans_of(alloc: Global, parts: &Parts<'_>) -> Result<Vec<Span>, Refusal>
 
 /// The table of an image's frames with what its rows name held, and its objects. None where its chains don't stand. NoMemory
 /// alone.
-fn read_chains(alloc: Global, table: TableParts, parts: &Parts<'_>) -> Result<Option<Read>, Refusal>
+fn read_chains(
+    alloc: Global,
+    table: TableBuilder,
+    parts: &ImageParts<'_>,
+) -> Result<Option<Read>, Refusal>
     requires table { IsTableOf parts.now.frames table }
     requires nothing { (p : Place) → held_at table p ≡ None }
     ensures frames { IfOk result (λ found. IfSome found (λ read. IsTableOf parts.now.frames read.table)) }
@@ -59,7 +63,7 @@ fn read_chains(alloc: Global, table: TableParts, parts: &Parts<'_>) -> Result<Op
 }
 
 /// The image of parts that keep their rules, by what was read of them.
-fn image_of(parts: &Parts<'_>, read: Read, spans: Vec<Span>) -> Image
+fn image_of(parts: &ImageParts<'_>, read: Read, spans: Vec<Span>) -> Image
     requires rules { KeepsRules parts.now }
     requires frames { IsTableOf parts.now.frames read.table }
     requires rows { AreRead read.table parts.now.rows parts.now.clock read.table read.objects.items }
@@ -87,7 +91,7 @@ fn image_of(parts: &Parts<'_>, read: Read, spans: Vec<Span>) -> Image
 /// The image that parts tell whose header keeps its rules: their frames, spans, rows and chains are tested, in this order.
 ///
 /// Damaged with the cause of the first of these tests that fails; NoMemory where memory was refused.
-fn read_rest(alloc: Global, parts: &Parts<'_>) -> Result<Image, Refusal>
+fn read_rest(alloc: Global, parts: &ImageParts<'_>) -> Result<Image, Refusal>
     requires { KeepsHeaderRules (header_of parts.now) }
     ensures whole { IfOk result (λ image. FirstRestCause parts.now None) }
     ensures told { IfOk result (λ image. IsImageOf parts.now image) }
@@ -115,7 +119,7 @@ fn read_beside_digest<R: Threads>(
     rt: &R,
     alloc: Global,
     bytes: &[u8],
-    parts: &Parts<'_>,
+    parts: &ImageParts<'_>,
 ) -> (bool, Result<Image, Refusal>)
     requires long { 32 ≤ length bytes.now }
     requires rules { KeepsHeaderRules (header_of parts.now) }

@@ -19,7 +19,7 @@ use Rattle.time_read.specs.Rows.{entries_of, inode_of, last_inode}
 use Rattle.time_read.specs.declared.presents.Present.{Present}
 use Rattle.version_store.specs.Store.{StoreFields, IsStore}
 use Rattle.version_store.specs.Versions.{entries_of_row, entries_of_object, inode_by, inode_in}
-use Rattle.time_read.specs.Presents.{Tells, TellsOf}
+use Rattle.time_read.specs.Presents.{IsIndexOf, KeepsIndexOf}
 use Rattle.version_store.specs.private.Beside.{inode_beside, IsBeside}
 use Rattle.version_store.specs.Checkpointing.{last_entry, IsCheckpointed}
 use Rattle.version_store.specs.Replacing.{OtherObjectsStay, IsRemoved}
@@ -74,21 +74,21 @@ all_stay s later o row there made q =
 
 -- beside each row the index tells the row's entries
 abbrev pub Indexed : List (ℕ × Present) → StoreFields → Type 0
-Indexed values s = (q : ℕ) → TellsOf (value_of values q) (entries_of_object s q)
+Indexed values s = (q : ℕ) → KeepsIndexOf (value_of values q) (entries_of_object s q)
 
 -- where an object has no value, or the one that it had, and the entries that it had
-pub stays_indexed : (values after : List (ℕ × Present)) (s later : StoreFields) (q : ℕ) → value_of after q ≡ value_of values q → entries_of_object later q ≡ entries_of_object s q → Indexed values s → TellsOf (value_of after q) (entries_of_object later q)
+pub stays_indexed : (values after : List (ℕ × Present)) (s later : StoreFields) (q : ℕ) → value_of after q ≡ value_of values q → entries_of_object later q ≡ entries_of_object s q → Indexed values s → KeepsIndexOf (value_of after q) (entries_of_object later q)
 stays_indexed values after s later q same entries indexed =
-    subst (λ (p : Option Present). TellsOf p (entries_of_object later q)) (sym same)
-    (subst (λ (es : List EntryFields). TellsOf (value_of values q) es) (sym entries) (indexed q))
+    subst (λ (p : Option Present). KeepsIndexOf p (entries_of_object later q)) (sym same)
+    (subst (λ (es : List EntryFields). KeepsIndexOf (value_of values q) es) (sym entries) (indexed q))
 
 -- one object's index follows its entries, and those of all others are as they were
-pub put_indexed : (s later : StoreFields) (o : ℕ) (v : Present) (values after : List (ℕ × Present)) → Tells v.index (entries_of_object later o)
+pub put_indexed : (s later : StoreFields) (o : ℕ) (v : Present) (values after : List (ℕ × Present)) → IsIndexOf v.index (entries_of_object later o)
     → ((q : ℕ) → (o == q) ≡ false → entries_of_object later q ≡ entries_of_object s q) → PutsAt values o v after → Indexed values s → Indexed after later
 put_indexed s later o v values after here beside put indexed q = elim (cases_Bool (o == q)) [
   | inl is ↦
-      subst (λ (p : Option Present). TellsOf p (entries_of_object later q)) (sym (put q ∙ cond-true (o == q) (Some v) (value_of values q) is))
-      (subst (λ (n : ℕ). Tells v.index (entries_of_object later n)) (eqb-true o q is) here)
+      subst (λ (p : Option Present). KeepsIndexOf p (entries_of_object later q)) (sym (put q ∙ cond-true (o == q) (Some v) (value_of values q) is))
+      (subst (λ (n : ℕ). IsIndexOf v.index (entries_of_object later n)) (eqb-true o q is) here)
   | inr other ↦ stays_indexed values after s later q (put q ∙ cond-false (o == q) (Some v) (value_of values q) other) (beside q other) indexed
 ]
 
@@ -96,7 +96,7 @@ put_indexed s later o v values after here beside put indexed q = elim (cases_Boo
 pub gone_indexed : (s later : StoreFields) (o : ℕ) (values after : List (ℕ × Present)) → ((q : ℕ) → (o == q) ≡ false → entries_of_object later q ≡ entries_of_object s q)
     → ((q : ℕ) → value_of after q ≡ without_value (value_of values) o q) → Indexed values s → Indexed after later
 gone_indexed s later o values after beside gone indexed q = elim (cases_Bool (o == q)) [
-  | inl is ↦ subst (λ (p : Option Present). TellsOf p (entries_of_object later q)) (sym (gone q ∙ cond-true (o == q) None (value_of values q) is)) tt
+  | inl is ↦ subst (λ (p : Option Present). KeepsIndexOf p (entries_of_object later q)) (sym (gone q ∙ cond-true (o == q) None (value_of values q) is)) tt
   | inr other ↦ stays_indexed values after s later q (gone q ∙ cond-false (o == q) None (value_of values q) other) (beside q other) indexed
 ]
 
@@ -108,22 +108,22 @@ same_indexed s later values after same entries indexed q = stays_indexed values 
 pub turned_indexed : (s later : StoreFields) (o stamp : ℕ) (row next : Row) (more : List EntryFields) (v : Present) (values after : List (ℕ × Present)) → row_of s.rows o ≡ Some row
     → ((q : ℕ) → row_of later.rows q ≡ with_row (row_of s.rows) o (record next { stamp = stamp }) q) → OnlyJournalChanged o s.log.held later.log.held
     → entries_of later.log.held o next ≡ entries_of s.log.held o row ++ more
-    → ((entries : List EntryFields) → TellsOf (value_of values o) entries → Tells v.index (entries ++ more))
+    → ((entries : List EntryFields) → KeepsIndexOf (value_of values o) entries → IsIndexOf v.index (entries ++ more))
     → PutsAt values o v after → Indexed values s → Indexed after later
 turned_indexed s later o stamp row next more v values after there rows only entries told put indexed =
     let now : entries_of_object later o ≡ entries_of_object s o ++ more =
     entries_here later o (record next { stamp = stamp }) (rows o ∙ row_here (row_of s.rows) o (record next { stamp = stamp }))
     ∙ entries ∙ ap (λ (es : List EntryFields). es ++ more) (sym (entries_here s o row there)) in
-    put_indexed s later o v values after (subst (Tells v.index) (sym now) (told (entries_of_object s o) (indexed o)))
+    put_indexed s later o v values after (subst (IsIndexOf v.index) (sym now) (told (entries_of_object s o) (indexed o)))
     (λ q other. entries_stay s later q (rows q ∙ row_beside (row_of s.rows) o q (record next { stamp = stamp }) other) (only Journal q other)) put indexed
 
 -- an object that was replaced has the entries of which its index tells
 pub replaced_indexed : (s later : StoreFields) (o : ℕ) (next : Row) (new : List EntryFields) (v : Present) (values after : List (ℕ × Present))
     → ((q : ℕ) → row_of later.rows q ≡ with_row (row_of s.rows) o next q) → OtherObjectsStay o s.log.held later.log.held
-    → entries_of later.log.held o next ≡ new → Tells v.index new → PutsAt values o v after → Indexed values s → Indexed after later
+    → entries_of later.log.held o next ≡ new → IsIndexOf v.index new → PutsAt values o v after → Indexed values s → Indexed after later
 replaced_indexed s later o next new v values after rows others entries told put indexed =
     let now : entries_of_object later o ≡ new = entries_here later o next (rows o ∙ row_here (row_of s.rows) o next) ∙ entries in
-    put_indexed s later o v values after (subst (Tells v.index) (sym now) told)
+    put_indexed s later o v values after (subst (IsIndexOf v.index) (sym now) told)
     (λ q other. entries_stay s later q (rows q ∙ row_beside (row_of s.rows) o q next other) (others Journal q other)) put indexed
 
 -- an object that was removed has none
@@ -140,7 +140,7 @@ added_indexed s rows o m v values after none rows_put put indexed =
     let later : StoreFields = record s { rows = rows } in
     let now : entries_of_object later o ≡ [] = entries_here later o (fresh_row m) (rows_put o ∙ row_here (row_of s.rows) o (fresh_row m)) ∙ fresh_entries s.log.held o m in
     put_indexed s later o v values after
-    (subst (Tells v.index) (sym now) (subst (λ (x : Option (List Undoing)). Tells x []) (sym none) refl))
+    (subst (IsIndexOf v.index) (sym now) (subst (λ (x : Option (List Undoing)). IsIndexOf x []) (sym none) refl))
     (λ q other. entries_stay s later q (rows_put q ∙ row_beside (row_of s.rows) o q (fresh_row m) other) refl) put indexed
 
 -- a checkpoint leaves all entries
@@ -158,8 +158,8 @@ grown_indexed s log object blocks values grows indexed =
 pub inode_kept : (values : List (ℕ × Present)) (s : StoreFields) (o : ℕ) (k : Present) → Some k ≡ value_of values o → IsBeside values s → Some k.inode ≡ inode_in s o s.latest
 inode_kept values s o k is beside = ap (option_map (λ p. p.inode)) is ∙ beside.inodes o
 
-pub index_kept : (values : List (ℕ × Present)) (s : StoreFields) (o : ℕ) (k : Present) → Some k ≡ value_of values o → IsBeside values s → Tells k.index (entries_of_object s o)
-index_kept values s o k is beside = subst (λ (p : Option Present). TellsOf p (entries_of_object s o)) (sym is) (beside.indexes o)
+pub index_kept : (values : List (ℕ × Present)) (s : StoreFields) (o : ℕ) (k : Present) → Some k ≡ value_of values o → IsBeside values s → IsIndexOf k.index (entries_of_object s o)
+index_kept values s o k is beside = subst (λ (p : Option Present). KeepsIndexOf p (entries_of_object s o)) (sym is) (beside.indexes o)
 
 -- ---- an inode at a moment by the index
 

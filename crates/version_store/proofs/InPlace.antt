@@ -3,7 +3,7 @@ use Rattle.std.proofs.Common.{◌≡◌, ℕ, ◌≤◌, List, [], ◌∷◌, le
 use Rattle.std.specs.Prelude.{Result, Ok, Err, IfOk, OnErr}
 use Rattle.s4_types.specs.Pointer.{Place}
 use Rattle.s4_types.specs.declared.refusals.Refusal.{Refusal}
-use Rattle.codec.specs.declared.summaries.Part.{Part}
+use Rattle.codec.specs.declared.summaries.BlockRole.{BlockRole}
 use Rattle.segment_word.specs.Handles.{Drive}
 use Rattle.segment_table.specs.Table.{Table}
 use Rattle.segment_table.specs.Room.{is_filling, numbers}
@@ -17,18 +17,18 @@ along p f = ap f p
 pub across : {A : Type 0} {x y : A} (p : x ≡ y) (P : A → Type 0) → P y → P x
 across p P h = subst P (sym p) h
 
-pub appended_here : (r : Result Place Refusal) (part : Part) (block : List ℕ) (old new : Table) → IfOk r (λ p. IsAppended p part block old new) → OnErr r (new ≡ old) → new.drive.table ≡ old.drive.table
-appended_here (Ok p) part block old new exact same = ap (λ (d : Drive). d.table) exact.alone
-appended_here (Err e) part block old new exact same = ap (λ (t : Table). t.drive.table) same
+pub appended_here : (r : Result Place Refusal) (role : BlockRole) (block : List ℕ) (old new : Table) → IfOk r (λ p. IsAppended p role block old new) → OnErr r (new ≡ old) → new.seat.table ≡ old.seat.table
+appended_here (Ok p) role block old new exact same = ap (λ (d : Drive). d.table) exact.alone
+appended_here (Err e) role block old new exact same = ap (λ (t : Table). t.seat.table) same
 
-by_filling : (filling : List ℕ) (old new : Table) → length filling ≤ 1 → (filling ≡ [] → new ≡ old) → ((f : ℕ) → filling ≡ f ∷ [] → IsSealedIn f old new) → new.drive.table ≡ old.drive.table
-by_filling [] old new one idle sealed = ap (λ (t : Table). t.drive.table) (idle refl)
+by_filling : (filling : List ℕ) (old new : Table) → length filling ≤ 1 → (filling ≡ [] → new ≡ old) → ((f : ℕ) → filling ≡ f ∷ [] → IsSealedIn f old new) → new.seat.table ≡ old.seat.table
+by_filling [] old new one idle sealed = ap (λ (t : Table). t.seat.table) (idle refl)
 by_filling (f ∷ []) old new one idle sealed = ap (λ (d : Drive). d.table) (sealed f refl).0.alone
 by_filling (f ∷ g ∷ filling) old new one idle sealed = absurd (omega (arith, one))
 
-pub sealed_here : (old new : Table) → length (numbers is_filling 0 old.drive.frames) ≤ 1 → (NoneIsFilling old → new ≡ old) → ((f : ℕ) → IsFilling f old → IsSealedIn f old new) → new.drive.table ≡ old.drive.table
-sealed_here old new one idle sealed = by_filling (numbers is_filling 0 old.drive.frames) old new one idle sealed
+pub sealed_here : (old new : Table) → length (numbers is_filling 0 old.seat.frames) ≤ 1 → (NoneIsFilling old → new ≡ old) → ((f : ℕ) → IsFilling f old → IsSealedIn f old new) → new.seat.table ≡ old.seat.table
+sealed_here old new one idle sealed = by_filling (numbers is_filling 0 old.seat.frames) old new one idle sealed
 
-pub marked_here : (r : Result (Unit {0}) Refusal) (f : ℕ) (old new : Table) → MarksFrame f old r new → new.drive.table ≡ old.drive.table
-marked_here (Ok x) f old new marks = ap (λ (d : Drive). d.table) marks.marked.drive
-marked_here (Err e) f old new marks = ap (λ (t : Table). t.drive.table) marks.refused
+pub marked_here : (r : Result (Unit {0}) Refusal) (f : ℕ) (old new : Table) → MarksFrame f old r new → new.seat.table ≡ old.seat.table
+marked_here (Ok x) f old new marks = ap (λ (d : Drive). d.table) marks.marked.seat
+marked_here (Err e) f old new marks = ap (λ (t : Table). t.seat.table) marks.refused

@@ -1,7 +1,7 @@
 pub mod RelocatedStore
 pub mod Relocated
 pub mod RelocatedBlocks
-pub mod RenamedHistory
+pub mod RenamedJournal
 pub mod Appending
 pub mod Frames
 pub mod Counting

@@ -18,7 +18,7 @@ use Rattle.time_read.specs.declared.presents.Present.{Present}
 use Rattle.version_store.specs.Opening.{OpenedFields, numbers_opened, rows_opened, AscendAbove, NumbersAscend, FitsItsRow}
 use Rattle.version_store.specs.Store.{StoreFields}
 use Rattle.version_store.specs.Versions.{inode_by, entries_of_row, entries_of_object}
-use Rattle.time_read.specs.Presents.{TellsOf}
+use Rattle.time_read.specs.Presents.{KeepsIndexOf}
 use Rattle.version_store.specs.private.Beside.{IsBeside}
 use Rattle.version_store.specs.private.Opening.{present_of, presents_opened}
 
@@ -144,10 +144,10 @@ opened_beside log latest objects all =
       indexes = λ o. elim (found_among (FitsItsRow log.held latest) objects o all) [
         | inl found ↦
             let x = found.opened in
-            let told : TellsOf (Some (present_of x)) (entries_of log.held o x.row) =
-            subst (λ (n : ℕ). TellsOf (Some (present_of x)) (entries_of log.held n x.row)) found.number found.holds.entries in
-            subst (λ (p : Option Present). TellsOf p (entries_of_object s o)) (sym found.value)
-            (subst (λ (r : Option Row). TellsOf (Some (present_of x)) (entries_of_row log.held o r)) (sym found.row) told)
-        | inr none ↦ subst (λ (p : Option Present). TellsOf p (entries_of_object s o)) (sym none.value) tt
+            let told : KeepsIndexOf (Some (present_of x)) (entries_of log.held o x.row) =
+            subst (λ (n : ℕ). KeepsIndexOf (Some (present_of x)) (entries_of log.held n x.row)) found.number found.holds.entries in
+            subst (λ (p : Option Present). KeepsIndexOf p (entries_of_object s o)) (sym found.value)
+            (subst (λ (r : Option Row). KeepsIndexOf (Some (present_of x)) (entries_of_row log.held o r)) (sym found.row) told)
+        | inr none ↦ subst (λ (p : Option Present). KeepsIndexOf p (entries_of_object s o)) (sym none.value) tt
       ];
     }

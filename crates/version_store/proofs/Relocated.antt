@@ -12,17 +12,17 @@ use Rattle.object_map.specs.declared.map.Row.{Row}
 use Rattle.time_read.specs.Rows.{IsRow, entries_of, checkpoint_of, first_of, inode_of}
 use Rattle.time_read.specs.Orderly.{IsFromTo, IsOrderly, IsOrderlyChain, BeginsDead}
 use Rattle.row_changes.specs.Moving.{checkpoint_with, first_with, moved_blocks, row_blocks}
-use Rattle.row_changes.specs.Rewritten.{OnlyHistoryChanged}
+use Rattle.row_changes.specs.Rewritten.{OnlyMetadataChanged}
 use Rattle.chain_rewriting.specs.Renaming.{RenamingFields, renamed_entries}
 use Rattle.chain_rewriting.specs.RenamingLaws.{RenamedEntriesStayInOrder, RenamedEntriesTakeAsManyBytes}
 use Rattle.version_store.specs.declared.copies.CopiedBlock.{CopiedBlock}
 use Rattle.version_store.specs.private.Below.{RowStays, RowInodeStays, PlacesAddUp, HolesTellBlocks}
 use Rattle.version_store.specs.private.Relocating.{Relocates}
 use Rattle.version_store.proofs.Telling.{same_entries, same_checkpoint}
-use Rattle.version_store.proofs.RenamedHistory.{RenamingStands, kept_renamed, first_renamed, shown_renamed, checkpoint_renamed}
+use Rattle.version_store.proofs.RenamedJournal.{RenamingStands, kept_renamed, first_renamed, shown_renamed, checkpoint_renamed}
 use Rattle.version_store.proofs.RelocatedBlocks.{Dropped, moved_are, from_copy, copied_is, stayed_is, old_or_new, gone_is, only_data, others_are, same_blocks, behind, takes_all}
 
--- A history was written in place of an object's: this inode in its checkpoint, if there is one, and these entries.
+-- A journal was written in place of an object's: this inode in its checkpoint, if there is one, and these entries.
 pub record Moved (between moved : Log) (o : ℕ) (row next : Row) (kept : Option Inode) (entries : List EntryFields) : Type 0 where
   pub stands : IsRow moved.held o next
   pub journal : entries_of moved.held o next ≡ entries
@@ -31,7 +31,7 @@ pub record Moved (between moved : Log) (o : ℕ) (row next : Row) (kept : Option
   pub orderly : (latest : ℕ) → IsOrderlyChain row.created latest (first_with o row kept entries) entries → IsFromTo 1 latest row.created
       → MatchOption row.checkpoint (BeginsDead entries) (λ p. IsFromTo row.created latest row.checkpoint_moment) → IsOrderly moved.held o next latest
   pub fields : next ≡ record row { checkpoint = next.checkpoint; head = next.head; journal_bytes = entries_length entries; head_bytes = next.head_bytes }
-  pub history : OnlyHistoryChanged o between.held moved.held
+  pub metadata : OnlyMetadataChanged o between.held moved.held
   pub takes : TakesPlaces (moved_blocks kept entries) between moved
   pub chains : (p : Place) → IsSome (of_kind Journal o moved.held p) → Contains (take (moved_blocks kept entries) between.ahead) p
   pub checkpoints : (p : Place) → IsSome (of_kind Checkpoint o moved.held p) → Contains (take (moved_blocks kept entries) between.ahead) p
@@ -48,7 +48,7 @@ match_renamed : (r : RenamingFields) (entries : List EntryFields) (place : Optio
 match_renamed r entries None A h = begins_renamed r entries h
 match_renamed r entries (Some p) A h = h
 
--- the renamed history is in order where the old one was
+-- the renamed journal is in order where the old one was
 order_renamed : RenamingStands → RenamedEntriesStayInOrder → (held : Place → Option Stored) (o latest : ℕ) (row : Row) (r : RenamingFields) → IsOrderlyChain row.created latest (first_of held o row) (entries_of held o row)
     → IsOrderlyChain row.created latest (first_with o row (kept_renamed r (checkpoint_of held o row)) (renamed_entries r (entries_of held o row))) (renamed_entries r (entries_of held o row))
 order_renamed laws order held o latest row r chain =

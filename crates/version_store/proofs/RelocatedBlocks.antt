@@ -1,4 +1,4 @@
--- What became of an object's blocks where copies were appended, its history was written anew, and what was copied was dropped.
+-- What became of an object's blocks where copies were appended, its journal was written anew, and what was copied was dropped.
 use Rattle.std.proofs.Common.{◌≡◌, ◌↔◌, inl, inr, ℕ, zero, suc, ◌+◌, ◌==◌, ◌&&◌, ◌||◌, Bool, true, false, cond, List, [], ◌∷◌, length, map, take, drop, Option, Some, None, IsSome, is_some, refl, sym, ap, subst, ◌∙◌, arith}
 use Rattle.std.specs.List.{AllByRecursion, Contains}
 use Rattle.std.proofs.lemmas.Bool.{cases_Bool, cond-true, cond-false, and_parts, and_right, eqb-true, eq-eqb, false≢true}
@@ -17,7 +17,7 @@ use Rattle.codec.specs.Entry.{EntryFields, entry_length}
 use Rattle.inode.specs.Growth.{data_block}
 use Rattle.journal_chain.specs.Sizes.{blocks_needed}
 use Rattle.row_changes.specs.Moving.{kept_blocks, moved_blocks}
-use Rattle.row_changes.specs.Rewritten.{OnlyHistoryChanged}
+use Rattle.row_changes.specs.Rewritten.{OnlyMetadataChanged}
 use Rattle.chain_rewriting.specs.Renaming.{RenamingFields, move_of, is_in, new_place, renamed_slot, renamed_entries, renamed_inode}
 use Rattle.chain_rewriting.specs.RenamingLaws.{RenamedEntriesTakeAsManyBytes}
 use Rattle.version_store.specs.declared.copies.CopiedBlock.{CopiedBlock}
@@ -25,7 +25,7 @@ use Rattle.version_store.specs.Replacing.{OnlyDataChanged, OtherObjectsStay}
 use Rattle.version_store.specs.Relocating.{AreCopies, IsCopied, frame_of_copies}
 use Rattle.version_store.specs.private.Below.{OnePlace, PlacesAddUp, HolesTellBlocks}
 use Rattle.version_store.specs.private.Relocating.{Appending, IsNewPlace, IsOldOrNew, stood_at}
-use Rattle.version_store.proofs.RenamedHistory.{kept_renamed}
+use Rattle.version_store.proofs.RenamedJournal.{kept_renamed}
 use Rattle.version_store.proofs.Spending.{not_both}
 use Rattle.version_store.proofs.CheckpointSteps.{some_place}
 use Rattle.version_store.proofs.Dropping.{same_place-self, seen_alone, seen_cond, none_either}
@@ -63,12 +63,12 @@ new_of r p q new = elim (cases_Bool (is_in r p)) [
   | inr outside ↦ absurd (none-some q (sym (cond-false (is_in r p) (move_of r p.block) None outside) ∙ new))
 ]
 
--- Copies were appended, the object's history alone was written, and what was copied was dropped.
+-- Copies were appended, the object's journal alone was written, and what was copied was dropped.
 pub record Dropped (before between moved later : Log) (o : ℕ) (copies : List CopiedBlock) (r : RenamingFields) : Type 0 where
   pub one : OnePlace
   pub are : AreCopies before.held o copies
   pub appended : Appending o copies before between r [] (length copies)
-  pub history : OnlyHistoryChanged o between.held moved.held
+  pub metadata : OnlyMetadataChanged o between.held moved.held
   pub dropped : (q : Place) → later.held q ≡ cond (stood_at q copies) None (moved.held q)
 
 copied_held : (before between moved later : Log) (o : ℕ) (copies : List CopiedBlock) (r : RenamingFields) → Dropped before between moved later o copies r → (p : Place) → IsCopied copies p → IsSome (of_kind Data o before.held p)
@@ -140,7 +140,7 @@ new_stays before between moved later o copies r d q none = elim (cases_Bool (sto
 
 data_later : (before between moved later : Log) (o : ℕ) (copies : List CopiedBlock) (r : RenamingFields) → Dropped before between moved later o copies r → (p : Place) → of_kind Data o later.held p ≡ cond (stood_at p copies) None (of_kind Data o between.held p)
 data_later before between moved later o copies r d p =
-    ap (seen_as Data o) (d.dropped p) ∙ seen_cond Data o (stood_at p copies) (moved.held p) ∙ ap (λ (v : Place → Option (List ℕ)). cond (stood_at p copies) None (v p)) (d.history Data o refl)
+    ap (seen_as Data o) (d.dropped p) ∙ seen_cond Data o (stood_at p copies) (moved.held p) ∙ ap (λ (v : Place → Option (List ℕ)). cond (stood_at p copies) None (v p)) (d.metadata Data o refl)
 
 data_here : (before between moved later : Log) (o : ℕ) (copies : List CopiedBlock) (r : RenamingFields) → Dropped before between moved later o copies r → (p : Place) → stood_at p copies ≡ false → of_kind Data o later.held p ≡ of_kind Data o between.held p
 data_here before between moved later o copies r d p beside = data_later before between moved later o copies r d p ∙ cond-false (stood_at p copies) None (of_kind Data o between.held p) beside
@@ -206,12 +206,12 @@ only_data before between moved later o copies r d kind other beside = fun_ext (�
     there : (q : Place) → stood_at q copies ≡ true → IsSome (of_kind Data o moved.held q)
     there q stood =
         let was = copied_held before between moved later o copies r d q (stood_copied d.one q copies stood) in
-        ap (λ (v : Place → Option (List ℕ)). is_some (v q)) (d.history Data o refl) ∙ ap (λ (x : Option Stored). is_some (seen_as Data o x)) (d.appended.stays q (data_held o (before.held q) was)) ∙ was
+        ap (λ (v : Place → Option (List ℕ)). is_some (v q)) (d.metadata Data o refl) ∙ ap (λ (x : Option Stored). is_some (seen_as Data o x)) (d.appended.stays q (data_held o (before.held q) was)) ∙ was
 
 pub others_are : (before between moved later : Log) (o : ℕ) (copies : List CopiedBlock) (r : RenamingFields) → Dropped before between moved later o copies r → OtherObjectsStay o before.held later.held
 others_are before between moved later o copies r d kind other beside =
     only_data before between moved later o copies r d kind other (and_right (same_kind Data kind) (o == other) beside)
-    ∙ d.history kind other (and_right (same_kind Journal kind || same_kind Checkpoint kind) (o == other) beside)
+    ∙ d.metadata kind other (and_right (same_kind Journal kind || same_kind Checkpoint kind) (o == other) beside)
     ∙ d.appended.others kind other (and_right (same_kind Data kind) (o == other) beside)
 
 -- ---- places
@@ -225,7 +225,7 @@ same_kept : HolesTellBlocks → (r : RenamingFields) (c : Option CheckpointField
 same_kept holes r None = refl
 same_kept holes r (Some c) = holes (renamed_inode r c.inode) c.inode (same_holes r c.inode.pointers)
 
--- a renamed history takes as many blocks
+-- a renamed journal takes as many blocks
 pub same_blocks : RenamedEntriesTakeAsManyBytes → HolesTellBlocks → (r : RenamingFields) (c : Option CheckpointFields) (entries : List EntryFields)
     → moved_blocks (kept_renamed r c) (renamed_entries r entries) ≡ moved_blocks (option_map (λ k. k.inode) c) entries
 same_blocks law holes r c entries =

@@ -41,7 +41,7 @@ use Rattle.version_store.proofs.Across.{IsAcross, renewed_across}
 use Rattle.version_store.proofs.CheckpointSteps.{next_store}
 use Rattle.version_store.proofs.Replaced.{IsPut, put_row}
 use Rattle.version_store.proofs.Replacing.{other_stays, other_named}
-use Rattle.version_store.proofs.RenamedHistory.{of_pointers}
+use Rattle.version_store.proofs.RenamedJournal.{of_pointers}
 
 -- the laws that this rests on
 pub record Laws : Type 0 where

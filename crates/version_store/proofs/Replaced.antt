@@ -26,7 +26,7 @@ use Rattle.version_store.specs.Store.{StoreFields, IsStore, IsObject, DataIsName
 use Rattle.version_store.specs.Versions.{inode_by, inode_in, version_by, version_in}
 use Rattle.version_store.specs.Checkpointing.{last_entry}
 use Rattle.version_store.specs.Replacing.{IsMomentOf, OnlyDataChanged, OtherObjectsStay, CanReplace, IsReplaced, inode_led, pointers_told}
-use Rattle.row_changes.specs.Rewritten.{OnlyHistoryChanged, rewritten_blocks}
+use Rattle.row_changes.specs.Rewritten.{OnlyMetadataChanged, rewritten_blocks}
 use Rattle.version_store.specs.private.Below.{OnePlace, OrderlyStays, RowStays, RowInodeStays, IsByStays, IsByLater, CheckpointsTakeBlocks}
 use Rattle.version_store.specs.private.Dropping.{leads_to, is_among}
 use Rattle.version_store.specs.private.Replacing.{Replaces, AllAreDone, RunsEnd}
@@ -111,9 +111,9 @@ kept_stays false among seen some led = absurd (false≢true (led some))
 pub swapped : OnePlace → (held between later : Place → Option Stored) (o : ℕ) (row : Row) (present : Inode) (entries : List EntryFields) (kept : List Place) → DataIsNamed held o row
     → ((p : Place) → is_among p kept ≡ leads_to p (pointers_told present entries)) → OnlyDataChanged o held between
     → ((p : Place) → of_kind Data o between p ≡ cond (leads_to p (pointers_of held o row) && not (is_among p kept)) None (of_kind Data o held p))
-    → OnlyHistoryChanged o between later → Swaps held later o present entries
-swapped one held between later o row present entries kept named is others dropped history =
-    let same : of_kind Data o later ≡ of_kind Data o between = history Data o refl in
+    → OnlyMetadataChanged o between later → Swaps held later o present entries
+swapped one held between later o row present entries kept named is others dropped metadata =
+    let same : of_kind Data o later ≡ of_kind Data o between = metadata Data o refl in
     record {
       kept = λ p there. ap (λ (view : Place → Option (List ℕ)). view p) same ∙ dropped p
           ∙ stays_kept (leads_to p (pointers_of held o row)) (is_among p kept) (of_kind Data o held p) (is p ∙ contained_leads p (pointers_told present entries) there);
@@ -122,7 +122,7 @@ swapped one held between later o row present entries kept named is others droppe
           leads_contained one p (pointers_told present entries)
           (sym (is p) ∙ kept_stays (leads_to p (pointers_of held o row)) (is_among p kept) (of_kind Data o held p) (subst (λ (seen : Option (List ℕ)). IsSome seen) (dropped p) some_between)
           (λ was. contained_leads p (pointers_of held o row) (named p was)));
-      others = λ kind other beside. history kind other (and_right (same_kind Journal kind || same_kind Checkpoint kind) (o == other) beside) ∙ others kind other (and_right (same_kind Data kind) (o == other) beside);
+      others = λ kind other beside. metadata kind other (and_right (same_kind Journal kind || same_kind Checkpoint kind) (o == other) beside) ∙ others kind other (and_right (same_kind Data kind) (o == other) beside);
     }
 
 -- ---- the object

@@ -25,10 +25,10 @@ fewer_by (f ∷ []) rest before after one idle sealed =
 fewer_by (f ∷ g ∷ filling) rest before after one idle sealed = absurd (omega (arith, one))
 
 -- a seal leaves no more places ahead
-pub fewer_ahead : (old new : Table) → length (numbers is_filling 0 old.drive.frames) ≤ 1 → (NoneIsFilling old → new ≡ old) → ((f : ℕ) → IsFilling f old → rest_of old f ++ places_ahead new ≡ places_ahead old)
+pub fewer_ahead : (old new : Table) → length (numbers is_filling 0 old.seat.frames) ≤ 1 → (NoneIsFilling old → new ≡ old) → ((f : ℕ) → IsFilling f old → rest_of old f ++ places_ahead new ≡ places_ahead old)
     → length (places_ahead new) ≤ length (places_ahead old)
 fewer_ahead old new one idle sealed =
-    fewer_by (numbers is_filling 0 old.drive.frames) (rest_of old) (places_ahead old) (places_ahead new) one (λ none. ap (λ (t : Table). places_ahead t) (idle none)) sealed
+    fewer_by (numbers is_filling 0 old.seat.frames) (rest_of old) (places_ahead old) (places_ahead new) one (λ none. ap (λ (t : Table). places_ahead t) (idle none)) sealed
 
 -- the store over another log
 abbrev pub over : StoreFields → Log → StoreFields

@@ -24,13 +24,13 @@ impl<J: Naming> Model for NamedTable<J> {
 
     ghost view = { λ t. t.table };
 
-    ghost invariant = { λ t. t.table.drive.table ≡ J.frames };
+    ghost invariant = { λ t. t.table.seat.table ≡ J.frames };
 }
 
 impl<J: Naming> NamedTable<J> {
     /// A table under the name of its drive.
     pub(crate) fn new(table: SegmentTable) -> Self
-        requires { table.drive.table ≡ J.frames }
+        requires { table.seat.table ≡ J.frames }
         ensures { result ≡ table }
     {
         NamedTable {

@@ -1,7 +1,7 @@
 -- How far the emptying of frames has come. No public clause cites this file.
 use Rattle.std.specs.Prelude.{◌≡◌, ℕ, ◌<◌, ◌≤◌, Bool, List, length, map, nat_lt, slice_index_or}
 use Rattle.std.specs.List.{range_with_len}
-use Rattle.segment_word.specs.Frames.{Frame, Sealed, Emptied}
+use Rattle.segment_word.specs.Frames.{Frame, Sealed, Draining}
 use Rattle.segment_word.specs.Handles.{Drive}
 use Rattle.segment_word.specs.Layout.{frame_at}
 use Rattle.segment_table.specs.Table.{Table}
@@ -9,10 +9,10 @@ use Rattle.segment_table.specs.Table.{Table}
 -- No frame below f is being emptied. There are as many frames as there were, and each that is sealed was sealed. No fewer releases
 -- were tried.
 pub record ReleasedBelow (f : ℕ) (old new : Table) : Type 0 where
-  pub count : length new.drive.frames ≡ length old.drive.frames
-  pub below : (k : ℕ) → k < f → (frame_at new.drive.frames k).phase ≡ Emptied → ⊥
-  pub sealed : (k : ℕ) → (frame_at new.drive.frames k).phase ≡ Sealed → (frame_at old.drive.frames k).phase ≡ Sealed
-  pub tried : old.drive.releases.tried ≤ new.drive.releases.tried
+  pub count : length new.seat.frames ≡ length old.seat.frames
+  pub below : (k : ℕ) → k < f → (frame_at new.seat.frames k).phase ≡ Draining → ⊥
+  pub sealed : (k : ℕ) → (frame_at new.seat.frames k).phase ≡ Sealed → (frame_at old.seat.frames k).phase ≡ Sealed
+  pub tried : old.seat.releases.tried ≤ new.seat.releases.tried
 
 -- the generations of a drive's frames, the first one's first
 abbrev pub generations_in : Drive → List ℕ

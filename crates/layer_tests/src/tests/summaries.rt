@@ -1,6 +1,6 @@
 //! The summary of the last frame at its last generation, with all blocks used.
 use block_log::{Block, BlockKind};
-use codec::{Part, Parts, Summary, encode_summary};
+use codec::{BlockRole, BlockRoles, Summary, encode_summary};
 use s4_types::ObjectId;
 
 /// Its digest, made by another program.
@@ -20,19 +20,19 @@ fn payload() -> [Block; 15] {
     payload
 }
 
-/// Parts of each kind in turn, of the last objects.
-fn parts() -> Parts {
+/// Roles of each kind in turn, of the last objects.
+fn roles() -> BlockRoles {
     let kinds = [BlockKind::Journal, BlockKind::Checkpoint, BlockKind::Data];
-    let mut parts = Parts::new();
+    let mut roles = BlockRoles::new();
     for place in 0..15usize {
         let object = ObjectId::new(u64::MAX - place as u64);
         let kind = kinds[place % 3];
-        parts.try_push(Part { kind, object }).ok();
+        roles.try_push(BlockRole { kind, object }).ok();
     }
-    parts
+    roles
 }
 
-/// Whether the block has these bytes: of the head, of the last part with the first zero behind it, and the digest.
+/// Whether the block has these bytes: of the head, of the last role with the first zero behind it, and the digest.
 fn is_spelled(block: &Block) -> bool {
     block[..12] == [0x53, 0x34, 0x73, 0x67, 255, 255, 15, 0, 255, 255, 255, 254][..]
         && block[142..152] == [3, 255, 255, 255, 255, 255, 255, 255, 241, 0][..]
@@ -41,7 +41,7 @@ fn is_spelled(block: &Block) -> bool {
 
 #[test]
 fn the_last_summary(rt: HostRuntime) {
-    let is_so = match Summary::new(u16::MAX, u32::MAX - 1, parts()) {
+    let is_so = match Summary::new(u16::MAX, u32::MAX - 1, roles()) {
         Some(summary) => is_spelled(&encode_summary(&summary, &payload())),
         None => false,
     };

@@ -9,7 +9,7 @@ use Rattle.segment_copier.specs.Choosing.{IsLife, IsSparse, GoesBefore}
 
 -- block b of frame f
 abbrev pub block_at : Table → ℕ → ℕ → Place
-block_at t f b = record { frame = f; block = b; generation = (frame_at t.drive.frames f).generation }
+block_at t f b = record { frame = f; block = b; generation = (frame_at t.seat.frames f).generation }
 
 -- A survey tells of the first n blocks of frame f: how many are held, at least one, and the least object that one of them is of.
 pub record Tells (t : Table) (f n : ℕ) (s : Survey) : Type 0 where
@@ -33,7 +33,7 @@ IsFound t f n (Some s) = Tells t f n s
 
 -- the survey of frame f, which is at a generation that pointers have
 pub record IsSurvey (t : Table) (f : ℕ) (s : Survey) : Type 0 where
-  pub life : IsLife (frame_at t.drive.frames f).generation
+  pub life : IsLife (frame_at t.seat.frames f).generation
   pub tells : Tells t f 15 s
 
 -- A survey is of a frame below n that a move can be made out of, and that goes before all others below n.

@@ -7,7 +7,7 @@ ghost use Rattle.segment_word.specs.AcceptRule.{FitsLedger, ShareNone};
 ghost use Rattle.segment_word.specs.AcceptSteps.{IsSameAcceptSeat};
 
 use crate::accepts::naming::{Passing, Taking};
-use crate::accepts::steps::{Place, Word, absorb, hand, learn, note, part, receive, take};
+use crate::accepts::steps::{Place, Word, absorb, hand, learn, note, receive, shed, take};
 use s4_types::Moment;
 
 // What the session was told comes to the drive's seat too.
@@ -90,5 +90,5 @@ pub fn end_beside(word: &Word, stays: &mut Place, ends: Place)
     ensures none { ShareNone (told_of stays.old.me.0) (told_of ends.me.0) }
 {
     absorb(word, stays, ends);
-    part(word, stays);
+    shed(word, stays);
 }

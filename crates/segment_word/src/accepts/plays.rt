@@ -1,6 +1,6 @@
 //! What each step on the accept word tells its seat, and how what a session was told goes from one seat to another.
 ghost use Rattle.segment_word.specs.AcceptViews.{Spent};
-ghost use Rattle.segment_word.specs.AcceptSteps.{TakesChange, Learns, Notes, CountsChanges, Begins, Comes, Parts, unlent, copied, joined_accepts, absorbed};
+ghost use Rattle.segment_word.specs.AcceptSteps.{TakesChange, Learns, Notes, CountsChanges, Begins, Comes, Sheds, unlent, copied, joined_accepts, absorbed};
 
 use crate::accepts::naming::{Naming, Passing, Taking};
 use crate::accepts::rule::Known;
@@ -56,10 +56,10 @@ impl Play<(), Known> for Come {
 }
 
 /// A session's seat lets go of what it took in.
-pub struct Part;
+pub struct Shed;
 
-impl Play<(), Known> for Part {
-    ghost then = { Parts };
+impl Play<(), Known> for Shed {
+    ghost then = { Sheds };
 }
 
 /// A session's seat takes in another session's.

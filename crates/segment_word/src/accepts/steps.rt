@@ -7,7 +7,7 @@ ghost use Rattle.segment_word.specs.AcceptSteps.{TakesChange, Learns, CountsChan
 ghost use Rattle.segment_word.specs.AcceptRule.{ShareNone};
 
 use crate::accepts::naming::{Naming, Passing, Taking};
-use crate::accepts::plays::{Absorb, Begin, Come, Count, Hand, Learn, Note, Part, Receive, Take};
+use crate::accepts::plays::{Absorb, Begin, Come, Count, Hand, Learn, Note, Receive, Shed, Take};
 use crate::accepts::rule::{Known, OneHistory};
 use atomic_table::{Seat, Shared};
 
@@ -109,12 +109,12 @@ pub fn absorb(word: &Word, seat: &mut Place, other: Place)
 }
 
 /// A session's seat that took in another's is as it was before that. The two sessions share no number.
-pub fn part(word: &Word, seat: &mut Place)
+pub fn shed(word: &Word, seat: &mut Place)
     requires table { (seat.old.table_id ≡ word.now.table_id) × (word.now.table_id.words ≡ 1) }
     requires both { seat.old.me ≡ (Beside (told_of seat.old.me.0) (guest_of seat.old.me.0), []) }
     ensures seat { IsSameAcceptSeat seat.old seat.new }
     ensures view { seat.new.me ≡ (Attending (told_of seat.old.me.0), []) }
     ensures none { ShareNone (told_of seat.old.me.0) (guest_of seat.old.me.0) }
 {
-    word.load::<Part>(seat, 0);
+    word.load::<Shed>(seat, 0);
 }

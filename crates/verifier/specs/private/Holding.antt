@@ -15,5 +15,5 @@ pub record HoldsAlso (used held after : Place → Option Stored) (places : List 
 -- two tables have the same frames, and of these the same blocks are used, for the same
 pub record IsUsedAlike (old new : Table) : Type 0 where
   pub used : (p : Place) → used_at new p ≡ used_at old p
-  pub frames : new.drive.frames ≡ old.drive.frames
-  pub slots : (f : ℕ) → map (λ slot. slot.part) (slots_at new.slots f) ≡ map (λ slot. slot.part) (slots_at old.slots f)
+  pub frames : new.seat.frames ≡ old.seat.frames
+  pub slots : (f : ℕ) → map (λ slot. slot.role) (slots_at new.slots f) ≡ map (λ slot. slot.role) (slots_at old.slots f)

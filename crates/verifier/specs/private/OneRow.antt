@@ -8,9 +8,9 @@ use Rattle.segment_table.specs.Table.{held_at}
 use Rattle.version_store.specs.Opening.{OpenedFields}
 use Rattle.image_parts.specs.declared.rows.RowPart.{RowPart}
 use Rattle.image_objects.specs.declared.rows.ImageRow.{ImageRow}
-use Rattle.image_objects.specs.declared.histories.ImageHistory.{ImageHistory}
+use Rattle.image_objects.specs.declared.version_chains.VersionChain.{VersionChain}
 use Rattle.image_objects.specs.Chains.{entries_used}
-use Rattle.image_objects.specs.History.{present_used}
+use Rattle.image_objects.specs.VersionChain.{present_used}
 use Rattle.image_objects.specs.Objects.{ObjectStands}
 use Rattle.image_objects.specs.Naming.{HoldsWhatIsNamed}
 use Rattle.image_objects.specs.Moments.{moments_of_chain}
@@ -19,12 +19,12 @@ use Rattle.verifier.specs.Rows.{SpellsRow}
 use Rattle.verifier.specs.Reading.{IsKept}
 use Rattle.verifier.specs.private.Holding.{IsUsedAlike}
 
--- a history tells what is kept of a row: its entries, the two counts of their bytes, and the inode behind them all
-pub record TellsOfRow (used : Place → Option Stored) (row : ImageRow) (history : ImageHistory) : Type 0 where
-  pub entries : history.chain.entries.items ≡ entries_used used row
-  pub bytes : history.chain.journal_bytes ≡ entries_length (entries_used used row)
-  pub head : history.chain.head_bytes ≡ filled_bytes (packed (entries_used used row))
-  pub present : history.present ≡ present_used used row
+-- a version chain has what is kept of a row: its entries, the two counts of their bytes, and the inode behind them all
+pub record TellsOfRow (used : Place → Option Stored) (row : ImageRow) (versions : VersionChain) : Type 0 where
+  pub entries : versions.chain.entries.items ≡ entries_used used row
+  pub bytes : versions.chain.journal_bytes ≡ entries_length (entries_used used row)
+  pub head : versions.chain.head_bytes ≡ filled_bytes (packed (entries_used used row))
+  pub present : versions.present ≡ present_used used row
 
 -- The row of this part of an image was read: its bytes spell one row alone, its object stands, it is kept behind the objects
 -- that were read before, its moments stand behind theirs, and what it names is held beside what they name.

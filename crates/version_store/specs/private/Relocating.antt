@@ -57,7 +57,7 @@ stood_at p copies = list_any (λ c. same_place c.place p) copies
 abbrev pub IsOldOrNew : ℕ → RenamingFields → (Place → Option Stored) → (Place → Option Stored) → Place → Type 0
 IsOldOrNew o r held later p = ((of_kind Data o later p ≡ of_kind Data o held p) × (new_place r p ≡ None)) ⊎ ((held p ≡ None) × IsNewPlace r p)
 
--- An object's copied blocks went to the first places ahead, and its history was renamed and written behind them.
+-- An object's copied blocks went to the first places ahead, and its journal was renamed and written behind them.
 pub record Relocates (before : Log) (o : ℕ) (row : Row) (copies : List CopiedBlock) (next : Row) (later : Log) (r : RenamingFields) : Type 0 where
   pub exact : r ≡ renaming_by copies before.ahead
   pub stands : IsRow later.held o next

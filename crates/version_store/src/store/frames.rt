@@ -13,7 +13,7 @@ ghost use Rattle.version_store.specs.Versions.{inode_in};
 use crate::named_table::NamedTable;
 use crate::store::Store;
 use block_log::Block;
-use codec::{Inode, Part};
+use codec::{BlockRole, Inode};
 use inode::laws::held_pointers_lead;
 use s4_types::limits::FRAME_BLOCKS;
 use s4_types::{Moment, ObjectId, Ptr, Refusal};
@@ -24,7 +24,7 @@ use time_read::ReadPlan;
 impl Store<SegmentTable> {
     /// The store, under the name of the drive whose frames it is over.
     pub fn named<J: Naming>(self) -> Store<NamedTable<J>>
-        requires frames { self.table.drive.table ≡ J.frames }
+        requires frames { self.table.seat.table ≡ J.frames }
         ensures same { result ≡ self }
     {
         let Store {
@@ -113,8 +113,8 @@ impl<J: Naming> OverFrames for Store<NamedTable<J>> {
         self.table.table.frame_count()
     }
 
-    fn is_emptied(&mut self, frame: u16) -> bool {
-        self.table.table.is_emptied(frame)
+    fn is_draining(&mut self, frame: u16) -> bool {
+        self.table.table.is_draining(frame)
     }
 
     fn generation(&mut self, frame: u16) -> Option<u32> {
@@ -137,8 +137,8 @@ impl<J: Naming> OverFrames for Store<NamedTable<J>> {
         self.table.table.listings();
     }
 
-    fn part(&mut self, place: Ptr) -> Option<Part> {
-        self.table.table.part(place)
+    fn role(&mut self, place: Ptr) -> Option<BlockRole> {
+        self.table.table.role(place)
     }
 
     fn block(&mut self, place: Ptr) -> Block {

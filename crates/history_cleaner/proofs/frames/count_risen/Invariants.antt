@@ -4,6 +4,6 @@ use Rattle.history_cleaner.proofs.frames.count_risen.Given as goal
 
 abbrev pub invariant-loop-frame : goal.invariant-loop-frame
 invariant-loop-frame g l = record {
-  count : RisenSoFar l.noted l.initial.drive.store.table.drive.frames l.frame l.risen;
+  count : RisenSoFar l.noted l.initial.drive.store.table.seat.frames l.frame l.risen;
   same : l.drive ≡ l.initial.drive;
 }

@@ -5,6 +5,6 @@ use Rattle.history_cleaner.proofs.frames.note_generations.Given as goal
 
 abbrev pub invariant-loop-frame : goal.invariant-loop-frame
 invariant-loop-frame g l = record {
-  noted : l.noted.items ≡ map (generation_at l.initial.drive.store.table.drive.frames) (range_with_len 0 l.frame);
+  noted : l.noted.items ≡ map (generation_at l.initial.drive.store.table.seat.frames) (range_with_len 0 l.frame);
   same : l.drive ≡ l.initial.drive;
 }

@@ -7,7 +7,7 @@ use Rattle.journal_chain.specs.Chain.{BlockView, Holds}
 use Rattle.journal_chain.specs.Push.{whole_blocks}
 use Rattle.row_changes.specs.Moving.{kept_blocks}
 use Rattle.row_changes.proofs.Recently.{same_entries}
-use Rattle.row_changes.proofs.MovedRow.{Stands, with_moved, holds_told, told_still, moved_row, moved_first, moved_inode, moved_orderly, history_alone, among_first, among_later}
+use Rattle.row_changes.proofs.MovedRow.{Stands, with_moved, holds_told, told_still, moved_row, moved_first, moved_inode, moved_orderly, metadata_alone, among_first, among_later}
 use Rattle.row_changes.proofs.moves.move_row.Goals as goal
 
 pub move_chain-chain-requires-clause-held : goal.move_chain-chain-requires-clause-held
@@ -55,7 +55,7 @@ returns g c =
       orderly = λ latest. moved_orderly log.held after.held o row kept entries place head bytes filled latest s;
       fields = search rules;
       some = s.some;
-      others = history_alone log.held between.held after.held o c.move_checkpoint-checkpoint.ensures.others c.move_chain-chain.ensures.others;
+      others = metadata_alone log.held between.held after.held o c.move_checkpoint-checkpoint.ensures.others c.move_chain-chain.ensures.others;
       takes = c.places_taken_add_up.ensures first then log between after c.move_checkpoint-checkpoint.ensures.takes c.move_chain-chain.ensures.takes;
       journal = λ p there. among_later first then log between p c.move_checkpoint-checkpoint.ensures.takes (c.move_chain-chain.ensures.places p there);
       checkpoints = λ p there. among_first first then log.ahead p (c.move_checkpoint-checkpoint.ensures.places p (subst (λ (v : _). IsSome (v p)) same there));

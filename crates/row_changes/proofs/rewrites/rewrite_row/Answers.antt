@@ -8,8 +8,8 @@ use Rattle.checkpoint.specs.Held.{checkpoint_blocks}
 use Rattle.row_changes.proofs.CheckpointLemmas.{Laws}
 use Rattle.row_changes.proofs.Places.{CheckpointLaws, Put, older_there, put_journal, older_still, told_on, new_alone}
 use Rattle.row_changes.proofs.Recently.{same_entries}
-use Rattle.row_changes.proofs.RewrittenBlocks.{history_only, taken_together}
-use Rattle.row_changes.proofs.RewrittenRow.{Rewritten, with_history, holds_on, rewritten_row, rewritten_by, rewritten_first, rewritten_inode, rewritten_last, rewritten_orderly}
+use Rattle.row_changes.proofs.RewrittenBlocks.{metadata_only, taken_together}
+use Rattle.row_changes.proofs.RewrittenRow.{Rewritten, with_journal, holds_on, rewritten_row, rewritten_by, rewritten_first, rewritten_inode, rewritten_last, rewritten_orderly}
 use Rattle.row_changes.proofs.rewrites.rewrite_row.Goals as goal
 
 pub move_chain-chain-requires-clause-held : goal.move_chain-chain-requires-clause-held
@@ -77,7 +77,7 @@ returns g c =
       journal = c.move_chain-chain.ensures.others;
     } in
     let d = c.drop_checkpoint.ensures.dropped in
-    let holds : Holds after.held (chain_of o (with_history row place m head bytes filled)) entries =
+    let holds : Holds after.held (chain_of o (with_journal row place m head bytes filled)) entries =
     holds_on chained.held after.held o row place m head bytes filled c.move_chain-chain.result entries c.move_chain-chain.ensures.object c.head.ensures c.bytes.ensures.bytes c.filled.ensures.filled (d.others Journal o refl) c.move_chain-chain.ensures.holds in
     let w : Rewritten after.held o row place inode m head bytes filled entries = record {
       object = c.requires.row.object;
@@ -88,7 +88,7 @@ returns g c =
       told = told_on log.held between.held chained.held after.held o place row.checkpoint (record { object = o; moment = m; inode = inode }) s d c.put_ahead-place.ensures.told;
       only = new_alone log.held between.held chained.held after.held o place row.checkpoint s d;
       holds = holds;
-      found = c.a_chain_has_its_entries.ensures after.held (chain_of o (with_history row place m head bytes filled)) entries holds;
+      found = c.a_chain_has_its_entries.ensures after.held (chain_of o (with_journal row place m head bytes filled)) entries holds;
     } in
     record {
       row = rewritten_row after.held o row place inode m head bytes filled entries laws c.a_run_keeps_the_making.ensures w;
@@ -100,7 +100,7 @@ returns g c =
       orderly = λ latest. rewritten_orderly after.held o row place inode m head bytes filled entries latest w;
       fields = search rules;
       some = search rules;
-      others = history_only log.held between.held chained.held after.held o place row.checkpoint s d;
+      others = metadata_only log.held between.held chained.held after.held o place row.checkpoint s d;
       takes = taken_together log between chained after (checkpoint_blocks inode) (whole_blocks entries) c.places_taken_add_up.ensures c.put_ahead-place.ensures.takes c.move_chain-chain.ensures.takes c.drop_checkpoint.ensures.takes;
       answer = search rules;
       unchanged = search rules;

@@ -5,4 +5,4 @@ use Rattle.s4d.proofs.running.run_file.Given as goal
 
 -- the drive that was opened
 abbrev pub ghosts-run_begun : goal.ghosts-run_begun
-ghosts-run_begun g a = record { frames = a.begun.opened.store.table.drive.table; accepts = a.begun.opened.accepts; base = base_of (fields_of log_of a.begun.opened.store) a.begun.opened.timeline a.begun.opened.next }
+ghosts-run_begun g a = record { frames = a.begun.opened.store.table.seat.table; accepts = a.begun.opened.accepts; base = base_of (fields_of log_of a.begun.opened.store) a.begun.opened.timeline a.begun.opened.next }

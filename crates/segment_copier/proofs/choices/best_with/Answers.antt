@@ -7,9 +7,9 @@ use Rattle.segment_copier.proofs.choices.best_with.Goals as goal
 use Rattle.segment_copier.proofs.choices.best_with.Goals.{else-is_better-via-then-is_better+in_ok-is_of_sealed+else-branch, else-is_better-via-else-is_better}
 
 -- what is told of the frame of a survey, over a drive that is as it was, is so of the frame that was asked for
-phase_of : (d later : DriveFields) (f n : ℕ) (b told : Bool) → later ≡ d → n ≡ f → told ≡ is_sealed (frame_at later.store.table.drive.frames n).phase → told ≡ b → is_sealed (frame_at d.store.table.drive.frames f).phase ≡ b
+phase_of : (d later : DriveFields) (f n : ℕ) (b told : Bool) → later ≡ d → n ≡ f → told ≡ is_sealed (frame_at later.store.table.seat.frames n).phase → told ≡ b → is_sealed (frame_at d.store.table.seat.frames f).phase ≡ b
 phase_of d later f n b told same at is answer =
-    ap (λ (m : ℕ). is_sealed (frame_at d.store.table.drive.frames m).phase) (sym at) ∙ ap (λ (e : DriveFields). is_sealed (frame_at e.store.table.drive.frames n).phase) (sym same) ∙ sym is ∙ answer
+    ap (λ (m : ℕ). is_sealed (frame_at d.store.table.seat.frames m).phase) (sym at) ∙ ap (λ (e : DriveFields). is_sealed (frame_at e.store.table.seat.frames n).phase) (sym same) ∙ sym is ∙ answer
 
 pub returns-then-branch-clause-best : goal.returns-then-branch-clause-best
 returns-then-branch-clause-best g c =

@@ -1,7 +1,7 @@
 use Rattle.std.proofs.Common.{◌≡◌, ◌+◌, refl, sym, ap, subst, ◌∙◌, arith}
 use Rattle.std.specs.Prelude.{option_map, IfNone}
 use Rattle.segment_word.specs.Layout.{frame_at}
-use Rattle.segment_table.specs.Table.{Table, held_at, part_of}
+use Rattle.segment_table.specs.Table.{Table, held_at, role_of}
 use Rattle.drive.specs.Fields.{DriveFields}
 use Rattle.segment_copier.specs.Choosing.{IsSparse}
 use Rattle.segment_copier.specs.private.Surveying.{IsFound}
@@ -12,20 +12,20 @@ use Rattle.segment_copier.proofs.choices.survey_of.Goals.{in-Some, in_default}
 pub loop-index-preserved : goal.loop-index-preserved
 loop-index-preserved g c =
     let t : Table = c.generation.new.self.store.table in
-    let generation : c.in_ok-generation.generation ≡ (frame_at t.drive.frames c.args.frame).generation =
-    subst (λ (d : DriveFields). c.in_ok-generation.generation ≡ (frame_at d.store.table.drive.frames c.args.frame).generation) (sym c.generation.ensures.same) c.in_ok-generation.ensures.generation in
-    let part : c.part.result ≡ option_map part_of (held_at t c.in_ok-place.place) =
-    c.part.ensures.part ∙ ap (λ (d : DriveFields). option_map part_of (held_at d.store.table c.in_ok-place.place)) c.loop-index.invariant.same in
+    let generation : c.in_ok-generation.generation ≡ (frame_at t.seat.frames c.args.frame).generation =
+    subst (λ (d : DriveFields). c.in_ok-generation.generation ≡ (frame_at d.store.table.seat.frames c.args.frame).generation) (sym c.generation.ensures.same) c.in_ok-generation.ensures.generation in
+    let role : c.role.result ≡ option_map role_of (held_at t c.in_ok-place.place) =
+    c.role.ensures.role ∙ ap (λ (d : DriveFields). option_map role_of (held_at d.store.table c.in_ok-place.place)) c.loop-index.invariant.same in
     record {
-      same = c.part.ensures.same ∙ c.loop-index.invariant.same;
+      same = c.role.ensures.same ∙ c.loop-index.invariant.same;
       life = λ _. (let place = c.in_ok-place.ensures.place.0 refl in (place.lowest_generation, place.highest_generation));
-      found = elim c.match-part.branch [
+      found = elim c.match-role.branch [
         | in-Some w ↦ subst (IsFound t c.args.frame (c.loop-index.index + 1)) (sym w.found-is)
-            (step_with t c.args.frame c.loop-index.index (c.loop-index.index + 1) c.in_ok-generation.generation c.loop-index.found c.in_ok-place.place w.in-Some.part w.with_block.result
-            c.loop-index-test.true c.in_ok-place.ensures.value refl generation (sym w.in-Some.is ∙ part) c.loop-index.invariant.found w.with_block.ensures.first w.with_block.ensures.more)
+            (step_with t c.args.frame c.loop-index.index (c.loop-index.index + 1) c.in_ok-generation.generation c.loop-index.found c.in_ok-place.place w.in-Some.role w.with_block.result
+            c.loop-index-test.true c.in_ok-place.ensures.value refl generation (sym w.in-Some.is ∙ role) c.loop-index.invariant.found w.with_block.ensures.first w.with_block.ensures.more)
         | in_default w ↦ subst (IsFound t c.args.frame (c.loop-index.index + 1)) (sym w.found-is)
             (step_without t c.args.frame c.loop-index.index (c.loop-index.index + 1) c.in_ok-generation.generation c.loop-index.found c.in_ok-place.place
-            c.loop-index-test.true c.in_ok-place.ensures.value refl generation (sym w.in_default.is ∙ part) c.loop-index.invariant.found)
+            c.loop-index-test.true c.in_ok-place.ensures.value refl generation (sym w.in_default.is ∙ role) c.loop-index.invariant.found)
       ];
     }
 

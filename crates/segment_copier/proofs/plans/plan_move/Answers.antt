@@ -24,15 +24,15 @@ pub pin-requires-clause-sealed : goal.pin-requires-clause-sealed
 pin-requires-clause-sealed g c =
     let t : Table = c.args.drive.now.store.table in
     let first : IsListed t c.args.object c.args.frame c.in-Some-first.first.now = first_listed c.what_is_listed_is_held.ensures t c.args.object c.args.frame c.as_slice.result.now c.in-Some-first.first.now (c.as_slice.ensures.value ∙ c.in_ok-held.ensures.pointers) c.in-Some-first.ensures.value in
-    subst (λ (d : DriveFields). (frame_at d.store.table.drive.frames c.in-Some-first.first.now.frame).phase ≡ Sealed) (sym c.held_in.ensures.same)
-    (ap (λ (n : ℕ). (frame_at t.drive.frames n).phase) first.frame ∙ sealed_phase (frame_at t.drive.frames c.args.frame).phase first.sealed)
+    subst (λ (d : DriveFields). (frame_at d.store.table.seat.frames c.in-Some-first.first.now.frame).phase ≡ Sealed) (sym c.held_in.ensures.same)
+    (ap (λ (n : ℕ). (frame_at t.seat.frames n).phase) first.frame ∙ sealed_phase (frame_at t.seat.frames c.args.frame).phase first.sealed)
 
 pub invariant_of-result-2 : goal.invariant_of-result-2
 invariant_of-result-2 g c =
     let t : Table = c.args.drive.now.store.table in
     let first : IsListed t c.args.object c.args.frame c.in-Some-first.first.now = first_listed c.what_is_listed_is_held.ensures t c.args.object c.args.frame c.as_slice.result.now c.in-Some-first.first.now (c.as_slice.ensures.value ∙ c.in_ok-held.ensures.pointers) c.in-Some-first.ensures.value in
-    let pins : c.in_ok-pin.pin.pins ≡ pin_of t.drive.frames c.args.frame ∷ [] =
-    c.in_ok-pin.ensures.pinned ∙ ap (λ (d : DriveFields). pin_of d.store.table.drive.frames c.in-Some-first.first.now.frame ∷ []) c.held_in.ensures.same ∙ ap (λ (n : ℕ). pin_of t.drive.frames n ∷ []) first.frame in
+    let pins : c.in_ok-pin.pin.pins ≡ pin_of t.seat.frames c.args.frame ∷ [] =
+    c.in_ok-pin.ensures.pinned ∙ ap (λ (d : DriveFields). pin_of d.store.table.seat.frames c.in-Some-first.first.now.frame ∷ []) c.held_in.ensures.same ∙ ap (λ (n : ℕ). pin_of t.seat.frames n ∷ []) first.frame in
     let pointers : c.as_slice-2.result.now ≡ pointers_in t c.args.object c.args.frame = c.as_slice-2.ensures.value ∙ c.in_ok-held.ensures.pointers in
     let places : c.in_ok-places.places.items ≡ data_in t c.args.object c.args.frame =
     c.in_ok-places.ensures.found ∙ ap (λ (d : DriveFields). filter (λ p. is_data (held_at d.store.table p)) c.as_slice-2.result.now) (c.pin.ensures.same ∙ c.held_in.ensures.same)
@@ -43,7 +43,7 @@ pub returns-clause-pinned : goal.returns-clause-pinned
 returns-clause-pinned g c =
     let t : Table = c.args.drive.now.store.table in
     let first : IsListed t c.args.object c.args.frame c.in-Some-first.first.now = first_listed c.what_is_listed_is_held.ensures t c.args.object c.args.frame c.as_slice.result.now c.in-Some-first.first.now (c.as_slice.ensures.value ∙ c.in_ok-held.ensures.pointers) c.in-Some-first.ensures.value in
-    (c.in_ok-pin.ensures.table, c.in_ok-pin.ensures.pinned ∙ ap (λ (d : DriveFields). pin_of d.store.table.drive.frames c.in-Some-first.first.now.frame ∷ []) c.held_in.ensures.same ∙ ap (λ (n : ℕ). pin_of t.drive.frames n ∷ []) first.frame)
+    (c.in_ok-pin.ensures.table, c.in_ok-pin.ensures.pinned ∙ ap (λ (d : DriveFields). pin_of d.store.table.seat.frames c.in-Some-first.first.now.frame ∷ []) c.held_in.ensures.same ∙ ap (λ (n : ℕ). pin_of t.seat.frames n ∷ []) first.frame)
 
 -- there is no row
 pub returns-in_default-clause-told : goal.returns-in_default-clause-told

@@ -16,7 +16,7 @@ unwrap-summary-requires c =
     let C : Drive → Type 0 = λ d. 0 < code_of (frame_at d.frames c.args.frame).phase in
     let last : c.generation-generation.result + 1 < 2 ^ 32 = c.generation-generation.ensures.most (subst C (sym same) c.requires.phase) in
     let can : CanSum c.generation-generation.result c.args.slots.now = record { started = c.generation-generation.ensures.least; goes_on = last; some = c.requires.used.0; few = c.requires.used.1; owned = c.requires.owned } in
-    never_refused c.args.frame c.generation-generation.result c.args.slots.now c.parts.result.items c.new.result can c.parts.ensures c.new.ensures
+    never_refused c.args.frame c.generation-generation.result c.args.slots.now c.roles.result.items c.new.result can c.roles.ensures c.new.ensures
 
 pub returns-clause-spelled : goal.returns-clause-spelled
 returns-clause-spelled c =
@@ -24,10 +24,10 @@ returns-clause-spelled c =
     let C : Drive → Type 0 = λ d. 0 < code_of (frame_at d.frames c.args.frame).phase in
     let last : c.generation-generation.result + 1 < 2 ^ 32 = c.generation-generation.ensures.most (subst C (sym same) c.requires.phase) in
     let can : CanSum c.generation-generation.result c.args.slots.now = record { started = c.generation-generation.ensures.least; goes_on = last; some = c.requires.used.0; few = c.requires.used.1; owned = c.requires.owned } in
-    let M : Option SummaryFields → Type 0 = λ o. Reads (λ s. s) o (checked_summary (record { frame = c.args.frame; generation = c.generation-generation.result; parts = c.parts.result.items })) in
+    let M : Option SummaryFields → Type 0 = λ o. Reads (λ s. s) o (checked_summary (record { frame = c.args.frame; generation = c.generation-generation.result; roles = c.roles.result.items })) in
     let is : c.unwrap-summary.result ≡ summary_of c.args.frame (frame_at c.args.seat.now.frames c.args.frame) c.args.slots.now =
-    summary_is c.args.frame c.generation-generation.result c.args.slots.now c.parts.result.items c.unwrap-summary.result can c.parts.ensures (subst M c.unwrap-summary.ensures c.new.ensures)
-    ∙ ap (λ (g : ℕ). record { frame = c.args.frame; generation = g; parts = map (λ (slot : Slot). slot.part) c.args.slots.now })
+    summary_is c.args.frame c.generation-generation.result c.args.slots.now c.roles.result.items c.unwrap-summary.result can c.roles.ensures (subst M c.unwrap-summary.ensures c.new.ensures)
+    ∙ ap (λ (g : ℕ). record { frame = c.args.frame; generation = g; roles = map (λ (slot : Slot). slot.role) c.args.slots.now })
     (c.generation-generation.ensures.generation ∙ ap (λ (d : Drive). (frame_at d.frames c.args.frame).generation) same) in
     let U : ℕ → Type 0 = λ n. UnusedAreBlank n c.sealed_payload-payload.result in
     spelled_as c.args.frame (frame_at c.args.seat.now.frames c.args.frame) c.args.slots.now c.write_blocks.new.blocks c.sealed_payload-payload.result c.encode_summary.result c.unwrap-summary.result

@@ -9,8 +9,8 @@ pub returns-clause-items : goal.returns-clause-items
 returns-clause-items c higher lower split a b =
     let f : ℕ = c.args.frame in
     let slice : c.as_slice.result.now ≡ higher ++ lower = c.as_slice.ensures.value ∙ split in
-    let parts : IsPartitionedBy (λ n. nat_lt f n) c.as_slice.result.now = subst (λ (l : List ℕ). IsPartitionedBy (λ n. nat_lt f n) l) (sym slice) (parted f higher lower a b) in
-    let point = IsPartitionPoint-from_clause (λ n. nat_lt f n) _ _ c.partition_point-place.ensures.partitioned parts (λ x r g k. search rules) in
+    let roles : IsPartitionedBy (λ n. nat_lt f n) c.as_slice.result.now = subst (λ (l : List ℕ). IsPartitionedBy (λ n. nat_lt f n) l) (sym slice) (parted f higher lower a b) in
+    let point = IsPartitionPoint-from_clause (λ n. nat_lt f n) _ _ c.partition_point-place.ensures.partitioned roles (λ x r g k. search rules) in
     let place : c.partition_point-place.result ≡ length higher =
     place_is f higher lower c.partition_point-place.result a b (subst (λ (l : List ℕ). c.partition_point-place.result ≤ length l) slice c.partition_point-place.ensures.bound)
     (subst (λ (l : List ℕ). IsPartitionPoint (λ n. nat_lt f n ≡ true) (λ n. nat_lt f n ≡ false) l c.partition_point-place.result) slice point) in

@@ -5,4 +5,4 @@ use Rattle.segment_word.proofs.steps.free.Goals as goal
 
 pub compare_exchange-requires : goal.compare_exchange-requires
 compare_exchange-requires c =
-    (search rules, omega arith, frees _ _ _ _ _ _ c.requires.drive c.requires.inside c.requires.emptied c.requires.unread (next_word (frame_at c.args.seat.now.me.0.frames c.args.frame) _ _ c.requires.emptied c.requires.unread refl))
+    (search rules, omega arith, frees _ _ _ _ _ _ c.requires.drive c.requires.inside c.requires.draining c.requires.unread (next_word (frame_at c.args.seat.now.me.0.frames c.args.frame) _ _ c.requires.draining c.requires.unread refl))

@@ -3,7 +3,7 @@ use Rattle.object_map.specs.declared.map.Row.{Row}
 use Rattle.object_map.specs.Objects.{Puts}
 use Rattle.object_map.specs.Rows.{row_of}
 use Rattle.time_read.specs.declared.presents.Present.{Present}
-use Rattle.time_read.specs.Presents.{TellsOf, TurnsBeside}
+use Rattle.time_read.specs.Presents.{KeepsIndexOf, TurnsBeside}
 use Rattle.time_read.proofs.Found.{if_found}
 use Rattle.time_read.proofs.presents.turn_beside.Goals as goal
 
@@ -19,5 +19,5 @@ returns c =
       present = after;
       put = put;
       inode = c.turn.ensures.inode;
-      told = λ older tells. c.turn.ensures.told older (subst (λ (p : Option Present). TellsOf p older) (sym c.in-Some.ensures.value) tells);
+      told = λ older tells. c.turn.ensures.told older (subst (λ (p : Option Present). KeepsIndexOf p older) (sym c.in-Some.ensures.value) tells);
     }) (c.change_in_place.follows.holds after)

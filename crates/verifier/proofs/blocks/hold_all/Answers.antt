@@ -14,7 +14,7 @@ loop-place-preserved c =
     let after = c.hold.new.self in record {
       also = also_more c.one_place_has_one_name.ensures (used_at start) (held_at start) (held_at now) (held_at after) c.args.places.now c.loop-place.place-index c.place-item.result
           c.loop-place-test.true c.place-item.is c.loop-place.invariant.also (λ q. c.hold.ensures.held q ∙ ap (λ b. cond (same_place c.place-item.result q) b (held_at now q)) (c.loop-place.invariant.alike.used c.place-item.result));
-      alike = alike_on start now after c.loop-place.invariant.alike (record { used = c.hold.ensures.used; frames = c.hold.ensures.frames; slots = c.hold.ensures.parts });
+      alike = alike_on start now after c.loop-place.invariant.alike (record { used = c.hold.ensures.used; frames = c.hold.ensures.frames; slots = c.hold.ensures.roles });
     }
 
 pub hold-requires : goal.hold-requires

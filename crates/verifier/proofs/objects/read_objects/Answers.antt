@@ -53,8 +53,8 @@ returns-clause-used c = IfSome_then c.finish.result c.finish.ensures.table
 
 pub returns-clause-frames : goal.returns-clause-frames
 returns-clause-frames c = IfSome_then c.finish.result c.finish.ensures.table
-    (λ (read : Read) same. ap (λ (t : Table). t.drive.frames) same ∙ c.loop-part.invariant.read.alike.frames)
+    (λ (read : Read) same. ap (λ (t : Table). t.seat.frames) same ∙ c.loop-part.invariant.read.alike.frames)
 
 pub returns-clause-slots : goal.returns-clause-slots
 returns-clause-slots c = IfSome_then c.finish.result c.finish.ensures.table
-    (λ (read : Read) same f. ap (λ (t : Table). map (λ slot. slot.part) (slots_at t.slots f)) same ∙ c.loop-part.invariant.read.alike.slots f)
+    (λ (read : Read) same f. ap (λ (t : Table). map (λ slot. slot.role) (slots_at t.slots f)) same ∙ c.loop-part.invariant.read.alike.slots f)

@@ -16,5 +16,5 @@ loop-frame-preserved g c =
 pub returns-clause-frames : goal.returns-clause-frames
 returns-clause-frames g c =
     let table : Table = c.args.drive.now.store.table in
-    let all : c.loop-frame.frame ≡ length table.drive.frames = omega (arith, c.loop-frame.auto.frame-end, c.frame_count-frame-end.ensures) in
+    let all : c.loop-frame.frame ≡ length table.seat.frames = omega (arith, c.loop-frame.auto.frame-end, c.frame_count-frame-end.ensures) in
     all_added table c.loop-frame.frame c.args.out.now.items c.loop-frame.out.items c.loop-frame.invariant.added all c.frame_rules.ensures.sizes.1 c.frame_rules.ensures.one_open

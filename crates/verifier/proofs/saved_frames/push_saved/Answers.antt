@@ -18,9 +18,9 @@ pub returns-clause-frame : goal.returns-clause-frame
 returns-clause-frame g c =
     let table : Table = c.args.drive.now.store.table in
     let n = c.args.frame in
-    let fit : IsFit n (frame_at table.drive.frames n) (slots_at table.slots n) = c.frame_rules.ensures.fit n c.requires in
+    let fit : IsFit n (frame_at table.seat.frames n) (slots_at table.slots n) = c.frame_rules.ensures.fit n c.requires in
     let blocks = c.save_blocks.new.blocks in
-    let summary = summary_of n (frame_at table.drive.frames n) (slots_at table.slots n) in
+    let summary = summary_of n (frame_at table.seat.frames n) (slots_at table.slots n) in
     let of : AreBlocksOf table n blocks = subst (λ (d : DriveFields). AreBlocksOf d.store.table n blocks) c.saved_word-word.ensures.same (record { spelled = c.save_blocks.ensures.spelled; kept = c.save_blocks.ensures.kept }) in
     let keeps = (c.rules_of_a_summary.ensures summary).0 of.spelled.0.0 in
     on_ok_weaker c.push_frame-2.result

@@ -1,9 +1,9 @@
 use Rattle.std.proofs.Common.{◌≡◌, ◌≢◌, ◌%◌, ◌<◌, ℕ, zero, suc, refl, sym, ap, arith}
-use Rattle.segment_word.specs.Frames.{Emptied}
+use Rattle.segment_word.specs.Frames.{Draining}
 use Rattle.segment_word.specs.Layout.{phase_of}
 use Rattle.verifier.proofs.tables.state_in.Goals as goal
 
-last_phase : (n : ℕ) → n < 4 → n ≢ 0 → n ≢ 1 → n ≢ 2 → Emptied ≡ phase_of n
+last_phase : (n : ℕ) → n < 4 → n ≢ 0 → n ≢ 1 → n ≢ 2 → Draining ≡ phase_of n
 last_phase zero below a b d = absurd (a refl)
 last_phase (suc zero) below a b d = absurd (b refl)
 last_phase (suc (suc zero)) below a b d = absurd (d refl)

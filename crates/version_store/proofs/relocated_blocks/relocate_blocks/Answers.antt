@@ -13,7 +13,7 @@ use Rattle.chain_rewriting.specs.Apart.{IsNotNew}
 use Rattle.row_changes.specs.Moving.{CanTell, moved_blocks, row_blocks}
 use Rattle.std.specs.List.{AllByRecursion}
 use Rattle.time_read.specs.Rows.{entries_of, checkpoint_of}
-use Rattle.version_store.proofs.RenamedHistory.{RenamingStands, kept_renamed, told_apart, can_tell}
+use Rattle.version_store.proofs.RenamedJournal.{RenamingStands, kept_renamed, told_apart, can_tell}
 use Rattle.version_store.proofs.relocated_blocks.relocate_blocks.Goals as goal
 
 pub rename-requires-clause-apart : goal.rename-requires-clause-apart
@@ -84,7 +84,7 @@ returns-clause-moved g c =
       inode = c.in-Ok.ensures.inode;
       orderly = c.in-Ok.ensures.orderly;
       fields = c.in-Ok.ensures.fields;
-      history = c.in-Ok.ensures.others;
+      metadata = c.in-Ok.ensures.others;
       takes = c.in-Ok.ensures.takes;
       chains = c.in-Ok.ensures.journal;
       checkpoints = c.in-Ok.ensures.checkpoints;
@@ -95,7 +95,7 @@ returns-clause-moved g c =
       one = c.one_place_has_one_name.ensures;
       are = c.requires.copies;
       appended = c.append_copies-renaming.ensures;
-      history = c.in-Ok.ensures.others;
+      metadata = c.in-Ok.ensures.others;
       dropped = c.drop_copies.ensures.held;
     } in
     relocates laws c.renamed_entries_stay_in_order.ensures.order c.a_renamed_chain_takes_as_many_bytes.ensures.each c.a_checkpoint_takes_its_blocks.ensures.holes c.a_row_is_its_own_blocks.ensures.row c.a_row_is_its_own_blocks.ensures.inode c.an_orderly_row_stays.ensures.blocks c.places_taken_add_up.ensures

@@ -38,7 +38,7 @@ returns-clause-fits g c =
     (served_planned c.args.self.now c.see.new.self c.plan_read-planned.new.self c.args.session.now c.see.new.session (Read c.args.object c.args.offset c.args.length c.args.at) c.args.now c.plan_read-planned.result tt
     sees c.plan_read-planned.ensures.ledger c.plan_read-planned.ensures.store c.plan_read-planned.ensures.free c.plan_read-planned.ensures.bytes c.plan_read-planned.ensures.fits c.plan_read-planned.ensures.refused).fits
 
-pinned_here : (r : Result PlanFields Refusal) (d : DriveFields) (frames : TableId) (object offset len : ℕ) (at : Option ℕ) → IfOk r (IsPlanOf d object offset len at) → d.store.table.drive.table ≡ frames
+pinned_here : (r : Result PlanFields Refusal) (d : DriveFields) (frames : TableId) (object offset len : ℕ) (at : Option ℕ) → IfOk r (IsPlanOf d object offset len at) → d.store.table.seat.table ≡ frames
     → IfOk r (λ plan. IsPinOf frames plan.pin)
 pinned_here (Ok plan) d frames object offset len at is same = λ held e. is.here held e ∙ same
 pinned_here (Err e) d frames object offset len at is same = tt

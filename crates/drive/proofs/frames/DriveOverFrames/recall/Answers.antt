@@ -5,5 +5,5 @@ use Rattle.drive.proofs.frames.DriveOverFrames.recall.Goals as goal
 
 pub returns-clause-remembered : goal.returns-clause-remembered
 returns-clause-remembered g c =
-    let A : DriveFields → Type 0 = λ d. AllRemembered d.store.table.drive.frames c.args.memory.now.remembered in
+    let A : DriveFields → Type 0 = λ d. AllRemembered d.store.table.seat.frames c.args.memory.now.remembered in
     subst A c.self.view_is c.recall.ensures.remembered

@@ -1,7 +1,7 @@
 use Rattle.std.proofs.Common.{rules, ◌≡◌, ℕ, ◌<◌, true, false, [], length, refl, sym, ap, subst, ◌∙◌, arith}
 use Rattle.std.specs.List.{list_any}
 use Rattle.std.proofs.lemmas.List.{get_or_read, length-set}
-use Rattle.segment_word.specs.Frames.{Emptied, is_sealed}
+use Rattle.segment_word.specs.Frames.{Draining, is_sealed}
 use Rattle.segment_word.specs.Layout.{frame_at}
 use Rattle.segment_word.specs.Handles.{Drive}
 use Rattle.segment_table.specs.declared.slots.Slot.{Slot}
@@ -13,12 +13,12 @@ use Rattle.segment_table.proofs.segments.Segments.mark.Goals as goal
 
 pub returns-then-any_held : goal.returns-then-any_held
 returns-then-any_held c =
-    let first : Table = record { drive = c.self.inside.seat; slots = c.self.inside.slots.items } in
+    let first : Table = record { seat = c.self.inside.seat; slots = c.self.inside.slots.items } in
     let f : ℕ = c.args.frame in
     let given : Table = c.args.self.now in
     let same_first : first ≡ given = c.self.view_is ∙ c.sealed_generation.ensures.same in
-    let inside : f < length given.drive.frames = search rules in
-    let within : f < length first.slots = (let I : Table → Type 0 = λ t. f < length t.drive.frames in let low : I first = subst I (sym same_first) inside in omega (arith, c.self.invariant.0.counted)) in
+    let inside : f < length given.seat.frames = search rules in
+    let within : f < length first.slots = (let I : Table → Type 0 = λ t. f < length t.seat.frames in let low : I first = subst I (sym same_first) inside in omega (arith, c.self.invariant.0.counted)) in
     let read : c.index.result.now ≡ slots_at given.slots f = get_or_read first.slots f c.index.result.now within c.index.ensures [] ∙ ap (λ (t : Table). slots_at t.slots f) same_first in
     let held : c.any_held.result ≡ true = search rules in
     record {
@@ -35,32 +35,32 @@ returns-then-any_held c =
 
 pub invariant_of-self : goal.invariant_of-self
 invariant_of-self c =
-    let old : Table = record { drive = c.self.inside.seat; slots = c.self.inside.slots.items } in
-    let new : Table = record { drive = c.mark.new.self; slots = c.self.inside.slots.items } in
+    let old : Table = record { seat = c.self.inside.seat; slots = c.self.inside.slots.items } in
+    let new : Table = record { seat = c.mark.new.self; slots = c.self.inside.slots.items } in
     let f : ℕ = c.args.frame in
     let given : Table = c.args.self.now in
     let same : old ≡ given = c.self.view_is ∙ c.sealed_generation.ensures.same in
-    let facts : (f < length given.drive.frames) × (is_sealed (frame_at given.drive.frames f).phase ≡ true) = (search rules, search rules) in
-    let within : f < length old.slots = (let I : Table → Type 0 = λ t. f < length t.drive.frames in let low : I old = subst I (sym same) facts.0 in omega (arith, c.self.invariant.0.counted)) in
+    let facts : (f < length given.seat.frames) × (is_sealed (frame_at given.seat.frames f).phase ≡ true) = (search rules, search rules) in
+    let within : f < length old.slots = (let I : Table → Type 0 = λ t. f < length t.seat.frames in let low : I old = subst I (sym same) facts.0 in omega (arith, c.self.invariant.0.counted)) in
     let read : c.index.result.now ≡ slots_at given.slots f = get_or_read old.slots f c.index.result.now within c.index.ensures [] ∙ ap (λ (t : Table). slots_at t.slots f) same in
     let none : list_any (λ (slot : Slot). slot.held) (slots_at given.slots f) ≡ false = ap (list_any (λ (slot : Slot). slot.held)) (sym read) ∙ sym c.any_held.ensures ∙ (let e : c.any_held.result ≡ false = search rules in e) in
-    let F : Table → Type 0 = λ t. (f < length t.drive.frames) × (is_sealed (frame_at t.drive.frames f).phase ≡ true) × (list_any (λ (slot : Slot). slot.held) (slots_at t.slots f) ≡ false) in
+    let F : Table → Type 0 = λ t. (f < length t.seat.frames) × (is_sealed (frame_at t.seat.frames f).phase ≡ true) × (list_any (λ (slot : Slot). slot.held) (slots_at t.slots f) ≡ false) in
     let all : F old = subst F (sym same) (facts.0, facts.1, none) in
     let made : MarkMade f old new c.self.inside.free.items c.self.inside.current = mark_made old new c.self.inside.free.items c.self.inside.current f c.self.invariant.0 all.0 all.1 all.2 c.mark.ensures refl in
-    (made.sound, omega (arith, ap (λ (d : Drive). length d.frames) made.marked.drive, length-set old.drive.frames f (record (frame_at old.drive.frames f) { phase = Emptied }), c.self.invariant.1))
+    (made.sound, omega (arith, ap (λ (d : Drive). length d.frames) made.marked.seat, length-set old.seat.frames f (record (frame_at old.seat.frames f) { phase = Draining }), c.self.invariant.1))
 
 pub returns : goal.returns
 returns c =
-    let old : Table = record { drive = c.self.inside.seat; slots = c.self.inside.slots.items } in
-    let new : Table = record { drive = c.mark.new.self; slots = c.self.inside.slots.items } in
+    let old : Table = record { seat = c.self.inside.seat; slots = c.self.inside.slots.items } in
+    let new : Table = record { seat = c.mark.new.self; slots = c.self.inside.slots.items } in
     let f : ℕ = c.args.frame in
     let given : Table = c.args.self.now in
     let same : old ≡ given = c.self.view_is ∙ c.sealed_generation.ensures.same in
-    let facts : (f < length given.drive.frames) × (is_sealed (frame_at given.drive.frames f).phase ≡ true) = (search rules, search rules) in
-    let within : f < length old.slots = (let I : Table → Type 0 = λ t. f < length t.drive.frames in let low : I old = subst I (sym same) facts.0 in omega (arith, c.self.invariant.0.counted)) in
+    let facts : (f < length given.seat.frames) × (is_sealed (frame_at given.seat.frames f).phase ≡ true) = (search rules, search rules) in
+    let within : f < length old.slots = (let I : Table → Type 0 = λ t. f < length t.seat.frames in let low : I old = subst I (sym same) facts.0 in omega (arith, c.self.invariant.0.counted)) in
     let read : c.index.result.now ≡ slots_at given.slots f = get_or_read old.slots f c.index.result.now within c.index.ensures [] ∙ ap (λ (t : Table). slots_at t.slots f) same in
     let none : list_any (λ (slot : Slot). slot.held) (slots_at given.slots f) ≡ false = ap (list_any (λ (slot : Slot). slot.held)) (sym read) ∙ sym c.any_held.ensures ∙ (let e : c.any_held.result ≡ false = search rules in e) in
-    let F : Table → Type 0 = λ t. (f < length t.drive.frames) × (is_sealed (frame_at t.drive.frames f).phase ≡ true) × (list_any (λ (slot : Slot). slot.held) (slots_at t.slots f) ≡ false) in
+    let F : Table → Type 0 = λ t. (f < length t.seat.frames) × (is_sealed (frame_at t.seat.frames f).phase ≡ true) × (list_any (λ (slot : Slot). slot.held) (slots_at t.slots f) ≡ false) in
     let all : F old = subst F (sym same) (facts.0, facts.1, none) in
     let made : MarkMade f old new c.self.inside.free.items c.self.inside.current = mark_made old new c.self.inside.free.items c.self.inside.current f c.self.invariant.0 all.0 all.1 all.2 c.mark.ensures refl in
     let L : Table → Type 0 = λ t. log_of new ≡ log_of t in

@@ -12,8 +12,8 @@ use Rattle.segment_table.proofs.segments.Segments.release.Goals as goal
 
 pub put_back-requires : goal.put_back-requires
 put_back-requires c =
-    let old : Table = record { drive = c.self.inside.seat; slots = c.self.inside.slots.items } in
-    let new : Table = record { drive = c.generation.new.self; slots = slice_set c.self.inside.slots.items c.args.frame c.clear.new.self } in
+    let old : Table = record { seat = c.self.inside.seat; slots = c.self.inside.slots.items } in
+    let new : Table = record { seat = c.generation.new.self; slots = slice_set c.self.inside.slots.items c.args.frame c.clear.new.self } in
     let f : ℕ = c.args.frame in
     let within : f < length old.slots = search rules in
     let freed = c.in_ok-release.ensures.freed in
@@ -24,41 +24,41 @@ put_back-requires c =
 
 pub invariant_of-self-then-generation-lt4294967295 : goal.invariant_of-self-then-generation-lt4294967295
 invariant_of-self-then-generation-lt4294967295 c =
-    let old : Table = record { drive = c.self.inside.seat; slots = c.self.inside.slots.items } in
-    let new : Table = record { drive = c.generation.new.self; slots = slice_set c.self.inside.slots.items c.args.frame c.clear.new.self } in
+    let old : Table = record { seat = c.self.inside.seat; slots = c.self.inside.slots.items } in
+    let new : Table = record { seat = c.generation.new.self; slots = slice_set c.self.inside.slots.items c.args.frame c.clear.new.self } in
     let f : ℕ = c.args.frame in
     let within : f < length old.slots = search rules in
     let freed = c.in_ok-release.ensures.freed in
     let r : IsReleased f old new = release_is old c.self.inside.free.items c.self.inside.current f c.release.new.self c.generation.new.self c.clear.new.self c.self.invariant.0 within freed.0 freed.1 c.in_ok-release.ensures.goes_on c.generation.ensures.same c.clear.ensures in
-    let made : IsReleased f old (record { drive = c.release.new.self; slots = new.slots }) = record { inside = r.inside; emptied = r.emptied; goes_on = r.goes_on; drive = freed.1; slots = r.slots } in
-    let is : c.generation.result ≡ (frame_at old.drive.frames f).generation + 1 = c.generation.ensures.generation ∙ released_generation old (record { drive = c.release.new.self; slots = new.slots }) f made in
+    let made : IsReleased f old (record { seat = c.release.new.self; slots = new.slots }) = record { inside = r.inside; draining = r.draining; goes_on = r.goes_on; seat = freed.1; slots = r.slots } in
+    let is : c.generation.result ≡ (frame_at old.seat.frames f).generation + 1 = c.generation.ensures.generation ∙ released_generation old (record { seat = c.release.new.self; slots = new.slots }) f made in
     let low : c.generation.result < 4294967295 = search rules in
-    let again : (frame_at old.drive.frames f).generation + 2 < 2 ^ 32 = omega arith in
+    let again : (frame_at old.seat.frames f).generation + 2 < 2 ^ 32 = omega arith in
     let list = list_again old new c.self.inside.free.items c.put_back.new.free.items c.self.inside.current f c.self.invariant.0 r again c.put_back.ensures.items in (
       sound_released old new c.self.inside.free.items c.put_back.new.free.items c.self.inside.current f c.self.invariant.0 r list,
-      omega (arith, ap length (frames_are old new f r), length-set old.drive.frames f (released (frame_at old.drive.frames f)), c.self.invariant.1, c.put_back.ensures.room),
+      omega (arith, ap length (frames_are old new f r), length-set old.seat.frames f (released (frame_at old.seat.frames f)), c.self.invariant.1, c.put_back.ensures.room),
     )
 
 pub invariant_of-self-else-generation-lt4294967295 : goal.invariant_of-self-else-generation-lt4294967295
 invariant_of-self-else-generation-lt4294967295 c =
-    let old : Table = record { drive = c.self.inside.seat; slots = c.self.inside.slots.items } in
-    let new : Table = record { drive = c.generation.new.self; slots = slice_set c.self.inside.slots.items c.args.frame c.clear.new.self } in
+    let old : Table = record { seat = c.self.inside.seat; slots = c.self.inside.slots.items } in
+    let new : Table = record { seat = c.generation.new.self; slots = slice_set c.self.inside.slots.items c.args.frame c.clear.new.self } in
     let f : ℕ = c.args.frame in
     let within : f < length old.slots = search rules in
     let freed = c.in_ok-release.ensures.freed in
     let r : IsReleased f old new = release_is old c.self.inside.free.items c.self.inside.current f c.release.new.self c.generation.new.self c.clear.new.self c.self.invariant.0 within freed.0 freed.1 c.in_ok-release.ensures.goes_on c.generation.ensures.same c.clear.ensures in
-    let made : IsReleased f old (record { drive = c.release.new.self; slots = new.slots }) = record { inside = r.inside; emptied = r.emptied; goes_on = r.goes_on; drive = freed.1; slots = r.slots } in
-    let is : c.generation.result ≡ (frame_at old.drive.frames f).generation + 1 = c.generation.ensures.generation ∙ released_generation old (record { drive = c.release.new.self; slots = new.slots }) f made in
+    let made : IsReleased f old (record { seat = c.release.new.self; slots = new.slots }) = record { inside = r.inside; draining = r.draining; goes_on = r.goes_on; seat = freed.1; slots = r.slots } in
+    let is : c.generation.result ≡ (frame_at old.seat.frames f).generation + 1 = c.generation.ensures.generation ∙ released_generation old (record { seat = c.release.new.self; slots = new.slots }) f made in
     let high : 4294967295 ≤ c.generation.result = search rules in
-    let last : 2 ^ 32 ≤ (frame_at old.drive.frames f).generation + 2 = omega arith in (
+    let last : 2 ^ 32 ≤ (frame_at old.seat.frames f).generation + 2 = omega arith in (
       sound_released old new c.self.inside.free.items c.self.inside.free.items c.self.inside.current f c.self.invariant.0 r (list_kept old new c.self.inside.free.items c.self.inside.current f c.self.invariant.0 r last),
-      omega (arith, ap length (frames_are old new f r), length-set old.drive.frames f (released (frame_at old.drive.frames f)), c.self.invariant.1),
+      omega (arith, ap length (frames_are old new f r), length-set old.seat.frames f (released (frame_at old.seat.frames f)), c.self.invariant.1),
     )
 
 pub returns-then-generation-lt4294967295 : goal.returns-then-generation-lt4294967295
 returns-then-generation-lt4294967295 c =
-    let old : Table = record { drive = c.self.inside.seat; slots = c.self.inside.slots.items } in
-    let new : Table = record { drive = c.generation.new.self; slots = slice_set c.self.inside.slots.items c.args.frame c.clear.new.self } in
+    let old : Table = record { seat = c.self.inside.seat; slots = c.self.inside.slots.items } in
+    let new : Table = record { seat = c.generation.new.self; slots = slice_set c.self.inside.slots.items c.args.frame c.clear.new.self } in
     let f : ℕ = c.args.frame in
     let within : f < length old.slots = search rules in
     let freed = c.in_ok-release.ensures.freed in
@@ -67,8 +67,8 @@ returns-then-generation-lt4294967295 c =
 
 pub returns-else-generation-lt4294967295 : goal.returns-else-generation-lt4294967295
 returns-else-generation-lt4294967295 c =
-    let old : Table = record { drive = c.self.inside.seat; slots = c.self.inside.slots.items } in
-    let new : Table = record { drive = c.generation.new.self; slots = slice_set c.self.inside.slots.items c.args.frame c.clear.new.self } in
+    let old : Table = record { seat = c.self.inside.seat; slots = c.self.inside.slots.items } in
+    let new : Table = record { seat = c.generation.new.self; slots = slice_set c.self.inside.slots.items c.args.frame c.clear.new.self } in
     let f : ℕ = c.args.frame in
     let within : f < length old.slots = search rules in
     let freed = c.in_ok-release.ensures.freed in
@@ -77,8 +77,8 @@ returns-else-generation-lt4294967295 c =
 
 pub returns-in_err-release : goal.returns-in_err-release
 returns-in_err-release c =
-    let old : Table = record { drive = c.self.inside.seat; slots = c.self.inside.slots.items } in
-    let new : Table = record { drive = c.release.new.self; slots = c.self.inside.slots.items } in
+    let old : Table = record { seat = c.self.inside.seat; slots = c.self.inside.slots.items } in
+    let new : Table = record { seat = c.release.new.self; slots = c.self.inside.slots.items } in
     let L : Table → Type 0 = λ t. log_of new ≡ log_of t in
     record {
       released = search rules;

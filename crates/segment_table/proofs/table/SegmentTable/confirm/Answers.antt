@@ -6,5 +6,5 @@ use Rattle.segment_table.proofs.table.SegmentTable.confirm.Goals as goal
 
 pub returns-clause-agree : goal.returns-clause-agree
 returns-clause-agree c =
-    let A : Table → Type 0 = λ t. AllAgree t.drive.frames c.args.pin.now.pins in
+    let A : Table → Type 0 = λ t. AllAgree t.seat.frames c.args.pin.now.pins in
     subst A (ap (λ (i : Inside). i.segments) c.self-inside.view_is ∙ c.self.view_is) c.confirm.ensures.agree

@@ -9,7 +9,7 @@ use Rattle.segment_table.proofs.table.SegmentTableOverFrames.frame_rules.Goals a
 
 pub returns : goal.returns
 returns c =
-    let t : Table = record { drive = c.self-inside.inside.0.1.0.seat; slots = c.self-inside.inside.0.1.0.slots.items } in
+    let t : Table = record { seat = c.self-inside.inside.0.1.0.seat; slots = c.self-inside.inside.0.1.0.slots.items } in
     let is = ap (λ (i : Inside). i.segments) c.self-inside.view_is ∙ c.self.view_is in
     let free = c.self-inside.inside.0.1.0.free.items in
     let current = c.self-inside.inside.0.1.0.current in

@@ -6,5 +6,5 @@ use Rattle.segment_table.proofs.table.SegmentTableOverFrames.recall.Goals as goa
 
 pub returns-clause-remembered : goal.returns-clause-remembered
 returns-clause-remembered c =
-    let A : Table → Type 0 = λ t. AllRemembered t.drive.frames c.args.memory.now.remembered in
+    let A : Table → Type 0 = λ t. AllRemembered t.seat.frames c.args.memory.now.remembered in
     subst A (ap (λ (i : Inside). i.segments) c.self-inside.view_is ∙ c.self.view_is) c.recall.ensures.remembered

@@ -5,9 +5,9 @@ use Rattle.codec.specs.Entry.{EntryFields, entries_length}
 use Rattle.journal_chain.specs.Packing.{packed, filled_bytes}
 use Rattle.segment_table.specs.Table.{held_at}
 use Rattle.segment_table.specs.Used.{used_at}
-use Rattle.image_objects.specs.declared.histories.ImageHistory.{ImageHistory}
+use Rattle.image_objects.specs.declared.version_chains.VersionChain.{VersionChain}
 use Rattle.image_objects.specs.Chains.{entries_used}
-use Rattle.image_objects.specs.History.{present_used}
+use Rattle.image_objects.specs.VersionChain.{present_used}
 use Rattle.image_objects.specs.Objects.{ObjectStands}
 use Rattle.image_objects.specs.Moments.{moments_of_chain}
 use Rattle.verifier.specs.private.Holding.{HoldsAlso}
@@ -18,12 +18,12 @@ pub returns-clause-read : goal.returns-clause-read
 returns-clause-read c =
     let used = used_at c.args.self.now.table in
     let row = c.in-Some.row in
-    let found = c.in_ok-history.field-0 in
-    let history = c.in-Some-2.history in
+    let found = c.in_ok-versions.field-0 in
+    let versions = c.in-Some-2.versions in
     let is = c.in-Some-2.is in
-    let told = c.in_ok-history.ensures in
-    let stands : ObjectStands used row c.args.clock = at_some found history (λ (h : ImageHistory). ObjectStands used row c.args.clock) is told.stands in
-    let entries : history.chain.entries.items ≡ entries_used used row = at_some found history (λ (h : ImageHistory). h.chain.entries.items ≡ entries_used used row) is told.entries in
+    let told = c.in_ok-versions.ensures in
+    let stands : ObjectStands used row c.args.clock = at_some found versions (λ (h : VersionChain). ObjectStands used row c.args.clock) is told.stands in
+    let entries : versions.chain.entries.items ≡ entries_used used row = at_some found versions (λ (h : VersionChain). h.chain.entries.items ≡ entries_used used row) is told.entries in
     let places = c.push_named.new.places.items in
     let named : AreNamed used row places = record {
       only = only_named used row c.clear.new.self.items places c.clear.ensures.items c.in_ok-push_named.ensures.only;
@@ -41,9 +41,9 @@ returns-clause-read c =
       opened = c.kept_of.result;
       kept = c.kept_of.ensures used (record {
         entries = entries;
-        bytes = at_some found history (λ (h : ImageHistory). h.chain.journal_bytes ≡ entries_length (entries_used used row)) is told.bytes;
-        head = at_some found history (λ (h : ImageHistory). h.chain.head_bytes ≡ filled_bytes (packed (entries_used used row))) is told.head;
-        present = at_some found history (λ (h : ImageHistory). h.present ≡ present_used used row) is told.present;
+        bytes = at_some found versions (λ (h : VersionChain). h.chain.journal_bytes ≡ entries_length (entries_used used row)) is told.bytes;
+        head = at_some found versions (λ (h : VersionChain). h.chain.head_bytes ≡ filled_bytes (packed (entries_used used row))) is told.head;
+        present = at_some found versions (λ (h : VersionChain). h.present ≡ present_used used row) is told.present;
       });
       objects = c.in_ok-push.ensures.items;
       moments = c.in_ok-push_moments.ensures.moments ∙ ap (λ (es : List EntryFields). c.args.self.now.moments.items ++ moments_of_chain es) (c.as_slice.ensures.value ∙ entries);

@@ -3,7 +3,7 @@ use Rattle.std.proofs.lemmas.Map.Keys.{le_from_is_le}
 use Rattle.codec.specs.declared.inodes.Inode.{Inode}
 use Rattle.version_store.specs.Store.{StoreOf, StoreFields, IsStore, fields_of}
 use Rattle.version_store.specs.Versions.{inode_by, inode_in}
-use Rattle.time_read.specs.Presents.{Tells}
+use Rattle.time_read.specs.Presents.{IsIndexOf}
 use Rattle.version_store.proofs.Beside.{entries_here, index_kept, present_last}
 use Rattle.version_store.proofs.store.Store.lead_back.Goals as goal
 
@@ -23,7 +23,7 @@ pub lead_back-requires-clause-index : goal.lead_back-requires-clause-index
 lead_back-requires-clause-index g c =
     let s : StoreFields = record { rows = c.self.inside.objects.rows; log = g.B.Blocks.log c.self.inside.table; latest = c.self.inside.latest } in
     let kept = c.in-Some.kept.now in
-    subst (Tells kept.value.index) (entries_here s c.args.object kept.row (sym c.in-Some.ensures.row))
+    subst (IsIndexOf kept.value.index) (entries_here s c.args.object kept.row (sym c.in-Some.ensures.row))
     (index_kept c.self.inside.objects.values s c.args.object kept.value c.in-Some.ensures.value c.self.invariant)
 
 pub lead_back-requires-clause-present : goal.lead_back-requires-clause-present

@@ -9,7 +9,7 @@ use Rattle.time_read.specs.declared.presents.Present.{Present}
 use Rattle.version_store.specs.Store.{StoreOf, StoreFields, IsStore, fields_of}
 use Rattle.version_store.specs.Versions.{inode_in}
 use Rattle.version_store.specs.Relocating.{blocks_relocated, renaming_by}
-use Rattle.time_read.specs.Presents.{Tells}
+use Rattle.time_read.specs.Presents.{IsIndexOf}
 use Rattle.version_store.specs.private.Beside.{inode_beside}
 use Rattle.version_store.specs.private.Relocating.{RelocatesIn}
 use Rattle.version_store.proofs.Beside.{inode_put, replaced_indexed}
@@ -88,5 +88,5 @@ invariant_of-self g c =
     record {
       inodes = renamed_beside o s.latest by present (inode_beside c.self.inside.objects.values) (inode_beside c.change.new.self.values) s (next_store s c.change.new.self.rows log) is after c.self.invariant.inodes made.inodes;
       indexes = replaced_indexed s (next_store s c.change.new.self.rows log) o (record next { stamp = row.stamp + 1 }) (renamed_entries r (entries_of s.log.held o row)) beside c.self.inside.objects.values c.change.new.self.values
-          put.rows made.relocated.others c.relocate_blocks-moved.ensures.moved.journal (subst (λ (es : List _). Tells c.index_of.result es) (c.as_slice.ensures.value ∙ c.relocate_blocks-moved.ensures.entries) c.index_of.ensures) put.values c.self.invariant.indexes;
+          put.rows made.relocated.others c.relocate_blocks-moved.ensures.moved.journal (subst (λ (es : List _). IsIndexOf c.index_of.result es) (c.as_slice.ensures.value ∙ c.relocate_blocks-moved.ensures.entries) c.index_of.ensures) put.values c.self.invariant.indexes;
     }

@@ -7,6 +7,6 @@ use Rattle.version_store.proofs.store.frames.StoreNamedTableOverFrames.recall.Go
 
 pub returns-clause-remembered : goal.returns-clause-remembered
 returns-clause-remembered g c =
-    let A : StoreOf Table → Type 0 = λ s. AllRemembered s.table.drive.frames c.args.memory.now.remembered in
-    let B : Table → Type 0 = λ t. AllRemembered t.drive.frames c.args.memory.now.remembered in
+    let A : StoreOf Table → Type 0 = λ s. AllRemembered s.table.seat.frames c.args.memory.now.remembered in
+    let B : Table → Type 0 = λ t. AllRemembered t.seat.frames c.args.memory.now.remembered in
     subst A c.self.view_is (subst B (along c.self-inside.view_is (λ i. i.table)) c.recall.ensures.remembered)

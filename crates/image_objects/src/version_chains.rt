@@ -1,0 +1,92 @@
+//! A row's whole version chain.
+ghost use Rattle.std.specs.Prelude.{◌≡◌, length, IfSome, IfNone, IfOk, IfErr};
+ghost use Rattle.s4_types.specs.declared.limits.TheConstants.{OBJECT_BLOCKS};
+ghost use Rattle.s4_types.specs.declared.refusals.Refusal.TheVariants.{NoMemory};
+ghost use Rattle.codec.specs.Entry.{entries_length};
+ghost use Rattle.journal_chain.specs.Packing.{packed, filled_bytes};
+ghost use Rattle.image_objects.specs.Chains.{ChainStands, entries_used};
+ghost use Rattle.image_objects.specs.Inodes.{first_used};
+ghost use Rattle.image_objects.specs.VersionChain.{VersionChainStands, present_used};
+
+use crate::chains::{ImageChain, read_chain};
+use crate::inodes::first_inode;
+use crate::links::is_run;
+use crate::order::is_orderly;
+use crate::rows::ImageRow;
+use crate::used_blocks::UsedBlocks;
+use codec::{Entry, Inode};
+use s4_types::{Moment, Refusal};
+use std::alloc::Global;
+use undo_redo::redo_all;
+
+/// A row's version chain as an image has it.
+#[derive(Drop)]
+pub struct VersionChain {
+    /// Its journal chain.
+    pub chain: ImageChain,
+    /// The inode before all entries.
+    pub first: Inode,
+    /// The inode behind all entries.
+    pub present: Inode,
+}
+
+/// The inode before all entries of a chain that stands. None where the row's version chain doesn't stand.
+fn leading_inode<U: UsedBlocks>(
+    used: &U,
+    row: &ImageRow,
+    clock: Moment,
+    entries: &[Entry],
+) -> Option<Inode>
+    requires chain { ChainStands (U.used used.now) row.now clock }
+    requires entries { entries.now ≡ entries_used (U.used used.now) row.now }
+    ensures stands { IfSome result (λ first. VersionChainStands (U.used used.now) row.now clock) }
+    ensures first { IfSome result (λ first. first ≡ first_used (U.used used.now) row.now) }
+    ensures count { IfSome result (λ first. length first.pointers ≡ OBJECT_BLOCKS) }
+    ensures only { IfNone result (VersionChainStands (U.used used.now) row.now clock → ⊥) }
+{
+    let Some(first) = first_inode(used, row, clock, entries) else {
+        return None;
+    };
+    if !is_run(&first, entries) {
+        return None;
+    }
+    if !is_orderly(&first, entries, row.created, clock) {
+        return None;
+    }
+    Some(first)
+}
+
+/// A row's version chain in an image whose clock stands at a moment. None exactly where it doesn't stand.
+///
+/// NoMemory alone, where the memory for the entries is refused. Linear in the chain's blocks.
+pub fn read_version_chain<U: UsedBlocks>(
+    alloc: Global,
+    used: &U,
+    row: &ImageRow,
+    clock: Moment,
+) -> Result<Option<VersionChain>, Refusal>
+    ensures stands { IfOk result (λ found. IfSome found (λ versions. VersionChainStands (U.used used.now) row.now clock)) }
+    ensures only { IfOk result (λ found. IfNone found (VersionChainStands (U.used used.now) row.now clock → ⊥)) }
+    ensures entries { IfOk result (λ found. IfSome found (λ versions. versions.chain.entries.items ≡ entries_used (U.used used.now) row.now)) }
+    ensures bytes { IfOk result (λ found. IfSome found (λ versions. versions.chain.journal_bytes ≡ entries_length (entries_used (U.used used.now) row.now))) }
+    ensures head { IfOk result (λ found. IfSome found (λ versions. versions.chain.head_bytes ≡ filled_bytes (packed (entries_used (U.used used.now) row.now)))) }
+    ensures first { IfOk result (λ found. IfSome found (λ versions. versions.first ≡ first_used (U.used used.now) row.now)) }
+    ensures count { IfOk result (λ found. IfSome found (λ versions. length versions.first.pointers ≡ OBJECT_BLOCKS)) }
+    ensures present { IfOk result (λ found. IfSome found (λ versions. versions.present ≡ present_used (U.used used.now) row.now)) }
+    ensures refusal { IfErr result (λ e. e ≡ NoMemory) }
+{
+    let Some(chain) = read_chain(alloc, used, row, clock)? else {
+        return Ok(None);
+    };
+    let entries = chain.entries.as_slice();
+    let Some(first) = leading_inode(used, row, clock, entries) else {
+        return Ok(None);
+    };
+    let mut present = first;
+    redo_all(entries, &mut present);
+    Ok(Some(VersionChain {
+        chain,
+        first,
+        present,
+    }))
+}
