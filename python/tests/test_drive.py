@@ -253,23 +253,23 @@ class Images(unittest.TestCase):
         flooded = max(reply.result() for reply in replies if not reply.refusal())
         return kept, flooded, type(replies[-1].refusal())
 
-    def restore(self, kept, flooded, refusal, flush):
-        """Writes back what was there, once the flood is hidden and cleaned."""
-        retry = s4d.Retry(times=60, wait=0.1, factor=1, refusals=(refusal,))
-        with self.image.session("admin", retry=retry) as it:
+    def restore(self, kept, flooded, flush):
+        """Hides the flood, which the cleaner frees once that session has ended, and then writes back what was there."""
+        with self.image.session("admin") as it:
             flush(it, kept + 1, flooded)
+        with self.image.session("admin") as it:
             it.write(1, 0, it.at(kept).read(1))
             self.assertEqual((it.read(1), it.at(kept).read(1)), (b"mill", b"mill"))
 
     def test_the_way_out_of_a_full_journal(self):
         kept, flooded, refusal = self.flood(frames=64, objects=1)
         self.assertIs(refusal, s4d.ChainFull)
-        self.restore(kept, flooded, refusal, lambda it, first, last: it.flush_object(1, first, last))
+        self.restore(kept, flooded, lambda it, first, last: it.flush_object(1, first, last))
 
     def test_the_way_out_of_a_full_drive(self):
         kept, flooded, refusal = self.flood(frames=16, objects=4)
         self.assertIs(refusal, s4d.NoSpace)
-        self.restore(kept, flooded, refusal, lambda it, first, last: it.flush(first, last))
+        self.restore(kept, flooded, lambda it, first, last: it.flush(first, last))
 
     def test_what_is_no_image(self):
         with self.assertRaisesRegex(s4d.ProgramFailed, "cannot read"):
