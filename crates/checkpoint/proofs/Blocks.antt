@@ -2,6 +2,7 @@
 use Rattle.std.proofs.Common.{◌≡◌, inl, inr, ℕ, ◌+◌, ◌≤◌, ◌<◌, Bool, true, false, ◌==◌, ◌&&◌, ◌||◌, List, [], ◌∷◌, length, map, Option, Some, None, is_some, IsSome, IfOk, IfErr, Result, Ok, Err, MatchResult, refl, sym, ap, subst, ◌∙◌, arith}
 use Rattle.std.proofs.lemmas.Bool.{cases_Bool, false≢true, and_from, eq-eqb}
 use Rattle.s4_types.specs.Pointer.{Place}
+use Rattle.s4_types.specs.declared.limits.TheConstants.{CHECKPOINT_BLOCKS}
 use Rattle.s4_types.specs.declared.refusals.Refusal.{Refusal}
 use Rattle.s4_types.specs.declared.refusals.Refusal.TheVariants.{NoSpace}
 use Rattle.block_log.specs.Growth.{Puts}
@@ -64,7 +65,7 @@ pub some_block : (i : Inode) → 1 ≤ checkpoint_blocks i
 unfolding checkpoint_blocks
 some_block i = omega arith
 
-pub few_blocks : (i : Inode) → checkpoint_blocks i ≤ 1
+pub few_blocks : (i : Inode) → checkpoint_blocks i ≤ CHECKPOINT_BLOCKS
 unfolding checkpoint_blocks
 few_blocks i = omega arith
 
