@@ -28,7 +28,7 @@ same_slot None (Some q) = false
 same_slot (Some p) None = false
 same_slot (Some p) (Some q) = p.frame == q.frame && (p.block == q.block && p.generation == q.generation)
 
--- The triples' indices ascend from this one on and are below 48, and the two pointers of each differ.
+-- The triples' indices ascend from this one on and are below OBJECT_BLOCKS, and the two pointers of each differ.
 unfoldable pub ascend_from : ℕ → List Triple → Bool
 ascend_from low [] = true
 ascend_from low (t ∷ triples) = (nat_le low t.index && (nat_lt t.index OBJECT_BLOCKS && not (same_slot t.before t.after))) && ascend_from (t.index + 1) triples

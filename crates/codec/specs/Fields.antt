@@ -102,11 +102,11 @@ many_at read (suc n) bytes = do
   others ← many_at read n first.1
   Some (first.0 ∷ others.0, others.1)
 
--- an attribute in 64 bytes, with zeros behind it
+-- an attribute in ATTRIBUTE_BYTES, with zeros behind it
 unfoldable pub padded : List ℕ → List ℕ
 padded attribute = attribute ++ zeros (64 - length attribute)
 
--- an attribute of that length in 64 bytes, and the bytes after them
+-- an attribute of that length in ATTRIBUTE_BYTES, and the bytes after them
 unfoldable pub padded_at : ℕ → List ℕ → Option (List ℕ × List ℕ)
 padded_at len bytes = do
   attribute ← bytes_at len bytes

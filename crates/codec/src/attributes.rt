@@ -4,7 +4,7 @@ ghost use Rattle.codec.specs.Fields.{Reads, kept, zeros, padded};
 use s4_types::limits::ATTRIBUTE_BYTES;
 use std::marker::Model;
 
-/// An attribute of an object, of at most 64 bytes. Contracts see the list of its bytes.
+/// An attribute of an object, of at most `ATTRIBUTE_BYTES`. Contracts see the list of its bytes.
 #[derive(Clone, Copy, PartialEq, Eq)]
 pub struct Attribute {
     len: u8,
@@ -48,7 +48,7 @@ fn padded_bytes(bytes: &[u8]) -> [u8; ATTRIBUTE_BYTES]
 
 impl Attribute {
     #[tactic(auto, using(crate::proofs::Padded::padded_length, crate::proofs::Padded::padded_cut))]
-    /// The attribute of these bytes. None where they are more than 64.
+    /// The attribute of these bytes. None where they are more than `ATTRIBUTE_BYTES`.
     pub fn new(bytes: &[u8]) -> Option<Self>
         ensures short { IsSome result ↔ (length bytes.now ≤ 64) }
         ensures value { IfSome result (λ attribute. attribute ≡ bytes.now) }
@@ -63,7 +63,7 @@ impl Attribute {
         })
     }
 
-    /// Its bytes, at most 64.
+    /// Its bytes, at most `ATTRIBUTE_BYTES`.
     pub fn as_slice(&self) -> &[u8]
         ensures value { result.now ≡ self.now }
         ensures short { length self.now ≤ 64 }

@@ -24,7 +24,7 @@ pub(crate) const CHECKPOINT_ZEROS: usize = BLOCK_BYTES
 /// An object's inode after all changes up to a moment, as a block of the log keeps it.
 ///
 /// The object's number, both moments of its making and of the checkpoint are at least 1, the size is at most
-/// 24,576, and pointers past the size are holes.
+/// `OBJECT_BYTES`, and pointers past the size are holes.
 #[derive(Clone, Copy, PartialEq, Eq)]
 pub struct Checkpoint {
     object: ObjectId,
@@ -115,7 +115,7 @@ impl Checkpoint {
     }
 }
 
-/// An attribute of `length` bytes in 64.
+/// An attribute of `length` bytes in `ATTRIBUTE_BYTES`.
 #[tactic(auto, unfolding(crate::specs::Fields::padded_at))]
 fn read_padded(length: u8, bytes: &[u8]) -> Option<(Attribute, &[u8])>
     ensures { Reads (λ x. (x.0, x.1.now)) result (padded_at length bytes.now) }

@@ -264,7 +264,7 @@ impl Entry {
         self.triples.as_slice()
     }
 
-    /// How many bytes the entry's spelling has: 34 to 436.
+    /// How many bytes the entry's spelling has: `SHORTEST_ENTRY_BYTES` to `LONGEST_ENTRY_BYTES`.
     #[tactic(auto, unfolding(crate::specs::Entry::entry_length))]
     pub fn byte_count(&self) -> usize
         ensures exact { result ≡ entry_length self.now }

@@ -122,7 +122,7 @@ impl EntryReader {
         }
     }
 
-    /// A reader of all entries of a block that spells a journal block: 1 to 14.
+    /// A reader of all entries of a block that spells a journal block: 1 to `JOURNAL_ENTRIES`.
     pub fn new(block: [u8; BLOCK_BYTES]) -> Self
         requires { IsSome (all_of journal_at block) }
         ensures reads { all_of journal_at block ≡ Some result }

@@ -19,8 +19,8 @@ use std::slice;
 
 /// A journal block as its 512 bytes, to which entries are added with no decoding of the others.
 ///
-/// Contracts see the journal block that the bytes spell: the object's number is at least 1, and there are 1 to 14
-/// entries, of at most 488 bytes together.
+/// Contracts see the journal block that the bytes spell: the object's number is at least 1, and there are 1 to
+/// `JOURNAL_ENTRIES`, of at most `JOURNAL_ENTRY_BYTES` together.
 #[derive(Drop)]
 pub struct JournalBytes {
     block: [u8; BLOCK_BYTES],
@@ -140,7 +140,7 @@ impl JournalBytes {
         previous_of(&self.block)
     }
 
-    /// How many bytes the entries have together: 34 to 488.
+    /// How many bytes the entries have together: `SHORTEST_ENTRY_BYTES` to `JOURNAL_ENTRY_BYTES`.
     pub fn entry_bytes(&self) -> usize
         ensures exact { result ≡ entries_length self.now.entries }
         ensures most { result ≤ JOURNAL_ENTRY_BYTES }

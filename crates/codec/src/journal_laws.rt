@@ -21,7 +21,7 @@ pub fn entry_bytes_add_up()
     ensures { (front back : List EntryFields) → entries_length (front ++ back) ≡ entries_length front + entries_length back }
 {}
 
-/// A journal block has 1 to 14 entries.
+/// A journal block has 1 to `JOURNAL_ENTRIES` entries.
 pub fn a_journal_has_few_entries()
     ensures { (j : JournalFields) → journal_rules j ≡ true → (1 ≤ length j.entries) × (length j.entries ≤ JOURNAL_ENTRIES) }
 {}

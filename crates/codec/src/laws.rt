@@ -29,14 +29,14 @@ pub fn one_entry_a_spelling()
     ensures rest { (bytes rest behind : List ℕ) (e f : EntryFields) → BeginsWithEntry bytes e rest → BeginsWithEntry bytes f behind → rest ≡ behind }
 {}
 
-/// The length of an entry is that of its spelling, at least 34 and at most 436 bytes.
+/// The length of an entry is that of its spelling, at least `SHORTEST_ENTRY_BYTES` and at most `LONGEST_ENTRY_BYTES`.
 pub fn entry_is_so_long()
     ensures exact { (e : EntryFields) → length (entry_spelling e) ≡ entry_length e }
     ensures least { (e : EntryFields) → SHORTEST_ENTRY_BYTES ≤ entry_length e }
     ensures most { (e : EntryFields) → IsEntry e → entry_length e ≤ LONGEST_ENTRY_BYTES }
 {}
 
-/// At most 14 entries fit the 488 bytes of a journal block.
+/// At most `JOURNAL_ENTRIES` entries fit the bytes that a journal block has for them.
 pub fn fourteen_entries_fit()
     ensures { (entries : List EntryFields) → entries_length entries ≤ JOURNAL_ENTRY_BYTES → length entries ≤ JOURNAL_ENTRIES }
 {}

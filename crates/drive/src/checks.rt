@@ -48,7 +48,7 @@ fn check_end(offset: u64, length: usize) -> Result<(), Refusal>
     Ok(())
 }
 
-/// The first refusal that a read's own numbers decide: TooLarge of more than 24,576 bytes, and of bytes that end above 2^64 - 1.
+/// The first refusal that a read's own numbers decide: TooLarge of more than `READ_BYTES`, and of bytes that end above 2^64 - 1.
 pub(crate) fn check_read(offset: u64, length: u32) -> Result<(), Refusal>
     ensures exact { MatchResult result (λ _. (length ≤ READ_BYTES) × (offset + length ≤ last_number)) (λ e. (e ≡ TooLarge) × ((READ_BYTES < length) ⊎ (last_number < offset + length))) }
     ensures ok { OnOk result ((s : State) (role : Role) (object : ℕ) (at : Option ℕ) → first_refusal s role (Read object offset length at) ≡ later_refusal s (Read object offset length at)) }
@@ -62,8 +62,9 @@ pub(crate) fn check_read(offset: u64, length: u32) -> Result<(), Refusal>
 
 /// The first refusal that a request's role and own numbers decide. These come before all others.
 ///
-/// NotAdmin of a client's SetWindow, Flush or FlushO; BadAttr of an attribute of more than 64 bytes; TooLarge of a Write that
-/// ends past 24,576 bytes, of a Truncate to more, of a Read of more, and of a Read that ends above 2^64 - 1.
+/// NotAdmin of a client's SetWindow, Flush or FlushO; BadAttr of an attribute of more than `ATTRIBUTE_BYTES`; TooLarge of a
+/// Write that ends past `OBJECT_BYTES`, of a Truncate to more, of a Read of more than `READ_BYTES`, and of a Read that ends
+/// above 2^64 - 1.
 pub(crate) fn check(role: Role, request: &Request) -> Result<(), Refusal>
     ensures ok { OnOk result ((s : State) → first_refusal s role request.now ≡ later_refusal s request.now) }
     ensures within { OnOk result (IsWithin request.now) }

@@ -45,8 +45,8 @@ impl<J: Naming> Model for Drive<J> {
 }
 
 impl<J: Naming> Drive<J> {
-    /// A session of a role. It has seen all accepted changes, and none is its own yet. 64 can be had at a time, and one that
-    /// was dropped again.
+    /// A session of a role. It has seen all accepted changes, and none is its own yet. `SEATS` can be had at a time, and one
+    /// that was dropped again.
     ///
     /// Busy where all seats are in use, or where the count of those that share the memory is full.
     pub fn session(&mut self, role: Role) -> Result<Session<J>, Refusal>

@@ -71,7 +71,7 @@ impl<J: Naming> Drive<J> {
         self.next
     }
 
-    /// How many blocks changes of objects may still append: the reserve of 60 is not theirs.
+    /// How many blocks changes of objects may still append: the reserve is not theirs.
     pub fn room(&self) -> usize
         ensures { result ≡ room (store_of self.now) }
     {

@@ -112,7 +112,7 @@ fn judge_append(
 /// Judges a request for a version of an object, once `check` let it pass: by the clock, the next object's number and the
 /// present size of the request's object, none where it is absent (a Create's isn't looked at).
 ///
-/// The change that it asks for, or the first refusal that is left: TooLarge of an Append that ends past 24,576 bytes, where
+/// The change that it asks for, or the first refusal that is left: TooLarge of an Append that ends past `OBJECT_BYTES`, where
 /// an absent object counts as empty; NoObject of an absent object; ClockEnd where no later moment can be given, or of a Create
 /// no further number.
 pub(crate) fn judge(

@@ -43,8 +43,8 @@ impl Model for NewDrive {
 }
 
 impl NewDrive {
-    /// A new drive of 8 to 1,024 frames, whose history reaches `window` moments back. Nothing is stored in it,
-    /// and no object has a row.
+    /// A new drive of `FEWEST_FRAMES` to `MOST_FRAMES` frames, whose history reaches `window` moments back. Nothing is stored
+    /// in it, and no object has a row.
     ///
     /// NoMemory where memory was refused, Busy where a count of those that share it was full.
     #[tactic(auto, using(crate::proofs::Beginning::kept_new))]

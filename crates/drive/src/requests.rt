@@ -42,7 +42,7 @@ impl<J: Naming> Drive<J> {
     /// seen all accepted changes.
     ///
     /// A refusal is the first of the model's checks that applies. Where none does, a change of an object is refused with
-    /// ChainFull where the entries of the object's chain would have more than 11,712 bytes, else with NoSpace where there is
+    /// ChainFull where the entries of the object's chain would have more than `CHAIN_ENTRY_BYTES`, else with NoSpace where there is
     /// less room than blocks are appended. NoMemory comes only where a growth was refused. A Create, a Read and a GetAttr are
     /// answered so only where nothing else refuses them, a Flush and a FlushO also in place of TooManySpans and ClockEnd, and no
     /// other request is. The contract lets a Read that no check refuses be Busy, as one that is resolved, where it needs a block of

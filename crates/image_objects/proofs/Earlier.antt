@@ -40,7 +40,7 @@ one_slot (Some p) (Some q) h =
     let second = and_parts (p.block == q.block) (p.generation == q.generation) first.1 in
     ap Some (same_places p q (eqb-true p.frame q.frame first.0) (eqb-true p.block q.block second.0) (eqb-true p.generation q.generation second.1))
 
--- ---- the indices of an entry ascend, below 48
+-- ---- the indices of an entry ascend, below OBJECT_BLOCKS
 
 pub ascends : (e : EntryFields) → entry_rules e ≡ true → ascend_from 0 e.triples ≡ true
 unfolding entry_rules

@@ -21,7 +21,7 @@ abbrev pub entries_used : (Place → Option Stored) → ImageRow → List EntryF
 entries_used used row = unwrap_or (chain_entries used row.object row.head) []
 
 -- A row's chain stands in an image up to its clock. From the head on each pointer names a used journal block of the object
--- that spells one, up to a hole that comes after at most 47 blocks. The blocks keep the rule of packing, and their entries
+-- that spells one, up to a hole that comes after at most CHAIN_BLOCKS blocks. The blocks keep the rule of packing, and their entries
 -- have no more bytes than a chain's may. Each entry is of a moment from the object's making to the clock. Moments don't
 -- descend, and entries of one moment are one change's.
 pub record ChainStands (used : Place → Option Stored) (row : ImageRow) (clock : ℕ) : Type 0 where

@@ -71,7 +71,7 @@ fn ends_tidily<U: UsedBlocks>(used: &U, inode: &Inode) -> bool
     )
 }
 
-/// Whether an inode of 48 pointers is tidy.
+/// Whether an inode of `OBJECT_BLOCKS` pointers is tidy.
 fn is_tidy<U: UsedBlocks>(used: &U, inode: &Inode) -> bool
     requires { length inode.now.pointers ≡ OBJECT_BLOCKS }
     ensures is { result ≡ true → Tidy (contents_of (U.used used.now)) inode.now }
@@ -106,7 +106,7 @@ pub(crate) fn are_tidy<U: UsedBlocks>(used: &U, first: &Inode, entries: &[Entry]
     groups_join_and_part();
     let mut inode = *first;
     let mut since = Moment::new(0);
-    // Each inode is looked at whole, its last block too where an entry left that: a chain has at most 344 entries.
+    // Each inode is looked at whole, its last block too where an entry left that: a chain has at most `CHAIN_ENTRIES`.
     for entry in entries {
         if !stands_tidily(used, &inode, since, entry.moment()) {
             return false;

@@ -46,7 +46,7 @@ impl Walk {
 }
 
 /// The entries of the journal blocks of an object from a head on, the oldest first. None where they are no chain of at most
-/// 47 blocks, and where the first entry of a block fits behind those of the block before.
+/// `CHAIN_BLOCKS` blocks, and where the first entry of a block fits behind those of the block before.
 ///
 /// NoMemory alone, where the memory for the entries is refused.
 pub(crate) fn entries_from<U: UsedBlocks>(

@@ -8,7 +8,7 @@ use Rattle.codec.specs.Checkpoint.{pointer_at}
 use Rattle.codec.specs.declared.inodes.Inode.{Inode}
 use Rattle.inode.specs.Contents.{byte_of}
 
--- An inode of 48 pointers, within the limit, with holes at and past its size and zeros behind its last byte. So the
+-- An inode of OBJECT_BLOCKS pointers, within the limit, with holes at and past its size and zeros behind its last byte. So the
 -- byte at a place is that of the object, or 0 past its end.
 pub record Tidy (contents : Place → List ℕ) (i : Inode) : Type 0 where
   pub count : length i.pointers ≡ OBJECT_BLOCKS

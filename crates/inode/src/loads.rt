@@ -32,7 +32,7 @@ fn slot_bytes<B: Blocks>(table: &mut B, slot: Option<Ptr>) -> Block
     }
 }
 
-/// The bytes of an inode's block of an index, below 48: zeros where there is none.
+/// The bytes of an inode's block of an index, below `OBJECT_BLOCKS`: zeros where there is none.
 #[tactic(auto, using(crate::proofs::Bytes::bytes_of_block))]
 pub(crate) fn load<B: Blocks>(table: &mut B, inode: &Inode, index: usize) -> Block
     requires index { index < OBJECT_BLOCKS }

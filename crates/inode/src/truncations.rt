@@ -60,7 +60,7 @@ fn without_pointers_past(inode: &Inode, size: u32) -> Inode
     next
 }
 
-/// Cuts a live object to a size of at most 24,576 bytes, or lengthens it to that by zeros, and answers its next inode,
+/// Cuts a live object to a size of at most `OBJECT_BYTES`, or lengthens it to that by zeros, and answers its next inode,
 /// changed at the moment. Pointers past the new end are holes. Where the size cuts a block in two that isn't a hole, it
 /// is appended anew with zeros past the size, as `blocks_of_truncate` counts it.
 pub fn truncate<B: Blocks>(

@@ -107,7 +107,7 @@ fn size_after(size: u32, offset: usize, len: usize) -> u32
     size.max((offset + len) as u32)
 }
 
-/// Writes bytes at an offset of a live object, up to a size of at most 24,576 bytes, and answers its next inode, changed
+/// Writes bytes at an offset of a live object, up to a size of at most `OBJECT_BYTES`, and answers its next inode, changed
 /// at the moment. Each block that has one of the bytes is appended anew, by ascending index, as `blocks_of_write` counts
 /// them; between the old end and the offset stand zeros. Without bytes nothing but the moment changes.
 pub fn write<B: Blocks>(

@@ -96,7 +96,7 @@ by_pairs (newer ∷ previous ∷ older) h =
 pub few_blocks : (blocks : List (List EntryFields)) → KeepsTheRule blocks → entries_length (joined blocks) ≤ CHAIN_ENTRY_BYTES → length blocks ≤ CHAIN_BLOCKS
 few_blocks blocks h le = let pairs = by_pairs blocks h in omega arith
 
--- entries of 34 bytes at least, in 11,712 bytes
+-- how many entries there are at most, where each has SHORTEST_ENTRY_BYTES at least
 pub few_entries : ((e : EntryFields) → SHORTEST_ENTRY_BYTES ≤ entry_length e) → (entries : List EntryFields) → SHORTEST_ENTRY_BYTES * length entries ≤ entries_length entries
 unfolding entries_length
 few_entries least [] = omega arith

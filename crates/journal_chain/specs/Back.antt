@@ -14,7 +14,7 @@ pub record BackFields : Type 0 where
   pub previous : Option Place
   pub entries : List EntryFields
 
--- the journal blocks from a place on, newest first, whosever they are: at most 47
+-- the journal blocks from a place on, newest first, whosever they are: at most CHAIN_BLOCKS
 unfoldable pub links_back : (Place → Option Stored) → Option Place → Option (List Link)
 links_back held from = links_from CHAIN_BLOCKS (λ p. spelled_journal (held p)) from
 

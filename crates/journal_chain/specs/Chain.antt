@@ -45,7 +45,7 @@ links_from (suc fuel) blocks (Some p) = do
   older ← links_from fuel blocks block.previous
   Some (linked p block older)
 
--- the journal blocks of an object's chain from a head on: at most 47
+-- the journal blocks of an object's chain from a head on: at most CHAIN_BLOCKS
 unfoldable pub chain_links : BlockView → ℕ → Option Place → Option (List Link)
 chain_links view o head = links_from CHAIN_BLOCKS (journal_in o view) head
 

@@ -98,7 +98,7 @@ impl Chain {
         self.head
     }
 
-    /// The bytes of all entries, at most 11,712.
+    /// The bytes of all entries, at most `CHAIN_ENTRY_BYTES`.
     pub const fn bytes(self) -> usize
         ensures bytes { result ≡ self.bytes }
         ensures most { result ≤ CHAIN_ENTRY_BYTES }
@@ -106,7 +106,7 @@ impl Chain {
         self.bytes as usize
     }
 
-    /// The bytes of the newest block's entries, at most 488.
+    /// The bytes of the newest block's entries, at most `JOURNAL_ENTRY_BYTES`.
     pub const fn filled(self) -> usize
         ensures filled { result ≡ self.filled }
         ensures most { result ≤ JOURNAL_ENTRY_BYTES }
@@ -286,8 +286,8 @@ impl Chain {
         *self = Chain::empty(object);
     }
 
-    /// Writes the whole chain afresh with these entries, the oldest first, at most 11,712 bytes of them, and drops its
-    /// old blocks.
+    /// Writes the whole chain afresh with these entries, the oldest first, at most `CHAIN_ENTRY_BYTES` of them, and drops
+    /// its old blocks.
     ///
     /// NoRoom exactly where fewer places are ahead than the new chain has blocks; then nothing has changed.
     pub fn rewrite<B: Blocks>(&mut self, table: &mut B, entries: &[Entry]) -> Result<(), Refusal>

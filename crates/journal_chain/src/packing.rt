@@ -1,6 +1,6 @@
 //! How the entries of a chain are packed into journal blocks, and how many blocks a push appends.
 //!
-//! A journal block holds at most 488 bytes of entries. An entry goes into the newest block if it fits behind its
+//! A journal block holds at most `JOURNAL_ENTRY_BYTES` of entries. An entry goes into the newest block if it fits behind its
 //! entries, else it begins a new block. So the blocks of a chain are a function of its entries, `packed` in `specs/`,
 //! and a push is the packing of the joined entries.
 //!

@@ -135,9 +135,9 @@ impl<J: Naming> MovePlan<J> {
 /// where the frame isn't sealed, or isn't there, or has no held block of the object. Drive and session are as before, whatever is
 /// answered.
 ///
-/// NoObject exactly where the object has no row; else NoMemory where memory is refused, and Busy where all 64 seats of pins are in
-/// use, the count of those that share the frames is full, the frame has 1,048,576 readers, or other threads changed its word
-/// between load and exchange 64 times.
+/// NoObject exactly where the object has no row; else NoMemory where memory is refused, and Busy where all seats of pins are in
+/// use, the count of those that share the frames is full, the frame has `MOST_READERS`, or other threads changed its word
+/// between load and exchange `PIN_TRIES` times.
 pub fn plan_move<J: Naming>(
     alloc: Global,
     drive: &mut Drive<J>,

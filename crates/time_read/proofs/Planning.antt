@@ -172,7 +172,7 @@ slot_at i k slot d lt is = is ∙ get_or_default i.pointers k d None lt
 pub passed : (count first behind index : ℕ) → behind ≡ first + count → behind ≤ index → index ≤ behind → index - first ≡ count
 passed count first behind index is low high = omega arith
 
--- a block that has a byte of an inode is one of its 48
+-- a block that has a byte of an inode is one of its OBJECT_BLOCKS
 pub inside : (offset wanted size index : ℕ) → size ≤ OBJECT_BYTES → offset / 512 ≤ index → index < offset / 512 + touched_count offset (min wanted (size - offset)) → index < OBJECT_BLOCKS
 inside offset wanted size index most low below = elim (cases_lt 0 (min wanted (size - offset))) [
   | inl some ↦

@@ -41,7 +41,7 @@ undoes e j =
     ap (λ (a : List ℕ). inode_with e.before j.created a (put_back (map earlier_of e.triples) j.pointers)) (attribute_is e.pair j.attribute)
     ∙ ap (λ (ps : List (Option Place)). inode_with e.before j.created (attribute_before e.pair j.attribute) ps) (put_back_is e.triples j.pointers)
 
--- ---- the indices of an entry's triples are below 48
+-- ---- the indices of an entry's triples are below OBJECT_BLOCKS
 
 ascend_parts : (low : ℕ) (t : Triple) (triples : List Triple) → ascend_from low (t ∷ triples) ≡ true → ((leb low t.index && (ltb t.index OBJECT_BLOCKS && not (same_slot t.before t.after))) ≡ true) × (ascend_from (t.index + 1) triples ≡ true)
 unfolding ascend_from

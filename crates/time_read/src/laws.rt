@@ -35,8 +35,8 @@ pub fn the_last_inode_is_current()
     the_inode_at_a_moment();
 }
 
-/// A row tells a journal that can be read: at most 11,712 bytes of entries, at most 488 of them in the newest block, and each of
-/// its blocks is held.
+/// A row tells a journal that can be read: at most `CHAIN_ENTRY_BYTES` of entries, at most `JOURNAL_ENTRY_BYTES` of them in
+/// the newest block, and each of its blocks is held.
 #[tactic(auto, using(crate::proofs::Reading::few_bytes, crate::proofs::Reading::chain_is_there))]
 pub fn a_row_tells_a_chain()
     ensures bytes { (held : Place → Option Stored) (o : ℕ) (row : Row) → IsRow held o row → row.journal_bytes ≤ CHAIN_ENTRY_BYTES }

@@ -302,9 +302,9 @@ fn block_behind(start: usize, count: usize) -> usize
 /// their bytes is read yet.
 ///
 /// NoMemory where memory is refused: it is asked for once, and once for each block that is copied and each frame that is pinned.
-/// Busy only where a block of a sealed frame is needed, and all 64 seats of pins are in use, the count of those that share the
-/// frames is full, its frame has 1,048,576 readers, or other threads changed the frame's word between load and exchange 64
-/// times. Then nothing stays pinned.
+/// Busy only where a block of a sealed frame is needed, and all seats of pins are in use, the count of those that share the
+/// frames is full, its frame has `MOST_READERS`, or other threads changed the frame's word between load and exchange
+/// `PIN_TRIES` times. Then nothing stays pinned.
 pub fn plan(
     alloc: Global,
     table: &mut SegmentTable,

@@ -16,9 +16,9 @@ use undo_redo::laws::{groups_join_and_part, the_last_entry_is_undone_or_stays};
 
 /// What undoes each entry of an object, oldest first. Contracts see the list of undoings.
 ///
-/// A record has 32 bytes, an earlier pointer at most 16 and an attribute 65. So of a chain of 11,712 bytes, with at most 344 entries
-/// of 34 bytes and more, 17 for a pointer and 3 at least for an attribute, at most 30,668 bytes are in use here; without attributes
-/// at most 11,024. The lists may have asked for more, to grow.
+/// A record has 32 bytes, an earlier pointer at most 16, and an attribute one byte more than `ATTRIBUTE_BYTES`. In a chain an
+/// entry has `SHORTEST_ENTRY_BYTES` and more, a pointer `TRIPLE_BYTES`, and an attribute 3 at least. So less than three times
+/// `CHAIN_ENTRY_BYTES` are in use here; without attributes no more than those. The lists may have asked for more, to grow.
 #[derive(Drop)]
 pub struct UndoIndex {
     records: Vec<UndoRecord>,

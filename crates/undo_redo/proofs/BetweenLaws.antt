@@ -193,7 +193,7 @@ of_still i j m created live first last h =
     let a = and_parts (i.size == j.size) _ h in
     let b = and_parts (i.changed == j.changed) _ a.1 in
     let c = and_parts (is_none (pair_between i.attribute j.attribute)) (length (take ENTRY_TRIPLES (triples_between i j)) == 0) b.1 in
-    let none : triples_between i j ≡ [] = none_taken 15 (triples_between i j) (eqb-true (length (take ENTRY_TRIPLES (triples_between i j))) 0 c.1) in
+    let none : triples_between i j ≡ [] = none_taken (ENTRY_TRIPLES - 1) (triples_between i j) (eqb-true (length (take ENTRY_TRIPLES (triples_between i j))) 0 c.1) in
     let status : status_of i ≡ record { alive = true; size = j.size; changed = j.changed } = same_status (status_of i) (record { alive = true; size = j.size; changed = j.changed }) live (eqb-true i.size j.size a.0) (eqb-true i.changed j.changed b.0) in
     same_inode i (record j { alive = true }) status created (none_pair i.attribute j.attribute c.0) (same_pointers i.pointers j.pointers first last (λ n lt. none_between i j n none lt))
 
@@ -245,7 +245,7 @@ live_or_none i j m h =
           let a = and_parts (i.size == j.size) _ still in
           let b = and_parts (i.changed == j.changed) _ a.1 in
           let c = and_parts (is_none (pair_between i.attribute j.attribute)) (length (take ENTRY_TRIPLES (triples_between i j)) == 0) b.1 in
-          inr (none_taken 15 (triples_between i j) (eqb-true (length (take ENTRY_TRIPLES (triples_between i j))) 0 c.1)))
+          inr (none_taken (ENTRY_TRIPLES - 1) (triples_between i j) (eqb-true (length (take ENTRY_TRIPLES (triples_between i j))) 0 c.1)))
     ]
 
 -- what holds of a further entry for each list of triples that has a property, which its pieces have too, holds of each
@@ -387,7 +387,7 @@ unfolding entries_between leading_entry
 between_tell i j m =
     (of_take i j ENTRY_TRIPLES (triples_between i j) (between_of i j), later_each (λ e. AreOf i j e.triples) (AreOf i j) j m (of_take i j ENTRY_TRIPLES) (of_drop i j ENTRY_TRIPLES) (λ ts h. h) (length (drop ENTRY_TRIPLES (triples_between i j))) (drop ENTRY_TRIPLES (triples_between i j)) (omega arith) (of_drop i j ENTRY_TRIPLES (triples_between i j) (between_of i j)))
 
-later_count : (n : ℕ) (j : Inode) (m : ℕ) (triples : List Triple) → length triples ≤ n → ENTRY_TRIPLES * length (later_entries j m triples) ≤ length triples + 15
+later_count : (n : ℕ) (j : Inode) (m : ℕ) (triples : List Triple) → length triples ≤ n → ENTRY_TRIPLES * length (later_entries j m triples) ≤ length triples + (ENTRY_TRIPLES - 1)
 later_count n j m [] short = let none : length (later_entries j m []) ≡ 0 = ap length (later_none j m [] refl) in omega (arith, none)
 later_count zero j m (t ∷ triples) short = absurd (omega arith)
 later_count (suc n) j m (t ∷ triples) short =

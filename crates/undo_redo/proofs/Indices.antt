@@ -1,4 +1,4 @@
--- The indices of an entry's triples are below 48.
+-- The indices of an entry's triples are below OBJECT_BLOCKS.
 use Rattle.std.proofs.Common.{◌≡◌, ℕ, zero, suc, ◌<◌, ◌≤◌, ◌+◌, Bool, true, leb, ltb, ◌&&◌, List, [], ◌∷◌, ◌++◌, take, drop, refl, arith}
 use Rattle.std.specs.Prelude.{not, ◌||◌}
 use Rattle.std.specs.List.{All, AllByRecursion, list_all}

@@ -21,7 +21,7 @@ pub type Entries = ArrayVec<Entry, CHANGE_ENTRIES>;
 
 /// The entries of a moment that lead from an inode to another.
 ///
-/// The first tells all but pointers beyond the sixteenth that differs; those stand in further ones, sixteen in each.
+/// The first tells all but pointers beyond the first `ENTRY_TRIPLES` that differ; those stand in further ones, as many in each.
 pub fn entries_between(before: &Inode, after: &Inode, moment: Moment) -> Entries
     requires { CanLead before.now after.now moment }
     ensures exact { result.items ≡ entries_between before.now after.now moment }

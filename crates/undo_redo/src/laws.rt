@@ -65,7 +65,7 @@ pub fn the_last_entry_is_undone_or_stays()
     ensures stays { ThePresentInodeIsLast }
 {}
 
-/// A blank inode has 48 pointers, each a hole.
+/// A blank inode has `OBJECT_BLOCKS` pointers, each a hole.
 pub fn a_blank_inode_has_holes_alone()
     ensures count { (created : ℕ) → length (blank created).pointers ≡ OBJECT_BLOCKS }
     ensures holes { (created n : ℕ) → pointer_at (blank created) n ≡ None }

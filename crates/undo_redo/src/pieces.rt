@@ -108,7 +108,7 @@ pub(crate) fn few_differing(before: &Inode, after: &Inode) -> Option<Triples>
     Some(triples)
 }
 
-/// The first sixteen, or all where there are fewer.
+/// The first `ENTRY_TRIPLES`, or all where there are fewer.
 pub(crate) fn first_piece(triples: &[Triple]) -> &[Triple]
     ensures piece { result.now ≡ take ENTRY_TRIPLES triples.now }
     ensures short { length result.now ≤ ENTRY_TRIPLES }
@@ -116,7 +116,7 @@ pub(crate) fn first_piece(triples: &[Triple]) -> &[Triple]
     &triples[..triples.len().min(ENTRY_TRIPLES)]
 }
 
-/// What stands behind the first sixteen.
+/// What stands behind the first `ENTRY_TRIPLES`.
 pub(crate) fn other_pieces(triples: &[Triple]) -> &[Triple]
     ensures { result.now ≡ drop ENTRY_TRIPLES triples.now }
 {

@@ -52,7 +52,7 @@ fn blocks_past(inode: &Inode, size: u64) -> usize
     count
 }
 
-/// How many pointers of an inode a change replaces: at most all 48.
+/// How many pointers of an inode a change replaces: at most all `OBJECT_BLOCKS`.
 #[tactic(auto, using(crate::proofs::Counting::moved_most, crate::proofs::Counting::touched_most))]
 fn pointers_moved(change: &Change, inode: &Inode) -> usize
     requires fits { Fits change.now }
@@ -69,7 +69,7 @@ fn pointers_moved(change: &Change, inode: &Inode) -> usize
     }
 }
 
-/// How many data blocks a change of an inode appends: at most 48.
+/// How many data blocks a change of an inode appends: at most `OBJECT_BLOCKS`.
 fn data_blocks(change: &Change, inode: &Inode) -> usize
     requires fits { Fits change.now }
     requires size { inode.now.size ≤ OBJECT_BYTES }
@@ -141,7 +141,8 @@ fn total(sizes: &[usize]) -> usize
 }
 
 /// How many bytes the journal's entries of a change of an inode have, where its object has this row and so many blocks may be
-/// appended. ChainFull where all of the journal's would be more than 11,712, else NoSpace where the change needs more blocks.
+/// appended. ChainFull where all of the journal's would be more than `CHAIN_ENTRY_BYTES`, else NoSpace where the change needs
+/// more blocks.
 pub(crate) fn bytes_of_entries(
     space: usize,
     change: &Change,

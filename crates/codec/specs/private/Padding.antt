@@ -1,4 +1,4 @@
--- An attribute that is cut out of its 64 bytes tells them.
+-- An attribute that is cut out of its ATTRIBUTE_BYTES tells them.
 use Rattle.std.specs.Prelude.{◌≡◌, ℕ, ◌≤◌, List, length, take}
 use Rattle.std.proofs.Common.{refl, arith}
 use Rattle.std.proofs.lemmas.List.{length-take}

@@ -62,8 +62,8 @@ pub fn bytes_add_up()
     ensures sizes { (entries : List EntryFields) → sum (map entry_length entries) ≡ entries_length entries }
 {}
 
-/// A chain is short: two neighbouring blocks have at least 489 bytes of entries together, so entries of at most
-/// 11,712 bytes are packed in at most 47 blocks; and they are at most 344.
+/// A chain is short: two neighbouring blocks have more than `JOURNAL_ENTRY_BYTES` of entries together, so entries of at most
+/// `CHAIN_ENTRY_BYTES` are packed in at most `CHAIN_BLOCKS` blocks; and they are at most `CHAIN_ENTRIES`.
 pub fn chains_are_short()
     ensures neighbours { (newer previous : List EntryFields) (older : List (List EntryFields)) → KeepsTheRule (newer ∷ previous ∷ older)
         → JOURNAL_ENTRY_BYTES < entries_length newer + entries_length previous }

@@ -5,7 +5,7 @@ ghost use Rattle.journal_chain.specs.Sizes.{fits, filled_with, filled_after, blo
 use s4_types::limits::JOURNAL_ENTRY_BYTES;
 
 /// Whether an entry of `size` bytes fits a journal block behind entries of `filled` bytes: together they have at most
-/// 488. Of any two numbers.
+/// `JOURNAL_ENTRY_BYTES`. Of any two numbers.
 pub fn fits(filled: usize, size: usize) -> bool
     ensures { result ≡ fits filled size }
 {

@@ -30,7 +30,7 @@ use time_read::{Present, UndoIndex, turn_beside};
 use undo_redo::laws::a_blank_inode_has_holes_alone;
 use undo_redo::{blank, entries_between, only_entry_between};
 
-/// An attribute of at most 64 bytes.
+/// An attribute of at most `ATTRIBUTE_BYTES`.
 fn attribute_of(bytes: &[u8]) -> Attribute
     requires { length bytes.now ≤ 64 }
     ensures { result ≡ bytes.now }
@@ -301,7 +301,7 @@ impl<B: Blocks> Store<B> {
     /// versions of all other moments and objects stay. Data blocks are appended by ascending index, and after them the
     /// journal's.
     ///
-    /// ChainFull exactly where the journal's entries would have more than 11,712 bytes; else NoSpace exactly where the
+    /// ChainFull exactly where the journal's entries would have more than `CHAIN_ENTRY_BYTES`; else NoSpace exactly where the
     /// change appends more blocks than there is room for beside the reserve; else NoMemory where a creation's row and its
     /// inode couldn't be stored. Then nothing has changed.
     pub fn take(&mut self, change: &Change, moment: Moment) -> Result<(), Refusal>

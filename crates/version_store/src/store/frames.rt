@@ -47,9 +47,9 @@ impl<J: Naming> Store<NamedTable<J>> {
     /// inode is the object's at that moment. Blocks of the open frame are copied; the frames of all others are pinned.
     ///
     /// NoMemory where memory is refused: it is asked for once, and once for each block that is copied and each frame that is
-    /// pinned. Busy only where a block of a sealed frame is needed, and all 64 seats of pins are in use, the count of those that
-    /// share the frames is full, its frame has 1,048,576 readers, or other threads changed the frame's word between load and
-    /// exchange 64 times.
+    /// pinned. Busy only where a block of a sealed frame is needed, and all seats of pins are in use, the count of those that
+    /// share the frames is full, its frame has `MOST_READERS`, or other threads changed the frame's word between load and
+    /// exchange `PIN_TRIES` times.
     pub fn plan(
         &mut self,
         object: ObjectId,
