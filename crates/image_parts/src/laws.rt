@@ -31,7 +31,7 @@ pub fn one_first_cause()
     ensures { (bytes : List ℕ) (found other : Option Found) → FirstCause bytes found → FirstCause bytes other → found ≡ other }
 {}
 
-/// A list has at most 64 spans, whether of one object or of all.
+/// A list has at most `RUNS_IN_A_LIST` spans, whether of one object or of all.
 pub fn a_list_has_few_spans()
     ensures { (header : Head) (spans : List Hidden) (object : ℕ) → KeepSpanRules header spans → span_count object spans ≤ RUNS_IN_A_LIST }
 {}

@@ -394,7 +394,7 @@ fn lines_of<'a>(alloc: Global, script: &'a str) -> Result<Vec<&'a [u8]>, Refusal
     Ok(lines)
 }
 
-/// Plays a script. Until it begins a drive, one of 8 frames and a window of 100 moments is there.
+/// Plays a script. Until it begins a drive, one of `FEWEST_FRAMES` and a window of 100 moments is there.
 pub(crate) fn play_script<R: Threads>(
     rt: &R,
     alloc: Global,

@@ -99,7 +99,7 @@ impl FrameReader {
     }
 
     /// Takes the next piece of the stream, and gives the items that are whole now, in order. A length of 0
-    /// is a bad frame, and the stream goes on; so is one above 32,768, behind which nothing is read any more:
+    /// is a bad frame, and the stream goes on; so is one above `FRAME_BODY_BYTES`, behind which nothing is read any more:
     /// from then on the answer is BadFrame, whatever comes. NoMemory takes nothing: the same piece may be fed
     /// again.
     pub fn feed<T: Message>(&mut self, piece: &[u8]) -> Result<Vec<Item<T>>, Refusal>

@@ -49,7 +49,7 @@ pub enum Command<'a> {
 pub struct New<'a> {
     /// The image's file.
     pub image: &'a str,
-    /// How many frames the drive has, 8 to 1024.
+    /// How many frames the drive has, `FEWEST_FRAMES` to `MOST_FRAMES`.
     pub frames: u64,
     /// The detection window, in moments.
     pub window: u64,
@@ -87,7 +87,7 @@ pub struct At<'a> {
 /// The options of `pipe`.
 #[derive(Clone, Copy)]
 pub struct Pipe {
-    /// How many frames the drive has, 8 to 1024.
+    /// How many frames the drive has, `FEWEST_FRAMES` to `MOST_FRAMES`.
     pub frames: u64,
     /// The detection window, in moments.
     pub window: u64,

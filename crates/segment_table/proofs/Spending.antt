@@ -93,7 +93,7 @@ spent_new t count frames slots =
     omega (arith, generation, used)) in
     omega (arith, most)
 
--- and over all lives of all frames they are fewer than 1,024 times 15 times 2^32
+-- and over all lives of all frames they are fewer than MOST_FRAMES times PAYLOAD_BLOCKS times 2^32
 pub spent_most : (t : Table) (free : List ℕ) (current : Option ℕ) → IsSoundTable t free current → places_spent t ≤ 1024 * (15 * 2 ^ 32)
 spent_most t free current sound =
     let some : length t.seat.frames ≤ 1024 = sound.most in

@@ -8,10 +8,10 @@ use Rattle.segment_table.specs.Used.{HoldsUsedBlocks}
 use Rattle.segment_table.specs.Room.{is_filling, numbers, log_of}
 use Rattle.segment_table.specs.Sealing.{IsFit, IsPartFilled}
 
--- The frames are those of this table of words, 8 to 1,024. The used blocks of each frame fit what it is for, so that a sealed
--- frame spells its summary in front of zeros in its unused blocks; at most one frame is open, with 1 to 14 used blocks. Each held
--- block has 512 bytes and is used. The places that were ever taken and those ahead are fewer than 2^46, over all lives of the
--- frames.
+-- The frames are those of this table of words, FEWEST_FRAMES to MOST_FRAMES. The used blocks of each frame fit what it is for,
+-- so that a sealed frame spells its summary in front of zeros in its unused blocks; at most one frame is open, with 1 to 14
+-- used blocks. Each held block has 512 bytes and is used. The places that were ever taken and those ahead are fewer than 2^46,
+-- over all lives of the frames.
 pub record HasFramesInOrder (named : TableId) (t : Table) : Type 0 where
   pub table : t.seat.table ≡ named
   pub fit : (f : ℕ) → f < length t.seat.frames → IsFit f (frame_at t.seat.frames f) (slots_at t.slots f)

@@ -27,8 +27,9 @@ pub trait OverFrames {
     // The segment table.
     ghost table: { Self → Table };
 
-    /// Shows what holds between calls: the frames are those of the table that `name` says, 8 to 1,024; the used blocks of each
-    /// fit what it is for, and at most one is open, with 1 to 14 used blocks; each held block has 512 bytes and is used.
+    /// Shows what holds between calls: the frames are those of the table that `name` says, `FEWEST_FRAMES` to `MOST_FRAMES`;
+    /// the used blocks of each fit what it is for, and at most one is open, with 1 to 14 used blocks; each held block has 512
+    /// bytes and is used.
     fn frame_rules(&self)
         ensures { HasFramesInOrder (name self.now) (table self.now) };
 
@@ -91,8 +92,8 @@ pub trait OverFrames {
     /// A new pin that counts on the sealed frame of a held block, and on no other: while it lives, the frame keeps its generation
     /// and its contents, whatever other threads do.
     ///
-    /// NoMemory where there was none for the frame's number. Busy where all 64 seats of pins are in use, the count of those that
-    /// share the frames is full, the frame has 1,048,576 readers, or other threads changed its word between load and exchange 64
+    /// NoMemory where there was none for the frame's number. Busy where all seats of pins are in use, the count of those that share
+    /// the frames is full, the frame has `MOST_READERS`, or other threads changed its word between load and exchange `PIN_TRIES`
     /// times.
     fn pin(&mut self, place: Ptr) -> Result<Pin, Refusal>
         requires held { IsSome (held_at (table self.old) place) }

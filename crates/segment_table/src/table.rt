@@ -48,7 +48,7 @@ impl Model for SegmentTable {
 }
 
 impl SegmentTable {
-    /// The table of a new drive of 8 to 1,024 frames: nothing is held.
+    /// The table of a new drive of `FEWEST_FRAMES` to `MOST_FRAMES` frames: nothing is held.
     ///
     /// NoMemory where memory was refused, Busy where the count of those that share it was full. No other call but
     /// `count_on` and `held_in` takes memory.
@@ -133,7 +133,8 @@ impl SegmentTable {
         }
     }
 
-    /// A pin without frames, which `count_on` gives some. Busy where all 64 seats are in use, or the count of those that share the memory is full.
+    /// A pin without frames, which `count_on` gives some. Busy where all seats are in use, or the count of those that share the
+    /// memory is full.
     pub fn new_pin(&self) -> Result<Pin, Refusal>
         ensures pin { IfOk result (λ p. (p.table ≡ self.now.seat.table) × (p.pins ≡ [])) }
         ensures busy { IfErr result (λ e. e ≡ Busy) }
@@ -144,8 +145,8 @@ impl SegmentTable {
     /// The pin counts on the sealed frame of a held block from now on, so that `read_block` and `append_bytes` of the pin give the
     /// block's bytes for as long as the pin lives. A frame that it counts on already is left so.
     ///
-    /// NoMemory where there was none for the frame's number. Busy where the frame has 1,048,576 readers, or where other
-    /// threads changed its word between load and exchange 64 times. After either, nothing has changed.
+    /// NoMemory where there was none for the frame's number. Busy where the frame has `MOST_READERS`, or where other
+    /// threads changed its word between load and exchange `PIN_TRIES` times. After either, nothing has changed.
     pub fn count_on(&mut self, pin: &mut Pin, place: Ptr) -> Result<(), Refusal>
         requires table { pin.old.table ≡ self.old.seat.table }
         requires held { IsSome (held_at self.old place) }

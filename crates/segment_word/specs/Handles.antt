@@ -53,7 +53,7 @@ pin_of frames f = record { number = f; generation = (frame_at frames f).generati
 abbrev pub IsAmong : Pinned → List Pinned → Type 0
 IsAmong p pins = (i : ℕ) × (get_elem? pins i ≡ some p)
 
--- a table of at most as many words as 1,024 frames have, and of one at least
+-- a table of at most as many words as MOST_FRAMES have, and of one at least
 abbrev pub IsSized : TableId → Type 0
 IsSized z = (0 < z.words) × (z.words ≤ 1049600)
 

@@ -1,9 +1,9 @@
 //! The memory of a drive as words of one table, and pins that keep a frame from being reused while another thread
 //! reads it without a lock.
 //!
-//! A drive has 8 to 1,024 frames, each with a state word (phase, readers, generation) and 16 blocks of 512 bytes as 64
-//! words each. One seat at the table, `DriveSeat`, opens, fills and seals frames; it knows every frame. Up to 64 seats
-//! are had as a `Pin`, which counts on sealed frames and reads their blocks.
+//! A drive has `FEWEST_FRAMES` to `MOST_FRAMES` frames, each with a state word (phase, readers, generation) and 16
+//! blocks of 512 bytes as 64 words each. One seat at the table, `DriveSeat`, opens, fills and seals frames; it knows
+//! every frame. Up to `SEATS` are had as a `Pin`, which counts on sealed frames and reads their blocks.
 //!
 //! The layers above may rely on this: each step is one atomic step on one word, and one rule holds between any two
 //! steps of any threads (`specs/FrameRule.antt`). While a `Pin` lives, each frame that it counts on stays sealed or is
@@ -17,12 +17,12 @@
 //! A `Memory` is what a pin counted on, kept after the pin. It keeps nothing from being released; `recall` tells of each of
 //! its frames that while the frame is at the generation remembered, the drive's seat still knows the contents remembered.
 //!
-//! Not said: that a seat is free or comes back, that a pin wins within its 64 tries, and which blocks of a frame are in
+//! Not said: that a seat is free or comes back, that a pin wins within its `PIN_TRIES`, and which blocks of a frame are in
 //! use. At most one frame is open at a time only if the layer above keeps it so.
 //!
 //! A second table has one word, which counts the accepted changes of the drive ([`accepts`]): one history, which only
 //! its drive's seat makes grow, and of which each session knows a beginning and its own changes. History and knowledge
-//! stand in the proofs alone and take no memory. Not said there: that one of the 64 seats is free or comes back.
+//! stand in the proofs alone and take no memory. Not said there: that one of the seats is free or comes back.
 #![tactic(auto)]
 
 pub mod accepts;

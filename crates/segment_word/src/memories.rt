@@ -2,7 +2,7 @@
 use crate::steps::Place;
 use std::marker::Model;
 
-/// What a pin counted on when the memory was made. It keeps no frame from being released, is none of the 64 seats that pins
+/// What a pin counted on when the memory was made. It keeps no frame from being released, is none of the seats that pins
 /// have, and lives as long as it likes. `DriveSeat::recall` tells what is still true of it.
 #[derive(Drop)]
 pub struct Memory {

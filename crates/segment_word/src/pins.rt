@@ -70,8 +70,8 @@ impl Pin {
 
     /// Counts on a sealed frame of the same table from now on. A frame that it counts on already is left so.
     ///
-    /// NoMemory where there was none for the frame's number. Busy where the frame has 1,048,576 readers, or where other
-    /// threads changed its word between load and exchange 64 times. After either, nothing has changed.
+    /// NoMemory where there was none for the frame's number. Busy where the frame has `MOST_READERS`, or where other
+    /// threads changed its word between load and exchange `PIN_TRIES` times. After either, nothing has changed.
     pub fn add(&mut self, frame: FrameToken<'_>) -> Result<(), Refusal>
         requires table { frame.drive.now.table ≡ self.old.table }
         requires inside { frame.number < length frame.drive.now.frames }
@@ -105,7 +105,7 @@ impl Pin {
         confirm(words, &mut drive.seat, &mut self.seat);
     }
 
-    /// What it counts on, as a memory that outlives it. Takes no memory of the machine, and no seat of the 64.
+    /// What it counts on, as a memory that outlives it. Takes no memory of the machine, and no seat.
     pub fn remember(&mut self) -> Memory
         ensures memory { result ≡ record { table = self.old.table; remembered = self.old.pins } }
         ensures same { self.new ≡ self.old }

@@ -71,7 +71,8 @@ fn perches(alloc: Global, words: &Words, seat: &mut Place) -> Result<Vec<Perch<(
 }
 
 impl Frames {
-    /// The memory of a drive of 8 to 1,024 frames, all free at generation 1 and full of zeros, and the drive's seat.
+    /// The memory of a drive of `FEWEST_FRAMES` to `MOST_FRAMES` frames, all free at generation 1 and full of zeros, and the
+    /// drive's seat.
     ///
     /// NoMemory where memory was refused, Busy where the count of those that share it was full.
     pub fn new(alloc: Global, count: usize) -> Result<(Frames, DriveSeat), Refusal>
@@ -102,7 +103,7 @@ impl Frames {
         Ok((frames, DriveSeat { board, seat }))
     }
 
-    /// A pin without frames. Busy where all 64 seats are in use, or the count of those that share the memory is full.
+    /// A pin without frames. Busy where all seats are in use, or the count of those that share the memory is full.
     pub fn seat(&self) -> Result<Pin, Refusal>
         ensures pin { IfOk result (λ p. (p.table ≡ self.now) × (p.pins ≡ [])) }
         ensures busy { IfErr result (λ e. e ≡ Busy) }

@@ -7,9 +7,9 @@
 //! calls, so that all that may be refused comes before anything changes: `plan_flush` judges and takes the
 //! memory, `flush` can't fail.
 //!
-//! A window that is saved tells its spans: in order, from the floor on and before the clock, at most 64 of a
-//! list and 65,536 in all, and hiding from the floor on what the window hides. Such spans and the three numbers
-//! make a window again, which stands for every state that has them and tells the same spans.
+//! A window that is saved tells its spans: in order, from the floor on and before the clock, at most
+//! `RUNS_IN_A_LIST` of a list and `RUNS_IN_ALL` in all, and hiding from the floor on what the window hides. Such spans
+//! and the three numbers make a window again, which stands for every state that has them and tells the same spans.
 //!
 //! Nothing here says which objects there are, who may ask, or how long a call takes.
 #![tactic(auto)]

@@ -31,7 +31,7 @@ pub struct Window {
     clock: Moment,
     window: u64,
     floor: Moment,
-    /// All runs reach the floor and end before the clock, and no list has more than 64 of them.
+    /// All runs reach the floor and end before the clock, and no list has more than `RUNS_IN_A_LIST`.
     chunks: Vec<Chunk>,
     /// How many runs there are.
     count: usize,
@@ -214,8 +214,8 @@ impl Window {
     }
 
     /// Judges a span, of all objects under number 0 or of one object, and takes the memory that hiding it
-    /// needs; nothing is hidden yet. `TooManySpans` where its list would have more than 64 runs that reach the
-    /// floor, or all lists together more than 65,536; `NoMemory` where a growth was refused. Costs a search
+    /// needs; nothing is hidden yet. `TooManySpans` where its list would have more than `RUNS_IN_A_LIST` that reach the
+    /// floor, or all lists together more than `RUNS_IN_ALL`; `NoMemory` where a growth was refused. Costs a search
     /// and the at most 512 runs that stand in one chunk with the span's list; in one of 384 flushes or more, where
     /// they become more, all runs.
     pub fn plan_flush(&self, span: Span) -> Result<FlushPlan, Refusal>

@@ -48,7 +48,7 @@ impl Model for Accepts {
 }
 
 impl Accepts {
-    /// A word for a history that nothing was accepted in, with 64 seats for sessions.
+    /// A word for a history that nothing was accepted in, with `SEATS` for sessions.
     ///
     /// NoMemory where memory was refused, Busy where the count of those that share it was full.
     pub fn new(alloc: Global) -> Result<Accepts, Refusal>

@@ -12,7 +12,7 @@ use std::marker::{Model, PhantomData};
 use std::sync::Arc;
 use std::sync::atomic::Ordering::SeqCst;
 
-/// One of the 64 seats. Dropping it gives the seat back.
+/// One of the seats. Dropping it gives the seat back.
 pub struct Permit {
     board: Arc<AcceptBoard, Global>,
 }
@@ -53,7 +53,7 @@ impl<J: Naming> Model for SessionSeat<J> {
 }
 
 impl<J: Naming> Sessions<J> {
-    /// A seat for a session that has seen nothing yet. 64 can be had at a time, and one that was dropped again.
+    /// A seat for a session that has seen nothing yet. `SEATS` can be had at a time, and one that was dropped again.
     ///
     /// Busy where all are in use, or where the count of those that share the memory is full.
     pub fn seat(&self) -> Result<SessionSeat<J>, Refusal>
