@@ -9,16 +9,16 @@ pub const POINTER_BYTES: usize = 8;
 /// Bytes of a checkpoint block in front of its pointers.
 pub const CHECKPOINT_HEAD_BYTES: usize = 104;
 
-/// Pointers of a checkpoint block. With the 104 bytes in front of them they leave 24 bytes over, which are zeros.
+/// Pointers of a checkpoint block. With the bytes in front of them they leave 24 bytes over, which are zeros.
 pub const CHECKPOINT_POINTERS: usize = 48;
 
 /// Blocks of the largest object, and the pointers of each inode: as many as one checkpoint block holds.
 pub const OBJECT_BLOCKS: usize = 48;
 
-/// Blocks of the longest checkpoint: one for each 48 pointers of the largest object.
+/// Blocks of the longest checkpoint: one for each `CHECKPOINT_POINTERS` of the largest object.
 pub const CHECKPOINT_BLOCKS: usize = OBJECT_BLOCKS / CHECKPOINT_POINTERS;
 
-/// Bytes of the largest object: 48 blocks of 512.
+/// Bytes of the largest object, whose blocks are all whole.
 pub const OBJECT_BYTES: u64 = (OBJECT_BLOCKS * BLOCK_BYTES) as u64;
 
 /// Bytes of the longest read, and of the longest write. Chosen: a whole object of the largest size.
@@ -42,62 +42,67 @@ pub const ENTRY_TRIPLES: usize = 16;
 /// Bytes of the header of a journal block.
 pub const JOURNAL_HEAD_BYTES: usize = 24;
 
-/// Bytes of entries in a journal block: 512 less the header.
+/// Bytes of entries in a journal block: what the header leaves of it.
 pub const JOURNAL_ENTRY_BYTES: usize = BLOCK_BYTES - JOURNAL_HEAD_BYTES;
 
 /// Bytes of the shortest entry: its fixed fields.
 pub const SHORTEST_ENTRY_BYTES: usize = 34;
 
-/// Bytes of the longest entry that has no attributes: 306.
+/// Bytes of the longest entry that has no attributes.
 pub const LONGEST_PLAIN_ENTRY_BYTES: usize = SHORTEST_ENTRY_BYTES + ENTRY_TRIPLES * TRIPLE_BYTES;
 
-/// Bytes of the longest entry: 436.
+/// Bytes of the longest entry.
 pub const LONGEST_ENTRY_BYTES: usize = LONGEST_PLAIN_ENTRY_BYTES + ATTRIBUTE_PAIR_BYTES;
 
-/// Entries in a journal block: 14 of the shortest have 476 bytes, 15 would have 510.
+/// Entries in a journal block at most: as many of the shortest as it has bytes for.
 pub const JOURNAL_ENTRIES: usize = JOURNAL_ENTRY_BYTES / SHORTEST_ENTRY_BYTES;
 
 /// Entries of one change at most: as many as hold the pointers of the largest object.
 pub const CHANGE_ENTRIES: usize = OBJECT_BLOCKS / ENTRY_TRIPLES;
 
-/// Bytes of the entries of one change at most, 1,048: the first alone has attributes.
+/// Bytes of the entries of one change at most: the first alone has attributes.
 pub const CHANGE_ENTRY_BYTES: usize = CHANGE_ENTRIES * LONGEST_PLAIN_ENTRY_BYTES
     + ATTRIBUTE_PAIR_BYTES;
 
 /// Bytes of all entries of a chain: as many as 24 full journal blocks hold.
 pub const CHAIN_ENTRY_BYTES: usize = 24 * JOURNAL_ENTRY_BYTES;
 
-/// Entries of a chain at most: 344 of the shortest.
+/// Entries of a chain at most: as many of the shortest as it has bytes for.
 pub const CHAIN_ENTRIES: usize = CHAIN_ENTRY_BYTES / SHORTEST_ENTRY_BYTES;
 
-/// Journal blocks of a chain: of two neighbours the entries have more than 488 bytes together, so 48 blocks
-/// would have at least 24 * 489 = 11,736 bytes.
-pub const CHAIN_BLOCKS: usize = 47;
+/// Journal blocks of a chain: of two neighbours the entries have more than `JOURNAL_ENTRY_BYTES` together, so one block
+/// more, which makes pairs of all, would have more than `CHAIN_ENTRY_BYTES`.
+pub const CHAIN_BLOCKS: usize = 2 * (CHAIN_ENTRY_BYTES / JOURNAL_ENTRY_BYTES) - 1;
 
 /// Runs of hidden moments in one list of spans. Chosen: a look-up goes through at most two lists.
 pub const RUNS_IN_A_LIST: usize = 64;
 
-/// Runs of hidden moments in all lists of spans together: 1,024 full lists. Chosen, as the most that an image has.
+/// Runs of hidden moments in all lists of spans together. Chosen, as the most that an image has.
 pub const RUNS_IN_ALL: usize = 65_536;
 
-/// Blocks of a frame: the summary, and 15 of payload.
+/// Blocks of a frame: the summary, and the payload.
 pub const FRAME_BLOCKS: usize = 16;
 
 /// Payload blocks of a frame.
 pub const PAYLOAD_BLOCKS: usize = FRAME_BLOCKS - 1;
 
-/// Blocks kept back for cleaner and copier: the payload of four frames. A rewrite takes at most a checkpoint and
-/// 47 journal blocks; a move takes up to 15 data blocks more, and waits until there is room beyond the reserve.
-pub const RESERVE_BLOCKS: usize = 4 * PAYLOAD_BLOCKS;
+/// Frames whose payload is kept back for cleaner and copier: as few as have room for a rewrite, which takes at most a
+/// checkpoint and a chain.
+pub const RESERVE_FRAMES: usize = (CHECKPOINT_BLOCKS + CHAIN_BLOCKS + PAYLOAD_BLOCKS - 1)
+    / PAYLOAD_BLOCKS;
 
-/// Blocks that a move takes at most, 63: the data blocks of a frame, a checkpoint and a chain.
+/// Blocks kept back for cleaner and copier. A move takes up to a frame's data blocks more than a rewrite, and waits until
+/// there is room beyond the reserve.
+pub const RESERVE_BLOCKS: usize = RESERVE_FRAMES * PAYLOAD_BLOCKS;
+
+/// Blocks that a move takes at most: the data blocks of a frame, a checkpoint and a chain.
 pub const MOVE_BLOCKS: usize = PAYLOAD_BLOCKS + CHECKPOINT_BLOCKS + CHAIN_BLOCKS;
 
-/// Frames of the smallest drive: the reserve's four, and as many beside it. Chosen.
-pub const FEWEST_FRAMES: usize = 8;
+/// Frames of the smallest drive: the reserve's, and as many beside them. Chosen.
+pub const FEWEST_FRAMES: usize = 2 * RESERVE_FRAMES;
 
 /// Frames of a drive where nobody says how many. Chosen: twice the smallest.
-pub const DEFAULT_FRAMES: usize = 16;
+pub const DEFAULT_FRAMES: usize = 2 * FEWEST_FRAMES;
 
 /// Frames of the largest drive, about 8 MiB of blocks. Chosen.
 pub const MOST_FRAMES: usize = 1024;
@@ -111,5 +116,5 @@ pub const MOST_READERS: u64 = 1_048_576;
 /// Tries of one pin before it gives up. Chosen, so that a pin always returns.
 pub const PIN_TRIES: usize = 64;
 
-/// Bytes of the longest body of a frame on the wire: room for a write of the largest object.
+/// Bytes of the longest body of a frame on the wire: room for the longest write.
 pub const FRAME_BODY_BYTES: usize = 32_768;
