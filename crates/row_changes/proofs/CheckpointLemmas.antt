@@ -1,18 +1,21 @@
 -- What a checkpoint that is written anew makes of an object's row.
-use Rattle.std.proofs.Common.{◌≡◌, ℕ, true, List, [], ◌∷◌, Option, Some, IsSome, refl, sym, ap, subst, ◌∙◌, arith}
+use Rattle.std.proofs.Common.{◌≡◌, ℕ, true, List, [], ◌∷◌, length, Option, Some, IsSome, MatchOption, refl, sym, ap, subst, ◌∙◌, arith}
+use Rattle.std.specs.Prelude.{option_map}
 use Rattle.std.proofs.lemmas.Bool.{cond-true}
 use Rattle.s4_types.specs.Pointer.{Place}
 use Rattle.block_log.specs.Log.{Stored, of_kind}
 use Rattle.block_log.specs.declared.kinds.BlockKind.TheVariants.{Journal}
+use Rattle.codec.specs.Fields.{◌>>=◌}
 use Rattle.codec.specs.declared.inodes.Inode.{Inode}
 use Rattle.codec.specs.Entry.{EntryFields}
 use Rattle.codec.specs.Checkpoint.{CheckpointFields}
 use Rattle.undo_redo.specs.Runs.{Run, AllBy, entry_is_by, entries_by, inode_after, redone_all, undone_all}
 use Rattle.undo_redo.specs.Groups.{grouped}
-use Rattle.checkpoint.specs.Held.{checkpoint_held, checkpoint_places, of_checkpoints, is_one_of, DropsCheckpoint}
+use Rattle.checkpoint.specs.Held.{checkpoint_held, checkpoint_places, checkpoint_blocks, of_checkpoints, is_one_of, DropsCheckpoint}
 use Rattle.object_map.specs.declared.map.Row.{Row}
 use Rattle.journal_chain.specs.Chain.{BlockView, IsChain, Holds}
-use Rattle.time_read.specs.Rows.{chain_of, entries_of, inode_before, first_of, inode_of, IsRow}
+use Rattle.time_read.specs.Rows.{chain_of, checkpoint_of, entries_of, inode_before, first_of, inode_of, IsRow}
+use Rattle.row_changes.specs.Moving.{kept_blocks, inode_kept}
 use Rattle.row_changes.specs.Recent.{IsBy}
 use Rattle.row_changes.proofs.Places.{Put, put_journal, told_on, new_alone}
 use Rattle.row_changes.proofs.Recently.{same_entries}
@@ -104,3 +107,14 @@ written_row held later o row p i m laws w =
       only = w.only;
       created = ap (λ (k : Inode). k.created) first ∙ w.stands.created;
     }
+
+-- ---- the one that stands
+
+-- it stands in as many blocks as its inode takes
+pub kept_is : ((held : Place → Option Stored) (o : ℕ) (p : Place) (c : CheckpointFields) → checkpoint_held held o p ≡ Some c → length (checkpoint_places held o p) ≡ checkpoint_blocks c.inode)
+    → (held : Place → Option Stored) (o : ℕ) (row : Row) (p : Place) (n : ℕ) → row.checkpoint ≡ Some p → IsRow held o row → n ≡ length (checkpoint_places held o p) → n ≡ kept_blocks (inode_kept held o row)
+kept_is law held o row p n names r count =
+    let c : CheckpointFields = record { object = o; moment = row.checkpoint_moment; inode = inode_of held o row row.checkpoint_moment } in
+    let told : checkpoint_held held o p ≡ Some c = subst (λ (x : Option Place). MatchOption x (row.checkpoint_moment ≡ 0) (λ q. checkpoint_held held o q ≡ Some c)) names r.checkpoint in
+    let found : checkpoint_of held o row ≡ Some c = ap (λ (x : Option Place). x >>= checkpoint_held held o) names ∙ told in
+    count ∙ law held o p c told ∙ sym (ap (λ (x : Option CheckpointFields). kept_blocks (option_map (λ k. k.inode) x)) found)
