@@ -20,13 +20,13 @@ use Rattle.history_cleaner.specs.Emptying.{MarkedBelow}
 abbrev pub empties : List Frame → ℕ → Bool
 empties frames f = is_draining (frame_at frames f).phase
 
--- The release of each frame below f that was being emptied was tried once, and no other; the frames from f on are as they were.
+-- As many releases were tried as frames below f were being emptied; the frames from f on are as they were.
 pub record TriedBelow (f : ℕ) (old new : Drive) : Type 0 where
   pub count : length new.frames ≡ length old.frames
   pub from : (k : ℕ) → f ≤ k → frame_at new.frames k ≡ frame_at old.frames k
   pub tried : new.releases.tried ≡ old.releases.tried + count_by (empties old.frames) (range_with_len 0 f)
 
--- All frames of a table were marked that could be, and then the release of each that was being emptied was tried.
+-- All frames of a table were marked that could be, and then as many releases were tried as frames were being emptied.
 pub record IsSwept (old new : Table) : Type 0 where
   pub between : Table
   pub marked : MarkedBelow (length old.seat.frames) old between

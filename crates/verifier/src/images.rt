@@ -43,7 +43,7 @@ impl Image {
         self.objects.len()
     }
 
-    /// The moment of the last change that was accepted.
+    /// The clock: the last moment given or seen.
     pub fn clock(&self) -> Moment
         ensures { result ≡ self.now.clock }
     {
