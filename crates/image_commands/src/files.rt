@@ -1,5 +1,6 @@
 //! The files that the commands read and write.
-ghost use Rattle.std.specs.Prelude.{◌≡◌, ℕ, List, [], Option, None, ⊤, IfOk, OnOk};
+ghost use Rattle.std.specs.Prelude.{◌≡◌, ℕ, List, [], Option, None, ⊤, IfOk, IsFalse, OnOk};
+ghost use Rattle.std.specs.Io.KnownBytes.{Keeps};
 ghost use Rattle.image_commands.specs.Files.{AreKnown};
 
 use std::alloc::Global;
@@ -31,6 +32,9 @@ pub trait Files {
     // Whether a path leads to what was claimed.
     ghost leads: { Self.Claim → List ℕ → Type 0 };
 
+    // Whether two paths never lead to one file: what is written to the one is never what the other has.
+    ghost apart: { List ℕ → List ℕ → Type 0 };
+
     /// What an opened file is read by.
     type Reader: Read + Send + Drop;
 
@@ -49,11 +53,13 @@ pub trait Files {
 
     /// Makes a file, or empties the one that is there.
     fn make(&mut self, path: &str) -> io::Result<Self::Writer>
-        ensures empty { IfOk result (λ w. AreKnown (Self.Writer.contents w) []) };
+        ensures empty { IfOk result (λ w. AreKnown (Self.Writer.contents w) []) }
+        ensures others { (other : List ℕ) → apart other path.now → Keeps (contents self.old other) (contents self.new other) };
 
     /// Whether two paths lead to one file, or will where neither is there: then what is written to the one is what the other has. Never
     /// so of terminals, sockets and other streams that have two ends.
-    fn are_same(&self, first: &str, second: &str) -> bool;
+    fn are_same(&self, first: &str, second: &str) -> bool
+        ensures apart { IsFalse result → apart first.now second.now };
 
     /// Claims the image at a path, or the path where nothing is there: where it is a link, the file that it leads to. An error where
     /// that is no regular file, may not be written, or is claimed by another program.
@@ -66,7 +72,8 @@ pub trait Files {
         alloc: Global,
         claim: &Self::Claim,
         length: usize,
-    ) -> io::Result<Self::Beside>;
+    ) -> io::Result<Self::Beside>
+        ensures others { (path : List ℕ) → Keeps (contents self.old path) (contents self.new path) };
 
     /// Removes the file beside an image.
     fn remove_beside(&mut self, beside: Self::Beside);
@@ -136,6 +143,8 @@ impl Files for HostRuntime {
     ghost contents = { λ _ _. None };
 
     ghost leads = { λ _ _. ⊤ };
+
+    ghost apart = { λ _ _. ⊤ };
 
     fn open(&self, path: &str) -> io::Result<Input> {
         // The system opens no socket by a path, and this one can be.

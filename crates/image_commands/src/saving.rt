@@ -1,5 +1,6 @@
 //! Drives that are written to files, and `new`.
 ghost use Rattle.std.specs.Prelude.{◌≡◌, ◌+◌, ◌*◌, ℕ, List, IfOk, OnOk};
+ghost use Rattle.std.specs.Io.KnownBytes.{Keeps};
 ghost use Rattle.s4_types.specs.Sizes.{IsFrameCount};
 ghost use Rattle.s4_types.specs.declared.limits.TheConstants.{PAYLOAD_BLOCKS, RUNS_IN_ALL};
 ghost use Rattle.s4_model.specs.State.{new_base};
@@ -78,6 +79,7 @@ impl<'a, F: Files> Place<'a, F> {
         requires claimed { F.leads claim path.now }
         ensures path { IfOk result (λ place. place.path.now ≡ path.now) }
         ensures claimed { IfOk result (λ place. F.leads place.claim place.path.now) }
+        ensures others { (other : List ℕ) → Keeps (F.contents files.old other) (F.contents files.new other) }
     {
         match files.make_beside(alloc, &claim, length) {
             Ok(beside) => Ok(Place {
