@@ -112,7 +112,7 @@ fn best_with<J: Naming>(
 /// The copier's choice of its next move: out of the sealed frame with the fewest held blocks, from 1 to 7, and with the lowest
 /// number on a tie, goes the least object that holds a block there. None exactly where there is room for fewer than `MOVE_BLOCKS`
 /// beside the reserve, or no such frame. The drive is as before, whatever is answered. It looks at the 15 blocks of each frame
-/// once, and keeps no list of objects.
+/// once, and of one that is better than the best so far twice, and keeps no list of objects.
 ///
 /// NoMemory alone, where the memory for the pointers into one frame is refused.
 pub fn candidate<J: Naming>(drive: &mut Drive<J>) -> Result<Option<Candidate>, Refusal>
