@@ -1,8 +1,9 @@
 -- The line that `verify` writes, and the image that it tells of.
-use Rattle.std.specs.Prelude.{ℕ, ◌++◌, List, Option, codes, decimal, length}
+use Rattle.std.specs.Prelude.{ℕ, ◌++◌, List, ⊤, Option, None, Some, codes, decimal, length}
 use Rattle.std.specs.Io.KnownBytes.{Appends}
+use Rattle.s4_types.specs.declared.refusals.Cause.{Cause}
 use Rattle.image_parts.specs.Image.{image_in}
-use Rattle.verifier.specs.Grammar.{SpellsDrive}
+use Rattle.verifier.specs.Grammar.{SpellsDrive, FirstFault}
 use Rattle.verifier.specs.Images.{ImageFields, IsImageOf}
 use Rattle.image_commands.specs.Files.{AreKnown}
 
@@ -22,6 +23,11 @@ pub record IsVerified (known : Option (List ℕ)) (image : ImageFields) : Type 0
   pub read : AreKnown known bytes
   pub spelled : SpellsDrive bytes (image_in bytes)
   pub told : IsImageOf (image_in bytes) image
+
+-- the bytes, where they are known, spell no drive, for this cause first
+abbrev pub IsDamaged : Option (List ℕ) → Cause → Type 0
+IsDamaged None cause = ⊤
+IsDamaged (Some bytes) cause = FirstFault bytes (Some cause)
 
 -- the output has the line of an image that was read and verified behind it
 pub record TellsImage (known : Option (List ℕ)) (output output' : Option (List ℕ)) : Type 0 where

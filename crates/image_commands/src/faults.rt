@@ -1,5 +1,5 @@
 //! Why a command over files failed.
-ghost use Rattle.std.specs.Prelude.{◌≡◌};
+ghost use Rattle.std.specs.Prelude.{◌≡◌, ◌⊎◌};
 ghost use Rattle.std.specs.declared.io.ErrorKind.TheVariants.{OutOfMemory};
 ghost use Rattle.s4_types.specs.declared.refusals.Refusal.TheVariants.{NoMemory};
 
@@ -30,6 +30,7 @@ pub enum Fault<'a> {
 /// The fault of a file that can't be read: NoMemory where a growth was refused.
 pub fn reading<'a>(kind: io::ErrorKind, path: &'a str) -> Fault<'a>
     ensures memory { kind ≡ OutOfMemory → result ≡ Fault.Refused NoMemory }
+    ensures only { (result ≡ Fault.Refused NoMemory) ⊎ (result ≡ Fault.CannotRead path.entry) }
 {
     match kind {
         io::ErrorKind::OutOfMemory => Fault::Refused(Refusal::NoMemory),

@@ -1,12 +1,15 @@
 //! `verify`, and how each command reads an image.
-ghost use Rattle.std.specs.Prelude.{◌≡◌, ◌+◌, ◌^◌, ◌<◌, ◌++◌, IfOk, IfSome, OnOk, string_bytes};
-ghost use Rattle.std.specs.Io.KnownBytes.{Appends};
+ghost use Rattle.std.specs.Prelude.{◌≡◌, ℕ, ◌+◌, ◌^◌, ◌<◌, List, Option, IfOk, IfErr, OnOk, length, string_bytes};
+ghost use Rattle.std.specs.Io.{StartsWith};
+ghost use Rattle.std.specs.Io.KnownBytes.{Appends, Consumes, IsAtEnd};
+ghost use Rattle.s4_types.specs.declared.refusals.Cause.{Cause as Found};
+ghost use Rattle.s4_types.specs.declared.refusals.Refusal.TheVariants.{Damaged};
 ghost use Rattle.image_commands.specs.Files.{AreKnown};
-ghost use Rattle.image_commands.specs.Verifying.{number_line, image_line, IsVerified, TellsImage};
+ghost use Rattle.image_commands.specs.Verifying.{number_line, image_line, IsDamaged, IsVerified, TellsImage};
 
 use crate::faults::{Fault, reading};
 use crate::files::Files;
-use image_parts::split_parts;
+use image_parts::longest_with;
 use s4_types::{Cause, Moment, Refusal};
 use s4d_command::Verify;
 use serving::Sink;
@@ -18,7 +21,10 @@ use verifier::{Image, verify};
 /// How much of a file is looked at first: as many bytes as a header and a digest have, and fewer than any image has.
 const FRONT_BYTES: usize = 544;
 
-/// The image in a file, which was verified.
+/// How many bytes are asked for at once.
+const PIECE_BYTES: usize = 4096;
+
+/// The image in a file, which was verified. What is damaged by the length that its front tells isn't read further.
 pub fn read_image<'a, T: Threads, F: Files>(
     rt: &T,
     alloc: Global,
@@ -26,6 +32,7 @@ pub fn read_image<'a, T: Threads, F: Files>(
     path: &'a str,
 ) -> Result<Image, Fault<'a>>
     ensures verified { IfOk result (IsVerified (F.contents files.now path.now)) }
+    ensures damaged { IfErr result (λ fault. (cause : Found) → fault ≡ Fault.Refused (Damaged cause) → IsDamaged (F.contents files.now path.now) cause) }
 {
     let bytes = match read_whole(alloc, files, path) {
         Ok(bytes) => bytes,
@@ -37,41 +44,64 @@ pub fn read_image<'a, T: Threads, F: Files>(
     }
 }
 
-// All bytes of a file. Where its front is no image's the rest isn't read, since the file may be long.
-#[tactic(auto, using(crate::proofs::Fronts::front_and_rest))]
+// All bytes of a file, or why they are no image, as far as `read_bounded` finds it.
 fn read_whole<'a, F: Files>(alloc: Global, files: &F, path: &'a str) -> Result<Vec<u8>, Fault<'a>>
     ensures bytes { IfOk result (λ bytes. AreKnown (F.contents files.now path.now) bytes.items) }
+    ensures damaged { IfErr result (λ fault. (cause : Found) → fault ≡ Fault.Refused (Damaged cause) → IsDamaged (F.contents files.now path.now) cause) }
 {
     let mut reader = match files.open(path) {
         Ok(reader) => reader,
         Err(error) => return Err(reading(error.kind(), path)),
     };
-    let mut front = [0; FRONT_BYTES];
-    match reader.read_exact(&mut front) {
-        Ok(()) => {}
-        Err(error) if error.kind() == io::ErrorKind::UnexpectedEof => {
-            return Err(Fault::Refused(Refusal::Damaged(Cause::Length)));
-        }
-        Err(error) => return Err(reading(error.kind(), path)),
-    }
-    // A front alone is too short for its header's parts.
-    if let Err(Cause::Header) = split_parts(&front) {
-        return Err(Fault::Refused(Refusal::Damaged(Cause::Header)));
-    }
-    match read_behind(alloc, &front, &mut reader) {
-        Ok(bytes) => Ok(bytes),
+    match read_bounded(alloc, &mut reader) {
+        Ok(Ok(bytes)) => Ok(bytes),
+        Ok(Err(cause)) => Err(Fault::Refused(Refusal::Damaged(cause))),
         Err(error) => Err(reading(error.kind(), path)),
     }
 }
 
-// These bytes, and behind them all that a reader has left.
-fn read_behind<R: Read>(alloc: Global, front: &[u8], reader: &mut R) -> io::Result<Vec<u8>>
-    ensures bytes { IfOk result (λ bytes. IfSome (R.remaining reader.old) (λ rest. bytes.items ≡ front.now ++ rest)) }
+// All bytes of a reader. Where they are too few or have no header in front, or are more than an image with that header can have, why
+// they are no image: then no more of them is read, since they may be many.
+fn read_bounded<R: Read>(alloc: Global, reader: &mut R) -> io::Result<Result<Vec<u8>, Cause>>
+    ensures bytes { IfOk result (λ read. IfOk read (λ bytes. AreKnown (R.remaining reader.old) bytes.items)) }
+    ensures damaged { IfOk result (λ read. IfErr read (IsDamaged (R.remaining reader.old))) }
 {
     let mut bytes = Vec::new(alloc);
-    bytes.extend_from_slice(front)?;
-    reader.read_to_end(&mut bytes)?;
-    Ok(bytes)
+    read_until(reader, &mut bytes, FRONT_BYTES)?;
+    if bytes.len() < FRONT_BYTES {
+        return Ok(Err(Cause::Length));
+    }
+    let Some(longest) = longest_with(bytes.as_slice()) else {
+        return Ok(Err(Cause::Header));
+    };
+    read_until(reader, &mut bytes, longest + 1)?;
+    if bytes.len() > longest {
+        return Ok(Err(Cause::Length));
+    }
+    Ok(Ok(bytes))
+}
+
+// Adds what a reader gives until there are so many bytes, or it has no more.
+fn read_until<R: Read>(reader: &mut R, bytes: &mut Vec<u8>, most: usize) -> io::Result<()>
+    ensures read { OnOk result ((known : Option (List ℕ)) → Consumes known (R.remaining reader.old) bytes.old.items → Consumes known (R.remaining reader.new) bytes.new.items) }
+    ensures front { OnOk result (StartsWith bytes.new.items bytes.old.items) }
+    ensures whole { OnOk result (length bytes.new.items < most → IsAtEnd (R.remaining reader.new)) }
+{
+    let mut piece = [0; PIECE_BYTES];
+    for _ in 0..u64::MAX {
+        let wanted = PIECE_BYTES.min(most.saturating_sub(bytes.len()));
+        if wanted == 0 {
+            return Ok(());
+        }
+        let part = &mut piece[..wanted];
+        match reader.read(part) {
+            Ok(0) => return Ok(()),
+            Ok(count) => bytes.extend_from_slice(&part[..count])?,
+            Err(error) if error.kind() == io::ErrorKind::Interrupted => {}
+            Err(error) => return Err(error),
+        }
+    }
+    Err(io::Error::from(io::ErrorKind::Interrupted))
 }
 
 /// Writes the line of an image's numbers, where the file has one.

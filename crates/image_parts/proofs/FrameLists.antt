@@ -1,6 +1,9 @@
 -- Frames one behind the other, as loops go over them.
-use Rattle.std.proofs.Common.{◌≡◌, ◌≢◌, ℕ, zero, suc, ◌+◌, ◌-◌, ◌<◌, ◌≤◌, List, length, drop, refl, sym, ap, ◌∙◌, arith, length-drop, drop-drop}
-use Rattle.image_parts.specs.Frames.{frame_length, frames_in, frames_length}
+use Rattle.std.proofs.Common.{◌≡◌, ◌≢◌, ℕ, zero, suc, ◌+◌, ◌-◌, ◌*◌, ◌<◌, ◌≤◌, List, Bool, true, false, length, drop, refl, sym, ap, ◌∙◌, arith, length-drop, drop-drop}
+use Rattle.std.specs.Prelude.{if◌then◌else◌, ◌==◌}
+use Rattle.std.specs.Int.{w64}
+use Rattle.image_parts.specs.Header.{number_in}
+use Rattle.image_parts.specs.Frames.{state_of, contents_length, frame_length, frames_in, frames_length}
 
 length_more : (count : ℕ) (bytes : List ℕ) → count ≢ 0 → frames_length count bytes ≡ frame_length bytes + frames_length (count - 1) (drop (frame_length bytes) bytes)
 length_more zero bytes some = absurd (some refl)
@@ -48,3 +51,17 @@ passed_all count i bytes rest le p =
 pub frames_count : (count : ℕ) (bytes : List ℕ) → length (frames_in count bytes) ≡ count
 frames_count zero bytes = refl
 frames_count (suc n) bytes = omega (arith, frames_count n (drop (frame_length bytes) bytes))
+
+-- ---- how many bytes frames have at most
+
+most_of : (is_free : Bool) → (if is_free then 0 else 8192) ≤ 8192
+most_of true = omega arith
+most_of false = omega arith
+
+contents_most : (word : ℕ) → contents_length word ≤ 8192
+unfolding contents_length
+contents_most word = most_of (state_of word == 0)
+
+pub frames_most : (count : ℕ) (bytes : List ℕ) → frames_length count bytes ≤ 8 * count + 8192 * count
+frames_most zero bytes = omega arith
+frames_most (suc n) bytes = omega (arith, contents_most (number_in w64 bytes), frames_most n (drop (frame_length bytes) bytes))

@@ -10,4 +10,5 @@ pub mod HeaderLaws
 pub mod RowLaws
 pub mod FrameLaws
 pub mod ImageLaws
+pub mod FrontLaws
 pub mod SpanCounts

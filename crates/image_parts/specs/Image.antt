@@ -98,3 +98,7 @@ abbrev pub parts_length : List ℕ → ℕ
 parts_length bytes =
     512 + frames_length (header_in bytes).frames (behind_header bytes)
     + 40 * (header_in bytes).rows + 24 * (header_in bytes).spans + 32
+
+-- how many bytes the longest image with a header has: none of its frames is free
+abbrev pub longest_of : Header → ℕ
+longest_of h = 512 + 8 * h.frames + 8192 * h.frames + 40 * h.rows + 24 * h.spans + 32

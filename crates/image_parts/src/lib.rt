@@ -31,7 +31,7 @@ pub use frames::{FramePart, Frames};
 pub use headers::Header;
 pub use image_writing::{image_length, push_digest, push_frame, push_header, push_row, push_span};
 pub use parts::ImageParts;
-pub use reading::split_parts;
+pub use reading::{longest_with, split_parts};
 pub use row_rules::rows_keep_rules;
 pub use rows::{RowPart, Rows};
 pub use span_rules::spans_keep_rules;

@@ -1,10 +1,12 @@
-ghost use Rattle.std.specs.Prelude.{◌≡◌, ◌≤◌, Some, None, IfOk, IfErr, length};
+ghost use Rattle.std.specs.Prelude.{◌≡◌, ◌^◌, ◌<◌, ◌≤◌, ◌++◌, List, ℕ, Some, None, IfOk, IfErr, IfSome, IfNone, length};
+ghost use Rattle.s4_types.specs.declared.refusals.Cause.TheVariants.{Header as HeaderCause, Length};
 ghost use Rattle.image_parts.specs.Header.{header_in, KeepsHeaderRules};
-ghost use Rattle.image_parts.specs.Image.{header_of, image_in};
+ghost use Rattle.image_parts.specs.Image.{header_of, image_in, longest_of};
 ghost use Rattle.image_parts.specs.Causes.{FirstSplitCause};
 
 use crate::digests::DIGEST_BYTES;
 use crate::headers::{HEADER_BYTES, read_header};
+use crate::image_writing::image_length;
 use crate::parts::ImageParts;
 use s4_types::Cause;
 
@@ -31,4 +33,21 @@ pub fn split_parts(bytes: &[u8]) -> Result<ImageParts<'_>, Cause>
         return Err(Cause::Length);
     };
     Ok(parts)
+}
+
+/// How many bytes the longest image has that begins with these: the one of their header in which no frame is free. Bytes that begin
+/// so and are more aren't filled by their parts. None where no header stands in front.
+///
+/// So what begins with these bytes can be refused before all of it was read, for the cause that `split_parts` would find.
+pub fn longest_with(front: &[u8]) -> Option<usize>
+    requires long { 544 ≤ length front.now }
+    ensures longest { IfSome result (λ longest. longest ≡ longest_of (header_in front.now)) }
+    ensures below { IfSome result (λ longest. longest < 2 ^ 39) }
+    ensures longer { IfSome result (λ longest. (rest : List ℕ) → longest < length (front.now ++ rest) → FirstSplitCause (front.now ++ rest) (Some Length)) }
+    ensures none { IfNone result ((rest : List ℕ) → FirstSplitCause (front.now ++ rest) (Some HeaderCause)) }
+{
+    let Some(header) = read_header(front) else {
+        return None;
+    };
+    Some(image_length(header.frames, header.frames, header.rows, header.spans))
 }
