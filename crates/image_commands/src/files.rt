@@ -5,7 +5,7 @@ ghost use Rattle.image_commands.specs.Files.{AreKnown};
 
 use std::alloc::Global;
 use std::fs::{self, File, Metadata, OpenOptions};
-use std::io::{self, Read, Seek, SeekFrom, Stdin, Write};
+use std::io::{self, Read, Seek, SeekFrom, Stderr, Stdin, Stdout, Write};
 use std::os::unix::fs::{FileTypeExt, MetadataExt, OpenOptionsExt, fchown};
 use std::path::Path;
 
@@ -17,9 +17,6 @@ const PRIVATE: u32 = 0o600;
 
 /// Who may read and write a new image, by the mask of who made it.
 const ORDINARY: u32 = 0o666;
-
-/// The path of standard input.
-const STANDARD_INPUT: &str = "/dev/stdin";
 
 /// Zeros that are written at once.
 const ZEROS: [u8; 4096] = [0; 4096];
@@ -114,6 +111,14 @@ pub struct BesideFile {
     file: File,
 }
 
+/// The standard streams. The system opens no socket by a path, so what their paths name is not opened, but used as it is.
+#[derive(Clone, Copy, PartialEq, Eq)]
+enum Standard {
+    Input,
+    Output,
+    Error,
+}
+
 /// What a session reads on this system.
 #[derive(Drop)]
 pub enum Input {
@@ -130,10 +135,36 @@ impl Read for Input {
     }
 }
 
+/// What a session writes on this system.
+#[derive(Drop)]
+pub enum Output {
+    Named(File),
+    Standard(Stdout),
+    Error(Stderr),
+}
+
+impl Write for Output {
+    fn write(&mut self, buffer: &[u8]) -> io::Result<usize> {
+        match self {
+            Output::Named(file) => file.write(buffer),
+            Output::Standard(output) => output.write(buffer),
+            Output::Error(errors) => errors.write(buffer),
+        }
+    }
+
+    fn flush(&mut self) -> io::Result<()> {
+        match self {
+            Output::Named(file) => file.flush(),
+            Output::Standard(output) => output.flush(),
+            Output::Error(errors) => errors.flush(),
+        }
+    }
+}
+
 impl Files for HostRuntime {
     type Reader = Input;
 
-    type Writer = File;
+    type Writer = Output;
 
     type Claim = ImageClaim;
 
@@ -147,15 +178,18 @@ impl Files for HostRuntime {
     ghost apart = { λ _ _. ⊤ };
 
     fn open(&self, path: &str) -> io::Result<Input> {
-        // The system opens no socket by a path, and this one can be.
-        if path == STANDARD_INPUT {
-            return Ok(Input::Standard(self.stdin()));
+        match standard_stream(path) {
+            Some(Standard::Input) => Ok(Input::Standard(self.stdin())),
+            _ => Ok(Input::Named(File::open(self, path)?)),
         }
-        Ok(Input::Named(File::open(self, path)?))
     }
 
-    fn make(&mut self, path: &str) -> io::Result<File> {
-        File::create(self, path)
+    fn make(&mut self, path: &str) -> io::Result<Output> {
+        match standard_stream(path) {
+            Some(Standard::Output) => Ok(Output::Standard(self.stdout())),
+            Some(Standard::Error) => Ok(Output::Error(self.stderr())),
+            _ => Ok(Output::Named(File::create(self, path)?)),
+        }
     }
 
     fn are_same(&self, first: &str, second: &str) -> bool {
@@ -218,6 +252,16 @@ impl Files for HostRuntime {
         }
         sync_folder(self, claim.path.as_str());
         Ok(())
+    }
+}
+
+// The standard stream that a path names, if it does.
+fn standard_stream(path: &str) -> Option<Standard> {
+    match path {
+        "/dev/stdin" | "/dev/fd/0" | "/proc/self/fd/0" => Some(Standard::Input),
+        "/dev/stdout" | "/dev/fd/1" | "/proc/self/fd/1" => Some(Standard::Output),
+        "/dev/stderr" | "/dev/fd/2" | "/proc/self/fd/2" => Some(Standard::Error),
+        _ => None,
     }
 }
 
