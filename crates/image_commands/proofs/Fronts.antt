@@ -1,5 +1,5 @@
 -- What was read of a file, against what is known of it.
-use Rattle.std.proofs.Common.{◌≡◌, ◌≢◌, ◌⊎◌, ◌+◌, ◌<◌, ◌≤◌, ◌++◌, ◌∙◌, ℕ, List, [], Option, Some, None, refl, sym, ap, subst, length, drop, arith, inl, inr, append_assoc, length-append}
+use Rattle.std.proofs.Common.{◌≡◌, ◌⊎◌, ◌<◌, ◌++◌, ◌∙◌, ℕ, List, Option, Some, None, refl, sym, ap, subst, length, drop, arith, inl, inr, append_assoc, length-append}
 use Rattle.std.proofs.lemmas.List.{append-nil, take-append-le}
 use Rattle.std.proofs.KnownBytes.{Consumes-trans, Consumes-kept, starts_with_rest}
 use Rattle.std.proofs.Transfers.{starts_with_length}

@@ -1,5 +1,5 @@
 -- Parts of a version's bytes that are written one after the other are its bytes.
-use Rattle.std.proofs.Common.{◌≡◌, ◌≢◌, ◌+◌, ◌-◌, ◌*◌, ◌∙◌, ◌++◌, ◌≤◌, ℕ, List, [], Option, Some, None, true, false, Bool, Result, Ok, Err, OnOk, ap, sym, subst, length, take, drop, min, arith}
+use Rattle.std.proofs.Common.{◌≡◌, ◌≢◌, ◌+◌, ◌-◌, ◌*◌, ◌∙◌, ◌++◌, ◌≤◌, ℕ, List, [], Option, Some, None, false, Bool, Result, Ok, Err, OnOk, ap, sym, subst, length, take, drop, min, arith}
 use Rattle.std.specs.Prelude.{⊤, MatchBool}
 use Rattle.std.proofs.Math.Seq.{take-add}
 use Rattle.std.proofs.lemmas.List.{length-take, length-drop, take_all}

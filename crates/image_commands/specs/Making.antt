@@ -1,5 +1,5 @@
 -- The image of a new drive.
-use Rattle.std.specs.Prelude.{◌≡◌, ℕ, List, [], Option, None}
+use Rattle.std.specs.Prelude.{◌≡◌, ℕ, List, Option, None}
 use Rattle.s4_model.specs.State.{new_history}
 use Rattle.object_map.specs.Rows.{row_of}
 use Rattle.segment_table.specs.Room.{log_of, new_places}

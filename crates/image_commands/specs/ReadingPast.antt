@@ -1,5 +1,5 @@
 -- What `at` writes: the bytes of an object at a moment, as an image tells it.
-use Rattle.std.specs.Prelude.{◌≡◌, ◌≢◌, ℕ, List, [], Option, Some, Bool, true, false, MatchBool, ⊤, length}
+use Rattle.std.specs.Prelude.{◌≡◌, ◌≢◌, ℕ, List, [], Option, Some, Bool, MatchBool, ⊤, length}
 use Rattle.std.specs.Io.KnownBytes.{Appends}
 use Rattle.s4_types.specs.History.{Base}
 use Rattle.s4_types.specs.declared.limits.TheConstants.{READ_BYTES}

@@ -1,5 +1,5 @@
 -- What the first bytes of an image tell of all bytes that begin so.
-use Rattle.std.proofs.Common.{◌≡◌, ℕ, ◌+◌, ◌<◌, ◌≤◌, List, ◌++◌, Some, length, take, refl, sym, ap, subst, ◌∙◌, arith, inl, inr, length-append}
+use Rattle.std.proofs.Common.{◌≡◌, ℕ, ◌<◌, ◌≤◌, List, ◌++◌, Some, length, take, refl, sym, ap, subst, ◌∙◌, arith, inl, inr, length-append}
 use Rattle.std.proofs.lemmas.List.{take-append-le}
 use Rattle.s4_types.specs.declared.refusals.Cause.TheVariants.{Header as HeaderCause, Length}
 use Rattle.image_parts.specs.Header.{header_bytes, header_in, KeepsHeaderRules, HasHeader}

@@ -1,4 +1,4 @@
-use Rattle.std.proofs.Common.{rules, ◌≡◌, ◌++◌, sym, subst, take}
+use Rattle.std.proofs.Common.{rules, ◌≡◌, ◌++◌, take}
 use Rattle.std.specs.Io.KnownBytes.{Keeps}
 use Rattle.image_commands.proofs.Fronts.{read_on, read_none, starts_on}
 use Rattle.image_commands.proofs.verifying.read_until.Goals.{in-Ok+in_ok-extend_from_slice-in-Ok, in-Err+then-eq}
