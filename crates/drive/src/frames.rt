@@ -28,6 +28,10 @@ impl<J: Naming> OverFrames for Drive<J> {
         self.store.generation(frame)
     }
 
+    fn state_word(&mut self, frame: u16) -> u64 {
+        self.store.state_word(frame)
+    }
+
     fn saved_word(&mut self, frame: u16) -> u64 {
         self.store.saved_word(frame)
     }

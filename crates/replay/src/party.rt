@@ -91,7 +91,7 @@ pub(crate) trait Played {
 
     fn is_draining(&mut self, frame: u16) -> bool;
 
-    /// The frame's saved word, if it is there.
+    /// The frame's state word with the readers that it counts, if it is there.
     fn word(&mut self, frame: u16) -> Option<u64>;
 
     fn rules(&self);
@@ -259,7 +259,7 @@ impl<J: Naming> Played for Party<J> {
         if frame >= self.drive.frame_count() {
             return None;
         }
-        Some(self.drive.saved_word(frame))
+        Some(self.drive.state_word(frame))
     }
 
     fn rules(&self) {

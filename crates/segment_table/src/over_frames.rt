@@ -6,6 +6,7 @@ ghost use Rattle.codec.specs.Summary.{SpellsSummary};
 ghost use Rattle.segment_word.specs.Frames.{Sealed, code_of, is_draining};
 ghost use Rattle.segment_word.specs.Layout.{word_of, frame_at, block_bytes};
 ghost use Rattle.segment_word.specs.FrameRule.{AllRemembered};
+ghost use Rattle.segment_word.specs.Steps.{IsStateOf};
 ghost use Rattle.segment_word.specs.Handles.{pin_of};
 ghost use Rattle.segment_table.specs.Table.{Table, slots_at, held_at, role_of};
 ghost use Rattle.segment_table.specs.Room.{pointers_in};
@@ -47,6 +48,13 @@ pub trait OverFrames {
         ensures inside { IfSome result (λ g. frame < length (table self.old).seat.frames) }
         ensures generation { IfSome result (λ g. g ≡ (frame_at (table self.old).seat.frames frame).generation) }
         ensures outside { IfNone result (length (table self.old).seat.frames ≤ frame) }
+        ensures same { self.new ≡ self.old };
+
+    /// The state word of a frame, as this one load finds it: its phase, its generation and the readers that are counted then. How many
+    /// those are isn't known here, since pins come and go in other threads; a frame that is free or open has none.
+    fn state_word(&mut self, frame: u16) -> u64
+        requires { frame < length (table self.old).seat.frames }
+        ensures word { IsStateOf (frame_at (table self.old).seat.frames frame) result }
         ensures same { self.new ≡ self.old };
 
     /// The state word of a frame as it is saved: it counts no reader.

@@ -199,6 +199,10 @@ impl OverFrames for SegmentTable {
         None
     }
 
+    fn state_word(&mut self, frame: u16) -> u64 {
+        self.segments.seat.state(frame as usize)
+    }
+
     fn saved_word(&mut self, frame: u16) -> u64 {
         self.segments.seat.saved_state(frame as usize)
     }

@@ -121,6 +121,10 @@ impl<J: Naming> OverFrames for Store<NamedTable<J>> {
         self.table.table.generation(frame)
     }
 
+    fn state_word(&mut self, frame: u16) -> u64 {
+        self.table.table.state_word(frame)
+    }
+
     fn saved_word(&mut self, frame: u16) -> u64 {
         self.table.table.saved_word(frame)
     }
