@@ -59,8 +59,11 @@ fn main(rt: HostRuntime) -> ExitCode {
 // opened would have such a number, and be read or written in the place of the stream.
 fn hold_standard_streams(rt: &HostRuntime) -> io::Result<()> {
     let unreadable = OpenOptions::new().write(true).open(rt, NOTHING)?;
+    // A greater number is given up at once: the next file has it then, which can't be written.
     if unreadable.as_raw_fd() == STANDARD_INPUT {
         let _ = unreadable.into_raw_fd();
+    } else {
+        drop(unreadable);
     }
     for _ in 0..STANDARD_ERROR {
         let unwritable = OpenOptions::new().read(true).open(rt, NOTHING)?;
