@@ -136,7 +136,7 @@ fn lacks_memory(answer: &Answer) -> bool {
     )
 }
 
-/// Takes a step, and compares its answer with what the plain drive tells.
+/// Takes a step, and compares its answer with what the plain drive tells. NoMemory where it can be taken once more.
 pub(crate) fn take<D: Played>(
     stage: &mut Stage,
     drive: &mut D,
@@ -144,6 +144,7 @@ pub(crate) fn take<D: Played>(
 ) -> Result<Answer, Refusal> {
     let answer = drive.take(&step)?;
     if lacks_memory(&answer) {
+        stage.see_step(&step)?;
         return Err(Refusal::NoMemory);
     }
     // (what was done isn't done once more where memory to tell of it is refused)
@@ -242,6 +243,7 @@ fn pass<D: Played>(stage: &mut Stage, drive: &mut D, text: &mut Text) -> Result<
     stage.is_spent = true;
     let report = match drive.pass() {
         Err(Refusal::NoMemory) => {
+            stage.has_lacked = true;
             let report = drive.pass()?;
             stage.is_partial = true;
             report
@@ -269,7 +271,10 @@ fn turn_again<D: Played>(drive: &mut D) -> Turn {
 fn turn<D: Played>(stage: &mut Stage, drive: &mut D, text: &mut Text) -> Result<(), Refusal> {
     stage.is_spent = true;
     let turn = match drive.turn() {
-        Turn::PassedOver(_, Refusal::NoMemory) => turn_again(drive),
+        Turn::PassedOver(_, Refusal::NoMemory) => {
+            stage.has_lacked = true;
+            turn_again(drive)
+        }
         turn => turn,
     };
     match turn {
@@ -340,12 +345,17 @@ fn keep<D: Played>(
         text.word("Idle");
         return Ok(());
     }
+    // (room on the pile is taken before the drive's step)
+    stage.pile.reserve(1)?;
     let reading = reading_of(asked);
     let planned = drive.keep(place, &reading);
     stage.plan(place, None);
     let answer = match planned {
         Ok(()) => Answer::Done,
-        Err(Refusal::NoMemory) => return Err(Refusal::NoMemory),
+        Err(Refusal::NoMemory) => {
+            stage.see(place, reading.now)?;
+            return Err(Refusal::NoMemory);
+        }
         Err(refusal) => Answer::Refused(refusal),
     };
     stage.is_spent = true;

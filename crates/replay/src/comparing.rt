@@ -37,6 +37,20 @@ fn drive_reply<D: Played>(
     }
 }
 
+/// The same; a question that is refused memory is asked once more.
+fn drive_answer<D: Played>(
+    drive: &mut D,
+    actor: usize,
+    object: u64,
+    at: u64,
+    is_read: bool,
+) -> Result<Option<Reply>, Refusal> {
+    match drive_reply(drive, actor, question(object, at, is_read)) {
+        Err(_) => drive_reply(drive, actor, question(object, at, is_read)),
+        reply => reply,
+    }
+}
+
 /// Whether both drives tell the same of an object at a moment.
 fn is_alike<D: Played>(
     stage: &mut Stage,
@@ -46,7 +60,7 @@ fn is_alike<D: Played>(
     at: u64,
 ) -> Result<bool, Refusal> {
     for is_read in [true, false] {
-        let given = drive_reply(drive, actor, question(object, at, is_read))?;
+        let given = drive_answer(drive, actor, object, at, is_read)?;
         let told = stage.reply(usize::MAX, question(object, at, is_read), Moment::new(0))?;
         if given != told {
             return Ok(false);
@@ -104,7 +118,23 @@ fn tell_alike<D: Played>(stage: &mut Stage, drive: &mut D, text: &mut Text) -> R
 
 /// Compares all behind a step, where that is to be done.
 pub(crate) fn watch<D: Played>(stage: &mut Stage, drive: &mut D) -> Result<(), Refusal> {
-    if !stage.is_watched || stage.plain.is_none() {
+    if stage.is_watched {
+        compare_all(stage, drive)?;
+    }
+    Ok(())
+}
+
+/// Compares all behind a line, where memory was refused.
+pub(crate) fn watch_line<D: Played>(stage: &mut Stage, drive: &mut D) -> Result<(), Refusal> {
+    if stage.has_lacked {
+        compare_all(stage, drive)?;
+    }
+    Ok(())
+}
+
+/// Compares all, where there is a plain drive, and remarks what is unlike.
+fn compare_all<D: Played>(stage: &mut Stage, drive: &mut D) -> Result<(), Refusal> {
+    if stage.plain.is_none() {
         return Ok(());
     }
     stage.is_spent = true;

@@ -1,7 +1,7 @@
 //! A script is played line by line.
 use crate::acting::{perform_acting, perform_asking, perform_tidying, perform_upkeep};
 use crate::commands::{Beginning, Command, Exchange, Line, Verb, line_of};
-use crate::comparing::{perform_comparing, watch};
+use crate::comparing::{perform_comparing, watch, watch_line};
 use crate::imaging::perform_imaging;
 use crate::looking::perform_look;
 use crate::party::{Played, play_image, play_new};
@@ -83,7 +83,7 @@ fn try_command<D: Played, R: Threads>(
     drive: &mut D,
     command: &Command<'_>,
 ) -> Result<String, Refusal> {
-    let mut text = Text::new(stage.alloc);
+    let mut text = Text::with_room(stage.alloc)?;
     match perform(rt, stage, drive, command, &mut text) {
         Ok(()) => {}
         Err(Refusal::NoMemory) => return Err(Refusal::NoMemory),
@@ -92,7 +92,7 @@ fn try_command<D: Played, R: Threads>(
     text.finish()
 }
 
-/// The same; what is refused memory is done once more where it can be.
+/// The same; what is refused memory is done once more where it can be. All is compared before that.
 fn do_command<D: Played, R: Threads>(
     rt: &R,
     stage: &mut Stage,
@@ -101,7 +101,12 @@ fn do_command<D: Played, R: Threads>(
 ) -> Result<String, Refusal> {
     stage.begin_command();
     match try_command(rt, stage, drive, command) {
-        Err(Refusal::NoMemory) if !stage.is_spent => try_command(rt, stage, drive, command),
+        Err(Refusal::NoMemory) if !stage.is_spent => {
+            stage.has_lacked = true;
+            watch_line(stage, drive)?;
+            stage.begin_command();
+            try_command(rt, stage, drive, command)
+        }
         told => told,
     }
 }
@@ -109,6 +114,14 @@ fn do_command<D: Played, R: Threads>(
 /// Whether an answer passes where none is told.
 fn is_good(told: &str) -> bool {
     !told.starts_with("Refused ") && !told.starts_with("Damaged ") && told != "Idle"
+}
+
+/// Whether an answer is the one that is expected. What is refused memory is compared once more.
+fn is_expected(alloc: Global, told: &str, expected: &[u8]) -> Result<bool, Refusal> {
+    match is_said(alloc, told, expected) {
+        Err(_) => is_said(alloc, told, expected),
+        compared => compared,
+    }
 }
 
 /// What a line is answered: its last answer, or the first that isn't right, with what is expected there.
@@ -126,7 +139,7 @@ fn judged<'a>(
     expected: Option<&'a [u8]>,
 ) -> Result<Outcome<'a>, Refusal> {
     let is_right = match expected {
-        Some(expected) => is_said(alloc, told.as_str(), expected)?,
+        Some(expected) => is_expected(alloc, told.as_str(), expected)?,
         None => is_good(told.as_str()),
     };
     Ok(Outcome {
@@ -174,6 +187,7 @@ fn do_line<'a, D: Played, R: Threads>(
             }
         }
     }
+    watch_line(stage, drive)?;
     Ok(outcome)
 }
 
@@ -276,7 +290,7 @@ impl<'a> Player<'a> {
         exchange: &Exchange<'_>,
         refusal: Option<Refusal>,
     ) -> Result<(), Refusal> {
-        let mut text = Text::new(self.alloc);
+        let mut text = Text::with_room(self.alloc)?;
         match refusal {
             Some(refusal) => text.refusal(refusal),
             None => text.word("Done"),
@@ -325,7 +339,7 @@ impl<'a> Player<'a> {
             }
             return Ok(None);
         }
-        let Some(line) = line_of(self.alloc, text)? else {
+        let Some(line) = read_line(self.alloc, text)? else {
             return Ok(self.break_off(text));
         };
         if let [exchange] = line.exchanges.as_slice()
@@ -372,8 +386,8 @@ impl<'a> Player<'a> {
         rt: &R,
         drive: &mut D,
     ) -> Result<Start, Refusal> {
-        come(&mut self.stage, drive, b"client", Role::Client)?;
-        come(&mut self.stage, drive, b"admin", Role::Admin)?;
+        welcome(&mut self.stage, drive, b"client", Role::Client)?;
+        welcome(&mut self.stage, drive, b"admin", Role::Admin)?;
         let lines = self.lines;
         for place in self.next..lines.len() {
             self.next = place + 1;
@@ -382,6 +396,27 @@ impl<'a> Player<'a> {
             }
         }
         Ok(Start::End)
+    }
+}
+
+/// What a line says. What is refused memory is read once more.
+fn read_line<'a>(alloc: Global, text: &'a [u8]) -> Result<Option<Line<'a>>, Refusal> {
+    match line_of(alloc, text) {
+        Err(_) => line_of(alloc, text),
+        line => line,
+    }
+}
+
+/// Somebody comes to a new drive. Who is refused memory comes once more.
+fn welcome<D: Played>(
+    stage: &mut Stage,
+    drive: &mut D,
+    name: &[u8],
+    role: Role,
+) -> Result<(), Refusal> {
+    match come(stage, drive, name, role) {
+        Err(_) => come(stage, drive, name, role),
+        came => came,
     }
 }
 

@@ -24,6 +24,8 @@ pub(crate) struct Stage {
     pub(crate) pile: Vec<Option<Reply>>,
     /// Whether all is compared behind each step.
     pub(crate) is_watched: bool,
+    /// Whether memory was refused since the drive began: all is compared behind each line then.
+    pub(crate) has_lacked: bool,
     /// Whether a command that is refused memory can't be done once more.
     pub(crate) is_spent: bool,
     /// Whether an answer comes of memory that the drive was refused, and passes where none is told.
@@ -46,6 +48,7 @@ impl Stage {
             plain: None,
             pile: Vec::new(alloc),
             is_watched: false,
+            has_lacked: false,
             is_spent: false,
             is_excused: false,
             is_partial: false,
@@ -62,6 +65,7 @@ impl Stage {
         self.pile.clear();
         self.plain = plain;
         self.is_watched = false;
+        self.has_lacked = false;
         self.has_lost = false;
     }
 
@@ -76,6 +80,7 @@ impl Stage {
     pub(crate) fn excuse(&mut self, is_move: bool, answer: &Answer) {
         match answer {
             Answer::Refused(Refusal::NoMemory) => {
+                self.has_lacked = true;
                 self.is_excused = true;
                 self.has_lost = self.has_lost || is_move;
             }
@@ -120,8 +125,27 @@ impl Stage {
         }
     }
 
-    /// What the plain drive replies to a request; none where there is no plain drive. NoMemory where it wants memory, and
-    /// what was asked can't be done once more then.
+    /// The plain drive sees a moment of the server's clock, as the drive does that refuses a request.
+    pub(crate) fn see(&mut self, place: usize, now: Moment) -> Result<(), Refusal> {
+        let object = ObjectId::new(1);
+        self.reply(place, Request::GetAttr { object, at: None }, now)?;
+        Ok(())
+    }
+
+    /// The plain drive sees the moment of a step that the drive was refused memory for.
+    pub(crate) fn see_step(&mut self, step: &Step) -> Result<(), Refusal> {
+        let Step::By { actor, act } = step else {
+            return Ok(());
+        };
+        match act {
+            Act::Request { now, .. } => self.see(*actor, *now),
+            Act::Resolve { now, .. } => self.see(*actor, *now),
+            _ => Ok(()),
+        }
+    }
+
+    /// What the plain drive replies to a request; none where there is no plain drive. A read is asked once more where it wants
+    /// memory. NoMemory where a change wants memory, and what was asked can't be done once more then.
     pub(crate) fn reply(
         &mut self,
         place: usize,
@@ -135,7 +159,14 @@ impl Stage {
         let Some(plain) = &mut self.plain else {
             return Ok(None);
         };
-        match plain.request(role, request, now) {
+        let again = read_again(&request);
+        let mut reply = plain.request(role, request, now);
+        if let Some(read) = again
+            && matches!(reply, Reply::Refused(Refusal::NoMemory))
+        {
+            reply = plain.request(role, read, now);
+        }
+        match reply {
             Reply::Refused(Refusal::NoMemory) => {
                 self.is_spent = true;
                 Err(Refusal::NoMemory)
@@ -164,9 +195,7 @@ impl Stage {
         answer: &Answer,
     ) -> Result<(), Refusal> {
         if is_for_want(answer) {
-            let object = ObjectId::new(1);
-            self.reply(place, Request::GetAttr { object, at: None }, now)?;
-            return Ok(());
+            return self.see(place, now);
         }
         if let Some(told) = self.reply(place, request, now)?
             && !is_reply(answer, &told)
@@ -274,6 +303,28 @@ impl Stage {
             }
             _ => Ok(()),
         }
+    }
+}
+
+/// The same request, where it is a read.
+fn read_again(request: &Request) -> Option<Request> {
+    match request {
+        Request::Read {
+            object,
+            offset,
+            length,
+            at,
+        } => Some(Request::Read {
+            object: *object,
+            offset: *offset,
+            length: *length,
+            at: *at,
+        }),
+        Request::GetAttr { object, at } => Some(Request::GetAttr {
+            object: *object,
+            at: *at,
+        }),
+        _ => None,
     }
 }
 

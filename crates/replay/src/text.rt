@@ -6,6 +6,9 @@ use std::fmt::Write;
 /// How many equal bytes are spelled as a run.
 const LEAST_RUN: usize = 5;
 
+/// Bytes of most answers: room for them is taken before a step.
+const ANSWER_BYTES: usize = 256;
+
 /// Words that are told, with a space between two of them. That memory was refused shows at the end.
 #[derive(Drop)]
 pub(crate) struct Text {
@@ -19,6 +22,18 @@ impl Text {
             words: String::new(alloc),
             is_cut: false,
         }
+    }
+
+    /// Words for which there is room, where they are few. It is asked for once more where it is refused.
+    pub(crate) fn with_room(alloc: Global) -> Result<Self, Refusal> {
+        let words = match String::with_capacity(alloc, ANSWER_BYTES) {
+            Err(_) => String::with_capacity(alloc, ANSWER_BYTES)?,
+            Ok(words) => words,
+        };
+        Ok(Text {
+            words,
+            is_cut: false,
+        })
     }
 
     /// The whole; NoMemory where some of it couldn't be kept.
