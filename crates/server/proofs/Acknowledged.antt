@@ -179,7 +179,7 @@ module _ (by_moments : (h : History) (now : ℕ) → state_of (grown h (Seen now
   by_turn : (base : Base) (item : Item Request) (moments : List ℕ) (reply : Reply) (old new : SessionFields) → Turn (SharedStep base) CountsTicks item moments reply old new → GainsOne item reply old.told new.told
   by_turn base (Whole r) moments reply old new t =
       let s : SharedStep base old r t.0 reply new = t.2 in
-      by_step s.before s.after old.role r t.0 reply old.told new.told s.had_seen.seen s.step (ap (λ (f : SessionFields). f.told) s.told)
+      by_step s.before.ledger s.after.ledger old.role r t.0 reply old.told new.told s.had_seen.seen s.step (ap (λ (f : SessionFields). f.told) s.told)
   by_turn base BadFrame moments reply old new t = record {
     numbers = [];
     mine = ap (λ (f : SessionFields). f.told.mine) t.2 ∙ sym (append-nil old.told.mine);

@@ -2,3 +2,4 @@ pub mod Acknowledged
 pub mod Sharing
 pub mod Rounding
 pub mod Stepping
+pub mod Windows

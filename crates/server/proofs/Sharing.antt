@@ -1,27 +1,57 @@
 -- What a session was told after a plan, and after one that couldn't be fetched.
-use Rattle.std.proofs.Common.{◌≡◌, ℕ, List, [], Option, None, Result, Ok, Err, inl, inr, refl, sym, ap, subst, ◌∙◌}
+use Rattle.std.proofs.Common.{◌≡◌, ◌≤◌, ℕ, List, [], Option, None, Result, Ok, Err, inl, inr, refl, sym, ap, subst, ◌∙◌}
 use Rattle.std.specs.Prelude.{IfOk}
 use Rattle.std.proofs.lemmas.Option.{none-some}
+use Rattle.atomic_table.specs.Seated.{TableId}
 use Rattle.s4_types.specs.History.{Base, History, accepted}
 use Rattle.s4_types.specs.declared.requests.Role.{Role}
+use Rattle.s4_types.specs.declared.requests.Request.{Request}
 use Rattle.s4_types.specs.declared.requests.Request.TheVariants.{Read}
 use Rattle.s4_types.specs.declared.replies.Reply.{Reply}
 use Rattle.s4_types.specs.declared.replies.Reply.TheVariants.{Data, Refused}
 use Rattle.s4_types.specs.declared.refusals.Refusal.{Refusal}
 use Rattle.s4_types.specs.declared.refusals.Refusal.TheVariants.{NoMemory}
-use Rattle.s4_model.specs.State.{grown}
+use Rattle.s4_model.specs.Sound.{IsSound}
+use Rattle.s4_model.specs.State.{State, grown}
 use Rattle.s4_model.specs.Refusals.{first_refusal}
 use Rattle.s4_model.specs.Step.{Step, Refuses, Serves, Alters, Reads, ForMemory, MayWantMemory, judged}
 use Rattle.segment_word.specs.AcceptViews.{Ledger, Told, caught_up}
+use Rattle.segment_table.specs.Rules.{HasFramesInOrder}
+use Rattle.version_store.specs.Store.{StoreFields, IsStore}
 use Rattle.time_read.specs.Plans.{PlanFields, bytes_planned}
-use Rattle.drive.specs.Fields.{DriveFields, SessionFields, history_of}
-use Rattle.drive.specs.Answering.{told_after, reply_planned}
-use Rattle.server.specs.Sharing.{SharedStep, IsFetched, IsFresh}
+use Rattle.drive.specs.Fields.{DriveFields, SessionFields, history_of, state_in, store_of}
+use Rattle.drive.specs.Keeping.{DecodesWhereVisible}
+use Rattle.drive.specs.Opened.{NoneFrom}
+use Rattle.drive.specs.Answering.{Leaves, told_after, owners_after, reply_planned}
+use Rattle.server.specs.Sharing.{IsSharedDrive, SharedStep, IsFetched, IsFresh}
 
 -- a plan accepts nothing
 pub planned_told : (planned : Result PlanFields Refusal) (l : Ledger) (t : Told) → told_after (reply_planned planned) l t ≡ caught_up l t
 planned_told (Ok plan) l t = refl
 planned_told (Err refusal) l t = refl
+
+-- it gives no change to anybody
+pub planned_owners : (planned : Result PlanFields Refusal) (seat : ℕ) (owners : List ℕ) → owners_after (reply_planned planned) seat owners ≡ owners
+planned_owners (Ok plan) seat owners = refl
+planned_owners (Err refusal) seat owners = refl
+
+-- and it leaves all that is stored
+pub planned_leaves : (planned : Result PlanFields Refusal) (store after : StoreFields) (s : State) (request : Request) (now : ℕ) → after ≡ store → Leaves store s request now (reply_planned planned) after
+planned_leaves (Ok plan) store after s request now same = same
+planned_leaves (Err refusal) store after s request now same = same
+
+-- a drive that is another one by name is shared where what always holds of a drive holds of that
+pub shared_drive : (base : Base) (frames : TableId) (d e : DriveFields) → e ≡ d → (history_of d).base ≡ base → DecodesWhereVisible (store_of d) (state_in d) → HasFramesInOrder frames d.store.table → IsSound (state_in d)
+    → IsStore (store_of d) → (store_of d).latest ≤ (state_in d).clock → NoneFrom (state_in d).next (store_of d) → IsSharedDrive base e
+shared_drive base frames d e same begins decodes in_order sound store past unborn = subst (IsSharedDrive base) (sym same) (record {
+  begins = begins;
+  decodes = decodes;
+  frames = subst (λ (t : TableId). HasFramesInOrder t d.store.table) (sym in_order.table) in_order;
+  sound = sound;
+  store = store;
+  past = past;
+  unborn = unborn;
+})
 
 -- whether a reply is a refusal
 abbrev pub IsRefused : Reply → Type 0
@@ -48,10 +78,13 @@ pub shared_unfetched : (base : Base) (old new : SessionFields) (o off len now : 
 shared_unfetched base old new o off len now at bytes s = record {
   before = s.before;
   after = s.after;
-  begins = s.begins;
+  there = s.there;
   had_seen = s.had_seen;
-  memory = λ _. fetch_free s.before.history s.after.history old.role o off len now at bytes s.step;
-  step = unfetched s.before.history s.after.history old.role o off len now at bytes s.step;
+  step = unfetched (history_of s.before) (history_of s.after) old.role o off len now at bytes s.step;
+  refused = inl (refl, s.refused);
+  memory = λ _. fetch_free (history_of s.before) (history_of s.after) old.role o off len now at bytes s.step;
+  stored = s.stored;
+  owners = s.owners;
   told = s.told;
   has_seen = s.has_seen;
 }

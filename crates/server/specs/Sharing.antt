@@ -1,5 +1,5 @@
 -- What a session is answered that shares its drive with others.
-use Rattle.std.specs.Prelude.{◌≡◌, ◌⊎◌, ℕ, [], Result, Ok, Err}
+use Rattle.std.specs.Prelude.{◌≡◌, ◌⊎◌, ℕ, ◌≤◌, [], Result, Ok, Err}
 use Rattle.s4_types.specs.History.{Base, accepted}
 use Rattle.s4_types.specs.declared.requests.Role.{Role}
 use Rattle.s4_types.specs.declared.requests.Request.{Request}
@@ -7,27 +7,45 @@ use Rattle.s4_types.specs.declared.replies.Reply.{Reply}
 use Rattle.s4_types.specs.declared.replies.Reply.TheVariants.{Data, Refused}
 use Rattle.s4_types.specs.declared.refusals.Refusal.{Refusal}
 use Rattle.s4_types.specs.declared.refusals.Refusal.TheVariants.{NoMemory}
-use Rattle.s4_model.specs.Refusals.{first_refusal}
-use Rattle.s4_model.specs.Step.{Step, judged}
+use Rattle.s4_model.specs.Sound.{IsSound}
+use Rattle.s4_model.specs.Step.{Step}
 use Rattle.segment_word.specs.AcceptViews.{Ledger, caught_up}
 use Rattle.segment_word.specs.AcceptRule.{FitsLedger}
+use Rattle.segment_table.specs.Rules.{HasFramesInOrder}
+use Rattle.version_store.specs.Store.{IsStore}
 use Rattle.time_read.specs.Plans.{PlanFields, bytes_planned}
-use Rattle.drive.specs.Fields.{SessionFields}
-use Rattle.drive.specs.Refusing.{MayLackMemory}
-use Rattle.drive.specs.Answering.{told_after}
+use Rattle.drive.specs.Fields.{DriveFields, SessionFields, history_of, state_in, store_of}
+use Rattle.drive.specs.Keeping.{DecodesWhereVisible}
+use Rattle.drive.specs.Opened.{NoneFrom}
+use Rattle.drive.specs.Refusing.{RefusesExactly, LacksMemoryInPlace}
+use Rattle.drive.specs.Answering.{Leaves, told_after, owners_after}
 
--- The reply is that of a step of the model on some history with this base, which begins with all that the session had seen.
--- Want of memory stands in place of no check of an object. Afterwards the session has seen all that was accepted then, and an
--- accepted change is its own.
+-- A drive as others may have left it under the lock: its history has this base, and what always holds of a drive holds of it. So its
+-- blocks decode to the versions of its history at each moment that can be read, and its frames are in order.
+pub record IsSharedDrive (base : Base) (drive : DriveFields) : Type 0 where
+  pub begins : (history_of drive).base ≡ base
+  pub decodes : DecodesWhereVisible (store_of drive) (state_in drive)
+  pub frames : HasFramesInOrder drive.store.table.seat.table drive.store.table
+  pub sound : IsSound (state_in drive)
+  pub store : IsStore (store_of drive)
+  pub past : (store_of drive).latest ≤ (state_in drive).clock
+  pub unborn : NoneFrom (state_in drive).next (store_of drive)
+
+-- A request is answered as a drive of this base answers it, whose history begins with all that the session had seen: by a step of the
+-- model, with a refusal exactly where there is one over that drive, and with what the request stores there. Afterwards the session
+-- has seen all that was accepted then, and an accepted change is its own.
 pub record SharedStep (base : Base) (old : SessionFields) (request : Request) (now : ℕ) (reply : Reply) (new : SessionFields) : Type 0 where
-  pub before : Ledger
-  pub after : Ledger
-  pub begins : before.history.base ≡ base
-  pub had_seen : FitsLedger before old.told
-  pub step : Step before.history old.role request now reply after.history
-  pub memory : reply ≡ Refused NoMemory → MayLackMemory (first_refusal (judged before.history request now) old.role request) request
-  pub told : new ≡ record old { told = told_after reply after old.told }
-  pub has_seen : FitsLedger after new.told
+  pub before : DriveFields
+  pub after : DriveFields
+  pub there : IsSharedDrive base before
+  pub had_seen : FitsLedger before.ledger old.told
+  pub step : Step (history_of before) old.role request now reply (history_of after)
+  pub refused : RefusesExactly before old.role request now reply after
+  pub memory : LacksMemoryInPlace before old.role request now reply
+  pub stored : Leaves (store_of before) (state_in before) request now reply (store_of after)
+  pub owners : after.ledger.owners ≡ owners_after reply old.told.seat before.ledger.owners
+  pub told : new ≡ record old { told = told_after reply after.ledger old.told }
+  pub has_seen : FitsLedger after.ledger new.told
 
 -- The session met the drive: it has seen all that was accepted in some history with this base, which begins with all that it
 -- had seen, and nothing else about it has changed.

@@ -1,13 +1,15 @@
 //! Sessions that share one drive under a lock.
 //!
-//! The layer above may rely on this: each reply is that of a step of the model, on a history of the drive that begins with all that
-//! the session had seen before, and that is what the session has seen afterwards. A read holds the lock while it is planned, and not
+//! The layer above may rely on this: each request is answered as [`drive::Drive::request`] answers it over a drive whose history begins
+//! with all that the session had seen before: by a step of the model, and with a refusal exactly where that drive has one. What was
+//! accepted in that history is what the session has seen afterwards. A read holds the lock while it is planned, and not
 //! while its bytes are fetched. [`run_with_upkeep`] has the history cleaner and the segment copier beside the sessions; the history
 //! and every version that can be read stay, whatever the two do. In which order sessions that told each other nothing come is not said here.
 #![tactic(auto)]
 
 mod clocks;
 mod gate;
+pub mod laws;
 mod locked;
 mod moving;
 mod pace;

@@ -1,0 +1,38 @@
+-- Why a window is refused to a session that shares its drive.
+use Rattle.std.proofs.Common.{◌≡◌, ◌⊎◌, ◌==◌, ℕ, Bool, true, false, if◌then◌else◌, Option, None, Some, inl, inr, refl, sym}
+use Rattle.std.proofs.lemmas.Option.{none-some, same_Some}
+use Rattle.s4_types.specs.History.{Base}
+use Rattle.s4_types.specs.declared.requests.Request.TheVariants.{SetWindow}
+use Rattle.s4_types.specs.declared.requests.Role.{Role}
+use Rattle.s4_types.specs.declared.requests.Role.TheVariants.{Client, Admin}
+use Rattle.s4_types.specs.declared.replies.Reply.TheVariants.{Refused}
+use Rattle.s4_types.specs.declared.refusals.Refusal.{Refusal}
+use Rattle.s4_types.specs.declared.refusals.Refusal.TheVariants.{NotAdmin, ClockEnd}
+use Rattle.s4_model.specs.State.{State}
+use Rattle.s4_model.specs.Refusals.{last_number}
+use Rattle.version_store.specs.Store.{StoreFields}
+use Rattle.drive.specs.Fields.{DriveFields, SessionFields, state_in, store_of}
+use Rattle.drive.specs.Refusing.{or_then, refusal_of, RefusesBy}
+use Rattle.server.specs.Sharing.{SharedStep}
+
+-- why a window may be refused, by role
+abbrev IsByRoleOrClock : Role → Refusal → Type 0
+IsByRoleOrClock role refusal = ((role ≡ Client) × (refusal ≡ NotAdmin)) ⊎ (refusal ≡ ClockEnd)
+
+by_clock : (b : Bool) (refusal : Refusal) → or_then (if b then Some ClockEnd else None) None ≡ Some refusal → refusal ≡ ClockEnd
+by_clock true refusal is = sym (same_Some ClockEnd refusal is)
+by_clock false refusal is = absurd (none-some refusal is)
+
+first_of_window : (store : StoreFields) (s : State) (role : Role) (window now : ℕ) (refusal : Refusal) → refusal_of store s role (SetWindow window) now ≡ Some refusal → IsByRoleOrClock role refusal
+first_of_window store s Client window now refusal is = inl (refl, sym (same_Some NotAdmin refusal is))
+first_of_window store s Admin window now refusal is = inr (by_clock (s.clock == last_number) refusal is)
+
+-- neither memory nor a pin is wanted for a window
+of_window : (why : Option Refusal) (later : DriveFields) (window : ℕ) (refusal : Refusal) → RefusesBy why later (SetWindow window) (Refused refusal) → why ≡ Some refusal
+of_window why later window refusal (inl memory) = absurd memory.1
+of_window why later window refusal (inr (inl is)) = is
+of_window why later window refusal (inr (inr pin)) = absurd pin.2
+
+pub window_refused : (base : Base) (old new : SessionFields) (window now : ℕ) (refusal : Refusal) → SharedStep base old (SetWindow window) now (Refused refusal) new
+    → ((old.role ≡ Client) × (refusal ≡ NotAdmin)) ⊎ (refusal ≡ ClockEnd)
+window_refused base old new window now refusal s = first_of_window (store_of s.before) (state_in s.before) old.role window now refusal (of_window _ s.after window refusal s.refused)
