@@ -1,2 +1,2 @@
 mod Ends
-mod Settled
+pub mod Settled

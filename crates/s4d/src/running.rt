@@ -3,7 +3,7 @@ ghost use Rattle.std.specs.Prelude.{◌≡◌, ◌≢◌, ℕ, ◌+◌, ◌^◌,
 ghost use Rattle.segment_table.specs.Room.{log_of};
 ghost use Rattle.version_store.specs.Store.{fields_of};
 ghost use Rattle.drive.specs.Opened.{base_of};
-ghost use Rattle.server.specs.Attending.{IsAttended, IsSettled};
+ghost use Rattle.server.specs.Attending.{IsAttendedClient, IsSettledClient};
 ghost use Rattle.verifier.specs.Saved.{SpellsSaved};
 ghost use Rattle.s4d.specs.Running.{IsSavedFrom, KeepsSaved, LeavesDrive, RunsImage};
 
@@ -100,6 +100,7 @@ pub fn run_file<'a, T: Threads + Wait + Clock + Sync, F: Files, E: Write>(
 }
 
 // Serves the sessions of a drive that was just opened, and puts its image in its place.
+#[tactic(auto, using(crate::proofs::Settled::settled_begun))]
 fn run_begun<'a, J: Naming + Send + Sync, T: Threads + Wait + Clock + Sync, F: Files, E: Write>(
     rt: &T,
     alloc: Global,
@@ -272,10 +273,7 @@ fn serve_named<
     // seat for it.
     ensures left { LeavesDrive J.base
         (λ drive. (i : ℕ) (d : _) → i < vec_len clients
-        → IsSettled J.base (record { start = manner.start; tick = manner.tick }) drive.ledger (slice_index_or clients.items i d).role
-        (slice_index_or result.0.items i d).outcome (slice_index_or result.0.items i d).session
-        (S.remaining (slice_index_or clients.items i d).reader) (W.passed (slice_index_or clients.items i d).writer)
-        (S.remaining (slice_index_or result.0.items i d).reader) (W.passed (slice_index_or result.0.items i d).writer))
+        → IsSettledClient S.remaining W.passed S.failures W.failures J.base (record { start = manner.start; tick = manner.tick }) drive.ledger (slice_index_or clients.items i d) (slice_index_or result.0.items i d))
         (λ drive. IfOk result.1 (λ bytes. SpellsSaved drive bytes.items)) }
     // What is saved is a drive of this name.
     ensures saved { IfOk result.1 (λ bytes. IsSavedFrom J.base bytes.items) }
@@ -305,10 +303,7 @@ fn serve_and_save<
     // Each session was answered by steps of the drive, whose history begins with all that it had seen and has its own changes at their
     // numbers; or the drive had no seat for it.
     ensures settled { (i : ℕ) (d : _) → i < vec_len clients
-        → IsSettled J.base (record { start = manner.start; tick = manner.tick }) result.1.ledger (slice_index_or clients.items i d).role
-        (slice_index_or result.0.items i d).outcome (slice_index_or result.0.items i d).session
-        (S.remaining (slice_index_or clients.items i d).reader) (W.passed (slice_index_or clients.items i d).writer)
-        (S.remaining (slice_index_or result.0.items i d).reader) (W.passed (slice_index_or result.0.items i d).writer) }
+        → IsSettledClient S.remaining W.passed S.failures W.failures J.base (record { start = manner.start; tick = manner.tick }) result.1.ledger (slice_index_or clients.items i d) (slice_index_or result.0.items i d) }
     // What is saved is the drive as the sessions left it.
     ensures saved { IfOk result.2 (λ bytes. SpellsSaved result.1 bytes.items) }
 {
@@ -339,9 +334,7 @@ fn serve_all<
     ensures count { vec_len result ≡ vec_len clients }
     // Each session was answered by steps of the shared drive, or the drive had no seat for it.
     ensures attended { (i : ℕ) (d : _) → i < vec_len clients
-        → IsAttended J.base (record { start = manner.start; tick = manner.tick }) (slice_index_or clients.items i d).role (slice_index_or result.items i d).outcome (slice_index_or result.items i d).session
-        (S.remaining (slice_index_or clients.items i d).reader) (W.passed (slice_index_or clients.items i d).writer)
-        (S.remaining (slice_index_or result.items i d).reader) (W.passed (slice_index_or result.items i d).writer) }
+        → IsAttendedClient S.remaining W.passed S.failures W.failures J.base (record { start = manner.start; tick = manner.tick }) (slice_index_or clients.items i d) (slice_index_or result.items i d) }
 {
     let Manner {
         start,

@@ -1,8 +1,6 @@
 //! Sessions that are served at once, each from its own reader to its own writer, over one drive.
-ghost use Rattle.std.specs.Prelude.{◌≡◌, ℕ, ◌+◌, ◌^◌, ◌<◌, ◌≤◌, All, length, slice_index_or};
-ghost use Rattle.server.specs.Attending.{IsAttended, failures_in};
-ghost use Rattle.server.specs.Drawing.{CountsTicks};
-ghost use Rattle.serving.specs.Session.{reading_failures, writing_failures};
+ghost use Rattle.std.specs.Prelude.{ℕ, ◌+◌, ◌^◌, ◌<◌, ◌≤◌, All, length, slice_index_or};
+ghost use Rattle.server.specs.Attending.{IsAttendedClient};
 
 use crate::clocks::SharedClock;
 use crate::gate::Gate;
@@ -57,12 +55,7 @@ fn attend<J: Naming, R: Wait, G: Gate, S: Source, W: Sink>(
 )
     requires reader { S.failures client.old.reader + 1 < 2 ^ 64 }
     requires writer { W.failures client.old.writer + 1 < 2 ^ 64 }
-    ensures attended { IsAttended J.base clock.entry client.old.role client.new.outcome client.new.session
-        (S.remaining client.old.reader) (W.passed client.old.writer)
-        (S.remaining client.new.reader) (W.passed client.new.writer) }
-    ensures reading { S.failures client.new.reader ≡ S.failures client.old.reader + failures_in reading_failures client.new.outcome }
-    ensures writing { W.failures client.new.writer ≡ W.failures client.old.writer + failures_in writing_failures client.new.outcome }
-    ensures role { client.new.role ≡ client.old.role }
+    ensures attended { IsAttendedClient S.remaining W.passed S.failures W.failures J.base clock.entry client.old client.new }
 {
     the_state_goes_on_record_by_record();
     let mut session = match Locked::beside(rt, alloc, drive, pace, client.role, gate, number) {
@@ -111,13 +104,7 @@ pub fn run_sessions<
     requires writers { All (λ c. W.failures c.writer + 1 < 2 ^ 64) clients.old }
     // Each session was answered by steps of the shared drive, or the drive had no seat for it.
     ensures attended { (i : ℕ) (d : _) → i < length clients.old
-        → IsAttended J.base (record { start = start; tick = tick }) (slice_index_or clients.old i d).role (slice_index_or clients.new i d).outcome (slice_index_or clients.new i d).session
-        (S.remaining (slice_index_or clients.old i d).reader) (W.passed (slice_index_or clients.old i d).writer)
-        (S.remaining (slice_index_or clients.new i d).reader) (W.passed (slice_index_or clients.new i d).writer) }
-    ensures reading { (i : ℕ) (d : _) → i < length clients.old
-        → S.failures (slice_index_or clients.new i d).reader ≡ S.failures (slice_index_or clients.old i d).reader + failures_in reading_failures (slice_index_or clients.new i d).outcome }
-    ensures writing { (i : ℕ) (d : _) → i < length clients.old
-        → W.failures (slice_index_or clients.new i d).writer ≡ W.failures (slice_index_or clients.old i d).writer + failures_in writing_failures (slice_index_or clients.new i d).outcome }
+        → IsAttendedClient S.remaining W.passed S.failures W.failures J.base (record { start = start; tick = tick }) (slice_index_or clients.old i d) (slice_index_or clients.new i d) }
 {
     run_beside(rt, alloc, drive, None, gate, start, tick, clients)
 }
@@ -144,22 +131,12 @@ pub(crate) fn run_beside<
     requires writers { All (λ c. W.failures c.writer + 1 < 2 ^ 64) clients.old }
     // Each session was answered by steps of the shared drive, or the drive had no seat for it.
     ensures attended { (i : ℕ) (d : _) → i < length clients.old
-        → IsAttended J.base (record { start = start; tick = tick }) (slice_index_or clients.old i d).role (slice_index_or clients.new i d).outcome (slice_index_or clients.new i d).session
-        (S.remaining (slice_index_or clients.old i d).reader) (W.passed (slice_index_or clients.old i d).writer)
-        (S.remaining (slice_index_or clients.new i d).reader) (W.passed (slice_index_or clients.new i d).writer) }
-    ensures reading { (i : ℕ) (d : _) → i < length clients.old
-        → S.failures (slice_index_or clients.new i d).reader ≡ S.failures (slice_index_or clients.old i d).reader + failures_in reading_failures (slice_index_or clients.new i d).outcome }
-    ensures writing { (i : ℕ) (d : _) → i < length clients.old
-        → W.failures (slice_index_or clients.new i d).writer ≡ W.failures (slice_index_or clients.old i d).writer + failures_in writing_failures (slice_index_or clients.new i d).outcome }
+        → IsAttendedClient S.remaining W.passed S.failures W.failures J.base (record { start = start; tick = tick }) (slice_index_or clients.old i d) (slice_index_or clients.new i d) }
 {
     let drawn = AtomicU64::new(0);
     let serve_one = |index: usize, client: &mut Client<J, S, W>|
         requires { (S.failures client.now.reader + 1 < 2 ^ 64) × (W.failures client.now.writer + 1 < 2 ^ 64) }
-        ensures attended { IsAttended J.base (record { start = start; tick = tick }) client.entry.now.role client.exit.now.outcome client.exit.now.session
-            (S.remaining client.entry.now.reader) (W.passed client.entry.now.writer)
-            (S.remaining client.exit.now.reader) (W.passed client.exit.now.writer) }
-        ensures reading { S.failures client.exit.now.reader ≡ S.failures client.entry.now.reader + failures_in reading_failures client.exit.now.outcome }
-        ensures writing { W.failures client.exit.now.writer ≡ W.failures client.entry.now.writer + failures_in writing_failures client.exit.now.outcome }
+        ensures attended { IsAttendedClient S.remaining W.passed S.failures W.failures J.base (record { start = start; tick = tick }) client.entry.now client.exit.now }
     {
         let clock = SharedClock::new(&drawn, start, tick);
         attend(

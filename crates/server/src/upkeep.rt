@@ -1,10 +1,9 @@
 //! Sessions with the history cleaner and the segment copier beside them. The cleaner has the lock for one object at a time.
 ghost use Rattle.std.specs.Prelude.{◌≡◌, ℕ, ◌+◌, ◌^◌, ◌<◌, ◌≤◌, All, MatchResult, slice_index_or, true, vec_len};
 ghost use Rattle.s4_types.specs.declared.refusals.Refusal.TheVariants.{Busy};
-ghost use Rattle.server.specs.Attending.{IsAttended, failures_in};
+ghost use Rattle.server.specs.Attending.{IsAttendedClient};
 ghost use Rattle.server.specs.Moving.{IsMoving};
 ghost use Rattle.server.specs.Upkeep.{IsRound, IsLastRound, ends_round};
-ghost use Rattle.serving.specs.Session.{reading_failures, writing_failures};
 
 use crate::gate::Gate;
 use crate::locked::take_turn;
@@ -154,13 +153,7 @@ pub fn run_with_upkeep<
     ensures count { vec_len result.0 ≡ vec_len clients }
     // Each session was answered by steps of the shared drive, or the drive had no seat for it.
     ensures attended { (i : ℕ) (d : _) → i < vec_len clients
-        → IsAttended J.base (record { start = start; tick = tick }) (slice_index_or clients.items i d).role (slice_index_or result.0.items i d).outcome (slice_index_or result.0.items i d).session
-        (S.remaining (slice_index_or clients.items i d).reader) (W.passed (slice_index_or clients.items i d).writer)
-        (S.remaining (slice_index_or result.0.items i d).reader) (W.passed (slice_index_or result.0.items i d).writer) }
-    ensures reading { (i : ℕ) (d : _) → i < vec_len clients
-        → S.failures (slice_index_or result.0.items i d).reader ≡ S.failures (slice_index_or clients.items i d).reader + failures_in reading_failures (slice_index_or result.0.items i d).outcome }
-    ensures writing { (i : ℕ) (d : _) → i < vec_len clients
-        → W.failures (slice_index_or result.0.items i d).writer ≡ W.failures (slice_index_or clients.items i d).writer + failures_in writing_failures (slice_index_or result.0.items i d).outcome }
+        → IsAttendedClient S.remaining W.passed S.failures W.failures J.base (record { start = start; tick = tick }) (slice_index_or clients.items i d) (slice_index_or result.0.items i d) }
 {
     let attended = AtomicBool::new(false);
     let pace = Pace::new(rt, drive);
@@ -174,13 +167,7 @@ pub fn run_with_upkeep<
         requires writers { All (λ c. W.failures c.writer + 1 < 2 ^ 64) clients.items }
         ensures count { vec_len result ≡ vec_len clients }
         ensures attended { (i : ℕ) (d : _) → i < vec_len clients
-            → IsAttended J.base (record { start = start; tick = tick }) (slice_index_or clients.items i d).role (slice_index_or result.items i d).outcome (slice_index_or result.items i d).session
-            (S.remaining (slice_index_or clients.items i d).reader) (W.passed (slice_index_or clients.items i d).writer)
-            (S.remaining (slice_index_or result.items i d).reader) (W.passed (slice_index_or result.items i d).writer) }
-        ensures reading { (i : ℕ) (d : _) → i < vec_len clients
-            → S.failures (slice_index_or result.items i d).reader ≡ S.failures (slice_index_or clients.items i d).reader + failures_in reading_failures (slice_index_or result.items i d).outcome }
-        ensures writing { (i : ℕ) (d : _) → i < vec_len clients
-            → W.failures (slice_index_or result.items i d).writer ≡ W.failures (slice_index_or clients.items i d).writer + failures_in writing_failures (slice_index_or result.items i d).outcome }
+            → IsAttendedClient S.remaining W.passed S.failures W.failures J.base (record { start = start; tick = tick }) (slice_index_or clients.items i d) (slice_index_or result.items i d) }
     {
         let mut clients = clients;
         pace.await_start(rt);

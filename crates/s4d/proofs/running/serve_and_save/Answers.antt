@@ -3,9 +3,8 @@ use Rattle.std.proofs.lemmas.List.{take_all, take-append-le}
 use Rattle.segment_word.specs.AcceptViews.{Ledger}
 use Rattle.drive.specs.Fields.{DriveFields}
 use Rattle.server.specs.Drawing.{ClockFields}
-use Rattle.server.specs.Attending.{Settles, IsSettled}
+use Rattle.server.specs.Attending.{HasSettled, IsSettledClient}
 use Rattle.server.specs.declared.running.Client.{Client}
-use Rattle.s4d.proofs.Settled.{settled_at}
 use Rattle.s4d.proofs.running.serve_and_save.Goals as goal
 
 pub returns-clause-settled : goal.returns-clause-settled
@@ -20,22 +19,13 @@ returns-clause-settled g c =
     let all : take n (after ++ drop (length after) served) ≡ after = take-append-le n after (drop (length after) served) (omega (arith, len)) ∙ take_all n after (omega (arith, len)) in
     let ledger : c.save-saved.new.drive.ledger ≡ c.into_inner-drive.result.ledger = ap (λ (d : DriveFields). d.ledger) (c.save-saved.ensures.same ∙ c.settle.ensures.same) in
     let Are : List A → Ledger → Type 0 = λ xs l. (i : ℕ) (d : A) → i < vec_len c.args.clients
-    → IsSettled g.J.Naming.base clock l (slice_index_or clients i d).role (slice_index_or xs i d).outcome (slice_index_or xs i d).session
-    (g.S.Source.remaining (slice_index_or clients i d).reader) (g.W.Sink.passed (slice_index_or clients i d).writer)
-    (g.S.Source.remaining (slice_index_or xs i d).reader) (g.W.Sink.passed (slice_index_or xs i d).writer) in
+    → IsSettledClient g.S.Source.remaining g.W.Sink.passed g.S.Source.failures g.W.Sink.failures g.J.Naming.base clock l (slice_index_or clients i d) (slice_index_or xs i d) in
     let here : Are after c.into_inner-drive.result.ledger = λ i d lt.
     let count = c.serve_all-served.ensures.count in
     let many = c.as_mut_slice.ensures.len in
-    let below : i < length c.as_mut_slice.result.now = omega (arith, lt, count, many) in
-    let rest : slice_index_or after i d ≡ record (slice_index_or served i d) { session = (slice_index_or after i d).session } =
-    subst (λ (xs : List A). slice_index_or after i d ≡ record (slice_index_or xs i d) { session = (slice_index_or after i d).session }) c.as_mut_slice.ensures.value (c.settle.ensures.rest i d below) in
-    let settled : Settles c.into_inner-drive.result.ledger (slice_index_or served i d).session (slice_index_or after i d).session =
-    subst (λ (xs : List A). Settles c.into_inner-drive.result.ledger (slice_index_or xs i d).session (slice_index_or after i d).session) c.as_mut_slice.ensures.value (c.settle.ensures.settled i d below) in
-    settled_at g.J.Naming.base clock c.into_inner-drive.result.ledger (slice_index_or clients i d).role (slice_index_or served i d).outcome (slice_index_or after i d).outcome
-    (slice_index_or served i d).session (slice_index_or after i d).session
-    (g.S.Source.remaining (slice_index_or clients i d).reader) (g.W.Sink.passed (slice_index_or clients i d).writer)
-    (g.S.Source.remaining (slice_index_or served i d).reader) (g.S.Source.remaining (slice_index_or after i d).reader)
-    (g.W.Sink.passed (slice_index_or served i d).writer) (g.W.Sink.passed (slice_index_or after i d).writer)
-    (ap (λ (x : A). x.outcome) rest) (ap (λ (x : A). g.S.Source.remaining x.reader) rest) (ap (λ (x : A). g.W.Sink.passed x.writer) rest)
-    (c.serve_all-served.ensures.attended i d lt) settled in
+    let below : i < length c.as_mut_slice.result.now = omega (arith, lt, count, many) in record {
+      served = slice_index_or served i d;
+      attended = c.serve_all-served.ensures.attended i d lt;
+      settled = subst (λ (xs : List A). HasSettled c.into_inner-drive.result.ledger (slice_index_or xs i d) (slice_index_or after i d)) c.as_mut_slice.ensures.value (c.settle.ensures.settled i d below);
+    } in
     subst (λ (xs : List A). Are xs c.save-saved.new.drive.ledger) (sym all) (subst (λ (l : Ledger). Are after l) (sym ledger) here)
