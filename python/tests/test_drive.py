@@ -254,10 +254,9 @@ class Images(unittest.TestCase):
         return kept, flooded, type(replies[-1].refusal())
 
     def restore(self, kept, flooded, flush):
-        """Hides the flood, which the cleaner frees once that session has ended, and then writes back what was there."""
+        """Hides the flood, which the cleaner then frees, and writes back what was there, in one live session."""
         with self.image.session("admin") as it:
             flush(it, kept + 1, flooded)
-        with self.image.session("admin") as it:
             it.write(1, 0, it.at(kept).read(1))
             self.assertEqual((it.read(1), it.at(kept).read(1)), (b"mill", b"mill"))
 

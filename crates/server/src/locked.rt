@@ -9,7 +9,7 @@ ghost use Rattle.server.specs.Upkeep.{SharedTurn};
 ghost use Rattle.server.specs.Moving.{SharedPlan, SharedCommit};
 
 use crate::gate::Gate;
-use crate::pace::{Pace, changed};
+use crate::pace::{Pace, changed, hides};
 use drive::{Drive, Session};
 use history_cleaner::{Rounds, Turn};
 use s4_types::{Bytes, Moment, ObjectId, Refusal, Reply, Request, Role};
@@ -75,7 +75,7 @@ fn is_pressed<J: Naming>(
     match object {
         Some(object) => {
             pace.count(rt, drive, object);
-            pace.is_pressed(drive, object)
+            pace.is_pressed(rt, drive, object)
         }
         None => false,
     }
@@ -136,6 +136,13 @@ fn resolve<J: Naming>(
     drive.resolve(session, object, offset, length, at, now)
 }
 
+/// A request was answered, which hides moments if it was accepted: the cleaner is called then.
+fn tell_hidden(rt: &impl Wait, pace: Option<&Pace>, is_hiding: bool, reply: &Reply) {
+    if let (Some(pace), true, Reply::Changed(_)) = (pace, is_hiding, reply) {
+        pace.hide(rt);
+    }
+}
+
 /// The reply to a request, all of it under the lock.
 fn ask<J: Naming>(
     rt: &impl Wait,
@@ -148,9 +155,12 @@ fn ask<J: Naming>(
     ensures step { SharedStep J.base session.old request now result session.new }
     ensures fits { ReplyFits result }
 {
+    let is_hiding = hides(&request);
     let mut drive = hold_for(rt, drive, pace, changed(&request));
     drive.rules();
-    drive.request(session, request, now)
+    let reply = drive.request(session, request, now);
+    tell_hidden(rt, pace, is_hiding, &reply);
+    reply
 }
 
 /// A meeting of a session and the drive, under the lock.

@@ -23,6 +23,8 @@ struct Progress {
     is_wanted: bool,
     begun: u64,
     ended: u64,
+    /// The first round that began after moments were hidden last.
+    frees: u64,
 }
 
 /// How upkeep gets on and what it is needed for. Its lock is held for a few steps alone, and the drive's is never asked for under it.
@@ -61,6 +63,14 @@ pub(crate) fn changed(request: &Request) -> Option<ObjectId> {
     }
 }
 
+/// Whether a request hides moments, if it is accepted: a flush, or another window.
+pub(crate) fn hides(request: &Request) -> bool {
+    matches!(
+        request,
+        Request::Flush { .. } | Request::FlushO { .. } | Request::SetWindow { .. }
+    )
+}
+
 /// Whether the chain of an object is nearly full.
 fn is_nearly_full<J: Naming>(drive: &Drive<J>, object: ObjectId) -> bool {
     match drive.row(object) {
@@ -79,6 +89,7 @@ impl Pace {
                 is_wanted: false,
                 begun: 0,
                 ended: 0,
+                frees: 0,
             }),
             news: Condvar::new(),
             blocks: drive.frame_count() as u64 * PAYLOAD_BLOCKS as u64,
@@ -118,9 +129,20 @@ impl Pace {
         drive.clock().number() >= self.ripe.load(Ordering::SeqCst)
     }
 
+    /// Whether the round that frees what was hidden last hasn't ended yet.
+    fn is_hidden_held(&self, rt: &impl Wait) -> bool {
+        let progress = self.progress.lock(rt);
+        progress.ended < progress.frees
+    }
+
     /// Whether a change of an object is to wait for the cleaner.
-    pub(crate) fn is_pressed<J: Naming>(&self, drive: &Drive<J>, object: ObjectId) -> bool {
-        self.is_short(drive, object) && self.is_ripe(drive)
+    pub(crate) fn is_pressed<J: Naming>(
+        &self,
+        rt: &impl Wait,
+        drive: &Drive<J>,
+        object: ObjectId,
+    ) -> bool {
+        self.is_short(drive, object) && (self.is_ripe(drive) || self.is_hidden_held(rt))
     }
 
     /// The drive was looked at.
@@ -171,10 +193,23 @@ impl Pace {
         self.news.notify_all();
     }
 
-    /// Waits until the cleaner has gone a whole round from now on. Not where it isn't at work.
+    /// Moments were hidden. The cleaner is called, and a change that lacks room waits for the round that it begins then.
+    pub(crate) fn hide(&self, rt: &impl Wait) {
+        let mut progress = self.progress.lock(rt);
+        progress.frees = progress.begun.saturating_add(1);
+        progress.is_wanted = true;
+        self.news.notify_all();
+    }
+
+    /// Waits until the cleaner has gone a whole round from now on, or the one that frees what was hidden last. Not where it isn't
+    /// at work.
     pub(crate) fn await_round(&self, rt: &impl Wait) {
         let mut progress = self.progress.lock(rt);
-        let awaited = progress.begun.saturating_add(1);
+        let awaited = if progress.ended < progress.frees {
+            progress.frees
+        } else {
+            progress.begun.saturating_add(1)
+        };
         progress.is_wanted = true;
         self.news.notify_all();
         let _progress = self.news.wait_while(rt, progress, |progress| {
