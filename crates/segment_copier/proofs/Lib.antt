@@ -4,3 +4,4 @@ pub mod Placed
 pub mod Staying
 pub mod Surveyed
 pub mod Chosen
+pub mod Gathered

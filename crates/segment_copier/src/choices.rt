@@ -109,23 +109,18 @@ fn best_with<J: Naming>(
     Ok(best)
 }
 
-/// The copier's choice of its next move: out of the sealed frame with the fewest held blocks, from 1 to 7, and with the lowest
-/// number on a tie, goes the least object that holds a block there. None exactly where there is room for fewer than `MOVE_BLOCKS`
-/// beside the reserve, or no such frame. The drive is as before, whatever is answered. It looks at the 15 blocks of each frame
-/// once, and of one that is better than the best so far twice, and keeps no list of objects.
+/// Whatever room there is: out of the sealed frame with the fewest held blocks, from 1 to 7, and with the lowest number on a tie,
+/// goes the least object that holds a block there. None exactly where there is no such frame. The drive is as before, whatever is
+/// answered. It looks at the 15 blocks of each frame once, and keeps no list of objects.
 ///
 /// NoMemory alone, where the memory for the pointers into one frame is refused.
-pub fn candidate<J: Naming>(drive: &mut Drive<J>) -> Result<Option<Candidate>, Refusal>
-    ensures room { IfOk result (λ found. IfSome found (λ _. HasRoom drive.old)) }
+pub(crate) fn sparsest<J: Naming>(drive: &mut Drive<J>) -> Result<Option<Candidate>, Refusal>
     ensures frame { IfOk result (λ found. IfSome found (λ c. IsFirstFrame drive.old.store.table c.frame)) }
     ensures object { IfOk result (λ found. IfSome found (λ c. IsLowestObject drive.old.store.table c.frame c.object)) }
-    ensures none { IfOk result (λ found. IfNone found ((room (store_of drive.old) < MOVE_BLOCKS) ⊎ NoneIsSparse drive.old.store.table)) }
+    ensures none { IfOk result (λ found. IfNone found (NoneIsSparse drive.old.store.table)) }
     ensures refusal { IfErr result (λ e. e ≡ NoMemory) }
     ensures same { drive.new ≡ drive.old }
 {
-    if drive.room() < MOVE_BLOCKS {
-        return Ok(None);
-    }
     let mut best = None;
     for frame in 0..drive.frame_count() {
         best = best_with(drive, best, frame)?;
@@ -139,4 +134,23 @@ pub fn candidate<J: Naming>(drive: &mut Drive<J>) -> Result<Option<Candidate>, R
         frame: survey.frame,
         object: survey.lowest,
     }))
+}
+
+/// The copier's choice of its next move: out of the sealed frame with the fewest held blocks, from 1 to 7, and with the lowest
+/// number on a tie, goes the least object that holds a block there. None exactly where there is room for fewer than 63 blocks
+/// beside the reserve, or no such frame. The drive is as before, whatever is answered.
+///
+/// NoMemory alone, where the memory for the pointers into one frame is refused.
+pub fn candidate<J: Naming>(drive: &mut Drive<J>) -> Result<Option<Candidate>, Refusal>
+    ensures room { IfOk result (λ found. IfSome found (λ _. HasRoom drive.old)) }
+    ensures frame { IfOk result (λ found. IfSome found (λ c. IsFirstFrame drive.old.store.table c.frame)) }
+    ensures object { IfOk result (λ found. IfSome found (λ c. IsLowestObject drive.old.store.table c.frame c.object)) }
+    ensures none { IfOk result (λ found. IfNone found ((room (store_of drive.old) < MOVE_BLOCKS) ⊎ NoneIsSparse drive.old.store.table)) }
+    ensures refusal { IfErr result (λ e. e ≡ NoMemory) }
+    ensures same { drive.new ≡ drive.old }
+{
+    if drive.room() < MOVE_BLOCKS {
+        return Ok(None);
+    }
+    sparsest(drive)
 }

@@ -4,13 +4,15 @@
 //! the object's data blocks there without the drive, whatever other threads do meanwhile, and [`commit`] puts the copies in place,
 //! where the object wasn't changed since. History and every version stay at every moment, whatever they answer; after Ok of a move
 //! that isn't empty the object holds no block in the frame. [`Copier`] is these three for a run of interleaved steps. Which object
-//! leaves which frame is the caller's choice, and [`candidate`] makes it.
+//! leaves which frame is the caller's choice, and [`candidate`] makes it. [`gather`] takes a whole move at once within the reserve, where
+//! there is no room for the copier's.
 #![tactic(auto)]
 
 mod candidates;
 mod choices;
 mod commits;
 mod copier;
+mod gathering;
 mod held;
 pub mod laws;
 mod plans;
@@ -19,4 +21,5 @@ pub use candidates::Candidate;
 pub use choices::{MOST_HELD, candidate};
 pub use commits::commit;
 pub use copier::Copier;
+pub use gathering::{free_frames, gather};
 pub use plans::{MovePlan, Moved, plan_move};

@@ -9,7 +9,7 @@
 
 mod clocks;
 mod gate;
-pub mod laws;
+mod gathering;
 mod locked;
 mod moving;
 mod pace;

@@ -1,6 +1,6 @@
 //! What sessions, cleaner and copier tell each other beside the drive. Nothing that is answered rests on it.
 use drive::Drive;
-use s4_types::limits::{CHAIN_ENTRY_BYTES, PAYLOAD_BLOCKS};
+use s4_types::limits::{CHAIN_ENTRY_BYTES, MOVE_BLOCKS, PAYLOAD_BLOCKS, RESERVE_BLOCKS};
 use s4_types::{ObjectId, Request};
 use segment_table::OverFrames;
 use segment_word::Naming;
@@ -14,6 +14,12 @@ const NEARLY_FULL: usize = CHAIN_ENTRY_BYTES / 4 * 3;
 
 /// How often sessions look whether the cleaner is at work before they begin, a millisecond apart.
 const START_LOOKS: usize = 100;
+
+/// Room that is none: the smallest Write takes as much.
+const LITTLE_ROOM: usize = 2;
+
+/// Blocks that a round writes for an object, by which the reserve is judged: a checkpoint and a journal block.
+const ROUND_BLOCKS: u64 = 2;
 
 /// The cleaner's rounds.
 #[derive(Clone, Copy)]
@@ -43,6 +49,9 @@ pub(crate) struct Pace {
     window: AtomicU64,
     /// Turns of the last round.
     turns: AtomicU64,
+    /// How much of the reserve is left, and the clock when there last was room for a change.
+    reserve: AtomicU64,
+    roomy: AtomicU64,
     /// Changes that were asked so far, and how many of these there are to be before a round is due.
     asked: AtomicU64,
     due: AtomicU64,
@@ -98,6 +107,8 @@ impl Pace {
             clock: AtomicU64::new(drive.clock().number()),
             window: AtomicU64::new(drive.window()),
             turns: AtomicU64::new(0),
+            reserve: AtomicU64::new(RESERVE_BLOCKS as u64),
+            roomy: AtomicU64::new(drive.clock().number()),
             asked: AtomicU64::new(0),
             due: AtomicU64::new(0),
             upkeep: AtomicU64::new(0),
@@ -124,9 +135,20 @@ impl Pace {
         (drive.room() as u64) < self.blocks / 8 || is_nearly_full(drive, object)
     }
 
-    /// Whether enough history may have aged since the last round for another one to gain something.
+    /// Whether enough history may have aged since the last round for another one to gain something. With too little room for the
+    /// copier, and too few blocks left for many such rounds, all history is to have aged: then a round writes least and frees most.
     fn is_ripe<J: Naming>(&self, drive: &Drive<J>) -> bool {
-        drive.clock().number() >= self.ripe.load(Ordering::SeqCst)
+        let clock = drive.clock().number();
+        if clock < self.ripe.load(Ordering::SeqCst) {
+            return false;
+        }
+        let room = drive.room() as u64;
+        let left = self.reserve.load(Ordering::SeqCst).saturating_add(room);
+        let written = self.turns.load(Ordering::SeqCst).saturating_mul(ROUND_BLOCKS);
+        let roomy = self.roomy.load(Ordering::SeqCst);
+        room >= MOVE_BLOCKS as u64
+            || written <= left
+            || roomy.saturating_add(drive.window()) <= clock
     }
 
     /// Whether the round that frees what was hidden last hasn't ended yet.
@@ -150,6 +172,16 @@ impl Pace {
         self.room.store(drive.room() as u64, Ordering::SeqCst);
         self.clock.store(drive.clock().number(), Ordering::SeqCst);
         self.window.store(drive.window(), Ordering::SeqCst);
+        if drive.room() >= LITTLE_ROOM {
+            self.roomy.store(drive.clock().number(), Ordering::SeqCst);
+            self.reserve.store(RESERVE_BLOCKS as u64, Ordering::SeqCst);
+        }
+    }
+
+    /// So many frames are free, and of the reserve no more is left.
+    pub(crate) fn count_free(&self, frames: u16) {
+        self.reserve
+            .store(frames as u64 * PAYLOAD_BLOCKS as u64, Ordering::SeqCst);
     }
 
     /// A change of an object is asked. The cleaner is called where room is below a quarter or the chain is nearly full, and
@@ -181,9 +213,15 @@ impl Pace {
         self.asked.load(Ordering::SeqCst)
     }
 
-    /// Whether the copier is to make room: less than a quarter of the drive is left.
+    /// Whether there is too little room for the copier's moves.
+    pub(crate) fn is_tight(&self) -> bool {
+        self.room.load(Ordering::SeqCst) < MOVE_BLOCKS as u64
+    }
+
+    /// Whether the copier is to make room: it has enough for a move, and beside that less than a quarter of the drive is left.
     pub(crate) fn is_scarce(&self) -> bool {
-        self.room.load(Ordering::SeqCst) < self.blocks / 4
+        let scarce = (self.blocks / 4).saturating_add(MOVE_BLOCKS as u64);
+        !self.is_tight() && self.room.load(Ordering::SeqCst) < scarce
     }
 
     /// The cleaner is to go round.

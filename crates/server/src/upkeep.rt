@@ -6,13 +6,14 @@ ghost use Rattle.server.specs.Moving.{IsMoving};
 ghost use Rattle.server.specs.Upkeep.{IsRound, IsLastRound, ends_round};
 
 use crate::gate::Gate;
-use crate::locked::take_turn;
+use crate::gathering::{TURNS_BETWEEN, gather_all};
+use crate::locked::{enter, take_turn};
 use crate::moving::{Moves, keep_moving};
 use crate::pace::Pace;
 use crate::running::{Client, run_beside};
-use drive::Drive;
+use drive::{Drive, Session};
 use history_cleaner::{Rounds, Turn};
-use s4_types::{Moment, Refusal};
+use s4_types::{Moment, Refusal, Role};
 use segment_word::Naming;
 use serving::{Sink, Source};
 use std::alloc::Global;
@@ -46,13 +47,15 @@ fn is_end(turn: Turn) -> bool
     matches!(turn, Turn::Ended)
 }
 
-/// One whole round. Between its turns sessions may have the lock.
+/// One whole round. Between its turns sessions may have the lock. Where the cleaner has a seat, it gathers between some turns, and
+/// after the last.
 #[tactic(auto, using(crate::proofs::Rounding::underway_first, crate::proofs::Rounding::underway_more, crate::proofs::Rounding::underway_rises, crate::proofs::Rounding::underway_ends))]
 fn go_round<J: Naming>(
     rt: &impl Wait,
     alloc: Global,
     drive: &Mutex<Drive<J>>,
     pace: &Pace,
+    seat: &mut Option<Session<J>>,
     is_behind: bool,
 ) -> Round
     ensures round { IsRound J.base result }
@@ -62,8 +65,12 @@ fn go_round<J: Naming>(
     let mut turns = 0;
     while !is_end(take_turn(rt, alloc, drive, pace, &mut rounds)) {
         turns += 1;
+        if turns % TURNS_BETWEEN == 0 {
+            gather_all(rt, alloc, drive, pace, seat);
+        }
         yield_now();
     }
+    gather_all(rt, alloc, drive, pace, seat);
     Round { is_behind, turns }
 }
 
@@ -77,10 +84,12 @@ fn keep_up<J: Naming, R: Wait + Clock>(
 ) -> Round
     ensures { IsLastRound J.base result }
 {
+    // Without a seat it cleans all the same.
+    let mut seat = enter(rt, drive, Some(pace), Role::Client).ok();
     for _ in rt.forever() {
         let is_behind = ended.load(Ordering::SeqCst);
         pace.begin_round(rt);
-        let round = go_round(rt, alloc, drive, pace, is_behind);
+        let round = go_round(rt, alloc, drive, pace, &mut seat, is_behind);
         pace.end_round(rt, round.turns, is_behind);
         if round.is_behind {
             return round;

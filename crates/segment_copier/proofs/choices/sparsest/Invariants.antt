@@ -1,7 +1,7 @@
 -- As far as the loop has come, the best of the frames that were looked at is known.
 use Rattle.std.proofs.Common.{◌≡◌}
 use Rattle.segment_copier.specs.private.Surveying.{IsBestBelow}
-use Rattle.segment_copier.proofs.choices.candidate.Given as goal
+use Rattle.segment_copier.proofs.choices.sparsest.Given as goal
 
 abbrev pub invariant-loop-frame : goal.invariant-loop-frame
 invariant-loop-frame g l =

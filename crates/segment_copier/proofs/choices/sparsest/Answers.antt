@@ -4,7 +4,7 @@ use Rattle.segment_table.specs.Laws.{ListsAllHeld}
 use Rattle.drive.specs.Fields.{DriveFields}
 use Rattle.segment_copier.specs.private.Surveying.{GoesFirst, IsBestBelow}
 use Rattle.segment_copier.proofs.Chosen.{lowest_object}
-use Rattle.segment_copier.proofs.choices.candidate.Goals as goal
+use Rattle.segment_copier.proofs.choices.sparsest.Goals as goal
 
 pub returns-clause-object : goal.returns-clause-object
 returns-clause-object g c =

@@ -1,0 +1,39 @@
+//! What the cleaner gathers within its reserve, where there is too little room for the copier.
+use crate::locked::{gather_next, release_frames};
+use crate::pace::Pace;
+use drive::{Drive, Session};
+use s4_types::limits::{MOST_FRAMES, PAYLOAD_BLOCKS};
+use segment_word::Naming;
+use std::alloc::Global;
+use std::sync::{Mutex, Wait};
+use std::thread::yield_now;
+
+/// Turns of the cleaner after which it gathers: what so many write may fill a frame.
+pub(crate) const TURNS_BETWEEN: u64 = PAYLOAD_BLOCKS as u64;
+
+/// Steps of gathering at one time, at most.
+const MOST_STEPS: usize = MOST_FRAMES;
+
+/// Gathers where there is too little room for the copier, one object after another, if the cleaner has a seat for it. Frames that hold
+/// nothing are released before each step, so that it has their blocks.
+pub(crate) fn gather_all<J: Naming>(
+    rt: &impl Wait,
+    alloc: Global,
+    drive: &Mutex<Drive<J>>,
+    pace: &Pace,
+    seat: &mut Option<Session<J>>,
+) {
+    let Some(session) = seat else {
+        return;
+    };
+    for _ in 0..MOST_STEPS {
+        if !pace.is_tight() {
+            return;
+        }
+        release_frames(rt, drive, pace);
+        if !matches!(gather_next(rt, alloc, drive, pace, session), Ok(Some(_))) {
+            return;
+        }
+        yield_now();
+    }
+}
