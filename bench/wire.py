@@ -41,8 +41,20 @@ def write(o, offset, data):
     return frame(b"\x04" + long(o) + long(offset) + data)
 
 
+def delete(o):
+    return frame(b"\x02" + long(o))
+
+
+def append(o, data):
+    return frame(b"\x05" + long(o) + data)
+
+
 def get_attr(o, at=None):
     return frame(b"\x07" + long(o) + told(at))
+
+
+def flush(first, last):
+    return frame(b"\x0a" + long(first) + long(last))
 
 
 def flush_object(o, first, last):
