@@ -15,13 +15,14 @@ use Rattle.s4d.specs.Piping.{Pipes}
 use Rattle.s4d.specs.Running.{RunsImage}
 
 -- A command other than a session of a new drive is done, by what is known of files before and after, and by what the output has then:
--- there is the image of a new drive of so many frames with this window; the line of an image is written; an image was read, and what
--- a drive that began with it is saved as is there; the bytes of an object at a moment are written.
+-- there is the image of a new drive of so many frames with this window; the line of an image is written; an image was read, a drive that
+-- began with it served each session to the end of its input, and what it is saved as is there; the bytes of an object at a moment are
+-- written.
 abbrev pub IsDoneOver : (files files' : List ℕ → Option (List ℕ)) → (output output' : Option (List ℕ)) → Command → Type 0
 IsDoneOver files files' output output' (command.Pipe pipe) = ⊥
 IsDoneOver files files' output output' (command.New new) = HasNew new.frames new.window (files' new.image.now)
 IsDoneOver files files' output output' (command.Verify verify) = TellsImage (files verify.image.now) output output'
-IsDoneOver files files' output output' (command.Run run) = RunsImage (files run.image.now) (files' run.image.now)
+IsDoneOver files files' output output' (command.Run run) = RunsImage run files files' true
 IsDoneOver files files' output output' (command.At at) = GivesObject (files at.image.now) at.object at.moment output output'
 
 -- of the system's files nothing is known

@@ -1,5 +1,5 @@
 //! What a line of words asks for, and the status of the program.
-ghost use Rattle.std.specs.Prelude.{◌≡◌, ◌+◌, ◌^◌, ◌<◌, ◌≤◌, map, vec_len};
+ghost use Rattle.std.specs.Prelude.{◌≡◌, ◌+◌, ◌^◌, ◌<◌, ◌≤◌, map, true, vec_len};
 ghost use Rattle.s4_types.specs.Sizes.{IsFrameCount};
 ghost use Rattle.s4d.specs.Performing.{IsDone, IsUsage};
 ghost use Rattle.image_commands.specs.Making.{HasNew};
@@ -151,7 +151,7 @@ fn perform_run<'a, T: Threads + Wait + Clock + Sync, F: Files, E: Write>(
 ) -> u8
     requires sessions { vec_len run.sessions ≤ 16 }
     ensures status { result ≤ 1 }
-    ensures done { result ≡ 0 → RunsImage (F.contents files.old run.entry.image.now) (F.contents files.new run.entry.image.now) }
+    ensures done { result ≡ 0 → RunsImage run.entry (F.contents files.old) (F.contents files.new) true }
 {
     match run_file(rt, alloc, files, run, errors) {
         Ok(true) => DONE,

@@ -1,11 +1,13 @@
 //! `run`: sessions of a drive that an image is read from, and its image written anew.
-ghost use Rattle.std.specs.Prelude.{◌≡◌, ◌≢◌, ℕ, ◌+◌, ◌^◌, ◌<◌, ◌≤◌, All, length, slice_index_or, vec_len, IfOk, IsTrue, ◌↔◌};
+ghost use Rattle.std.specs.Prelude.{◌≡◌, ◌≢◌, ℕ, ◌+◌, ◌^◌, ◌<◌, ◌≤◌, All, List, length, slice_index_or, vec_len, IfOk, IsFalse, IsTrue, OnOk, ◌↔◌};
+ghost use Rattle.std.specs.Io.KnownBytes.{Keeps};
+ghost use Rattle.std.specs.List.{AllZip};
 ghost use Rattle.segment_table.specs.Room.{log_of};
 ghost use Rattle.version_store.specs.Store.{fields_of};
 ghost use Rattle.drive.specs.Opened.{base_of};
 ghost use Rattle.server.specs.Attending.{IsAttendedClient, IsSettledClient};
 ghost use Rattle.verifier.specs.Saved.{SpellsSaved};
-ghost use Rattle.s4d.specs.Running.{IsSavedFrom, KeepsSaved, LeavesDrive, RunsImage};
+ghost use Rattle.s4d.specs.Running.{HasFiles, IsSavedIn, LeavesDrive, RunsImage, RunsSessions};
 
 use drive::{Drive, OpenedDrive};
 use image_commands::{Fault, Files, Place, longest_image, read_image, reading, writing};
@@ -66,7 +68,7 @@ pub fn run_file<'a, T: Threads + Wait + Clock + Sync, F: Files, E: Write>(
     errors: &mut E,
 ) -> Result<bool, Fault<'a>>
     requires sessions { vec_len asked.sessions ≤ 16 }
-    ensures image { IfOk result (λ ended. RunsImage (F.contents files.old asked.entry.image.now) (F.contents files.new asked.entry.image.now)) }
+    ensures image { IfOk result (RunsImage asked.entry (F.contents files.old) (F.contents files.new)) }
 {
     // The claim comes first, so that nobody replaces what is read; what can't be read is the first fault all the same.
     let claim = files.claim(alloc, asked.image);
@@ -114,7 +116,9 @@ fn run_begun<'a, J: Naming + Send + Sync, T: Threads + Wait + Clock + Sync, F: F
     requires base { base_of (fields_of log_of begun.opened.store) begun.opened.timeline begun.opened.next ≡ J.base }
     requires sessions { length sessions.now ≤ 16 }
     requires claimed { F.leads begun.claim begun.path.now }
-    ensures image { IfOk result (λ ended. KeepsSaved (base_of (fields_of log_of begun.entry.opened.store) begun.entry.opened.timeline begun.entry.opened.next) (F.contents files.new begun.entry.path.now)) }
+    ensures left { IfOk result (λ ended. LeavesDrive J.base
+        (RunsSessions J.base (record { start = begun.entry.manner.start; tick = begun.entry.manner.tick }) (F.contents files.old) sessions.now ended)
+        (IsSavedIn (F.contents files.new begun.entry.path.now))) }
 {
     let Begun {
         path,
@@ -160,8 +164,10 @@ fn are_apart<'a, F: Files>(
     files: &F,
     image: &str,
     sessions: &[RunSession<'a>],
-) -> Result<(), Fault<'a>> {
-    for (number, session) in (0usize..).zip(sessions) {
+) -> Result<(), Fault<'a>>
+    ensures apart { OnOk result (All (λ written. All (λ read. F.apart read.input.now written.output.now) sessions.now) sessions.now) }
+{
+    for (number, session) in sessions.iter().enumerate() {
         let output = session.output;
         let is_taken = files.are_same(image, output)
             || is_one_read(files, sessions, output)
@@ -174,7 +180,9 @@ fn are_apart<'a, F: Files>(
 }
 
 // Whether an output is one of the files that sessions read.
-fn is_one_read<F: Files>(files: &F, sessions: &[RunSession<'_>], output: &str) -> bool {
+fn is_one_read<F: Files>(files: &F, sessions: &[RunSession<'_>], output: &str) -> bool
+    ensures apart { IsFalse result → All (λ read. F.apart read.input.now output.now) sessions.now }
+{
     for session in sessions {
         if files.are_same(session.input, output) {
             return true;
@@ -204,7 +212,9 @@ fn clients_of<'a, J: Naming, F: Files>(
     files: &mut F,
     sessions: &[RunSession<'a>],
 ) -> Result<Vec<FileClient<J, F>>, Fault<'a>>
+    requires apart { All (λ written. All (λ read. F.apart read.input.now written.output.now) sessions.now) sessions.now }
     ensures count { IfOk result (λ clients. vec_len clients ≡ length sessions.now) }
+    ensures asked { IfOk result (λ clients. AllZip (λ s c. (c.role ≡ s.role) × HasFiles (F.contents files.old) s (F.Reader.remaining c.reader.reader) (F.Writer.contents c.writer.writer)) sessions.now clients.items) }
     ensures readers { IfOk result (λ clients. All (λ c. c.reader.failures + 1 < 2 ^ 64) clients.items) }
     ensures writers { IfOk result (λ clients. All (λ c. c.writer.failures + 1 < 2 ^ 64) clients.items) }
 {
@@ -228,6 +238,9 @@ fn client_of<'a, J: Naming, F: Files>(
     files: &mut F,
     session: RunSession<'a>,
 ) -> Result<FileClient<J, F>, Fault<'a>>
+    ensures role { IfOk result (λ c. c.role ≡ session.entry.role) }
+    ensures files { IfOk result (λ c. HasFiles (F.contents files.old) session.entry (F.Reader.remaining c.reader.reader) (F.Writer.contents c.writer.writer)) }
+    ensures others { (other : List ℕ) → F.apart other session.entry.output.now → Keeps (F.contents files.old other) (F.contents files.new other) }
     ensures reader { IfOk result (λ c. c.reader.failures + 1 < 2 ^ 64) }
     ensures writer { IfOk result (λ c. c.writer.failures + 1 < 2 ^ 64) }
 {
@@ -268,15 +281,13 @@ fn serve_named<
     requires readers { All (λ c. S.failures c.reader + 1 < 2 ^ 64) clients.items }
     requires writers { All (λ c. W.failures c.writer + 1 < 2 ^ 64) clients.items }
     ensures count { vec_len result.0 ≡ vec_len clients }
-    // There is one history, that of the drive which is saved. It begins with what was opened. Each session was answered by steps of
-    // it, and it begins with all that the session had seen and has the session's own changes at their numbers; or the drive had no
-    // seat for it.
+    // A drive with this base is left, and bytes that are answered are what it is saved as. Its history begins with all that a session had
+    // seen, and has the session's own changes at their numbers; or there was no seat for the session. Each request was answered as a
+    // drive with this base answers it: that this was the same drive, before, no clause says.
     ensures left { LeavesDrive J.base
         (λ drive. (i : ℕ) (d : _) → i < vec_len clients
         → IsSettledClient S.remaining W.passed S.failures W.failures J.base (record { start = manner.start; tick = manner.tick }) drive.ledger (slice_index_or clients.items i d) (slice_index_or result.0.items i d))
         (λ drive. IfOk result.1 (λ bytes. SpellsSaved drive bytes.items)) }
-    // What is saved is a drive of this name.
-    ensures saved { IfOk result.1 (λ bytes. IsSavedFrom J.base bytes.items) }
 {
     let (served, drive, saved) = serve_and_save(rt, alloc, opened.named::<J>(), manner, clients);
     drive.rules();
@@ -300,8 +311,8 @@ fn serve_and_save<
     requires readers { All (λ c. S.failures c.reader + 1 < 2 ^ 64) clients.items }
     requires writers { All (λ c. W.failures c.writer + 1 < 2 ^ 64) clients.items }
     ensures count { vec_len result.0 ≡ vec_len clients }
-    // Each session was answered by steps of the drive, whose history begins with all that it had seen and has its own changes at their
-    // numbers; or the drive had no seat for it.
+    // The history of the drive that is left begins with all that a session had seen, and has its own changes at their numbers; or there
+    // was no seat for it. Each request was answered as a drive with this base answers it.
     ensures settled { (i : ℕ) (d : _) → i < vec_len clients
         → IsSettledClient S.remaining W.passed S.failures W.failures J.base (record { start = manner.start; tick = manner.tick }) result.1.ledger (slice_index_or clients.items i d) (slice_index_or result.0.items i d) }
     // What is saved is the drive as the sessions left it.
@@ -356,16 +367,17 @@ fn tell_sessions<J: Naming, S: Source, W: Sink, E: Write>(
     served: &[Client<J, S, W>],
 ) -> bool
     requires over { (i : ℕ) (d : _) → i < length served.now → (slice_index_or served.now i d).outcome ≢ Outcome.Waiting }
+    ensures ended { IsTrue result ↔ All (λ c. c.outcome ≡ Outcome.Served ServeEnd.Ended) served.now }
 {
     let mut is_ended = true;
-    for (number, client) in (1u64..).zip(served) {
-        is_ended &= tell_session(errors, number, client.outcome);
+    for (place, client) in served.iter().enumerate() {
+        is_ended &= tell_session(errors, place.saturating_add(1), client.outcome);
     }
     is_ended
 }
 
 // Writes a line for a session that didn't come to the end of its input, and says whether it did.
-fn tell_session<E: Write>(errors: &mut E, number: u64, outcome: Outcome) -> bool
+fn tell_session<E: Write>(errors: &mut E, number: usize, outcome: Outcome) -> bool
     requires { outcome ≢ Outcome.Waiting }
     ensures { IsTrue result ↔ (outcome ≡ Outcome.Served ServeEnd.Ended) }
 {
