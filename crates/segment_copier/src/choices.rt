@@ -111,7 +111,8 @@ fn best_with<J: Naming>(
 
 /// Whatever room there is: out of the sealed frame with the fewest held blocks, from 1 to 7, and with the lowest number on a tie,
 /// goes the least object that holds a block there. None exactly where there is no such frame. The drive is as before, whatever is
-/// answered. It looks at the 15 blocks of each frame once, and keeps no list of objects.
+/// answered. It looks at the blocks of each frame once, and of one that is better than the best so far twice, and keeps no list of
+/// objects.
 ///
 /// NoMemory alone, where the memory for the pointers into one frame is refused.
 pub(crate) fn sparsest<J: Naming>(drive: &mut Drive<J>) -> Result<Option<Candidate>, Refusal>
@@ -137,7 +138,7 @@ pub(crate) fn sparsest<J: Naming>(drive: &mut Drive<J>) -> Result<Option<Candida
 }
 
 /// The copier's choice of its next move: out of the sealed frame with the fewest held blocks, from 1 to 7, and with the lowest
-/// number on a tie, goes the least object that holds a block there. None exactly where there is room for fewer than 63 blocks
+/// number on a tie, goes the least object that holds a block there. None exactly where there is room for fewer than `MOVE_BLOCKS`
 /// beside the reserve, or no such frame. The drive is as before, whatever is answered.
 ///
 /// NoMemory alone, where the memory for the pointers into one frame is refused.

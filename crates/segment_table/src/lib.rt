@@ -4,8 +4,8 @@
 //! unused payload block of the open frame, or else opens the free frame of the lowest number, and no other pair of a
 //! pointer and its block changes. A frame is sealed once its last block is filled, or by `seal_open`: its unused blocks
 //! are zeros then, and its block 0 is the summary of what the used ones are for. A pointer has the generation of its
-//! frame, so that it never leads to a block of a later life. All memory but that of `count_on`, `pin` and `held_in`,
-//! and of a list that `get_bytes` grows, is had in `new` and `from_parts`.
+//! frame, so that it never leads to a block of a later life. All memory but that of `count_on` and `held_in`
+//! is had in `new` and `from_parts`.
 //!
 //! A sealed frame of which no block is held can be marked, and then released once it has no reader: it is free again, at
 //! its next generation, and both leave every pair. Which frames are marked and when is the layer's above. Nothing is kept

@@ -50,8 +50,8 @@ impl Model for SegmentTable {
 impl SegmentTable {
     /// The table of a new drive of `FEWEST_FRAMES` to `MOST_FRAMES` frames: nothing is held.
     ///
-    /// NoMemory where memory was refused, Busy where the count of those that share it was full. Of the table's calls only
-    /// `count_on`, `pin` and `held_in` take memory later, and `get_bytes` grows the list that it is given.
+    /// NoMemory where memory was refused, Busy where the count of those that share it was full. No other call but
+    /// `count_on` and `held_in` takes memory.
     pub fn new(alloc: Global, frames: usize) -> Result<Self, Refusal>
         requires { IsFrameCount frames }
         ensures frames { IfOk result (λ t. t.seat.frames ≡ replicate frames fresh_frame) }

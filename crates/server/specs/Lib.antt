@@ -4,4 +4,5 @@ pub mod Acknowledged
 pub mod Attending
 pub mod Upkeep
 pub mod Moving
+pub mod Laws
 pub mod Gathering

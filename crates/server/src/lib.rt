@@ -10,6 +10,7 @@
 mod clocks;
 mod gate;
 mod gathering;
+pub mod laws;
 mod locked;
 mod moving;
 mod pace;

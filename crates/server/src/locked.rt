@@ -16,7 +16,9 @@ use crate::pace::{Pace, changed, hides};
 use drive::{Drive, Session};
 use history_cleaner::{Rounds, Turn};
 use s4_types::{Bytes, Moment, ObjectId, Refusal, Reply, Request, Role};
-use segment_copier::{Candidate, MovePlan, Moved, candidate, commit, free_frames, gather, plan_move};
+use segment_copier::{
+    Candidate, MovePlan, Moved, candidate, commit, free_frames, gather, plan_move,
+};
 use segment_table::OverFrames;
 use segment_word::Naming;
 use serving::Backend;

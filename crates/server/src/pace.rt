@@ -144,7 +144,10 @@ impl Pace {
         }
         let room = drive.room() as u64;
         let left = self.reserve.load(Ordering::SeqCst).saturating_add(room);
-        let written = self.turns.load(Ordering::SeqCst).saturating_mul(ROUND_BLOCKS);
+        let written = self
+            .turns
+            .load(Ordering::SeqCst)
+            .saturating_mul(ROUND_BLOCKS);
         let roomy = self.roomy.load(Ordering::SeqCst);
         room >= MOVE_BLOCKS as u64
             || written <= left
