@@ -10,7 +10,7 @@ use s4_types::{Moment, Refusal};
 use std::alloc::Global;
 use std::marker::Model;
 use undo_redo::laws::a_link_is_an_entry_redone_or_undone;
-use undo_redo::{Entries, entries_between, redo};
+use undo_redo::{EntriesBetween, redo};
 
 /// What can be seen of one object.
 pub trait Sees {
@@ -64,22 +64,21 @@ fn join(chain: &mut Cleaned, inode: &Inode, from: Moment) -> Result<(), Refusal>
 {
     let next = led(&chain.last, inode);
     if chain.last.alive || inode.alive {
-        append(
-            &mut chain.entries,
-            entries_between(&chain.last, &next, from),
-        )?;
+        let between = EntriesBetween::new(&chain.last, &next, from);
+        append(&mut chain.entries, between)?;
     }
     chain.last = next;
     Ok(())
 }
 
-fn append(entries: &mut Vec<Entry>, more: Entries) -> Result<(), Refusal>
-    ensures items { IfOk result (λ _. entries.new.items ≡ entries.old.items ++ more.items) }
+fn append(entries: &mut Vec<Entry>, more: EntriesBetween<'_>) -> Result<(), Refusal>
+    ensures items { IfOk result (λ _. entries.new.items ≡ entries.old.items ++ more.entry) }
     ensures refusal { IfErr result (λ e. e ≡ NoMemory) }
 {
-    let mut rest = more;
-    while rest.len() > 0 {
-        entries.push(rest.remove(0))?;
+    let (first, others) = more.into_parts();
+    entries.push(first)?;
+    for entry in others {
+        entries.push(entry)?;
     }
     Ok(())
 }

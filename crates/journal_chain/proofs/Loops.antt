@@ -45,28 +45,50 @@ abbrev pub AddUp : Type 0
 AddUp = (n m : ℕ) (first second third : Log) → TakesPlaces n first second → TakesPlaces m second third → TakesPlaces (n + m) first third
 
 -- the places that one entry more and the others after it take
+pub takes_next : (filled later : ℕ) (left rest : List EntryFields) (e : EntryFields) (log between after : Log)
+    → AddUp → left ≡ e ∷ rest → later ≡ filled_with filled (entry_length e) → TakesPlaces (breaks filled (entry_length e ∷ [])) log between
+    → TakesPlaces (breaks later (map entry_length rest)) between after → TakesPlaces (breaks filled (map entry_length left)) log after
+takes_next filled later left rest e log between after adds is filled_is one others =
+    let sizes = map entry_length rest in
+    let sum : breaks filled (entry_length e ∷ []) + breaks later sizes ≡ breaks filled (map entry_length left) =
+    ap (λ f. breaks filled (entry_length e ∷ []) + breaks f sizes) filled_is
+    ∙ sym (breaks_one filled (entry_length e) sizes)
+    ∙ ap (λ l. breaks filled (map entry_length l)) (sym is) in
+    subst (λ n. TakesPlaces n log after) sum (adds (breaks filled (entry_length e ∷ [])) (breaks later sizes) log between after one others)
+
 pub takes_more : (filled later : ℕ) (xs : List EntryFields) (i : ℕ) (e : EntryFields) (log between after : Log)
     → AddUp → i < length xs → e ≡ get_or xs i e → later ≡ filled_with filled (entry_length e) → TakesPlaces (breaks filled (entry_length e ∷ [])) log between
     → TakesPlaces (breaks later (map entry_length (drop (i + 1) xs))) between after → TakesPlaces (breaks filled (map entry_length (drop i xs))) log after
 takes_more filled later xs i e log between after adds lt is filled_is one others =
-    let rest = map entry_length (drop (i + 1) xs) in
-    let sum : breaks filled (entry_length e ∷ []) + breaks later rest ≡ breaks filled (map entry_length (drop i xs)) =
-    ap (λ f. breaks filled (entry_length e ∷ []) + breaks f rest) filled_is
-    ∙ sym (breaks_one filled (entry_length e) rest)
-    ∙ ap (λ l. breaks filled (map entry_length l)) (sym (next_left xs i e lt is)) in
-    subst (λ n. TakesPlaces n log after) sum (adds (breaks filled (entry_length e ∷ [])) (breaks later rest) log between after one others)
+    takes_next filled later (drop i xs) (drop (i + 1) xs) e log between after adds (next_left xs i e lt is) filled_is one others
+
+pub room_next : (filled later : ℕ) (left rest : List EntryFields) (e : EntryFields) (ahead after : List Place)
+    → left ≡ e ∷ rest → later ≡ filled_with filled (entry_length e) → after ≡ drop (breaks filled (entry_length e ∷ [])) ahead
+    → breaks filled (map entry_length left) ≤ length ahead → breaks later (map entry_length rest) ≤ length after
+room_next filled later left rest e ahead after is filled_is after_is le =
+    let sizes = map entry_length rest in
+    let whole : breaks filled (map entry_length left) ≡ breaks filled (entry_length e ∷ []) + breaks (filled_with filled (entry_length e)) sizes =
+    ap (λ l. breaks filled (map entry_length l)) is ∙ breaks_one filled (entry_length e) sizes in
+    let same : breaks later sizes ≡ breaks (filled_with filled (entry_length e)) sizes = ap (λ f. breaks f sizes) filled_is in
+    let short : length after ≡ length ahead - breaks filled (entry_length e ∷ []) = ap length after_is ∙ length-drop (breaks filled (entry_length e ∷ [])) ahead in
+    omega (arith, whole, same, short, le)
+
+-- the places ahead have room for the block that one entry begins, if it does
+pub room_one : (filled : ℕ) (left rest : List EntryFields) (e : EntryFields) (ahead : List Place)
+    → left ≡ e ∷ rest → breaks filled (map entry_length left) ≤ length ahead → breaks filled (entry_length e ∷ []) ≤ length ahead
+room_one filled left rest e ahead is le =
+    let whole : breaks filled (map entry_length left) ≡ breaks filled (entry_length e ∷ []) + breaks (filled_with filled (entry_length e)) (map entry_length rest) =
+    ap (λ l. breaks filled (map entry_length l)) is ∙ breaks_one filled (entry_length e) (map entry_length rest) in
+    omega (arith, whole, le)
 
 pub room_more : (filled later : ℕ) (xs : List EntryFields) (i : ℕ) (e : EntryFields) (ahead after : List Place)
     → i < length xs → e ≡ get_or xs i e → later ≡ filled_with filled (entry_length e) → after ≡ drop (breaks filled (entry_length e ∷ [])) ahead
     → breaks filled (map entry_length (drop i xs)) ≤ length ahead → breaks later (map entry_length (drop (i + 1) xs)) ≤ length after
-room_more filled later xs i e ahead after lt is filled_is after_is le =
-    let rest = map entry_length (drop (i + 1) xs) in
-    let whole : breaks filled (map entry_length (drop i xs)) ≡ breaks filled (entry_length e ∷ []) + breaks (filled_with filled (entry_length e)) rest =
-    ap (λ l. breaks filled (map entry_length l)) (next_left xs i e lt is) ∙ breaks_one filled (entry_length e) rest in
-    let same : breaks later rest ≡ breaks (filled_with filled (entry_length e)) rest = ap (λ f. breaks f rest) filled_is in
-    let short : length after ≡ length ahead - breaks filled (entry_length e ∷ []) = ap length after_is ∙ length-drop (breaks filled (entry_length e ∷ [])) ahead in
-    omega (arith, whole, same, short, le)
+room_more filled later xs i e ahead after lt is filled_is after_is le = room_next filled later (drop i xs) (drop (i + 1) xs) e ahead after (next_left xs i e lt is) filled_is after_is le
 
 -- no entry is left, so none takes a place
+pub takes_none : (filled : ℕ) (left : List EntryFields) (log : Log) → left ≡ [] → TakesPlaces 0 log log → TakesPlaces (breaks filled (map entry_length left)) log log
+takes_none filled left log is none = subst (λ l. TakesPlaces (breaks filled (map entry_length l)) log log) (sym is) none
+
 pub takes_end : (filled : ℕ) (xs : List EntryFields) (i : ℕ) (log : Log) → length xs ≤ i → TakesPlaces 0 log log → TakesPlaces (breaks filled (map entry_length (drop i xs))) log log
-takes_end filled xs i log le none = subst (λ l. TakesPlaces (breaks filled (map entry_length l)) log log) (sym (drop_all i xs le)) none
+takes_end filled xs i log le none = takes_none filled (drop i xs) log (drop_all i xs le) none

@@ -19,15 +19,16 @@ use crate::packing::laws::{blocks_have_the_entries, bytes_add_up, chains_are_sho
 use crate::packing::{blocks_needed, fits};
 use crate::rewriting::{drop_all, places};
 use crate::table::{reopen, write};
-use crate::writing::{bytes_of, finish, first_block, sizes_of, take_all};
+use crate::writing::{bytes_of, finish, first_block, sizes_of, take_all, take_others};
 use arrayvec::ArrayVec;
 use block_log::Blocks;
-use block_log::laws::{no_change_takes_no_place, places_taken_add_up};
+use block_log::laws::places_taken_add_up;
 use codec::{Entry, JournalBytes};
 use s4_types::limits::{CHAIN_ENTRIES, SHORTEST_ENTRY_BYTES};
 use s4_types::{ObjectId, Ptr, Refusal};
 use std::alloc::Global;
 use std::marker::Model;
+use undo_redo::{EntriesBetween, OtherEntries};
 
 /// What is kept of an object's chain of journal blocks beside the object's row.
 #[derive(Clone, Copy, PartialEq, Eq)]
@@ -158,15 +159,21 @@ impl Chain {
     }
 
     /// Appends the blocks of a push that has room.
-    fn append<B: Blocks>(&mut self, table: &mut B, first: &Entry, later: &[Entry], bytes: usize)
+    fn append<B: Blocks>(
+        &mut self,
+        table: &mut B,
+        first: &Entry,
+        later: OtherEntries<'_>,
+        bytes: usize,
+    )
         requires held { Holds (B.log table.old).held self.old (entries_held (B.log table.old).held self.old) }
-        requires fit { AllFit (first.now ∷ later.now) }
-        requires bytes { bytes ≡ entries_length (first.now ∷ later.now) }
+        requires fit { AllFit (first.now ∷ later) }
+        requires bytes { bytes ≡ entries_length (first.now ∷ later) }
         requires limit { self.old.bytes + bytes ≤ CHAIN_ENTRY_BYTES }
-        requires room { pushed_blocks self.old (first.now ∷ later.now) ≤ length (B.log table.old).ahead }
-        ensures holds { Holds (B.log table.new).held self.new (entries_held (B.log table.old).held self.old ++ first.now ∷ later.now) }
+        requires room { pushed_blocks self.old (first.now ∷ later) ≤ length (B.log table.old).ahead }
+        ensures holds { Holds (B.log table.new).held self.new (entries_held (B.log table.old).held self.old ++ first.now ∷ later.entry) }
         ensures others { OnlyJournalChanged self.old.object (B.log table.old).held (B.log table.new).held }
-        ensures takes { TakesPlaces (pushed_blocks self.old (first.now ∷ later.now)) (B.log table.old) (B.log table.new) }
+        ensures takes { TakesPlaces (pushed_blocks self.old (first.now ∷ later.entry)) (B.log table.old) (B.log table.new) }
         ensures object { self.new.object ≡ self.old.object }
     {
         blocks_have_the_entries();
@@ -175,13 +182,13 @@ impl Chain {
         places_taken_add_up();
         let stale = self.reopened(first.byte_count());
         let mut block = self.begun(table, first);
-        take_all(table, &mut block, later);
+        take_others(table, &mut block, later);
         let head = finish(table, &block, stale);
         self.set_head(head, bytes, block.entry_bytes());
     }
 
-    /// Appends entries that have so many bytes, and for which there is room.
-    pub fn push<B: Blocks>(&mut self, table: &mut B, entries: &[Entry], bytes: usize)
+    /// Appends the entries of a change, which have so many bytes, and for which there is room.
+    pub fn push<B: Blocks>(&mut self, table: &mut B, entries: &EntriesBetween<'_>, bytes: usize)
         requires held { Holds (B.log table.old).held self.old (entries_held (B.log table.old).held self.old) }
         requires bytes { bytes ≡ entries_length entries.now }
         requires room { HasRoom self.old (B.log table.old).ahead entries.now }
@@ -190,10 +197,8 @@ impl Chain {
         ensures takes { TakesPlaces (pushed_blocks self.old entries.now) (B.log table.old) (B.log table.new) }
         ensures object { self.new.object ≡ self.old.object }
     {
-        no_change_takes_no_place();
-        if let [first, later @ ..] = entries {
-            self.append(table, first, later, bytes);
-        }
+        let (first, later) = entries.split_first();
+        self.append(table, first, later, bytes);
     }
 
     /// A reader of the chain's entries, the newest first.

@@ -16,6 +16,7 @@ use block_log::Blocks;
 use block_log::laws::{a_drop_takes_no_place, no_change_takes_no_place, places_taken_add_up};
 use codec::{Entry, JournalBytes};
 use s4_types::{ObjectId, Ptr};
+use undo_redo::OtherEntries;
 
 /// The bytes of each of a few entries.
 pub(crate) fn sizes_of<const N: usize>(entries: &[Entry]) -> ArrayVec<usize, N>
@@ -88,6 +89,28 @@ pub(crate) fn take_all<B: Blocks>(table: &mut B, block: &mut JournalBytes, entri
     places_taken_add_up();
     for entry in entries {
         take(table, block, entry);
+    }
+}
+
+/// Takes the other entries of a change into the block, one after another as they are made, and appends each block that is full.
+pub(crate) fn take_others<B: Blocks>(
+    table: &mut B,
+    block: &mut JournalBytes,
+    others: OtherEntries<'_>,
+)
+    requires object { 1 ≤ block.old.object }
+    requires room { breaks (entries_length block.old.entries) (map entry_length others) ≤ length (B.log table.old).ahead }
+    ensures unfinished { (stale : List Place) (before : List EntryFields)
+        → Unfinished (B.log table.old).held block.old.object stale block.old before
+        → Unfinished (B.log table.new).held block.old.object stale block.new (before ++ others.entry) }
+    ensures others { OnlyJournalChanged block.old.object (B.log table.old).held (B.log table.new).held }
+    ensures takes { TakesPlaces (breaks (entries_length block.old.entries) (map entry_length others.entry)) (B.log table.old) (B.log table.new) }
+    ensures object { block.new.object ≡ block.old.object }
+{
+    no_change_takes_no_place();
+    places_taken_add_up();
+    for entry in others {
+        take(table, block, &entry);
     }
 }
 

@@ -11,10 +11,11 @@ ghost use Rattle.row_changes.specs.Recent.{IsBy};
 
 use crate::laws::later_entries_join_a_row;
 use block_log::Blocks;
-use codec::{Entry, Inode};
+use codec::Inode;
 use journal_chain::Chain;
 use object_map::Row;
 use s4_types::{Moment, ObjectId};
+use undo_redo::EntriesBetween;
 use undo_redo::laws::the_entries_between_two_inodes;
 
 /// Appends to an object's journal the entries that lead from its present inode to the next one, at a moment, and answers its
@@ -29,7 +30,7 @@ pub fn record_change<B: Blocks>(
     before: &Inode,
     after: &Inode,
     moment: Moment,
-    entries: &[Entry],
+    entries: &EntriesBetween<'_>,
     bytes: usize,
 ) -> Row
     requires row { IsRow (B.log table.old).held object row.now }

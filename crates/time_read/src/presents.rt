@@ -1,5 +1,5 @@
 //! An object's present inode, with an index of its journal.
-ghost use Rattle.std.specs.Prelude.{◌≡◌, ◌+◌, ◌^◌, ◌<◌, ◌++◌, List, IsSome, IfSome};
+ghost use Rattle.std.specs.Prelude.{◌≡◌, ◌+◌, ◌^◌, ◌<◌, ◌++◌, List, [], ◌∷◌, IsSome, IfSome};
 ghost use Rattle.codec.specs.Entry.{EntryFields};
 ghost use Rattle.object_map.specs.Rows.{row_of};
 ghost use Rattle.time_read.specs.Presents.{IsIndexOf, TurnsBeside};
@@ -12,6 +12,8 @@ use codec::{Entry, Inode};
 use object_map::{ObjectMap, Row};
 use s4_types::{Moment, ObjectId};
 use std::alloc::Global;
+use std::slice::from_ref;
+use undo_redo::EntriesBetween;
 use undo_redo::laws::a_run_has_one_end_and_one_beginning;
 
 /// An object's present inode, and an index of what undoes the entries of its journal. Where the index's growth was refused there
@@ -59,20 +61,31 @@ pub fn index_of(alloc: Global, entries: &[Entry]) -> Option<UndoIndex>
     }
 }
 
-/// Appends to an index, if there is one, what undoes these entries. There is none any more where memory for that is refused.
-fn lengthen(index: &mut Option<UndoIndex>, entries: &[Entry])
-    ensures { (older : List EntryFields) → IsIndexOf index.old older → IsIndexOf index.new (older ++ entries.now) }
+/// Appends to an index, if there is one, what undoes this entry. There is none any more where memory for that is refused.
+fn add_entry(index: &mut Option<UndoIndex>, entry: &Entry)
+    ensures { (older : List EntryFields) → IsIndexOf index.old older → IsIndexOf index.new (older ++ entry.now ∷ []) }
 {
     if let Some(undoings) = index {
-        if undoings.push(entries).is_err() {
+        if undoings.push(from_ref(entry)).is_err() {
             *index = None;
         }
     }
 }
 
+/// Appends to an index, if there is one, what undoes these entries. There is none any more where memory for that is refused.
+fn lengthen(index: &mut Option<UndoIndex>, entries: &EntriesBetween<'_>)
+    ensures { (older : List EntryFields) → IsIndexOf index.old older → IsIndexOf index.new (older ++ entries.now) }
+{
+    let (first, others) = entries.split_first();
+    add_entry(index, first);
+    for entry in others {
+        add_entry(index, &entry);
+    }
+}
+
 impl Present {
     /// The object has another inode, to which these entries lead.
-    fn turn(&mut self, after: &Inode, entries: &[Entry])
+    fn turn(&mut self, after: &Inode, entries: &EntriesBetween<'_>)
         ensures inode { self.new.inode ≡ after.now }
         ensures told { (older : List EntryFields) → IsIndexOf self.old.index older → IsIndexOf self.new.index (older ++ entries.now) }
     {
@@ -88,7 +101,7 @@ pub fn turn_beside(
     object: ObjectId,
     row: &Row,
     after: &Inode,
-    entries: &[Entry],
+    entries: &EntriesBetween<'_>,
 )
     requires there { IfSome (row_of objects.old.rows object) (λ old. old.stamp + 1 < 2 ^ 64) }
     requires some { IsSome (row_of objects.old.rows object) }

@@ -1,8 +1,7 @@
 -- The pointers that differ, one index after the other.
-use Rattle.std.proofs.Common.{◌≡◌, ℕ, zero, suc, ◌+◌, ◌<◌, ◌≤◌, ◌==◌, true, false, ltb, cond, inl, inr, ◌⊎◌, List, [], ◌∷◌, ◌++◌, length, map, take, drop, Option, refl, sym, ap, subst, ◌∙◌, arith}
+use Rattle.std.proofs.Common.{◌≡◌, ℕ, zero, suc, ◌+◌, ◌-◌, ◌<◌, ◌≤◌, ◌==◌, true, false, ltb, cond, inl, inr, ◌⊎◌, List, [], ◌∷◌, ◌++◌, length, map, take, drop, Option, refl, sym, ap, subst, ◌∙◌, arith}
 use Rattle.std.specs.Prelude.{not}
 use Rattle.std.specs.List.{filter, range_with_len}
-use Rattle.std.proofs.lemmas.List.FromFn.{filter_of_map_range_with_len_more}
 use Rattle.std.proofs.lemmas.Bool.{cases_Bool, cases_eq, cases_lt, and_from, lt-ltb, eqb-true, eq-eqb, ne_eqb, not_from_true, not_from_false, cond_both}
 use Rattle.s4_types.specs.Pointer.{Place}
 use Rattle.s4_types.specs.declared.limits.TheConstants.{OBJECT_BLOCKS}
@@ -12,21 +11,10 @@ use Rattle.codec.specs.Checkpoint.{pointer_at}
 use Rattle.codec.specs.Entry.{same_slot, ascend_from}
 use Rattle.undo_redo.specs.Linked.{pointer_after, pointer_before}
 use Rattle.undo_redo.specs.Between.{triple_between, tells_apart, triples_below, triples_between, AreOf}
+use Rattle.undo_redo.specs.private.Further.{triples_from}
 use Rattle.undo_redo.proofs.Pointers.{Leaves}
 use Rattle.undo_redo.proofs.Indices.{ascends, ascend_none, ascend_made, ascend_weaker, ascend_reaches}
 use Rattle.undo_redo.proofs.Slots.{same_slot_true, same_slot_same}
-
-pub below_more : (i j : Inode) (n : ℕ) → triples_below (n + 1) i j ≡ triples_below n i j ++ cond (tells_apart (triple_between i j n)) (triple_between i j n ∷ []) []
-unfolding triples_below
-below_more i j n = filter_of_map_range_with_len_more tells_apart (triple_between i j) 0 n n (omega arith)
-
-pub below_none : (i j : Inode) → triples_below 0 i j ≡ []
-unfolding triples_below
-below_none i j = refl
-
-pub below_all : (i j : Inode) (n : ℕ) → n ≡ OBJECT_BLOCKS → triples_below n i j ≡ triples_between i j
-unfolding triples_between
-below_all i j n e = ap (λ k. triples_below k i j) e
 
 -- the pointers that differ from an index on, among so many
 abbrev pub stretch : Inode → Inode → ℕ → ℕ → List Triple
@@ -34,6 +22,34 @@ stretch i j a n = filter tells_apart (map (triple_between i j) (range_with_len a
 
 stretch_tests : (i j : Inode) (a n : ℕ) → (P : List Triple → Type 0) → (tells_apart (triple_between i j a) ≡ true → P (triple_between i j a ∷ stretch i j (a + 1) n)) → (tells_apart (triple_between i j a) ≡ false → P (stretch i j (a + 1) n)) → P (stretch i j a (suc n))
 stretch_tests i j a n P h k = cond_both (tells_apart (triple_between i j a)) (triple_between i j a ∷ stretch i j (a + 1) n) (stretch i j (a + 1) n) P h k
+
+stretch_more : (i j : Inode) (a n : ℕ) → stretch i j a (suc n) ≡ cond (tells_apart (triple_between i j a)) (triple_between i j a ∷ []) [] ++ stretch i j (a + 1) n
+stretch_more i j a n =
+    let here : Triple = triple_between i j a in
+    let behind : List Triple = stretch i j (a + 1) n in
+    stretch_tests i j a n (λ (triples : List Triple). triples ≡ cond (tells_apart here) (here ∷ []) [] ++ behind)
+    (λ is. sym (ap (λ b. cond b (here ∷ []) [] ++ behind) is))
+    (λ no_triple. sym (ap (λ b. cond b (here ∷ []) [] ++ behind) no_triple))
+
+-- ---- from an index on
+
+pub from_all : (i j : Inode) → triples_from 0 i j ≡ triples_between i j
+unfolding triples_from triples_between triples_below
+from_all i j = refl
+
+pub from_more : (i j : Inode) (n : ℕ) → n < OBJECT_BLOCKS → triples_from n i j ≡ cond (tells_apart (triple_between i j n)) (triple_between i j n ∷ []) [] ++ triples_from (n + 1) i j
+unfolding triples_from
+from_more i j n lt =
+    let one : OBJECT_BLOCKS - n ≡ suc (OBJECT_BLOCKS - (n + 1)) = omega (arith, lt) in
+    ap (λ (k : ℕ). stretch i j n k) one ∙ stretch_more i j n (OBJECT_BLOCKS - (n + 1))
+
+pub from_end : (i j : Inode) (n : ℕ) → OBJECT_BLOCKS ≤ n → triples_from n i j ≡ []
+unfolding triples_from
+from_end i j n le =
+    let none : OBJECT_BLOCKS - n ≡ 0 = omega (arith, le) in
+    ap (λ (k : ℕ). stretch i j n k) none
+
+-- ---- in order
 
 stretch_ascends : (i j : Inode) (a n : ℕ) → a + n ≤ OBJECT_BLOCKS → ascend_from a (stretch i j a n) ≡ true
 stretch_ascends i j a zero le = ascend_none a

@@ -6,5 +6,5 @@ pub mod LinkLaws
 pub mod RunLaws
 pub mod GroupLaws
 pub mod BetweenLaws
-pub mod Few
+pub mod Making
 pub mod ComposeLaws

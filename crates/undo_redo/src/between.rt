@@ -1,69 +1,143 @@
-ghost use Rattle.std.specs.Prelude.{◌≡◌, ◌≤◌, ◌<◌, ◌+◌, ◌*◌, ◌++◌, [], ◌∷◌, true, IfSome, IfNone, length, take};
+ghost use Rattle.std.specs.Iterator.{YieldsFirst, item_count};
+ghost use Rattle.std.specs.Prelude.{◌≡◌, ◌≤◌, ◌∷◌, true, take};
 ghost use Rattle.std.specs.List.{AllByRecursion};
 ghost use Rattle.s4_types.specs.declared.limits.TheConstants.{ENTRY_TRIPLES, OBJECT_BLOCKS};
 ghost use Rattle.codec.specs.Fields.{Reads};
 ghost use Rattle.codec.specs.Entry.{entry_rules, checked_entry};
-ghost use Rattle.undo_redo.specs.Runs.{Run, AllAt};
-ghost use Rattle.undo_redo.specs.Groups.{grouped};
-ghost use Rattle.undo_redo.specs.Between.{CanLead, triples_between, leading_entry, further_entry, later_entries, entries_between};
-ghost use Rattle.undo_redo.specs.private.Checking.{checked_between};
+ghost use Rattle.undo_redo.specs.Between.{CanLead, triples_between, leading_entry, further_entry, entries_between};
+ghost use Rattle.undo_redo.specs.private.Further.{entries_from};
 
-use crate::pieces::{
-    differing, few_differing, first_piece, held, other_pieces, pair_between, status_of,
-};
-use arrayvec::ArrayVec;
-use codec::{Entry, Inode, Triple, Triples};
+use crate::pieces::{pair_between, piece_from, status_of};
+use codec::{Entry, Inode, Triples};
 use s4_types::Moment;
-use s4_types::limits::CHANGE_ENTRIES;
+use std::marker::Model;
 
-/// The entries of one change: one, and one more for each piece of pointers for which the first has no room.
-pub type Entries = ArrayVec<Entry, CHANGE_ENTRIES>;
-
-/// The entries of a moment that lead from an inode to another.
+/// The entries of a moment that lead from an inode to another, the first of which is made. Contracts see the list of them.
 ///
-/// The first tells all but pointers beyond the first `ENTRY_TRIPLES` that differ; those stand in further ones, as many in each.
-pub fn entries_between(before: &Inode, after: &Inode, moment: Moment) -> Entries
-    requires { CanLead before.now after.now moment }
-    ensures exact { result.items ≡ entries_between before.now after.now moment }
-    ensures run { Run before.now result.items after.now }
-    ensures group { grouped result.items ≡ true }
-    ensures moments { AllAt moment result.items }
-{
-    told_between(before, after, moment).unwrap()
+/// The first tells all but the pointers that it has no room for; those stand in further ones, as many in each as it holds.
+#[derive(Drop)]
+pub struct EntriesBetween<'a> {
+    first: Entry,
+    others: OtherEntries<'a>,
 }
 
-/// The one entry of a moment that leads from an inode to another. None where it has no room for all pointers that differ.
-pub fn only_entry_between(before: &Inode, after: &Inode, moment: Moment) -> Option<Entry>
-    requires { CanLead before.now after.now moment }
-    ensures one { IfSome result (λ entry. entries_between before.now after.now moment ≡ entry ∷ []) }
-    ensures more { IfNone result (ENTRY_TRIPLES < length (triples_between before.now after.now)) }
-{
-    let triples = few_differing(before, after)?;
-    leading_entry(before, after, moment, triples)
+impl<'a> Model for EntriesBetween<'a> {
+    ghost use Rattle.std.specs.Prelude.{◌∷◌, List};
+    ghost use Rattle.codec.specs.Entry.{EntryFields};
+
+    ghost Value = { List EntryFields };
+
+    ghost view = { λ e. e.first ∷ e.others };
 }
 
-/// The entries that lead from an inode to another. None where the first of them would break a rule of entries.
-pub(crate) fn told_between(before: &Inode, after: &Inode, moment: Moment) -> Option<Entries>
-    ensures { Reads (λ entries. entries.items) result (checked_between before.now after.now moment) }
-{
-    let triples = differing(before, after);
-    let first = first_piece(triples.as_slice());
-    let Some(leading) = leading_entry(before, after, moment, held(first)) else {
-        return None;
-    };
-    let mut entries = Entries::new();
-    entries.push(leading);
-    push_later(
-        &mut entries,
-        after,
-        moment,
-        other_pieces(triples.as_slice()),
-    );
-    Some(entries)
+impl<'a> EntriesBetween<'a> {
+    /// The entries of a moment that lead from an inode to another.
+    pub fn new(before: &'a Inode, after: &'a Inode, moment: Moment) -> Self
+        requires { CanLead before.now after.now moment }
+        ensures { result ≡ entries_between before.entry.now after.entry.now moment }
+    {
+        let (triples, end) = piece_from(before, after, 0);
+        let first = leading_entry(before, after, moment, triples).unwrap();
+        EntriesBetween {
+            first,
+            others: OtherEntries::new(before, after, moment, end),
+        }
+    }
+
+    /// The first entry, and the others, to be made one at a time.
+    pub fn split_first(&self) -> (&Entry, OtherEntries<'a>)
+        ensures { self.now ≡ result.0.now ∷ result.1 }
+    {
+        (&self.first, self.others.anew())
+    }
+
+    /// As [`EntriesBetween::split_first`].
+    pub fn into_parts(self) -> (Entry, OtherEntries<'a>)
+        ensures { self.entry ≡ result.0 ∷ result.1 }
+    {
+        let EntriesBetween { first, others } = self;
+        (first, others)
+    }
 }
 
+/// The entries of a moment that lead from an inode to another, behind the first: each is made when it is asked for. Contracts see the
+/// list of those that were not given.
+#[derive(Drop)]
+pub struct OtherEntries<'a> {
+    before: &'a Inode,
+    after: &'a Inode,
+    moment: Moment,
+    // The pointers from this index on were not told.
+    from: usize,
+}
+
+impl<'a> Model for OtherEntries<'a> {
+    ghost use Rattle.std.specs.Prelude.{◌≡◌, ◌≤◌, true, List};
+    ghost use Rattle.std.specs.List.{AllByRecursion};
+    ghost use Rattle.s4_types.specs.declared.limits.TheConstants.{OBJECT_BLOCKS};
+    ghost use Rattle.codec.specs.Entry.{EntryFields, entry_rules};
+    ghost use Rattle.undo_redo.specs.private.Further.{entries_from};
+
+    ghost Value = { List EntryFields };
+
+    ghost view = { λ e. entries_from e.before.now e.after.now e.moment e.from };
+
+    ghost invariant = { λ e. (e.from ≤ OBJECT_BLOCKS) × AllByRecursion (λ x. entry_rules x ≡ true) (entries_from e.before.now e.after.now e.moment e.from) };
+}
+
+impl<'a> OtherEntries<'a> {
+    /// The entries that tell the pointers from an index on.
+    pub(crate) fn new(before: &'a Inode, after: &'a Inode, moment: Moment, from: usize) -> Self
+        requires end { from ≤ OBJECT_BLOCKS }
+        requires rules { AllByRecursion (λ e. entry_rules e ≡ true) (entries_from before.now after.now moment from) }
+        ensures { result ≡ entries_from before.entry.now after.entry.now moment from }
+    {
+        OtherEntries {
+            before,
+            after,
+            moment,
+            from,
+        }
+    }
+
+    /// The same entries, to be made anew.
+    fn anew(&self) -> OtherEntries<'a>
+        ensures { result ≡ self.now }
+    {
+        OtherEntries {
+            before: self.before,
+            after: self.after,
+            moment: self.moment,
+            from: self.from,
+        }
+    }
+}
+
+impl<'a> Iterator for OtherEntries<'a> {
+    type Item = Entry;
+
+    ghost next_gives = { YieldsFirst (λ e. e) };
+
+    ghost remaining = { item_count (λ e. e) };
+
+    fn next(&mut self) -> Option<Entry> {
+        let (triples, end) = piece_from(self.before, self.after, self.from);
+        self.from = end;
+        if triples.len() == 0 {
+            return None;
+        }
+        Some(further_entry(self.after, self.moment, triples))
+    }
+}
+
+/// The first entry, with the first pointers that differ. None where it would break a rule of entries.
 #[tactic(auto, unfolding(crate::specs::Between::leading_entry))]
-fn leading_entry(before: &Inode, after: &Inode, moment: Moment, triples: Triples) -> Option<Entry>
+pub(crate) fn leading_entry(
+    before: &Inode,
+    after: &Inode,
+    moment: Moment,
+    triples: Triples,
+) -> Option<Entry>
     requires { triples.items ≡ take ENTRY_TRIPLES (triples_between before.now after.now) }
     ensures { Reads (λ entry. entry) result (checked_entry (leading_entry before.now after.now moment)) }
 {
@@ -71,30 +145,11 @@ fn leading_entry(before: &Inode, after: &Inode, moment: Moment, triples: Triples
     Entry::new(moment, status_of(before), status_of(after), pair, triples)
 }
 
-/// Appends the entries of further pointers, one for each piece of them.
-fn push_later(entries: &mut Entries, inode: &Inode, moment: Moment, triples: &[Triple])
-    requires room { ENTRY_TRIPLES * length entries.old.items + length triples.now ≤ OBJECT_BLOCKS }
-    requires rules { AllByRecursion (λ e. entry_rules e ≡ true) (later_entries inode.now moment triples.now) }
-    ensures { entries.new.items ≡ entries.old.items ++ later_entries inode.now moment triples.now }
+/// An entry of further pointers.
+fn further_entry(inode: &Inode, moment: Moment, triples: Triples) -> Entry
+    requires { entry_rules (further_entry inode.now moment triples.items) ≡ true }
+    ensures { result ≡ further_entry inode.now moment triples.items }
 {
-    let mut rest = triples;
-    while rest.len() > 0 {
-        entries.push(further_entry(inode, moment, first_piece(rest)));
-        rest = other_pieces(rest);
-    }
-}
-
-fn further_entry(inode: &Inode, moment: Moment, triples: &[Triple]) -> Entry
-    requires few { length triples.now ≤ ENTRY_TRIPLES }
-    requires rules { entry_rules (further_entry inode.now moment triples.now) ≡ true }
-    ensures { result ≡ further_entry inode.now moment triples.now }
-{
-    let made = Entry::new(
-        moment,
-        status_of(inode),
-        status_of(inode),
-        None,
-        held(triples),
-    );
+    let made = Entry::new(moment, status_of(inode), status_of(inode), None, triples);
     made.unwrap()
 }

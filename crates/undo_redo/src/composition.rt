@@ -6,10 +6,16 @@ ghost use Rattle.undo_redo.specs.Groups.{grouped};
 ghost use Rattle.undo_redo.specs.Between.{CanLead, entries_between};
 ghost use Rattle.undo_redo.specs.private.Checking.{checked_between};
 
-use crate::between::{Entries, told_between};
+use crate::between::{OtherEntries, leading_entry};
 use crate::links::{blank, redo_all, undo_all};
-use codec::Entry;
+use crate::pieces::piece_from;
+use arrayvec::ArrayVec;
+use codec::{Entry, Inode};
 use s4_types::Moment;
+use s4_types::limits::CHANGE_ENTRIES;
+
+/// The entries of one change: one, and one more for each piece of pointers for which the first has no room.
+pub type Entries = ArrayVec<Entry, CHANGE_ENTRIES>;
 
 /// The entries, of the last one's moment, that lead where a run of entries leads: from the first one's values
 /// before to the last one's values after.
@@ -39,4 +45,20 @@ fn composed(entries: &[Entry], moment: Moment) -> Option<Entries>
     let mut after = before;
     redo_all(entries, &mut after);
     told_between(&before, &after, moment)
+}
+
+/// The entries that lead from an inode to another. None where the first of them would break a rule of entries.
+fn told_between(before: &Inode, after: &Inode, moment: Moment) -> Option<Entries>
+    ensures { Reads (λ entries. entries.items) result (checked_between before.now after.now moment) }
+{
+    let (triples, end) = piece_from(before, after, 0);
+    let Some(leading) = leading_entry(before, after, moment, triples) else {
+        return None;
+    };
+    let mut entries = Entries::new();
+    entries.push(leading);
+    for entry in OtherEntries::new(before, after, moment, end) {
+        entries.push(entry);
+    }
+    Some(entries)
 }

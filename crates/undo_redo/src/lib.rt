@@ -1,8 +1,8 @@
 //! What ties the inodes of an object's history: an entry links an inode to the next one.
 //!
 //! The layers above may rely on this: `undo` and `redo` are the two directions of one link, told of the whole
-//! inode. `entries_between` gives the one list of entries that leads from an inode to another, and `compose` the
-//! one list that leads where a run of entries leads. `laws` says how runs are joined and cut, and which inode is
+//! inode. `EntriesBetween` gives the one list of entries that leads from an inode to another, one at a time, and
+//! `compose` the one list that leads where a run of entries leads. `laws` says how runs are joined and cut, and which inode is
 //! current at a moment. Nothing here reaches a block, and no call takes memory.
 #![tactic(auto)]
 
@@ -13,7 +13,7 @@ mod links;
 mod pieces;
 mod sizes;
 
-pub use between::{Entries, entries_between, only_entry_between};
-pub use composition::compose;
+pub use between::{EntriesBetween, OtherEntries};
+pub use composition::{Entries, compose};
 pub use links::{blank, redo, redo_all, undo, undo_all};
 pub use sizes::{Sizes, entry_sizes};

@@ -1,16 +1,13 @@
-ghost use Rattle.std.specs.Prelude.{◌≡◌, ◌<◌, ◌≤◌, ◌+◌, ◌++◌, [], ◌∷◌, if◌then◌else◌, true, not, IsTrue, IfSome, IfNone, length, take, drop};
+ghost use Rattle.std.specs.Prelude.{◌≡◌, ◌<◌, ◌≤◌, ◌+◌, ◌++◌, [], ◌∷◌, if◌then◌else◌, length, take, drop};
 ghost use Rattle.s4_types.specs.declared.limits.TheConstants.{ENTRY_TRIPLES, OBJECT_BLOCKS};
 ghost use Rattle.codec.specs.Entry.{same_slot};
 ghost use Rattle.undo_redo.specs.Linked.{status_of};
-ghost use Rattle.undo_redo.specs.Between.{pair_between, triple_between, tells_apart, triples_between};
+ghost use Rattle.undo_redo.specs.Between.{pair_between, triple_between, tells_apart};
+ghost use Rattle.undo_redo.specs.private.Further.{triples_from};
 
-use arrayvec::ArrayVec;
 use codec::{Attribute, Inode, Pair, PointerIndex, Status, Triple, Triples};
 use s4_types::Ptr;
 use s4_types::limits::{ENTRY_TRIPLES, OBJECT_BLOCKS};
-
-/// The pointers that differ between two inodes.
-pub(crate) type Differing = ArrayVec<Triple, OBJECT_BLOCKS>;
 
 pub(crate) fn status_of(inode: &Inode) -> Status
     ensures { result ≡ status_of inode.now }
@@ -53,8 +50,8 @@ fn triple_at(before: &Inode, after: &Inode, index: usize) -> Triple
 }
 
 /// Appends the triple where its two pointers differ.
-fn push_apart(triples: &mut Differing, triple: Triple)
-    requires { length triples.old.items < OBJECT_BLOCKS }
+fn push_apart(triples: &mut Triples, triple: Triple)
+    requires { length triples.old.items < ENTRY_TRIPLES }
     ensures items { triples.new.items ≡ triples.old.items ++ (if tells_apart triple then triple ∷ [] else []) }
     ensures len { length triples.new.items ≤ length triples.old.items + 1 }
 {
@@ -63,74 +60,20 @@ fn push_apart(triples: &mut Differing, triple: Triple)
     }
 }
 
-/// The pointers that differ, by ascending index.
-#[tactic(auto, using(crate::proofs::Differing::below_none, crate::proofs::Differing::below_more, crate::proofs::Differing::below_all))]
-pub(crate) fn differing(before: &Inode, after: &Inode) -> Differing
-    ensures { result.items ≡ triples_between before.now after.now }
-{
-    let mut triples: Differing = ArrayVec::new();
-    for index in 0..OBJECT_BLOCKS {
-        push_apart(&mut triples, triple_at(before, after, index));
-    }
-    triples
-}
-
-/// Appends the triple where its two pointers differ. Answers whether there was room for it.
-fn push_if_room(triples: &mut Triples, triple: Triple) -> bool
-    ensures pushed { IsTrue result → triples.new.items ≡ triples.old.items ++ (if tells_apart triple then triple ∷ [] else []) }
-    ensures room { length triples.old.items ≤ ENTRY_TRIPLES → length triples.new.items ≤ ENTRY_TRIPLES }
-    ensures full { IsTrue (not result) → ENTRY_TRIPLES ≤ length triples.old.items }
-    ensures apart { IsTrue (not result) → tells_apart triple ≡ true }
-{
-    if is_same_slot(triple.before, triple.after) {
-        return true;
-    }
-    if triples.len() >= ENTRY_TRIPLES {
-        return false;
-    }
-    triples.push(triple);
-    true
-}
-
-/// The pointers that differ, by ascending index, where one entry has room for them. None where more differ.
-#[tactic(auto, using(crate::proofs::Differing::below_none, crate::proofs::Differing::below_more, crate::proofs::Differing::below_all))]
-pub(crate) fn few_differing(before: &Inode, after: &Inode) -> Option<Triples>
-    ensures all { IfSome result (λ triples. triples.items ≡ triples_between before.now after.now) }
-    ensures few { IfSome result (λ _. length (triples_between before.now after.now) ≤ ENTRY_TRIPLES) }
-    ensures more { IfNone result (ENTRY_TRIPLES < length (triples_between before.now after.now)) }
+/// The pointers that differ from an index on, by ascending index, as many as one entry has room for; and the index from which on the
+/// others differ.
+pub(crate) fn piece_from(before: &Inode, after: &Inode, from: usize) -> (Triples, usize)
+    requires { from ≤ OBJECT_BLOCKS }
+    ensures piece { result.0.items ≡ take ENTRY_TRIPLES (triples_from from before.now after.now) }
+    ensures others { triples_from result.1 before.now after.now ≡ drop ENTRY_TRIPLES (triples_from from before.now after.now) }
+    ensures end { result.1 ≤ OBJECT_BLOCKS }
 {
     let mut triples = Triples::new();
-    for index in 0..OBJECT_BLOCKS {
-        if !push_if_room(&mut triples, triple_at(before, after, index)) {
-            return None;
+    for index in from..OBJECT_BLOCKS {
+        if triples.len() >= ENTRY_TRIPLES {
+            return (triples, index);
         }
+        push_apart(&mut triples, triple_at(before, after, index));
     }
-    Some(triples)
-}
-
-/// The first `ENTRY_TRIPLES`, or all where there are fewer.
-pub(crate) fn first_piece(triples: &[Triple]) -> &[Triple]
-    ensures piece { result.now ≡ take ENTRY_TRIPLES triples.now }
-    ensures short { length result.now ≤ ENTRY_TRIPLES }
-{
-    &triples[..triples.len().min(ENTRY_TRIPLES)]
-}
-
-/// What stands behind the first `ENTRY_TRIPLES`.
-pub(crate) fn other_pieces(triples: &[Triple]) -> &[Triple]
-    ensures { result.now ≡ drop ENTRY_TRIPLES triples.now }
-{
-    &triples[triples.len().min(ENTRY_TRIPLES)..]
-}
-
-/// The triples of one entry.
-pub(crate) fn held(triples: &[Triple]) -> Triples
-    requires { length triples.now ≤ ENTRY_TRIPLES }
-    ensures { result.items ≡ triples.now }
-{
-    let mut held = Triples::new();
-    for triple in triples {
-        held.push(*triple);
-    }
-    held
+    (triples, OBJECT_BLOCKS)
 }

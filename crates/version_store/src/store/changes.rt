@@ -19,16 +19,15 @@ use crate::costs::{bytes_of_entries, object_of};
 use crate::laws::{changes_begin_with_the_present, what_changes_rest_on};
 use crate::store::Store;
 use block_log::Blocks;
-use codec::{Attribute, Entry, Inode};
+use codec::{Attribute, Inode};
 use inode::{created, deleted, truncate, with_attribute, write};
 use object_map::Row;
 use row_changes::laws::a_fresh_row_stands;
 use row_changes::record_change;
 use s4_types::{Change, Moment, ObjectId, Refusal};
-use std::slice::from_ref;
 use time_read::{Present, UndoIndex, turn_beside};
 use undo_redo::laws::a_blank_inode_has_holes_alone;
-use undo_redo::{blank, entries_between, only_entry_between};
+use undo_redo::{EntriesBetween, blank};
 
 /// An attribute of at most `ATTRIBUTE_BYTES`.
 fn attribute_of(bytes: &[u8]) -> Attribute
@@ -110,23 +109,16 @@ impl<B: Blocks> Store<B> {
         })
     }
 
-    /// From a moment on an object has another inode: these entries, which lead there, are appended to its journal, and its row
-    /// is changed.
-    fn put_turn(
-        &mut self,
-        object: ObjectId,
-        plan: &PlannedChange,
-        after: &Inode,
-        moment: Moment,
-        entries: &[Entry],
-    )
+    /// From a moment on an object has another inode: the entries that lead there are appended to its journal, and its row is
+    /// changed.
+    fn turn(&mut self, object: ObjectId, plan: &PlannedChange, after: &Inode, moment: Moment)
         requires can { CanTurn (fields_of B.log self.old) object plan.now.inode after.now moment }
         requires row { row_of self.old.rows object ≡ Some plan.now.row }
-        requires told { entries.now ≡ entries_between plan.now.inode after.now moment }
-        requires bytes { plan.now.bytes ≡ entries_length entries.now }
+        requires bytes { plan.now.bytes ≡ entries_length (entries_between plan.now.inode after.now moment) }
         ensures { Turns (fields_of B.log self.old) object moment after.now (blocks_turned (fields_of B.log self.old) object plan.now.inode after.now moment) (fields_of B.log self.new) }
     {
         what_changes_rest_on();
+        let entries = EntriesBetween::new(&plan.inode, after, moment);
         let next = record_change(
             &mut self.table,
             object,
@@ -134,26 +126,11 @@ impl<B: Blocks> Store<B> {
             &plan.inode,
             after,
             moment,
-            entries,
+            &entries,
             plan.bytes,
         );
-        turn_beside(&mut self.objects, object, &next, after, entries);
+        turn_beside(&mut self.objects, object, &next, after, &entries);
         self.latest = moment;
-    }
-
-    /// [`Store::put_turn`] with the entries that lead there.
-    fn turn(&mut self, object: ObjectId, plan: &PlannedChange, after: &Inode, moment: Moment)
-        requires can { CanTurn (fields_of B.log self.old) object plan.now.inode after.now moment }
-        requires row { row_of self.old.rows object ≡ Some plan.now.row }
-        requires bytes { plan.now.bytes ≡ entries_length (entries_between plan.now.inode after.now moment) }
-        ensures { Turns (fields_of B.log self.old) object moment after.now (blocks_turned (fields_of B.log self.old) object plan.now.inode after.now moment) (fields_of B.log self.new) }
-    {
-        if let Some(entry) = only_entry_between(&plan.inode, after, moment) {
-            self.put_turn(object, plan, after, moment, from_ref(&entry));
-        } else {
-            let entries = entries_between(&plan.inode, after, moment);
-            self.put_turn(object, plan, after, moment, entries.as_slice());
-        }
     }
 
     /// Takes a deletion.

@@ -14,17 +14,17 @@ returns-clause-holds g c =
     let chain = c.args.self.now in
     let log = g.B.Blocks.log c.args.table.now in
     let log1 = g.B.Blocks.log c.begun-block.new.table in
-    let log2 = g.B.Blocks.log c.take_all.new.table in
+    let log2 = g.B.Blocks.log c.take_others.new.table in
     let log3 = g.B.Blocks.log c.finish-head.new.table in
     let old = entries_held log.held chain in
     let first = c.args.first.now in
-    let later = c.args.later.now in
-    let p : Pushed log.held log3.held log2.held chain.object (option_to_list c.reopened-stale.result) c.take_all.new.block c.finish-head.result (old ++ first ∷ later) =
-    pushed log log1 log2 log3 chain old first later c.begun-block.result c.take_all.new.block c.finish-head.result c.reopened-stale.result
+    let later = c.args.later in
+    let p : Pushed log.held log3.held log2.held chain.object (option_to_list c.reopened-stale.result) c.take_others.new.block c.finish-head.result (old ++ first ∷ later) =
+    pushed log log1 log2 log3 chain old first later c.begun-block.result c.take_others.new.block c.finish-head.result c.reopened-stale.result
     c.begun-block.ensures.same c.begun-block.ensures.unfinished c.begun-block.ensures.object
     (c.reopened-stale.ensures.value ∙ ap (reopened chain) c.byte_count.ensures.exact)
-    c.take_all.ensures.unfinished c.take_all.ensures.others c.take_all.ensures.object c.finish-head.ensures.finished c.finish-head.ensures.others in
-    pushed_holds log.held log2.held log3.held chain c.set_head.new.self old (first ∷ later) (option_to_list c.reopened-stale.result) c.take_all.new.block c.finish-head.result
+    c.take_others.ensures.unfinished c.take_others.ensures.others c.take_others.ensures.object c.finish-head.ensures.finished c.finish-head.ensures.others in
+    pushed_holds log.held log2.held log3.held chain c.set_head.new.self old (first ∷ later) (option_to_list c.reopened-stale.result) c.take_others.new.block c.finish-head.result
     c.args.bytes c.entry_bytes.result c.requires.held p c.requires.fit c.requires.bytes c.requires.limit c.entry_bytes.ensures.exact c.set_head.ensures
     c.blocks_have_the_entries.ensures.packed c.bytes_add_up.ensures.joined c.chains_are_short.ensures.packed
 
@@ -33,25 +33,25 @@ returns-clause-others g c =
     let chain = c.args.self.now in
     let log = g.B.Blocks.log c.args.table.now in
     let log1 = g.B.Blocks.log c.begun-block.new.table in
-    let log2 = g.B.Blocks.log c.take_all.new.table in
+    let log2 = g.B.Blocks.log c.take_others.new.table in
     let log3 = g.B.Blocks.log c.finish-head.new.table in
     let old = entries_held log.held chain in
     let first = c.args.first.now in
-    let later = c.args.later.now in
-    let p : Pushed log.held log3.held log2.held chain.object (option_to_list c.reopened-stale.result) c.take_all.new.block c.finish-head.result (old ++ first ∷ later) =
-    pushed log log1 log2 log3 chain old first later c.begun-block.result c.take_all.new.block c.finish-head.result c.reopened-stale.result
+    let later = c.args.later in
+    let p : Pushed log.held log3.held log2.held chain.object (option_to_list c.reopened-stale.result) c.take_others.new.block c.finish-head.result (old ++ first ∷ later) =
+    pushed log log1 log2 log3 chain old first later c.begun-block.result c.take_others.new.block c.finish-head.result c.reopened-stale.result
     c.begun-block.ensures.same c.begun-block.ensures.unfinished c.begun-block.ensures.object
     (c.reopened-stale.ensures.value ∙ ap (reopened chain) c.byte_count.ensures.exact)
-    c.take_all.ensures.unfinished c.take_all.ensures.others c.take_all.ensures.object c.finish-head.ensures.finished c.finish-head.ensures.others in
+    c.take_others.ensures.unfinished c.take_others.ensures.others c.take_others.ensures.object c.finish-head.ensures.finished c.finish-head.ensures.others in
     p.others
 
 pub returns-clause-takes : goal.returns-clause-takes
 returns-clause-takes g c =
     let chain = c.args.self.now in
     let log = g.B.Blocks.log c.args.table.now in
-    let log2 = g.B.Blocks.log c.take_all.new.table in
-    let sizes = map entry_length c.args.later.now in
+    let log2 = g.B.Blocks.log c.take_others.new.table in
+    let sizes = map entry_length c.args.later in
     takes_last (breaks (filled_with chain.filled (entry_length c.args.first.now)) sizes) log log2 (g.B.Blocks.log c.finish-head.new.table) c.places_taken_add_up.ensures
     (subst (λ n. TakesPlaces (breaks n sizes) log log2) c.begun-block.ensures.filled
-    (subst (λ (l : Log). TakesPlaces (breaks (entries_length c.begun-block.result.entries) sizes) l log2) c.begun-block.ensures.same c.take_all.ensures.takes))
+    (subst (λ (l : Log). TakesPlaces (breaks (entries_length c.begun-block.result.entries) sizes) l log2) c.begun-block.ensures.same c.take_others.ensures.takes))
     c.finish-head.ensures.takes

@@ -1,0 +1,25 @@
+use Rattle.std.proofs.Common.{◌≡◌, ◌≤◌, ◌++◌, List, length, map}
+use Rattle.s4_types.specs.Pointer.{Place}
+use Rattle.block_log.specs.Log.{Log}
+use Rattle.block_log.specs.Taken.{TakesPlaces}
+use Rattle.codec.specs.Entry.{EntryFields, entry_length, entries_length}
+use Rattle.journal_chain.specs.Sizes.{breaks}
+use Rattle.journal_chain.specs.Chain.{OnlyJournalChanged}
+use Rattle.journal_chain.specs.Writing.{Unfinished}
+use Rattle.journal_chain.proofs.writing.take_others.Given as goal
+
+abbrev pub invariant-loop-entry : goal.invariant-loop-entry
+invariant-loop-entry g l =
+    let log = g.B.Blocks.log in
+    let o = l.initial.block.object in
+    record {
+      unfinished : (stale : List Place) (before : List EntryFields) → Unfinished (log l.initial.table).held o stale l.initial.block before
+          → Unfinished (log l.table).held o stale l.block (before ++ l.yielded);
+      others : OnlyJournalChanged o (log l.initial.table).held (log l.table).held;
+      takes : (after : Log) → TakesPlaces (breaks (entries_length l.block.entries) (map entry_length l.entry-iterator)) (log l.table) after
+          → TakesPlaces (breaks (entries_length l.initial.block.entries) (map entry_length l.fn.others)) (log l.initial.table) after;
+      room : breaks (entries_length l.block.entries) (map entry_length l.entry-iterator) ≤ length (log l.table).ahead;
+      whole : l.yielded ++ l.entry-iterator ≡ l.fn.others;
+      object : l.block.object ≡ o;
+      least : 1 ≤ o;
+    }

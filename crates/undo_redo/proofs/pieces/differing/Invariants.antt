@@ -1,6 +1,0 @@
-use Rattle.std.proofs.Common.{◌≡◌, ◌≤◌, length}
-use Rattle.undo_redo.specs.Between.{triples_below}
-use Rattle.undo_redo.proofs.pieces.differing.Given as goal
-
-abbrev pub invariant-loop-index : goal.invariant-loop-index
-invariant-loop-index l = record { items : l.triples.items ≡ triples_below l.index l.before l.after; room : length l.triples.items ≤ l.index }
