@@ -1,9 +1,8 @@
 -- What planned and copied moves keep.
-use Rattle.std.proofs.Common.{◌≡◌, inl, inr, ℕ, suc, ◌+◌, ◌<◌, ◌==◌, true, cond, List, [], ◌∷◌, ◌++◌, length, get_or, take, refl, sym, ap, subst, ◌∙◌, arith}
+use Rattle.std.proofs.Common.{◌≡◌, inl, inr, ℕ, suc, ◌+◌, ◌<◌, ◌==◌, true, cond, List, [], ◌∷◌, ◌++◌, length, get_or, take, map, refl, sym, ap, subst, ◌∙◌, arith}
 use Rattle.std.specs.List.{AllByRecursion}
 use Rattle.std.proofs.lemmas.Bool.{cases_Bool, eqb-true, eq-eqb, cond-true, cond-false}
 use Rattle.std.proofs.lemmas.List.{take_more, map-append}
-use Rattle.std.proofs.lemmas.List.Elements.{All-from_recursion, All-get_or}
 use Rattle.s4_types.specs.Pointer.{Place}
 use Rattle.segment_word.specs.Frames.{Pinned}
 use Rattle.atomic_table.specs.Seated.{TableId}
@@ -15,7 +14,7 @@ use Rattle.version_store.specs.declared.copies.CopiedBlock.{CopiedBlock}
 use Rattle.segment_table.specs.Table.{Table}
 use Rattle.segment_table.specs.Laws.{WhatIsListedIsHeld}
 use Rattle.segment_copier.specs.Moves.{IsPlaceIn, IsCopyFrom, IsPinOver, IsMemoryOver, copies_of, data_in}
-use Rattle.segment_copier.proofs.Listed.{data_inside}
+use Rattle.segment_copier.proofs.Listed.{one_at, data_inside}
 
 -- ---- pins
 
@@ -71,8 +70,7 @@ one_contents q f e =
 pub counted_at : (pins : List Pinned) (places : List Place) (i : ℕ) (p : Place) → AllByRecursion (λ q. (0 < pins_in q.frame pins) × (q.block < 16)) places → i < length places → p ≡ get_or places i p
     → (0 < pins_in p.frame pins) × (p.block < 16)
 counted_at pins places i p all below at =
-    let IsCounted : Place → Type 0 = λ q. (0 < pins_in q.frame pins) × (q.block < 16) in
-    subst IsCounted (sym at) (All-get_or IsCounted places i p below (All-from_recursion IsCounted places all))
+    one_at (λ q. (0 < pins_in q.frame pins) × (q.block < 16)) places i p all below at
 
 pub all_counted : (q : Pinned) (pins : List Pinned) (places : List Place) → pins ≡ q ∷ [] → AllByRecursion (IsPlaceIn q) places
     → AllByRecursion (λ p. (0 < pins_in p.frame pins) × (p.block < 16)) places
@@ -87,17 +85,13 @@ all_copied q pins (p ∷ places) alone inside =
     ((inside.0, ap (λ (c : List ℕ). block_bytes c p.block) is), all_copied q pins places alone inside.1)
 
 -- one more block is copied
-pub one_more : (pins : List Pinned) (places : List Place) (i : ℕ) (p : Place) (bytes : List ℕ) (copies : List CopiedBlock) → i < length places → p ≡ get_or places i p
-    → copies ≡ copies_of pins (take i places) → bytes ≡ block_bytes (contents_pinned p.frame pins) p.block
-    → copies ++ (record { place = p; bytes = bytes }) ∷ [] ≡ copies_of pins (take (i + 1) places)
-one_more pins places i p bytes copies h at so is =
-    let copy : Place → CopiedBlock = λ q. record { place = q; bytes = block_bytes (contents_pinned q.frame pins) q.block } in
-    let this : CopiedBlock = record { place = p; bytes = bytes } in
-    let here : this ≡ copy p = ap (λ (l : List ℕ). (record { place = p; bytes = l })) is in
+pub one_more : (copy : Place → CopiedBlock) (places : List Place) (i : ℕ) (p : Place) (this : CopiedBlock) (copies : List CopiedBlock) → i < length places → p ≡ get_or places i p
+    → copies ≡ map copy (take i places) → this ≡ copy p → copies ++ this ∷ [] ≡ map copy (take (i + 1) places)
+one_more copy places i p this copies h at so is =
     ap (λ (l : List CopiedBlock). l ++ this ∷ []) so
-    ∙ ap (λ (c : CopiedBlock). copies_of pins (take i places) ++ c ∷ []) here
-    ∙ ap (λ (q : Place). copies_of pins (take i places) ++ copy q ∷ []) at
-    ∙ sym (ap (copies_of pins) (take_more places i p h) ∙ map-append copy (take i places) (get_or places i p ∷ []))
+    ∙ ap (λ (c : CopiedBlock). map copy (take i places) ++ c ∷ []) is
+    ∙ ap (λ (q : Place). map copy (take i places) ++ copy q ∷ []) at
+    ∙ sym (ap (map copy) (take_more places i p h) ∙ map-append copy (take i places) (get_or places i p ∷ []))
 
 -- a plan with a pin on its frame keeps its places
 pub pin_over : (law : WhatIsListedIsHeld) (t : Table) (o f : ℕ) (frames : TableId) (places : List Place) (held : Held) → held.table ≡ frames → held.pins ≡ pin_of t.seat.frames f ∷ [] → places ≡ data_in t o f

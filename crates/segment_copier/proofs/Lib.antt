@@ -5,3 +5,4 @@ pub mod Staying
 pub mod Surveyed
 pub mod Chosen
 pub mod Gathered
+pub mod Stated

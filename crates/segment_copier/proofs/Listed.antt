@@ -1,9 +1,9 @@
 -- What is held of an object in a sealed frame, and which of it is data.
-use Rattle.std.proofs.Common.{◌≡◌, inl, inr, ℕ, zero, suc, ◌<◌, ◌≤◌, Bool, true, cond, if◌then◌else◌, List, [], ◌∷◌, get_or, refl, sym, ap, subst, ◌∙◌, filter, Option, Some, None, arith}
+use Rattle.std.proofs.Common.{◌≡◌, inl, inr, ℕ, zero, suc, ◌<◌, ◌≤◌, Bool, true, cond, if◌then◌else◌, List, [], ◌∷◌, length, get_or, refl, sym, ap, subst, ◌∙◌, filter, Option, Some, None, arith}
 use Rattle.std.specs.Prelude.{IsSome, slice_get}
 use Rattle.std.specs.List.{AllByRecursion, Contains}
 use Rattle.std.proofs.lemmas.Bool.{cases_Bool}
-use Rattle.std.proofs.lemmas.List.Elements.{recursion_from_All, Contains-get_or}
+use Rattle.std.proofs.lemmas.List.Elements.{recursion_from_All, All-from_recursion, All-get_or, Contains-get_or}
 use Rattle.s4_types.specs.Pointer.{Place}
 use Rattle.block_log.specs.Log.{Stored}
 use Rattle.segment_word.specs.Frames.{Phase, Free, Open, Sealed, Draining, is_sealed}
@@ -51,6 +51,10 @@ has_passed {X} test x passes (y ∷ ys) (suc k, h, e) =
 
 pub all_of : {X : Type 0} (P : X → Type 0) (xs : List X) → ((x : X) → Contains xs x → P x) → AllByRecursion P xs
 all_of P xs each = recursion_from_All P xs (λ k d h. each (get_or xs k d) (Contains-get_or xs k d h))
+
+-- what holds of each holds of the one of an index
+pub one_at : {X : Type 0} (P : X → Type 0) (xs : List X) (i : ℕ) (x : X) → AllByRecursion P xs → i < length xs → x ≡ get_or xs i x → P x
+one_at P xs i x all below at = subst P (sym at) (All-get_or P xs i x below (All-from_recursion P xs all))
 
 -- ---- blocks
 

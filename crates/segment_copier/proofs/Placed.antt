@@ -5,7 +5,7 @@ use Rattle.s4_types.specs.declared.refusals.Refusal.{Refusal}
 use Rattle.s4_types.specs.declared.refusals.Refusal.TheVariants.{NoMemory, NoRoom}
 use Rattle.row_changes.specs.Moving.{row_blocks}
 use Rattle.std.specs.List.{AllByRecursion, Contains}
-use Rattle.std.proofs.lemmas.Bool.{cases_Bool, and_parts, eq-eqb, le-leb, leb-true}
+use Rattle.std.proofs.lemmas.Bool.{cases_Bool, and_parts, eq-eqb, eqb-true, le-leb, leb-true}
 use Rattle.std.proofs.lemmas.List.Elements.{All-from_recursion, All-contains}
 use Rattle.std.proofs.lemmas.List.{length-map}
 use Rattle.s4_types.specs.Pointer.{Place}
@@ -28,8 +28,9 @@ use Rattle.version_store.specs.Relocating.{AreCopies, IsRelocated, frame_of_copi
 use Rattle.drive.specs.Fields.{DriveFields, store_of}
 use Rattle.interleaving.specs.Moving.{HoldsNone}
 use Rattle.segment_copier.specs.Moves.{is_data, data_in, IsMemoryOver, IsCopyFrom}
-use Rattle.segment_copier.specs.Commits.{AreStillThere, IsMovedBy, blocks_moved}
-use Rattle.segment_copier.proofs.Listed.{all_of, has_passed, some_sealed, data_listed}
+use Rattle.segment_copier.specs.Commits.{copy_at, copies_in, IsMovedBy, LacksRoom, blocks_moved}
+use Rattle.segment_copier.specs.private.Copying.{IsTrueIn}
+use Rattle.segment_copier.proofs.Listed.{all_of, has_passed, data_listed, of_some}
 
 -- ---- lists
 
@@ -64,6 +65,20 @@ taken_has (suc n) x (y ∷ ys) (suc k, at, e) =
     let rest = taken_has n x ys (k, omega arith, e) in
     let inside : rest.0 < length ys = rest.1 in
     (suc rest.0, omega arith, rest.2)
+
+-- ---- all that is there
+
+-- copies are of just the data blocks that an object holds in a frame, which is sealed
+pub record AreAll (t : Table) (f o : ℕ) (copies : List CopiedBlock) : Type 0 where
+  pub sealed : is_sealed (frame_at t.seat.frames f).phase ≡ true
+  pub all : copies ≡ copies_in t o f
+
+places_of : (t : Table) (places : List Place) → map (λ c. c.place) (map (copy_at t) places) ≡ places
+places_of t [] = refl
+places_of t (p ∷ places) = ap (λ (l : List Place). p ∷ l) (places_of t places)
+
+pub places_all : (t : Table) (f o : ℕ) (copies : List CopiedBlock) → AreAll t f o copies → map (λ c. c.place) copies ≡ data_in t o f
+places_all t f o copies there = ap (map (λ (c : CopiedBlock). c.place)) there.all ∙ places_of t (data_in t o f)
 
 -- ---- copies
 
@@ -117,12 +132,12 @@ ascending one two f g b (suc n) copies e =
       | inr fails ↦ from_lower b (b + 1) copies (omega arith) (rest copies (e ∙ ap (λ (x : Bool). filter two (cond x (p ∷ behind) behind)) fails))
     ]
 
-still_ascending : (t : Table) (f o : ℕ) (copies : List CopiedBlock) → AreStillThere t f o copies → blocks_ascend_from 1 copies ≡ true
+still_ascending : (t : Table) (f o : ℕ) (copies : List CopiedBlock) → AreAll t f o copies → blocks_ascend_from 1 copies ≡ true
 still_ascending t f o copies there =
     let one : Place → Bool = λ p. is_of o (held_at t p) in
     let two : Place → Bool = λ p. is_data (held_at t p) in
-    let sealed : is_sealed (frame_at t.seat.frames f).phase ≡ true = some_sealed t o f there.some in
-    let is : map (λ (c : CopiedBlock). c.place) copies ≡ filter two (filter one (whole_of t f)) = there.places ∙ ap (λ (b : Bool). filter two (if b then filter one (whole_of t f) else [])) sealed in
+    let sealed : is_sealed (frame_at t.seat.frames f).phase ≡ true = there.sealed in
+    let is : map (λ (c : CopiedBlock). c.place) copies ≡ filter two (filter one (whole_of t f)) = places_all t f o copies there ∙ ap (λ (b : Bool). filter two (if b then filter one (whole_of t f) else [])) sealed in
     ascending one two f (frame_at t.seat.frames f).generation 1 15 copies is
 
 -- ---- bytes
@@ -151,31 +166,73 @@ seen_data o (Some block) bytes mine kind is =
 among : (P : CopiedBlock → Type 0) (copies : List CopiedBlock) (c : CopiedBlock) → AllByRecursion P copies → Contains copies c → P c
 among P copies c all has = All-contains P copies c (All-from_recursion P copies all) has
 
-still_listed : (listed : WhatIsListedIsHeld) (t : Table) (f o : ℕ) (copies : List CopiedBlock) (c : CopiedBlock) → AreStillThere t f o copies → Contains copies c
+still_listed : (listed : WhatIsListedIsHeld) (t : Table) (f o : ℕ) (copies : List CopiedBlock) (c : CopiedBlock) → AreAll t f o copies → Contains copies c
     → IsListed t o f c.place × (is_data (held_at t c.place) ≡ true)
 still_listed listed t f o copies c there has =
-    data_listed listed t o f c.place (subst (λ (l : List Place). Contains l c.place) there.places (has_mapped (λ (d : CopiedBlock). d.place) c copies has))
+    data_listed listed t o f c.place (subst (λ (l : List Place). Contains l c.place) (places_all t f o copies there) (has_mapped (λ (d : CopiedBlock). d.place) c copies has))
 
--- copies that are remembered at the generation that their frame has are of what it holds
-pub still_copies : (listed : WhatIsListedIsHeld) (t : Table) (f o : ℕ) (copies : List CopiedBlock) (table : TableId) (m : Remembered) → AreStillThere t f o copies → IsMemoryOver table copies m → AllRemembered t.seat.frames m.remembered
-    → AreCopies (held_at t) o copies
-still_copies listed t f o copies table m there memory recalled =
+-- they have the bytes of their places
+still_bytes : (t : Table) (f o : ℕ) (copies : List CopiedBlock) (c : CopiedBlock) → AreAll t f o copies → Contains copies c → (copy_at t c.place).bytes ≡ c.bytes
+still_bytes t f o copies c there has =
+    let from = image (copy_at t) (data_in t o f) c (subst (λ (l : List CopiedBlock). Contains l c) there.all has) in
+    subst (λ (x : CopiedBlock). (copy_at t x.place).bytes ≡ x.bytes) from.is refl
+
+-- they are copies of what the frame holds
+pub still_copies : (listed : WhatIsListedIsHeld) (t : Table) (f o : ℕ) (copies : List CopiedBlock) → AreAll t f o copies → AreCopies (held_at t) o copies
+still_copies listed t f o copies there = record {
+  frame = all_in f (frame_at t.seat.frames f).generation copies (λ c has. (let here = (still_listed listed t f o copies c there has).0 in (here.frame, here.generation)));
+  ascending = still_ascending t f o copies there;
+  bytes = all_of (λ c. of_kind Data o (held_at t) c.place ≡ Some c.bytes) copies
+      (λ c has. (let both = still_listed listed t f o copies c there has in
+      seen_data o (held_at t c.place) c.bytes both.0.held both.1
+      (subst (λ (l : List ℕ). IfSome (held_at t c.place) (λ block. block.bytes ≡ l)) (still_bytes t f o copies c there has) (held_bytes t c.place))));
+}
+
+-- ---- copies that were made
+
+abbrev nothing_at : Table → Place → Option Stored
+nothing_at t p = None
+
+-- a block is held at the generation of its frame
+held_now : (t : Table) (p : Place) → IsSome (held_at t p) → (frame_at t.seat.frames p.frame).generation ≡ p.generation
+held_now t p some =
+    let k : Frame = frame_at t.seat.frames p.frame in
+    elim (cases_Bool (k.generation == p.generation)) [
+      | inl current ↦ eqb-true k.generation p.generation current
+      | inr older ↦ (let none : IsSome (nothing_at t p) = subst (λ (b : Bool). IsSome (if b then stored (block_slot (slots_at t.slots p.frame) p.block) (block_bytes k.contents p.block) else None)) older some in absurd (cc))
+    ]
+
+-- what is remembered of copies shows that they are true
+pub true_copies : (t : Table) (copies : List CopiedBlock) (table : TableId) (m : Remembered) → IsMemoryOver table copies m → AllRemembered t.seat.frames m.remembered → AllByRecursion (IsTrueIn t) copies
+true_copies t copies table m memory recalled =
     let q : Pinned = memory.pinned in
     let true_of : IsRemembered t.seat.frames q = subst (λ (l : List Pinned). AllRemembered t.seat.frames l) memory.alone recalled 0 q refl in
-    record {
-      frame = all_in f (frame_at t.seat.frames f).generation copies (λ c has. (let here = (still_listed listed t f o copies c there has).0 in (here.frame, here.generation)));
-      ascending = still_ascending t f o copies there;
-      bytes = all_of (λ c. of_kind Data o (held_at t) c.place ≡ Some c.bytes) copies
-          (λ c has. (let both = still_listed listed t f o copies c there has in
-          let from : IsCopyFrom q c = among (IsCopyFrom q) copies c memory.inside has in
-          let number : f ≡ q.number = sym both.0.frame ∙ from.0.0 in
-          let generation : q.generation ≡ (frame_at t.seat.frames q.number).generation = sym from.0.1.0 ∙ both.0.generation ∙ ap (λ (n : ℕ). (frame_at t.seat.frames n).generation) number in
-          let contents : q.contents ≡ (frame_at t.seat.frames q.number).contents = (true_of.same generation).contents in
-          let bytes : block_bytes (frame_at t.seat.frames c.place.frame).contents c.place.block ≡ c.bytes =
-          ap (λ (n : ℕ). block_bytes (frame_at t.seat.frames n).contents c.place.block) from.0.0 ∙ sym (ap (λ (l : List ℕ). block_bytes l c.place.block) contents) ∙ sym from.1 in
-          seen_data o (held_at t c.place) c.bytes both.0.held both.1
-          (subst (λ (l : List ℕ). IfSome (held_at t c.place) (λ block. block.bytes ≡ l)) bytes (held_bytes t c.place))));
-    }
+    all_of (IsTrueIn t) copies (λ c has held.
+    (let from : IsCopyFrom q c = among (IsCopyFrom q) copies c memory.inside has in
+    let generation : q.generation ≡ (frame_at t.seat.frames q.number).generation =
+    sym from.0.1.0 ∙ sym (held_now t c.place held) ∙ ap (λ (n : ℕ). (frame_at t.seat.frames n).generation) from.0.0 in
+    let contents : q.contents ≡ (frame_at t.seat.frames q.number).contents = (true_of.same generation).contents in
+    from.1 ∙ ap (λ (l : List ℕ). block_bytes l c.place.block) contents ∙ ap (λ (n : ℕ). block_bytes (frame_at t.seat.frames n).contents c.place.block) (sym from.0.0)))
+
+-- what is listed as data is held
+pub data_held : (listed : WhatIsListedIsHeld) (t : Table) (o f : ℕ) → AllByRecursion (λ p. IsSome (held_at t p)) (data_in t o f)
+data_held listed t o f = all_of (λ p. IsSome (held_at t p)) (data_in t o f) (λ p has. of_some o (held_at t p) (data_listed listed t o f p has).0.held)
+
+with_first : (c d : CopiedBlock) (one two : List CopiedBlock) → c ≡ d → one ≡ two → c ∷ one ≡ d ∷ two
+with_first c d one two first rest = ap (λ (x : CopiedBlock). x ∷ one) first ∙ ap (λ (l : List CopiedBlock). d ∷ l) rest
+
+-- true copies of places at which blocks are held are those of these blocks
+pub same_copies : (t : Table) (copies : List CopiedBlock) (places : List Place) → AllByRecursion (IsTrueIn t) copies → AllByRecursion (λ p. IsSome (held_at t p)) places → map (λ c. c.place) copies ≡ places
+    → copies ≡ map (copy_at t) places
+same_copies t [] [] are held is = refl
+same_copies t [] (p ∷ places) are held is = absurd (cc)
+same_copies t (c ∷ copies) [] are held is = absurd (cc)
+same_copies t (c ∷ copies) (p ∷ places) are held is =
+    let first : c.place ≡ p = (cc) in
+    let later : map (λ (d : CopiedBlock). d.place) copies ≡ places = (cc) in
+    let bytes : c.bytes ≡ (copy_at t c.place).bytes = are.0 (subst (λ (q : Place). IsSome (held_at t q)) (sym first) held.0) in
+    let this : c ≡ copy_at t p = ap (λ (l : List ℕ). record { place = c.place; bytes = l }) bytes ∙ ap (copy_at t) first in
+    with_first c (copy_at t p) copies (map (copy_at t) places) this (same_copies t copies places are.1 held.1 later)
 
 -- ---- the frame that is left
 
@@ -213,7 +270,7 @@ taken_elsewhere ahead t f n p sealed at has =
     cc
 
 -- a data block in the frame was copied, and so it isn't held any more
-left_data : (d later : DriveFields) (f o : ℕ) (row : Row) (copies : List CopiedBlock) (p : Place) → ListsAllHeld d.store.table → AreStillThere d.store.table f o copies
+left_data : (d later : DriveFields) (f o : ℕ) (row : Row) (copies : List CopiedBlock) (p : Place) → ListsAllHeld d.store.table → AreAll d.store.table f o copies
     → is_sealed (frame_at d.store.table.seat.frames f).phase ≡ true → IsRelocated (store_of d) o row copies (store_of later) → p.frame ≡ f
     → IsSome (of_kind Data o (store_of d).log.held p) → held_at later.store.table p ≡ None
 left_data d later f o row copies p lists there sealed moved at some =
@@ -222,14 +279,14 @@ left_data d later f o row copies p lists there sealed moved at some =
     let has : Contains (pointers_in t o p.frame) p = lists o p (ap (λ (m : ℕ). is_sealed (frame_at t.seat.frames m).phase) at ∙ sealed) both.0 in
     let here : Contains (pointers_in t o f) p = subst (λ (m : ℕ). Contains (pointers_in t o m) p) at has in
     let among_data : Contains (data_in t o f) p = has_passed (λ q. is_data (held_at t q)) p both.1 (pointers_in t o f) here in
-    let from = image (λ (c : CopiedBlock). c.place) copies p (subst (λ (l : List Place). Contains l p) (sym there.places) among_data) in
+    let from = image (λ (c : CopiedBlock). c.place) copies p (subst (λ (l : List Place). Contains l p) (sym (places_all t f o copies there)) among_data) in
     moved.gone p (from.from, (from.has, from.is))
 
-pub holds_none : (ahead : PlacesAheadAreInNoSealedFrame) (d later : DriveFields) (f o : ℕ) (row : Row) (copies : List CopiedBlock) → ListsAllHeld d.store.table → AreStillThere d.store.table f o copies
+pub holds_none : (ahead : PlacesAheadAreInNoSealedFrame) (d later : DriveFields) (f o : ℕ) (row : Row) (copies : List CopiedBlock) → ListsAllHeld d.store.table → AreAll d.store.table f o copies
     → IsRelocated (store_of d) o row copies (store_of later) → HoldsNone later.store.table o f
 holds_none ahead d later f o row copies lists there moved p at =
     let t : Table = d.store.table in
-    let sealed : is_sealed (frame_at t.seat.frames f).phase ≡ true = some_sealed t o f there.some in
+    let sealed : is_sealed (frame_at t.seat.frames f).phase ≡ true = there.sealed in
     let n : ℕ = blocks_relocated (store_of d).log.held o row copies in
     elim (cases_Bool (is_of o (held_at later.store.table p))) [
       | inr none ↦ none
@@ -247,8 +304,8 @@ holds_none ahead d later f o row copies lists there moved p at =
     ]
 
 -- as many copies as data blocks
-pub as_many : (t : Table) (f o : ℕ) (copies : List CopiedBlock) → AreStillThere t f o copies → length copies ≡ length (data_in t o f)
-as_many t f o copies there = sym (length-map copies (λ c. c.place)) ∙ ap length there.places
+pub as_many : (t : Table) (f o : ℕ) (copies : List CopiedBlock) → AreAll t f o copies → length copies ≡ length (data_in t o f)
+as_many t f o copies there = sym (length-map copies (λ c. c.place)) ∙ ap length (places_all t f o copies there)
 
 -- ---- what a relocation tells
 
@@ -259,33 +316,38 @@ Answers d o copies kept result = IfSome kept (λ row. MatchResult result
     (λ e. ((e ≡ NoRoom) × (length (store_of d).log.ahead < blocks_relocated (store_of d).log.held o row copies))
     ⊎ ((e ≡ NoMemory) × (blocks_relocated (store_of d).log.held o row copies ≤ length (store_of d).log.ahead))))
 
-blocks_same : (d : DriveFields) (f o : ℕ) (copies : List CopiedBlock) (row : Row) → AreStillThere d.store.table f o copies → blocks_relocated (store_of d).log.held o row copies ≡ blocks_moved d f o row
+blocks_same : (d : DriveFields) (f o : ℕ) (copies : List CopiedBlock) (row : Row) → AreAll d.store.table f o copies → blocks_relocated (store_of d).log.held o row copies ≡ blocks_moved d f o row
 blocks_same d f o copies row there = ap (λ (n : ℕ). n + row_blocks (store_of d).log.held o row) (as_many d.store.table f o copies there)
 
-pub moved_by : (d later : DriveFields) (f o : ℕ) (copies : List CopiedBlock) (kept : Option Row) (result : Result (Unit {0}) Refusal) → AreStillThere d.store.table f o copies → AreCopies (store_of d).log.held o copies
+pub moved_by : (d later : DriveFields) (f o : ℕ) (copies : List CopiedBlock) (kept : Option Row) (result : Result (Unit {0}) Refusal) → AreAll d.store.table f o copies → AreCopies (store_of d).log.held o copies
     → OnOk result (IfSome kept (λ row. IsRelocated (store_of d) o row copies (store_of later))) → Answers d o copies kept result
     → OnOk result (IfSome kept (λ row. IsMovedBy d f o copies row later))
 moved_by d later f o copies kept (Err e) there bytes moved told = tt
 moved_by d later f o copies None (Ok u) there bytes moved told = tt
 moved_by d later f o copies (Some row) (Ok u) there bytes moved told = record {
-  places = there.places;
+  places = places_all d.store.table f o copies there;
   bytes = bytes;
   room = subst (λ (n : ℕ). n ≤ length (store_of d).log.ahead) (blocks_same d f o copies row there) told;
   relocated = moved;
 }
 
 pub left_by : (ahead : PlacesAheadAreInNoSealedFrame) (d later : DriveFields) (f o : ℕ) (copies : List CopiedBlock) (kept : Option Row) (result : Result (Unit {0}) Refusal) → IsSome kept → ListsAllHeld d.store.table
-    → AreStillThere d.store.table f o copies → OnOk result (IfSome kept (λ row. IsRelocated (store_of d) o row copies (store_of later))) → OnOk result (HoldsNone later.store.table o f)
+    → AreAll d.store.table f o copies → OnOk result (IfSome kept (λ row. IsRelocated (store_of d) o row copies (store_of later))) → OnOk result (HoldsNone later.store.table o f)
 left_by ahead d later f o copies kept (Err e) some lists there moved = tt
 left_by ahead d later f o copies None (Ok u) some lists there moved = absurd (cc)
 left_by ahead d later f o copies (Some row) (Ok u) some lists there moved = holds_none ahead d later f o row copies lists there moved
 
-pub room_by : (d : DriveFields) (f o : ℕ) (copies : List CopiedBlock) (kept : Option Row) (result : Result (Unit {0}) Refusal) → AreStillThere d.store.table f o copies → Answers d o copies kept result
-    → result ≡ Err NoRoom → IfSome kept (λ row. length (store_of d).log.ahead < blocks_moved d f o row)
+pub room_by : (d : DriveFields) (f o : ℕ) (copies : List CopiedBlock) (kept : Option Row) (result : Result (Unit {0}) Refusal) → AreAll d.store.table f o copies → Answers d o copies kept result
+    → result ≡ Err NoRoom → IfSome kept (LacksRoom d f o)
 room_by d f o copies None result there told is = tt
 room_by d f o copies (Some row) (Ok u) there told is = absurd (cc)
-room_by d f o copies (Some row) (Err e) there (inl no_room) is = subst (λ (n : ℕ). length (store_of d).log.ahead < n) (blocks_same d f o copies row there) no_room.1
+room_by d f o copies (Some row) (Err e) there (inl no_room) is = inl (subst (λ (n : ℕ). length (store_of d).log.ahead < n) (blocks_same d f o copies row there) no_room.1)
 room_by d f o copies (Some row) (Err e) there (inr no_memory) is = absurd (let other : e ≡ NoMemory = no_memory.0 in let same : e ≡ NoRoom = (cc) in cc)
+
+-- none is sure of a frame that isn't sealed
+pub room_elsewhere : (d : DriveFields) (f o : ℕ) (kept : Option Row) → is_sealed (frame_at d.store.table.seat.frames f).phase ≡ false → IfSome kept (LacksRoom d f o)
+room_elsewhere d f o None other = tt
+room_elsewhere d f o (Some row) other = inr other
 
 pub refused_by : (d : DriveFields) (o : ℕ) (copies : List CopiedBlock) (kept : Option Row) (result : Result (Unit {0}) Refusal) → IsSome kept → Answers d o copies kept result
     → IfErr result (λ e. (e ≡ NoRoom) ⊎ (e ≡ NoMemory))

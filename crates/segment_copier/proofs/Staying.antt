@@ -1,6 +1,6 @@
 -- Where an object's blocks are as they were, they are found in a frame as they were.
-use Rattle.std.proofs.Common.{◌≡◌, inl, inr, ℕ, ◌≤◌, ◌==◌, ◌&&◌, ◌||◌, Bool, true, false, cond, if◌then◌else◌, List, [], ◌∷◌, length, map, filter, refl, sym, ap, subst, ◌∙◌, Option, Some, None, arith}
-use Rattle.std.specs.Prelude.{IsSome, MatchBool, option_map, nat_eq}
+use Rattle.std.proofs.Common.{◌≡◌, inl, inr, ℕ, ◌≤◌, ◌==◌, ◌&&◌, ◌||◌, Bool, true, false, cond, if◌then◌else◌, List, [], ◌∷◌, map, filter, refl, sym, ap, subst, ◌∙◌, Option, Some, None, arith}
+use Rattle.std.specs.Prelude.{IsSome, option_map}
 use Rattle.std.specs.List.{Contains}
 use Rattle.std.proofs.lemmas.Bool.{cases_Bool, cond-false, and_parts, eqb-true, true≢false}
 use Rattle.std.proofs.lemmas.Option.{none-some}
@@ -151,15 +151,3 @@ still_there law t later f o copies some places_are same memory used =
     ∙ filter_alike (λ p. is_data (held_at t p)) (λ p. is_data (held_at later p)) (pointers_in t o f)
     (λ p has. data_alike o (held_at t p) (held_at later p) (seen_alike p) (law t o f p has).held) in
     record { some = λ none. some (sym pointers ∙ none); places = places_are ∙ sym kinds }
-
--- ---- what is looked at
-
--- what is listed isn't nothing, where it isn't empty
-pub not_none : (items pointers : List Place) (empty : Bool) → items ≡ pointers → empty ≡ nat_eq (length items) 0 → empty ≡ false → pointers ≡ [] → ⊥
-not_none items pointers empty are is other none = true≢false (sym (ap (λ (l : List Place). nat_eq (length l) 0) (are ∙ none)) ∙ sym is ∙ other)
-
--- whether copies are of the listed places tells whether they are there
-pub told_there : (told : Bool) (t : Table) (f o : ℕ) (copies : List CopiedBlock) (listed : List Place) → (pointers_in t o f ≡ [] → ⊥) → listed ≡ data_in t o f
-    → MatchBool told (map (λ c. c.place) copies ≡ listed) (map (λ c. c.place) copies ≡ listed → ⊥) → MatchBool told (AreStillThere t f o copies) (AreStillThere t f o copies → ⊥)
-told_there true t f o copies listed some are same = record { some = some; places = same ∙ are }
-told_there false t f o copies listed some are other = λ there. other (there.places ∙ sym are)

@@ -18,7 +18,9 @@ loop-place-preserved c =
     ∙ ap (λ (b : ℕ). block_bytes q.contents b) c.block.ensures.block) in
     record {
       same = c.read_block-bytes.ensures.same ∙ c.loop-place.invariant.same;
-      copied = c.in_ok-push.ensures.items ∙ one_more pins c.args.places.now c.loop-place.place-index p c.read_block-bytes.result c.loop-place.copies.items c.loop-place-test.true c.place-item.is c.loop-place.invariant.copied bytes;
+      copied = c.in_ok-push.ensures.items ∙ one_more (λ q. record { place = q; bytes = block_bytes (contents_pinned q.frame pins) q.block }) c.args.places.now c.loop-place.place-index p
+          (record { place = p; bytes = c.read_block-bytes.result }) c.loop-place.copies.items c.loop-place-test.true c.place-item.is c.loop-place.invariant.copied
+          (ap (λ (l : List ℕ). record { place = p; bytes = l }) bytes);
     }
 
 pub read_block-bytes-requires : goal.read_block-bytes-requires
