@@ -6,3 +6,4 @@ pub mod Surveyed
 pub mod Chosen
 pub mod Gathered
 pub mod Stated
+pub mod Emptied

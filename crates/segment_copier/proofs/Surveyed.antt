@@ -27,15 +27,15 @@ get_or-places f g b zero i d h = absurd (omega arith)
 get_or-places f g b (suc n) zero d h = ap (λ (m : ℕ). record { frame = f; block = m; generation = g }) (omega arith)
 get_or-places f g b (suc n) (suc i) d h = get_or-places f g (b + 1) n i d (omega arith) ∙ ap (λ (m : ℕ). record { frame = f; block = m; generation = g }) (omega arith)
 
-length-whole_of : (t : Table) (f : ℕ) → length (whole_of t f) ≡ 15
+pub length-whole_of : (t : Table) (f : ℕ) → length (whole_of t f) ≡ 15
 length-whole_of t f = length-places f (frame_at t.seat.frames f).generation 1 15
 
-whole_at : (t : Table) (f n : ℕ) → n < 15 → get_or (whole_of t f) n (block_at t f (n + 1)) ≡ block_at t f (n + 1)
+pub whole_at : (t : Table) (f n : ℕ) → n < 15 → get_or (whole_of t f) n (block_at t f (n + 1)) ≡ block_at t f (n + 1)
 whole_at t f n h = get_or-places f (frame_at t.seat.frames f).generation 1 15 n (block_at t f (n + 1)) h
     ∙ ap (λ (m : ℕ). record { frame = f; block = m; generation = (frame_at t.seat.frames f).generation }) (omega arith)
 
 -- the place of a block, from its numbers
-place_is : (t : Table) (f b m g : ℕ) (p : Place) → p ≡ record { frame = f; block = m; generation = g } → m ≡ b → g ≡ (frame_at t.seat.frames f).generation → p ≡ block_at t f b
+pub place_is : (t : Table) (f b m g : ℕ) (p : Place) → p ≡ record { frame = f; block = m; generation = g } → m ≡ b → g ≡ (frame_at t.seat.frames f).generation → p ≡ block_at t f b
 place_is t f b m g p is block generation = is ∙ ap (λ (n : ℕ). record { frame = f; block = n; generation = g }) block ∙ ap (λ (n : ℕ). record { frame = f; block = b; generation = n }) generation
 
 -- ---- how many blocks are held

@@ -1,14 +1,68 @@
 -- What gathering comes to.
-use Rattle.std.specs.Prelude.{ℕ, ◌<◌, Result, Ok}
-use Rattle.s4_types.specs.declared.limits.TheConstants.{MOVE_BLOCKS}
+use Rattle.std.specs.Prelude.{◌≡◌, ◌⊎◌, ℕ, ◌+◌, ◌*◌, ◌/◌, ◌<◌, ◌≤◌, ◌==◌, if◌then◌else◌, count_by, List, [], ◌∷◌, Option, None, Some, Result, Ok}
+use Rattle.s4_types.specs.Pointer.{Place}
+use Rattle.s4_types.specs.declared.limits.TheConstants.{CHECKPOINT_BLOCKS, JOURNAL_ENTRY_BYTES, MOVE_BLOCKS, PAYLOAD_BLOCKS}
 use Rattle.s4_types.specs.declared.refusals.Refusal.{Refusal}
+use Rattle.block_log.specs.Log.{Stored}
+use Rattle.object_map.specs.declared.map.Row.{Row}
+use Rattle.object_map.specs.Rows.{row_of}
+use Rattle.segment_word.specs.Frames.{is_free}
+use Rattle.segment_table.specs.Table.{Table, held_at}
+use Rattle.segment_table.specs.Room.{whole_of}
 use Rattle.version_store.specs.Costs.{room}
 use Rattle.drive.specs.Fields.{DriveFields, store_of}
 use Rattle.interleaving.specs.Moving.{Move, IsMoveOf}
 use Rattle.interleaving.specs.Acting.{Commits}
-use Rattle.segment_copier.specs.Choosing.{IsFirstFrame, IsLowestObject}
+use Rattle.segment_copier.specs.Choosing.{IsFirstFrame, IsLowestObject, NoneIsSparse}
 use Rattle.segment_copier.specs.Commits.{CommitsMove}
 use Rattle.segment_copier.specs.declared.candidates.Candidate.{Candidate}
+
+-- how many frames are free, retired ones among them
+abbrev pub free_count : Table → ℕ
+free_count t = count_by (λ k. is_free k.phase) t.seat.frames
+
+-- ---- what emptying a frame may take
+
+-- how many blocks a journal has at most, by the bytes of its entries and of those in its newest block: any two neighbours have
+-- more than one block holds
+abbrev pub most_journal : ℕ → ℕ → ℕ
+most_journal bytes in_newest = if bytes == 0 then 0 else (if bytes == in_newest then 1 else bytes / JOURNAL_ENTRY_BYTES * 2 + 1)
+
+-- how many blocks a checkpoint has at most, where there is one
+abbrev pub most_checkpoint : Option Place → ℕ
+most_checkpoint None = 0
+most_checkpoint (Some p) = CHECKPOINT_BLOCKS
+
+-- how many blocks an object's journal and checkpoint have at most, by its row
+abbrev pub most_rewritten : Option Row → ℕ
+most_rewritten None = 0
+most_rewritten (Some row) = most_journal row.journal_bytes row.head_bytes + most_checkpoint row.checkpoint
+
+-- how many blocks it may take more, where the next held block is of an object, and the one before it of the last one: the block, and
+-- where the two objects aren't the same, what the object's journal and checkpoint have at most
+abbrev pub blocks_added : List (ℕ × Row) → ℕ → ℕ → ℕ
+blocks_added rows last object = if object == last then 1 else most_rewritten (row_of rows object) + 1
+
+-- the same of what is held at a place, and the object of the last held block then
+abbrev pub added_at : List (ℕ × Row) → ℕ → Option Stored → ℕ
+added_at rows last None = 0
+added_at rows last (Some block) = blocks_added rows last block.object
+
+abbrev pub last_at : ℕ → Option Stored → ℕ
+last_at last None = last
+last_at last (Some block) = block.object
+
+-- how many blocks it may take to move what is held at these places, where the held block before them is of the last object
+abbrev pub most_to_move : DriveFields → ℕ → List Place → ℕ
+most_to_move d last [] = 0
+most_to_move d last (p ∷ places) = added_at d.store.rows last (held_at d.store.table p) + most_to_move d (last_at last (held_at d.store.table p)) places
+
+-- How many blocks it may take to empty a frame. An object whose blocks there aren't neighbours counts more than once. No object has
+-- the number 0.
+abbrev pub most_to_empty : DriveFields → ℕ → ℕ
+most_to_empty d f = most_to_move d 0 (whole_of d.store.table f)
+
+-- ---- a step
 
 -- the move of an object out of a frame was planned and put in place on one drive
 pub record MovesNow (d : DriveFields) (f o : ℕ) (done : Result (Unit {0}) Refusal) (later : DriveFields) : Type 0 where
@@ -16,10 +70,23 @@ pub record MovesNow (d : DriveFields) (f o : ℕ) (done : Result (Unit {0}) Refu
   pub planned : IsMoveOf d f o move
   pub puts : Commits CommitsMove move d done later
 
--- There was too little room for a move of the copier. Of the frame that it would choose the least object that holds a block there
--- was moved all the same.
+-- There was too little room for a move of the copier, and a frame was free. Of the frame that the copier would choose, which may be
+-- emptied by fewer blocks than it has, the least object that holds a block there was moved all the same.
 pub record IsGathered (d : DriveFields) (c : Candidate) (later : DriveFields) : Type 0 where
   pub short : room (store_of d) < MOVE_BLOCKS
   pub frame : IsFirstFrame d.store.table c.frame
   pub object : IsLowestObject d.store.table c.frame c.object
+  pub free : 0 < free_count d.store.table
+  pub few : most_to_empty d c.frame < PAYLOAD_BLOCKS
   pub moved : MovesNow d c.frame c.object (Ok tt) later
+
+-- emptying the frame that the copier would choose may take as many blocks as it has
+pub record TakesMany (d : DriveFields) : Type 0 where
+  pub frame : ℕ
+  pub first : IsFirstFrame d.store.table frame
+  pub many : PAYLOAD_BLOCKS ≤ most_to_empty d frame
+
+-- Why nothing is gathered: there is room for the copier's moves, no frame is sparse, none is free, or emptying the one that the copier
+-- would choose may take too many blocks.
+abbrev pub GathersNothing : DriveFields → Type 0
+GathersNothing d = (MOVE_BLOCKS ≤ room (store_of d)) ⊎ (NoneIsSparse d.store.table ⊎ ((free_count d.store.table ≡ 0) ⊎ TakesMany d))

@@ -1,13 +1,17 @@
 //! Gathering: where there is too little room for the copier's moves, a frame that holds little is emptied within the reserve.
-ghost use Rattle.std.specs.Prelude.{◌≡◌, OnOk, OnErr, IfOk, IfSome, IfNone};
+ghost use Rattle.std.specs.Prelude.{◌≡◌, ◌+◌, ◌≤◌, OnOk, OnErr, IfOk, IfSome, IfNone, nat_lt};
+ghost use Rattle.s4_types.specs.declared.limits.TheConstants.{PAYLOAD_BLOCKS};
+ghost use Rattle.object_map.specs.Rows.{row_of};
 ghost use Rattle.drive.specs.Fields.{state_in, store_of};
 ghost use Rattle.drive.specs.Keeping.{KeepsVersions};
-ghost use Rattle.segment_copier.specs.Gathering.{MovesNow, IsGathered};
+ghost use Rattle.segment_copier.specs.Choosing.{IsSparse};
+ghost use Rattle.segment_copier.specs.Gathering.{free_count, most_journal, most_rewritten, blocks_added, most_to_empty, MovesNow, IsGathered, GathersNothing};
 
 use crate::candidates::Candidate;
 use crate::choices::sparsest;
 use crate::commits::commit;
 use crate::plans::plan_move;
+use crate::states::is_free_now;
 use drive::{Drive, Session};
 use s4_types::limits::{CHECKPOINT_BLOCKS, JOURNAL_ENTRY_BYTES, MOVE_BLOCKS, PAYLOAD_BLOCKS};
 use s4_types::{ObjectId, Ptr, Refusal};
@@ -15,64 +19,104 @@ use segment_table::OverFrames;
 use segment_word::Naming;
 use std::alloc::Global;
 
-/// How many states a frame's word spells in its low bits: the first is that of a free frame.
-const STATES: u64 = 4;
-
 /// How many frames of a drive are free, retired ones among them.
 pub fn free_frames<J: Naming>(drive: &mut Drive<J>) -> u16
+    ensures number { result ≡ free_count drive.old.store.table }
     ensures same { drive.new ≡ drive.old }
 {
     let mut count = 0;
     for frame in 0..drive.frame_count() {
-        if drive.saved_word(frame) % STATES == 0 {
+        if is_free_now(drive, frame) {
             count += 1;
         }
     }
     count
 }
 
-/// How many blocks an object's checkpoint and its journal have at most: of two neighbouring journal blocks the entries have more
-/// bytes together than one block holds.
-fn most_rewritten<J: Naming>(drive: &Drive<J>, object: ObjectId) -> usize {
+/// How many blocks a journal has at most, by the bytes of its entries and of those in its newest block: of two neighbouring blocks the
+/// entries have more bytes together than one block holds.
+fn most_in_journal(bytes: u16, in_newest: u16) -> usize
+    ensures most { result ≡ most_journal bytes in_newest }
+    ensures few { result ≤ 300 }
+{
+    if bytes == 0 {
+        return 0;
+    }
+    if bytes == in_newest {
+        return 1;
+    }
+    bytes as usize / JOURNAL_ENTRY_BYTES * 2 + 1
+}
+
+/// How many blocks an object's checkpoint and its journal have at most.
+fn most_of_row<J: Naming>(drive: &Drive<J>, object: ObjectId) -> usize
+    ensures most { result ≡ most_rewritten (row_of drive.now.store.rows object) }
+    ensures few { result ≤ 301 }
+{
     let Some(row) = drive.row(object) else {
         return 0;
     };
-    let checkpoint = match row.checkpoint {
-        Some(_) => CHECKPOINT_BLOCKS,
-        None => 0,
-    };
-    if row.journal_bytes == 0 {
-        return checkpoint;
+    let journal = most_in_journal(row.journal_bytes, row.head_bytes);
+    match row.checkpoint {
+        Some(_) => journal + CHECKPOINT_BLOCKS,
+        None => journal,
     }
-    if row.journal_bytes == row.head_bytes {
-        return checkpoint + 1;
-    }
-    row.journal_bytes as usize / JOURNAL_ENTRY_BYTES * 2 + 1 + checkpoint
 }
 
-/// Whether a frame is emptied by fewer blocks than it has. An object whose blocks there aren't neighbours counts more than once.
+/// How many blocks it may take to move the blocks of a frame that were looked at, and the object of the last one that is held.
+#[derive(Clone, Copy)]
+struct Counted {
+    count: usize,
+    last: ObjectId,
+}
+
+/// How many blocks it may take more, where the next held block is of this object, and the one before it of the last one.
+fn added_by<J: Naming>(drive: &Drive<J>, last: ObjectId, object: ObjectId) -> usize
+    ensures added { result ≡ blocks_added drive.now.store.rows last object }
+    ensures few { result ≤ 302 }
+{
+    if object == last {
+        return 1;
+    }
+    most_of_row(drive, object) + 1
+}
+
+/// With one held block more, which is of this object.
+fn with_held<J: Naming>(drive: &Drive<J>, so_far: Counted, object: ObjectId) -> Counted
+    requires few { so_far.count ≤ 5000 }
+    ensures count { result.count ≡ so_far.count + blocks_added drive.now.store.rows so_far.last object }
+    ensures last { result.last ≡ object }
+    ensures few { result.count ≤ so_far.count + 302 }
+{
+    Counted {
+        count: so_far.count + added_by(drive, so_far.last, object),
+        last: object,
+    }
+}
+
+/// Whether a frame that a move can be made out of is emptied by fewer blocks than it has. An object whose blocks there aren't
+/// neighbours counts more than once.
 fn takes_few<J: Naming>(drive: &mut Drive<J>, frame: u16) -> bool
+    requires sparse { IsSparse drive.old.store.table frame }
+    ensures few { result ≡ nat_lt (most_to_empty drive.old frame) PAYLOAD_BLOCKS }
     ensures same { drive.new ≡ drive.old }
 {
     let Some(generation) = drive.generation(frame) else {
         return false;
     };
-    let mut count: usize = 0;
-    let mut last = ObjectId::new(0);
+    let mut so_far = Counted {
+        count: 0,
+        last: ObjectId::new(0),
+    };
     for index in 0..PAYLOAD_BLOCKS {
         let Some(place) = Ptr::new(frame, index as u8 + 1, generation) else {
             return false;
         };
-        let Some(role) = drive.role(place) else {
-            continue;
-        };
-        count = count.saturating_add(1);
-        if role.object != last {
-            count = count.saturating_add(most_rewritten(drive, role.object));
-            last = role.object;
+        if let Some(role) = drive.role(place) {
+            so_far = with_held(drive, so_far, role.object);
         }
     }
-    count < PAYLOAD_BLOCKS
+    so_far.count < PAYLOAD_BLOCKS
 }
 
 /// A whole move of an object's held blocks out of a frame, planned, copied and put in place before anything else is done with the drive.
@@ -95,9 +139,9 @@ fn move_now<J: Naming>(
 }
 
 /// One step of gathering, where there is too little room for the copier's moves: out of the frame that the copier would choose goes the
-/// object that it would, with blocks of the reserve. None where the copier has room, where no frame is sparse, or where emptying it
-/// may take as many blocks as it has, or more than are left: then nothing has changed. So what is gathered leaves the cleaner more of
-/// the reserve than it had, once the frame is free.
+/// object that it would, with blocks of the reserve. None exactly where the copier has room, where no frame is sparse or none is free,
+/// or where emptying the frame may take as many blocks as it has: then nothing has changed. So what is gathered leaves the cleaner more
+/// of the reserve than it had, once the frame is free.
 ///
 /// The history and every version that can be read stay, whatever is answered. After a refusal nothing has changed: NoMemory, or
 /// Busy or NoRoom as [`plan_move`] and [`commit`] answer them.
@@ -107,6 +151,7 @@ pub fn gather<J: Naming>(
     session: &mut Session<J>,
 ) -> Result<Option<Candidate>, Refusal>
     ensures moved { IfOk result (λ found. IfSome found (λ c. IsGathered drive.old c drive.new)) }
+    ensures idle { IfOk result (λ found. IfNone found (GathersNothing drive.old)) }
     ensures none { IfOk result (λ found. IfNone found (drive.new ≡ drive.old)) }
     ensures unchanged { OnErr result (store_of drive.new ≡ store_of drive.old) }
     ensures ledger { drive.new.ledger ≡ drive.old.ledger }
@@ -118,7 +163,10 @@ pub fn gather<J: Naming>(
     let Some(next) = sparsest(drive)? else {
         return Ok(None);
     };
-    if free_frames(drive) == 0 || !takes_few(drive, next.frame) {
+    if free_frames(drive) == 0 {
+        return Ok(None);
+    }
+    if !takes_few(drive, next.frame) {
         return Ok(None);
     }
     move_now(alloc, drive, session, next.frame, next.object)?;
