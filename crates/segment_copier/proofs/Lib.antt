@@ -7,3 +7,4 @@ pub mod Chosen
 pub mod Gathered
 pub mod Stated
 pub mod Emptied
+pub mod Costly

@@ -6,7 +6,7 @@ use Rattle.segment_table.specs.Room.{pointers_in}
 use Rattle.version_store.specs.declared.copies.CopiedBlock.{CopiedBlock}
 use Rattle.drive.specs.Fields.{DriveFields}
 use Rattle.segment_copier.specs.Moves.{is_data, data_in}
-use Rattle.segment_copier.specs.Commits.{copy_at, copies_in}
+use Rattle.segment_copier.specs.Commits.{copy_at}
 use Rattle.segment_copier.specs.private.Copying.{IsTrueIn}
 use Rattle.segment_copier.proofs.Placed.{true_copies, same_copies, data_held}
 use Rattle.segment_copier.proofs.Gathered.{on_ok_of}

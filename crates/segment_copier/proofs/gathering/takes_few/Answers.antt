@@ -7,7 +7,7 @@ use Rattle.segment_table.specs.Room.{whole_of}
 use Rattle.drive.specs.Fields.{DriveFields}
 use Rattle.segment_copier.specs.declared.gathering.Counted.{Counted}
 use Rattle.segment_copier.specs.Gathering.{blocks_added, most_to_move, most_to_empty}
-use Rattle.segment_copier.proofs.Emptied.{counted_with, counted_without, counted_all, sparse_inside}
+use Rattle.segment_copier.proofs.Emptied.{counted_with, counted_without, counted_all}
 use Rattle.segment_copier.proofs.gathering.takes_few.Goals as goal
 use Rattle.segment_copier.proofs.gathering.takes_few.Goals.{in-Some-role, in_default-role}
 
