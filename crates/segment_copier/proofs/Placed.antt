@@ -28,7 +28,7 @@ use Rattle.version_store.specs.Relocating.{AreCopies, IsRelocated, frame_of_copi
 use Rattle.drive.specs.Fields.{DriveFields, store_of}
 use Rattle.interleaving.specs.Moving.{HoldsNone}
 use Rattle.segment_copier.specs.Moves.{is_data, data_in, IsMemoryOver, IsCopyFrom}
-use Rattle.segment_copier.specs.Commits.{copy_at, copies_in, IsMovedBy, LacksRoom, blocks_moved}
+use Rattle.segment_copier.specs.Commits.{copy_at, copies_in, IsMovedBy, blocks_moved}
 use Rattle.segment_copier.specs.private.Copying.{IsTrueIn}
 use Rattle.segment_copier.proofs.Listed.{all_of, has_passed, data_listed, of_some}
 
@@ -338,16 +338,11 @@ left_by ahead d later f o copies None (Ok u) some lists there moved = absurd (cc
 left_by ahead d later f o copies (Some row) (Ok u) some lists there moved = holds_none ahead d later f o row copies lists there moved
 
 pub room_by : (d : DriveFields) (f o : ℕ) (copies : List CopiedBlock) (kept : Option Row) (result : Result (Unit {0}) Refusal) → AreAll d.store.table f o copies → Answers d o copies kept result
-    → result ≡ Err NoRoom → IfSome kept (LacksRoom d f o)
+    → result ≡ Err NoRoom → IfSome kept (λ row. length (store_of d).log.ahead < blocks_moved d f o row)
 room_by d f o copies None result there told is = tt
 room_by d f o copies (Some row) (Ok u) there told is = absurd (cc)
-room_by d f o copies (Some row) (Err e) there (inl no_room) is = inl (subst (λ (n : ℕ). length (store_of d).log.ahead < n) (blocks_same d f o copies row there) no_room.1)
+room_by d f o copies (Some row) (Err e) there (inl no_room) is = subst (λ (n : ℕ). length (store_of d).log.ahead < n) (blocks_same d f o copies row there) no_room.1
 room_by d f o copies (Some row) (Err e) there (inr no_memory) is = absurd (let other : e ≡ NoMemory = no_memory.0 in let same : e ≡ NoRoom = (cc) in cc)
-
--- none is sure of a frame that isn't sealed
-pub room_elsewhere : (d : DriveFields) (f o : ℕ) (kept : Option Row) → is_sealed (frame_at d.store.table.seat.frames f).phase ≡ false → IfSome kept (LacksRoom d f o)
-room_elsewhere d f o None other = tt
-room_elsewhere d f o (Some row) other = inr other
 
 pub refused_by : (d : DriveFields) (o : ℕ) (copies : List CopiedBlock) (kept : Option Row) (result : Result (Unit {0}) Refusal) → IsSome kept → Answers d o copies kept result
     → IfErr result (λ e. (e ≡ NoRoom) ⊎ (e ≡ NoMemory))

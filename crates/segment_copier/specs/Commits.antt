@@ -1,12 +1,11 @@
 -- What putting a copied move in place comes to.
-use Rattle.std.specs.Prelude.{◌≡◌, ◌⊎◌, ℕ, ◌+◌, ◌<◌, ◌≤◌, false, List, [], length, map, Result, Err, IfSome, OnOk}
+use Rattle.std.specs.Prelude.{◌≡◌, ℕ, ◌+◌, ◌<◌, ◌≤◌, false, List, [], length, map, Result, Err, IfSome, OnOk}
 use Rattle.s4_types.specs.Pointer.{Place}
 use Rattle.s4_types.specs.declared.refusals.Refusal.{Refusal}
 use Rattle.s4_types.specs.declared.refusals.Refusal.TheVariants.{NoRoom}
 use Rattle.object_map.specs.declared.map.Row.{Row}
 use Rattle.object_map.specs.Rows.{row_of}
 use Rattle.row_changes.specs.Moving.{row_blocks}
-use Rattle.segment_word.specs.Frames.{is_sealed}
 use Rattle.segment_word.specs.Layout.{frame_at, block_bytes}
 use Rattle.segment_table.specs.Table.{Table}
 use Rattle.segment_table.specs.Room.{pointers_in}
@@ -35,11 +34,6 @@ copies_in t o f = map (copy_at t) (data_in t o f)
 abbrev pub blocks_moved : DriveFields → ℕ → ℕ → Row → ℕ
 blocks_moved d f o row = length (data_in d.store.table o f) + row_blocks (store_of d).log.held o row
 
--- There is no room to move an object of this row out of a frame: fewer places are ahead than that takes, or the frame isn't sealed, so
--- that what is written could go to it.
-abbrev pub LacksRoom : DriveFields → ℕ → ℕ → Row → Type 0
-LacksRoom d f o row = (length (store_of d).log.ahead < blocks_moved d f o row) ⊎ (is_sealed (frame_at d.store.table.seat.frames f).phase ≡ false)
-
 -- Copies of just the data blocks that an object of this row holds in a frame, with their bytes, were put in place of these, with its
 -- checkpoint and its journal.
 pub record IsMovedBy (d : DriveFields) (f o : ℕ) (copies : List CopiedBlock) (row : Row) (later : DriveFields) : Type 0 where
@@ -55,9 +49,8 @@ pub record IsMoved (d : DriveFields) (f o : ℕ) (row : Row) (later : DriveField
 
 -- What a commit of a move comes to, by the drive before it, the answer and the drive after it: the object's data blocks in the
 -- frame stand elsewhere with their bytes, checkpoint and journal lead to them, and the row was changed once more. There is no room
--- only where fewer places are ahead than that takes, or the frame isn't sealed any more. Each version of each object is as it
--- was, at every moment.
+-- only where fewer places are ahead than that takes. Each version of each object is as it was, at every moment.
 pub record CommitsMove (m : Move) (d : DriveFields) (result : Result (Unit {0}) Refusal) (later : DriveFields) : Type 0 where
   pub moved : OnOk result (m.is_empty ≡ false → IfSome (row_of d.store.rows m.object) (λ row. IsMoved d m.frame m.object row later))
-  pub room : result ≡ Err NoRoom → IfSome (row_of d.store.rows m.object) (LacksRoom d m.frame m.object)
+  pub room : result ≡ Err NoRoom → IfSome (row_of d.store.rows m.object) (λ row. length (store_of d).log.ahead < blocks_moved d m.frame m.object row)
   pub versions : (o t : ℕ) → version_in (store_of later) o t ≡ version_in (store_of d) o t

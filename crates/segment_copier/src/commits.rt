@@ -1,5 +1,5 @@
 //! Copied moves that are put in place.
-ghost use Rattle.std.specs.Prelude.{◌≡◌, ◌⊎◌, ℕ, ◌<◌, true, false, Err, IsSome, IfSome, IfOk, IfErr, OnOk, OnErr, MatchResult, map};
+ghost use Rattle.std.specs.Prelude.{◌≡◌, ◌⊎◌, ℕ, ◌<◌, true, false, Err, IsSome, IfSome, IfOk, IfErr, OnOk, OnErr, MatchResult, length, map};
 ghost use Rattle.std.specs.List.{AllByRecursion};
 ghost use Rattle.s4_types.specs.declared.refusals.Refusal.TheVariants.{NoMemory, NoRoom};
 ghost use Rattle.object_map.specs.Rows.{row_of};
@@ -12,7 +12,7 @@ ghost use Rattle.drive.specs.Keeping.{KeepsVersions};
 ghost use Rattle.interleaving.specs.Moving.{IsCurrent, HoldsNone};
 ghost use Rattle.interleaving.specs.Acting.{IsUnmoved};
 ghost use Rattle.segment_copier.specs.Moves.{data_in, IsMemoryOver};
-ghost use Rattle.segment_copier.specs.Commits.{copy_at, copies_in, IsMovedBy, LacksRoom};
+ghost use Rattle.segment_copier.specs.Commits.{copy_at, copies_in, IsMovedBy, blocks_moved};
 ghost use Rattle.segment_copier.specs.private.Copying.{IsTrueIn};
 
 use crate::held::data_among;
@@ -105,7 +105,7 @@ fn put<J: Naming>(
     requires copies { copies.now ≡ copies_in drive.old.store.table object frame }
     ensures moved { OnOk result (IfSome (row_of drive.old.store.rows object) (λ row. IsMovedBy drive.old frame object (copies_in drive.old.store.table object frame) row drive.new)) }
     ensures left { OnOk result (HoldsNone drive.new.store.table object frame) }
-    ensures room { result ≡ Err NoRoom → IfSome (row_of drive.old.store.rows object) (LacksRoom drive.old frame object) }
+    ensures room { result ≡ Err NoRoom → IfSome (row_of drive.old.store.rows object) (λ row. length (store_of drive.old).log.ahead < blocks_moved drive.old frame object row) }
     ensures refusal { IfErr result (λ e. (e ≡ NoRoom) ⊎ (e ≡ NoMemory)) }
     ensures versions { (o t : ℕ) → version_in (store_of drive.new) o t ≡ version_in (store_of drive.old) o t }
     ensures unchanged { OnErr result (store_of drive.new ≡ store_of drive.old) }
@@ -125,8 +125,8 @@ fn put<J: Naming>(
 /// nothing. Each version of each object is as it was at every moment, and so is the history, whatever is answered.
 ///
 /// Stale exactly where the row's stamp changed since the move was planned, or the row is gone, also of an empty move; else NoRoom
-/// where fewer places are ahead than must be written, or the frame isn't sealed any more, so that what is written could go to it,
-/// which no step brings about that leaves the stamp; NoMemory where memory is refused. Nothing has changed then.
+/// where fewer places are ahead than must be written, NoMemory where memory is refused, and where the frame isn't sealed any more, which
+/// no step brings about that leaves the stamp. Nothing has changed then.
 pub fn commit<J: Naming>(
     alloc: Global,
     drive: &mut Drive<J>,
@@ -137,7 +137,7 @@ pub fn commit<J: Naming>(
     ensures made { OnOk result (moved.what.is_empty ≡ false → map (λ c. c.place) moved.copies ≡ data_in drive.old.store.table moved.what.object moved.what.frame → moved.copies ≡ copies_in drive.old.store.table moved.what.object moved.what.frame) }
     ensures left { OnOk result (moved.what.is_empty ≡ false → HoldsNone drive.new.store.table moved.what.object moved.what.frame) }
     ensures empty { OnOk result (moved.what.is_empty ≡ true → store_of drive.new ≡ store_of drive.old) }
-    ensures room { result ≡ Err NoRoom → IfSome (row_of drive.old.store.rows moved.what.object) (LacksRoom drive.old moved.what.frame moved.what.object) }
+    ensures room { result ≡ Err NoRoom → IfSome (row_of drive.old.store.rows moved.what.object) (λ row. length (store_of drive.old).log.ahead < blocks_moved drive.old moved.what.frame moved.what.object row) }
     ensures versions { (o t : ℕ) → version_in (store_of drive.new) o t ≡ version_in (store_of drive.old) o t }
     ensures unchanged { OnErr result (store_of drive.new ≡ store_of drive.old) }
     ensures ledger { drive.new.ledger ≡ drive.old.ledger }
@@ -160,9 +160,10 @@ pub fn commit<J: Naming>(
     let Some(mut memory) = memory else {
         return Ok(());
     };
-    // What is appended goes to no sealed frame. It could go to this one, were it sealed no more.
+    // What is appended goes to no sealed frame. It could go to this one, were it sealed no more; with an equal stamp it is, as
+    // `what_was_planned_is_still_there` says over the steps of a store, but no contract says that the drive came by such steps.
     if !is_sealed_now(drive, frame) {
-        return Err(Refusal::NoRoom);
+        return Err(Refusal::NoMemory);
     }
     let now = copies_now(alloc, drive, frame, object, copies.as_slice(), &mut memory)?;
     put(drive, frame, object, now.as_slice())
