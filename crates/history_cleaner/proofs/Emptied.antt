@@ -1,6 +1,6 @@
 -- Frames that hold nothing are marked and released, one after the other.
 use Rattle.std.proofs.Common.{◌≡◌, ◌⊎◌, ℕ, zero, suc, ◌+◌, ◌<◌, ◌≤◌, Bool, true, false, cond, Result, Ok, Err, inl, inr, List, [], ◌∷◌, length, Option, refl, sym, ap, subst, ◌∙◌, arith}
-use Rattle.std.specs.Prelude.{MatchResult, OnOk, OnErr, IfOk, IfErr, slice_set, count_by}
+use Rattle.std.specs.Prelude.{OnOk, IfErr, slice_set, count_by}
 use Rattle.std.specs.List.{range_with_len}
 use Rattle.std.proofs.lemmas.Bool.{cases_eq, false≢true}
 use Rattle.std.proofs.lemmas.List.{get_or-set_same, get_or-set_other, length-set}
@@ -183,7 +183,7 @@ none_released d = record {
   ledger = refl;
 }
 
-pub released_frame : (old new : Table) (f k : ℕ) → IsReleased f old new → (k ≡ f → ⊥) → frame_at new.seat.frames k ≡ frame_at old.seat.frames k
+released_frame : (old new : Table) (f k : ℕ) → IsReleased f old new → (k ≡ f → ⊥) → frame_at new.seat.frames k ≡ frame_at old.seat.frames k
 released_frame old new f k done other = ap (λ (d : Drive). frame_at d.frames k) done.seat ∙ changed_else old.seat.frames f k (released (frame_at old.seat.frames f)) other
 
 released_here : (old new : Table) (f : ℕ) → IsReleased f old new → frame_at new.seat.frames f ≡ released (frame_at old.seat.frames f)

@@ -310,8 +310,11 @@ kept_untouched s later o kept = record {
 }
 
 -- what was cleaned stays cleaned
+pub cleaned_kept : (s mid later : StoreFields) (state : State) (o : ℕ) → IsCleaned s mid state o → KeepsObjects mid later → IsCleaned s later state o
+cleaned_kept s mid later state o cleaned kept = cleaned_stays s mid later state o (kept_untouched mid later o kept) cleaned
+
 pub all_kept : (s mid later : StoreFields) (state : State) → ((o : ℕ) → IsCleaned s mid state o) → KeepsObjects mid later → (o : ℕ) → IsCleaned s later state o
-all_kept s mid later state all kept o = cleaned_stays s mid later state o (kept_untouched mid later o kept) (all o)
+all_kept s mid later state all kept o = cleaned_kept s mid later state o (all o) kept
 
 pub stopped_at_reader : (d mid later : DriveFields) (e : Refusal) → ((o : ℕ) → IsCleaned (store_of d) (store_of mid) (state_in d) o) → KeepsObjects (store_of mid) (store_of later) → (e ≡ InUse) × HasFoundReader mid.store.table.seat later.store.table.seat
     → StoppedAt (store_of d) (store_of later) (state_in d) e ⊎ StoppedAtReader d later e

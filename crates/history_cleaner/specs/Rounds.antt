@@ -1,58 +1,88 @@
 -- What a turn of the cleaner's rounds comes to.
-use Rattle.std.specs.Prelude.{◌≡◌, ◌⊎◌, ℕ, ◌+◌, ◌<◌, ◌≤◌, Bool, List, None, length, count_by}
-use Rattle.std.specs.List.{range_with_len}
+use Rattle.std.specs.Prelude.{◌≡◌, ◌≢◌, ◌⊎◌, ℕ, zero, suc, ◌<◌, ◌≤◌, Bool, true, false, ◌||◌, None, Result, MatchResult, length}
+use Rattle.s4_types.specs.declared.limits.TheConstants.{MOVE_BLOCKS}
+use Rattle.s4_types.specs.declared.refusals.Refusal.{Refusal}
 use Rattle.s4_types.specs.declared.refusals.Refusal.TheVariants.{NoMemory, NoRoom}
-use Rattle.segment_word.specs.Frames.{Frame, is_draining}
+use Rattle.segment_word.specs.Frames.{Draining}
 use Rattle.segment_word.specs.Layout.{frame_at}
-use Rattle.segment_word.specs.Handles.{Drive}
+use Rattle.segment_word.specs.Handles.{Drive, HasMissed, with_released}
 use Rattle.segment_table.specs.Table.{Table}
 use Rattle.object_map.specs.Rows.{row_of}
 use Rattle.object_map.specs.Objects.{IsNextAbove}
-use Rattle.s4_model.specs.State.{State}
-use Rattle.version_store.specs.Store.{StoreFields}
+use Rattle.version_store.specs.Costs.{room}
+use Rattle.version_store.specs.Upkeep.{KeepsObjects}
+use Rattle.drive.specs.Fields.{DriveFields, state_in, store_of}
 use Rattle.history_cleaner.specs.declared.rounds.Turn.{Turn}
 use Rattle.history_cleaner.specs.declared.rounds.Turn.TheVariants.{Cleaned, PassedOver, Ended}
-use Rattle.history_cleaner.specs.Cleaning.{Cleans, IsClean, HasNoRoom}
-use Rattle.version_store.specs.Upkeep.{KeepsObjects}
+use Rattle.history_cleaner.specs.Cleaning.{Cleans, HasNoRoom}
 use Rattle.history_cleaner.specs.Emptying.{MarkedBelow}
+use Rattle.history_cleaner.specs.Passing.{has_other_row, has_lost_row, IsCleaned}
 
--- whether frame f of a list is being emptied
-abbrev pub empties : List Frame → ℕ → Bool
-empties frames f = is_draining (frame_at frames f).phase
+-- The release of frame f was tried if it was being emptied: it is free at its next generation, or the word that was found counted a
+-- reader, and no frame has changed. Else nothing has.
+pub record TriesFrame (f : ℕ) (old new : Drive) : Type 0 where
+  pub tried : (frame_at old.frames f).phase ≡ Draining → (new ≡ with_released old f) ⊎ HasMissed f old new
+  pub idle : (frame_at old.frames f).phase ≢ Draining → new ≡ old
 
--- As many releases were tried as frames below f were being emptied; the frames from f on are as they were.
-pub record TriedBelow (f : ℕ) (old new : Drive) : Type 0 where
-  pub count : length new.frames ≡ length old.frames
-  pub from : (k : ℕ) → f ≤ k → frame_at new.frames k ≡ frame_at old.frames k
-  pub tried : new.releases.tried ≡ old.releases.tried + count_by (empties old.frames) (range_with_len 0 f)
+-- The release of each frame below f was tried that was being emptied, one after the other and of each once.
+abbrev pub TriedBelow : ℕ → Drive → Drive → Type 0
+TriedBelow zero old new = new ≡ old
+TriedBelow (suc f) old new = (between : Drive) × TriedBelow f old between × TriesFrame f between new
 
--- All frames of a table were marked that could be, and then as many releases were tried as frames were being emptied.
+-- All frames of a table were marked that could be, and then the release of each was tried that was being emptied.
 pub record IsSwept (old new : Table) : Type 0 where
   pub between : Table
   pub marked : MarkedBelow (length old.seat.frames) old between
   pub tried : TriedBelow (length old.seat.frames) between.seat new.seat
 
--- the next object with a row was cleaned
-pub record CleansNext (s : StoreFields) (state : State) (passed object next : ℕ) (later : StoreFields) : Type 0 where
-  pub above : IsNextAbove s.rows passed object
-  pub comes_to : next ≡ object
-  pub cleaned : Cleans s state object later
-  pub clean : IsClean later state object
+-- Frames were emptied where an object was changed and less room was left than a move takes, and else nothing has changed.
+pub record IsTidied (is_changed : Bool) (d later : DriveFields) : Type 0 where
+  pub short : is_changed ≡ true → room (store_of d) < MOVE_BLOCKS → IsSwept d.store.table later.store.table
+  pub ample : MOVE_BLOCKS ≤ room (store_of d) → later ≡ d
+  pub idle : is_changed ≡ false → later ≡ d
 
--- the next object with a row could not be cleaned, and nothing has changed
-pub record PassesOver (s : StoreFields) (passed object next : ℕ) (later : StoreFields) : Type 0 where
-  pub above : IsNextAbove s.rows passed object
-  pub comes_to : next ≡ object
-  pub same : later ≡ s
+-- whether an object's row has another stamp than before, or is gone
+abbrev pub has_changed_row : DriveFields → DriveFields → ℕ → Bool
+has_changed_row d later object = has_other_row d.store.rows later.store.rows object || has_lost_row d.store.rows later.store.rows object
 
--- No object with a row was left: all objects are as they were, and the next round begins.
-pub record EndsRound (s : StoreFields) (passed next : ℕ) (later : StoreFields) : Type 0 where
-  pub none : (q : ℕ) → passed < q → row_of s.rows q ≡ None
+-- An object was cleaned, and then frames were emptied where that has changed something and little room was left.
+pub record IsVisited (d : DriveFields) (object : ℕ) (later : DriveFields) : Type 0 where
+  pub between : DriveFields
+  pub put : Cleans (store_of d) (state_in d) object (store_of between)
+  pub cleaned : IsCleaned (store_of d) (store_of later) (state_in d) object
+  pub tidied : IsTidied (has_changed_row d between object) between later
+  pub objects : KeepsObjects (store_of between) (store_of later)
+
+-- why an object isn't cleaned
+abbrev pub IsPutOff : DriveFields → ℕ → Refusal → Type 0
+IsPutOff d object refusal = (refusal ≡ NoMemory) ⊎ ((refusal ≡ NoRoom) × HasNoRoom (store_of d) (state_in d) object)
+
+-- What the turn of one object comes to: it was visited, or it could not be cleaned, and nothing has changed.
+abbrev pub Visits : DriveFields → ℕ → Result (Unit {0}) Refusal → DriveFields → Type 0
+Visits d object done later = MatchResult done (λ _. IsVisited d object later) (λ refusal. (store_of later ≡ store_of d) × IsPutOff d object refusal)
+
+-- the next object with a row was visited
+pub record CleansNext (d : DriveFields) (passed object next : ℕ) (later : DriveFields) : Type 0 where
+  pub above : IsNextAbove d.store.rows passed object
+  pub comes_to : next ≡ object
+  pub visited : IsVisited d object later
+
+-- the next object with a row could not be cleaned, for this reason, and nothing has changed
+pub record PassesOver (d : DriveFields) (passed object : ℕ) (refusal : Refusal) (next : ℕ) (later : DriveFields) : Type 0 where
+  pub above : IsNextAbove d.store.rows passed object
+  pub comes_to : next ≡ object
+  pub same : store_of later ≡ store_of d
+  pub why : IsPutOff d object refusal
+
+-- No object with a row was left: all objects are as they were, frames were emptied, and the next round begins.
+pub record EndsRound (d : DriveFields) (passed next : ℕ) (later : DriveFields) : Type 0 where
+  pub none : (q : ℕ) → passed < q → row_of d.store.rows q ≡ None
   pub begins : next ≡ 0
-  pub objects : KeepsObjects s later
+  pub objects : KeepsObjects (store_of d) (store_of later)
+  pub swept : IsSwept d.store.table later.store.table
 
 -- what a turn comes to, by what it answers
-abbrev pub Turns : StoreFields → State → ℕ → Turn → ℕ → StoreFields → Type 0
-Turns s state passed (Cleaned object) next later = CleansNext s state passed object next later
-Turns s state passed (PassedOver object refusal) next later = PassesOver s passed object next later × ((refusal ≡ NoMemory) ⊎ ((refusal ≡ NoRoom) × HasNoRoom s state object))
-Turns s state passed Ended next later = EndsRound s passed next later
+abbrev pub Turns : DriveFields → ℕ → Turn → ℕ → DriveFields → Type 0
+Turns d passed (Cleaned object) next later = CleansNext d passed object next later
+Turns d passed (PassedOver object refusal) next later = PassesOver d passed object refusal next later
+Turns d passed Ended next later = EndsRound d passed next later

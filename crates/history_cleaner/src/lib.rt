@@ -5,8 +5,9 @@
 //! moment that can be read, and an object that is absent at all of them has no row. Nothing is written where the chain would
 //! hold the entries that it holds. [`empty_frames`] leaves no frame that holds nothing but free ones and the open one.
 //! [`full_pass`] cleans all objects and then empties the frames, and counts the rows and frames that have changed since it began.
-//! [`Rounds`] goes over all objects in turns that are short enough to be taken beside sessions. `laws` says what holds of the
-//! chains of stored objects, and that of a cleaned one just that data is held which can be reached.
+//! [`Rounds`] goes over all objects in turns that are short enough to be taken beside sessions; [`visit`] is the turn of one object,
+//! and [`sweep`] empties frames, past those that have a reader. `laws` says what holds of the chains of stored objects, and that of
+//! a cleaned one just that data is held which can be reached.
 #![tactic(auto)]
 
 mod cleaner;
@@ -23,4 +24,4 @@ pub use cleaner::Cleaner;
 pub use cleaning::clean_object;
 pub use frames::empty_frames;
 pub use passes::{PassReport, full_pass};
-pub use rounds::{Rounds, Turn};
+pub use rounds::{Rounds, Turn, sweep, visit};

@@ -42,7 +42,7 @@ struct Cleanings {
 }
 
 /// Whether a row that stands has another stamp than before.
-fn is_other(row: &Option<Row>, later: &Option<Row>) -> bool
+pub(crate) fn is_other(row: &Option<Row>, later: &Option<Row>) -> bool
     ensures { result ≡ is_other row.now later.now }
 {
     match (row, later) {
@@ -52,7 +52,7 @@ fn is_other(row: &Option<Row>, later: &Option<Row>) -> bool
 }
 
 /// Whether a row is gone.
-fn is_gone(row: &Option<Row>, later: &Option<Row>) -> bool
+pub(crate) fn is_gone(row: &Option<Row>, later: &Option<Row>) -> bool
     ensures { result ≡ is_gone row.now later.now }
 {
     row.is_some() && later.is_none()
