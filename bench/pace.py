@@ -6,13 +6,18 @@ window of 100 moments; each request takes one. For each number of frames a line 
 NoSpace and as ChainFull, and the seconds by the clock of the run without those of a run whose session asks nothing. The figures
 depend on what else the machine does.
 
+With `--many` it is one of 15,000 objects on 1,024 frames that is written, 100,000 times; the others have no history left then. So the
+seconds tell what rounds cost that have one object to clean.
+
 Beside it: what a million Writes would take that need no upkeep, by the time of 3,600 Writes (all that 1,024 frames take) of a run
 without upkeep, the shortest of some trials; and a million Reads of 100 bytes without upkeep and with it.
 
-    pace.py [--count N] [PROGRAM]      N Writes and Reads in place of 1,000,000
+    pace.py [--count N] [PROGRAM]             N Writes and Reads in place of 1,000,000
+    pace.py --many [--count N] [PROGRAM ..]   one line for each program
 """
 import argparse
 import os
+import shutil
 import subprocess
 import tempfile
 import time
@@ -24,6 +29,8 @@ FRAMES = (16, 64, 1_024)
 OBJECTS = 16
 TAKEN = 3_600  # Writes that 1,024 frames take without upkeep
 TRIALS = 5
+WINDOW = 100
+MANY = 15_000
 NAMES = {9: "NoSpace", 12: "ChainFull"}
 
 
@@ -42,14 +49,25 @@ def put(path, data):
 
 def made(program, frames):
     """An image in this folder, with objects that were written once."""
-    subprocess.run([program, "new", "--window", "100", "image", str(frames)], check=True)
+    subprocess.run([program, "new", "--window", str(WINDOW), "image", str(frames)], check=True)
     put("made", wire.create() * OBJECTS + writes(OBJECTS))
     subprocess.run([program, "run", "--no-upkeep", "image", "client:made:/dev/null"], check=True)
 
 
-def served(program, frames, requests, words):
-    """The seconds of a session over a new image, and its replies."""
-    made(program, frames)
+def made_many(program):
+    """An image in this folder of as many objects as there are, all of whose history is freed: rounds are taken until nothing changes."""
+    subprocess.run([program, "new", "--window", str(WINDOW), "image", "1024"], check=True)
+    put("made", wire.create() * MANY)
+    subprocess.run([program, "run", "--no-upkeep", "image", "client:made:/dev/null"], check=True)
+    put("aged", wire.get_attr(1) * (WINDOW + 1))
+    before = None
+    while before != os.path.getsize("image"):
+        before = os.path.getsize("image")
+        subprocess.run([program, "run", "image", "client:aged:/dev/null"], check=True)
+
+
+def served(program, requests, words):
+    """The seconds of a session over the image, and its replies."""
     taken = []
     for asked in (b"", requests):
         put("asked", asked)
@@ -71,26 +89,52 @@ def tallied(replies):
     return counts
 
 
+def print_taken(told, seconds, replies):
+    counts = tallied(replies)
+    names = ", ".join(f"{counts.get(name, 0):,} {name}" for name in ("taken", "NoSpace", "ChainFull"))
+    print(f"{told}: {names}, {seconds:.1f} s", flush=True)
+
+
+def shortest(program, requests, words):
+    """The least seconds of some trials, each over a new image of 1,024 frames."""
+    taken = []
+    for _ in range(TRIALS):
+        made(program, 1_024)
+        taken.append(served(program, requests, words)[0])
+    return min(taken)
+
+
+def measure_many(programs, count):
+    made_many(programs[0])
+    shutil.copy("image", "many")
+    for program in programs:
+        shutil.copy("many", "image")
+        print_taken(program, *served(program, wire.write(1, 0, b"w" * SMALL) * count, []))
+
+
+def measure(program, count):
+    for frames in FRAMES:
+        made(program, frames)
+        print_taken(f"{frames:,} frames", *served(program, writes(count), []))
+    alone = shortest(program, writes(TAKEN), ["--no-upkeep"])
+    print(f"Writes that need no upkeep: {alone * count / TAKEN:.1f} s", flush=True)
+    for told, words in (("without", ["--no-upkeep"]), ("with", [])):
+        print(f"Reads {told} upkeep: {shortest(program, reads(count), words):.2f} s", flush=True)
+
+
 def main():
     words = argparse.ArgumentParser(description="Whether upkeep keeps pace with a session that never pauses.")
-    words.add_argument("--count", type=int, default=1_000_000)
+    words.add_argument("--many", action="store_true")
+    words.add_argument("--count", type=int)
     words.add_argument("program", nargs="*")
     line = words.parse_args()
-    program = wire.programs(line.program)[0]
+    programs = wire.programs(line.program)
     with tempfile.TemporaryDirectory() as folder:
         os.chdir(folder)
-        asked = writes(line.count)
-        for frames in FRAMES:
-            seconds, replies = served(program, frames, asked, [])
-            counts = tallied(replies)
-            told = ", ".join(f"{counts.get(name, 0):,} {name}" for name in ("taken", "NoSpace", "ChainFull"))
-            print(f"{frames:,} frames: {told}, {seconds:.1f} s", flush=True)
-        alone = min(served(program, 1_024, writes(TAKEN), ["--no-upkeep"])[0] for _ in range(TRIALS))
-        print(f"Writes that need no upkeep: {alone * line.count / TAKEN:.1f} s", flush=True)
-        asked = reads(line.count)
-        for told, words in (("without", ["--no-upkeep"]), ("with", [])):
-            seconds = min(served(program, 1_024, asked, words)[0] for _ in range(TRIALS))
-            print(f"Reads {told} upkeep: {seconds:.2f} s", flush=True)
+        if line.many:
+            measure_many(programs, line.count or 100_000)
+        else:
+            measure(programs[0], line.count or 1_000_000)
 
 
 main()

@@ -30,7 +30,7 @@ taken_more base first (t ∷ ts) turn passed next (m, one, rest) taken = (m, one
 -- an object that had its turn stands above the one before it
 risen : (base : Base) (passed next : ℕ) (turn : Turn) → ends_round turn ≡ false → SharedTurn base passed turn next → passed < next
 risen base passed next (Cleaned object) going taken = subst (λ (n : ℕ). passed < n) (sym taken.turns.comes_to) taken.turns.above.above
-risen base passed next (PassedOver object refusal) going taken = subst (λ (n : ℕ). passed < n) (sym taken.turns.0.comes_to) taken.turns.0.above.above
+risen base passed next (PassedOver object refusal) going taken = subst (λ (n : ℕ). passed < n) (sym taken.turns.comes_to) taken.turns.above.above
 risen base passed next Ended going taken = absurd (false≢true (sym going))
 
 pub underway_more : (base : Base) (passed next count : ℕ) (turn : Turn) → IsUnderway base passed count → SharedTurn base passed turn next → ends_round turn ≡ false → IsUnderway base next (count + 1)

@@ -1,9 +1,11 @@
 -- What the cleaner does to a drive that sessions share.
-use Rattle.std.specs.Prelude.{◌≡◌, ℕ, Bool, true, false, List, [], ◌∷◌, length, All}
+use Rattle.std.specs.Prelude.{◌≡◌, ℕ, Bool, true, false, List, [], ◌∷◌, Result, length, All}
 use Rattle.s4_types.specs.History.{Base}
+use Rattle.s4_types.specs.declared.refusals.Refusal.{Refusal}
+use Rattle.version_store.specs.Upkeep.{KeepsObjects}
 use Rattle.drive.specs.Fields.{DriveFields, state_in, store_of}
 use Rattle.drive.specs.Keeping.{KeepsVersions}
-use Rattle.history_cleaner.specs.Rounds.{Turns, IsSwept}
+use Rattle.history_cleaner.specs.Rounds.{Turns, Visits, IsSwept}
 use Rattle.history_cleaner.specs.declared.rounds.Turn.{Turn}
 use Rattle.history_cleaner.specs.declared.rounds.Turn.TheVariants.{Ended}
 use Rattle.server.specs.declared.upkeep.Round.{Round}
@@ -14,10 +16,29 @@ pub record SharedTurn (base : Base) (passed : ℕ) (turn : Turn) (next : ℕ) : 
   pub before : DriveFields
   pub after : DriveFields
   pub begins : before.ledger.history.base ≡ base
-  pub turns : Turns (store_of before) (state_in before) passed turn next (store_of after)
-  pub swept : turn ≡ Ended → IsSwept before.store.table after.store.table
+  pub turns : Turns before passed turn next after
   pub ledger : after.ledger ≡ before.ledger
   pub needed : KeepsVersions (state_in before) (store_of before) (store_of after)
+
+-- An object had its turn, whichever it was, with the drive as sessions had left it, one of this base: its history is as it was, and
+-- every version that can be read stays.
+pub record SharedVisit (base : Base) (object : ℕ) : Type 0 where
+  pub before : DriveFields
+  pub done : Result (Unit {0}) Refusal
+  pub after : DriveFields
+  pub begins : before.ledger.history.base ≡ base
+  pub visits : Visits before object done after
+  pub ledger : after.ledger ≡ before.ledger
+  pub needed : KeepsVersions (state_in before) (store_of before) (store_of after)
+
+-- Frames were emptied of the drive as sessions had left it, one of this base: its history and all objects are as they were.
+pub record SharedSweep (base : Base) : Type 0 where
+  pub before : DriveFields
+  pub after : DriveFields
+  pub begins : before.ledger.history.base ≡ base
+  pub swept : IsSwept before.store.table after.store.table
+  pub objects : KeepsObjects (store_of before) (store_of after)
+  pub ledger : after.ledger ≡ before.ledger
 
 -- whether a turn ended its round
 abbrev pub ends_round : Turn → Bool

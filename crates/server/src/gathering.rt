@@ -9,7 +9,7 @@ use std::sync::{Mutex, Wait};
 use std::thread::yield_now;
 
 /// Turns of the cleaner after which it gathers: what so many write may fill a frame.
-pub(crate) const TURNS_BETWEEN: u64 = PAYLOAD_BLOCKS as u64;
+const TURNS_BETWEEN: u64 = PAYLOAD_BLOCKS as u64;
 
 /// Steps of gathering at one time, at most.
 const MOST_STEPS: usize = MOST_FRAMES;
@@ -35,5 +35,19 @@ pub(crate) fn gather_all<J: Naming>(
             return;
         }
         yield_now();
+    }
+}
+
+/// The cleaner has taken so many turns of a round: after some of them it gathers.
+pub(crate) fn gather_between<J: Naming>(
+    rt: &impl Wait,
+    alloc: Global,
+    drive: &Mutex<Drive<J>>,
+    pace: &Pace,
+    seat: &mut Option<Session<J>>,
+    turns: u64,
+) {
+    if turns % TURNS_BETWEEN == 0 {
+        gather_all(rt, alloc, drive, pace, seat);
     }
 }

@@ -7,6 +7,7 @@
 //! and every version that can be read stay, whatever the two do. In which order sessions that told each other nothing come is not said here.
 #![tactic(auto)]
 
+mod agenda;
 mod clocks;
 mod gate;
 mod gathering;

@@ -7,14 +7,15 @@ ghost use Rattle.drive.specs.Answering.{reply_planned};
 ghost use Rattle.drive.specs.Fields.{store_of};
 ghost use Rattle.version_store.specs.Versions.{version_in};
 ghost use Rattle.server.specs.Sharing.{SharedStep, HasMet, IsFresh, IsFetched};
-ghost use Rattle.server.specs.Upkeep.{SharedTurn};
+ghost use Rattle.server.specs.Upkeep.{SharedTurn, SharedVisit, SharedSweep};
 ghost use Rattle.server.specs.Moving.{SharedPlan, SharedCommit};
 ghost use Rattle.server.specs.Gathering.{SharedGather, SharedRelease};
 
+use crate::agenda::oldest_entry;
 use crate::gate::Gate;
-use crate::pace::{Pace, changed, hides};
+use crate::pace::{Effect, Pace, effect_of};
 use drive::{Drive, Session};
-use history_cleaner::{Rounds, Turn};
+use history_cleaner::{Rounds, Turn, sweep, visit};
 use s4_types::{Bytes, Moment, ObjectId, Refusal, Reply, Request, Role};
 use segment_copier::{
     Candidate, MovePlan, Moved, candidate, commit, free_frames, gather, plan_move,
@@ -72,18 +73,13 @@ fn hold_next<'a, J: Naming>(
 }
 
 /// A request is asked: whether it is a change that is to wait for the cleaner.
-fn is_pressed<J: Naming>(
-    rt: &impl Wait,
-    drive: &Drive<J>,
-    pace: &Pace,
-    object: Option<ObjectId>,
-) -> bool {
-    match object {
-        Some(object) => {
-            pace.count(rt, drive, object);
-            pace.is_pressed(rt, drive, object)
+fn is_pressed<J: Naming>(rt: &impl Wait, drive: &Drive<J>, pace: &Pace, effect: &Effect) -> bool {
+    match effect {
+        Effect::Changes(object) => {
+            pace.count(rt, drive, *object);
+            pace.is_pressed(rt, drive, *object)
         }
-        None => false,
+        Effect::Hides(_) | Effect::Reads => false,
     }
 }
 
@@ -93,13 +89,13 @@ fn hold_for<'a, J: Naming>(
     rt: &impl Wait,
     drive: &'a Mutex<Drive<J>>,
     pace: Option<&Pace>,
-    object: Option<ObjectId>,
+    effect: &Effect,
 ) -> MutexGuard<'a, Drive<J>> {
     let held = hold(rt, drive, pace);
     let Some(waits) = pace else {
         return held;
     };
-    if !is_pressed(rt, &held, waits, object) {
+    if !is_pressed(rt, &held, waits, effect) {
         return held;
     }
     drop(held);
@@ -142,10 +138,10 @@ fn resolve<J: Naming>(
     drive.resolve(session, object, offset, length, at, now)
 }
 
-/// A request was answered, which hides moments if it was accepted: the cleaner is called then.
-fn tell_hidden(rt: &impl Wait, pace: Option<&Pace>, is_hiding: bool, reply: &Reply) {
-    if let (Some(pace), true, Reply::Changed(_)) = (pace, is_hiding, reply) {
-        pace.hide(rt);
+/// A request was answered, and the lock is still held.
+fn tell(rt: &impl Wait, pace: Option<&Pace>, effect: &Effect, reply: &Reply) {
+    if let Some(pace) = pace {
+        pace.tell(rt, effect, reply);
     }
 }
 
@@ -161,11 +157,11 @@ fn ask<J: Naming>(
     ensures step { SharedStep J.base session.old request now result session.new }
     ensures fits { ReplyFits result }
 {
-    let is_hiding = hides(&request);
-    let mut drive = hold_for(rt, drive, pace, changed(&request));
+    let effect = effect_of(&request);
+    let mut drive = hold_for(rt, drive, pace, &effect);
     drive.rules();
     let reply = drive.request(session, request, now);
-    tell_hidden(rt, pace, is_hiding, &reply);
+    tell(rt, pace, &effect, &reply);
     reply
 }
 
@@ -183,21 +179,81 @@ fn meet<J: Naming>(
     drive.meet(session);
 }
 
-/// One turn of the cleaner, under the lock.
+/// An object had its turn, and the lock is still held. One that could not be cleaned has another in the next round.
+fn settle<J: Naming>(
+    rt: &impl Wait,
+    drive: &mut Drive<J>,
+    pace: &Pace,
+    object: ObjectId,
+    is_cleaned: bool,
+) {
+    let oldest = if is_cleaned {
+        oldest_entry(drive, object)
+    } else {
+        Some(Moment::new(0))
+    };
+    pace.settle(rt, object, oldest);
+    pace.look(drive);
+}
+
+/// A turn of a round over all objects was taken, and the lock is still held. Behind the last round nothing is visited any more.
+fn settle_turn<J: Naming>(
+    rt: &impl Wait,
+    drive: &mut Drive<J>,
+    pace: &Pace,
+    turn: &Turn,
+    is_last: bool,
+) {
+    match turn {
+        _ if is_last => pace.look(drive),
+        Turn::Cleaned(object) => settle(rt, drive, pace, *object, true),
+        Turn::PassedOver(object, _) => settle(rt, drive, pace, *object, false),
+        Turn::Ended => pace.look(drive),
+    }
+}
+
+/// One turn of a round of the cleaner over all objects, maybe its last round, under the lock.
 pub(crate) fn take_turn<J: Naming>(
     rt: &impl Wait,
     alloc: Global,
     drive: &Mutex<Drive<J>>,
     pace: &Pace,
     rounds: &mut Rounds,
+    is_last: bool,
 ) -> Turn
     ensures { SharedTurn J.base rounds.old.passed result rounds.new.passed }
 {
     let mut drive = hold_next(rt, drive, pace);
     drive.rules();
     let turn = rounds.turn(alloc, &mut drive);
-    pace.look(&drive);
+    settle_turn(rt, &mut drive, pace, &turn, is_last);
     turn
+}
+
+/// The turn of one object, whichever it is, under the lock.
+pub(crate) fn take_visit<J: Naming>(
+    rt: &impl Wait,
+    alloc: Global,
+    drive: &Mutex<Drive<J>>,
+    pace: &Pace,
+    object: ObjectId,
+)
+    ensures { SharedVisit J.base object }
+{
+    let mut drive = hold_next(rt, drive, pace);
+    drive.rules();
+    let done = visit(alloc, &mut drive, object);
+    settle(rt, &mut drive, pace, object, done.is_ok());
+}
+
+/// Frames are emptied, under the lock.
+pub(crate) fn take_sweep<J: Naming>(rt: &impl Wait, drive: &Mutex<Drive<J>>, pace: &Pace)
+    ensures { SharedSweep J.base }
+{
+    let mut drive = hold_next(rt, drive, pace);
+    drive.rules();
+    sweep(&mut drive);
+    pace.look(&drive);
 }
 
 /// What the copier is to move next, and a plan of that, made under the lock, where there is something to be moved. Its session

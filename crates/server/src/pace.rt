@@ -1,9 +1,11 @@
 //! What sessions, cleaner and copier tell each other beside the drive. Nothing that is answered rests on it.
+use crate::agenda::Agenda;
 use drive::Drive;
 use s4_types::limits::{CHAIN_ENTRY_BYTES, MOVE_BLOCKS, PAYLOAD_BLOCKS, RESERVE_BLOCKS};
-use s4_types::{ObjectId, Request};
+use s4_types::{Moment, ObjectId, Reply, Request};
 use segment_table::OverFrames;
 use segment_word::Naming;
+use std::alloc::Global;
 use std::sync::atomic::{AtomicU64, Ordering};
 use std::sync::{Condvar, Mutex, Wait};
 use std::thread::sleep;
@@ -42,13 +44,13 @@ pub(crate) struct Pace {
     /// Blocks of the drive, and how many changes may still take, when it was last looked at.
     blocks: u64,
     room: AtomicU64,
-    /// The clock from which on a round is worth its cost: a quarter of a window later than the last one began, and
-    /// no fewer moments than an eighth of its turns.
+    /// The clock from which on a round is worth its cost: a quarter of a window later than the last one began.
     ripe: AtomicU64,
     clock: AtomicU64,
     window: AtomicU64,
-    /// Turns of the last round.
-    turns: AtomicU64,
+    floor: AtomicU64,
+    /// The objects that are to be visited. It is asked for under the drive's lock, too.
+    agenda: Mutex<Agenda>,
     /// How much of the reserve is left, and the clock when there last was room for a change.
     reserve: AtomicU64,
     roomy: AtomicU64,
@@ -59,25 +61,30 @@ pub(crate) struct Pace {
     upkeep: AtomicU64,
 }
 
-/// The object that a request changes, and 0 of one that it makes. None where it changes no object.
-pub(crate) fn changed(request: &Request) -> Option<ObjectId> {
+/// What a request does, if it is accepted, to what can be freed.
+#[derive(Clone, Copy)]
+pub(crate) enum Effect {
+    /// Nothing.
+    Reads,
+    /// An object is changed; number 0 where it is made.
+    Changes(ObjectId),
+    /// Moments of an object are hidden, or of all where its number is 0: by a flush, or another window.
+    Hides(ObjectId),
+}
+
+/// What a request does to what can be freed.
+pub(crate) fn effect_of(request: &Request) -> Effect {
     match request {
-        Request::Create { .. } => Some(ObjectId::new(0)),
+        Request::Create { .. } => Effect::Changes(ObjectId::new(0)),
         Request::Delete { object }
         | Request::Write { object, .. }
         | Request::Append { object, .. }
         | Request::Truncate { object, .. }
-        | Request::SetAttr { object, .. } => Some(*object),
-        _ => None,
+        | Request::SetAttr { object, .. } => Effect::Changes(*object),
+        Request::SetWindow { .. } | Request::Flush { .. } => Effect::Hides(ObjectId::new(0)),
+        Request::FlushO { object, .. } => Effect::Hides(*object),
+        Request::Read { .. } | Request::GetAttr { .. } => Effect::Reads,
     }
-}
-
-/// Whether a request hides moments, if it is accepted: a flush, or another window.
-pub(crate) fn hides(request: &Request) -> bool {
-    matches!(
-        request,
-        Request::Flush { .. } | Request::FlushO { .. } | Request::SetWindow { .. }
-    )
 }
 
 /// Whether the chain of an object is nearly full.
@@ -90,7 +97,7 @@ fn is_nearly_full<J: Naming>(drive: &Drive<J>, object: ObjectId) -> bool {
 
 impl Pace {
     /// Before the first round.
-    pub(crate) fn new<J: Naming>(rt: &impl Wait, drive: &Mutex<Drive<J>>) -> Self {
+    pub(crate) fn new<J: Naming>(rt: &impl Wait, alloc: Global, drive: &Mutex<Drive<J>>) -> Self {
         let drive = drive.lock(rt);
         Pace {
             progress: Mutex::new(Progress {
@@ -106,7 +113,8 @@ impl Pace {
             ripe: AtomicU64::new(0),
             clock: AtomicU64::new(drive.clock().number()),
             window: AtomicU64::new(drive.window()),
-            turns: AtomicU64::new(0),
+            floor: AtomicU64::new(drive.floor().number()),
+            agenda: Mutex::new(Agenda::new(alloc)),
             reserve: AtomicU64::new(RESERVE_BLOCKS as u64),
             roomy: AtomicU64::new(drive.clock().number()),
             asked: AtomicU64::new(0),
@@ -136,22 +144,21 @@ impl Pace {
     }
 
     /// Whether enough history may have aged since the last round for another one to gain something. With too little room for the
-    /// copier, and too few blocks left for many such rounds, all history is to have aged: then a round writes least and frees most.
-    fn is_ripe<J: Naming>(&self, drive: &Drive<J>) -> bool {
+    /// copier, and too few blocks left for the objects that have history, all of that is to have aged: then a round writes least and
+    /// frees most.
+    fn is_ripe<J: Naming>(&self, rt: &impl Wait, drive: &Drive<J>) -> bool {
         let clock = drive.clock().number();
         if clock < self.ripe.load(Ordering::SeqCst) {
             return false;
         }
         let room = drive.room() as u64;
+        if room >= MOVE_BLOCKS as u64 {
+            return true;
+        }
         let left = self.reserve.load(Ordering::SeqCst).saturating_add(room);
-        let written = self
-            .turns
-            .load(Ordering::SeqCst)
-            .saturating_mul(ROUND_BLOCKS);
+        let written = self.agenda.lock(rt).count().saturating_mul(ROUND_BLOCKS);
         let roomy = self.roomy.load(Ordering::SeqCst);
-        room >= MOVE_BLOCKS as u64
-            || written <= left
-            || roomy.saturating_add(drive.window()) <= clock
+        written <= left || roomy.saturating_add(drive.window()) <= clock
     }
 
     /// Whether the round that frees what was hidden last hasn't ended yet.
@@ -167,7 +174,7 @@ impl Pace {
         drive: &Drive<J>,
         object: ObjectId,
     ) -> bool {
-        self.is_short(drive, object) && (self.is_ripe(drive) || self.is_hidden_held(rt))
+        self.is_short(drive, object) && (self.is_ripe(rt, drive) || self.is_hidden_held(rt))
     }
 
     /// The drive was looked at.
@@ -175,10 +182,38 @@ impl Pace {
         self.room.store(drive.room() as u64, Ordering::SeqCst);
         self.clock.store(drive.clock().number(), Ordering::SeqCst);
         self.window.store(drive.window(), Ordering::SeqCst);
+        self.floor.store(drive.floor().number(), Ordering::SeqCst);
         if drive.room() >= LITTLE_ROOM {
             self.roomy.store(drive.clock().number(), Ordering::SeqCst);
             self.reserve.store(RESERVE_BLOCKS as u64, Ordering::SeqCst);
         }
+    }
+
+    /// A request was answered, and the drive's lock is held. What it has changed is to be visited; where it has hidden moments, the
+    /// cleaner is called.
+    pub(crate) fn tell(&self, rt: &impl Wait, effect: &Effect, reply: &Reply) {
+        match effect {
+            Effect::Changes(object) => self.tell_change(rt, *object, reply),
+            Effect::Hides(object) if matches!(reply, Reply::Changed(_)) => {
+                self.agenda.lock(rt).hide(*object);
+                self.hide(rt);
+            }
+            Effect::Hides(_) | Effect::Reads => {}
+        }
+    }
+
+    /// A change of an object was answered, or the making of one.
+    fn tell_change(&self, rt: &impl Wait, object: ObjectId, reply: &Reply) {
+        match reply {
+            Reply::Created(made, moment) => self.agenda.lock(rt).add(*made, *moment),
+            Reply::Changed(moment) => self.agenda.lock(rt).add(object, *moment),
+            _ => {}
+        }
+    }
+
+    /// An object had its turn, and has entries from this moment on, or none. The drive's lock is held.
+    pub(crate) fn settle(&self, rt: &impl Wait, object: ObjectId, oldest: Option<Moment>) {
+        self.agenda.lock(rt).settle(object, oldest);
     }
 
     /// So many frames are free, and of the reserve no more is left.
@@ -192,7 +227,7 @@ impl Pace {
     pub(crate) fn count<J: Naming>(&self, rt: &impl Wait, drive: &Drive<J>, object: ObjectId) {
         self.look(drive);
         let asked = self.asked.fetch_add(1, Ordering::SeqCst).saturating_add(1);
-        if asked < self.due.load(Ordering::SeqCst) || !self.is_ripe(drive) {
+        if asked < self.due.load(Ordering::SeqCst) || !self.is_ripe(rt, drive) {
             return;
         }
         if (drive.room() as u64) < self.blocks / 4 || is_nearly_full(drive, object) {
@@ -235,7 +270,7 @@ impl Pace {
     }
 
     /// Moments were hidden. The cleaner is called, and a change that lacks room waits for the round that it begins then.
-    pub(crate) fn hide(&self, rt: &impl Wait) {
+    fn hide(&self, rt: &impl Wait) {
         let mut progress = self.progress.lock(rt);
         progress.frees = progress.begun.saturating_add(1);
         progress.is_wanted = true;
@@ -258,8 +293,15 @@ impl Pace {
         });
     }
 
-    /// A round begins.
-    pub(crate) fn begin_round(&self, rt: &impl Wait) {
+    /// A round begins: the objects that it is to visit, by ascending number. None where it is to visit all.
+    pub(crate) fn begin_round(&self, rt: &impl Wait) -> Option<Vec<ObjectId>> {
+        self.note_begin(rt);
+        let floor = Moment::new(self.floor.load(Ordering::SeqCst));
+        self.agenda.lock(rt).begin_round(floor)
+    }
+
+    /// It is noted that a round begins.
+    fn note_begin(&self, rt: &impl Wait) {
         let clock = self.clock.load(Ordering::SeqCst);
         let part = self.window.load(Ordering::SeqCst) / 4;
         self.ripe
@@ -272,7 +314,6 @@ impl Pace {
 
     /// A round of so many turns has ended, and there is none after the last.
     pub(crate) fn end_round(&self, rt: &impl Wait, turns: u64, is_last: bool) {
-        self.turns.store(turns, Ordering::SeqCst);
         let asked = self.asked.fetch_add(1, Ordering::SeqCst);
         let due = asked.saturating_add(turns.saturating_mul(2));
         self.due.store(due, Ordering::SeqCst);

@@ -1,19 +1,19 @@
 //! Sessions with the history cleaner and the segment copier beside them. The cleaner has the lock for one object at a time.
-ghost use Rattle.std.specs.Prelude.{◌≡◌, ℕ, ◌+◌, ◌^◌, ◌<◌, ◌≤◌, All, MatchResult, slice_index_or, true, vec_len};
+ghost use Rattle.std.specs.Prelude.{◌≡◌, ℕ, ◌+◌, ◌^◌, ◌<◌, ◌≤◌, All, MatchResult, length, slice_index_or, true, vec_len};
 ghost use Rattle.s4_types.specs.declared.refusals.Refusal.TheVariants.{Busy};
 ghost use Rattle.server.specs.Attending.{IsAttendedClient};
 ghost use Rattle.server.specs.Moving.{IsMoving};
-ghost use Rattle.server.specs.Upkeep.{IsRound, IsLastRound, ends_round};
+ghost use Rattle.server.specs.Upkeep.{IsRound, IsLastRound, SharedVisit, SharedSweep, ends_round};
 
 use crate::gate::Gate;
-use crate::gathering::{TURNS_BETWEEN, gather_all};
-use crate::locked::{enter, take_turn};
+use crate::gathering::{gather_all, gather_between};
+use crate::locked::{enter, take_sweep, take_turn, take_visit};
 use crate::moving::{Moves, keep_moving};
 use crate::pace::Pace;
 use crate::running::{Client, run_beside};
 use drive::{Drive, Session};
 use history_cleaner::{Rounds, Turn};
-use s4_types::{Moment, Refusal, Role};
+use s4_types::{Moment, ObjectId, Refusal, Role};
 use segment_word::Naming;
 use serving::{Sink, Source};
 use std::alloc::Global;
@@ -63,18 +63,40 @@ fn go_round<J: Naming>(
 {
     let mut rounds = Rounds::new();
     let mut turns = 0;
-    while !is_end(take_turn(rt, alloc, drive, pace, &mut rounds)) {
+    while !is_end(take_turn(rt, alloc, drive, pace, &mut rounds, is_behind)) {
         turns += 1;
-        if turns % TURNS_BETWEEN == 0 {
-            gather_all(rt, alloc, drive, pace, seat);
-        }
+        gather_between(rt, alloc, drive, pace, seat, turns);
         yield_now();
     }
     gather_all(rt, alloc, drive, pace, seat);
     Round { is_behind, turns }
 }
 
-/// Goes round again and again, and ends with a whole round that began when all others had ended.
+/// A round over these objects alone, in the same way.
+fn go_over<J: Naming>(
+    rt: &impl Wait,
+    alloc: Global,
+    drive: &Mutex<Drive<J>>,
+    pace: &Pace,
+    seat: &mut Option<Session<J>>,
+    objects: &[ObjectId],
+)
+    ensures visited { (i : ℕ) (d : _) → i < length objects.now → SharedVisit J.base (slice_index_or objects.now i d) }
+    ensures swept { SharedSweep J.base }
+{
+    let mut turns: u64 = 0;
+    for object in objects {
+        take_visit(rt, alloc, drive, pace, *object);
+        turns = turns.saturating_add(1);
+        gather_between(rt, alloc, drive, pace, seat, turns);
+        yield_now();
+    }
+    take_sweep(rt, drive, pace);
+    gather_all(rt, alloc, drive, pace, seat);
+}
+
+/// Goes round again and again: over the objects of which a turn may free something where these are known, else over all. Ends with a
+/// whole round that began when all others had ended.
 fn keep_up<J: Naming, R: Wait + Clock>(
     rt: &R,
     alloc: Global,
@@ -88,11 +110,18 @@ fn keep_up<J: Naming, R: Wait + Clock>(
     let mut seat = enter(rt, drive, Some(pace), Role::Client).ok();
     for _ in rt.forever() {
         let is_behind = ended.load(Ordering::SeqCst);
-        pace.begin_round(rt);
-        let round = go_round(rt, alloc, drive, pace, &mut seat, is_behind);
-        pace.end_round(rt, round.turns, is_behind);
-        if round.is_behind {
-            return round;
+        match pace.begin_round(rt) {
+            Some(objects) if !is_behind => {
+                go_over(rt, alloc, drive, pace, &mut seat, objects.as_slice());
+                pace.end_round(rt, objects.len() as u64, false);
+            }
+            _ => {
+                let round = go_round(rt, alloc, drive, pace, &mut seat, is_behind);
+                pace.end_round(rt, round.turns, is_behind);
+                if round.is_behind {
+                    return round;
+                }
+            }
         }
         pace.await_call(rt);
     }
@@ -131,12 +160,13 @@ fn keep_beside<J: Naming + Send + Sync, R: Threads + Wait + Clock + Sync>(
 /// Serves sessions of one drive at once, as [`run_sessions`] does, and beside them keeps the drive up, on two threads more: one cleans,
 /// the other moves blocks.
 ///
-/// The cleaner has the lock for one object at a time, by ascending number and round again, and behind each round the frames that hold
-/// nothing are freed. It rests until room is short or a chain nearly full, and enough has aged since its last round; where that is so,
-/// a change waits for a round before it is asked, a Read never, and no request where no cleaner is at work. The copier takes step after
-/// step while room is short: it has the lock while it plans the next move and while it puts it in place, and copies without it. It
-/// takes one step at least, and ends once all sessions have ended. Then the cleaner goes round a
-/// last time. Where the system gives no thread for one of the two, it goes round once, or takes one step, behind the sessions.
+/// The cleaner has the lock for one object at a time, by ascending number and round again, and frees the frames that hold nothing
+/// behind each round, and behind each turn while little room is left. Its first and its last round are over all objects, those between
+/// over the ones that have history to free, as far as that is known. It rests until a flush or another window hides moments, or until
+/// room is short or a chain nearly full, and enough has aged since its last round; where that is so, a change waits for a round before
+/// it is asked, a Read never, and no request where no cleaner is at work. The copier takes step after step while room is short: it has
+/// the lock while it plans the next move and while it puts it in place, and copies without it. It takes one step at least, and ends
+/// once all sessions have ended. Then the cleaner goes round a last time. Where the system gives no thread for one of the two, it goes round once, or takes one step, behind the sessions.
 ///
 /// Answers the clients, the cleaner's last round, and what the copier did.
 pub fn run_with_upkeep<
@@ -165,7 +195,7 @@ pub fn run_with_upkeep<
         → IsAttendedClient S.remaining W.passed S.failures W.failures J.base (record { start = start; tick = tick }) (slice_index_or clients.items i d) (slice_index_or result.0.items i d) }
 {
     let attended = AtomicBool::new(false);
-    let pace = Pace::new(rt, drive);
+    let pace = Pace::new(rt, alloc, drive);
     let keep = || -> Upkeep
         ensures round { IsLastRound J.base result.round }
         ensures moves { MatchResult result.moves (IsMoving J.base) (λ e. e ≡ Busy) }
