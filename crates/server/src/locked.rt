@@ -1,15 +1,13 @@
 //! A session with a drive under a lock.
-ghost use Rattle.std.specs.Prelude.{◌≡◌, ℕ, IfOk, IfErr};
+ghost use Rattle.std.specs.Prelude.{◌≡◌, IfOk, IfErr};
 ghost use Rattle.s4_types.specs.declared.refusals.Refusal.TheVariants.{Busy};
 ghost use Rattle.s4_types.specs.Sizes.{ReplyFits};
 ghost use Rattle.s4_types.specs.declared.requests.Request.TheVariants.{Read};
 ghost use Rattle.drive.specs.Answering.{reply_planned};
-ghost use Rattle.drive.specs.Fields.{store_of};
-ghost use Rattle.version_store.specs.Versions.{version_in};
 ghost use Rattle.server.specs.Sharing.{SharedStep, HasMet, IsFresh, IsFetched};
 ghost use Rattle.server.specs.Upkeep.{SharedTurn, SharedVisit, SharedSweep};
 ghost use Rattle.server.specs.Moving.{SharedPlan, SharedCommit};
-ghost use Rattle.server.specs.Gathering.{SharedGather, SharedRelease};
+ghost use Rattle.server.specs.Gathering.{SharedGather};
 
 use crate::agenda::oldest_entry;
 use crate::gate::Gate;
@@ -20,7 +18,6 @@ use s4_types::{Bytes, Moment, ObjectId, Refusal, Reply, Request, Role};
 use segment_copier::{
     Candidate, MovePlan, Moved, candidate, commit, free_frames, gather, plan_move,
 };
-use segment_table::OverFrames;
 use segment_word::Naming;
 use serving::Backend;
 use std::alloc::Global;
@@ -311,24 +308,13 @@ pub(crate) fn gather_next<J: Naming>(
     gathered
 }
 
-/// Marks each frame that is sealed and holds nothing, and tries the release of each that is being emptied.
-fn release_all<J: Naming>(drive: &mut Drive<J>)
-    ensures ledger { drive.new.ledger ≡ drive.old.ledger }
-    ensures versions { (o t : ℕ) → version_in (store_of drive.new) o t ≡ version_in (store_of drive.old) o t }
-{
-    for frame in 0..drive.frame_count() {
-        let _ = drive.mark(frame);
-        let _ = drive.release(frame);
-    }
-}
-
-/// The same under the lock. How many frames are free then is told the pace.
+/// The frames are emptied that can be, under the lock. How many frames are free then is told the pace.
 pub(crate) fn release_frames<J: Naming>(rt: &impl Wait, drive: &Mutex<Drive<J>>, pace: &Pace)
-    ensures { SharedRelease J.base }
+    ensures { SharedSweep J.base }
 {
     let mut drive = hold_next(rt, drive, pace);
     drive.rules();
-    release_all(&mut drive);
+    sweep(&mut drive);
     pace.look(&drive);
     pace.count_free(free_frames(&mut drive));
 }
