@@ -1,0 +1,15 @@
+use Rattle.std.proofs.Common.{ℕ, ◌-◌, ◌<◌, ◌≤◌}
+use Rattle.s4_model.specs.Visible.{IsVisible, IsSeenBetween}
+use Rattle.drive.specs.Fields.{state_in}
+use Rattle.history_view.proofs.Shown.{NoneBelow}
+use Rattle.history_view.proofs.moments.earliest.Given as goal
+
+-- some moment between the two can be read, and none below the first
+abbrev pub invariant-loop-low : goal.invariant-loop-low
+invariant-loop-low g l = record {
+  between : IsSeenBetween (state_in l.drive) l.object l.low l.high;
+  none : NoneBelow (state_in l.drive) l.object l.low;
+}
+
+abbrev pub decreases-loop-low : goal.decreases-loop-low
+decreases-loop-low g l = l.high - l.low
