@@ -1,0 +1,103 @@
+-- The program's command line in clap's own words, and which command the matches of a line spell.
+use Rattle.std.specs.Prelude.{◌≡◌, ◌↔◌, ℕ, List, [], ◌∷◌, Option, Some, None, true, codes}
+use Rattle.clap.specs.Walk.{Row, Rule, Text, first_of, one_of}
+use Rattle.clap.specs.Simple.{App, new_app, new_rule, on_top, with_rule, with_subcommand}
+use Rattle.clap.specs.declared.builder.action.ArgAction.TheVariants.{Set}
+use Rattle.s4d_command.specs.CommandLine.{flag_rule, IsGiven, IsNumber}
+use Rattle.s4_command.specs.declared.Command.{Command}
+use Rattle.s4_command.specs.declared.Command.TheVariants as command
+use Rattle.s4_command.specs.declared.ListAsked.{ListAsked}
+use Rattle.s4_command.specs.declared.LogAsked.{LogAsked}
+use Rattle.s4_command.specs.declared.CatAsked.{CatAsked}
+use Rattle.s4_command.specs.declared.InfoAsked.{InfoAsked}
+
+-- `--name VALUE`, which is given or not
+abbrev pub number_rule : Text → Rule
+number_rule name = record (new_rule name) { long = Some name; action = Some Set; value_names = 1 }
+
+-- a word that stands for itself, and has to be given
+abbrev pub needed_rule : Text → Rule
+needed_rule name = record (new_rule name) { action = Some Set; value_names = 1; required = true }
+
+-- `list [--at M] [--deleted] [--json] IMAGE`
+abbrev pub list_line : App
+list_line = with_rule (with_rule (with_rule (with_rule (new_app (codes "list"))
+    (number_rule (codes "at")))
+    (flag_rule (codes "deleted")))
+    (flag_rule (codes "json")))
+    (needed_rule (codes "image"))
+
+-- `log [--object O] [--since M] [--until M] [--json] IMAGE`
+abbrev pub log_line : App
+log_line = with_rule (with_rule (with_rule (with_rule (with_rule (new_app (codes "log"))
+    (number_rule (codes "object")))
+    (number_rule (codes "since")))
+    (number_rule (codes "until")))
+    (flag_rule (codes "json")))
+    (needed_rule (codes "image"))
+
+-- `cat [--at M] IMAGE OBJECT`
+abbrev pub cat_line : App
+cat_line = with_rule (with_rule (with_rule (new_app (codes "cat"))
+    (number_rule (codes "at")))
+    (needed_rule (codes "image")))
+    (needed_rule (codes "object"))
+
+-- `info [--json] IMAGE`
+abbrev pub info_line : App
+info_line = with_rule (with_rule (new_app (codes "info"))
+    (flag_rule (codes "json")))
+    (needed_rule (codes "image"))
+
+-- the program, which has a version, as each of its commands has, and no command for help; one of its commands has to be given
+abbrev pub program : App
+program = on_top (λ s. record s { has_version = true; propagate_version = true; subcommand_required = true; disable_help_subcommand = true })
+    (new_app (codes "s4"))
+
+-- the program's whole command line
+abbrev pub line : App
+line = with_subcommand (with_subcommand (with_subcommand (with_subcommand program
+    list_line.top) log_line.top) cat_line.top) info_line.top
+
+-- a number that is given is what the text reads as; none is where no text is there
+abbrev pub IsAsked : Text → List Row → Option ℕ → Type 0
+IsAsked name rows None = first_of name rows ≡ None
+IsAsked name rows (Some n) = IsNumber (one_of name rows) n
+
+-- The matches of `list` have this text, this moment and these flags.
+pub record SpellsList (rows : List Row) (list : ListAsked) : Type 0 where
+  pub image : first_of (codes "image") rows ≡ Some list.image.now
+  pub at : IsAsked (codes "at") rows list.at
+  pub deleted : (list.deleted ≡ true) ↔ IsGiven (codes "deleted") rows
+  pub json : (list.json ≡ true) ↔ IsGiven (codes "json") rows
+
+-- The matches of `log` have this text, these numbers and this flag.
+pub record SpellsLog (rows : List Row) (log : LogAsked) : Type 0 where
+  pub image : first_of (codes "image") rows ≡ Some log.image.now
+  pub object : IsAsked (codes "object") rows log.object
+  pub since : IsAsked (codes "since") rows log.since
+  pub until : IsAsked (codes "until") rows log.until
+  pub json : (log.json ≡ true) ↔ IsGiven (codes "json") rows
+
+-- The matches of `cat` have this text and these numbers.
+pub record SpellsCat (rows : List Row) (cat : CatAsked) : Type 0 where
+  pub image : first_of (codes "image") rows ≡ Some cat.image.now
+  pub object : IsAsked (codes "object") rows (Some cat.object)
+  pub at : IsAsked (codes "at") rows cat.at
+
+-- The matches of `info` have this text and this flag.
+pub record SpellsInfo (rows : List Row) (info : InfoAsked) : Type 0 where
+  pub image : first_of (codes "image") rows ≡ Some info.image.now
+  pub json : (info.json ≡ true) ↔ IsGiven (codes "json") rows
+
+-- The name and the matches of a subcommand spell the command.
+abbrev pub Spells : Option (Text × List Row) → Command → Type 0
+Spells None c = ⊥
+Spells (Some named) (command.List list) = (named.0 ≡ codes "list") × SpellsList named.1 list
+Spells (Some named) (command.Log log) = (named.0 ≡ codes "log") × SpellsLog named.1 log
+Spells (Some named) (command.Cat cat) = (named.0 ≡ codes "cat") × SpellsCat named.1 cat
+Spells (Some named) (command.Info info) = (named.0 ≡ codes "info") × SpellsInfo named.1 info
+
+-- They spell none.
+abbrev pub SpellsNone : Option (Text × List Row) → Type 0
+SpellsNone named = (c : Command) → Spells named c → ⊥
