@@ -1,4 +1,4 @@
-"""Tests of the repository's documents: links, lengths, the version and the man page."""
+"""Tests of the repository's documents: links, lengths, the version and the man pages."""
 import pathlib
 import re
 import shutil
@@ -41,16 +41,18 @@ class Documents(unittest.TestCase):
     def test_one_version(self):
         """The file VERSION has it; what can't read that file says the same."""
         version = (TOP / "VERSION").read_text(encoding="utf-8").strip()
-        for name, said in (("python/pyproject.toml", f'version = "{version}"'), ("s4d.1", f".Os s4d {version}"),
+        for name, said in (("python/pyproject.toml", f'version = "{version}"'), ("s4d.1", f".Os s4d {version}"), ("s4.1", f".Os s4d {version}"),
                            ("CHANGELOG.md", f"## {version}")):
             with self.subTest(name):
                 lines = (TOP / name).read_text(encoding="utf-8").splitlines()
                 self.assertTrue(any(line.startswith(said) for line in lines))
 
     @unittest.skipUnless(shutil.which("groff"), "groff isn't installed")
-    def test_the_man_page(self):
-        ran = subprocess.run(["groff", "-mandoc", "-ww", "-Tascii", TOP / "s4d.1"], capture_output=True, check=False)
-        self.assertEqual((ran.returncode, ran.stderr), (0, b""))
+    def test_the_man_pages(self):
+        for page in ("s4d.1", "s4.1"):
+            with self.subTest(page):
+                ran = subprocess.run(["groff", "-mandoc", "-ww", "-Tascii", TOP / page], capture_output=True, check=False)
+                self.assertEqual((ran.returncode, ran.stderr), (0, b""))
 
 
 if __name__ == "__main__":

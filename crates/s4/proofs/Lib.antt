@@ -1,0 +1,3 @@
+mod Fronts
+mod Parts
+mod Rows

@@ -1,0 +1,4 @@
+pub mod Listing
+pub mod Logging
+pub mod Performing
+pub mod Reading

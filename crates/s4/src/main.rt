@@ -1,0 +1,56 @@
+//! The program `s4`: looks into the past of a drive that is kept in a file.
+//!
+//! `perform` does what a line of words asks for, over any files and writers, and `main` calls it with the system's. No command changes
+//! an image or keeps another program from it. What is proved over any files that say what they hold: `list` writes the line of exactly
+//! the objects that are listed at a moment, `log` a line for each entry of the journals between two moments, and `cat` the bytes of an
+//! object at a moment. That the system's files read and write as such files do is tested, and so are the texts on standard error.
+#![tactic(auto)]
+
+ghost use Rattle.std.specs.Prelude.{◌≡◌, ◌≢◌};
+ghost use Rattle.std.specs.declared.io.ErrorKind.TheVariants.{OutOfMemory};
+
+mod faults;
+mod listing;
+mod logging;
+mod moments;
+mod output;
+mod performing;
+mod reading;
+
+use faults::failure_by;
+use performing::{fail, perform, refuse};
+use s4_types::Refusal;
+use serving::WriteSink;
+use std::io;
+use std::process::ExitCode;
+
+fn main(rt: HostRuntime) -> ExitCode {
+    match words_of(&rt) {
+        Ok(words) => ExitCode::from(perform(
+            &rt,
+            rt.alloc(),
+            &rt,
+            words.as_slice(),
+            &mut WriteSink::new(rt.stdout()),
+            &mut rt.stderr(),
+        )),
+        Err(error) => ExitCode::from(tell(&rt, error.kind())),
+    }
+}
+
+// Says why the line couldn't be had: for want of memory, or as words that are no text.
+fn tell(rt: &HostRuntime, why: io::ErrorKind) -> u8
+    ensures memory { why ≡ OutOfMemory → result ≡ 1 }
+    ensures text { why ≢ OutOfMemory → result ≡ 2 }
+{
+    match why {
+        io::ErrorKind::OutOfMemory => fail(&mut rt.stderr(), failure_by(Refusal::NoMemory)),
+        _ => refuse(&mut rt.stderr(), "the words are no text in UTF-8"),
+    }
+}
+
+// The line that the program was called with. Words that are no text fail as a whole.
+fn words_of(rt: &HostRuntime) -> io::Result<Vec<String>> {
+    let words = std::env::args(rt)?.collect(rt.alloc())?;
+    Ok(words)
+}
