@@ -2,10 +2,10 @@
 //! moments can be read.
 //!
 //! The layers above may rely on this: nothing here changes a drive or its clock. `next_listed` goes by ascending number over exactly the
-//! objects that are live at a moment, by the drive's history, and over those that were deleted where they are asked for. `changes_between` has one
-//! change for each entry of an object's journal between two moments that can be read, in order, and `change_of` says what an
-//! entry tells: all blocks that differ are among those.
-//! `earliest` is the first moment of an object that can be read.
+//! objects that are live at a moment, by the drive's history, and over those that were deleted where they are asked for.
+//! `changes_between` has one change for each entry of an object's journal between two moments that can be read, in order, and
+//! `change_of` says what an entry tells: all blocks that differ are among those. `earliest` is the first moment of an object that can be
+//! read.
 #![tactic(auto)]
 
 mod changes;
