@@ -15,6 +15,7 @@ use Rattle.history_view.specs.declared.listing.Listed.{Listed}
 use Rattle.history_view.specs.Listing.{AreListedFrom, IsListedNext, IsPassed}
 use Rattle.s4.specs.Listing.{ListsRows, line_of_listed}
 use Rattle.s4.specs.Logging.{LogsRows, AreRowsFrom, lines_of_object}
+use Rattle.s4.specs.Telling.{CountsObjects}
 use Rattle.s4.proofs.Fronts.{IsFront, front_begun, front_more, front_whole, flat_more}
 
 -- ---- drives that stay
@@ -105,3 +106,43 @@ one_logged s store since until json o a b there wrote = record {
   asked = (there, refl);
   wrote = subst (Appends a b) (sym (append-nil (lines_of_object s store since until json o))) wrote;
 }
+
+-- ---- counts
+
+-- the objects up to one are counted: those that are live, and all
+pub record CountedTo (s : State) (store : StoreFields) (last live all : ℕ) : Type 0 where
+  pub rows : List Listed
+  pub front : IsFront (AreListedFrom s store true s.clock) rows last
+  pub are_live : live ≡ count_by (λ row. row.is_live) rows
+  pub are_all : all ≡ length rows
+
+-- none is at first
+pub none_counted : (s : State) (store : StoreFields) → CountedTo s store 0 0 0
+none_counted s store = record { rows = []; front = front_begun (AreListedFrom s store true s.clock); are_live = refl; are_all = refl }
+
+-- one more that is live or isn't
+one_more : (rows : List Listed) (row : Listed) → count_by (λ r. r.is_live) (rows ++ row ∷ []) ≡ count_by (λ r. r.is_live) rows + cond row.is_live 1 0
+one_more rows row = sum_by_push (λ r. cond r.is_live 1 0) rows row
+
+-- the next one is counted
+pub counted_on : (s : State) (store : StoreFields) (last live all more : ℕ) (row : Listed) → CountedTo s store last live all → IsListedNext s store true s.clock last row → more ≡ cond row.is_live 1 0
+    → CountedTo s store row.object (live + more) (all + 1)
+counted_on s store last live all more row before next is = record {
+  rows = before.rows ++ row ∷ [];
+  front = front_more (AreListedFrom s store true s.clock) before.rows row last row.object before.front (λ rest after. (next, after));
+  are_live = ap₂ (λ a b. a + b) before.are_live is ∙ sym (one_more before.rows row);
+  are_all = ap (λ n. n + 1) before.are_all ∙ sym (length-append before.rows (row ∷ []));
+}
+
+-- all are counted, where nothing is listed behind the last
+pub all_counted : (s : State) (store : StoreFields) (last live all : ℕ) → CountedTo s store last live all → ((o : ℕ) → last < o → IsPassed s store true s.clock o) → CountsObjects s store live (all - live)
+all_counted s store last live all before none = record {
+  rows = before.rows;
+  listed = front_whole (AreListedFrom s store true s.clock) before.rows last before.front none;
+  are_live = before.are_live;
+  are_all = omega (arith, before.are_live, before.are_all, count_by-le-length (λ r. r.is_live) before.rows);
+}
+
+-- as many are live as there are at most
+pub live_among_all : (s : State) (store : StoreFields) (last live all : ℕ) → CountedTo s store last live all → live ≤ all
+live_among_all s store last live all before = omega (arith, before.are_live, before.are_all, count_by-le-length (λ r. r.is_live) before.rows)

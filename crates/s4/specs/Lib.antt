@@ -2,3 +2,4 @@ pub mod Listing
 pub mod Logging
 pub mod Performing
 pub mod Reading
+pub mod Telling

@@ -9,12 +9,14 @@ use Rattle.s4_command.specs.declared.Command.TheVariants as command
 use Rattle.s4.specs.Listing.{ListsImage}
 use Rattle.s4.specs.Logging.{LogsImage}
 use Rattle.s4.specs.Reading.{CatsImage}
+use Rattle.s4.specs.Telling.{TellsNumbers}
 
 -- A command is done, by what is known of the files, and by what the output has then.
 abbrev pub IsDoneOver : (files : List ℕ → Option (List ℕ)) → (output output' : Option (List ℕ)) → Command → Type 0
 IsDoneOver files output output' (command.List list) = ListsImage (files list.image.now) list.at list.deleted list.json output output'
 IsDoneOver files output output' (command.Log log) = LogsImage (files log.image.now) log.object log.since log.until log.json output output'
 IsDoneOver files output output' (command.Cat cat) = CatsImage (files cat.image.now) cat.object cat.at output output'
+IsDoneOver files output output' (command.Info info) = TellsNumbers (files info.image.now) info.json output output'
 
 -- of the system's files nothing is known
 abbrev pub unknown : List ℕ → Option (List ℕ)

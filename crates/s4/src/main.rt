@@ -16,6 +16,7 @@ mod moments;
 mod output;
 mod performing;
 mod reading;
+mod telling;
 
 use faults::failure_by;
 use performing::{fail, perform, refuse};

@@ -3,14 +3,16 @@ ghost use Rattle.std.specs.Prelude.{◌≡◌, ◌+◌, ◌^◌, ◌<◌, ◌≤
 ghost use Rattle.s4.specs.Listing.{ListsImage};
 ghost use Rattle.s4.specs.Logging.{LogsImage};
 ghost use Rattle.s4.specs.Reading.{CatsImage};
+ghost use Rattle.s4.specs.Telling.{TellsNumbers};
 ghost use Rattle.s4.specs.Performing.{IsDone, IsUsage};
 
 use crate::faults::{Failure, failure_by};
 use crate::listing::list;
 use crate::logging::log;
 use crate::reading::cat;
+use crate::telling::info;
 use image_commands::Files;
-use s4_command::{CatAsked, Command, ListAsked, LogAsked, NoCommand, command_of};
+use s4_command::{CatAsked, Command, InfoAsked, ListAsked, LogAsked, NoCommand, command_of};
 use s4_types::Refusal;
 use serving::Sink;
 use std::alloc::Global;
@@ -47,6 +49,7 @@ pub fn perform<T: Threads, F: Files, S: AsStr, W: Sink, E: Write>(
         Ok(Command::List(asked)) => perform_list(rt, alloc, files, asked, writer, errors),
         Ok(Command::Log(asked)) => perform_log(rt, alloc, files, asked, writer, errors),
         Ok(Command::Cat(asked)) => perform_cat(rt, alloc, files, asked, writer, errors),
+        Ok(Command::Info(asked)) => perform_info(rt, alloc, files, asked, writer, errors),
         Err(NoCommand::Asked(help)) => show(alloc, help, writer, errors),
         Err(NoCommand::Refused(error)) => say(errors, error),
         Err(NoCommand::NoNumber { name, word }) => refuse_number(errors, name, word),
@@ -107,6 +110,25 @@ fn perform_cat<'a, T: Threads, F: Files, W: Sink, E: Write>(
     ensures done { result ≡ 0 → CatsImage (F.contents files.now asked.entry.image.now) asked.entry.object asked.entry.at (W.passed writer.old) (W.passed writer.new) }
 {
     match cat(rt, alloc, files, asked, writer) {
+        Ok(()) => DONE,
+        Err(failure) => fail_over(errors, asked.image, failure),
+    }
+}
+
+// Prints the numbers of an image.
+fn perform_info<'a, T: Threads, F: Files, W: Sink, E: Write>(
+    rt: &T,
+    alloc: Global,
+    files: &F,
+    asked: InfoAsked<'a>,
+    writer: &mut W,
+    errors: &mut E,
+) -> u8
+    requires writer { W.failures writer.old + 1 < 2 ^ 64 }
+    ensures status { result ≤ 1 }
+    ensures done { result ≡ 0 → TellsNumbers (F.contents files.now asked.entry.image.now) asked.entry.json (W.passed writer.old) (W.passed writer.new) }
+{
+    match info(rt, alloc, files, asked, writer) {
         Ok(()) => DONE,
         Err(failure) => fail_over(errors, asked.image, failure),
     }

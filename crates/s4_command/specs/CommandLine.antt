@@ -9,6 +9,7 @@ use Rattle.s4_command.specs.declared.Command.TheVariants as command
 use Rattle.s4_command.specs.declared.ListAsked.{ListAsked}
 use Rattle.s4_command.specs.declared.LogAsked.{LogAsked}
 use Rattle.s4_command.specs.declared.CatAsked.{CatAsked}
+use Rattle.s4_command.specs.declared.InfoAsked.{InfoAsked}
 
 -- `--name VALUE`, which is given or not
 abbrev pub number_rule : Text → Rule
@@ -42,6 +43,12 @@ cat_line = with_rule (with_rule (with_rule (new_app (codes "cat"))
     (needed_rule (codes "image")))
     (needed_rule (codes "object"))
 
+-- `info [--json] IMAGE`
+abbrev pub info_line : App
+info_line = with_rule (with_rule (new_app (codes "info"))
+    (flag_rule (codes "json")))
+    (needed_rule (codes "image"))
+
 -- the program, which has a version, as each of its commands has, and no command for help; one of its commands has to be given
 abbrev pub program : App
 program = on_top (λ s. record s { has_version = true; propagate_version = true; subcommand_required = true; disable_help_subcommand = true })
@@ -49,8 +56,8 @@ program = on_top (λ s. record s { has_version = true; propagate_version = true;
 
 -- the program's whole command line
 abbrev pub line : App
-line = with_subcommand (with_subcommand (with_subcommand program
-    list_line.top) log_line.top) cat_line.top
+line = with_subcommand (with_subcommand (with_subcommand (with_subcommand program
+    list_line.top) log_line.top) cat_line.top) info_line.top
 
 -- a number that is given is what the text reads as; none is where no text is there
 abbrev pub IsAsked : Text → List Row → Option ℕ → Type 0
@@ -78,12 +85,18 @@ pub record SpellsCat (rows : List Row) (cat : CatAsked) : Type 0 where
   pub object : IsAsked (codes "object") rows (Some cat.object)
   pub at : IsAsked (codes "at") rows cat.at
 
+-- The matches of `info` have this text and this flag.
+pub record SpellsInfo (rows : List Row) (info : InfoAsked) : Type 0 where
+  pub image : first_of (codes "image") rows ≡ Some info.image.now
+  pub json : (info.json ≡ true) ↔ IsGiven (codes "json") rows
+
 -- The name and the matches of a subcommand spell the command.
 abbrev pub Spells : Option (Text × List Row) → Command → Type 0
 Spells None c = ⊥
 Spells (Some named) (command.List list) = (named.0 ≡ codes "list") × SpellsList named.1 list
 Spells (Some named) (command.Log log) = (named.0 ≡ codes "log") × SpellsLog named.1 log
 Spells (Some named) (command.Cat cat) = (named.0 ≡ codes "cat") × SpellsCat named.1 cat
+Spells (Some named) (command.Info info) = (named.0 ≡ codes "info") × SpellsInfo named.1 info
 
 -- They spell none.
 abbrev pub SpellsNone : Option (Text × List Row) → Type 0

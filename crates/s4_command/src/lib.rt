@@ -12,7 +12,7 @@ ghost use Rattle.clap.specs.Values.{kind_of};
 ghost use Rattle.clap.specs.Matches.{found_of};
 ghost use Rattle.clap.specs.Simple.{subcommand_of, subcommand_rows_of};
 ghost use Rattle.s4d_command.specs.CommandLine.{IsGiven, IsNumber};
-ghost use Rattle.s4_command.specs.CommandLine.{line, IsAsked, Spells, SpellsNone, SpellsList, SpellsLog, SpellsCat};
+ghost use Rattle.s4_command.specs.CommandLine.{line, IsAsked, Spells, SpellsNone, SpellsList, SpellsLog, SpellsCat, SpellsInfo};
 
 mod line;
 
@@ -31,6 +31,8 @@ pub enum Command<'a> {
     Log(LogAsked<'a>),
     /// Prints an object's bytes at a moment.
     Cat(CatAsked<'a>),
+    /// Prints the numbers of an image.
+    Info(InfoAsked<'a>),
 }
 
 /// What `list` asks for.
@@ -67,6 +69,14 @@ pub struct CatAsked<'a> {
     pub object: u64,
     /// The moment, and none for the clock's.
     pub at: Option<u64>,
+}
+
+/// What `info` asks for.
+#[derive(Clone, Copy)]
+pub struct InfoAsked<'a> {
+    /// The image's file.
+    pub image: &'a str,
+    pub json: bool,
 }
 
 /// Why a line of words gave no command.
@@ -137,6 +147,7 @@ fn named_command<'a>(name: &str, found: &ArgMatches<'a>) -> Result<Command<'a>, 
         "list" => list_asked(found),
         "log" => log_asked(found),
         "cat" => cat_asked(found),
+        "info" => info_asked(found),
         _ => Err(NoCommand::Unspelled),
     }
 }
@@ -167,6 +178,16 @@ fn cat_asked<'a>(found: &ArgMatches<'a>) -> Result<Command<'a>, NoCommand<'a>>
 {
     match cat_in(found) {
         Ok(cat) => Ok(Command::Cat(cat)),
+        Err(refusal) => Err(refusal),
+    }
+}
+
+fn info_asked<'a>(found: &ArgMatches<'a>) -> Result<Command<'a>, NoCommand<'a>>
+    ensures spelled { IfOk result (Spells (Some (codes "info", rows_of (found_of found.now)))) }
+    ensures usage { OnErr result (SpellsNone (Some (codes "info", rows_of (found_of found.now)))) }
+{
+    match info_in(found) {
+        Ok(info) => Ok(Command::Info(info)),
         Err(refusal) => Err(refusal),
     }
 }
@@ -212,6 +233,17 @@ fn cat_in<'a>(matches: &ArgMatches<'a>) -> Result<CatAsked<'a>, NoCommand<'a>>
     };
     let at = number_in(matches, "at")?;
     Ok(CatAsked { image, object, at })
+}
+
+fn info_in<'a>(matches: &ArgMatches<'a>) -> Result<InfoAsked<'a>, NoCommand<'a>>
+    ensures spelled { IfOk result (SpellsInfo (rows_of (found_of matches.now))) }
+    ensures usage { OnErr result ((info : _) → SpellsInfo (rows_of (found_of matches.now)) info → ⊥) }
+{
+    let image = text_in(matches, "image").ok_or(NoCommand::Unspelled)?;
+    Ok(InfoAsked {
+        image,
+        json: is_given(matches, "json"),
+    })
 }
 
 fn text_in<'a>(matches: &ArgMatches<'a>, id: &str) -> Option<&'a str>

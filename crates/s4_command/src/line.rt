@@ -4,7 +4,7 @@ ghost use Rattle.clap.specs.declared.builder.command.Command.TheViews.{out-Comma
 ghost use Rattle.clap.specs.Walk.{rule_of};
 ghost use Rattle.clap.specs.Simple.{App, app_of, new_app, with_rule, with_subcommand};
 ghost use Rattle.s4d_command.specs.CommandLine.{flag_rule, IsLine};
-ghost use Rattle.s4_command.specs.CommandLine.{line, program, list_line, log_line, cat_line, number_rule, needed_rule};
+ghost use Rattle.s4_command.specs.CommandLine.{line, program, list_line, log_line, cat_line, info_line, number_rule, needed_rule};
 
 use clap::{Arg, ArgAction, Command};
 use std::alloc::{AllocError, Global};
@@ -145,6 +145,14 @@ fn cat_command<'a>(alloc: Global) -> Result<Command<'a>, AllocError>
     with_operand(alloc, image, "object", "OBJECT", "The number of an object")
 }
 
+fn info_command<'a>(alloc: Global) -> Result<Command<'a>, AllocError>
+    ensures { IsLine result info_line }
+{
+    let info = named(alloc, "info", "Prints the numbers of an image");
+    let json = with_flag(alloc, info, "json", JSON);
+    with_operand(alloc, json, "image", IMAGE.0, IMAGE.1)
+}
+
 // The program with one command more. The first refusal of memory stays.
 fn with_command<'a>(
     program: Result<Command<'a>, AllocError>,
@@ -176,5 +184,6 @@ pub(crate) fn command_line<'a>(alloc: Global) -> Result<Command<'a>, AllocError>
 {
     let first = with_command(empty_program(alloc), list_command(alloc));
     let second = with_command(first, log_command(alloc));
-    with_command(second, cat_command(alloc))
+    let third = with_command(second, cat_command(alloc));
+    with_command(third, info_command(alloc))
 }
