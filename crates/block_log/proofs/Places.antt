@@ -1,9 +1,9 @@
 -- What holds of one place and of another.
-use Rattle.std.proofs.Common.{◌≡◌, inl, inr, ℕ, ◌+◌, true, false, ◌==◌, ◌&&◌, List, [], ◌∷◌, Option, Some, None, if◌then◌else◌, refl, sym, ap, ◌∙◌, subst}
+use Rattle.std.proofs.Common.{◌≡◌, inl, inr, ℕ, ◌+◌, Bool, true, false, ◌==◌, ◌&&◌, List, [], ◌∷◌, Option, Some, None, if◌then◌else◌, refl, sym, ap, ◌∙◌, subst}
 use Rattle.std.proofs.lemmas.Bool.{eqb-true, eq-eqb, and_parts, and_from, cases_Bool}
 use Rattle.s4_types.specs.Pointer.{Place}
 use Rattle.block_log.specs.declared.kinds.BlockKind.{BlockKind}
-use Rattle.block_log.specs.Log.{Log, Stored, same_place, same_kind, seen_as, with_held, appended, appended_at, dropped}
+use Rattle.block_log.specs.Log.{Log, Stored, same_place, same_kind, seen_as, with_held, named_with, is_data, dropped_by, without, appended, appended_at, dropped}
 use Rattle.block_log.specs.Growth.{Puts, LetsGo}
 
 pub one_place : (p q : Place) → same_place p q ≡ true → p ≡ q
@@ -44,12 +44,13 @@ put_unseen held p found k o q new old = elim (cases_Bool (same_place p q)) [
 ]
 
 -- where the places ahead are known
-puts_first : (log : Log) (block : Stored) (q : Place) (ahead : List Place) → log.ahead ≡ q ∷ ahead → log.held q ≡ None → Puts log block q (record { held = with_held log.held q block; ahead = ahead; spent = 1 + log.spent })
+puts_first : (log : Log) (block : Stored) (q : Place) (ahead : List Place) → log.ahead ≡ q ∷ ahead → log.held q ≡ None → Puts log block q (record { held = with_held log.held q block; ahead = ahead; spent = 1 + log.spent; named = named_with block.kind log.named q })
 unfolding put
 puts_first log block q ahead h fresh = record {
   ahead = h;
   spent = refl;
   fresh = fresh;
+  named = refl;
   here = put_here log.held q (Some block);
   kept = λ r e. put_elsewhere log.held q (Some block) r e;
   others = λ k o r e. put_unseen log.held q (Some block) k o r (not_seen k o block e) (ap (seen_as k o) fresh);
@@ -63,18 +64,21 @@ inside (Some x) other = x
 puts_at : (log : Log) (block : Stored) (ahead : List Place) (p : Place) (after : Log) → log.ahead ≡ ahead → appended_at log block ahead ≡ Some (p, after) → log.held p ≡ None → Puts log block p after
 puts_at log block [] p after h e fresh = absurd cc
 puts_at log block (q ∷ ahead) p after h e fresh =
-    let same : (q, record { held = with_held log.held q block; ahead = ahead; spent = 1 + log.spent }) ≡ (p, after) = ap (λ o. inside o (p, after)) e in
+    let same : (q, record { held = with_held log.held q block; ahead = ahead; spent = 1 + log.spent; named = named_with block.kind log.named q }) ≡ (p, after) = ap (λ o. inside o (p, after)) e in
     subst (λ (x : Place × Log). log.held x.0 ≡ None → Puts log block x.0 x.1) same (λ f. puts_first log block q ahead h f) fresh
 
 pub puts : (before after : Log) (block : Stored) (p : Place) → appended before block ≡ Some (p, after) → before.held p ≡ None → Puts before block p after
 puts before after block p e fresh = puts_at before block before.ahead p after refl e fresh
 
-pub takes : (before : Log) (block : Stored) (p : Place) → before.held p ≡ Some block → LetsGo before block p (dropped before p)
+pub takes : (before : Log) (block : Stored) (p : Place) → before.held p ≡ Some block → is_data (Some block) ≡ false → LetsGo before block p (dropped before p)
 unfolding put
-takes before block p h = record {
-  ahead = refl;
-  spent = refl;
-  here = put_here before.held p None;
-  kept = λ q e. put_elsewhere before.held p None q e;
-  others = λ k o q e. put_unseen before.held p None k o q refl (ap (seen_as k o) h ∙ not_seen k o block e);
-}
+takes before block p h other =
+    let is : record before { held = without before.held p } ≡ dropped before p = sym (ap (λ (b : Bool). dropped_by b before p) (ap is_data h ∙ other)) in
+    subst (LetsGo before block p) is (record {
+      ahead = refl;
+      spent = refl;
+      named = refl;
+      here = put_here before.held p None;
+      kept = λ q e. put_elsewhere before.held p None q e;
+      others = λ k o q e. put_unseen before.held p None k o q refl (ap (seen_as k o) h ∙ not_seen k o block e);
+    })

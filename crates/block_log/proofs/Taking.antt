@@ -1,12 +1,12 @@
 -- How many places an append, a drop, and two changes in turn take.
-use Rattle.std.proofs.Common.{◌≡◌, inl, inr, ℕ, ◌+◌, false, List, [], ◌∷◌, take, drop, Option, Some, None, IsSome, is_some, if◌then◌else◌, refl, sym, ap, ◌∙◌, subst, arith}
+use Rattle.std.proofs.Common.{◌≡◌, inl, inr, ℕ, ◌+◌, leb, Bool, true, false, List, [], ◌∷◌, take, drop, Option, Some, None, IsSome, is_some, if◌then◌else◌, refl, sym, ap, ◌∙◌, subst, arith}
 use Rattle.std.specs.List.{Contains}
 use Rattle.std.proofs.lemmas.Bool.{cases_Bool, both_ways}
 use Rattle.std.proofs.lemmas.List.{drop-drop}
 use Rattle.std.proofs.lemmas.List.Elements.{Contains-append_left, Contains-append_right}
 use Rattle.std.proofs.Math.Seq.{take-add}
 use Rattle.s4_types.specs.Pointer.{Place}
-use Rattle.block_log.specs.Log.{Log, Stored, same_place, with_held, appended, appended_at, dropped}
+use Rattle.block_log.specs.Log.{Log, Stored, same_place, with_held, named_with, is_data, dropped_by, without, appended, appended_at, dropped}
 use Rattle.block_log.specs.Taken.{TakesPlaces}
 use Rattle.block_log.proofs.Places.{one_place, inside, put, put_elsewhere}
 
@@ -29,7 +29,7 @@ newly_put held p found q none some = elim (cases_Bool (same_place p q)) [
   | inr e ↦ absurd (not_both (put held p found q) (put_elsewhere held p found q e ∙ none) some)
 ]
 
-takes_first : (log : Log) (block : Stored) (p : Place) (ahead : List Place) → log.ahead ≡ p ∷ ahead → TakesPlaces 1 log (record { held = with_held log.held p block; ahead = ahead; spent = 1 + log.spent })
+takes_first : (log : Log) (block : Stored) (p : Place) (ahead : List Place) → log.ahead ≡ p ∷ ahead → TakesPlaces 1 log (record { held = with_held log.held p block; ahead = ahead; spent = 1 + log.spent; named = named_with block.kind log.named p })
 unfolding put
 takes_first log block p ahead h = record {
   ahead = sym (ap (drop 1) h);
@@ -40,7 +40,7 @@ takes_first log block p ahead h = record {
 takes_at : (log : Log) (block : Stored) (ahead : List Place) (p : Place) (after : Log) → log.ahead ≡ ahead → appended_at log block ahead ≡ Some (p, after) → TakesPlaces 1 log after
 takes_at log block [] p after h e = absurd cc
 takes_at log block (q ∷ ahead) p after h e =
-    let same : (q, record { held = with_held log.held q block; ahead = ahead; spent = 1 + log.spent }) ≡ (p, after) = ap (λ o. inside o (p, after)) e in
+    let same : (q, record { held = with_held log.held q block; ahead = ahead; spent = 1 + log.spent; named = named_with block.kind log.named q }) ≡ (p, after) = ap (λ o. inside o (p, after)) e in
     subst (λ (x : Place × Log). TakesPlaces 1 log x.1) same (takes_first log block q ahead h)
 
 pub append_takes : (before after : Log) (block : Stored) (p : Place) → appended before block ≡ Some (p, after) → TakesPlaces 1 before after
@@ -54,13 +54,31 @@ still_none held p q none = elim (cases_Bool (same_place p q)) [
   | inr e ↦ put_elsewhere held p None q e ∙ none
 ]
 
-pub drop_takes : (before : Log) (p : Place) → TakesPlaces 0 before (dropped before p)
+-- what is not held stays so when a place is named once less
+still_dropped : (b : Bool) (held : Place → Option Stored) (p q : Place) → held q ≡ None → (if b then without held p else held) q ≡ None
 unfolding put
-drop_takes before p = record {
+still_dropped true held p q none = still_none held p q none
+still_dropped false held p q none = none
+
+still_dropped_by : (b : Bool) (before : Log) (p q : Place) → before.held q ≡ None → (dropped_by b before p).held q ≡ None
+unfolding put
+still_dropped_by false before p q none = still_none before.held p q none
+still_dropped_by true before p q none = still_dropped (leb (before.named p) 1) before.held p q none
+
+drop_takes_by : (b : Bool) (before : Log) (p : Place) → TakesPlaces 0 before (dropped_by b before p)
+drop_takes_by true before p = record {
   ahead = refl;
   spent = omega arith;
-  among = λ q none some. absurd (not_both (put before.held p None q) (still_none before.held p q none) some);
+  among = λ q none some. absurd (not_both ((dropped_by true before p).held q) (still_dropped_by true before p q none) some);
 }
+drop_takes_by false before p = record {
+  ahead = refl;
+  spent = omega arith;
+  among = λ q none some. absurd (not_both ((dropped_by false before p).held q) (still_dropped_by false before p q none) some);
+}
+
+pub drop_takes : (before : Log) (p : Place) → TakesPlaces 0 before (dropped before p)
+drop_takes before p = drop_takes_by (is_data (before.held p)) before p
 
 pub none_taken : (log : Log) → TakesPlaces 0 log log
 none_taken log = record {

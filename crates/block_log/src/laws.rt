@@ -1,8 +1,8 @@
 //! Laws of the log, for the layers above: each function does nothing, and its contract is the law.
 
-ghost use Rattle.std.specs.Prelude.{◌≡◌, ℕ, ◌+◌, true, Option, Some, None};
+ghost use Rattle.std.specs.Prelude.{◌≡◌, ℕ, ◌+◌, ◌≤◌, true, false, Option, Some, None};
 ghost use Rattle.s4_types.specs.Pointer.{Place};
-ghost use Rattle.block_log.specs.Log.{Log, Stored, same_place, appended, dropped};
+ghost use Rattle.block_log.specs.Log.{Log, Stored, same_place, without, is_data, appended, dropped, NamesAreOfData};
 ghost use Rattle.block_log.specs.Growth.{Puts, LetsGo};
 ghost use Rattle.block_log.specs.Taken.{TakesPlaces};
 
@@ -16,9 +16,20 @@ pub fn an_append_puts_one_block()
     ensures { (before after : Log) (block : Stored) (p : Place) → appended before block ≡ Some (p, after) → before.held p ≡ None → Puts before block p after }
 {}
 
-/// Dropping a held block takes it alone.
+/// Dropping a held block that is not of data takes it alone.
 pub fn a_drop_takes_one_block()
-    ensures { (before : Log) (block : Stored) (p : Place) → before.held p ≡ Some block → LetsGo before block p (dropped before p) }
+    ensures { (before : Log) (block : Stored) (p : Place) → before.held p ≡ Some block → is_data (Some block) ≡ false → LetsGo before block p (dropped before p) }
+{}
+
+/// A drop of a block that one place names, or none, lets it go, whatever it is for; and a drop gives no block a name.
+pub fn a_last_name_lets_a_block_go()
+    ensures held { (log : Log) (p : Place) → log.named p ≤ 1 → (dropped log p).held ≡ without log.held p }
+    ensures named { (log : Log) (p q : Place) → (dropped log p).named q ≤ log.named q }
+{}
+
+/// Where names are of held data alone, what isn't held has none.
+pub fn what_is_not_held_has_no_name()
+    ensures { (log : Log) (p : Place) → NamesAreOfData log → log.held p ≡ None → log.named p ≡ 0 }
 {}
 
 /// An append takes the first place ahead.

@@ -1,8 +1,8 @@
-ghost use Rattle.std.specs.Prelude.{◌≡◌, ◌≢◌, ℕ, ◌+◌, ◌-◌, ◌≤◌, ◌++◌, length, take, drop, Option, Some, None, IsSome, IfSome, IfOk, OnOk, IfErr};
+ghost use Rattle.std.specs.Prelude.{◌≡◌, ◌≢◌, ℕ, ◌+◌, ◌-◌, ◌^◌, ◌<◌, ◌≤◌, ◌++◌, true, length, take, drop, Option, Some, None, IsSome, IfSome, IfOk, OnOk, IfErr};
 ghost use Rattle.s4_types.specs.Pointer.{IsPlace};
 ghost use Rattle.s4_types.specs.declared.limits.TheConstants.{BLOCK_BYTES};
 ghost use Rattle.s4_types.specs.declared.refusals.Refusal.TheVariants.{NoMemory, NoSpace};
-ghost use Rattle.block_log.specs.Log.{Log, Stored, appended, dropped};
+ghost use Rattle.block_log.specs.Log.{Log, Stored, appended, dropped, held_more, is_data, NamesAreOfData};
 
 use crate::kinds::BlockKind;
 use s4_types::limits::BLOCK_BYTES;
@@ -13,10 +13,11 @@ pub type Block = [u8; BLOCK_BYTES];
 
 /// A table of blocks behind pointers.
 pub trait Blocks {
-    // What the held pointers lead to, where the next appends go, and how many places were ever taken.
+    // What the held pointers lead to, where the next appends go, how many places were ever taken, and how often data is named.
     ghost log: { Self → Log };
 
-    /// Appends a block, and answers the pointer by which it is held from now on. No held pointer equals it.
+    /// Appends a block, and answers the pointer by which it is held from now on. No held pointer equals it. A data block has
+    /// one name then.
     ///
     /// NoSpace exactly where no place is left; then nothing has changed.
     fn append(&mut self, kind: BlockKind, object: ObjectId, block: &Block) -> Result<Ptr, Refusal>
@@ -49,9 +50,20 @@ pub trait Blocks {
         ensures refusal { IfErr result (λ e. e ≡ NoMemory) }
         ensures same { log self.new ≡ log self.old };
 
-    /// The pointer is held no longer. Where it wasn't, nothing changes.
+    /// A held data block has one name more.
+    fn hold(&mut self, place: Ptr)
+        requires of_data { is_data ((log self.old).held place) ≡ true }
+        requires room { (log self.old).named place + 1 < 2 ^ 32 }
+        ensures { log self.new ≡ held_more (log self.old) place };
+
+    /// A data block has one name less, and is held no longer without any; any other block is held no longer. Where nothing is
+    /// held, nothing changes.
     fn drop_block(&mut self, place: Ptr)
         ensures { log self.new ≡ dropped (log self.old) place };
+
+    /// Shows that the held data blocks have names, and nothing else has.
+    fn names(&self)
+        ensures { NamesAreOfData (log self.now) };
 
     /// How many blocks can be appended before there is no space: at most 15,360.
     fn blocks_left(&self) -> usize

@@ -1,12 +1,12 @@
 -- The blocks of a checkpoint: one, where its pointer leads to.
-use Rattle.std.proofs.Common.{◌≡◌, inl, inr, ℕ, ◌+◌, ◌≤◌, ◌<◌, Bool, true, false, ◌==◌, ◌&&◌, ◌||◌, List, [], ◌∷◌, length, map, Option, Some, None, is_some, IsSome, IfOk, IfErr, Result, Ok, Err, MatchResult, refl, sym, ap, subst, ◌∙◌, arith}
-use Rattle.std.proofs.lemmas.Bool.{cases_Bool, false≢true, and_from, eq-eqb}
+use Rattle.std.proofs.Common.{◌≡◌, inl, inr, ℕ, ◌+◌, ◌≤◌, ◌<◌, Bool, true, false, cond, ◌==◌, ◌&&◌, ◌||◌, List, [], ◌∷◌, length, map, Option, Some, None, is_some, IsSome, IfOk, IfErr, Result, Ok, Err, MatchResult, refl, sym, ap, subst, ◌∙◌, arith}
+use Rattle.std.proofs.lemmas.Bool.{cases_Bool, false≢true, and_from, and_parts, eq-eqb, eqb-true}
 use Rattle.s4_types.specs.Pointer.{Place}
 use Rattle.s4_types.specs.declared.limits.TheConstants.{CHECKPOINT_BLOCKS}
 use Rattle.s4_types.specs.declared.refusals.Refusal.{Refusal}
 use Rattle.s4_types.specs.declared.refusals.Refusal.TheVariants.{NoSpace}
-use Rattle.block_log.specs.Growth.{Puts}
-use Rattle.block_log.specs.Log.{Log, Stored, of_kind, seen_as, same_place, same_kind, appended}
+use Rattle.block_log.specs.Growth.{Puts, LetsGo}
+use Rattle.block_log.specs.Log.{Log, Stored, of_kind, seen_as, same_place, same_kind, is_data, appended, dropped}
 use Rattle.block_log.specs.declared.kinds.BlockKind.{BlockKind}
 use Rattle.block_log.specs.declared.kinds.BlockKind.TheVariants.{Journal, Checkpoint, Data}
 use Rattle.codec.specs.Checkpoint.{CheckpointFields}
@@ -110,6 +110,10 @@ block_of o bytes = record { kind = Checkpoint; object = o; bytes = bytes }
 abbrev pub AppendPuts : Type 0
 AppendPuts = (before after : Log) (block : Stored) (p : Place) → appended before block ≡ Some (p, after) → before.held p ≡ None → Puts before block p after
 
+-- dropping a held block that is not of data takes it alone
+abbrev pub DropTakes : Type 0
+DropTakes = (before : Log) (block : Stored) (p : Place) → before.held p ≡ Some block → is_data (Some block) ≡ false → LetsGo before block p (dropped before p)
+
 puts : OneName → (before after : Log) (o : ℕ) (bytes : List ℕ) (p : Place) → Puts before (block_of o bytes) p after → PutsCheckpoint before.held o p after.held
 puts one before after o bytes p put = record {
   fresh = λ q is. sym (ap before.held (one p q (tested after.held o p q true is))) ∙ put.fresh;
@@ -126,6 +130,47 @@ some_ahead : (before after : Log) (p : Place) → before.ahead ≡ p ∷ after.a
 some_ahead before after p is =
     let count : length before.ahead ≡ length (p ∷ after.ahead) = ap length is in
     omega (arith, count)
+
+-- names of data stay
+pub names_stay : AppendPuts → (before after : Log) (o : ℕ) (bytes : List ℕ) (r : Result Place Refusal)
+    → IfOk r (λ p. appended before (block_of o bytes) ≡ Some (p, after)) → IfOk r (λ p. before.held p ≡ None)
+    → IfErr r (λ e. (e ≡ NoSpace) × ((length before.ahead ≡ 0) × (after ≡ before)))
+    → after.named ≡ before.named
+names_stay law before after o bytes (Ok p) is fresh full = (law before after (block_of o bytes) p is fresh).named
+names_stay law before after o bytes (Err e) is fresh full = ap (λ (l : Log). l.named) full.1.1
+
+checkpoint_is : (k : BlockKind) → same_kind Checkpoint k ≡ true → k ≡ Checkpoint
+checkpoint_is Journal is = absurd (false≢true is)
+checkpoint_is Checkpoint is = refl
+checkpoint_is Data is = absurd (false≢true is)
+
+-- A block of an object's checkpoint isn't of data, so that its drop takes it alone.
+pub record IsDropped (before : Log) (o : ℕ) (p : Place) (after : Log) : Type 0 where
+  pub gone : after.held p ≡ None
+  pub kept : (q : Place) → same_place p q ≡ false → after.held q ≡ before.held q
+  pub others : OnlyCheckpointChanged o before.held after.held
+  pub named : after.named ≡ before.named
+
+dropped_there : DropTakes → (before : Log) (o : ℕ) (p : Place) (there : Option Stored) → before.held p ≡ there → IsSome (seen_as Checkpoint o there) → IsDropped before o p (dropped before p)
+dropped_there law before o p None is seen = absurd (false≢true seen)
+dropped_there law before o p (Some block) is seen = elim (cases_Bool (same_kind Checkpoint block.kind && block.object == o)) [
+  | inl here ↦
+      let parts = and_parts (same_kind Checkpoint block.kind) (block.object == o) here in
+      let kind : block.kind ≡ Checkpoint = checkpoint_is block.kind parts.0 in
+      let object : block.object ≡ o = eqb-true block.object o parts.1 in
+      let drops : LetsGo before block p (dropped before p) = law before block p is (ap (λ (k : BlockKind). same_kind k Data) kind) in
+      record {
+        gone = drops.here;
+        kept = drops.kept;
+        others = λ k other beside i q. drops.others k other q
+            (ap (λ (x : BlockKind). same_kind k x && block.object == other) kind ∙ ap (λ (n : ℕ). same_kind k Checkpoint && n == other) object ∙ ap (λ b. b && o == other) (turned k) ∙ beside) i;
+        named = drops.named;
+      }
+  | inr beside ↦ absurd (false≢true (sym (ap (λ b. is_some (cond b (Some block.bytes) None)) beside) ∙ seen))
+]
+
+pub one_dropped : DropTakes → (before after : Log) (o : ℕ) (p : Place) → after ≡ dropped before p → IsSome (of_checkpoints o before.held p) → IsDropped before o p after
+one_dropped law before after o p is seen = subst (IsDropped before o p) (sym is) (dropped_there law before o p (before.held p) refl seen)
 
 pub puts_or_not : AppendPuts → (before after : Log) (o : ℕ) (bytes : List ℕ) (i : Inode) (r : Result Place Refusal)
     → IfOk r (λ p. appended before (block_of o bytes) ≡ Some (p, after)) → IfOk r (λ p. before.held p ≡ None)

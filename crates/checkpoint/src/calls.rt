@@ -34,6 +34,7 @@ pub fn write_checkpoint<B: Blocks>(table: &mut B, checkpoint: &Checkpoint) -> Re
     ensures written { IfOk result (λ p. checkpoint_held (B.log table.new).held checkpoint.now.object p ≡ Some checkpoint.now) }
     ensures takes { IfOk result (λ _. TakesPlaces (checkpoint_blocks checkpoint.now.inode) (B.log table.old) (B.log table.new)) }
     ensures growth { IfOk result (λ p. PutsCheckpoint (B.log table.old).held checkpoint.now.object p (B.log table.new).held) }
+    ensures named { (B.log table.new).named ≡ (B.log table.old).named }
     ensures answer { MatchResult result
         (λ _. checkpoint_blocks checkpoint.now.inode ≤ length (B.log table.old).ahead)
         (λ e. (e ≡ NoSpace) × (length (B.log table.old).ahead < checkpoint_blocks checkpoint.now.inode)) }
@@ -74,6 +75,7 @@ fn drop_block<B: Blocks>(table: &mut B, object: ObjectId, place: Ptr)
     ensures gone { (B.log table.new).held place ≡ None }
     ensures kept { (q : Place) → same_place place q ≡ false → (B.log table.new).held q ≡ (B.log table.old).held q }
     ensures others { OnlyCheckpointChanged object (B.log table.old).held (B.log table.new).held }
+    ensures named { (B.log table.new).named ≡ (B.log table.old).named }
     ensures takes { TakesPlaces 0 (B.log table.old) (B.log table.new) }
 {
     a_drop_takes_one_block();
@@ -85,6 +87,7 @@ fn drop_block<B: Blocks>(table: &mut B, object: ObjectId, place: Ptr)
 pub fn drop_checkpoint<B: Blocks>(table: &mut B, object: ObjectId, place: Option<Ptr>)
     requires held { HasItsBlocks (B.log table.old).held object place }
     ensures dropped { DropsCheckpoint (B.log table.old).held object place (B.log table.new).held }
+    ensures named { (B.log table.new).named ≡ (B.log table.old).named }
     ensures takes { TakesPlaces 0 (B.log table.old) (B.log table.new) }
 {
     one_place_has_one_name();

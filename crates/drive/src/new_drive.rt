@@ -51,7 +51,7 @@ impl NewDrive {
     pub fn new(alloc: Global, frames: usize, window: u64) -> Result<Self, Refusal>
         requires { IsFrameCount frames }
         ensures window { IfOk result (λ d. d.window ≡ window) }
-        ensures log { IfOk result (λ d. log_of d.store.table ≡ record { held = λ p. None; ahead = new_places frames; spent = 0 }) }
+        ensures log { IfOk result (λ d. log_of d.store.table ≡ record { held = λ p. None; ahead = new_places frames; spent = 0; named = λ p. 0 }) }
         ensures empty { IfOk result (λ d. (o : ℕ) → row_of d.store.rows o ≡ None) }
         ensures latest { IfOk result (λ d. d.store.latest ≡ 0) }
         ensures store { IfOk result (λ d. IsStore (fields_of log_of d.store)) }

@@ -11,7 +11,7 @@ use Rattle.image_commands.specs.Files.{AreKnown}
 
 -- An empty store over a table of so many frames: nothing is held, no object has a row, and nothing was ever changed.
 pub record IsEmptyStore (frames : ℕ) (store : StoreOf Table) : Type 0 where
-  pub log : log_of store.table ≡ record { held = λ p. None; ahead = new_places frames; spent = 0 }
+  pub log : log_of store.table ≡ record { held = λ p. None; ahead = new_places frames; spent = 0; named = λ p. 0 }
   pub empty : (o : ℕ) → row_of store.rows o ≡ None
   pub latest : store.latest ≡ 0
   pub stands : IsStore (fields_of log_of store)

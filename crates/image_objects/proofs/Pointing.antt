@@ -26,7 +26,7 @@ pub pointed_is_led_to : InodesPointToWhatRowsName → InodesUsedPointToWhatRowsL
 pointed_is_led_to law used row t n p at =
     let o = row.object in
     let kept = kept_row used row 0 in
-    let s : StoreFields = record { rows = (o, kept) ∷ []; log = record { held = used; ahead = []; spent = 0 }; latest = 0 } in
+    let s : StoreFields = record { rows = (o, kept) ∷ []; log = record { held = used; ahead = []; spent = 0; named = λ p. 0 }; latest = 0 } in
     let here = found_here [] o o kept refl in
     let now : inode_in s o t ≡ Some (inode_used used row t) = ap (inode_by used o t) here ∙ ap (λ (i : Inode). Some i) (inode_is_used used row 0 t) in
     let named : IsNamed s o Data p = law s o t n (inode_used used row t) p now at in

@@ -7,7 +7,7 @@ use Rattle.std.proofs.lemmas.List.Elements.{Contains-append_left, Contains-appen
 use Rattle.std.proofs.Math.Seq.{take-add}
 use Rattle.std.proofs.lemmas.Option.{slice_get_within, same_Some, none-some}
 use Rattle.s4_types.specs.Pointer.{Place}
-use Rattle.block_log.specs.Log.{Log, Stored, with_held, seen_as, same_kind, same_place}
+use Rattle.block_log.specs.Log.{Log, Stored, with_held, with_more, seen_as, same_kind, same_place}
 use Rattle.block_log.specs.Taken.{TakesPlaces}
 use Rattle.block_log.specs.declared.kinds.BlockKind.{BlockKind}
 use Rattle.block_log.specs.declared.kinds.BlockKind.TheVariants.{Data}
@@ -84,6 +84,8 @@ grows-none object log = record {
   fresh = λ n p lt e. absurd (omega arith);
   taken = λ n p bytes e none. absurd (none-some bytes none);
   kept = λ p held. refl;
+  first_names = λ p none some. absurd (none_is_some (log.held p) none some);
+  names_kept = λ p same. refl;
   others = λ kind o p other. refl;
 }
 
@@ -94,7 +96,7 @@ ahead_is (p ∷ ahead) q e = ap (λ first. first ∷ ahead) (same_Some p q e)
 
 -- the log after a block at the first place ahead
 abbrev put_at : Log → Stored → Place → Log
-put_at log block q = record { held = with_held log.held q block; ahead = drop 1 log.ahead; spent = 1 + log.spent }
+put_at log block q = record { held = with_held log.held q block; ahead = drop 1 log.ahead; spent = 1 + log.spent; named = with_more log.named q }
 
 grown_is : (log : Log) (block : Stored) (q : Place) → slice_get log.ahead 0 ≡ Some q → log_grown log block ≡ put_at log block q
 grown_is log block q e = ap (grown_at log block) (ahead_is log.ahead q e)
@@ -154,6 +156,32 @@ taken_one_more before mid n m q block takes more first = record {
   among = among_one_more before mid n m q block takes more first;
 }
 
+-- the new block is named once more, and those that came before it
+first_names_more : (object : ℕ) (blocks : List (List ℕ)) (block : Stored) (before mid : Log) (q : Place) → GrowsBy object blocks before mid → mid.held q ≡ None
+    → (p : Place) → before.held p ≡ None → IsSome (with_held mid.held q block p) → with_more mid.named q p ≡ 1 + before.named p
+first_names_more object blocks block before mid q grows free p none some =
+    elim (cases_Bool (same_place q p)) [
+      | inl here ↦
+          let empty : mid.held p ≡ None = ap mid.held (sym (same_place-eq q p here)) ∙ free in
+          cond-true (same_place q p) (1 + mid.named p) (mid.named p) here ∙ ap (λ (n : ℕ). 1 + n) (grows.names_kept p (empty ∙ sym none))
+      | inr beside ↦
+          cond-false (same_place q p) (1 + mid.named p) (mid.named p) beside
+          ∙ grows.first_names p none (subst (λ (there : Option Stored). IsSome there) (cond-false (same_place q p) (Some block) (mid.held p) beside) some)
+    ]
+
+-- and all others are named as often as before
+names_kept_more : (object : ℕ) (blocks : List (List ℕ)) (block : Stored) (before mid : Log) (q : Place) → GrowsBy object blocks before mid → mid.held q ≡ None
+    → (p : Place) → with_held mid.held q block p ≡ before.held p → with_more mid.named q p ≡ before.named p
+names_kept_more object blocks block before mid q grows free p same =
+    elim (cases_Bool (same_place q p)) [
+      | inl here ↦
+          let empty : before.held p ≡ None = is_free (before.held p) (mid.held p) (grows.kept p) (ap mid.held (sym (same_place-eq q p here)) ∙ free) in
+          absurd (none-some block (sym empty ∙ sym same ∙ cond-true (same_place q p) (Some block) (mid.held p) here))
+      | inr beside ↦
+          cond-false (same_place q p) (1 + mid.named p) (mid.named p) beside
+          ∙ grows.names_kept p (sym (cond-false (same_place q p) (Some block) (mid.held p) beside) ∙ same)
+    ]
+
 pub grows-more : (object : ℕ) (blocks : List (List ℕ)) (bytes : List ℕ) (before mid : Log) (q : Place) → GrowsBy object blocks before mid → slice_get mid.ahead 0 ≡ Some q → mid.held q ≡ None
     → GrowsBy object (blocks ++ bytes ∷ []) before (log_grown mid (data_block object bytes))
 grows-more object blocks bytes before mid q grows first free =
@@ -165,6 +193,8 @@ grows-more object blocks bytes before mid q grows first free =
       takes = taken_one_more before mid (length blocks) (length (blocks ++ bytes ∷ [])) q (data_block object bytes) grows.takes (sym longer) first;
       fresh = fresh_more object blocks bytes before mid q grows first free;
       taken = taken_more object blocks bytes before mid q grows first free;
+      first_names = first_names_more object blocks (data_block object bytes) before mid q grows free;
+      names_kept = names_kept_more object blocks (data_block object bytes) before mid q grows free;
       kept = λ p held. held_beside mid.held q p (data_block object bytes) free (subst IsSome (sym (grows.kept p held)) held) ∙ grows.kept p held;
       others = λ kind o p other. kind_beside mid.held q p object bytes kind o free other ∙ grows.others kind o p other;
     })

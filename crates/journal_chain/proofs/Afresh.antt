@@ -6,7 +6,7 @@ use Rattle.std.proofs.lemmas.List.{drop_more}
 use Rattle.s4_types.specs.Pointer.{Place}
 use Rattle.s4_types.specs.declared.limits.TheConstants.{CHAIN_BLOCKS, CHAIN_ENTRY_BYTES}
 use Rattle.block_log.specs.declared.kinds.BlockKind.TheVariants.{Journal}
-use Rattle.block_log.specs.Log.{Log, Stored, of_kind, dropped}
+use Rattle.block_log.specs.Log.{Log, Stored, of_kind, without, dropped}
 use Rattle.codec.specs.Fields.{bit}
 use Rattle.codec.specs.Entry.{EntryFields, entries_length}
 use Rattle.codec.specs.Journal.{JournalFields}
@@ -15,8 +15,8 @@ use Rattle.journal_chain.specs.Chain.{ChainFields, Holds, OnlyJournalChanged, ch
 use Rattle.journal_chain.specs.Writing.{Standing, Finished, Unfinished, Put}
 use Rattle.journal_chain.specs.Back.{links_back, places_back}
 use Rattle.journal_chain.proofs.Spelled.{bind_some}
-use Rattle.journal_chain.proofs.Tables.{only-refl, only-trans}
-use Rattle.journal_chain.proofs.Chains.{held_of, put_finished, put_changes_only, drop_finished, drop_changes_only}
+use Rattle.journal_chain.proofs.Tables.{only-refl, only-trans, dropped_journal}
+use Rattle.journal_chain.proofs.Chains.{held_of, put_finished, put_changes_only, drop_finished, stale_there, drop_changes_only}
 use Rattle.journal_chain.proofs.Backwards.{back_of_chain}
 
 -- ---- what is there before
@@ -42,11 +42,12 @@ old_blocks held chain entries c =
 
 pub drop_some : (log later : Log) (p : Place) (place : Option Place) (o : ℕ) (stale : List Place) (head : Option Place) (entries : List EntryFields)
     → place ≡ Some p → later ≡ dropped log p → Finished log.held o (option_to_list place ++ stale) head entries
-    → Finished later.held o stale head entries × OnlyJournalChanged o log.held later.held
+    → Finished later.held o stale head entries × (OnlyJournalChanged o log.held later.held × (later.named ≡ log.named))
 drop_some log later p place o stale head entries is drops f =
     let g : Finished log.held o (p ∷ stale) head entries = subst (λ (x : Option Place). Finished log.held o (option_to_list x ++ stale) head entries) is f in
-    subst (λ (l : Log). Finished l.held o stale head entries × OnlyJournalChanged o log.held l.held) (sym drops)
-    (drop_finished log.held o stale p head entries g, drop_changes_only log.held o stale p head entries g)
+    let gone : later ≡ record log { held = without log.held p } = drops ∙ dropped_journal log p o (stale_there log.held o stale p head entries g) in
+    subst (λ (l : Log). Finished l.held o stale head entries × (OnlyJournalChanged o log.held l.held × (l.named ≡ log.named))) (sym gone)
+    (drop_finished log.held o stale p head entries g, (drop_changes_only log.held o stale p head entries g, refl))
 
 pub next_place : (places : List (Option Place)) (i : ℕ) (place : Option Place) → i < length places → place ≡ get_or places i place
     → flat_map option_to_list (drop i places) ≡ option_to_list place ++ flat_map option_to_list (drop (i + 1) places)
@@ -101,6 +102,37 @@ pub record Replaced (first later : Place → Option Stored) (o : ℕ) (after : C
   pub filled : after.filled ≡ filled_bytes (packed entries)
   pub others : OnlyJournalChanged o first later
 
+-- all blocks of the new entries stand beside the old ones, which are to be dropped
+pub beside_old : (log log1 log2 : Log) (chain : ChainFields) (new : Option Place) (old entries : List EntryFields) (o : ℕ) (head : Option Place) (places : List (Option Place))
+    → log1 ≡ log → Holds log.held chain old → o ≡ chain.object → head ≡ chain.head → places ≡ map Some (places_back log.held head)
+    → ((stale : List Place) → Standing o (of_kind Journal o log1.held) [] stale → Finished log2.held o stale new entries)
+    → Finished log2.held o (flat_map option_to_list places) new entries × Standing o (of_kind Journal o log1.held) [] (places_back log.held chain.head)
+beside_old log log1 log2 chain new old entries o head places same c at begins is writes =
+    let b : OldBlocks log.held chain = old_blocks log.held chain old c in
+    let old_places = places_back log.held chain.head in
+    let s : Standing o (of_kind Journal o log1.held) [] old_places =
+    subst (λ n. Standing n (of_kind Journal n log1.held) [] old_places) (sym at)
+    (subst (λ (l : Log). Standing chain.object (of_kind Journal chain.object l.held) [] old_places) (sym same) b.standing) in
+    let stale : flat_map option_to_list places ≡ old_places = ap (flat_map option_to_list) (is ∙ ap (λ h. map Some (places_back log.held h)) begins) ∙ each_there old_places in
+    (subst (λ l. Finished log2.held o l new entries) (sym stale) (writes old_places s), s)
+
+-- names of data stay
+pub replaced_names : (log log1 log2 log3 : Log) (chain : ChainFields) (new : Option Place) (old entries : List EntryFields) (o : ℕ) (head : Option Place) (places : List (Option Place))
+    → log1 ≡ log → Holds log.held chain old → o ≡ chain.object → head ≡ chain.head → places ≡ map Some (places_back log.held head)
+    → ((stale : List Place) → Standing o (of_kind Journal o log1.held) [] stale → Finished log2.held o stale new entries)
+    → log2.named ≡ log1.named
+    → ((n : ℕ) (head : Option Place) (es : List EntryFields) → Finished log2.held n (flat_map option_to_list places) head es → log3.named ≡ log2.named)
+    → log3.named ≡ log.named
+replaced_names log log1 log2 log3 chain new old entries o head places same c at begins is writes names drops =
+    drops o new entries (beside_old log log1 log2 chain new old entries o head places same c at begins is writes).0 ∙ names ∙ ap (λ (l : Log). l.named) same
+
+pub cleared_names : (log log1 log3 : Log) (chain : ChainFields) (old : List EntryFields) (o : ℕ) (head : Option Place) (places : List (Option Place))
+    → log1 ≡ log → Holds log.held chain old → o ≡ chain.object → head ≡ chain.head → places ≡ map Some (places_back log.held head)
+    → ((n : ℕ) (head : Option Place) (es : List EntryFields) → Finished log1.held n (flat_map option_to_list places) head es → log3.named ≡ log1.named)
+    → log3.named ≡ log.named
+cleared_names log log1 log3 chain old o head places same c at begins is drops =
+    replaced_names log log1 log1 log3 chain None old [] o head places same c at begins is (λ stale s. none_finished log1.held o stale s) refl drops
+
 pub replaced : (log log1 log2 log3 : Log) (chain after : ChainFields) (old entries : List EntryFields) (o : ℕ) (head : Option Place) (places : List (Option Place))
     → log1 ≡ log → Holds log.held chain old → o ≡ chain.object → head ≡ chain.head → places ≡ map Some (places_back log.held head)
     → ((stale : List Place) → Standing o (of_kind Journal o log1.held) [] stale → Finished log2.held o stale after.head entries)
@@ -110,14 +142,8 @@ pub replaced : (log log1 log2 log3 : Log) (chain after : ChainFields) (old entri
     → ((n : ℕ) (head : Option Place) (es : List EntryFields) → Finished log2.held n (flat_map option_to_list places) head es → OnlyJournalChanged n log2.held log3.held)
     → Replaced log.held log3.held chain.object after entries
 replaced log log1 log2 log3 chain after old entries o head places same c at begins is writes fills only drops only_drops =
-    let b : OldBlocks log.held chain = old_blocks log.held chain old c in
     let old_places = places_back log.held chain.head in
-    let s : Standing o (of_kind Journal o log1.held) [] old_places =
-    subst (λ n. Standing n (of_kind Journal n log1.held) [] old_places) (sym at)
-    (subst (λ (l : Log). Standing chain.object (of_kind Journal chain.object l.held) [] old_places) (sym same) b.standing) in
-    let stale : flat_map option_to_list places ≡ old_places = ap (flat_map option_to_list) (is ∙ ap (λ h. map Some (places_back log.held h)) begins) ∙ each_there old_places in
-    let f : Finished log2.held o (flat_map option_to_list places) after.head entries =
-    subst (λ l. Finished log2.held o l after.head entries) (sym stale) (writes old_places s) in
+    let (f, s) = beside_old log log1 log2 chain after.head old entries o head places same c at begins is writes in
     record {
       finished = subst (λ n. Finished log3.held n [] after.head entries) at (drops o after.head entries f);
       filled = fills old_places s;

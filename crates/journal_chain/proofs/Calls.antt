@@ -17,8 +17,8 @@ use Rattle.journal_chain.specs.Chain.{Link, ChainFields, journal_of, journal_in,
 use Rattle.journal_chain.specs.Writing.{head_of, Finished, Unfinished, Put, spelled_journal, reopened}
 use Rattle.journal_chain.proofs.Spelled.{bind_some, bind_is}
 use Rattle.journal_chain.proofs.Loops.{all_fit-append, AddUp}
-use Rattle.journal_chain.proofs.Tables.{append_holds, only-trans}
-use Rattle.journal_chain.proofs.Chains.{entries_length-last, held_of, put_finished, put_changes_only, drop_finished, drop_changes_only, entry_begins, finished_of, begins_head, head_there, reopens, head_reopened}
+use Rattle.journal_chain.proofs.Tables.{append_holds, append_names, dropped_journal, only-trans}
+use Rattle.journal_chain.proofs.Chains.{entries_length-last, held_of, put_finished, put_changes_only, drop_finished, stale_there, drop_changes_only, entry_begins, finished_of, begins_head, head_there, reopens, head_reopened}
 
 -- ---- appending a block
 
@@ -41,6 +41,7 @@ put_since {E} log later r p block o bytes takes is took free object spells reads
       free = subst (λ (x : Result Place E). IfOk x (λ q. log.held q ≡ None)) is free;
       held = held ∙ ap (λ n. with_held log.held p (record { kind = Journal; object = n; bytes = bytes })) object ∙ ap (λ b. with_held log.held p (record { kind = Journal; object = block.object; bytes = b })) spells;
       takes = takes log later (record { kind = Journal; object = o; bytes = bytes }) p took_p;
+      named = append_names log later (record { kind = Journal; object = o; bytes = bytes }) p took_p;
       spells = reads_back block (subst (λ b. all_of journal_at b ≡ Some block) spells reads);
     }
 
@@ -71,16 +72,20 @@ take_begins log later p stale block after entries e u put breaks is =
 
 pub finish_some : (log between later : Log) (p old : Place) (stale : Option Place) (block : JournalFields) (entries : List EntryFields)
     → stale ≡ Some old → Put log between p block → later ≡ dropped between old → Unfinished log.held block.object (option_to_list stale) block entries
-    → Finished later.held block.object [] (Some p) entries × OnlyJournalChanged block.object log.held later.held
+    → Finished later.held block.object [] (Some p) entries × (OnlyJournalChanged block.object log.held later.held × (later.named ≡ log.named))
 finish_some log between later p old stale block entries is put drops u =
     let o = block.object in
     let f : Finished between.held o (old ∷ []) (Some p) entries =
     put_finished log between p o (old ∷ []) block entries (subst (λ (s : Option Place). Unfinished log.held o (option_to_list s) block entries) is u) put in
-    let both : Finished (without between.held old) o [] (Some p) entries × OnlyJournalChanged o log.held (without between.held old) = (
+    let both : Finished (without between.held old) o [] (Some p) entries × (OnlyJournalChanged o log.held (without between.held old) × (between.named ≡ log.named)) = (
       drop_finished between.held o [] old (Some p) entries f,
-      only-trans o log.held between.held (without between.held old) (put_changes_only log between p block put) (drop_changes_only between.held o [] old (Some p) entries f),
+      (
+        only-trans o log.held between.held (without between.held old) (put_changes_only log between p block put) (drop_changes_only between.held o [] old (Some p) entries f),
+        put.named,
+      ),
     ) in
-    subst (λ (l : Log). Finished l.held o [] (Some p) entries × OnlyJournalChanged o log.held l.held) (sym drops) both
+    let gone : later ≡ record between { held = without between.held old } = drops ∙ dropped_journal between old o (stale_there between.held o [] old (Some p) entries f) in
+    subst (λ (l : Log). Finished l.held o [] (Some p) entries × (OnlyJournalChanged o log.held l.held × (l.named ≡ log.named))) (sym gone) both
 
 pub finish_none : (log later : Log) (p : Place) (stale : Option Place) (block : JournalFields) (entries : List EntryFields)
     → stale ≡ None → Put log later p block → Unfinished log.held block.object (option_to_list stale) block entries
@@ -206,6 +211,14 @@ pushed log log1 log2 log3 chain old first later b1 b2 head stale same u e1 stale
           (subst (λ (l : Log). OnlyJournalChanged o l.held log2.held) same (subst (λ (n : ℕ). OnlyJournalChanged n log1.held log2.held) e1 only12))
           (subst (λ (n : ℕ). OnlyJournalChanged n log2.held log3.held) at (only23 (old ++ first ∷ later) u3));
     }
+
+-- names of data stay
+pub pushed_names : (log log1 log2 log3 : Log) (chain : ChainFields) (b2 : JournalFields) (head : Place) (stale : Option Place) (entries : List EntryFields)
+    → log1 ≡ log → log2.named ≡ log1.named → b2.object ≡ chain.object
+    → ((b : List EntryFields) → Unfinished log2.held b2.object (option_to_list stale) b2 b → log3.named ≡ log2.named)
+    → Pushed log.held log3.held log2.held chain.object (option_to_list stale) b2 head entries → log3.named ≡ log.named
+pushed_names log log1 log2 log3 chain b2 head stale entries same takes at finishes p =
+    finishes entries (subst (λ (n : ℕ). Unfinished log2.held n (option_to_list stale) b2 entries) (sym at) p.unfinished) ∙ takes ∙ ap (λ (l : Log). l.named) same
 
 pub pushed_holds : (held between later : Place → Option Stored) (chain after : ChainFields) (old new : List EntryFields) (stale : List Place) (block : JournalFields) (head : Place) (bytes filled : ℕ)
     → Holds held chain old → Pushed held later between chain.object stale block head (old ++ new)

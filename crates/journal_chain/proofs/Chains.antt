@@ -228,9 +228,14 @@ there_since : {A : Type 0} (o : Option A) → 1 ≤ bit (is_some o) → is_some 
 there_since None h = absurd (omega arith)
 there_since (Some x) h = refl
 
-pub drop_changes_only : (held : Place → Option Stored) (o : ℕ) (stale : List Place) (p : Place) (head : Option Place) (entries : List EntryFields)
-    → Finished held o (p ∷ stale) head entries → OnlyJournalChanged o held (without held p)
-drop_changes_only held o stale p head entries f =
+-- a stale block is a journal block of the object
+pub stale_there : (held : Place → Option Stored) (o : ℕ) (stale : List Place) (p : Place) (head : Option Place) (entries : List EntryFields)
+    → Finished held o (p ∷ stale) head entries → is_some (of_kind Journal o held p) ≡ true
+stale_there held o stale p head entries f =
     let h = f.standing.once p in
     let e : times p (p ∷ stale) ≡ 1 + times p stale = times-here p stale in
-    dropped_only held p o (there_since (of_kind Journal o held p) (omega arith))
+    there_since (of_kind Journal o held p) (omega arith)
+
+pub drop_changes_only : (held : Place → Option Stored) (o : ℕ) (stale : List Place) (p : Place) (head : Option Place) (entries : List EntryFields)
+    → Finished held o (p ∷ stale) head entries → OnlyJournalChanged o held (without held p)
+drop_changes_only held o stale p head entries f = dropped_only held p o (stale_there held o stale p head entries f)

@@ -5,25 +5,31 @@ use Rattle.std.proofs.lemmas.Option.{none-some, same_Some}
 use Rattle.s4_types.specs.Pointer.{Place}
 use Rattle.block_log.specs.declared.kinds.BlockKind.{BlockKind}
 use Rattle.block_log.specs.declared.kinds.BlockKind.TheVariants.{Journal, Checkpoint, Data}
-use Rattle.block_log.specs.Log.{Log, Stored, same_place, same_kind, with_held, without, appended, appended_at, seen_as, of_kind}
+use Rattle.block_log.specs.Log.{Log, Stored, same_place, same_kind, with_held, without, named_with, is_data, dropped, dropped_by, appended, appended_at, seen_as, of_kind}
 use Rattle.journal_chain.specs.Chain.{OnlyJournalChanged}
 use Rattle.journal_chain.proofs.Places.{one_place, same_as_itself}
 use Rattle.journal_chain.proofs.Steps.{ChangedAt}
 
-append_at_holds : (log later : Log) (block : Stored) (ahead : List Place) (p : Place) → appended_at log block ahead ≡ Some (p, later) → later.held ≡ with_held log.held p block
-append_at_holds log later block [] p h = absurd (none-some (p, later) h)
-append_at_holds log later block (q ∷ ahead) p h =
+append_at : (log later : Log) (block : Stored) (ahead : List Place) (p : Place) → appended_at log block ahead ≡ Some (p, later) → (later.held ≡ with_held log.held p block) × (later.named ≡ named_with block.kind log.named p)
+append_at log later block [] p h = absurd (none-some (p, later) h)
+append_at log later block (q ∷ ahead) p h =
     let f = λ (x : Place × Log). x.0 in
     let g = λ (x : Place × Log). x.1 in
-    let made : Log = record { held = with_held log.held q block; ahead = ahead; spent = 1 + log.spent } in
+    let made : Log = record { held = with_held log.held q block; ahead = ahead; spent = 1 + log.spent; named = named_with block.kind log.named q } in
     let both : ◌≡◌ {A = Place × Log} (q, made) (p, later) = same_Some (q, made) (p, later) h in
     let place : q ≡ p = ap f both in
-    let log_is : made ≡ later = ap g both in
-    sym (ap (λ (l : Log). l.held) log_is) ∙ ap (λ r. with_held log.held r block) place
+    let log_is : made ≡ later = ap g both in (
+      sym (ap (λ (l : Log). l.held) log_is) ∙ ap (λ r. with_held log.held r block) place,
+      sym (ap (λ (l : Log). l.named) log_is) ∙ ap (named_with block.kind log.named) place,
+    )
 
 -- a block is held at the place that its append takes
 pub append_holds : (log later : Log) (block : Stored) (p : Place) → appended log block ≡ Some (p, later) → later.held ≡ with_held log.held p block
-append_holds log later block p h = append_at_holds log later block log.ahead p h
+append_holds log later block p h = (append_at log later block log.ahead p h).0
+
+-- and names of data are as its kind has them
+pub append_names : (log later : Log) (block : Stored) (p : Place) → appended log block ≡ Some (p, later) → later.named ≡ named_with block.kind log.named p
+append_names log later block p h = (append_at log later block log.ahead p h).1
 
 -- this object's journal, and no other view
 abbrev pub is_journal_of : ℕ → BlockKind → ℕ → Bool
@@ -90,6 +96,17 @@ hidden_at o (Some block) kind other shows h = elim (cases_Bool (same_kind Journa
       ∙ hidden o block.bytes kind other h)
   | inr ne ↦ absurd (both_ways false refl (sym (ap (λ b. is_some (cond b (Some block.bytes) None)) ne) ∙ shows))
 ]
+
+-- a block that the object's journal shows isn't of data, so its drop leaves all names
+not_data : (o : ℕ) (there : Option Stored) → is_some (seen_as Journal o there) ≡ true → is_data there ≡ false
+not_data o None shows = refl
+not_data o (Some block) shows = elim (cases_Bool (same_kind Journal block.kind && block.object == o)) [
+  | inl e ↦ ap (λ k. same_kind k Data) (kind_is block.kind (and_parts (same_kind Journal block.kind) (block.object == o) e).0)
+  | inr ne ↦ absurd (both_ways false refl (sym (ap (λ b. is_some (cond b (Some block.bytes) None)) ne) ∙ shows))
+]
+
+pub dropped_journal : (log : Log) (p : Place) (o : ℕ) → is_some (of_kind Journal o log.held p) ≡ true → dropped log p ≡ record log { held = without log.held p }
+dropped_journal log p o shows = ap (λ (b : Bool). dropped_by b log p) (not_data o (log.held p) shows)
 
 pub dropped_only : (held : Place → Option Stored) (p : Place) (o : ℕ) → is_some (of_kind Journal o held p) ≡ true → OnlyJournalChanged o held (without held p)
 dropped_only held p o shows kind other h =

@@ -51,11 +51,12 @@ pub record Unfinished (held : Place → Option Stored) (o : ℕ) (stale : List P
 abbrev pub stored_journal : JournalFields → Stored
 stored_journal block = record { kind = Journal; object = block.object; bytes = journal_spelling block }
 
--- a journal block was appended, at a place that was free, and one place was taken
+-- a journal block was appended, at a place that was free, and one place was taken; names of data stay
 pub record Put (log later : Log) (p : Place) (block : JournalFields) : Type 0 where
   pub free : log.held p ≡ None
   pub held : later.held ≡ with_held log.held p (stored_journal block)
   pub takes : TakesPlaces 1 log later
+  pub named : later.named ≡ log.named
   pub spells : journal_of block.object (journal_spelling block) ≡ Some block
 
 -- the head, where an entry of this size goes into it; it is then to be dropped

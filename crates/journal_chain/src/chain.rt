@@ -174,6 +174,7 @@ impl Chain {
         ensures holds { Holds (B.log table.new).held self.new (entries_held (B.log table.old).held self.old ++ first.now ∷ later.entry) }
         ensures others { OnlyJournalChanged self.old.object (B.log table.old).held (B.log table.new).held }
         ensures takes { TakesPlaces (pushed_blocks self.old (first.now ∷ later.entry)) (B.log table.old) (B.log table.new) }
+        ensures named { (B.log table.new).named ≡ (B.log table.old).named }
         ensures object { self.new.object ≡ self.old.object }
     {
         blocks_have_the_entries();
@@ -195,6 +196,7 @@ impl Chain {
         ensures holds { Holds (B.log table.new).held self.new (entries_held (B.log table.old).held self.old ++ entries.now) }
         ensures others { OnlyJournalChanged self.old.object (B.log table.old).held (B.log table.new).held }
         ensures takes { TakesPlaces (pushed_blocks self.old entries.now) (B.log table.old) (B.log table.new) }
+        ensures named { (B.log table.new).named ≡ (B.log table.old).named }
         ensures object { self.new.object ≡ self.old.object }
     {
         let (first, later) = entries.split_first();
@@ -244,6 +246,7 @@ impl Chain {
             → result.filled ≡ filled_bytes (packed (first.now ∷ later.now)) }
         ensures others { OnlyJournalChanged object (B.log table.old).held (B.log table.new).held }
         ensures takes { TakesPlaces (whole_blocks (first.now ∷ later.now)) (B.log table.old) (B.log table.new) }
+        ensures named { (B.log table.new).named ≡ (B.log table.old).named }
         ensures object { result.object ≡ object }
         ensures bytes { result.bytes ≡ bytes }
     {
@@ -266,6 +269,7 @@ impl Chain {
         ensures holds { Holds (B.log table.new).held self.new (first.now ∷ later.now) }
         ensures others { OnlyJournalChanged self.old.object (B.log table.old).held (B.log table.new).held }
         ensures takes { TakesPlaces (whole_blocks (first.now ∷ later.now)) (B.log table.old) (B.log table.new) }
+        ensures named { (B.log table.new).named ≡ (B.log table.old).named }
         ensures object { self.new.object ≡ self.old.object }
     {
         blocks_have_the_entries();
@@ -283,6 +287,7 @@ impl Chain {
         ensures holds { Holds (B.log table.new).held self.new [] }
         ensures others { OnlyJournalChanged self.old.object (B.log table.old).held (B.log table.new).held }
         ensures takes { TakesPlaces 0 (B.log table.old) (B.log table.new) }
+        ensures named { (B.log table.new).named ≡ (B.log table.old).named }
         ensures object { self.new.object ≡ self.old.object }
     {
         let stale = places(table, self.head());
@@ -301,6 +306,7 @@ impl Chain {
         ensures holds { OnOk result (Holds (B.log table.new).held self.new entries.now) }
         ensures others { OnlyJournalChanged self.old.object (B.log table.old).held (B.log table.new).held }
         ensures takes { OnOk result (TakesPlaces (whole_blocks entries.now) (B.log table.old) (B.log table.new)) }
+        ensures named { (B.log table.new).named ≡ (B.log table.old).named }
         ensures answer { MatchResult result (λ _. rewrite_refusal (B.log table.old).ahead entries.now ≡ None) (λ e. rewrite_refusal (B.log table.old).ahead entries.now ≡ Some e) }
         ensures object { self.new.object ≡ self.old.object }
         ensures unchanged { OnErr result ((B.log table.new ≡ B.log table.old) × (self.new ≡ self.old)) }

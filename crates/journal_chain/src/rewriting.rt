@@ -39,6 +39,8 @@ fn drop_one<B: Blocks>(table: &mut B, place: Option<Ptr>)
         → Finished (B.log table.old).held o (option_to_list place ++ stale) head entries → Finished (B.log table.new).held o stale head entries }
     ensures others { (o : ℕ) (stale : List Place) (head : Option Place) (entries : List EntryFields)
         → Finished (B.log table.old).held o (option_to_list place ++ stale) head entries → OnlyJournalChanged o (B.log table.old).held (B.log table.new).held }
+    ensures named { (o : ℕ) (stale : List Place) (head : Option Place) (entries : List EntryFields)
+        → Finished (B.log table.old).held o (option_to_list place ++ stale) head entries → (B.log table.new).named ≡ (B.log table.old).named }
     ensures takes { TakesPlaces 0 (B.log table.old) (B.log table.new) }
 {
     a_drop_takes_no_place();
@@ -55,6 +57,8 @@ pub(crate) fn drop_all<B: Blocks>(table: &mut B, places: &[Option<Ptr>])
         → Finished (B.log table.old).held o (flat_map option_to_list places.now) head entries → Finished (B.log table.new).held o [] head entries }
     ensures others { (o : ℕ) (head : Option Place) (entries : List EntryFields)
         → Finished (B.log table.old).held o (flat_map option_to_list places.now) head entries → OnlyJournalChanged o (B.log table.old).held (B.log table.new).held }
+    ensures named { (o : ℕ) (head : Option Place) (entries : List EntryFields)
+        → Finished (B.log table.old).held o (flat_map option_to_list places.now) head entries → (B.log table.new).named ≡ (B.log table.old).named }
     ensures takes { TakesPlaces 0 (B.log table.old) (B.log table.new) }
 {
     no_change_takes_no_place();

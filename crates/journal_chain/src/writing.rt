@@ -62,6 +62,7 @@ pub(crate) fn take<B: Blocks>(table: &mut B, block: &mut JournalBytes, entry: &E
         → Unfinished (B.log table.new).held block.old.object stale block.new (entries ++ entry.now ∷ []) }
     ensures others { OnlyJournalChanged block.old.object (B.log table.old).held (B.log table.new).held }
     ensures takes { TakesPlaces (breaks (entries_length block.old.entries) (entry_length entry.now ∷ [])) (B.log table.old) (B.log table.new) }
+    ensures named { (B.log table.new).named ≡ (B.log table.old).named }
     ensures object { block.new.object ≡ block.old.object }
     ensures filled { entries_length block.new.entries ≡ filled_with (entries_length block.old.entries) (entry_length entry.now) }
 {
@@ -83,6 +84,7 @@ pub(crate) fn take_all<B: Blocks>(table: &mut B, block: &mut JournalBytes, entri
         → Unfinished (B.log table.new).held block.old.object stale block.new (before ++ entries.now) }
     ensures others { OnlyJournalChanged block.old.object (B.log table.old).held (B.log table.new).held }
     ensures takes { TakesPlaces (breaks (entries_length block.old.entries) (map entry_length entries.now)) (B.log table.old) (B.log table.new) }
+    ensures named { (B.log table.new).named ≡ (B.log table.old).named }
     ensures object { block.new.object ≡ block.old.object }
 {
     no_change_takes_no_place();
@@ -105,6 +107,7 @@ pub(crate) fn take_others<B: Blocks>(
         → Unfinished (B.log table.new).held block.old.object stale block.new (before ++ others.entry) }
     ensures others { OnlyJournalChanged block.old.object (B.log table.old).held (B.log table.new).held }
     ensures takes { TakesPlaces (breaks (entries_length block.old.entries) (map entry_length others.entry)) (B.log table.old) (B.log table.new) }
+    ensures named { (B.log table.new).named ≡ (B.log table.old).named }
     ensures object { block.new.object ≡ block.old.object }
 {
     no_change_takes_no_place();
@@ -124,6 +127,9 @@ pub(crate) fn finish<B: Blocks>(table: &mut B, block: &JournalBytes, stale: Opti
     ensures others { (entries : List EntryFields)
         → Unfinished (B.log table.old).held block.now.object (option_to_list stale) block.now entries
         → OnlyJournalChanged block.now.object (B.log table.old).held (B.log table.new).held }
+    ensures named { (entries : List EntryFields)
+        → Unfinished (B.log table.old).held block.now.object (option_to_list stale) block.now entries
+        → (B.log table.new).named ≡ (B.log table.old).named }
     ensures takes { TakesPlaces 1 (B.log table.old) (B.log table.new) }
 {
     a_drop_takes_no_place();

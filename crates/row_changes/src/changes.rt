@@ -49,6 +49,7 @@ pub fn record_change<B: Blocks>(
     ensures fields { result ≡ record row.now { head = result.head; journal_bytes = result.journal_bytes; head_bytes = result.head_bytes } }
     ensures others { OnlyJournalChanged object (B.log table.old).held (B.log table.new).held }
     ensures takes { TakesPlaces (pushed_blocks (chain_of object row.now) (entries_between before.now after.now moment)) (B.log table.old) (B.log table.new) }
+    ensures named { (B.log table.new).named ≡ (B.log table.old).named }
 {
     later_entries_join_a_row();
     the_entries_between_two_inodes();

@@ -27,6 +27,7 @@ pub(crate) fn put<B: Blocks>(
     requires { checkpoint_rules (record { object = object; moment = moment; inode = inode.now }) ≡ true }
     ensures told { IfOk result (λ p. checkpoint_held (B.log table.new).held object p ≡ Some (record { object = object; moment = moment; inode = inode.now })) }
     ensures takes { IfOk result (λ _. TakesPlaces (checkpoint_blocks inode.now) (B.log table.old) (B.log table.new)) }
+    ensures named { (B.log table.new).named ≡ (B.log table.old).named }
     ensures growth { IfOk result (λ p. PutsCheckpoint (B.log table.old).held object p (B.log table.new).held) }
     ensures answer { MatchResult result
         (λ _. checkpoint_blocks inode.now ≤ length (B.log table.old).ahead)
@@ -48,6 +49,7 @@ pub(crate) fn put_ahead<B: Blocks>(
     requires room { checkpoint_blocks inode.now ≤ length (B.log table.old).ahead }
     ensures told { checkpoint_held (B.log table.new).held object result ≡ Some (record { object = object; moment = moment; inode = inode.now }) }
     ensures takes { TakesPlaces (checkpoint_blocks inode.now) (B.log table.old) (B.log table.new) }
+    ensures named { (B.log table.new).named ≡ (B.log table.old).named }
     ensures growth { PutsCheckpoint (B.log table.old).held object result (B.log table.new).held }
 {
     put(table, object, inode, moment).unwrap()
@@ -77,6 +79,7 @@ pub fn record_checkpoint<B: Blocks>(
     ensures some { IfOk result (λ later. IsSome later.checkpoint) }
     ensures others { OnlyCheckpointChanged object (B.log table.old).held (B.log table.new).held }
     ensures takes { IfOk result (λ _. TakesPlaces (checkpoint_blocks inode.now) (B.log table.old) (B.log table.new)) }
+    ensures named { (B.log table.new).named ≡ (B.log table.old).named }
     ensures answer { MatchResult result
         (λ _. checkpoint_blocks inode.now ≤ length (B.log table.old).ahead)
         (λ e. (e ≡ NoSpace) × (length (B.log table.old).ahead < checkpoint_blocks inode.now)) }

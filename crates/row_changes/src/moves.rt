@@ -107,6 +107,7 @@ fn put_anew<B: Blocks>(table: &mut B, object: ObjectId, row: &Row, inode: &Inode
     ensures places { (p : Place) → IsSome (of_checkpoints object (B.log table.new).held p) → Contains (take (checkpoint_blocks inode.now) (B.log table.old).ahead) p }
     ensures others { OnlyCheckpointChanged object (B.log table.old).held (B.log table.new).held }
     ensures takes { TakesPlaces (checkpoint_blocks inode.now) (B.log table.old) (B.log table.new) }
+    ensures named { (B.log table.new).named ≡ (B.log table.old).named }
 {
     a_checkpoint_rests_on_its_blocks();
     a_checkpoint_has_its_blocks();
@@ -134,6 +135,7 @@ fn move_checkpoint<B: Blocks>(
     ensures places { (p : Place) → IsSome (of_checkpoints object (B.log table.new).held p) → Contains (take (kept_blocks (option_copied kept.entry)) (B.log table.old).ahead) p }
     ensures others { OnlyCheckpointChanged object (B.log table.old).held (B.log table.new).held }
     ensures takes { TakesPlaces (kept_blocks (option_copied kept.entry)) (B.log table.old) (B.log table.new) }
+    ensures named { (B.log table.new).named ≡ (B.log table.old).named }
 {
     no_change_takes_no_place();
     let inode = kept?;
@@ -151,6 +153,7 @@ fn drop_chain<B: Blocks>(table: &mut B, object: ObjectId, row: &Row) -> Chain
     ensures gone { (p : Place) → of_kind Journal object (B.log table.new).held p ≡ None }
     ensures others { OnlyJournalChanged object (B.log table.old).held (B.log table.new).held }
     ensures takes { TakesPlaces 0 (B.log table.old) (B.log table.new) }
+    ensures named { (B.log table.new).named ≡ (B.log table.old).named }
 {
     let mut chain = Chain::of(object, row.head, row.journal_bytes, row.head_bytes);
     let Ok(()) = chain.rewrite(table, &[]) else {
@@ -178,6 +181,7 @@ pub(crate) fn move_chain<B: Blocks>(
     ensures places { (p : Place) → IsSome (of_kind Journal object (B.log table.new).held p) → Contains (take (whole_blocks entries.now) (B.log table.old).ahead) p }
     ensures others { OnlyJournalChanged object (B.log table.old).held (B.log table.new).held }
     ensures takes { TakesPlaces (whole_blocks entries.now) (B.log table.old) (B.log table.new) }
+    ensures named { (B.log table.new).named ≡ (B.log table.old).named }
 {
     a_chain_has_its_entries();
     places_taken_add_up();
@@ -223,6 +227,7 @@ pub fn move_row<B: Blocks>(
     ensures some { IfOk result (λ later. is_some later.checkpoint ≡ is_some row.now.checkpoint) }
     ensures others { OnlyMetadataChanged object (B.log table.old).held (B.log table.new).held }
     ensures takes { IfOk result (λ _. TakesPlaces (moved_blocks (option_copied kept.entry) entries.now) (B.log table.old) (B.log table.new)) }
+    ensures named { (B.log table.new).named ≡ (B.log table.old).named }
     ensures journal { IfOk result (λ _. (p : Place) → IsSome (of_kind Journal object (B.log table.new).held p) → Contains (take (moved_blocks (option_copied kept.entry) entries.now) (B.log table.old).ahead) p) }
     ensures checkpoints { IfOk result (λ _. (p : Place) → IsSome (of_checkpoints object (B.log table.new).held p) → Contains (take (moved_blocks (option_copied kept.entry) entries.now) (B.log table.old).ahead) p) }
     ensures answer { MatchResult result

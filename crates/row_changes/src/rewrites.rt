@@ -105,6 +105,7 @@ pub fn rewrite_row<B: Blocks>(
     ensures some { IfOk result (λ later. IsSome later.checkpoint) }
     ensures others { OnlyMetadataChanged object (B.log table.old).held (B.log table.new).held }
     ensures takes { IfOk result (λ _. TakesPlaces (rewritten_blocks present.now entries.now) (B.log table.old) (B.log table.new)) }
+    ensures named { (B.log table.new).named ≡ (B.log table.old).named }
     ensures answer { MatchResult result
         (λ _. rewritten_blocks present.now entries.now ≤ length (B.log table.old).ahead)
         (λ e. (e ≡ NoRoom) × (length (B.log table.old).ahead < rewritten_blocks present.now entries.now)) }

@@ -19,6 +19,7 @@ use Rattle.segment_word.specs.Frames.{Frame, Pinned, is_sealed}
 use Rattle.segment_word.specs.FrameRule.{AllRemembered, IsRemembered}
 use Rattle.segment_word.specs.Layout.{frame_at, block_bytes}
 use Rattle.segment_table.specs.declared.slots.Slot.{Slot}
+use Rattle.segment_table.specs.Slots.{is_held}
 use Rattle.segment_table.specs.Table.{Table, slots_at, block_slot, stored, held_at, is_of}
 use Rattle.segment_table.specs.Room.{places, whole_of, places_ahead, pointers_in}
 use Rattle.segment_table.specs.Laws.{IsListed, WhatIsListedIsHeld, ListsAllHeld, PlacesAheadAreInNoSealedFrame}
@@ -151,7 +152,7 @@ held_bytes t p =
     let IsIts : Option Stored → Type 0 = λ held. IfSome held (λ block. block.bytes ≡ bytes) in
     elim (cases_Bool (k.generation == p.generation)) [
       | inl current ↦ subst (λ (b : Bool). IsIts (if b then stored slot bytes else None)) (sym current)
-          (elim (cases_Bool slot.held) [
+          (elim (cases_Bool (is_held slot)) [
             | inl held ↦ subst (λ (b : Bool). IsIts (if b then Some (record { kind = slot.role.kind; object = slot.role.object; bytes = bytes }) else None)) (sym held) refl
             | inr gone ↦ subst (λ (b : Bool). IsIts (if b then Some (record { kind = slot.role.kind; object = slot.role.object; bytes = bytes }) else None)) (sym gone) tt
           ])

@@ -32,13 +32,13 @@ record IsTaken (f n : ℕ) (role : BlockRole) (block : List ℕ) (old new : Tabl
   count : n ≡ length (slots_at old.slots f) + 1
   bytes : block_bytes (frame_at new.seat.frames f).contents n ≡ block
   others : (b : ℕ) → 1 ≤ b → b < n → KeepsBlock f b old.seat new.seat
-  slots : new.slots ≡ with_slot old.slots f (record { role = role; held = true })
+  slots : new.slots ≡ with_slot old.slots f (record { role = role; named = 1 })
   many : length (slots_at new.slots f) ≡ n
   phase : (frame_at new.seat.frames f).phase ≡ Open
 
-taken : (old ready put : Table) (f : ℕ) (role : BlockRole) (block : List ℕ) → IsReadyFrame f old ready → IsPut f (record { role = role; held = true }) block ready put → IsTaken f (length (slots_at ready.slots f) + 1) role block old put
+taken : (old ready put : Table) (f : ℕ) (role : BlockRole) (block : List ℕ) → IsReadyFrame f old ready → IsPut f (record { role = role; named = 1 }) block ready put → IsTaken f (length (slots_at ready.slots f) + 1) role block old put
 taken old ready put f role block r h =
-    let slot : Slot = record { role = role; held = true } in
+    let slot : Slot = record { role = role; named = 1 } in
     let s : List Slot = slots_at ready.slots f in
     record {
       alone = alone_then old.seat ready.seat put.seat f r.alone h.alone;
@@ -81,7 +81,7 @@ appended_full old put new p role block full t s =
     }
 
 -- what an append makes of a table
-pub append_made : (old ready put new : Table) (f : ℕ) (role : BlockRole) (block : List ℕ) (p : Place) → IsReadyFrame f old ready → IsPut f (record { role = role; held = true }) block ready put → IsFilling f put
+pub append_made : (old ready put new : Table) (f : ℕ) (role : BlockRole) (block : List ℕ) (p : Place) → IsReadyFrame f old ready → IsPut f (record { role = role; named = 1 }) block ready put → IsFilling f put
     → p ≡ record { frame = f; block = length (slots_at ready.slots f) + 1; generation = (frame_at ready.seat.frames f).generation }
     → (length (slots_at put.slots f) < 15 → new ≡ put)
     → (length (slots_at put.slots f) ≡ 15 → IsSealedIn f put new × NoneIsFilling new)

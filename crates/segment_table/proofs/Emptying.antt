@@ -9,7 +9,7 @@ use Rattle.segment_word.specs.Frames.{Phase, Free, Open, Sealed, Draining, Frame
 use Rattle.segment_word.specs.Layout.{frame_at, block_bytes}
 use Rattle.segment_word.specs.Handles.{Drive, with_changed}
 use Rattle.segment_table.specs.declared.slots.Slot.{Slot}
-use Rattle.segment_table.specs.Slots.{no_slot}
+use Rattle.segment_table.specs.Slots.{no_slot, is_held}
 use Rattle.segment_table.specs.Table.{Table, slots_at, block_slot, stored, held_block}
 use Rattle.segment_table.specs.Room.{is_filling, can_open, numbers, places, rest_of, whole_of, log_of}
 use Rattle.segment_table.specs.Sealing.{IsLetGo, IsFit, IsSummed, IsSoundTable}
@@ -20,30 +20,31 @@ use Rattle.segment_table.proofs.Holding.{held_kept}
 use Rattle.segment_table.proofs.Sound.{fits_changed, stays, same_lives}
 use Rattle.segment_table.proofs.Spending.{spent_kept}
 use Rattle.segment_table.proofs.Steps.{same_logs}
+use Rattle.segment_table.proofs.Naming.{named_same}
 
 -- no used block is held, by a test and one by one
 none_by : (held rest : Bool) → (held || rest) ≡ false → (held ≡ false) × (rest ≡ false)
 none_by true rest e = absurd (cc)
 none_by false rest e = (refl, e)
 
-pub all_let_go : (s : List Slot) → list_any (λ (slot : Slot). slot.held) s ≡ false → AllByRecursion IsLetGo s
+pub all_let_go : (s : List Slot) → list_any (λ (slot : Slot). is_held slot) s ≡ false → AllByRecursion IsLetGo s
 all_let_go [] e = tt
-all_let_go (x ∷ s) e = let t = none_by x.held (list_any (λ (slot : Slot). slot.held) s) e in (t.0, all_let_go s t.1)
+all_let_go (x ∷ s) e = let t = none_by (is_held x) (list_any (λ (slot : Slot). is_held slot) s) e in (t.0, all_let_go s t.1)
 
-any_let_go : (s : List Slot) → AllByRecursion IsLetGo s → list_any (λ (slot : Slot). slot.held) s ≡ false
+any_let_go : (s : List Slot) → AllByRecursion IsLetGo s → list_any (λ (slot : Slot). is_held slot) s ≡ false
 any_let_go [] a = refl
-any_let_go (x ∷ s) a = ap (λ (b : Bool). b || list_any (λ (slot : Slot). slot.held) s) a.0 ∙ any_let_go s a.1
+any_let_go (x ∷ s) a = ap (λ (b : Bool). b || list_any (λ (slot : Slot). is_held slot) s) a.0 ∙ any_let_go s a.1
 
-let_go_at : (s : List Slot) (i : ℕ) → AllByRecursion IsLetGo s → (get_or s i no_slot).held ≡ false
+let_go_at : (s : List Slot) (i : ℕ) → AllByRecursion IsLetGo s → is_held (get_or s i no_slot) ≡ false
 let_go_at [] i a = refl
 let_go_at (x ∷ s) zero a = a.0
 let_go_at (x ∷ s) (suc i) a = let_go_at s i a.1
 
-let_go_slot : (s : List Slot) (b : ℕ) → AllByRecursion IsLetGo s → (block_slot s b).held ≡ false
+let_go_slot : (s : List Slot) (b : ℕ) → AllByRecursion IsLetGo s → is_held (block_slot s b) ≡ false
 let_go_slot s zero a = refl
 let_go_slot s (suc b) a = let_go_at s b a
 
-not_stored : (slot : Slot) (bytes : List ℕ) → slot.held ≡ false → stored slot bytes ≡ None
+not_stored : (slot : Slot) (bytes : List ℕ) → is_held slot ≡ false → stored slot bytes ≡ None
 not_stored slot bytes e = ap (λ (b : Bool). if b then Some (record { kind = slot.role.kind; object = slot.role.object; bytes = bytes }) else None) e
 
 either_none : (b : Bool) (o : Option Stored) → o ≡ None → (if b then o else None) ≡ None
@@ -56,17 +57,17 @@ none_held k s b g a = either_none (k.generation == g) (stored (block_slot s b) (
 pub none_held_at : (t : Table) (f : ℕ) → AllByRecursion IsLetGo (slots_at t.slots f) → NoneHeld f t
 none_held_at t f a p at = ap (λ (n : ℕ). held_block (frame_at t.seat.frames n) (slots_at t.slots n) p.block p.generation) at ∙ none_held (frame_at t.seat.frames f) (slots_at t.slots f) p.block p.generation a
 
-stored_not : (slot : Slot) (bytes : List ℕ) → stored slot bytes ≡ None → slot.held ≡ false
-stored_not slot bytes e = elim (cases_Bool slot.held) [
+stored_not : (slot : Slot) (bytes : List ℕ) → stored slot bytes ≡ None → is_held slot ≡ false
+stored_not slot bytes e = elim (cases_Bool (is_held slot)) [
   | inl t ↦ absurd (let is : Some (record { kind = slot.role.kind; object = slot.role.object; bytes = bytes }) ≡ None = sym (ap (λ (b : Bool). if b then Some (record { kind = slot.role.kind; object = slot.role.object; bytes = bytes }) else None) t) ∙ e in cc)
   | inr t ↦ t
 ]
 
-let_go_each : (s : List Slot) → ((i : ℕ) → (get_or s i no_slot).held ≡ false) → AllByRecursion IsLetGo s
+let_go_each : (s : List Slot) → ((i : ℕ) → is_held (get_or s i no_slot) ≡ false) → AllByRecursion IsLetGo s
 let_go_each [] h = tt
 let_go_each (x ∷ s) h = (h 0, let_go_each s (λ i. h (suc i)))
 
-pub none_is_held : (t : Table) (f : ℕ) → NoneHeld f t → list_any (λ (slot : Slot). slot.held) (slots_at t.slots f) ≡ false
+pub none_is_held : (t : Table) (f : ℕ) → NoneHeld f t → list_any (λ (slot : Slot). is_held slot) (slots_at t.slots f) ≡ false
 none_is_held t f none =
     let k : Frame = frame_at t.seat.frames f in
     let s : List Slot = slots_at t.slots f in
@@ -100,6 +101,7 @@ log_marked old new f inside m =
     ∙ ap (λ (l : List Place). l ++ flat_map (whole_of new) (numbers can_open 0 old.seat.frames)) (rests_same old new f (numbers is_filling 0 old.seat.frames) at.0 generation m.slots)
     ∙ ap (λ (l : List Place). flat_map (rest_of old) (numbers is_filling 0 old.seat.frames) ++ l) (wholes_same old new f (numbers can_open 0 old.seat.frames) at.0 generation))
     (spent_kept old new f at.0 generation m.slots)
+    (named_same old new (λ g. generation_alone old.seat new.seat f g at.0 generation) m.slots)
 
 pub sound_marked : (old new : Table) (free : List ℕ) (current : Option ℕ) (f : ℕ) → IsSoundTable old free current → f < length old.seat.frames → AllByRecursion IsLetGo (slots_at old.slots f) → IsMarked f old new → IsSoundTable new free current
 sound_marked old new free current f sound inside gone m =
@@ -140,7 +142,7 @@ pub record MarkMade (f : ℕ) (old new : Table) (free : List ℕ) (current : Opt
   pub log : log_of new ≡ log_of old
 
 pub mark_made : (old new : Table) (free : List ℕ) (current : Option ℕ) (f : ℕ) → IsSoundTable old free current → f < length old.seat.frames → is_sealed (frame_at old.seat.frames f).phase ≡ true
-    → list_any (λ (slot : Slot). slot.held) (slots_at old.slots f) ≡ false → new.seat ≡ with_changed old.seat f (record (frame_at old.seat.frames f) { phase = Draining }) → new.slots ≡ old.slots
+    → list_any (λ (slot : Slot). is_held slot) (slots_at old.slots f) ≡ false → new.seat ≡ with_changed old.seat f (record (frame_at old.seat.frames f) { phase = Draining }) → new.slots ≡ old.slots
     → MarkMade f old new free current
 mark_made old new free current f sound inside sealed none drive slots =
     let gone : AllByRecursion IsLetGo (slots_at old.slots f) = all_let_go (slots_at old.slots f) none in

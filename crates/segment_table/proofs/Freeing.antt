@@ -3,14 +3,15 @@ use Rattle.std.proofs.Common.{◌≡◌, ◌≢◌, inl, inr, ℕ, ◌+◌, ◌-
 use Rattle.std.specs.Prelude.{Ok}
 use Rattle.std.specs.List.{AllByRecursion, flat_map}
 use Rattle.std.proofs.lemmas.List.{get_or-set_same, get_or-set_other, length-set, length-reverse}
-use Rattle.std.proofs.lemmas.Bool.{cases_eq, lt-ltb, le-ltb}
+use Rattle.std.proofs.lemmas.Bool.{cases_eq, lt-ltb, le-ltb, ltb-false}
 use Rattle.s4_types.specs.Pointer.{Place}
+use Rattle.block_log.specs.Log.{is_data}
 use Rattle.segment_word.specs.Frames.{Free, Open, Draining, Frame, no_frame, code_of, is_free, is_open}
 use Rattle.segment_word.specs.Layout.{frame_at}
 use Rattle.segment_word.specs.Steps.{released}
 use Rattle.segment_word.specs.Handles.{Drive, with_changed, with_released}
 use Rattle.segment_table.specs.declared.slots.Slot.{Slot}
-use Rattle.segment_table.specs.Table.{Table, slots_at, held_block, held_at}
+use Rattle.segment_table.specs.Table.{Table, slots_at, held_block, held_at, named_block, named_at}
 use Rattle.segment_table.specs.Room.{is_filling, can_open, numbers, places, rest_of, whole_of, places_ahead, places_spent}
 use Rattle.segment_table.specs.Sealing.{IsLetGo, IsFit, IsSoundTable, IsPartFilled}
 use Rattle.segment_table.specs.Changes.{IsAlone, IsMarked, IsReleased, IsAheadAgain, ReleasesFrame}
@@ -18,6 +19,7 @@ use Rattle.segment_table.specs.private.Putting.{IsPutBetween}
 use Rattle.segment_table.proofs.Alone.{put_here, alone, length-alone, elsewhere, numbers_alone}
 use Rattle.segment_table.proofs.Numbers.{numbers_same}
 use Rattle.segment_table.proofs.Sound.{fits_changed}
+use Rattle.segment_table.proofs.Naming.{names_are}
 use Rattle.segment_table.proofs.Vacating.{Joins, joins, numbers_fewer, apart_from, put_back_is}
 use Rattle.segment_table.proofs.Spending.{spent_again}
 use Rattle.segment_table.proofs.Emptying.{none_held_at, same_sound, marked_here}
@@ -127,6 +129,23 @@ held_released old new free current f sound r =
     let inside : f < length old.seat.frames = r.inside in
     λ i q. held_released_at old new f q (omega (arith, sound.counted)) r ((sound.fit f r.inside).draining r.draining) i
 
+-- none of a frame's blocks is named where none is held
+none_named_at : (t : Table) (f : ℕ) → AllByRecursion IsLetGo (slots_at t.slots f) → (p : Place) → p.frame ≡ f → named_at t p ≡ 0
+none_named_at t f gone p at = let none = ltb-false 0 (named_at t p) (names_are t p ∙ ap is_data (none_held_at t f gone p at)) in omega (arith, none)
+
+named_released_at : (old new : Table) (f : ℕ) (q : Place) → f < length old.slots → IsReleased f old new → AllByRecursion IsLetGo (slots_at old.slots f) → named_at new q ≡ named_at old q
+named_released_at old new f q inside r gone = elim (cases_eq q.frame f) [
+  | inl at ↦ (let none : slots_at new.slots f ≡ [] = ap (λ (l : List (List Slot)). slots_at l f) r.slots ∙ get_or-set_same old.slots f [] [] inside in
+      none_named_at new f (subst (AllByRecursion IsLetGo) (sym none) tt) q at ∙ sym (none_named_at old f gone q at))
+  | inr ne ↦ ap (λ (k : Frame). named_block k (slots_at new.slots q.frame) q.block q.generation) (frame_else old new f q.frame r ne)
+      ∙ ap (λ (s : List Slot). named_block (frame_at old.seat.frames q.frame) s q.block q.generation) (slots_else old new f q.frame r ne)
+]
+
+pub named_released : (old new : Table) (free : List ℕ) (current : Option ℕ) (f : ℕ) → IsSoundTable old free current → IsReleased f old new → named_at new ≡ named_at old
+named_released old new free current f sound r =
+    let inside : f < length old.seat.frames = r.inside in
+    λ i q. named_released_at old new f q (omega (arith, sound.counted)) r ((sound.fit f r.inside).draining r.draining) i
+
 -- places by number are the same where they are the same for each of the numbers
 alike : (u v : ℕ → List Place) (f : ℕ) (l : List ℕ) → ((g : ℕ) → g ≢ f → u g ≡ v g) → AllByRecursion (λ g. g ≢ f) l → flat_map u l ≡ flat_map v l
 alike u v f [] same a = refl
@@ -223,6 +242,7 @@ pub released_so : (old new : Table) (free : List ℕ) (current : Option ℕ) (f 
 released_so old new free current f sound r = record {
   released = r;
   held = held_released old new free current f sound r;
+  named = named_released old new free current f sound r;
   spent = spent_released old new free current f sound r;
   again = λ low. ahead_again old new f r low;
   retired = λ high. ahead_retired old new f r (omega (arith, high));

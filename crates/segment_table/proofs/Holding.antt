@@ -48,7 +48,7 @@ pub held_kept : (old new : Table) (f : ℕ) → IsAlone f old.seat new.seat → 
     → new.slots ≡ old.slots → held_at new ≡ held_at old
 held_kept old new f a k same e = λ i q. held_kept_at old new f q a k same e i
 
-slot_more : (s : List Slot) (slot : Slot) (b : ℕ) → b ≢ length s + 1 → block_slot (s ++ slot ∷ []) b ≡ block_slot s b
+pub slot_more : (s : List Slot) (slot : Slot) (b : ℕ) → b ≢ length s + 1 → block_slot (s ++ slot ∷ []) b ≡ block_slot s b
 slot_more s slot zero ne = refl
 slot_more s slot (suc b) ne = elim (cases_lt b (length s)) [
   | inl h ↦ get_or_append_left s (slot ∷ []) no_slot b h
@@ -59,16 +59,16 @@ slot_more s slot (suc b) ne = elim (cases_lt b (length s)) [
   ]
 ]
 
-slot_last : (s : List Slot) (slot : Slot) (b : ℕ) → b ≡ length s + 1 → block_slot (s ++ slot ∷ []) b ≡ slot
+pub slot_last : (s : List Slot) (slot : Slot) (b : ℕ) → b ≡ length s + 1 → block_slot (s ++ slot ∷ []) b ≡ slot
 slot_last s slot zero e = absurd (omega arith)
 slot_last s slot (suc b) e = get_or_push s slot no_slot b (omega arith)
 
 -- what the place of the new block holds, and the other places of its frame
 put_at : (k k' : Frame) (s : List Slot) (role : BlockRole) (block : List ℕ) (b g : ℕ) → k'.generation ≡ k.generation → block_bytes k'.contents (length s + 1) ≡ block
     → ((c : ℕ) → c < 16 → c ≢ length s + 1 → block_bytes k'.contents c ≡ block_bytes k.contents c) → length s < 15
-    → held_block k' (s ++ (record { role = role; held = true }) ∷ []) b g ≡ (if (length s + 1) == b && k.generation == g then Some (record { kind = role.kind; object = role.object; bytes = block }) else held_block k s b g)
+    → held_block k' (s ++ (record { role = role; named = 1 }) ∷ []) b g ≡ (if (length s + 1) == b && k.generation == g then Some (record { kind = role.kind; object = role.object; bytes = block }) else held_block k s b g)
 put_at k k' s role block b g e is others room =
-    let slot : Slot = record { role = role; held = true } in
+    let slot : Slot = record { role = role; named = 1 } in
     elim (cases_eq b (length s + 1)) [
       | inl at ↦ ap (λ (n : ℕ). if n == g then stored (block_slot (s ++ slot ∷ []) b) (block_bytes k'.contents b) else None) e
           ∙ ap (λ (x : Slot). if k.generation == g then stored x (block_bytes k'.contents b) else None) (slot_last s slot b at)
@@ -87,10 +87,10 @@ put_at k k' s role block b g e is others room =
           ∙ sym (ap (λ (x : Bool). if x && k.generation == g then Some (record { kind = role.kind; object = role.object; bytes = block }) else held_block k s b g) (ne_eqb (length s + 1) b (λ (same : length s + 1 ≡ b). ne (sym same))))
     ]
 
-held_put_at : (old new : Table) (f : ℕ) (role : BlockRole) (block : List ℕ) (q : Place) → f < length old.slots → length (slots_at old.slots f) < 15 → IsPut f (record { role = role; held = true }) block old new
+held_put_at : (old new : Table) (f : ℕ) (role : BlockRole) (block : List ℕ) (q : Place) → f < length old.slots → length (slots_at old.slots f) < 15 → IsPut f (record { role = role; named = 1 }) block old new
     → held_at new q ≡ with_held (held_at old) (record { frame = f; block = length (slots_at old.slots f) + 1; generation = (frame_at old.seat.frames f).generation }) (record { kind = role.kind; object = role.object; bytes = block }) q
 held_put_at old new f role block q inside room put =
-    let slot : Slot = record { role = role; held = true } in
+    let slot : Slot = record { role = role; named = 1 } in
     let s : List Slot = slots_at old.slots f in
     let k : Frame = frame_at old.seat.frames f in
     let k' : Frame = frame_at new.seat.frames f in
@@ -109,7 +109,7 @@ held_put_at old new f role block q inside room put =
     ]
 
 -- a block that was put into a frame is held at its place, and all else as before
-pub held_put : (old new : Table) (f : ℕ) (role : BlockRole) (block : List ℕ) → f < length old.slots → length (slots_at old.slots f) < 15 → IsPut f (record { role = role; held = true }) block old new
+pub held_put : (old new : Table) (f : ℕ) (role : BlockRole) (block : List ℕ) → f < length old.slots → length (slots_at old.slots f) < 15 → IsPut f (record { role = role; named = 1 }) block old new
     → held_at new ≡ with_held (held_at old) (record { frame = f; block = length (slots_at old.slots f) + 1; generation = (frame_at old.seat.frames f).generation }) (record { kind = role.kind; object = role.object; bytes = block })
 held_put old new f role block inside room put = λ i q. held_put_at old new f role block q inside room put i
 
@@ -124,57 +124,3 @@ held_fresh t f g =
       | inl same ↦ ap (λ (x : Bool). if x then stored no_slot (block_bytes k.contents (length s + 1)) else None) same
       | inr other ↦ ap (λ (x : Bool). if x then stored no_slot (block_bytes k.contents (length s + 1)) else None) other
     ]
-
--- a block that was let go
-gone_at : (k : Frame) (s : List Slot) (p b g : ℕ) → 1 ≤ p → held_block k (let_go s (p - 1)) b g ≡ (if p == b && k.generation == g then None else held_block k s b g)
-gone_at k s p zero g low =
-    sym (ap (λ (x : Bool). if x && k.generation == g then None else held_block k s 0 g) (ne_eqb p 0 (λ (e : p ≡ 0). omega arith)))
-gone_at k s p (suc b) g low =
-    let slot : Slot = record (get_or s (p - 1) no_slot) { held = false } in
-    let none : Option Stored = None in
-    elim (cases_eq b (p - 1)) [
-      | inl at ↦ (let same : p ≡ suc b = omega arith in
-          let gone : stored (get_or (set s (p - 1) slot) b no_slot) (block_bytes k.contents (suc b)) ≡ None =
-          elim (cases_lt b (length s)) [
-            | inl h ↦ ap (λ (n : ℕ). stored (get_or (set s n slot) b no_slot) (block_bytes k.contents (suc b))) (sym at)
-                ∙ ap (λ (x : Slot). stored x (block_bytes k.contents (suc b))) (get_or-set_same s b slot no_slot h)
-            | inr h ↦ ap (λ (x : Slot). stored x (block_bytes k.contents (suc b))) (get_or_past (set s (p - 1) slot) b no_slot (omega (arith, length-set s (p - 1) slot)))
-          ] in
-          ap (λ (x : Option Stored). if k.generation == g then x else None) gone
-          ∙ elim (cases_Bool (k.generation == g)) [
-            | inl own ↦ ap (λ (x : Bool). cond x none none) own
-                ∙ sym (ap (λ (x : Bool). if x && k.generation == g then None else held_block k s (suc b) g) (eq-eqb p (suc b) same)
-                ∙ ap (λ (x : Bool). if x then None else held_block k s (suc b) g) own)
-            | inr other ↦ ap (λ (x : Bool). cond x none none) other
-                ∙ sym (ap (λ (x : Bool). if x && k.generation == g then None else held_block k s (suc b) g) (eq-eqb p (suc b) same)
-                ∙ ap (λ (x : Bool). if x then None else held_block k s (suc b) g) other
-                ∙ ap (λ (x : Bool). if x then stored (block_slot s (suc b)) (block_bytes k.contents (suc b)) else None) other)
-          ])
-      | inr ne ↦ ap (λ (x : Slot). if k.generation == g then stored x (block_bytes k.contents (suc b)) else None) (get_or-set_other s (p - 1) b slot no_slot ne)
-          ∙ sym (ap (λ (x : Bool). if x && k.generation == g then None else held_block k s (suc b) g) (ne_eqb p (suc b) (λ (e : p ≡ suc b). ne (omega arith))))
-    ]
-
-held_gone_at : (old new : Table) (p q : Place) → p.frame < length old.slots → 1 ≤ p.block → (frame_at old.seat.frames p.frame).generation ≡ p.generation → new.seat ≡ old.seat → new.slots ≡ set old.slots p.frame (let_go (slots_at old.slots p.frame) (p.block - 1))
-    → held_at new q ≡ without (held_at old) p q
-held_gone_at old new p q inside low current drive slots =
-    let f : ℕ = p.frame in
-    let s : List Slot = slots_at old.slots f in
-    let k : Frame = frame_at old.seat.frames f in
-    ap (λ (d : Drive). held_block (frame_at d.frames q.frame) (slots_at new.slots q.frame) q.block q.generation) drive
-    ∙ elim (cases_eq q.frame f) [
-      | inl at ↦ (let P : ℕ → Type 0 = λ n. held_block (frame_at old.seat.frames n) (slots_at new.slots n) q.block q.generation ≡ (if f == n && (p.block == q.block && p.generation == q.generation) then None else held_block (frame_at old.seat.frames n) (slots_at old.slots n) q.block q.generation) in
-          let here : slots_at new.slots f ≡ let_go s (p.block - 1) = ap (λ (l : List (List Slot)). slots_at l f) slots ∙ get_or-set_same old.slots f (let_go s (p.block - 1)) [] inside in
-          subst P (sym at)
-          (ap (λ (l : List Slot). held_block k l q.block q.generation) here
-          ∙ gone_at k s p.block q.block q.generation low
-          ∙ ap (λ (n : ℕ). if p.block == q.block && n == q.generation then None else held_block k s q.block q.generation) current
-          ∙ sym (ap (λ (x : Bool). if x && (p.block == q.block && p.generation == q.generation) then None else held_block k s q.block q.generation) (eq-eqb f f refl))))
-      | inr ne ↦ ap (λ (l : List (List Slot)). held_block (frame_at old.seat.frames q.frame) (slots_at l q.frame) q.block q.generation) slots
-          ∙ ap (λ (l : List Slot). held_block (frame_at old.seat.frames q.frame) l q.block q.generation) (get_or-set_other old.slots f q.frame (let_go s (p.block - 1)) [] ne)
-          ∙ sym (ap (λ (x : Bool). if x && (p.block == q.block && p.generation == q.generation) then None else held_at old q) (ne_eqb f q.frame (λ (same : f ≡ q.frame). ne (sym same))))
-    ]
-
--- a block that was let go is held no longer, and all else as before
-pub held_gone : (old new : Table) (p : Place) → p.frame < length old.slots → 1 ≤ p.block → (frame_at old.seat.frames p.frame).generation ≡ p.generation → new.seat ≡ old.seat → new.slots ≡ set old.slots p.frame (let_go (slots_at old.slots p.frame) (p.block - 1))
-    → held_at new ≡ without (held_at old) p
-held_gone old new p inside low current drive slots = λ i q. held_gone_at old new p q inside low current drive slots i

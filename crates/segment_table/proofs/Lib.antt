@@ -1,9 +1,12 @@
 pub mod Alone
 pub mod Clearing
+pub mod HeldCounts
 pub mod Numbers
+pub mod Viewing
 pub mod Holding
 pub mod Ahead
 pub mod Sound
+pub mod Naming
 pub mod Spending
 pub mod Steps
 pub mod Summing
@@ -18,3 +21,4 @@ pub mod SavedBlocks
 pub mod UsedBlocks
 pub mod Unshared
 pub mod BuilderSteps
+pub mod MoreNames

@@ -10,8 +10,8 @@ use Rattle.segment_word.specs.Frames.{Phase, Free, Open, Sealed, Draining, Frame
 use Rattle.segment_word.specs.Layout.{frame_at, block_bytes}
 use Rattle.segment_word.specs.Handles.{fresh_frame}
 use Rattle.segment_table.specs.declared.slots.Slot.{Slot}
-use Rattle.segment_table.specs.Slots.{no_slot, let_go, held_role}
-use Rattle.segment_table.specs.Table.{Table, slots_at, block_slot, stored, held_block, held_at, HoldsWholeBlocks, role_of}
+use Rattle.segment_table.specs.Slots.{no_slot, let_go, held_role, is_held}
+use Rattle.segment_table.specs.Table.{Table, slots_at, block_slot, stored, held_block, held_at, named_block, named_at, HoldsWholeBlocks, role_of}
 use Rattle.segment_table.specs.Room.{is_filling, can_open, numbers, places, rest_of, whole_of, places_ahead, places_spent, log_of, new_places}
 use Rattle.segment_table.specs.Sealing.{IsLetGo, AreWhole, IsSoundTable}
 use Rattle.segment_table.specs.Changes.{IsFilling, NoneIsFilling}
@@ -26,24 +26,24 @@ pub record IsUsed (k : Frame) (s : List Slot) (b g : ℕ) : Type 0 where
   pub generation : k.generation ≡ g
   pub low : 1 ≤ b
   pub high : b ≤ length s
-  pub held : (block_slot s b).held ≡ true
+  pub held : is_held (block_slot s b) ≡ true
 
 none_not_some : {A : Type 0} (o : Option A) → o ≡ None → IsSome o → ⊥
 none_not_some (Some x) e h = cc
 none_not_some None e h = cc
 
-used_when_held : (s : List Slot) (b : ℕ) → (block_slot s b).held ≡ true → (1 ≤ b) × (b ≤ length s)
+used_when_held : (s : List Slot) (b : ℕ) → is_held (block_slot s b) ≡ true → (1 ≤ b) × (b ≤ length s)
 used_when_held s zero h = absurd (cc)
 used_when_held s (suc b) h = elim (cases_lt b (length s)) [
   | inl low ↦ (omega arith, omega arith)
-  | inr past ↦ (let none : (block_slot s (suc b)).held ≡ false = ap (λ (x : Slot). x.held) (get_or_past s b no_slot past) in
+  | inr past ↦ (let none : is_held (block_slot s (suc b)) ≡ false = ap (λ (x : Slot). is_held x) (get_or_past s b no_slot past) in
       let clash : true ≡ false = sym h ∙ none in
       absurd (cc))
 ]
 
 pub held_used : (k : Frame) (s : List Slot) (b g : ℕ) → IsSome (held_block k s b g) → IsUsed k s b g
 held_used k s b g h = elim (cases_Bool (k.generation == g)) [
-  | inl own ↦ elim (cases_Bool ((block_slot s b).held)) [
+  | inl own ↦ elim (cases_Bool (is_held (block_slot s b))) [
     | inl held ↦ (let used = used_when_held s b held in
         record { generation = eqb-true k.generation g own; low = used.0; high = used.1; held = held })
     | inr gone ↦ (let none : held_block k s b g ≡ None =
@@ -55,10 +55,10 @@ held_used k s b g h = elim (cases_Bool (k.generation == g)) [
       absurd (none_not_some (held_block k s b g) none h))
 ]
 
-whole_stored : (slot : Slot) (bytes : List ℕ) → (slot.held ≡ true → length bytes ≡ 512) → IfSome (stored slot bytes) (λ block. length block.bytes ≡ 512)
+whole_stored : (slot : Slot) (bytes : List ℕ) → (is_held slot ≡ true → length bytes ≡ 512) → IfSome (stored slot bytes) (λ block. length block.bytes ≡ 512)
 whole_stored slot bytes h =
     let W : Bool → Type 0 = λ x. IfSome {T = Stored} (if x then Some (record { kind = slot.role.kind; object = slot.role.object; bytes = bytes }) else None) (λ block. length block.bytes ≡ 512) in
-    elim (cases_Bool slot.held) [
+    elim (cases_Bool (is_held slot)) [
       | inl held ↦ subst W (sym held) (h held)
       | inr gone ↦ subst W (sym gone) tt
     ]
@@ -72,7 +72,7 @@ held_whole k s b g whole =
       | inr other ↦ subst W (sym other) tt
     ]
 
-all_let_go : (s : List Slot) (b : ℕ) → AllByRecursion IsLetGo s → (block_slot s b).held ≡ true → ⊥
+all_let_go : (s : List Slot) (b : ℕ) → AllByRecursion IsLetGo s → is_held (block_slot s b) ≡ true → ⊥
 all_let_go s zero all h = cc
 all_let_go [] (suc b) all h = cc
 all_let_go (x ∷ s) (suc zero) all h = let clash : true ≡ false = sym h ∙ all.0 in cc
@@ -162,7 +162,7 @@ gone_made old new t free current p f b lent after same at_frame at_block low sou
 
 role_stored : (s : List Slot) (i : ℕ) (bytes : List ℕ) → held_role (slice_get s i) ≡ option_map role_of (stored (get_or s i no_slot) bytes)
 role_stored [] i bytes = refl
-role_stored (x ∷ s) zero bytes = elim (cases_Bool x.held) [
+role_stored (x ∷ s) zero bytes = elim (cases_Bool (is_held x)) [
   | inl h ↦ ap (λ (b : Bool). if b then Some x.role else None) h ∙ sym (ap (λ (b : Bool). option_map role_of (if b then Some (record { kind = x.role.kind; object = x.role.object; bytes = bytes }) else None)) h)
   | inr h ↦ ap (λ (b : Bool). if b then Some x.role else None) h ∙ sym (ap (λ (b : Bool). option_map role_of (if b then Some (record { kind = x.role.kind; object = x.role.object; bytes = bytes }) else None)) h)
 ]
@@ -191,7 +191,11 @@ none_held k (suc b) g = elim (cases_Bool (k.generation == g)) [
   | inr e ↦ ap (λ (x : Bool). if x then stored no_slot (block_bytes k.contents (suc b)) else None) e
 ]
 
-no_slots_at : (n f : ℕ) → slots_at (replicate n []) f ≡ []
+none_named : (k : Frame) (b g : ℕ) → named_block k [] b g ≡ 0
+none_named k zero g = elim (cases_Bool (k.generation == g)) [ inl e ↦ ap (λ (x : Bool). if x then 0 else 0) e | inr e ↦ ap (λ (x : Bool). if x then 0 else 0) e ]
+none_named k (suc b) g = elim (cases_Bool (k.generation == g)) [ inl e ↦ ap (λ (x : Bool). if x then 0 else 0) e | inr e ↦ ap (λ (x : Bool). if x then 0 else 0) e ]
+
+pub no_slots_at : (n f : ℕ) → slots_at (replicate n []) f ≡ []
 no_slots_at n f = elim (cases_lt f n) [
   | inl h ↦ get_or-replicate n f [] [] h
   | inr h ↦ get_or_past (replicate n []) f [] (omega (arith, length-replicate {A = List Slot} n []))
@@ -205,7 +209,7 @@ wholes_new t count a (suc n) frames h =
     ∙ ap (λ (l : List Place). places a 1 1 15 ++ l) (wholes_new t count (a + 1) n frames (omega arith))
 
 -- a new table holds nothing, and all its places are ahead
-pub new_log : (t : Table) (count : ℕ) → t.seat.frames ≡ replicate count fresh_frame → t.slots ≡ replicate count [] → log_of t ≡ record { held = λ p. None; ahead = new_places count; spent = 0 }
+pub new_log : (t : Table) (count : ℕ) → t.seat.frames ≡ replicate count fresh_frame → t.slots ≡ replicate count [] → log_of t ≡ record { held = λ p. None; ahead = new_places count; spent = 0; named = λ p. 0 }
 new_log t count frames slots =
     let held : (p : Place) → held_at t p ≡ None = λ p.
     ap (λ (l : List Slot). held_block (frame_at t.seat.frames p.frame) l p.block p.generation) (ap (λ (l : List (List Slot)). slots_at l p.frame) slots ∙ no_slots_at count p.frame) ∙ none_held (frame_at t.seat.frames p.frame) p.block p.generation in
@@ -214,7 +218,8 @@ new_log t count frames slots =
     ∙ ap (λ (l : List ℕ). flat_map (whole_of t) l) (ap (λ (l : List Frame). numbers can_open 0 l) frames ∙ numbers_all can_open 0 count fresh_frame refl)
     ∙ wholes_new t count 0 count frames (omega arith) in
     let spent : places_spent t ≡ 0 = spent_new t count frames slots in
-    λ i. record { held = λ p. held p i; ahead = ahead i; spent = spent i }
+    let named : (p : Place) → named_at t p ≡ 0 = λ p. ap (λ (l : List Slot). named_block (frame_at t.seat.frames p.frame) l p.block p.generation) (ap (λ (l : List (List Slot)). slots_at l p.frame) slots ∙ no_slots_at count p.frame) ∙ none_named (frame_at t.seat.frames p.frame) p.block p.generation in
+    λ i. record { held = λ p. held p i; ahead = ahead i; spent = spent i; named = λ p. named p i }
 
 -- a held block's frame is open where it is the one that the table knows, and else sealed
 pub open_or_sealed : (t : Table) (free : List ℕ) (current : Option ℕ) (p : Place) (f g : ℕ) → IsSoundTable t free current → IsSome (held_at t p) → current ≡ Some f → g ≡ p.frame

@@ -1,8 +1,10 @@
 -- What holds of a table goes on to hold, after each change of one frame.
-use Rattle.std.proofs.Common.{◌≡◌, inl, inr, ℕ, zero, suc, ◌+◌, ◌^◌, ◌<◌, ◌≤◌, false, List, [], ◌∷◌, ◌++◌, length, map, reverse, set, get_or, replicate, Option, Some, None, refl, sym, ap, subst, ◌∙◌, length-append, arith}
+use Rattle.std.proofs.Common.{◌≡◌, inl, inr, ℕ, zero, suc, ◌+◌, ◌^◌, ◌<◌, ◌≤◌, false, List, [], ◌∷◌, ◌++◌, length, map, reverse, set, get_or, replicate, ltb, cond, ◌-◌, Option, Some, None, refl, sym, ap, subst, ◌∙◌, length-append, arith, Bool}
 use Rattle.std.specs.List.{AllByRecursion, range_with_len}
 use Rattle.std.proofs.lemmas.List.{get_or-set_same, get_or-set_other, set-get_or, length-set, reverse-reverse, get_or-replicate, length-replicate}
-use Rattle.std.proofs.lemmas.Bool.{cases_eq}
+use Rattle.std.proofs.lemmas.Bool.{cases_eq, cases_Bool, ltb-false}
+use Rattle.block_log.specs.Log.{same_kind}
+use Rattle.block_log.specs.declared.kinds.BlockKind.TheVariants.{Data}
 use Rattle.std.proofs.Math.Seq.{map-set_same}
 use Rattle.codec.specs.declared.summaries.BlockRole.{BlockRole}
 use Rattle.codec.specs.Summary.{SpellsSummary}
@@ -11,7 +13,7 @@ use Rattle.segment_word.specs.Frames.{Free, Open, Sealed, Draining, Frame, no_fr
 use Rattle.segment_word.specs.Layout.{frame_at, block_bytes}
 use Rattle.segment_word.specs.Handles.{Drive, with_changed, fresh_frame}
 use Rattle.segment_table.specs.declared.slots.Slot.{Slot}
-use Rattle.segment_table.specs.Slots.{no_slot, let_go}
+use Rattle.segment_table.specs.Slots.{no_slot, is_held, data_names, fewer_names, let_go}
 use Rattle.segment_table.specs.Table.{Table, slots_at}
 use Rattle.segment_table.specs.Room.{is_filling, can_open, numbers}
 use Rattle.segment_table.specs.Sealing.{payload_of, IsOwned, IsLetGo, AreWhole, IsFit, IsSoundTable}
@@ -168,9 +170,23 @@ gone_let_go [] i slot all h = tt
 gone_let_go (x ∷ s) zero slot all h = (h, all.1)
 gone_let_go (x ∷ s) (suc i) slot all h = (all.0, gone_let_go s i slot all.1 h)
 
+none_named : (slot : Slot) → IsLetGo slot → IsLetGo (fewer_names slot)
+none_named slot gone =
+    let none : slot.named ≤ 0 = ltb-false 0 slot.named gone in
+    let less : data_names slot - 1 ≡ 0 = elim (cases_Bool (same_kind slot.role.kind Data)) [
+      | inl of_data ↦ let same : data_names slot ≡ slot.named = ap (λ (b : Bool). cond b slot.named 0) of_data in omega (arith, same, none)
+      | inr other ↦ let zero_is : data_names slot ≡ 0 = ap (λ (b : Bool). cond b slot.named 0) other in omega (arith, zero_is)
+    ] in
+    ap (λ (n : ℕ). ltb 0 n) less
+
+let_go_there : (s : List Slot) (i : ℕ) → AllByRecursion IsLetGo s → IsLetGo (get_or s i no_slot)
+let_go_there [] i all = refl
+let_go_there (x ∷ s) zero all = all.0
+let_go_there (x ∷ s) (suc i) all = let_go_there s i all.1
+
 fit_gone : (f : ℕ) (k : Frame) (s : List Slot) (i : ℕ) → IsFit f k s → IsFit f k (let_go s i)
 fit_gone f k s i fit =
-    let slot : Slot = record (get_or s i no_slot) { held = false } in
+    let slot : Slot = fewer_names (get_or s i no_slot) in
     let P : List BlockRole → Type 0 = λ roles. SpellsSummary (payload_of k.contents) (block_bytes k.contents 0) (record { frame = f; generation = k.generation; roles = roles }) in
     let roles : map (λ (x : Slot). x.role) (set s i slot) ≡ map (λ (x : Slot). x.role) s = map-set_same (λ (x : Slot). x.role) s i slot no_slot refl in
     record {
@@ -180,14 +196,14 @@ fit_gone f k s i fit =
       whole = λ b low high. fit.whole b low (omega (arith, length-set s i slot));
       free = λ e. ap (λ (l : List Slot). set l i slot) (fit.free e);
       summed = λ h. subst P (sym roles) (fit.summed h);
-      draining = λ e. gone_let_go s i slot (fit.draining e) refl;
+      draining = λ e. gone_let_go s i slot (fit.draining e) (none_named (get_or s i no_slot) (let_go_there s i (fit.draining e)));
     }
 
 pub used_gone : (old : List (List Slot)) (f i g : ℕ) → f < length old → length (slots_at (set old f (let_go (slots_at old f) i)) g) ≡ length (slots_at old g)
 used_gone old f i g inside = elim (cases_eq g f) [
   | inl at ↦ (let P : ℕ → Type 0 = λ n. length (slots_at (set old f (let_go (slots_at old f) i)) n) ≡ length (slots_at old n) in
       subst P (sym at)
-      (ap length (get_or-set_same old f (let_go (slots_at old f) i) [] inside) ∙ length-set (slots_at old f) i (record (get_or (slots_at old f) i no_slot) { held = false })))
+      (ap length (get_or-set_same old f (let_go (slots_at old f) i) [] inside) ∙ length-set (slots_at old f) i (fewer_names (get_or (slots_at old f) i no_slot))))
   | inr ne ↦ ap length (get_or-set_other old f g (let_go (slots_at old f) i) [] ne)
 ]
 
@@ -197,7 +213,7 @@ roles_gone old f i g inside = elim (cases_eq g f) [
   | inl at ↦ (let P : ℕ → Type 0 = λ n. map (λ (x : Slot). x.role) (slots_at (set old f (let_go (slots_at old f) i)) n) ≡ map (λ (x : Slot). x.role) (slots_at old n) in
       subst P (sym at)
       (ap (map (λ (x : Slot). x.role)) (get_or-set_same old f (let_go (slots_at old f) i) [] inside)
-      ∙ map-set_same (λ (x : Slot). x.role) (slots_at old f) i (record (get_or (slots_at old f) i no_slot) { held = false }) no_slot refl))
+      ∙ map-set_same (λ (x : Slot). x.role) (slots_at old f) i (fewer_names (get_or (slots_at old f) i no_slot)) no_slot refl))
   | inr ne ↦ ap (map (λ (x : Slot). x.role)) (get_or-set_other old f g (let_go (slots_at old f) i) [] ne)
 ]
 

@@ -5,18 +5,19 @@ use Rattle.std.proofs.lemmas.Option.{slice_get-get_or, slice_get_past}
 use Rattle.std.proofs.lemmas.Bool.{cases_Bool, cases_eq, cases_lt, eq-eqb, ne_eqb, eqb-true}
 use Rattle.std.proofs.Math.Seq.{map-set_same}
 use Rattle.s4_types.specs.Pointer.{Place}
-use Rattle.block_log.specs.Log.{Stored, same_place}
+use Rattle.block_log.specs.Log.{Stored, same_place, is_data}
 use Rattle.codec.specs.declared.summaries.BlockRole.{BlockRole}
 use Rattle.codec.specs.Summary.{SpellsSummary}
 use Rattle.segment_word.specs.Frames.{Phase, Free, Open, Sealed, Draining, Frame, is_open, is_sealed}
 use Rattle.segment_word.specs.Layout.{frame_at, block_bytes}
 use Rattle.segment_word.specs.Handles.{Drive}
 use Rattle.segment_table.specs.declared.slots.Slot.{Slot}
-use Rattle.segment_table.specs.Slots.{no_slot, hold_on}
-use Rattle.segment_table.specs.Table.{Table, slots_at, block_slot, stored, held_block, held_at}
+use Rattle.segment_table.specs.Slots.{no_slot, data_names, with_names, hold_on}
+use Rattle.segment_table.specs.Table.{Table, slots_at, block_slot, stored, held_block, held_at, named_at}
 use Rattle.segment_table.specs.Used.{used_slot, with_bytes, is_named, used_block, used_at, HasWholeBlocks, HoldsUsedBlocks}
 use Rattle.segment_table.specs.Sealing.{payload_of, AreWhole, IsFit, IsSoundTable}
 use Rattle.segment_table.proofs.Sound.{gone_owned, owned_at}
+use Rattle.segment_table.proofs.Viewing.{view_changed}
 use Rattle.segment_table.proofs.Reading.{IsUsed, held_used, held_frame, slot_before}
 
 -- the used block of that number
@@ -109,7 +110,7 @@ held_on_at k s p zero g low high =
     let it : Stored = with_bytes (block_bytes k.contents p) (get_or s (p - 1) no_slot) in
     sym (ap (λ (x : Bool). if x && k.generation == g then Some it else held_block k s 0 g) (ne_eqb p 0 (λ (e : p ≡ 0). omega arith)))
 held_on_at k s p (suc b) g low high =
-    let slot : Slot = record (get_or s (p - 1) no_slot) { held = true } in
+    let slot : Slot = record (get_or s (p - 1) no_slot) { named = 1 } in
     let it : Stored = with_bytes (block_bytes k.contents p) (get_or s (p - 1) no_slot) in
     let none : Option Stored = None in
     elim (cases_eq b (p - 1)) [
@@ -156,6 +157,15 @@ held_on old new p q inside used drive slots =
     ]
     ∙ ap (λ (o : Option Stored). if same_place p q then o else held_at old q) (sym used.is)
 
+-- and of data it has one name
+pub named_on : (old new : Table) (p q : Place) → p.frame < length old.slots → IsUsedAt (frame_at old.seat.frames p.frame) (slots_at old.slots p.frame) p.block p.generation
+    → new.seat ≡ old.seat → new.slots ≡ set old.slots p.frame (hold_on (slots_at old.slots p.frame) (p.block - 1))
+    → named_at new q ≡ (if same_place p q then (if is_data (used_at old p) then 1 else 0) else named_at old q)
+named_on old new p q inside used drive slots =
+    let slot : Slot = record (get_or (slots_at old.slots p.frame) (p.block - 1) no_slot) { named = 1 } in
+    view_changed (λ (k : Frame) (b : ℕ) (x : Slot). data_names x) 0 old new p q slot inside used.low used.high used.generation drive slots
+    ∙ ap (λ (o : Option Stored). if same_place p q then (if is_data o then 1 else 0) else named_at old q) (sym used.is)
+
 -- and what is used stays
 pub used_still : (old new : Table) (f i : ℕ) (q : Place) → f < length old.slots → new.seat ≡ old.seat → new.slots ≡ set old.slots f (hold_on (slots_at old.slots f) i) → used_at new q ≡ used_at old q
 used_still old new f i q inside drive slots =
@@ -169,20 +179,20 @@ used_still old new f i q inside drive slots =
       | inr ne ↦ ap (λ (l : List Slot). used_block (frame_at old.seat.frames q.frame) l q.block q.generation) (get_or-set_other old.slots f q.frame (hold_on (slots_at old.slots f) i) [] ne)
     ]
 
--- and what the used blocks are for
-pub roles_still : (old : List (List Slot)) (f i g : ℕ) → f < length old → map (λ (x : Slot). x.role) (slots_at (set old f (hold_on (slots_at old f) i)) g) ≡ map (λ (x : Slot). x.role) (slots_at old g)
-roles_still old f i g inside = elim (cases_eq g f) [
-  | inl at ↦ (let P : ℕ → Type 0 = λ n. map (λ (x : Slot). x.role) (slots_at (set old f (hold_on (slots_at old f) i)) n) ≡ map (λ (x : Slot). x.role) (slots_at old n) in
+-- and what the used blocks are for, however many places name one of them
+pub roles_still : (old : List (List Slot)) (f i n g : ℕ) → f < length old → map (λ (x : Slot). x.role) (slots_at (set old f (with_names (slots_at old f) i n)) g) ≡ map (λ (x : Slot). x.role) (slots_at old g)
+roles_still old f i n g inside = elim (cases_eq g f) [
+  | inl at ↦ (let P : ℕ → Type 0 = λ h. map (λ (x : Slot). x.role) (slots_at (set old f (with_names (slots_at old f) i n)) h) ≡ map (λ (x : Slot). x.role) (slots_at old h) in
       subst P (sym at)
-      (ap (map (λ (x : Slot). x.role)) (get_or-set_same old f (hold_on (slots_at old f) i) [] inside)
-      ∙ map-set_same (λ (x : Slot). x.role) (slots_at old f) i (record (get_or (slots_at old f) i no_slot) { held = true }) no_slot refl))
-  | inr ne ↦ ap (map (λ (x : Slot). x.role)) (get_or-set_other old f g (hold_on (slots_at old f) i) [] ne)
+      (ap (map (λ (x : Slot). x.role)) (get_or-set_same old f (with_names (slots_at old f) i n) [] inside)
+      ∙ map-set_same (λ (x : Slot). x.role) (slots_at old f) i (record (get_or (slots_at old f) i no_slot) { named = n }) no_slot refl))
+  | inr ne ↦ ap (map (λ (x : Slot). x.role)) (get_or-set_other old f g (with_names (slots_at old f) i n) [] ne)
 ]
 
--- the frame of a block that was put on hold fits
-pub fit_held_on : (f : ℕ) (k : Frame) (s : List Slot) (i : ℕ) → IsFit f k s → k.phase ≢ Draining → IsFit f k (hold_on s i)
-fit_held_on f k s i fit ne =
-    let slot : Slot = record (get_or s i no_slot) { held = true } in
+-- the frame of a block that so many places name fits
+pub fit_named : (f : ℕ) (k : Frame) (s : List Slot) (i n : ℕ) → IsFit f k s → k.phase ≢ Draining → IsFit f k (with_names s i n)
+fit_named f k s i n fit ne =
+    let slot : Slot = record (get_or s i no_slot) { named = n } in
     let P : List BlockRole → Type 0 = λ roles. SpellsSummary (payload_of k.contents) (block_bytes k.contents 0) (record { frame = f; generation = k.generation; roles = roles }) in
     let roles : map (λ (x : Slot). x.role) (set s i slot) ≡ map (λ (x : Slot). x.role) s = map-set_same (λ (x : Slot). x.role) s i slot no_slot refl in
     record {

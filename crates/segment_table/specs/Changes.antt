@@ -88,7 +88,7 @@ pub record IsAppended (p : Place) (role : BlockRole) (block : List ℕ) (old new
   pub place : p.block ≡ length (slots_at old.slots p.frame) + 1
   pub bytes : block_bytes (frame_at new.seat.frames p.frame).contents p.block ≡ block
   pub others : (b : ℕ) → 1 ≤ b → b < p.block → KeepsBlock p.frame b old.seat new.seat
-  pub slots : new.slots ≡ with_slot old.slots p.frame (record { role = role; held = true })
+  pub slots : new.slots ≡ with_slot old.slots p.frame (record { role = role; named = 1 })
   pub filling : p.block < 15 → (frame_at new.seat.frames p.frame).phase ≡ Open
   pub sealed : p.block ≡ 15 → (frame_at new.seat.frames p.frame).phase ≡ Sealed
   pub summed : p.block ≡ 15 → IsSummed p.frame (frame_at new.seat.frames p.frame) (slots_at new.slots p.frame)
@@ -135,6 +135,7 @@ pub record SealsFrame (old new : Table) : Type 0 where
   pub idle : NoneIsFilling old → new ≡ old
   pub sealed : (f : ℕ) → IsFilling f old → IsSealedIn f old new
   pub held : (log_of new).held ≡ (log_of old).held
+  pub named : (log_of new).named ≡ (log_of old).named
   pub ahead : (f : ℕ) → IsFilling f old → rest_of old f ++ places_ahead new ≡ places_ahead old
   pub spent : (log_of new).spent ≡ (log_of old).spent
 
@@ -153,6 +154,7 @@ pub record MarksFrame (f : ℕ) (old : Table) (done : Result (Unit {0}) Refusal)
 pub record ReleasesFrame (f : ℕ) (old : Table) (done : Result (Unit {0}) Refusal) (new : Table) : Type 0 where
   pub released : OnOk done (IsReleased f old new)
   pub held : (log_of new).held ≡ (log_of old).held
+  pub named : (log_of new).named ≡ (log_of old).named
   pub spent : OnOk done ((log_of old).spent ≤ (log_of new).spent)
   pub again : OnOk done ((frame_at old.seat.frames f).generation + 2 < 2 ^ 32 → IsAheadAgain f old new)
   pub retired : OnOk done ((frame_at old.seat.frames f).generation + 2 ≡ 2 ^ 32 → places_ahead new ≡ places_ahead old)

@@ -5,7 +5,7 @@ use Rattle.s4_types.specs.Pointer.{Place}
 use Rattle.block_log.specs.Log.{Log}
 use Rattle.segment_word.specs.Frames.{Frame, is_free, is_open, is_sealed}
 use Rattle.segment_word.specs.Layout.{frame_at}
-use Rattle.segment_table.specs.Table.{Table, slots_at, held_at, is_of}
+use Rattle.segment_table.specs.Table.{Table, slots_at, held_at, named_at, is_of}
 
 -- the frame takes appends at present
 abbrev pub is_filling : Frame → Bool
@@ -54,7 +54,7 @@ places_spent t = sum_over (spent_at t) 0 (length t.seat.frames)
 
 -- the table as a log
 abbrev pub log_of : Table → Log
-log_of t = record { held = held_at t; ahead = places_ahead t; spent = places_spent t }
+log_of t = record { held = held_at t; ahead = places_ahead t; spent = places_spent t; named = named_at t }
 
 -- all places of a new drive, in order
 abbrev pub new_places : ℕ → List Place

@@ -6,6 +6,7 @@ use Rattle.s4_types.specs.declared.limits.TheConstants.{FEWEST_FRAMES}
 use Rattle.codec.specs.Summary.{SummaryFields, SpellsSummary}
 use Rattle.segment_word.specs.Frames.{Free, Open, Draining, Frame, code_of}
 use Rattle.segment_word.specs.Layout.{frame_at, block_bytes}
+use Rattle.segment_table.specs.Slots.{is_held}
 use Rattle.segment_table.specs.declared.slots.Slot.{Slot}
 use Rattle.segment_table.specs.Table.{Table, slots_at}
 use Rattle.segment_table.specs.Room.{is_filling, can_open, numbers}
@@ -32,7 +33,7 @@ abbrev pub IsOwned : Slot → Type 0
 IsOwned slot = 1 ≤ slot.role.object
 
 abbrev pub IsLetGo : Slot → Type 0
-IsLetGo slot = slot.held ≡ false
+IsLetGo slot = is_held slot ≡ false
 
 -- each of the blocks 1 to n has 512 bytes
 abbrev pub AreWhole : List ℕ → ℕ → Type 0

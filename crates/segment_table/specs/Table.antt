@@ -7,7 +7,7 @@ use Rattle.segment_word.specs.Frames.{Frame}
 use Rattle.segment_word.specs.Layout.{frame_at, block_bytes}
 use Rattle.segment_word.specs.Handles.{Drive}
 use Rattle.segment_table.specs.declared.slots.Slot.{Slot}
-use Rattle.segment_table.specs.Slots.{no_slot}
+use Rattle.segment_table.specs.Slots.{no_slot, is_held, data_names}
 
 -- the drive's frames, and for each of them its used payload blocks, block 1 first; a free frame has none
 pub record Table : Type 0 where
@@ -24,7 +24,7 @@ block_slot slots b = slice_index_or (no_slot ∷ slots) b no_slot
 
 -- a held block with its bytes
 abbrev pub stored : Slot → List ℕ → Option Stored
-stored slot bytes = if slot.held then Some (record { kind = slot.role.kind; object = slot.role.object; bytes = bytes }) else None
+stored slot bytes = if is_held slot then Some (record { kind = slot.role.kind; object = slot.role.object; bytes = bytes }) else None
 
 -- what block b of a frame holds for a pointer of generation g
 abbrev pub held_block : Frame → List Slot → ℕ → ℕ → Option Stored
@@ -33,6 +33,14 @@ held_block k slots b g = if k.generation == g then stored (block_slot slots b) (
 -- what a place of the table holds: a pointer to an earlier life of its frame leads to nothing
 abbrev pub held_at : Table → Place → Option Stored
 held_at t p = held_block (frame_at t.seat.frames p.frame) (slots_at t.slots p.frame) p.block p.generation
+
+-- how often block b of a frame is named for a pointer of generation g
+abbrev pub named_block : Frame → List Slot → ℕ → ℕ → ℕ
+named_block k slots b g = if k.generation == g then data_names (block_slot slots b) else 0
+
+-- how often the data block at a place of the table is named
+abbrev pub named_at : Table → Place → ℕ
+named_at t p = named_block (frame_at t.seat.frames p.frame) (slots_at t.slots p.frame) p.block p.generation
 
 -- each held block has 512 bytes
 abbrev pub HoldsWholeBlocks : Table → Type 0

@@ -3,10 +3,10 @@ ghost use Rattle.std.specs.Prelude.{◌≡◌, ℕ, ◌+◌, ◌-◌, ◌^◌, �
 ghost use Rattle.std.specs.Option.{option_to_list};
 ghost use Rattle.s4_types.specs.declared.refusals.Refusal.TheVariants.{NoMemory, InUse};
 ghost use Rattle.s4_types.specs.declared.limits.TheConstants.{BLOCK_BYTES};
-ghost use Rattle.block_log.specs.Log.{appended, dropped};
+ghost use Rattle.block_log.specs.Log.{appended, dropped, held_more, is_data, NamesAreOfData};
 ghost use Rattle.segment_word.specs.Frames.{is_sealed};
 ghost use Rattle.segment_word.specs.Layout.{frame_at};
-ghost use Rattle.segment_table.specs.Table.{Table, slots_at, held_at, is_of, role_of};
+ghost use Rattle.segment_table.specs.Table.{Table, slots_at, held_at, named_at, is_of, role_of};
 ghost use Rattle.segment_table.specs.Room.{is_filling, numbers, rest_of, places_ahead, places_spent, log_of, pointers_in};
 ghost use Rattle.segment_table.specs.Sealing.{IsSoundTable, IsPartFilled};
 ghost use Rattle.segment_table.specs.Changes.{IsFilling, NoneIsFilling, IsReadyFrame, IsPut, IsSealed, IsSealedIn, MarksFrame, ReleasesFrame};
@@ -127,7 +127,7 @@ impl Segments {
         requires filling { IsFilling frame self.old }
         requires room { length (slots_at self.old.slots frame) < 15 }
         requires owned { 1 ≤ role.object }
-        ensures put { IsPut frame (record { role = role; held = true }) block.now self.old self.new }
+        ensures put { IsPut frame (record { role = role; named = 1 }) block.now self.old self.new }
         ensures inside { frame < length self.old.slots }
     {
         let number = frame as usize;
@@ -141,7 +141,7 @@ impl Segments {
         requires filling { IsFilling frame self.old }
         requires room { length (slots_at self.old.slots frame) < 15 }
         requires owned { 1 ≤ role.object }
-        ensures put { IsPut frame (record { role = role; held = true }) block.now self.old self.new }
+        ensures put { IsPut frame (record { role = role; named = 1 }) block.now self.old self.new }
         ensures filling { IsFilling frame self.new }
         ensures place { result ≡ record { frame = frame; block = length (slots_at self.old.slots frame) + 1; generation = (frame_at self.old.seat.frames frame).generation } }
         ensures appended { appended (log_of self.old) (record { kind = role.kind; object = role.object; bytes = block.now }) ≡ Some (result, log_of self.new) }
@@ -160,6 +160,7 @@ impl Segments {
         ensures slots { self.new.slots ≡ self.old.slots }
         ensures filling { NoneIsFilling self.new }
         ensures held { (log_of self.new).held ≡ (log_of self.old).held }
+        ensures named { (log_of self.new).named ≡ (log_of self.old).named }
         ensures ahead { rest_of self.old frame ++ places_ahead self.new ≡ places_ahead self.old }
         ensures spent { places_spent self.new ≡ places_spent self.old }
     {
@@ -227,7 +228,8 @@ impl Segments {
         self.slots[place.frame() as usize].held(place.block() as usize)
     }
 
-    /// The pointer is held no longer. Where it wasn't, nothing changes.
+    /// A data block has one name less, and is held no longer without any; any other block is held no longer. Where nothing is
+    /// held, nothing changes.
     pub fn drop_block(&mut self, place: Ptr)
         ensures log { log_of self.new ≡ dropped (log_of self.old) place }
         ensures seat { self.new.seat ≡ self.old.seat }
@@ -237,6 +239,26 @@ impl Segments {
         if self.is_current(place) {
             self.slots[place.frame() as usize].let_go(place.block() as usize);
         }
+    }
+
+    /// Shows that the held data blocks have names, and nothing else has.
+    #[tactic(auto, using(crate::proofs::Naming::names_are))]
+    pub fn names(&self)
+        ensures { NamesAreOfData (log_of self.now) }
+    {
+        let _ = &self.current;
+    }
+
+    /// A held data block has one name more.
+    pub fn hold(&mut self, place: Ptr)
+        requires of_data { is_data (held_at self.old place) ≡ true }
+        requires room { named_at self.old place + 1 < 2 ^ 32 }
+        ensures log { log_of self.new ≡ held_more (log_of self.old) place }
+        ensures seat { self.new.seat ≡ self.old.seat }
+        ensures used { (f : ℕ) → length (slots_at self.new.slots f) ≡ length (slots_at self.old.slots f) }
+        ensures roles { (f : ℕ) → map (λ slot. slot.role) (slots_at self.new.slots f) ≡ map (λ slot. slot.role) (slots_at self.old.slots f) }
+    {
+        self.slots[place.frame() as usize].name(place.block() as usize);
     }
 
     // The generation of a frame, where it is there and sealed.

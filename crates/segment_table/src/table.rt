@@ -1,9 +1,9 @@
 //! The segment table: blocks behind pointers, the sealing of frames, and pins that count on them.
-ghost use Rattle.std.specs.Prelude.{◌≡◌, ◌≢◌, ℕ, ◌+◌, ◌-◌, ◌^◌, ◌<◌, ◌≤◌, ◌⊎◌, [], ◌∷◌, ◌++◌, length, map, take, drop, replicate, Some, None, IsSome, IfSome, IfOk, IfErr, OnOk, OnErr, IsOk, MatchBool};
+ghost use Rattle.std.specs.Prelude.{◌≡◌, ◌≢◌, ℕ, ◌+◌, ◌-◌, ◌^◌, ◌<◌, ◌≤◌, ◌⊎◌, true, [], ◌∷◌, ◌++◌, length, map, take, drop, replicate, Some, None, IsSome, IfSome, IfOk, IfErr, OnOk, OnErr, IsOk, MatchBool};
 ghost use Rattle.s4_types.specs.Sizes.{IsFrameCount};
 ghost use Rattle.s4_types.specs.declared.limits.TheConstants.{BLOCK_BYTES};
 ghost use Rattle.s4_types.specs.declared.refusals.Refusal.TheVariants.{NoMemory, Busy, NoSpace, InUse};
-ghost use Rattle.block_log.specs.Log.{appended, dropped};
+ghost use Rattle.block_log.specs.Log.{appended, dropped, held_more, is_data, NamesAreOfData};
 ghost use Rattle.segment_word.specs.Frames.{Pinned, is_draining};
 ghost use Rattle.segment_word.specs.Frames.Phase.{Open, Sealed};
 ghost use Rattle.segment_word.specs.Layout.{frame_at, block_bytes};
@@ -56,7 +56,7 @@ impl SegmentTable {
         requires { IsFrameCount frames }
         ensures frames { IfOk result (λ t. t.seat.frames ≡ replicate frames fresh_frame) }
         ensures unused { IfOk result (λ t. t.slots ≡ replicate frames []) }
-        ensures log { IfOk result (λ t. log_of t ≡ record { held = λ p. None; ahead = new_places frames; spent = 0 }) }
+        ensures log { IfOk result (λ t. log_of t ≡ record { held = λ p. None; ahead = new_places frames; spent = 0; named = λ p. 0 }) }
         ensures refusal { IfErr result (λ e. (e ≡ NoMemory) ⊎ (e ≡ Busy)) }
     {
         let builder = TableBuilder::new(alloc, frames)?;
@@ -295,6 +295,23 @@ impl Blocks for SegmentTable {
         ensures unchanged { self.new ≡ self.old }
     {
         self.segments.get_bytes(place, from, to, into)
+    }
+
+    fn hold(&mut self, place: Ptr)
+        requires of_data { is_data ((log_of self.old).held place) ≡ true }
+        requires room { (log_of self.old).named place + 1 < 2 ^ 32 }
+        ensures log { log_of self.new ≡ held_more (log_of self.old) place }
+        ensures seat { self.new.seat ≡ self.old.seat }
+        ensures used { (f : ℕ) → length (slots_at self.new.slots f) ≡ length (slots_at self.old.slots f) }
+        ensures roles { (f : ℕ) → map (λ slot. slot.role) (slots_at self.new.slots f) ≡ map (λ slot. slot.role) (slots_at self.old.slots f) }
+    {
+        self.segments.hold(place);
+    }
+
+    fn names(&self)
+        ensures { NamesAreOfData (log_of self.now) }
+    {
+        self.segments.names();
     }
 
     fn drop_block(&mut self, place: Ptr)

@@ -20,6 +20,7 @@ use Rattle.object_map.specs.declared.map.Row.{Row}
 use Rattle.time_read.specs.Rows.{IsRow, entries_of, inode_of}
 use Rattle.time_read.specs.Orderly.{IsOrderly, IsFromTo, BeginsDead}
 use Rattle.segment_table.specs.declared.slots.Slot.{Slot}
+use Rattle.segment_table.specs.Slots.{is_held}
 use Rattle.segment_table.specs.Table.{Table, slots_at, block_slot, stored, held_at}
 use Rattle.segment_word.specs.Layout.{frame_at, block_bytes}
 use Rattle.image_objects.specs.Saved.{ObjectsAscend}
@@ -104,7 +105,7 @@ owner_is t p block h =
     let slot : Slot = block_slot (slots_at t.slots p.frame) p.block in
     let here : Stored = record { kind = slot.role.kind; object = slot.role.object; bytes = block_bytes k.contents p.block } in
     let there : stored slot (block_bytes k.contents p.block) ≡ Some block = some_of (k.generation == p.generation) (stored slot (block_bytes k.contents p.block)) block h in
-    ap (λ (b : Stored). b.object) (same_Some here block (some_of slot.held (Some here) block there))
+    ap (λ (b : Stored). b.object) (same_Some here block (some_of (is_held slot) (Some here) block there))
 
 -- a number below 2^20, whose block is the object's
 pub record Numbered (t : Table) (o : ℕ) : Type 0 where

@@ -28,7 +28,7 @@ use Rattle.version_store.specs.Versions.{version_in, version_taken}
 use Rattle.version_store.specs.Costs.{subject_row, subject_inode, row_or_fresh, pointers_moved, data_blocks, attribute_by, sizes_by, refusal_by, blocks_taken, room}
 use Rattle.version_store.specs.Taking.{IsReadyFor, IsAboveAll, RowChanges, data_by}
 use Rattle.version_store.specs.private.Turning.{CanTake, CanTurn, Turns, IsTaken, blocks_turned}
-use Rattle.version_store.proofs.Spending.{none_taken}
+use Rattle.version_store.proofs.Spending.{not_both, none_taken}
 use Rattle.version_store.specs.private.Below.{PlacesAddUp, OrderlyStays, RowStays, RowInodeStays, IsByStays, IsByLater, FreshRowStands, FreshRowIsBy, FreshInode, BlankCount, BlankHoles, EntriesHaveSizes, SizesAddUp}
 use Rattle.version_store.proofs.Frames.{growth_stays, stays_inode}
 use Rattle.version_store.proofs.Naming.{NamesNew}
@@ -90,6 +90,8 @@ grows_none object log = record {
   fresh = λ n p lt e. absurd (omega arith);
   taken = λ n p bytes e none. absurd (none-some bytes none);
   kept = λ p held. refl;
+  first_names = λ p none some. absurd (not_both (log.held p) none some);
+  names_kept = λ p same. refl;
   others = λ kind o p other. refl;
 }
 

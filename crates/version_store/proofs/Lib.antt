@@ -9,6 +9,7 @@ pub mod Telling
 pub mod Naming
 pub mod Across
 pub mod Spending
+pub mod Once
 pub mod Steps
 pub mod Subjects
 pub mod Kind

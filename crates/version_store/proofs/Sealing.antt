@@ -9,9 +9,14 @@ use Rattle.segment_table.specs.Table.{Table}
 use Rattle.segment_table.specs.Room.{is_filling, numbers, rest_of, places_ahead}
 use Rattle.segment_table.specs.Changes.{IsFilling, NoneIsFilling}
 use Rattle.object_map.specs.declared.map.Row.{Row}
+use Rattle.object_map.specs.Objects.{value_of}
 use Rattle.object_map.specs.Rows.{row_of}
+use Rattle.time_read.specs.Presents.{KeepsIndexOf}
+use Rattle.time_read.specs.declared.presents.Present.{Present}
 use Rattle.version_store.specs.Store.{StoreFields, IsStore}
-use Rattle.version_store.specs.Versions.{inode_by, version_by}
+use Rattle.version_store.specs.Versions.{inode_by, version_by, entries_of_row}
+use Rattle.version_store.specs.private.Beside.{IsBeside}
+use Rattle.version_store.proofs.Once.{once_stays}
 use Rattle.version_store.specs.Upkeep.{KeepsObjects}
 
 fewer_by : (filling : List ℕ) (rest : ℕ → List Place) (before after : List Place) → length filling ≤ 1 → (filling ≡ [] → after ≡ before) → ((f : ℕ) → filling ≡ f ∷ [] → rest f ++ after ≡ before) → length after ≤ length before
@@ -47,6 +52,14 @@ store_over s log same spent bounded store =
       ascending = store.ascending;
       apart = store.apart;
     })
+
+-- what stands beside the rows does so over the other log
+pub beside_over : (values : List (ℕ × Present)) (s : StoreFields) (log : Log) → log.held ≡ s.log.held → log.named ≡ s.log.named → IsBeside values s → IsBeside values (over s log)
+beside_over values s log held named beside = record {
+  inodes = λ o. beside.inodes o ∙ sym (ap (λ (h : Place → Option Stored). inode_by h o s.latest (row_of s.rows o)) held);
+  indexes = λ o. subst (λ (h : Place → Option Stored). KeepsIndexOf (value_of values o) (entries_of_row h o (row_of s.rows o))) (sym held) (beside.indexes o);
+  once = once_stays s.log log named beside.once;
+}
 
 pub shrunk_store : (s : StoreFields) (log : Log) → log.held ≡ s.log.held → length log.ahead ≤ length s.log.ahead → log.spent ≡ s.log.spent → IsStore s → IsStore (over s log)
 shrunk_store s log same fewer spent store = let bound = store.bounded in store_over s log same (omega (arith, spent)) (omega (arith, fewer, spent, bound)) store

@@ -67,6 +67,10 @@ pub record IsObject (held : Place → Option Stored) (o : ℕ) (row : Row) (late
   pub tidy : (t : ℕ) → Tidy (contents_of held) (inode_of held o row t)
   pub pointers : (t : ℕ) → PointersHeld held o (inode_of held o row t)
 
+-- no data block has more than one name
+abbrev pub NamesNoneTwice : Log → Type 0
+NamesNoneTwice log = (p : Place) → log.named p ≤ 1
+
 -- each data block of an object of this row that is held is one that a pointer of the row leads to
 abbrev pub DataIsNamed : (Place → Option Stored) → ℕ → Row → Type 0
 DataIsNamed held o row = (p : Place) → IsSome (of_kind Data o held p) → Contains (pointers_of held o row) (Some p)

@@ -5,17 +5,18 @@ ghost use Rattle.std.specs.List.{All, Contains};
 ghost use Rattle.s4_types.specs.Pointer.{Place};
 ghost use Rattle.s4_types.specs.declared.refusals.Refusal.TheVariants.{NoMemory};
 ghost use Rattle.block_log.specs.declared.kinds.BlockKind.TheVariants.{Journal, Data};
-ghost use Rattle.block_log.specs.Log.{of_kind};
+ghost use Rattle.block_log.specs.Log.{of_kind, without};
 ghost use Rattle.block_log.specs.Taken.{TakesPlaces};
 ghost use Rattle.journal_chain.specs.Chain.{OnlyJournalChanged};
 ghost use Rattle.time_read.specs.Rows.{IsRow, checkpoint_of};
-ghost use Rattle.version_store.specs.Store.{IsLed, HasNothing, sides_of, sides_told, pointers_kept, pointers_of};
+ghost use Rattle.version_store.specs.Store.{IsLed, HasNothing, NamesNoneTwice, sides_of, sides_told, pointers_kept, pointers_of};
 ghost use Rattle.version_store.specs.Replacing.{OnlyDataChanged, OtherObjectsStay};
 ghost use Rattle.version_store.specs.private.Dropping.{is_at, leads_to, is_among};
 
 use block_log::Blocks;
 use block_log::laws::{
-    a_drop_takes_no_place, no_change_takes_no_place, one_place_has_one_name, places_taken_add_up,
+    a_drop_takes_no_place, a_last_name_lets_a_block_go, no_change_takes_no_place,
+    one_place_has_one_name, places_taken_add_up,
 };
 use checkpoint::laws::a_checkpoint_has_its_blocks;
 use checkpoint::{drop_checkpoint, read_checkpoint};
@@ -106,22 +107,37 @@ pub(crate) fn places_told(
     places_of(alloc, told.as_slice())
 }
 
-/// Drops the block that a pointer leads to, if it leads to one and that isn't kept.
-fn drop_one<B: Blocks>(table: &mut B, pointer: Option<Ptr>, kept: &HashSet<Ptr>)
-    ensures held { (q : Place) → (B.log table.new).held q ≡ (if leads_to q (pointer ∷ []) && not (is_among q kept.now.keys) then None else (B.log table.old).held q) }
+/// Drops the block at a place, which is held no longer whatever it is for, since it had no second name.
+pub(crate) fn let_go<B: Blocks>(table: &mut B, place: Ptr)
+    requires { NamesNoneTwice (B.log table.old) }
+    ensures held { (B.log table.new).held ≡ without (B.log table.old).held place }
+    ensures once { NamesNoneTwice (B.log table.new) }
     ensures takes { TakesPlaces 0 (B.log table.old) (B.log table.new) }
 {
     a_drop_takes_no_place();
+    a_last_name_lets_a_block_go();
+    table.drop_block(place);
+}
+
+/// Drops the block that a pointer leads to, if it leads to one and that isn't kept.
+fn drop_one<B: Blocks>(table: &mut B, pointer: Option<Ptr>, kept: &HashSet<Ptr>)
+    requires { NamesNoneTwice (B.log table.old) }
+    ensures once { NamesNoneTwice (B.log table.new) }
+    ensures held { (q : Place) → (B.log table.new).held q ≡ (if leads_to q (pointer ∷ []) && not (is_among q kept.now.keys) then None else (B.log table.old).held q) }
+    ensures takes { TakesPlaces 0 (B.log table.old) (B.log table.new) }
+{
     no_change_takes_no_place();
     if let Some(place) = pointer {
         if !kept.contains(&place) {
-            table.drop_block(place);
+            let_go(table, place);
         }
     }
 }
 
 /// Drops each block that a pointer leads to, but for those that are kept.
 pub(crate) fn drop_unkept<B: Blocks>(table: &mut B, pointers: &[Option<Ptr>], kept: &HashSet<Ptr>)
+    requires { NamesNoneTwice (B.log table.old) }
+    ensures once { NamesNoneTwice (B.log table.new) }
     ensures held { (q : Place) → (B.log table.new).held q ≡ (if leads_to q pointers.now && not (is_among q kept.now.keys) then None else (B.log table.old).held q) }
     ensures takes { TakesPlaces 0 (B.log table.old) (B.log table.new) }
 {
@@ -183,7 +199,9 @@ pub(crate) fn drop_data<B: Blocks>(
     pointers: &[Option<Ptr>],
     kept: &HashSet<Ptr>,
 )
-    requires { All (IsLed (B.log table.old).held object) pointers.now }
+    requires led { All (IsLed (B.log table.old).held object) pointers.now }
+    requires once { NamesNoneTwice (B.log table.old) }
+    ensures once { NamesNoneTwice (B.log table.new) }
     ensures others { OnlyDataChanged object (B.log table.old).held (B.log table.new).held }
     ensures data { (p : Place) → of_kind Data object (B.log table.new).held p
         ≡ (if leads_to p pointers.now && not (is_among p kept.now.keys) then None else of_kind Data object (B.log table.old).held p) }
@@ -198,6 +216,7 @@ fn drop_journal<B: Blocks>(table: &mut B, object: ObjectId, row: &Row)
     requires { IsRow (B.log table.old).held object row.now }
     ensures gone { (p : Place) → of_kind Journal object (B.log table.new).held p ≡ None }
     ensures others { OnlyJournalChanged object (B.log table.old).held (B.log table.new).held }
+    ensures named { (B.log table.new).named ≡ (B.log table.old).named }
     ensures takes { TakesPlaces 0 (B.log table.old) (B.log table.new) }
 {
     a_row_tells_a_chain();
@@ -218,6 +237,8 @@ pub(crate) fn drop_all<B: Blocks>(
     requires row { IsRow (B.log table.old).held object row.now }
     requires led { All (IsLed (B.log table.old).held object) pointers.now }
     requires named { (p : Place) → IsSome (of_kind Data object (B.log table.old).held p) → Contains pointers.now (Some p) }
+    requires once { NamesNoneTwice (B.log table.old) }
+    ensures once { NamesNoneTwice (B.log table.new) }
     ensures nothing { HasNothing (B.log table.new).held object }
     ensures others { OtherObjectsStay object (B.log table.old).held (B.log table.new).held }
     ensures takes { TakesPlaces 0 (B.log table.old) (B.log table.new) }

@@ -62,8 +62,16 @@ impl<J: Naming> Blocks for NamedTable<J> {
         self.table.get_bytes(place, from, to, into)
     }
 
+    fn hold(&mut self, place: Ptr) {
+        self.table.hold(place);
+    }
+
     fn drop_block(&mut self, place: Ptr) {
         self.table.drop_block(place);
+    }
+
+    fn names(&self) {
+        self.table.names();
     }
 
     fn blocks_left(&self) -> usize {

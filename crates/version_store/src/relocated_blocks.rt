@@ -7,7 +7,7 @@ ghost use Rattle.time_read.specs.Orderly.{IsOrderly};
 ghost use Rattle.chain_rewriting.specs.CleaningLaws.{TellsWithin};
 ghost use Rattle.chain_rewriting.specs.Renaming.{renamed_entries, renamed_inode};
 ghost use Rattle.chain_rewriting.specs.Apart.{HasDistinctPlaces, IsNotNew};
-ghost use Rattle.version_store.specs.Store.{IsLed, pointers_of};
+ghost use Rattle.version_store.specs.Store.{IsLed, NamesNoneTwice, pointers_of};
 ghost use Rattle.version_store.specs.Relocating.{AreCopies, blocks_relocated};
 ghost use Rattle.version_store.specs.private.Relocating.{Relocates};
 
@@ -71,6 +71,8 @@ pub(crate) fn relocate_blocks<B: Blocks>(
     requires journal { IsJournalOf (B.log table.old).held object row.now journal.old }
     requires copies { AreCopies (B.log table.old).held object copies.now }
     requires room { blocks_relocated (B.log table.old).held object row.now copies.now ≤ length (B.log table.old).ahead }
+    requires once { NamesNoneTwice (B.log table.old) }
+    ensures once { NamesNoneTwice (B.log table.new) }
     ensures moved { Relocates (B.log table.old) object row.now copies.now result.row (B.log table.new) result.renaming }
     ensures entries { journal.new.entries.items ≡ renamed_entries result.renaming (entries_of (B.log table.old).held object row.now) }
 {

@@ -19,6 +19,7 @@ mod upkeep;
 
 use crate::laws::{an_object_has_an_inode_at_all_moments_or_at_none, the_present_stays};
 use block_log::Blocks;
+use block_log::laws::what_is_not_held_has_no_name;
 use codec::{Entry, Inode};
 use inode::laws::held_pointers_lead;
 use object_map::{ObjectMap, Row};
@@ -58,6 +59,7 @@ impl<B: Blocks> Model for Store<B> {
 
 impl<B: Blocks> Store<B> {
     /// A store without objects, over a table that holds no block; places of it that were taken and those ahead are fewer than 2^46.
+    #[tactic(auto, using(crate::proofs::Once::once_none))]
     pub fn new(alloc: Global, table: B) -> Self
         requires nothing { (p : Place) → (B.log table).held p ≡ None }
         requires bounded { (B.log table).spent + length (B.log table).ahead < 2 ^ 46 }
@@ -66,6 +68,8 @@ impl<B: Blocks> Store<B> {
         ensures log { B.log result.table ≡ B.log table }
         ensures latest { result.latest ≡ 0 }
     {
+        what_is_not_held_has_no_name();
+        table.names();
         Store {
             alloc,
             objects: ObjectMap::new(alloc),

@@ -19,6 +19,7 @@ use crate::costs::{bytes_of_entries, object_of};
 use crate::laws::{changes_begin_with_the_present, what_changes_rest_on};
 use crate::store::Store;
 use block_log::Blocks;
+use block_log::laws::what_is_not_held_has_no_name;
 use codec::{Attribute, Inode};
 use inode::{created, deleted, truncate, with_attribute, write};
 use object_map::Row;
@@ -179,6 +180,8 @@ impl<B: Blocks> Store<B> {
         ensures { IsTaken (fields_of B.log self.old) (Write object offset bytes.now) moment plan.now.inode (fields_of B.log self.new) }
     {
         what_changes_rest_on();
+        what_is_not_held_has_no_name();
+        self.table.names();
         let after = write(&mut self.table, object, &plan.inode, moment, offset, bytes);
         self.turn(object, plan, &after, moment);
     }
@@ -191,6 +194,8 @@ impl<B: Blocks> Store<B> {
         ensures { IsTaken (fields_of B.log self.old) (Truncate object size) moment plan.now.inode (fields_of B.log self.new) }
     {
         what_changes_rest_on();
+        what_is_not_held_has_no_name();
+        self.table.names();
         let after = truncate(&mut self.table, object, &plan.inode, moment, size as u32);
         self.turn(object, plan, &after, moment);
     }

@@ -3,7 +3,7 @@ ghost use Rattle.std.specs.Prelude.{◌≡◌, IfOk, IfErr};
 ghost use Rattle.std.specs.List.{All};
 ghost use Rattle.s4_types.specs.declared.refusals.Refusal.TheVariants.{NoMemory};
 ghost use Rattle.version_store.specs.Opening.{numbers_opened, rows_opened, NumbersAscend, FitsItsRow};
-ghost use Rattle.version_store.specs.Store.{fields_of, IsStore};
+ghost use Rattle.version_store.specs.Store.{fields_of, IsStore, NamesNoneTwice};
 
 use crate::opened::{OpenedObject, map_of};
 use crate::store::Store;
@@ -12,7 +12,8 @@ use s4_types::{Moment, Refusal};
 use std::alloc::Global;
 
 impl<B: Blocks> Store<B> {
-    /// A store of the objects whose blocks a table holds, as they were up to the moment of the last change.
+    /// A store of the objects whose blocks a table holds, as they were up to the moment of the last change. No data block has more
+    /// than one name in the table, since the store gives none a second one.
     ///
     /// NoMemory alone, where memory for the rows is refused; the table is let go then.
     pub fn from_parts(
@@ -26,6 +27,7 @@ impl<B: Blocks> Store<B> {
         requires ascending { NumbersAscend (numbers_opened objects.items) }
         requires beside { All (FitsItsRow (B.log table).held latest) objects.items }
         requires store { IsStore (record { rows = rows_opened objects.items; log = B.log table; latest = latest }) }
+        requires once { NamesNoneTwice (B.log table) }
         ensures rows { IfOk result (λ s. s.rows ≡ rows_opened objects.items) }
         ensures table { IfOk result (λ s. s.table ≡ table) }
         ensures latest { IfOk result (λ s. s.latest ≡ latest) }

@@ -1,6 +1,6 @@
 use Rattle.std.proofs.Common.{ℕ, IfOk, subst}
 use Rattle.checkpoint.specs.Held.{PutsCheckpoint}
-use Rattle.checkpoint.proofs.Blocks.{puts_checkpoint, puts_or_not}
+use Rattle.checkpoint.proofs.Blocks.{puts_checkpoint, names_stay, puts_or_not}
 use Rattle.checkpoint.proofs.calls.write_checkpoint.Goals as goal
 
 pub returns-clause-growth : goal.returns-clause-growth
@@ -13,3 +13,7 @@ returns-clause-growth g c =
 pub returns-clause-answer : goal.returns-clause-answer
 returns-clause-answer g c =
     puts_or_not c.an_append_puts_one_block.ensures (g.B.Blocks.log c.args.table.now) (g.B.Blocks.log c.append.new.self) c.object.result c.encode_checkpoint-block.result c.args.checkpoint.now.inode c.append.result c.append.ensures.appended c.append.ensures.fresh c.append.ensures.full
+
+pub returns-clause-named : goal.returns-clause-named
+returns-clause-named g c =
+    names_stay c.an_append_puts_one_block.ensures (g.B.Blocks.log c.args.table.now) (g.B.Blocks.log c.append.new.self) c.object.result c.encode_checkpoint-block.result c.append.result c.append.ensures.appended c.append.ensures.fresh c.append.ensures.full

@@ -1,4 +1,4 @@
-use Rattle.std.proofs.Common.{◌+◌, subst, drop}
+use Rattle.std.proofs.Common.{◌+◌, ◌∙◌, subst, drop}
 use Rattle.std.specs.List.{flat_map}
 use Rattle.std.specs.Option.{option_to_list}
 use Rattle.journal_chain.specs.Writing.{Finished}
@@ -18,5 +18,8 @@ loop-place-preserved g c =
       others = λ o head entries f. only-trans o first now later (c.loop-place.invariant.others o head entries f)
           (c.drop_one.ensures.others o rest head entries
           (subst (λ l. Finished now o l head entries) (next_place c.args.places.now c.loop-place.place-index c.place-item.result c.loop-place-test.true c.place-item.is) (c.loop-place.invariant.finished o head entries f)));
+      named = λ o head entries f. c.drop_one.ensures.named o rest head entries
+          (subst (λ l. Finished now o l head entries) (next_place c.args.places.now c.loop-place.place-index c.place-item.result c.loop-place-test.true c.place-item.is) (c.loop-place.invariant.finished o head entries f))
+          ∙ c.loop-place.invariant.named o head entries f;
       takes = c.places_taken_add_up.ensures 0 0 (g.B.Blocks.log c.args.table.now) (g.B.Blocks.log c.loop-place.table) (g.B.Blocks.log c.drop_one.new.table) c.loop-place.invariant.takes c.drop_one.ensures.takes;
     }

@@ -23,6 +23,7 @@ loop-entry-preserved g c =
           subst (λ (o : ℕ). Unfinished then.held o stale c.take.new.block (before ++ take (i + 1) entries)) c.loop-entry.invariant.object
           (subst (λ (l : List EntryFields). Unfinished then.held block.object stale c.take.new.block l) more (c.take.ensures.unfinished stale (before ++ take i entries) taken));
       others = search rules;
+      named = c.take.ensures.named ∙ c.loop-entry.invariant.named;
       takes = λ after rest. c.loop-entry.invariant.takes after
           (takes_more filled later entries i entry now then after c.places_taken_add_up.ensures c.loop-entry-test.true c.entry-item.is c.take.ensures.filled c.take.ensures.takes rest);
       room = room_more filled later entries i entry now.ahead then.ahead c.loop-entry-test.true c.entry-item.is c.take.ensures.filled c.take.ensures.takes.ahead c.loop-entry.invariant.room;

@@ -16,6 +16,7 @@ invariant-loop-entry g l =
       unfinished : (stale : List Place) (before : List EntryFields) → Unfinished (log l.initial.table).held o stale l.initial.block before
           → Unfinished (log l.table).held o stale l.block (before ++ take l.entry-index l.entries);
       others : OnlyJournalChanged o (log l.initial.table).held (log l.table).held;
+      named : (log l.table).named ≡ (log l.initial.table).named;
       takes : (after : Log) → TakesPlaces (breaks (entries_length l.block.entries) (map entry_length (drop l.entry-index l.entries))) (log l.table) after
           → TakesPlaces (breaks (entries_length l.initial.block.entries) (map entry_length l.entries)) (log l.initial.table) after;
       room : breaks (entries_length l.block.entries) (map entry_length (drop l.entry-index l.entries)) ≤ length (log l.table).ahead;

@@ -14,6 +14,7 @@ loop-entry-init g c =
     record {
       unfinished = λ stale before u. subst (λ (l : List EntryFields). Unfinished log.held c.args.block.now.object stale c.args.block.now l) (sym (append-nil before)) u;
       others = search rules;
+      named = refl;
       takes = λ after t. subst (λ (l : List EntryFields). TakesPlaces (breaks filled (map entry_length l)) log after) gives t;
       room = subst (λ (l : List EntryFields). breaks filled (map entry_length l) ≤ length log.ahead) (sym gives) c.requires.room;
       whole = gives;
@@ -43,6 +44,7 @@ loop-entry-preserved g c =
           subst (λ (o : ℕ). Unfinished then.held o stale c.take.new.block (before ++ (so_far ++ entry ∷ []))) c.loop-entry.invariant.object
           (subst (λ (l : List EntryFields). Unfinished then.held block.object stale c.take.new.block l) more (c.take.ensures.unfinished stale (before ++ so_far) taken));
       others = search rules;
+      named = c.take.ensures.named ∙ c.loop-entry.invariant.named;
       takes = λ after others. c.loop-entry.invariant.takes after
           (takes_next filled later left rest entry now then after c.places_taken_add_up.ensures c.in-Some.ensures.steps c.take.ensures.filled c.take.ensures.takes others);
       room = room_next filled later left rest entry now.ahead then.ahead c.in-Some.ensures.steps c.take.ensures.filled c.take.ensures.takes.ahead c.loop-entry.invariant.room;

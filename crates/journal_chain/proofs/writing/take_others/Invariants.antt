@@ -16,6 +16,7 @@ invariant-loop-entry g l =
       unfinished : (stale : List Place) (before : List EntryFields) → Unfinished (log l.initial.table).held o stale l.initial.block before
           → Unfinished (log l.table).held o stale l.block (before ++ l.yielded);
       others : OnlyJournalChanged o (log l.initial.table).held (log l.table).held;
+      named : (log l.table).named ≡ (log l.initial.table).named;
       takes : (after : Log) → TakesPlaces (breaks (entries_length l.block.entries) (map entry_length l.entry-iterator)) (log l.table) after
           → TakesPlaces (breaks (entries_length l.initial.block.entries) (map entry_length l.fn.others)) (log l.initial.table) after;
       room : breaks (entries_length l.block.entries) (map entry_length l.entry-iterator) ≤ length (log l.table).ahead;

@@ -48,4 +48,5 @@ returns g c =
       fields = search rules;
       others = search rules;
       takes = search rules;
+      named = search rules;
     }

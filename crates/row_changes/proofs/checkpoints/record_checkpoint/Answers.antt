@@ -1,4 +1,4 @@
-use Rattle.std.proofs.Common.{rules}
+use Rattle.std.proofs.Common.{rules, ◌∙◌}
 use Rattle.checkpoint.specs.Held.{checkpoint_blocks}
 use Rattle.row_changes.proofs.Places.{CheckpointLaws, Put, older_there, older_still, no_journal_yet, moved, put_only}
 use Rattle.row_changes.proofs.RewrittenBlocks.{taken_first}
@@ -45,6 +45,7 @@ returns g c =
       some = search rules;
       others = put_only log.held between.held later.held o place c.in_ok-place.ensures.growth dropped.others;
       takes = taken_first log between later (checkpoint_blocks inode) c.places_taken_add_up.ensures c.in_ok-place.ensures.takes c.drop_checkpoint.ensures.takes;
+      named = c.drop_checkpoint.ensures.named ∙ c.put.ensures.named;
       answer = search rules;
       unchanged = search rules;
     }

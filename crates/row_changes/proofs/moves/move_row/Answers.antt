@@ -57,6 +57,7 @@ returns g c =
       some = s.some;
       others = metadata_alone log.held between.held after.held o c.move_checkpoint-checkpoint.ensures.others c.move_chain-chain.ensures.others;
       takes = c.places_taken_add_up.ensures first then log between after c.move_checkpoint-checkpoint.ensures.takes c.move_chain-chain.ensures.takes;
+      named = c.move_chain-chain.ensures.named ∙ c.move_checkpoint-checkpoint.ensures.named;
       journal = λ p there. among_later first then log between p c.move_checkpoint-checkpoint.ensures.takes (c.move_chain-chain.ensures.places p there);
       checkpoints = λ p there. among_first first then log.ahead p (c.move_checkpoint-checkpoint.ensures.places p (subst (λ (v : _). IsSome (v p)) same there));
       answer = search rules;

@@ -1,3 +1,4 @@
+use Rattle.std.proofs.Common.{◌∙◌}
 use Rattle.checkpoint.specs.Held.{checkpoint_blocks}
 use Rattle.row_changes.proofs.Places.{CheckpointLaws, Put, older_there, older_still, no_journal_yet, told_on, new_alone, new_among, put_only}
 use Rattle.row_changes.proofs.RewrittenBlocks.{taken_first}
@@ -51,4 +52,5 @@ returns g c =
       places = new_among (checkpoint_blocks inode) log between after o place row.checkpoint s d c.put_ahead-place.ensures.takes;
       others = put_only log.held between.held after.held o place c.put_ahead-place.ensures.growth d.others;
       takes = taken_first log between after (checkpoint_blocks inode) c.places_taken_add_up.ensures c.put_ahead-place.ensures.takes c.drop_checkpoint.ensures.takes;
+      named = c.drop_checkpoint.ensures.named ∙ c.put_ahead-place.ensures.named;
     }

@@ -1,4 +1,4 @@
-use Rattle.std.proofs.Common.{refl, sym, subst, rules, List}
+use Rattle.std.proofs.Common.{refl, sym, subst, ◌∙◌, rules, List}
 use Rattle.block_log.specs.declared.kinds.BlockKind.TheVariants.{Journal}
 use Rattle.codec.specs.Entry.{EntryFields}
 use Rattle.time_read.specs.Rows.{chain_of, entries_of}
@@ -102,6 +102,7 @@ returns g c =
       some = search rules;
       others = metadata_only log.held between.held chained.held after.held o place row.checkpoint s d;
       takes = taken_together log between chained after (checkpoint_blocks inode) (whole_blocks entries) c.places_taken_add_up.ensures c.put_ahead-place.ensures.takes c.move_chain-chain.ensures.takes c.drop_checkpoint.ensures.takes;
+      named = c.drop_checkpoint.ensures.named ∙ c.move_chain-chain.ensures.named ∙ c.put_ahead-place.ensures.named;
       answer = search rules;
       unchanged = search rules;
     }

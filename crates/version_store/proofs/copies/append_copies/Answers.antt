@@ -18,8 +18,11 @@ loop-copy-init g c =
     let log = g.B.Blocks.log c.args.table.now in
     let o = c.args.object in
     let copies = c.args.copies.now in
-    subst (λ (r : RenamingFields). Appending o copies log log r copies 0) (sym c.frame_of-renaming.ensures)
-    (begun c.moves_are_put_in_one_by_one.ensures.none c.moves_are_put_in_one_by_one.ensures.none_distinct o copies log (full copies) c.requires.copies)
+    record {
+      appending = subst (λ (r : RenamingFields). Appending o copies log log r copies 0) (sym c.frame_of-renaming.ensures)
+          (begun c.moves_are_put_in_one_by_one.ensures.none c.moves_are_put_in_one_by_one.ensures.none_distinct o copies log (full copies) c.requires.copies);
+      once = c.requires.once;
+    }
 
 pub loop-copy-preserved : goal.loop-copy-preserved
 loop-copy-preserved g c =
@@ -30,5 +33,8 @@ loop-copy-preserved g c =
     let copy = c.copy-item.result in
     let rest = drop (i + 1) copies in
     let split = drop_more copies i copy c.loop-copy-test.true ∙ ap (λ (x : CopiedBlock). x ∷ rest) (sym c.copy-item.is) in
-    c.append_copy.ensures copies rest i (log c.args.table.now) (i, c.loop-copy-test.true, sym c.copy-item.is)
-    (subst (λ (left : List CopiedBlock). Appending o copies (log c.args.table.now) (log c.loop-copy.table) c.loop-copy.renaming left i) split c.loop-copy.invariant)
+    record {
+      appending = c.append_copy.ensures.appending copies rest i (log c.args.table.now) (i, c.loop-copy-test.true, sym c.copy-item.is)
+          (subst (λ (left : List CopiedBlock). Appending o copies (log c.args.table.now) (log c.loop-copy.table) c.loop-copy.renaming left i) split c.loop-copy.invariant.appending);
+      once = c.append_copy.ensures.once;
+    }

@@ -3,10 +3,20 @@ use Rattle.inode.specs.Growth.{data_block}
 use Rattle.chain_rewriting.specs.Renaming.{RenamingFields, with_move}
 use Rattle.version_store.specs.private.Relocating.{Appending}
 use Rattle.version_store.proofs.Appending.{one_copied}
+use Rattle.version_store.proofs.Once.{once_put}
 use Rattle.version_store.proofs.copies.append_copy.Goals as goal
 
-pub returns : goal.returns
-returns g c = λ copies rest count before among a.
+pub returns-clause-once : goal.returns-clause-once
+returns-clause-once g c =
+    let log = g.B.Blocks.log in
+    let now = log c.args.table.now in
+    let after = log c.append.new.self in
+    let block = data_block c.args.object c.args.copy.now.bytes in
+    once_put c.what_is_not_held_has_no_name.ensures c.one_place_has_one_name.ensures now after c.args.object c.args.copy.now.bytes c.in-Ok.place
+    (c.an_append_puts_one_block.ensures now after block c.in-Ok.place c.in-Ok.ensures.appended c.in-Ok.ensures.fresh) c.names.ensures c.requires.once
+
+pub returns-clause-appending : goal.returns-clause-appending
+returns-clause-appending g c = λ copies rest count before among a.
     let log = g.B.Blocks.log in
     let o = c.args.object in
     let copy = c.args.copy.now in

@@ -1,4 +1,6 @@
+use Rattle.std.proofs.Common.{◌∙◌}
 use Rattle.version_store.proofs.Dropping.{checkpoint_stands, checkpoint_gone, data_leads, nothing_left, others_left}
+use Rattle.version_store.proofs.Once.{once_stays}
 use Rattle.version_store.proofs.data_blocks.drop_all.Goals as goal
 
 pub drop_checkpoint-requires : goal.drop_checkpoint-requires
@@ -7,9 +9,11 @@ drop_checkpoint-requires g c = record {
 }
 
 pub drop_data-requires : goal.drop_data-requires
-drop_data-requires g c =
-    data_leads c.args.object (g.B.Blocks.log c.args.table.now).held (g.B.Blocks.log c.drop_journal.new.table).held (g.B.Blocks.log c.drop_checkpoint.new.table).held c.args.pointers.now
-    c.drop_journal.ensures.others c.drop_checkpoint.ensures.dropped.others c.requires.led
+drop_data-requires g c = record {
+  led = data_leads c.args.object (g.B.Blocks.log c.args.table.now).held (g.B.Blocks.log c.drop_journal.new.table).held (g.B.Blocks.log c.drop_checkpoint.new.table).held c.args.pointers.now
+      c.drop_journal.ensures.others c.drop_checkpoint.ensures.dropped.others c.requires.led;
+  once = once_stays (g.B.Blocks.log c.args.table.now) (g.B.Blocks.log c.drop_checkpoint.new.table) (c.drop_checkpoint.ensures.named ∙ c.drop_journal.ensures.named) c.requires.once;
+}
 
 pub returns-clause-nothing : goal.returns-clause-nothing
 returns-clause-nothing g c =

@@ -1,6 +1,7 @@
 use Rattle.version_store.proofs.Relocated.{Moved, relocates}
 use Rattle.version_store.proofs.RelocatedBlocks.{Dropped, same_blocks}
 use Rattle.version_store.proofs.Spending.{sum_stays}
+use Rattle.version_store.proofs.Once.{once_stays}
 use Rattle.std.proofs.Common.{List, Option, ◌≡◌, ◌+◌, ◌<◌, ◌≤◌, length, MatchResult, option_map, option_copied, refl, sym, subst, ap, ◌∙◌, arith}
 use Rattle.s4_types.specs.declared.refusals.Refusal.TheVariants.{NoRoom}
 use Rattle.block_log.specs.Taken.{TakesPlaces}
@@ -20,13 +21,13 @@ pub rename-requires-clause-apart : goal.rename-requires-clause-apart
 rename-requires-clause-apart g c =
     let held = (g.B.Blocks.log c.args.table.now).held in
     let r = c.append_copies-renaming.result in
-    let a = c.append_copies-renaming.ensures in
+    let a = c.append_copies-renaming.ensures.appending in
     let apart = told_apart c.what_a_chain_tells.ensures.listed c.a_test_tells_a_renaming_apart.ensures.test held c.args.object c.args.row.now r a.distinct a.fresh c.requires.led in
     subst (λ (es : List EntryFields). AllByRecursion (TellsWithin (IsNotNew r)) es) (sym c.requires.journal.entries) apart.told.sides
 
 pub move_row-requires-clause-row : goal.move_row-requires-clause-row
 move_row-requires-clause-row g c =
-    let a = c.append_copies-renaming.ensures in
+    let a = c.append_copies-renaming.ensures.appending in
     c.a_row_is_its_own_blocks.ensures.row (g.B.Blocks.log c.args.table.now).held (g.B.Blocks.log c.append_copies-renaming.new.table).held c.args.object c.args.row.now (a.others Journal c.args.object refl) (a.others Checkpoint c.args.object refl) c.requires.row
 
 pub move_row-requires-clause-tell : goal.move_row-requires-clause-tell
@@ -94,12 +95,16 @@ returns-clause-moved g c =
     let d : Dropped before between moved later o copies r = record {
       one = c.one_place_has_one_name.ensures;
       are = c.requires.copies;
-      appended = c.append_copies-renaming.ensures;
+      appended = c.append_copies-renaming.ensures.appending;
       metadata = c.in-Ok.ensures.others;
       dropped = c.drop_copies.ensures.held;
     } in
     relocates laws c.renamed_entries_stay_in_order.ensures.order c.a_renamed_chain_takes_as_many_bytes.ensures.each c.a_checkpoint_takes_its_blocks.ensures.holes c.a_row_is_its_own_blocks.ensures.row c.a_row_is_its_own_blocks.ensures.inode c.an_orderly_row_stays.ensures.blocks c.places_taken_add_up.ensures
     before between moved later o row next copies r c.requires.row m d c.drop_copies.ensures.takes
+
+pub drop_copies-requires : goal.drop_copies-requires
+drop_copies-requires g c =
+    once_stays (g.B.Blocks.log c.append_copies-renaming.new.table) (g.B.Blocks.log c.move_row.new.table) c.move_row.ensures.named c.append_copies-renaming.ensures.once
 
 -- there is room, so the checkpoint and the journal are written
 pub unreachable-requires : goal.unreachable-requires
@@ -118,7 +123,7 @@ unreachable-requires g c =
     let same : n ≡ row_blocks before.held o row =
     ap (λ (i : Option Inode). moved_blocks i c.as_slice.result.now) kept ∙ ap (moved_blocks (kept_renamed r (checkpoint_of before.held o row))) entries
     ∙ same_blocks c.a_renamed_chain_takes_as_many_bytes.ensures.each c.a_checkpoint_takes_its_blocks.ensures.holes r (checkpoint_of before.held o row) (entries_of before.held o row) in
-    let takes : TakesPlaces count before between = c.append_copies-renaming.ensures.takes in
+    let takes : TakesPlaces count before between = c.append_copies-renaming.ensures.appending.takes in
     let room : count + row_blocks before.held o row ≤ length before.ahead = c.requires.room in
     let sum = sum_stays count before between takes (omega (arith, room)) in
     let spent : between.spent ≡ count + before.spent = takes.spent in

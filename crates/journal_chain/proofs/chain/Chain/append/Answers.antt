@@ -6,7 +6,7 @@ use Rattle.codec.specs.Entry.{entry_length, entries_length}
 use Rattle.journal_chain.specs.Sizes.{filled_with, breaks}
 use Rattle.journal_chain.specs.Chain.{entries_held}
 use Rattle.journal_chain.specs.Writing.{reopened}
-use Rattle.journal_chain.proofs.Calls.{Pushed, pushed, pushed_holds, takes_last}
+use Rattle.journal_chain.proofs.Calls.{Pushed, pushed, pushed_names, pushed_holds, takes_last}
 use Rattle.journal_chain.proofs.chain.Chain.append.Goals as goal
 
 pub returns-clause-holds : goal.returns-clause-holds
@@ -44,6 +44,24 @@ returns-clause-others g c =
     (c.reopened-stale.ensures.value ∙ ap (reopened chain) c.byte_count.ensures.exact)
     c.take_others.ensures.unfinished c.take_others.ensures.others c.take_others.ensures.object c.finish-head.ensures.finished c.finish-head.ensures.others in
     p.others
+
+pub returns-clause-named : goal.returns-clause-named
+returns-clause-named g c =
+    let chain = c.args.self.now in
+    let log = g.B.Blocks.log c.args.table.now in
+    let log1 = g.B.Blocks.log c.begun-block.new.table in
+    let log2 = g.B.Blocks.log c.take_others.new.table in
+    let log3 = g.B.Blocks.log c.finish-head.new.table in
+    let old = entries_held log.held chain in
+    let first = c.args.first.now in
+    let later = c.args.later in
+    let p : Pushed log.held log3.held log2.held chain.object (option_to_list c.reopened-stale.result) c.take_others.new.block c.finish-head.result (old ++ first ∷ later) =
+    pushed log log1 log2 log3 chain old first later c.begun-block.result c.take_others.new.block c.finish-head.result c.reopened-stale.result
+    c.begun-block.ensures.same c.begun-block.ensures.unfinished c.begun-block.ensures.object
+    (c.reopened-stale.ensures.value ∙ ap (reopened chain) c.byte_count.ensures.exact)
+    c.take_others.ensures.unfinished c.take_others.ensures.others c.take_others.ensures.object c.finish-head.ensures.finished c.finish-head.ensures.others in
+    pushed_names log log1 log2 log3 chain c.take_others.new.block c.finish-head.result c.reopened-stale.result (old ++ first ∷ later)
+    c.begun-block.ensures.same c.take_others.ensures.named (c.take_others.ensures.object ∙ c.begun-block.ensures.object) c.finish-head.ensures.named p
 
 pub returns-clause-takes : goal.returns-clause-takes
 returns-clause-takes g c =

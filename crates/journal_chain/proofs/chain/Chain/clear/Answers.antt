@@ -1,7 +1,7 @@
 use Rattle.std.proofs.Common.{◌∙◌, [], ℕ, None, sym, subst}
 use Rattle.journal_chain.specs.Chain.{ChainFields, Holds, entries_held}
 use Rattle.journal_chain.specs.Writing.{Finished}
-use Rattle.journal_chain.proofs.Afresh.{Replaced, cleared, cleared_holds, places_there}
+use Rattle.journal_chain.proofs.Afresh.{Replaced, cleared, cleared_names, cleared_holds, places_there}
 use Rattle.journal_chain.proofs.chain.Chain.clear.Goals as goal
 
 pub places-stale-requires : goal.places-stale-requires
@@ -33,3 +33,10 @@ returns-clause-others g c =
     cleared log (g.B.Blocks.log c.places-stale.new.table) log3 chain (entries_held log.held chain) o c.head.result c.as_slice.result.now
     c.places-stale.ensures.same c.requires c.object-object.ensures.object c.head.ensures (c.as_slice.ensures.value ∙ c.places-stale.ensures.places) c.drop_all.ensures.finished c.drop_all.ensures.others in
     r.others
+
+pub returns-clause-named : goal.returns-clause-named
+returns-clause-named g c =
+    let log = g.B.Blocks.log c.args.table.now in
+    let chain = c.args.self.now in
+    cleared_names log (g.B.Blocks.log c.places-stale.new.table) (g.B.Blocks.log c.drop_all.new.table) chain (entries_held log.held chain) c.object-object.result c.head.result c.as_slice.result.now
+    c.places-stale.ensures.same c.requires c.object-object.ensures.object c.head.ensures (c.as_slice.ensures.value ∙ c.places-stale.ensures.places) c.drop_all.ensures.named

@@ -1,6 +1,6 @@
 use Rattle.std.proofs.Common.{◌∙◌, ◌∷◌}
 use Rattle.journal_chain.specs.Chain.{entries_held}
-use Rattle.journal_chain.proofs.Afresh.{Replaced, replaced, replaced_holds, places_there}
+use Rattle.journal_chain.proofs.Afresh.{Replaced, replaced, replaced_names, replaced_holds, places_there}
 use Rattle.journal_chain.proofs.chain.Chain.replace.Goals as goal
 
 pub places-stale-requires : goal.places-stale-requires
@@ -32,3 +32,12 @@ returns-clause-others g c =
     c.places-stale.ensures.same c.requires.held c.object.ensures.object c.head.ensures (c.as_slice.ensures.value ∙ c.places-stale.ensures.places)
     c.afresh-chain.ensures.finished c.afresh-chain.ensures.filled c.afresh-chain.ensures.others c.drop_all.ensures.finished c.drop_all.ensures.others in
     r.others
+
+pub returns-clause-named : goal.returns-clause-named
+returns-clause-named g c =
+    let log = g.B.Blocks.log c.args.table.now in
+    let chain = c.args.self.now in
+    let entries = c.args.first.now ∷ c.args.later.now in
+    replaced_names log (g.B.Blocks.log c.places-stale.new.table) (g.B.Blocks.log c.afresh-chain.new.table) (g.B.Blocks.log c.drop_all.new.table) chain c.afresh-chain.result.head (entries_held log.held chain) entries c.object.result c.head.result c.as_slice.result.now
+    c.places-stale.ensures.same c.requires.held c.object.ensures.object c.head.ensures (c.as_slice.ensures.value ∙ c.places-stale.ensures.places)
+    c.afresh-chain.ensures.finished c.afresh-chain.ensures.named c.drop_all.ensures.named

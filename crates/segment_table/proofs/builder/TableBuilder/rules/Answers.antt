@@ -1,5 +1,6 @@
-use Rattle.std.proofs.Common.{rules, length, reverse, refl, sym, ap, subst}
-use Rattle.segment_table.specs.Table.{Table}
+use Rattle.std.proofs.Common.{rules, ◌≤◌, length, reverse, refl, sym, ap, subst}
+use Rattle.s4_types.specs.Pointer.{Place}
+use Rattle.segment_table.specs.Table.{Table, named_at}
 use Rattle.segment_word.specs.AcceptHandles.{no_table}
 use Rattle.segment_table.specs.Used.{HasWholeBlocks}
 use Rattle.segment_table.specs.Rules.{HasFramesInOrder}
@@ -7,7 +8,7 @@ use Rattle.segment_table.specs.Room.{can_open, numbers}
 use Rattle.segment_table.specs.Building.{unnamed}
 use Rattle.segment_table.proofs.Reading.{sound_whole, places_few}
 use Rattle.segment_table.proofs.UsedBlocks.{all_whole, all_used}
-use Rattle.segment_table.proofs.Unshared.{sound_table}
+use Rattle.segment_table.proofs.Unshared.{sound_table, named_once}
 use Rattle.segment_table.proofs.builder.TableBuilder.rules.Goals as goal
 
 pub returns-clause-used_whole : goal.returns-clause-used_whole
@@ -34,3 +35,9 @@ returns-clause-frames c =
       sizes = (roles.most, roles.counted);
       bounded = places_few t free current sound;
     })
+
+pub returns-clause-once : goal.returns-clause-once
+returns-clause-once c =
+    let t : Table = unnamed c.self.inside.words c.self.inside.slots.items in
+    let O : Table → Type 0 = λ x. (p : Place) → named_at x p ≤ 1 in
+    subst O c.self.view_is (named_once t c.self.invariant.once)

@@ -49,7 +49,7 @@ pub returns-clause-put : goal.returns-clause-put
 returns-clause-put c =
     let old : Table = record { seat = c.self.inside.seat; slots = c.self.inside.slots.items } in
     let new : Table = record { seat = c.store.new.self; slots = slice_set c.self.inside.slots.items c.args.frame c.push.new.self } in
-    let slot : Slot = record { role = c.args.role; held = true } in
+    let slot : Slot = record { role = c.args.role; named = 1 } in
     let at : AtFilling old c.args.frame = at_filling old c.args.self.now c.self.inside.free.items c.self.inside.current c.args.frame c.self.view_is c.self.invariant.0 c.requires.filling in
     let P : Table → Type 0 = λ t. IsPut c.args.frame slot c.args.block.now t new in
     subst P c.self.view_is (put_made old new c.args.frame c.len-next.result c.args.role c.args.block.now c.index.result.now c.index_mut.result.now c.push.new.self at c.len-next.ensures.count c.index.ensures c.index_mut.ensures.value c.push.ensures c.store.ensures.changed c.store.ensures.stored c.store.ensures.others refl)
@@ -64,7 +64,7 @@ pub invariant_of-self : goal.invariant_of-self
 invariant_of-self c =
     let old : Table = record { seat = c.self.inside.seat; slots = c.self.inside.slots.items } in
     let new : Table = record { seat = c.store.new.self; slots = slice_set c.self.inside.slots.items c.args.frame c.push.new.self } in
-    let slot : Slot = record { role = c.args.role; held = true } in
+    let slot : Slot = record { role = c.args.role; named = 1 } in
     let at : AtFilling old c.args.frame = at_filling old c.args.self.now c.self.inside.free.items c.self.inside.current c.args.frame c.self.view_is c.self.invariant.0 c.requires.filling in
     let R : Table → Type 0 = λ t. length (slots_at t.slots c.args.frame) < 15 in
     let put : IsPut c.args.frame slot c.args.block.now old new =

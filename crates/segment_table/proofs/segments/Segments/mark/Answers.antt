@@ -4,6 +4,7 @@ use Rattle.std.proofs.lemmas.List.{get_or_read, length-set}
 use Rattle.segment_word.specs.Frames.{Draining, is_sealed}
 use Rattle.segment_word.specs.Layout.{frame_at}
 use Rattle.segment_word.specs.Handles.{Drive}
+use Rattle.segment_table.specs.Slots.{is_held}
 use Rattle.segment_table.specs.declared.slots.Slot.{Slot}
 use Rattle.segment_table.specs.Table.{Table, slots_at}
 use Rattle.segment_table.specs.Room.{log_of}
@@ -26,7 +27,7 @@ returns-then-any_held c =
       answer = (
         refl,
         λ can.
-            let none : c.any_held.result ≡ false = c.any_held.ensures ∙ ap (list_any (λ (slot : Slot). slot.held)) read ∙ none_is_held given f can.1 in
+            let none : c.any_held.result ≡ false = c.any_held.ensures ∙ ap (list_any (λ (slot : Slot). is_held slot)) read ∙ none_is_held given f can.1 in
             absurd (cc),
       );
       log = search rules;
@@ -43,8 +44,8 @@ invariant_of-self c =
     let facts : (f < length given.seat.frames) × (is_sealed (frame_at given.seat.frames f).phase ≡ true) = (search rules, search rules) in
     let within : f < length old.slots = (let I : Table → Type 0 = λ t. f < length t.seat.frames in let low : I old = subst I (sym same) facts.0 in omega (arith, c.self.invariant.0.counted)) in
     let read : c.index.result.now ≡ slots_at given.slots f = get_or_read old.slots f c.index.result.now within c.index.ensures [] ∙ ap (λ (t : Table). slots_at t.slots f) same in
-    let none : list_any (λ (slot : Slot). slot.held) (slots_at given.slots f) ≡ false = ap (list_any (λ (slot : Slot). slot.held)) (sym read) ∙ sym c.any_held.ensures ∙ (let e : c.any_held.result ≡ false = search rules in e) in
-    let F : Table → Type 0 = λ t. (f < length t.seat.frames) × (is_sealed (frame_at t.seat.frames f).phase ≡ true) × (list_any (λ (slot : Slot). slot.held) (slots_at t.slots f) ≡ false) in
+    let none : list_any (λ (slot : Slot). is_held slot) (slots_at given.slots f) ≡ false = ap (list_any (λ (slot : Slot). is_held slot)) (sym read) ∙ sym c.any_held.ensures ∙ (let e : c.any_held.result ≡ false = search rules in e) in
+    let F : Table → Type 0 = λ t. (f < length t.seat.frames) × (is_sealed (frame_at t.seat.frames f).phase ≡ true) × (list_any (λ (slot : Slot). is_held slot) (slots_at t.slots f) ≡ false) in
     let all : F old = subst F (sym same) (facts.0, facts.1, none) in
     let made : MarkMade f old new c.self.inside.free.items c.self.inside.current = mark_made old new c.self.inside.free.items c.self.inside.current f c.self.invariant.0 all.0 all.1 all.2 c.mark.ensures refl in
     (made.sound, omega (arith, ap (λ (d : Drive). length d.frames) made.marked.seat, length-set old.seat.frames f (record (frame_at old.seat.frames f) { phase = Draining }), c.self.invariant.1))
@@ -59,8 +60,8 @@ returns c =
     let facts : (f < length given.seat.frames) × (is_sealed (frame_at given.seat.frames f).phase ≡ true) = (search rules, search rules) in
     let within : f < length old.slots = (let I : Table → Type 0 = λ t. f < length t.seat.frames in let low : I old = subst I (sym same) facts.0 in omega (arith, c.self.invariant.0.counted)) in
     let read : c.index.result.now ≡ slots_at given.slots f = get_or_read old.slots f c.index.result.now within c.index.ensures [] ∙ ap (λ (t : Table). slots_at t.slots f) same in
-    let none : list_any (λ (slot : Slot). slot.held) (slots_at given.slots f) ≡ false = ap (list_any (λ (slot : Slot). slot.held)) (sym read) ∙ sym c.any_held.ensures ∙ (let e : c.any_held.result ≡ false = search rules in e) in
-    let F : Table → Type 0 = λ t. (f < length t.seat.frames) × (is_sealed (frame_at t.seat.frames f).phase ≡ true) × (list_any (λ (slot : Slot). slot.held) (slots_at t.slots f) ≡ false) in
+    let none : list_any (λ (slot : Slot). is_held slot) (slots_at given.slots f) ≡ false = ap (list_any (λ (slot : Slot). is_held slot)) (sym read) ∙ sym c.any_held.ensures ∙ (let e : c.any_held.result ≡ false = search rules in e) in
+    let F : Table → Type 0 = λ t. (f < length t.seat.frames) × (is_sealed (frame_at t.seat.frames f).phase ≡ true) × (list_any (λ (slot : Slot). is_held slot) (slots_at t.slots f) ≡ false) in
     let all : F old = subst F (sym same) (facts.0, facts.1, none) in
     let made : MarkMade f old new c.self.inside.free.items c.self.inside.current = mark_made old new c.self.inside.free.items c.self.inside.current f c.self.invariant.0 all.0 all.1 all.2 c.mark.ensures refl in
     let L : Table → Type 0 = λ t. log_of new ≡ log_of t in

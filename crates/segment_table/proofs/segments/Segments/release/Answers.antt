@@ -83,6 +83,7 @@ returns-in_err-release c =
     record {
       released = search rules;
       held = search rules;
+      named = search rules;
       spent = search rules;
       again = search rules;
       retired = search rules;

@@ -1,11 +1,12 @@
 use Rattle.std.proofs.Common.{◌≡◌, ◌++◌, [], List, refl, subst, arith}
 use Rattle.std.proofs.lemmas.List.{get_or_read}
 use Rattle.segment_table.specs.declared.slots.Slot.{Slot}
-use Rattle.segment_table.specs.Table.{Table, slots_at, held_at}
+use Rattle.segment_table.specs.Table.{Table, slots_at, held_at, named_at}
 use Rattle.segment_table.specs.Room.{rest_of, places_ahead, places_spent}
 use Rattle.segment_table.specs.Changes.{IsSealed}
-use Rattle.segment_table.proofs.Alone.{length-alone}
+use Rattle.segment_table.proofs.Alone.{length-alone, generation_alone}
 use Rattle.segment_table.proofs.Sound.{sound_sealed, sealed_filling}
+use Rattle.segment_table.proofs.Naming.{named_same}
 use Rattle.segment_table.proofs.Spending.{spent_kept}
 use Rattle.segment_table.proofs.Steps.{AtFilling, at_filling, held_sealed, rest_sealed}
 use Rattle.segment_table.proofs.segments.Segments.seal.Goals as goal
@@ -39,6 +40,13 @@ returns-clause-held c =
     let H : Table → Type 0 = λ t. held_at new ≡ held_at t in
     let sealed : S (slots_at old.slots c.args.frame) = subst S (get_or_read old.slots c.args.frame c.index.result.now at.within c.index.ensures []) c.seal.ensures in
     subst H c.self.view_is (held_sealed old new c.args.frame sealed refl)
+
+pub returns-clause-named : goal.returns-clause-named
+returns-clause-named c =
+    let old : Table = record { seat = c.self.inside.seat; slots = c.self.inside.slots.items } in
+    let new : Table = record { seat = c.seal.new.seat; slots = c.self.inside.slots.items } in
+    let N : Table → Type 0 = λ t. named_at new ≡ named_at t in
+    subst N c.self.view_is (named_same old new (λ g. generation_alone old.seat new.seat c.args.frame g c.seal.ensures.alone c.seal.ensures.generation) refl)
 
 pub returns-clause-ahead : goal.returns-clause-ahead
 returns-clause-ahead c =

@@ -23,4 +23,5 @@ invariant_of-self-2 g c =
       inodes = added_keeps c.a_fresh_row_stands.ensures.inode s c.add.new.self.rows o m c.args.first.now (inode_beside c.self.inside.objects.values) (inode_beside c.add.new.self.values) c.requires.first
           put.rows (inode_put c.self.inside.objects.values c.add.new.self.values o beside put.values) c.self.invariant.inodes;
       indexes = added_indexed s c.add.new.self.rows o m beside c.self.inside.objects.values c.add.new.self.values (ap (λ (us : List Undoing). Some us) c.new.ensures) put.rows put.values c.self.invariant.indexes;
+      once = c.self.invariant.once;
     }

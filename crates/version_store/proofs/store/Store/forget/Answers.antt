@@ -9,6 +9,9 @@ use Rattle.version_store.proofs.CheckpointSteps.{next_store}
 use Rattle.version_store.proofs.Replacing.{removed}
 use Rattle.version_store.proofs.store.Store.forget.Goals as goal
 
+pub drop_all-requires-clause-once : goal.drop_all-requires-clause-once
+drop_all-requires-clause-once g c = c.self.invariant.once
+
 pub returns : goal.returns
 returns g c =
     let s : StoreFields = record { rows = c.self.inside.objects.rows; log = g.B.Blocks.log c.self.inside.table; latest = c.self.inside.latest } in
@@ -30,4 +33,5 @@ invariant_of-self g c =
     record {
       inodes = λ q. gone_inode c.self.inside.objects.values c.remove.new.self.values c.args.object c.remove.ensures.values q ∙ ap (λ (i : Option Inode). cond (c.args.object == q) None i) (c.self.invariant.inodes q) ∙ sym (made.inodes q c.self.inside.latest);
       indexes = removed_indexed s (next_store s c.remove.new.self.rows log) c.args.object c.self.inside.objects.values c.remove.new.self.values gone c.remove.ensures.values c.self.invariant.indexes;
+      once = c.drop_all.ensures.once;
     }

@@ -13,4 +13,4 @@ invariant_of-result g c =
     let kept = c.in_ok-objects.objects in
     subst (λ (values : List (ℕ × Present)). IsBeside values (fields_of g.B.Blocks.log (record { rows = kept.rows; table = c.args.table; latest = c.args.latest }))) (sym c.in_ok-objects.ensures.values)
     (subst (λ (rows : List (ℕ × Row)). IsBeside (presents_opened c.args.objects.items) (fields_of g.B.Blocks.log (record { rows = rows; table = c.args.table; latest = c.args.latest }))) (sym c.in_ok-objects.ensures.rows)
-    (opened_beside log c.args.latest c.args.objects.items c.requires.beside))
+    (opened_beside log c.args.latest c.args.objects.items c.requires.beside c.requires.once))

@@ -10,6 +10,7 @@ use Rattle.version_store.specs.Store.{StoreOf, StoreFields, fields_of}
 use Rattle.version_store.specs.private.CheckpointSteps.{CanCheckpoint, Checkpointed}
 use Rattle.version_store.proofs.Beside.{checkpointed_indexed}
 use Rattle.version_store.proofs.CheckpointSteps.{Rewrites, known, rewritten, next_store}
+use Rattle.version_store.proofs.Once.{once_stays}
 use Rattle.version_store.proofs.store.Store.put_checkpoint.Goals as goal
 
 pub record_checkpoint-requires : goal.record_checkpoint-requires
@@ -64,4 +65,5 @@ invariant_of-self g c =
     record {
       inodes = λ q. ap (option_map (λ p. p.inode)) (put.values q) ∙ c.self.invariant.inodes q ∙ sym (made.stands.inodes q c.self.inside.latest);
       indexes = checkpointed_indexed s (next_store s c.change_row.new.self.rows log) c.args.object c.args.row.now c.self.inside.objects.values c.change_row.new.self.values can.there made.made put.values c.self.invariant.indexes;
+      once = once_stays s.log log c.record_checkpoint.ensures.named c.self.invariant.once;
     }

@@ -17,6 +17,9 @@ use Rattle.version_store.proofs.CheckpointSteps.{next_store}
 use Rattle.version_store.proofs.RelocatedStore.{Laws, relocated, renamed_beside}
 use Rattle.version_store.proofs.store.Store.put_relocation.Goals as goal
 
+pub relocate_blocks-moved-requires-clause-once : goal.relocate_blocks-moved-requires-clause-once
+relocate_blocks-moved-requires-clause-once g c = c.self.invariant.once
+
 pub returns : goal.returns
 returns g c =
     let o = c.args.object in
@@ -89,4 +92,5 @@ invariant_of-self g c =
       inodes = renamed_beside o s.latest by present (inode_beside c.self.inside.objects.values) (inode_beside c.change.new.self.values) s (next_store s c.change.new.self.rows log) is after c.self.invariant.inodes made.inodes;
       indexes = replaced_indexed s (next_store s c.change.new.self.rows log) o (record next { stamp = row.stamp + 1 }) (renamed_entries r (entries_of s.log.held o row)) beside c.self.inside.objects.values c.change.new.self.values
           put.rows made.relocated.others c.relocate_blocks-moved.ensures.moved.journal (subst (λ (es : List _). IsIndexOf c.index_of.result es) (c.as_slice.ensures.value ∙ c.relocate_blocks-moved.ensures.entries) c.index_of.ensures) put.values c.self.invariant.indexes;
+      once = c.relocate_blocks-moved.ensures.once;
     }

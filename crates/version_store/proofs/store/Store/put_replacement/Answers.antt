@@ -1,5 +1,5 @@
 -- The store's facts are those of the opened store; what is to be shown is of the store as it was passed.
-use Rattle.std.proofs.Common.{◌≡◌, ℕ, ◌≤◌, ◌+◌, ◌&&◌, not, cond, List, length, Option, Some, None, IfSome, refl, sym, subst}
+use Rattle.std.proofs.Common.{◌≡◌, ℕ, ◌≤◌, ◌+◌, ◌&&◌, not, cond, List, length, Option, Some, None, IfSome, refl, sym, ap, subst}
 use Rattle.s4_types.specs.Pointer.{Place}
 use Rattle.block_log.specs.Taken.{TakesPlaces}
 use Rattle.block_log.specs.Log.{Log, of_kind}
@@ -18,7 +18,12 @@ use Rattle.version_store.proofs.Beside.{inode_put, replaced_indexed}
 use Rattle.version_store.proofs.Spending.{none_more}
 use Rattle.version_store.proofs.CheckpointSteps.{next_store}
 use Rattle.version_store.proofs.Replaced.{Rewrites, known, swapped, replaced, led_later, kept_beside}
+use Rattle.version_store.proofs.Once.{once_stays}
 use Rattle.version_store.proofs.store.Store.put_replacement.Goals as goal
+
+pub drop_data-requires-clause-once : goal.drop_data-requires-clause-once
+drop_data-requires-clause-once g c =
+    once_stays (g.B.Blocks.log c.self.inside.table) (g.B.Blocks.log c.last_entry-moment.new.table) (ap (λ (l : Log). l.named) c.last_entry-moment.ensures.same) c.self.invariant.once
 
 pub rewrite_row-requires-clause-row : goal.rewrite_row-requires-clause-row
 rewrite_row-requires-clause-row g c =
@@ -126,4 +131,5 @@ invariant_of-self g c =
           (inode_put c.self.inside.objects.values c.change.new.self.values o beside put.values) c.self.invariant.inodes made.inodes;
       indexes = replaced_indexed s (next_store s c.change.new.self.rows log) o (record c.in-Ok.next { stamp = row.stamp + 1 }) entries beside c.self.inside.objects.values c.change.new.self.values
           put.rows made.replaced.others c.in-Ok.ensures.entries c.index_of.ensures put.values c.self.invariant.indexes;
+      once = once_stays between log c.rewrite_row.ensures.named c.drop_data.ensures.once;
     }

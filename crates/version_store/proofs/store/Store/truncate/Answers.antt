@@ -10,6 +10,7 @@ use Rattle.version_store.proofs.Beside.{grown_indexed}
 use Rattle.version_store.proofs.Present.{grown_keeps}
 use Rattle.version_store.proofs.Kind.{can_turn, bytes_made, taken_of}
 use Rattle.version_store.proofs.Making.{can_subject, subject_is, truncated_makes}
+use Rattle.version_store.proofs.Once.{once_grown}
 use Rattle.version_store.proofs.store.Store.truncate.Goals as goal
 
 pub truncate-after-requires-clause-tidy : goal.truncate-after-requires-clause-tidy
@@ -57,4 +58,5 @@ invariant_of-self g c =
     record {
       inodes = grown_keeps c.what_changes_rest_on.ensures.inode s log c.args.object blocks (inode_beside c.self.inside.objects.values) c.truncate-after.ensures.growth c.self.invariant.inodes;
       indexes = grown_indexed s log c.args.object blocks c.self.inside.objects.values c.truncate-after.ensures.growth c.self.invariant.indexes;
+      once = once_grown c.what_is_not_held_has_no_name.ensures c.args.object blocks s.log log c.truncate-after.ensures.growth c.names.ensures c.self.invariant.once;
     }

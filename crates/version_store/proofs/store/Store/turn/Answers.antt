@@ -15,6 +15,7 @@ use Rattle.version_store.proofs.Beside.{inode_put, turned_indexed}
 use Rattle.version_store.proofs.Steps.{Records}
 use Rattle.version_store.proofs.Present.{turned_keeps}
 use Rattle.version_store.proofs.Turning.{known, records_of, turned}
+use Rattle.version_store.proofs.Once.{once_stays}
 use Rattle.version_store.proofs.store.Store.turn.Goals as goal
 
 pub new-entries-requires : goal.new-entries-requires
@@ -88,4 +89,5 @@ invariant_of-self g c =
           can.store.objects (omega (arith, less)) (made.inode m) made.others turns.put.rows inodes refl c.self.invariant.inodes;
       indexes = turned_indexed s later o (row.stamp + 1) row next c.new-entries.result turns.present c.self.inside.objects.values c.turn_beside.new.objects.values there turns.put.rows made.others
           (made.entries ∙ ap (λ (es : List EntryFields). entries_of s.log.held o row ++ es) (sym c.new-entries.ensures)) turns.told turns.put.values c.self.invariant.indexes;
+      once = once_stays s.log later.log made.named c.self.invariant.once;
     }

@@ -4,12 +4,20 @@ use Rattle.segment_table.specs.Table.{Table}
 use Rattle.segment_table.specs.Room.{log_of}
 use Rattle.version_store.specs.Store.{StoreOf, StoreFields, IsStore, fields_of}
 use Rattle.version_store.specs.Upkeep.{KeepsObjects}
-use Rattle.version_store.proofs.InPlace.{along, sealed_here}
-use Rattle.version_store.proofs.Sealing.{over, fewer_ahead, shrunk_store, keeps_objects}
+use Rattle.version_store.specs.private.Beside.{IsBeside}
+use Rattle.version_store.proofs.InPlace.{along, across, sealed_here}
+use Rattle.version_store.proofs.Sealing.{over, fewer_ahead, shrunk_store, beside_over, keeps_objects}
 use Rattle.version_store.proofs.store.upkeep.Store+NamedTable+J.seal.Goals as goal
 
 pub invariant_of-self-inside : goal.invariant_of-self-inside
 invariant_of-self-inside g c = sealed_here c.self-inside.inside.0.1.1.0.table c.seal_open.new.self c.frame_rules.ensures.one_open c.seal_open.ensures.idle c.seal_open.ensures.sealed ∙ c.self-inside.invariant
+
+pub invariant_of-self : goal.invariant_of-self
+invariant_of-self g c =
+    let old : StoreOf Table = record { rows = c.self-inside.inside.0.1.0.rows; table = c.self-inside.inside.0.1.1.0.table; latest = c.self-inside.inside.0.1.1.1.0 } in
+    let beside : IsBeside c.self-inside.inside.0.1.0.values (fields_of log_of old) =
+    across c.self-inside.view_is (λ i. IsBeside i.objects.values (fields_of log_of (record { rows = i.objects.rows; table = i.table; latest = i.latest }))) c.self.invariant in
+    beside_over c.self-inside.inside.0.1.0.values (fields_of log_of old) (log_of c.seal_open.new.self) c.seal_open.ensures.held c.seal_open.ensures.named beside
 
 pub returns-clause-store : goal.returns-clause-store
 returns-clause-store g c =
