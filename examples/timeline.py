@@ -5,12 +5,15 @@
     timeline.py PROGRAM --svg story.svg               draws it as SVG too
     timeline.py PROGRAM --image IMAGE --object 1      draws objects of an image's file, which stays as it is
     timeline.py --connect ADDRESS --object 1          draws objects of a drive behind a socket (host:port or a path)
+    timeline.py --log FILE                            draws what `s4 log --json` printed into a file, `-` for standard input
 
 PROGRAM is a built s4d. An image is copied, and the copy is served with a tick of 0 and without upkeep, so nothing ages by
-being looked at. Behind a socket each request moves the drive's clock by its tick: a drive with a small window forgets then.
+being looked at. Behind a socket each request moves the drive's clock by its tick: a drive with a small window forgets then. A log
+says nothing of the moments after its last change, nor why moments before an object's first change are missing.
 """
 import argparse
 import contextlib
+import json
 import os
 import shutil
 import sys
@@ -19,7 +22,7 @@ from html import escape
 
 sys.path.insert(0, os.path.join(os.path.dirname(os.path.abspath(__file__)), "..", "python"))
 import s4d  # noqa: E402: from this repository, also where it isn't installed
-from s4d import Kind  # noqa: E402
+from s4d import Kind, Span  # noqa: E402
 
 SIGNS = {Kind.LIVE: "█", Kind.HIDDEN: "░", Kind.GONE: "·", Kind.EXPIRED: "?"}
 SAYS = {Kind.HIDDEN: "hidden by a flush", Kind.GONE: "deleted", Kind.EXPIRED: "older than the window"}
@@ -146,6 +149,38 @@ def story(drive):
     return [note, log, note + 2]
 
 
+def histories_of(changes, objects):
+    """The spans of objects, of all where none is named, as the lines of `s4 log --json` tell them."""
+    last = max((change["moment"] for change in changes), default=0)
+    histories = {object: [] for object in objects or sorted({change["object"] for change in changes})}
+    for change in changes:
+        if change["object"] in histories:
+            add_change(histories[change["object"]], change, last)
+    return histories
+
+
+def add_change(spans, change, last):
+    """Ends the last span before a change, and adds the one that begins with it, up to the last moment."""
+    moment, attribute = change["moment"], change.get("attribute_after")
+    before = spans[-1] if spans else None
+    if before and before.first == moment:
+        spans.pop()  # more of the change of the same moment
+    elif before:
+        spans[-1] = before._replace(last=moment - 1)
+    if change["kind"] == "deleted":
+        spans.append(Span(Kind.GONE, moment, last))
+        return
+    kept = before.attribute if before else b""
+    named = kept if attribute is None else bytes.fromhex(attribute)
+    spans.append(Span(Kind.LIVE, moment, last, change["size_after"], named))
+
+
+def read_log(path):
+    """The lines of a file, or of standard input, as objects."""
+    with contextlib.nullcontext(sys.stdin) if path == "-" else open(path, encoding="utf-8") as file:
+        return [json.loads(line) for line in file]
+
+
 @contextlib.contextmanager
 def image_copy(path, program):
     """A session with a copy of an image, which is gone at the end."""
@@ -168,12 +203,13 @@ def parsed(words):
     parser.add_argument("program", nargs="?", metavar="PROGRAM", help="a built s4d")
     parser.add_argument("--image", metavar="IMAGE", help="the file of a drive")
     parser.add_argument("--connect", metavar="ADDRESS", help="host:port, or the path of a unix socket")
+    parser.add_argument("--log", metavar="FILE", help="what `s4 log --json` printed")
     parser.add_argument("--object", type=int, action="append", default=[], metavar="N", help="an object to draw, more than once")
     parser.add_argument("--story", action="store_true", help="plays the story over the socket too")
     parser.add_argument("--svg", metavar="FILE", help="writes a picture")
     given = parser.parse_args(words)
-    if bool(given.program) == bool(given.connect):
-        parser.error("name either the program s4d or --connect ADDRESS")
+    if [bool(given.program), bool(given.connect), bool(given.log)].count(True) != 1:
+        parser.error("name the program s4d, --connect ADDRESS, or --log FILE")
     if given.image and (given.connect or not given.object):
         parser.error("--image needs PROGRAM and --object N")
     if given.connect and not (given.object or given.story):
@@ -181,17 +217,24 @@ def parsed(words):
     return given
 
 
+def drawn(given):
+    """The spans of the objects that the command line asks for."""
+    if given.log:
+        return histories_of(read_log(given.log), given.object)
+    with session_of(given) as drive:
+        told = story(drive) if given.story or not (given.image or given.connect) else []
+        return {object: drive.history(object) for object in given.object or told}
+
+
 def main(words):
     given = parsed(words)
     try:
-        with session_of(given) as drive:
-            told = story(drive) if given.story or not (given.image or given.connect) else []
-            histories = {object: drive.history(object) for object in given.object or told}
+        histories = drawn(given)
         print(as_text(histories))
         if given.svg:
             with open(given.svg, "w", encoding="utf-8") as file:
                 file.write(as_svg(histories))
-    except (s4d.Error, OSError, ValueError) as error:
+    except (s4d.Error, OSError, ValueError, KeyError) as error:
         print(f"timeline.py: {error}", file=sys.stderr)
         return 1
     return 0

@@ -1,3 +1,4 @@
 pub mod Shown
+pub mod Read
 pub mod Asked
 pub mod Outside

@@ -1,13 +1,10 @@
 -- What `at` writes: the bytes of an object at a moment, as an image tells it.
-use Rattle.std.specs.Prelude.{◌≡◌, ◌≢◌, ℕ, List, [], Option, Some, Bool, MatchBool, ⊤, length}
+use Rattle.std.specs.Prelude.{ℕ, List, [], Option, ⊤}
 use Rattle.std.specs.Io.KnownBytes.{Appends}
 use Rattle.s4_types.specs.History.{Base}
-use Rattle.s4_types.specs.declared.limits.TheConstants.{READ_BYTES}
-use Rattle.s4_types.specs.declared.replies.Reply.TheVariants.{Data}
 use Rattle.s4_types.specs.declared.versions.Version.{Version}
 use Rattle.s4_types.specs.declared.versions.Version.TheVariants.{Absent, Live}
 use Rattle.s4_model.specs.State.{state_of}
-use Rattle.s4_model.specs.Step.{data_of}
 use Rattle.s4_model.specs.VersionAt.{version_of}
 use Rattle.image_parts.specs.Image.{image_in}
 use Rattle.verifier.specs.Images.{ImageFields}
@@ -23,13 +20,6 @@ content_of (Live content attribute created changed) = content
 abbrev pub IsLive : Version → Type 0
 IsLive Absent = ⊥
 IsLive (Live content attribute created changed) = ⊤
-
--- the output has a part of a version's bytes behind it, from an offset on; it is as long as a part can be where more may follow
-pub record GivesPart (version : Version) (offset : ℕ) (output output' : Option (List ℕ)) (more : Bool) : Type 0 where
-  pub bytes : List ℕ
-  pub is_read : data_of version offset READ_BYTES ≡ Some (Data bytes)
-  pub wrote : Appends output output' bytes
-  pub whole : MatchBool more (length bytes ≡ READ_BYTES) (length bytes ≢ READ_BYTES)
 
 -- a version is live, and the output has all of its bytes behind it
 pub record GivesVersion (version : Version) (output output' : Option (List ℕ)) : Type 0 where

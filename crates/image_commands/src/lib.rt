@@ -15,6 +15,6 @@ mod verifying;
 
 pub use faults::{Fault, reading, writing};
 pub use files::{Files, NotReplaced};
-pub use reading_past::write_object;
+pub use reading_past::{write_object, write_version};
 pub use saving::{Place, longest_image, make_file};
-pub use verifying::{read_image, verify_file};
+pub use verifying::{read_image, verify_file, write_out};

@@ -1,3 +1,2 @@
 mod Fronts
-mod Parts
 mod Rows

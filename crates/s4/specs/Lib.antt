@@ -1,5 +1,5 @@
+pub mod Commands
 pub mod Listing
 pub mod Logging
 pub mod Performing
-pub mod Reading
 pub mod Telling

@@ -5,23 +5,10 @@ use Rattle.std.specs.Io.KnownBytes.{Appends}
 use Rattle.s4_model.specs.State.{State}
 use Rattle.s4_model.specs.Visible.{IsVisible}
 use Rattle.version_store.specs.Store.{StoreFields}
-use Rattle.drive.specs.Fields.{DriveFields, state_in, store_of}
-use Rattle.drive.specs.Opened.{OpenedFields}
-use Rattle.verifier.specs.Images.{ImageFields}
-use Rattle.verifier.specs.Opened.{IsOpenedOf, IsNamedOf}
-use Rattle.image_commands.specs.Verifying.{IsVerified}
 use Rattle.history_view.specs.declared.listing.Listed.{Listed}
 use Rattle.history_view.specs.Listing.{AreListedFrom}
 use Rattle.history_text.specs.Lines.{list_head, listed_line}
 use Rattle.history_text.specs.Json.{json_line, listed_data}
-
--- The drive that an image tells: one that is opened from an image which was read and verified, and to which nothing has come yet.
-pub record IsToldDrive (known : Option (List ℕ)) (d : DriveFields) : Type 0 where
-  pub image : ImageFields
-  pub verified : IsVerified known image
-  pub opened : OpenedFields
-  pub parts : IsOpenedOf image opened
-  pub named : IsNamedOf opened d
 
 -- the moment that is asked for, and the clock's where none is
 abbrev pub moment_asked : State → Option ℕ → ℕ
@@ -49,15 +36,3 @@ pub record ListsObjects (s : State) (store : StoreFields) (at : Option ℕ) (del
   pub rows : List Listed
   pub listed : AreListedFrom s store deleted (moment_asked s at) 0 rows
   pub wrote : Appends output output' (head_of_list json ++ flat_map (line_of_listed json) rows)
-
--- It has the list of a drive that was opened.
-pub record ListsOpened (opened : OpenedFields) (at : Option ℕ) (deleted json : Bool) (output output' : Option (List ℕ)) : Type 0 where
-  pub drive : DriveFields
-  pub named : IsNamedOf opened drive
-  pub lists : ListsObjects (state_in drive) (store_of drive) at deleted json output output'
-
--- It has the list of the drive that an image tells.
-pub record ListsImage (known : Option (List ℕ)) (at : Option ℕ) (deleted json : Bool) (output output' : Option (List ℕ)) : Type 0 where
-  pub drive : DriveFields
-  pub told : IsToldDrive known drive
-  pub lists : ListsObjects (state_in drive) (store_of drive) at deleted json output output'

@@ -6,14 +6,10 @@ use Rattle.s4_model.specs.State.{State}
 use Rattle.object_map.specs.Objects.{IsNextAbove}
 use Rattle.object_map.specs.Rows.{row_of}
 use Rattle.version_store.specs.Store.{StoreFields}
-use Rattle.drive.specs.Fields.{DriveFields, state_in, store_of}
-use Rattle.drive.specs.Opened.{OpenedFields}
-use Rattle.verifier.specs.Opened.{IsNamedOf}
 use Rattle.history_view.specs.declared.changes.ObjectChange.{ObjectChange}
 use Rattle.history_view.specs.Changes.{changes_between}
 use Rattle.history_text.specs.Lines.{log_head, change_line}
 use Rattle.history_text.specs.Json.{json_line, change_data}
-use Rattle.s4.specs.Listing.{IsToldDrive}
 
 -- the first moment that is asked for; the least of all where none is
 abbrev pub first_asked : Option ℕ → ℕ
@@ -58,15 +54,3 @@ pub record LogsObjects (s : State) (store : StoreFields) (object since until : O
   pub objects : List ℕ
   pub asked : AreAsked store object objects
   pub wrote : Appends output output' (head_of_log json ++ flat_map (lines_of_object s store (first_asked since) (last_asked until) json) objects)
-
--- It has the log of a drive that was opened.
-pub record LogsOpened (opened : OpenedFields) (object since until : Option ℕ) (json : Bool) (output output' : Option (List ℕ)) : Type 0 where
-  pub drive : DriveFields
-  pub named : IsNamedOf opened drive
-  pub logs : LogsObjects (state_in drive) (store_of drive) object since until json output output'
-
--- It has the log of the drive that an image tells.
-pub record LogsImage (known : Option (List ℕ)) (object since until : Option ℕ) (json : Bool) (output output' : Option (List ℕ)) : Type 0 where
-  pub drive : DriveFields
-  pub told : IsToldDrive known drive
-  pub logs : LogsObjects (state_in drive) (store_of drive) object since until json output output'

@@ -4,11 +4,6 @@ use Rattle.std.specs.Io.KnownBytes.{Appends}
 use Rattle.s4_model.specs.State.{State}
 use Rattle.version_store.specs.Store.{StoreFields}
 use Rattle.version_store.specs.Costs.{room}
-use Rattle.drive.specs.Fields.{DriveFields, state_in, store_of}
-use Rattle.drive.specs.Opened.{OpenedFields}
-use Rattle.verifier.specs.Images.{ImageFields}
-use Rattle.verifier.specs.Opened.{IsOpenedOf, IsNamedOf}
-use Rattle.image_commands.specs.Verifying.{IsVerified}
 use Rattle.history_view.specs.declared.listing.Listed.{Listed}
 use Rattle.history_view.specs.Listing.{AreListedFrom}
 use Rattle.history_text.specs.declared.numbers.DriveNumbers.{DriveNumbers}
@@ -36,18 +31,8 @@ pub record IsNumbersOf (s : State) (store : StoreFields) (frames : ℕ) (n : Dri
 abbrev pub text_of_numbers : Bool → DriveNumbers → List ℕ
 text_of_numbers json n = if json then json_line (numbers_data n) else numbers_lines n
 
--- The output has the numbers of a drive that was opened behind it.
-pub record TellsOpened (opened : OpenedFields) (frames : ℕ) (json : Bool) (output output' : Option (List ℕ)) : Type 0 where
-  pub drive : DriveFields
-  pub named : IsNamedOf opened drive
+-- The output has the numbers of a drive of so many frames behind it.
+pub record TellsNumbers (s : State) (store : StoreFields) (frames : ℕ) (json : Bool) (output output' : Option (List ℕ)) : Type 0 where
   pub numbers : DriveNumbers
-  pub is : IsNumbersOf (state_in drive) (store_of drive) frames numbers
+  pub is : IsNumbersOf s store frames numbers
   pub wrote : Appends output output' (text_of_numbers json numbers)
-
--- It has the numbers of the drive that an image tells, which was read and verified.
-pub record TellsNumbers (known : Option (List ℕ)) (json : Bool) (output output' : Option (List ℕ)) : Type 0 where
-  pub image : ImageFields
-  pub verified : IsVerified known image
-  pub opened : OpenedFields
-  pub parts : IsOpenedOf image opened
-  pub tells : TellsOpened opened (length image.table.seat.frames) json output output'

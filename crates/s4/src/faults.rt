@@ -29,20 +29,22 @@ pub enum Failure {
     WriteFailed,
 }
 
-/// The failure of what reads or writes.
-pub fn failure_of(fault: Fault<'_>) -> Failure {
-    match fault {
-        Fault::CannotRead(_) => Failure::CannotRead,
-        Fault::Refused(refusal) => failure_by(refusal),
-        Fault::WriteFailed => Failure::WriteFailed,
-        Fault::CannotWrite(_) | Fault::KeptIn(_, _) => Failure::WriteFailed,
+impl From<Fault<'_>> for Failure {
+    fn from(fault: Fault<'_>) -> Failure {
+        match fault {
+            Fault::CannotRead(_) => Failure::CannotRead,
+            Fault::Refused(refusal) => Failure::from(refusal),
+            Fault::WriteFailed | Fault::CannotWrite(_) | Fault::KeptIn(_, _) =>
+                Failure::WriteFailed,
+        }
     }
 }
 
-/// The failure of a refusal.
-pub fn failure_by(refusal: Refusal) -> Failure {
-    match refusal {
-        Refusal::Damaged(_) => Failure::Refused(refusal, "read an older copy of the image"),
-        _ => Failure::Refused(refusal, "try again with more memory"),
+impl From<Refusal> for Failure {
+    fn from(refusal: Refusal) -> Failure {
+        match refusal {
+            Refusal::Damaged(_) => Failure::Refused(refusal, "read an older copy of the image"),
+            _ => Failure::Refused(refusal, "try again with more memory"),
+        }
     }
 }

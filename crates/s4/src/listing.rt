@@ -2,84 +2,48 @@
 ghost use Rattle.std.specs.Prelude.{◌≡◌, ◌+◌, ◌^◌, ◌<◌, IfOk, OnOk, string_bytes};
 ghost use Rattle.std.specs.List.{flat_map};
 ghost use Rattle.std.specs.Io.KnownBytes.{Appends};
-ghost use Rattle.segment_table.specs.Room.{log_of};
-ghost use Rattle.version_store.specs.Store.{fields_of};
-ghost use Rattle.drive.specs.Opened.{base_of};
 ghost use Rattle.drive.specs.Fields.{state_in, store_of};
-ghost use Rattle.s4.specs.Listing.{ListsImage, ListsObjects, ListsRows, ListsOpened, head_of_list, line_of_listed};
+ghost use Rattle.s4.specs.Listing.{ListsObjects, ListsRows, head_of_list, line_of_listed};
 
-use crate::faults::{Failure, failure_by, failure_of};
+use crate::commands::DriveCommand;
+use crate::faults::Failure;
 use crate::moments::moment_asked;
-use crate::output::write_out;
-use drive::{Drive, OpenedDrive};
+use drive::Drive;
 use history_text::{LIST_HEAD, listed_json, listed_line};
 use history_view::{Listed, next_listed};
-use image_commands::{Files, read_image};
+use image_commands::write_out;
 use s4_command::ListAsked;
 use s4_types::{Moment, ObjectId, Refusal};
 use segment_word::Naming;
 use serving::Sink;
 use std::alloc::{AllocError, Global};
-use std::marker::Brand;
-use std::thread::Threads;
-use verifier::open;
 
-/// Prints the objects of an image at a moment.
-pub fn list<'a, T: Threads, F: Files, W: Sink>(
-    rt: &T,
-    alloc: Global,
-    files: &F,
-    asked: ListAsked<'a>,
-    writer: &mut W,
-) -> Result<(), Failure>
-    requires writer { W.failures writer.old + 1 < 2 ^ 64 }
-    ensures list { OnOk result (ListsImage (F.contents files.now asked.entry.image.now) asked.entry.at asked.entry.deleted asked.entry.json (W.passed writer.old) (W.passed writer.new)) }
-{
-    let image = match read_image(rt, alloc, files, asked.image) {
-        Ok(image) => image,
-        Err(fault) => return Err(failure_of(fault)),
-    };
-    match open(alloc, image) {
-        Ok(opened) => list_opened::<Brand, W>(alloc, opened, asked, writer),
-        Err(refusal) => Err(failure_by(refusal)),
+impl DriveCommand for ListAsked<'_> {
+    ghost shows = { λ asked d. ListsObjects (state_in d) (store_of d) asked.at asked.deleted asked.json };
+
+    fn perform<J: Naming, W: Sink>(
+        &self,
+        alloc: Global,
+        drive: &mut Drive<J>,
+        writer: &mut W,
+    ) -> Result<(), Failure> {
+        list(alloc, drive, self, writer)
     }
 }
 
-// The same of a drive that was just opened.
-fn list_opened<'a, J: Naming, W: Sink>(
-    alloc: Global,
-    opened: OpenedDrive,
-    asked: ListAsked<'a>,
-    writer: &mut W,
-) -> Result<(), Failure>
-    requires accepts { opened.accepts ≡ J.accepts }
-    requires frames { opened.store.table.seat.table ≡ J.frames }
-    requires base { base_of (fields_of log_of opened.store) opened.timeline opened.next ≡ J.base }
-    requires writer { W.failures writer.old + 1 < 2 ^ 64 }
-    ensures list { OnOk result (ListsOpened opened asked.entry.at asked.entry.deleted asked.entry.json (W.passed writer.old) (W.passed writer.new)) }
-{
-    let mut drive = opened.named::<J>();
-    list_drive(alloc, &mut drive, asked, writer)
-}
-
-// The same of a drive.
-fn list_drive<'a, J: Naming, W: Sink>(
+// Prints the objects of a drive at a moment.
+fn list<J: Naming, W: Sink>(
     alloc: Global,
     drive: &mut Drive<J>,
-    asked: ListAsked<'a>,
+    asked: &ListAsked<'_>,
     writer: &mut W,
 ) -> Result<(), Failure>
     requires writer { W.failures writer.old + 1 < 2 ^ 64 }
-    ensures list { OnOk result (ListsObjects (state_in drive.old) (store_of drive.old) asked.entry.at asked.entry.deleted asked.entry.json (W.passed writer.old) (W.passed writer.new)) }
+    ensures list { OnOk result (ListsObjects (state_in drive.old) (store_of drive.old) asked.now.at asked.now.deleted asked.now.json (W.passed writer.old) (W.passed writer.new)) }
 {
-    let moment = match moment_asked(drive, ObjectId::new(0), asked.at) {
-        Ok(moment) => moment,
-        Err(failure) => return Err(failure),
-    };
-    match write_out(writer, head_of_list(asked.json).as_bytes()) {
-        Ok(()) => write_rows(alloc, drive, moment, asked.deleted, asked.json, writer),
-        Err(failure) => Err(failure),
-    }
+    let moment = moment_asked(drive, ObjectId::new(0), asked.at)?;
+    write_out(writer, head_of_list(asked.json).as_bytes())?;
+    write_rows(alloc, drive, moment, asked.deleted, asked.json, writer)
 }
 
 fn head_of_list(json: bool) -> &'static str
@@ -121,9 +85,10 @@ fn write_row<W: Sink>(
 {
     let line = match line_of_listed(alloc, row, json) {
         Ok(line) => line,
-        Err(_) => return Err(failure_by(Refusal::NoMemory)),
+        Err(_) => return Err(Failure::from(Refusal::NoMemory)),
     };
-    write_out(writer, line.as_bytes())
+    write_out(writer, line.as_bytes())?;
+    Ok(())
 }
 
 fn line_of_listed(alloc: Global, row: &Listed, json: bool) -> Result<String, AllocError>

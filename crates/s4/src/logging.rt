@@ -2,27 +2,21 @@
 ghost use Rattle.std.specs.Prelude.{◌≡◌, ◌≢◌, ◌+◌, ◌^◌, ◌<◌, None, IfOk, IfSome, OnOk, string_bytes};
 ghost use Rattle.std.specs.List.{flat_map};
 ghost use Rattle.std.specs.Io.KnownBytes.{Appends};
-ghost use Rattle.segment_table.specs.Room.{log_of};
-ghost use Rattle.version_store.specs.Store.{fields_of};
 ghost use Rattle.object_map.specs.Rows.{row_of};
-ghost use Rattle.drive.specs.Opened.{base_of};
 ghost use Rattle.drive.specs.Fields.{state_in, store_of};
-ghost use Rattle.s4.specs.Logging.{LogsImage, LogsObjects, LogsOpened, LogsRows, first_asked, last_asked, head_of_log, line_of_change, lines_of_object};
+ghost use Rattle.s4.specs.Logging.{LogsObjects, LogsRows, first_asked, last_asked, head_of_log, line_of_change, lines_of_object};
 
-use crate::faults::{Failure, failure_by, failure_of};
-use crate::output::write_out;
-use drive::{Drive, OpenedDrive};
+use crate::commands::DriveCommand;
+use crate::faults::Failure;
+use drive::Drive;
 use history_text::{LOG_HEAD, change_json, change_line};
 use history_view::{ObjectChange, changes_between};
-use image_commands::{Files, read_image};
+use image_commands::write_out;
 use s4_command::LogAsked;
 use s4_types::{Moment, ObjectId, Refusal};
 use segment_word::Naming;
 use serving::Sink;
 use std::alloc::{AllocError, Global};
-use std::marker::Brand;
-use std::thread::Threads;
-use verifier::open;
 
 /// The moments between which changes are asked for, both included, and how they are printed.
 #[derive(Clone, Copy)]
@@ -32,63 +26,33 @@ struct Manner {
     json: bool,
 }
 
-/// Prints the changes of an image's objects.
-pub fn log<'a, T: Threads, F: Files, W: Sink>(
-    rt: &T,
-    alloc: Global,
-    files: &F,
-    asked: LogAsked<'a>,
-    writer: &mut W,
-) -> Result<(), Failure>
-    requires writer { W.failures writer.old + 1 < 2 ^ 64 }
-    ensures log { OnOk result (LogsImage (F.contents files.now asked.entry.image.now) asked.entry.object asked.entry.since asked.entry.until asked.entry.json (W.passed writer.old) (W.passed writer.new)) }
-{
-    let image = match read_image(rt, alloc, files, asked.image) {
-        Ok(image) => image,
-        Err(fault) => return Err(failure_of(fault)),
-    };
-    match open(alloc, image) {
-        Ok(opened) => log_opened::<Brand, W>(alloc, opened, asked, writer),
-        Err(refusal) => Err(failure_by(refusal)),
+impl DriveCommand for LogAsked<'_> {
+    ghost shows = { λ asked d. LogsObjects (state_in d) (store_of d) asked.object asked.since asked.until asked.json };
+
+    fn perform<J: Naming, W: Sink>(
+        &self,
+        alloc: Global,
+        drive: &mut Drive<J>,
+        writer: &mut W,
+    ) -> Result<(), Failure> {
+        log(alloc, drive, self, writer)
     }
 }
 
-// The same of a drive that was just opened.
-fn log_opened<'a, J: Naming, W: Sink>(
-    alloc: Global,
-    opened: OpenedDrive,
-    asked: LogAsked<'a>,
-    writer: &mut W,
-) -> Result<(), Failure>
-    requires accepts { opened.accepts ≡ J.accepts }
-    requires frames { opened.store.table.seat.table ≡ J.frames }
-    requires base { base_of (fields_of log_of opened.store) opened.timeline opened.next ≡ J.base }
-    requires writer { W.failures writer.old + 1 < 2 ^ 64 }
-    ensures log { OnOk result (LogsOpened opened asked.entry.object asked.entry.since asked.entry.until asked.entry.json (W.passed writer.old) (W.passed writer.new)) }
-{
-    let mut drive = opened.named::<J>();
-    log_drive(alloc, &mut drive, asked, writer)
-}
-
-// The same of a drive.
-fn log_drive<'a, J: Naming, W: Sink>(
+// Prints the changes of a drive's objects.
+fn log<J: Naming, W: Sink>(
     alloc: Global,
     drive: &mut Drive<J>,
-    asked: LogAsked<'a>,
+    asked: &LogAsked<'_>,
     writer: &mut W,
 ) -> Result<(), Failure>
     requires writer { W.failures writer.old + 1 < 2 ^ 64 }
-    ensures log { OnOk result (LogsObjects (state_in drive.old) (store_of drive.old) asked.entry.object asked.entry.since asked.entry.until asked.entry.json (W.passed writer.old) (W.passed writer.new)) }
+    ensures log { OnOk result (LogsObjects (state_in drive.old) (store_of drive.old) asked.now.object asked.now.since asked.now.until asked.now.json (W.passed writer.old) (W.passed writer.new)) }
 {
     let manner = manner_of(asked);
-    match check_object(drive, asked.object) {
-        Ok(()) => {}
-        Err(failure) => return Err(failure),
-    }
-    match write_out(writer, head_of_log(asked.json).as_bytes()) {
-        Ok(()) => write_asked(alloc, drive, asked.object, &manner, writer),
-        Err(failure) => Err(failure),
-    }
+    check_object(drive, asked.object)?;
+    write_out(writer, head_of_log(asked.json).as_bytes())?;
+    write_asked(alloc, drive, asked.object, &manner, writer)
 }
 
 // An error where no object has the number that is asked for.
@@ -104,10 +68,10 @@ fn check_object<J: Naming>(drive: &Drive<J>, object: Option<u64>) -> Result<(), 
     }
 }
 
-fn manner_of(asked: LogAsked<'_>) -> Manner
-    ensures since { result.since ≡ first_asked asked.entry.since }
-    ensures until { result.until ≡ last_asked asked.entry.until }
-    ensures json { result.json ≡ asked.entry.json }
+fn manner_of(asked: &LogAsked<'_>) -> Manner
+    ensures since { result.since ≡ first_asked asked.now.since }
+    ensures until { result.until ≡ last_asked asked.now.until }
+    ensures json { result.json ≡ asked.now.json }
 {
     Manner {
         since: Moment::new(asked.since.unwrap_or(0)),
@@ -172,10 +136,8 @@ fn write_object<J: Naming, W: Sink>(
     ensures ledger { drive.new.ledger ≡ drive.old.ledger }
     ensures store { store_of drive.new ≡ store_of drive.old }
 {
-    match changes_between(alloc, drive, object, manner.since, manner.until) {
-        Ok(changes) => write_changes(alloc, object, changes.as_slice(), manner.json, writer),
-        Err(refusal) => Err(failure_by(refusal)),
-    }
+    let changes = changes_between(alloc, drive, object, manner.since, manner.until)?;
+    write_changes(alloc, object, changes.as_slice(), manner.json, writer)
 }
 
 // Writes the lines of such changes.
@@ -210,9 +172,10 @@ fn write_change<W: Sink>(
 {
     let line = match line_of_change(alloc, object, change, json) {
         Ok(line) => line,
-        Err(_) => return Err(failure_by(Refusal::NoMemory)),
+        Err(_) => return Err(Failure::from(Refusal::NoMemory)),
     };
-    write_out(writer, line.as_bytes())
+    write_out(writer, line.as_bytes())?;
+    Ok(())
 }
 
 fn line_of_change(

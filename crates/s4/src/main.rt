@@ -9,16 +9,16 @@
 ghost use Rattle.std.specs.Prelude.{◌≡◌, ◌≢◌};
 ghost use Rattle.std.specs.declared.io.ErrorKind.TheVariants.{OutOfMemory};
 
+mod commands;
 mod faults;
 mod listing;
 mod logging;
 mod moments;
-mod output;
 mod performing;
 mod reading;
 mod telling;
 
-use faults::failure_by;
+use faults::Failure;
 use performing::{fail, perform, refuse};
 use s4_types::Refusal;
 use serving::WriteSink;
@@ -45,7 +45,7 @@ fn tell(rt: &HostRuntime, why: io::ErrorKind) -> u8
     ensures text { why ≢ OutOfMemory → result ≡ 2 }
 {
     match why {
-        io::ErrorKind::OutOfMemory => fail(&mut rt.stderr(), failure_by(Refusal::NoMemory)),
+        io::ErrorKind::OutOfMemory => fail(&mut rt.stderr(), Failure::from(Refusal::NoMemory)),
         _ => refuse(&mut rt.stderr(), "the words are no text in UTF-8"),
     }
 }

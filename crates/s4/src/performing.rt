@@ -1,18 +1,12 @@
 //! What a line of words asks for, and the status of the program.
 ghost use Rattle.std.specs.Prelude.{◌≡◌, ◌+◌, ◌^◌, ◌<◌, ◌≤◌, map};
-ghost use Rattle.s4.specs.Listing.{ListsImage};
-ghost use Rattle.s4.specs.Logging.{LogsImage};
-ghost use Rattle.s4.specs.Reading.{CatsImage};
-ghost use Rattle.s4.specs.Telling.{TellsNumbers};
+ghost use Rattle.s4.specs.Commands.{OverImage};
 ghost use Rattle.s4.specs.Performing.{IsDone, IsUsage};
 
-use crate::faults::{Failure, failure_by};
-use crate::listing::list;
-use crate::logging::log;
-use crate::reading::cat;
-use crate::telling::info;
+use crate::commands::{DriveCommand, over_image};
+use crate::faults::Failure;
 use image_commands::Files;
-use s4_command::{CatAsked, Command, InfoAsked, ListAsked, LogAsked, NoCommand, command_of};
+use s4_command::{Command, NoCommand, command_of};
 use s4_types::Refusal;
 use serving::Sink;
 use std::alloc::Global;
@@ -46,91 +40,67 @@ pub fn perform<T: Threads, F: Files, S: AsStr, W: Sink, E: Write>(
     ensures usage { result ≡ 2 → IsUsage (map S.text words.now) }
 {
     match command_of(alloc, words) {
-        Ok(Command::List(asked)) => perform_list(rt, alloc, files, asked, writer, errors),
-        Ok(Command::Log(asked)) => perform_log(rt, alloc, files, asked, writer, errors),
-        Ok(Command::Cat(asked)) => perform_cat(rt, alloc, files, asked, writer, errors),
-        Ok(Command::Info(asked)) => perform_info(rt, alloc, files, asked, writer, errors),
+        Ok(Command::List(asked)) => perform_over(
+            rt,
+            alloc,
+            files,
+            asked.image,
+            &asked,
+            writer,
+            errors,
+        ),
+        Ok(Command::Log(asked)) => perform_over(
+            rt,
+            alloc,
+            files,
+            asked.image,
+            &asked,
+            writer,
+            errors,
+        ),
+        Ok(Command::Cat(asked)) => perform_over(
+            rt,
+            alloc,
+            files,
+            asked.image,
+            &asked,
+            writer,
+            errors,
+        ),
+        Ok(Command::Info(asked)) => perform_over(
+            rt,
+            alloc,
+            files,
+            asked.image,
+            &asked,
+            writer,
+            errors,
+        ),
         Err(NoCommand::Asked(help)) => show(alloc, help, writer, errors),
         Err(NoCommand::Refused(error)) => say(errors, error),
         Err(NoCommand::NoNumber { name, word }) => refuse_number(errors, name, word),
         Err(NoCommand::Unspelled) => refuse(errors, "the words spell no command; try --help"),
-        Err(NoCommand::NoMemory) => fail(errors, failure_by(Refusal::NoMemory)),
+        Err(NoCommand::NoMemory) => fail(errors, Failure::from(Refusal::NoMemory)),
     }
 }
 
-// Prints the objects of a moment.
-fn perform_list<'a, T: Threads, F: Files, W: Sink, E: Write>(
+// Performs a command over the drive of an image.
+fn perform_over<T: Threads, F: Files, C: DriveCommand, W: Sink, E: Write>(
     rt: &T,
     alloc: Global,
     files: &F,
-    asked: ListAsked<'a>,
+    image: &str,
+    command: &C,
     writer: &mut W,
     errors: &mut E,
 ) -> u8
     requires writer { W.failures writer.old + 1 < 2 ^ 64 }
     ensures status { result ≤ 1 }
-    ensures done { result ≡ 0 → ListsImage (F.contents files.now asked.entry.image.now) asked.entry.at asked.entry.deleted asked.entry.json (W.passed writer.old) (W.passed writer.new) }
+    ensures done { result ≡ 0 → OverImage (F.contents files.now image.now) (λ drive. C.shows command.now drive (W.passed writer.old) (W.passed writer.new)) }
 {
-    match list(rt, alloc, files, asked, writer) {
+    match over_image(rt, alloc, files, image, command, writer) {
         Ok(()) => DONE,
-        Err(failure) => fail_over(errors, asked.image, failure),
-    }
-}
-
-// Prints what was changed.
-fn perform_log<'a, T: Threads, F: Files, W: Sink, E: Write>(
-    rt: &T,
-    alloc: Global,
-    files: &F,
-    asked: LogAsked<'a>,
-    writer: &mut W,
-    errors: &mut E,
-) -> u8
-    requires writer { W.failures writer.old + 1 < 2 ^ 64 }
-    ensures status { result ≤ 1 }
-    ensures done { result ≡ 0 → LogsImage (F.contents files.now asked.entry.image.now) asked.entry.object asked.entry.since asked.entry.until asked.entry.json (W.passed writer.old) (W.passed writer.new) }
-{
-    match log(rt, alloc, files, asked, writer) {
-        Ok(()) => DONE,
-        Err(failure) => fail_over(errors, asked.image, failure),
-    }
-}
-
-// Prints the bytes of an object at a moment.
-fn perform_cat<'a, T: Threads, F: Files, W: Sink, E: Write>(
-    rt: &T,
-    alloc: Global,
-    files: &F,
-    asked: CatAsked<'a>,
-    writer: &mut W,
-    errors: &mut E,
-) -> u8
-    requires writer { W.failures writer.old + 1 < 2 ^ 64 }
-    ensures status { result ≤ 1 }
-    ensures done { result ≡ 0 → CatsImage (F.contents files.now asked.entry.image.now) asked.entry.object asked.entry.at (W.passed writer.old) (W.passed writer.new) }
-{
-    match cat(rt, alloc, files, asked, writer) {
-        Ok(()) => DONE,
-        Err(failure) => fail_over(errors, asked.image, failure),
-    }
-}
-
-// Prints the numbers of an image.
-fn perform_info<'a, T: Threads, F: Files, W: Sink, E: Write>(
-    rt: &T,
-    alloc: Global,
-    files: &F,
-    asked: InfoAsked<'a>,
-    writer: &mut W,
-    errors: &mut E,
-) -> u8
-    requires writer { W.failures writer.old + 1 < 2 ^ 64 }
-    ensures status { result ≤ 1 }
-    ensures done { result ≡ 0 → TellsNumbers (F.contents files.now asked.entry.image.now) asked.entry.json (W.passed writer.old) (W.passed writer.new) }
-{
-    match info(rt, alloc, files, asked, writer) {
-        Ok(()) => DONE,
-        Err(failure) => fail_over(errors, asked.image, failure),
+        Err(failure) => fail_over(errors, image, failure),
     }
 }
 
@@ -141,7 +111,7 @@ fn show<W: Sink, E: Write>(alloc: Global, help: clap::Error, writer: &mut W, err
 {
     let text = match format!(in alloc; "{help}") {
         Ok(text) => text,
-        Err(_) => return fail(errors, failure_by(Refusal::NoMemory)),
+        Err(_) => return fail(errors, Failure::from(Refusal::NoMemory)),
     };
     match writer.put(text.as_bytes()) {
         Ok(()) => DONE,

@@ -1,65 +1,47 @@
 //! `info`: the numbers of an image.
 ghost use Rattle.std.specs.Prelude.{◌≡◌, ◌+◌, ◌^◌, ◌<◌, if◌then◌else◌, IfOk, OnOk, string_bytes, length};
 ghost use Rattle.std.specs.Io.KnownBytes.{Appends};
-ghost use Rattle.segment_table.specs.Room.{log_of};
-ghost use Rattle.version_store.specs.Store.{fields_of};
-ghost use Rattle.drive.specs.Opened.{base_of};
 ghost use Rattle.drive.specs.Fields.{state_in, store_of};
-ghost use Rattle.s4.specs.Telling.{CountsObjects, IsNumbersOf, TellsNumbers, TellsOpened, text_of_numbers};
+ghost use Rattle.s4.specs.Telling.{CountsObjects, IsNumbersOf, TellsNumbers, text_of_numbers};
 
-use crate::faults::{Failure, failure_by, failure_of};
-use crate::output::write_out;
-use drive::{Drive, OpenedDrive};
+use crate::commands::DriveCommand;
+use crate::faults::Failure;
+use drive::Drive;
 use history_text::{DriveNumbers, numbers_json, numbers_lines};
 use history_view::next_listed;
-use image_commands::{Files, read_image};
+use image_commands::write_out;
 use s4_command::InfoAsked;
 use s4_types::{Moment, ObjectId, Refusal};
+use segment_table::OverFrames;
 use segment_word::Naming;
 use serving::Sink;
 use std::alloc::{AllocError, Global};
-use std::marker::Brand;
-use std::thread::Threads;
-use verifier::open;
 
-/// Prints the numbers of an image.
-pub fn info<'a, T: Threads, F: Files, W: Sink>(
-    rt: &T,
-    alloc: Global,
-    files: &F,
-    asked: InfoAsked<'a>,
-    writer: &mut W,
-) -> Result<(), Failure>
-    requires writer { W.failures writer.old + 1 < 2 ^ 64 }
-    ensures numbers { OnOk result (TellsNumbers (F.contents files.now asked.entry.image.now) asked.entry.json (W.passed writer.old) (W.passed writer.new)) }
-{
-    let image = match read_image(rt, alloc, files, asked.image) {
-        Ok(image) => image,
-        Err(fault) => return Err(failure_of(fault)),
-    };
-    let frames = image.frames();
-    match open(alloc, image) {
-        Ok(opened) => tell_opened::<Brand, W>(alloc, opened, frames, asked.json, writer),
-        Err(refusal) => Err(failure_by(refusal)),
+impl DriveCommand for InfoAsked<'_> {
+    ghost shows = { λ asked d. TellsNumbers (state_in d) (store_of d) (length d.store.table.seat.frames) asked.json };
+
+    fn perform<J: Naming, W: Sink>(
+        &self,
+        alloc: Global,
+        drive: &mut Drive<J>,
+        writer: &mut W,
+    ) -> Result<(), Failure> {
+        info(alloc, drive, self.json, writer)
     }
 }
 
-// The same of a drive that was just opened.
-fn tell_opened<J: Naming, W: Sink>(
+// Prints the numbers of a drive.
+fn info<J: Naming, W: Sink>(
     alloc: Global,
-    opened: OpenedDrive,
-    frames: u16,
+    drive: &mut Drive<J>,
     json: bool,
     writer: &mut W,
 ) -> Result<(), Failure>
-    requires accepts { opened.accepts ≡ J.accepts }
-    requires frames { opened.store.table.seat.table ≡ J.frames }
-    requires base { base_of (fields_of log_of opened.store) opened.timeline opened.next ≡ J.base }
     requires writer { W.failures writer.old + 1 < 2 ^ 64 }
-    ensures numbers { OnOk result (TellsOpened opened frames json (W.passed writer.old) (W.passed writer.new)) }
+    ensures numbers { OnOk result (TellsNumbers (state_in drive.old) (store_of drive.old) (length drive.old.store.table.seat.frames) json (W.passed writer.old) (W.passed writer.new)) }
 {
-    let mut drive = opened.named::<J>();
-    let numbers = numbers_of(&mut drive, frames);
+    let frames = drive.frame_count();
+    let numbers = numbers_of(drive, frames);
     write_numbers(alloc, &numbers, json, writer)
 }
 
@@ -122,9 +104,10 @@ fn write_numbers<W: Sink>(
 {
     let text = match text_of_numbers(alloc, numbers, json) {
         Ok(text) => text,
-        Err(_) => return Err(failure_by(Refusal::NoMemory)),
+        Err(_) => return Err(Failure::from(Refusal::NoMemory)),
     };
-    write_out(writer, text.as_bytes())
+    write_out(writer, text.as_bytes())?;
+    Ok(())
 }
 
 fn text_of_numbers(alloc: Global, numbers: &DriveNumbers, json: bool) -> Result<String, AllocError>

@@ -2,7 +2,7 @@ use Rattle.segment_table.specs.Room.{log_of}
 use Rattle.version_store.specs.Store.{fields_of}
 use Rattle.drive.specs.Opened.{base_of}
 use Rattle.image_parts.specs.Image.{image_in}
-use Rattle.image_commands.proofs.Parts.{for_ok}
+use Rattle.image_commands.proofs.Done.{for_ok}
 use Rattle.image_commands.proofs.reading_past.write_object.Goals as goal
 
 pub returns-in-Ok-open : goal.returns-in-Ok-open

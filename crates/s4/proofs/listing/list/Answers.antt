@@ -1,13 +1,28 @@
-use Rattle.s4.proofs.Parts.{for_ok}
+use Rattle.std.proofs.Common.{rules, ◌≡◌, ℕ, subst}
+use Rattle.std.specs.Io.KnownBytes.{Appends}
+use Rattle.std.specs.List.{flat_map}
+use Rattle.std.proofs.KnownBytes.{Appends-trans}
+use Rattle.drive.specs.Fields.{state_in, store_of}
+use Rattle.history_view.specs.Listing.{AreListedFrom}
+use Rattle.s4_model.specs.Visible.{IsVisible}
+use Rattle.s4.specs.Listing.{head_of_list, line_of_listed, moment_asked}
+use Rattle.image_commands.proofs.Done.{for_ok}
 use Rattle.s4.proofs.listing.list.Goals as goal
 
-pub returns-in-Ok-open : goal.returns-in-Ok-open
-returns-in-Ok-open g c = record {
-  list = for_ok c.list_opened.result
-      (λ done. record {
-        drive = done.drive;
-        told = record { image = c.in-Ok.image; verified = c.in-Ok.ensures.verified; opened = c.in-Ok-open.opened; parts = c.in-Ok-open.ensures.opened; named = done.named };
-        lists = done.lists;
-      })
-      c.list_opened.ensures.list;
-}
+pub returns-in-Ok-write_out : goal.returns-in-Ok-write_out
+returns-in-Ok-write_out g c =
+    let s = state_in c.args.drive.now in
+    let store = store_of c.args.drive.now in
+    let asked = c.args.asked in
+    let passed = g.W.Sink.passed in
+    let head : Appends (passed c.args.writer.now) (passed c.write_out.new.writer) (head_of_list asked.json) = search rules in
+    record {
+      list = for_ok c.write_rows.result
+          (λ done. record {
+            readable = subst (λ (o : ℕ). IsVisible s o (moment_asked s asked.at)) c.new.ensures c.in-Ok.ensures.readable;
+            rows = done.rows;
+            listed = subst (λ t. AreListedFrom s store asked.deleted t 0 done.rows) c.in-Ok.ensures.moment done.listed;
+            wrote = Appends-trans (passed c.args.writer.now) (passed c.write_out.new.writer) (passed c.write_rows.new.writer) (head_of_list asked.json) (flat_map (line_of_listed asked.json) done.rows) head done.wrote;
+          })
+          c.write_rows.ensures.rows;
+    }

@@ -3,7 +3,7 @@ use Rattle.std.specs.Io.KnownBytes.{Appends}
 use Rattle.object_map.specs.Rows.{row_of}
 use Rattle.drive.specs.Fields.{state_in, store_of}
 use Rattle.s4.specs.Logging.{LogsRows, lines_of_object}
-use Rattle.s4.proofs.Parts.{for_ok}
+use Rattle.image_commands.proofs.Done.{for_ok}
 use Rattle.s4.proofs.Rows.{one_logged}
 use Rattle.s4.proofs.logging.write_asked.Goals as goal
 

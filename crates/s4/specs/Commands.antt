@@ -1,0 +1,27 @@
+-- What holds of the drive that an image tells.
+use Rattle.std.specs.Prelude.{ℕ, List, Option}
+use Rattle.drive.specs.Fields.{DriveFields}
+use Rattle.drive.specs.Opened.{OpenedFields}
+use Rattle.verifier.specs.Images.{ImageFields}
+use Rattle.verifier.specs.Opened.{IsOpenedOf, IsNamedOf}
+use Rattle.image_commands.specs.Verifying.{IsVerified}
+
+-- The drive that an image tells: one that is opened from an image which was read and verified, and to which nothing has come yet.
+pub record IsToldDrive (known : Option (List ℕ)) (d : DriveFields) : Type 0 where
+  pub image : ImageFields
+  pub verified : IsVerified known image
+  pub opened : OpenedFields
+  pub parts : IsOpenedOf image opened
+  pub named : IsNamedOf opened d
+
+-- Something holds of a drive that was opened.
+pub record OverOpened (opened : OpenedFields) (Holds : DriveFields → Type 0) : Type 0 where
+  pub drive : DriveFields
+  pub named : IsNamedOf opened drive
+  pub holds : Holds drive
+
+-- It holds of the drive that an image tells.
+pub record OverImage (known : Option (List ℕ)) (Holds : DriveFields → Type 0) : Type 0 where
+  pub drive : DriveFields
+  pub told : IsToldDrive known drive
+  pub holds : Holds drive
