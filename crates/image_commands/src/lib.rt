@@ -11,10 +11,12 @@ mod faults;
 mod files;
 mod reading_past;
 mod saving;
+mod streams;
 mod verifying;
 
 pub use faults::{Fault, reading, writing};
 pub use files::{Files, NotReplaced};
 pub use reading_past::{write_object, write_version};
 pub use saving::{Place, longest_image, make_file};
+pub use streams::hold_standard_streams;
 pub use verifying::{read_image, verify_file, write_out};

@@ -19,6 +19,7 @@ mod reading;
 mod telling;
 
 use faults::Failure;
+use image_commands::hold_standard_streams;
 use performing::{fail, perform, refuse};
 use s4_types::Refusal;
 use serving::WriteSink;
@@ -26,6 +27,8 @@ use std::io;
 use std::process::ExitCode;
 
 fn main(rt: HostRuntime) -> ExitCode {
+    // Where the system has nothing to open, the streams stay as they are.
+    let _ = hold_standard_streams(&rt);
     match words_of(&rt) {
         Ok(words) => ExitCode::from(perform(
             &rt,

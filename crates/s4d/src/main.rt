@@ -18,27 +18,17 @@ mod piping;
 mod running;
 mod session_thread;
 
+use image_commands::hold_standard_streams;
 use performing::{fail, refuse};
 use s4d_command::CommandError;
 use serving::{ReadSource, Sink, Source, WriteSink};
 use session_thread::perform_apart;
 use std::convert::AsStr;
-use std::fs::OpenOptions;
 use std::io;
-use std::os::fd::{AsRawFd, IntoRawFd};
 use std::process::ExitCode;
 use std::sync::Wait;
 use std::thread::Threads;
 use std::time::Clock;
-
-/// The file that has nothing.
-const NOTHING: &str = "/dev/null";
-
-/// The number of standard input.
-const STANDARD_INPUT: i32 = 0;
-
-/// The number of standard error, the last of the standard streams.
-const STANDARD_ERROR: i32 = 2;
 
 fn main(rt: HostRuntime) -> ExitCode {
     // Where the system has nothing to open, the streams stay as they are.
@@ -53,26 +43,6 @@ fn main(rt: HostRuntime) -> ExitCode {
         ),
         Err(error) => ExitCode::from(tell(&rt, error.kind())),
     }
-}
-
-// Gives the numbers of those standard streams that are closed to files that can't be used as they are: else the next file that is
-// opened would have such a number, and be read or written in the place of the stream.
-fn hold_standard_streams(rt: &HostRuntime) -> io::Result<()> {
-    let unreadable = OpenOptions::new().write(true).open(rt, NOTHING)?;
-    // A greater number is given up at once: the next file has it then, which can't be written.
-    if unreadable.as_raw_fd() == STANDARD_INPUT {
-        let _ = unreadable.into_raw_fd();
-    } else {
-        drop(unreadable);
-    }
-    for _ in 0..STANDARD_ERROR {
-        let unwritable = OpenOptions::new().read(true).open(rt, NOTHING)?;
-        if unwritable.as_raw_fd() > STANDARD_ERROR {
-            return Ok(());
-        }
-        let _ = unwritable.into_raw_fd();
-    }
-    Ok(())
 }
 
 // What the line came to: 0 only where it is done, and a session of `pipe` was served to its end.
