@@ -1,11 +1,10 @@
 -- Which entries of a journal are asked for, and what they tell.
-use Rattle.std.proofs.Common.{◌≡◌, ◌∙◌, ◌+◌, ◌<◌, ◌++◌, ℕ, Bool, true, false, cond, List, [], ◌∷◌, length, map, filter, take, get_or, Some, ◌-◌, ◌≤◌, refl, sym, ap, ap₂, subst, arith}
+use Rattle.std.proofs.Common.{◌≡◌, ◌∙◌, ◌+◌, ◌<◌, ◌++◌, ℕ, Bool, true, false, cond, List, [], ◌∷◌, length, map, filter, take, get_or, Some, ◌-◌, ◌≤◌, sym, ap, ap₂, subst, arith}
 use Rattle.std.proofs.lemmas.Bool.{cond-true, cond-false}
 use Rattle.std.proofs.lemmas.List.{map-append, append-nil}
 use Rattle.std.proofs.lemmas.List.Elements.{filter_more}
 use Rattle.codec.specs.declared.entries.Triple.{Triple}
 use Rattle.history_view.specs.Changes.{last_index, blocks_of}
-use Rattle.history_view.specs.declared.changes.Blocks.{Blocks}
 
 module _ {A B : Type 0} (f : A → B) (p : A → Bool) where
   one_more : (xs : List A) (i : ℕ) (d x : A) (made : List A) → i < length xs → get_or xs i d ≡ x → cond (p x) (x ∷ []) [] ≡ made → map f (filter p (take (i + 1) xs)) ≡ map f (filter p (take i xs)) ++ map f made

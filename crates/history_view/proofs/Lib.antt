@@ -1,4 +1,4 @@
 pub mod Shown
-pub mod Read
+mod Read
 pub mod Asked
 pub mod Outside

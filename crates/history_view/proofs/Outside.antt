@@ -1,15 +1,14 @@
 -- Which blocks an entry leaves as they are.
-use Rattle.std.proofs.Common.{◌≡◌, ◌≢◌, ◌⊎◌, ◌∙◌, ◌+◌, ◌<◌, ◌≤◌, ◌==◌, ◌&&◌, ◌||◌, ℕ, Bool, true, false, not, cond, List, [], ◌∷◌, Option, nat_le, nat_lt, inl, inr, refl, sym, ap, arith}
+use Rattle.std.proofs.Common.{◌≡◌, ◌≢◌, ◌∙◌, ◌+◌, ◌<◌, ◌≤◌, ◌==◌, ◌&&◌, ◌||◌, ℕ, true, not, List, [], ◌∷◌, Option, nat_le, nat_lt, inl, inr, refl, sym, ap, arith}
 use Rattle.std.proofs.lemmas.Bool.{leb-true, and_parts, cond-false, ne_eqb}
 use Rattle.s4_types.specs.Pointer.{Place}
 use Rattle.s4_types.specs.declared.limits.TheConstants.{OBJECT_BLOCKS, OBJECT_BYTES}
 use Rattle.codec.specs.Checkpoint.{pointer_at}
-use Rattle.codec.specs.declared.inodes.Inode.{Inode}
 use Rattle.codec.specs.declared.entries.Status.{Status}
 use Rattle.codec.specs.declared.entries.Triple.{Triple}
 use Rattle.codec.specs.Entry.{EntryFields, entry_rules, ascend_from, same_slot, was_nothing, changes_now, differs}
-use Rattle.undo_redo.specs.Linked.{Linked, pointer_after}
-use Rattle.history_view.specs.Changes.{last_index, blocks_of, change_of, IsOutside, AllElseStays, SizesAreTold}
+use Rattle.undo_redo.specs.Linked.{pointer_after}
+use Rattle.history_view.specs.Changes.{last_index, blocks_of, IsOutside, AllElseStays, SizesAreTold}
 
 -- ascending indices begin with one that isn't below the given one, and go on behind it
 ascends_on : (low : ℕ) (t : Triple) (triples : List Triple) → ascend_from low (t ∷ triples) ≡ true → (low ≤ t.index) × (ascend_from (t.index + 1) triples ≡ true)

@@ -1,8 +1,8 @@
 -- What is listed of an object at a moment, against the history.
-use Rattle.std.proofs.Common.{◌≡◌, ◌≢◌, ◌⊎◌, ◌∙◌, ◌+◌, ◌&&◌, ◌||◌, ◌<◌, ◌≤◌, ◌==◌, ℕ, Bool, true, false, not, cond, List, [], ◌∷◌, length, Option, Some, None, nat_le, inl, inr, refl, sym, ap, subst, arith}
-use Rattle.std.specs.Prelude.{MatchBool, MatchOption, IfSome, IfNone}
+use Rattle.std.proofs.Common.{◌≡◌, ◌∙◌, ◌+◌, ◌&&◌, ◌||◌, ◌<◌, ◌≤◌, ◌==◌, ℕ, Bool, true, false, not, cond, List, [], ◌∷◌, length, Option, Some, None, nat_le, inl, inr, refl, sym, ap, subst, arith}
+use Rattle.std.specs.Prelude.{MatchBool}
 use Rattle.std.specs.List.{AllByRecursion, list_any}
-use Rattle.std.proofs.lemmas.Bool.{leb-true, le-leb, lt-leb, and_parts, and_from, and_left, and_right, or_from, or_parts, not-true, not_from_true, not_from_false, cond-true, cond-false, true≢false, false_from_ne_true, cases_Bool, cases_lt, cases_eq}
+use Rattle.std.proofs.lemmas.Bool.{leb-true, le-leb, lt-leb, and_parts, and_from, and_right, or_from, or_parts, not-true, not_from_false, cond-true, cond-false, true≢false, false_from_ne_true, cases_lt, cases_eq}
 use Rattle.s4_types.specs.declared.spans.Span.{Span}
 use Rattle.s4_types.specs.declared.versions.Version.{Version}
 use Rattle.s4_types.specs.declared.versions.Version.TheVariants.{Absent, Live}
@@ -11,17 +11,15 @@ use Rattle.s4_model.specs.State.{State}
 use Rattle.s4_model.specs.VersionAt.{version_of}
 use Rattle.s4_model.specs.Visible.{IsVisible, IsSeenBetween, is_hidden, hides, is_within, spans_of}
 use Rattle.s4_model.specs.Sound.{EndsBefore, IsSound}
-use Rattle.block_log.specs.Log.{Stored}
 use Rattle.codec.specs.declared.inodes.Inode.{Inode}
 use Rattle.inode.specs.Contents.{contents_of, bytes_of, byte_of, meaning}
 use Rattle.inode.proofs.Listing.{listed-length}
-use Rattle.object_map.specs.declared.map.Row.{Row}
 use Rattle.object_map.specs.Rows.{row_of}
 use Rattle.version_store.specs.Store.{StoreFields}
-use Rattle.version_store.specs.Versions.{inode_in, inode_by, version_in, version_by}
+use Rattle.version_store.specs.Versions.{inode_in, inode_by, version_by}
 use Rattle.drive.specs.Keeping.{DecodesWhereVisible}
 use Rattle.history_view.specs.declared.listing.Listed.{Listed}
-use Rattle.history_view.specs.Listing.{is_visible, is_listed, listed_of, listed_by, listed_at, TellsVersion, IsPassed, IsListedAt, IsListedNext}
+use Rattle.history_view.specs.Listing.{is_visible, is_listed, listed_of, listed_by, TellsVersion, IsPassed, IsListedAt, IsListedNext}
 
 -- ---- which moments can be read
 
@@ -64,7 +62,7 @@ clock_is_visible s o sound = record { kept = sound.floor_reached; reached = omeg
 -- ---- what is listed
 
 -- an inode has as many bytes as its size says
-size_is_long : (contents : Place → List ℕ) (i : Inode) → i.size ≡ length (bytes_of contents i)
+pub size_is_long : (contents : Place → List ℕ) (i : Inode) → i.size ≡ length (bytes_of contents i)
 size_is_long contents i = sym (listed-length (byte_of contents i) 0 i.size)
 
 -- what an inode tells is the version that it stands for
@@ -82,7 +80,7 @@ unlisted_is_dead contents deleted i is =
     cond-false i.alive (Live (bytes_of contents i) i.attribute i.created i.changed) Absent (or_parts i.alive (deleted && not (i.changed == 0)) is).0
 
 -- the version that the history tells, by the inode of the moment
-version_by_inode : (s : State) (store : StoreFields) (o t : ℕ) (found : Option Inode) → DecodesWhereVisible store s → IsVisible s o t → inode_in store o t ≡ found → version_of s o t ≡ version_by store.log.held found
+pub version_by_inode : (s : State) (store : StoreFields) (o t : ℕ) (found : Option Inode) → DecodesWhereVisible store s → IsVisible s o t → inode_in store o t ≡ found → version_of s o t ≡ version_by store.log.held found
 version_by_inode s store o t found decodes visible is = sym (decodes o t visible) ∙ ap (version_by store.log.held) is
 
 -- a moment that can't be read is passed

@@ -1,5 +1,5 @@
 use Rattle.std.proofs.Common.{◌≡◌, map, filter, take}
-use Rattle.drive.specs.Fields.{state_in, store_of}
+use Rattle.drive.specs.Fields.{state_in}
 use Rattle.history_view.specs.Changes.{change_of, is_asked}
 use Rattle.history_view.proofs.changes.changes_between.Given as goal
 

@@ -1,7 +1,7 @@
 use Rattle.std.proofs.Common.{◌≡◌, ◌∙◌, sym, subst}
 use Rattle.s4_model.specs.Visible.{IsSeenBetween}
 use Rattle.drive.specs.Fields.{state_in}
-use Rattle.history_view.proofs.Shown.{clock_between, none_below_floor, NoneBelow, behind_middle, none_up_to_middle, met}
+use Rattle.history_view.proofs.Shown.{clock_between, none_below_floor, NoneBelow}
 use Rattle.history_view.proofs.moments.earliest.Goals as goal
 
 pub loop-low-init : goal.loop-low-init

@@ -1,5 +1,5 @@
-use Rattle.std.proofs.Common.{ℕ, ◌-◌, ◌<◌, ◌≤◌}
-use Rattle.s4_model.specs.Visible.{IsVisible, IsSeenBetween}
+use Rattle.std.proofs.Common.{◌-◌}
+use Rattle.s4_model.specs.Visible.{IsSeenBetween}
 use Rattle.drive.specs.Fields.{state_in}
 use Rattle.history_view.proofs.Shown.{NoneBelow}
 use Rattle.history_view.proofs.moments.earliest.Given as goal
