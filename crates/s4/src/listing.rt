@@ -41,7 +41,10 @@ fn list<J: Naming, W: Sink>(
     requires writer { W.failures writer.old + 1 < 2 ^ 64 }
     ensures list { OnOk result (ListsObjects (state_in drive.old) (store_of drive.old) asked.now.at asked.now.deleted asked.now.json (W.passed writer.old) (W.passed writer.new)) }
 {
-    let moment = moment_asked(drive, ObjectId::new(0), asked.at)?;
+    let moment = match moment_asked(drive, ObjectId::new(0), asked.at) {
+        Ok(moment) => moment,
+        Err(failure) => return Err(failure),
+    };
     write_out(writer, head_of_list(asked.json).as_bytes())?;
     write_rows(alloc, drive, moment, asked.deleted, asked.json, writer)
 }

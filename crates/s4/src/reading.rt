@@ -41,7 +41,10 @@ fn cat<J: Naming, W: Sink>(
     ensures version { OnOk result (GivesVersion (version_of (state_in drive.old) asked.now.object (moment_asked (state_in drive.old) asked.now.at)) (W.passed writer.old) (W.passed writer.new)) }
 {
     let object = ObjectId::new(asked.object);
-    let moment = moment_asked(drive, object, asked.at)?;
+    let moment = match moment_asked(drive, object, asked.at) {
+        Ok(moment) => moment,
+        Err(failure) => return Err(failure),
+    };
     let mut session = drive.session(Role::Client)?;
     let version = version_at(alloc, drive, &mut session, object, moment)?;
     if let Version::Absent = version {

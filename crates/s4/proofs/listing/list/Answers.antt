@@ -1,4 +1,4 @@
-use Rattle.std.proofs.Common.{rules, ◌≡◌, ℕ, subst}
+use Rattle.std.proofs.Common.{rules, ℕ, subst}
 use Rattle.std.specs.Io.KnownBytes.{Appends}
 use Rattle.std.specs.List.{flat_map}
 use Rattle.std.proofs.KnownBytes.{Appends-trans}
@@ -9,11 +9,11 @@ use Rattle.s4.specs.Listing.{head_of_list, line_of_listed, moment_asked}
 use Rattle.image_commands.proofs.Done.{for_ok}
 use Rattle.s4.proofs.listing.list.Goals as goal
 
-pub returns-in-Ok-write_out : goal.returns-in-Ok-write_out
-returns-in-Ok-write_out g c =
+pub returns : goal.returns
+returns g c =
     let s = state_in c.args.drive.now in
     let store = store_of c.args.drive.now in
-    let asked = c.args.asked in
+    let asked = c.args.asked.now in
     let passed = g.W.Sink.passed in
     let head : Appends (passed c.args.writer.now) (passed c.write_out.new.writer) (head_of_list asked.json) = search rules in
     record {

@@ -1,4 +1,4 @@
-use Rattle.std.proofs.Common.{rules, ◌≡◌, ◌∙◌, sym, subst}
+use Rattle.std.proofs.Common.{rules, subst}
 use Rattle.std.specs.Io.KnownBytes.{Appends}
 use Rattle.std.specs.List.{flat_map}
 use Rattle.std.proofs.KnownBytes.{Appends-trans}
@@ -7,11 +7,11 @@ use Rattle.s4.specs.Logging.{LogsRows, head_of_log, lines_of_object, first_asked
 use Rattle.image_commands.proofs.Done.{for_ok}
 use Rattle.s4.proofs.logging.log.Goals as goal
 
-pub returns-in-Ok-write_out : goal.returns-in-Ok-write_out
-returns-in-Ok-write_out g c =
+pub returns : goal.returns
+returns g c =
     let s = state_in c.args.drive.now in
     let store = store_of c.args.drive.now in
-    let asked = c.args.asked in
+    let asked = c.args.asked.now in
     let passed = g.W.Sink.passed in
     let head : Appends (passed c.args.writer.now) (passed c.write_out.new.writer) (head_of_log asked.json) = search rules in
     let manner = c.manner_of-manner.result in

@@ -1,10 +1,9 @@
-use Rattle.std.proofs.Common.{◌≡◌, ◌+◌, ◌^◌, ◌<◌, ◌∙◌, ℕ, List, None, refl, sym, ap, subst}
+use Rattle.std.proofs.Common.{◌≡◌, ◌+◌, ◌^◌, ◌<◌, ◌∙◌, ℕ, None, refl, sym, subst}
 use Rattle.std.specs.Io.KnownBytes.{Appends}
 use Rattle.object_map.specs.Objects.{IsNextAbove}
 use Rattle.object_map.specs.Rows.{row_of}
 use Rattle.version_store.specs.Store.{StoreFields}
 use Rattle.drive.specs.Fields.{state_in, store_of}
-use Rattle.s4.specs.Logging.{lines_of_object}
 use Rattle.s4.proofs.Rows.{LoggedTo, none_logged, logged_on, all_logged, lines_as_before}
 use Rattle.s4.proofs.logging.write_all.Goals as goal
 

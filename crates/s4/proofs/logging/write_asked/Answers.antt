@@ -1,4 +1,4 @@
-use Rattle.std.proofs.Common.{◌≡◌, ◌≢◌, ℕ, Option, None, IfSome, OnOk, sym, subst}
+use Rattle.std.proofs.Common.{◌≢◌, ℕ, Option, None, IfSome, OnOk, sym, subst}
 use Rattle.std.specs.Io.KnownBytes.{Appends}
 use Rattle.object_map.specs.Rows.{row_of}
 use Rattle.drive.specs.Fields.{state_in, store_of}

@@ -1,9 +1,8 @@
-use Rattle.std.proofs.Common.{◌≡◌, ◌+◌, ◌<◌, ◌++◌, ◌∙◌, List, length, take, get_or, ap, sym, refl, subst, arith}
+use Rattle.std.proofs.Common.{◌≡◌, ◌+◌, ◌<◌, ◌++◌, ◌∙◌, length, take, get_or, ap, sym, refl, subst, arith}
 use Rattle.std.specs.List.{flat_map}
 use Rattle.std.specs.Io.KnownBytes.{Appends}
 use Rattle.std.proofs.KnownBytes.{Appends-trans, Appends-nil}
 use Rattle.std.proofs.lemmas.List.{take_more}
-use Rattle.history_view.specs.declared.changes.ObjectChange.{ObjectChange}
 use Rattle.s4.specs.Logging.{line_of_change}
 use Rattle.s4.proofs.Fronts.{flat_more}
 use Rattle.s4.proofs.logging.write_changes.Goals as goal

@@ -1,4 +1,4 @@
-use Rattle.std.proofs.Common.{◌≡◌, ◌∙◌, ◌≤◌, ◌+◌, ℕ, true, refl, sym, subst, arith}
+use Rattle.std.proofs.Common.{◌∙◌, ◌+◌, ℕ, true, refl, sym, subst, arith}
 use Rattle.drive.specs.Fields.{state_in, store_of}
 use Rattle.history_view.specs.Listing.{IsListedNext, IsPassed}
 use Rattle.s4.proofs.Rows.{CountedTo, none_counted, counted_on, all_counted, live_among_all, next_as_before, passed_as_before}
