@@ -1,1 +1,3 @@
 mod Refusals
+mod Numbers
+mod Simple

@@ -1,12 +1,14 @@
 //! The program's command line, as `clap` builds it.
-ghost use Rattle.std.specs.Prelude.{◌≡◌, IfOk, false};
-ghost use Rattle.clap.specs.declared.builder.command.Command.TheViews.{out-Command as fields_of};
-ghost use Rattle.clap.specs.Walk.{rule_of};
-ghost use Rattle.clap.specs.Simple.{App, app_of, new_app, with_rule, with_subcommand};
-ghost use Rattle.s4d_command.specs.CommandLine.{flag_rule, IsLine};
-ghost use Rattle.s4_command.specs.CommandLine.{line, program, list_line, log_line, cat_line, info_line, number_rule, needed_rule};
+ghost use Rattle.std.specs.Prelude.{◌≡◌, IfOk};
+ghost use Rattle.clap.specs.Simple.{App, app_of, with_subcommand};
+ghost use Rattle.s4d_command.specs.CommandLine.{IsLine};
+ghost use Rattle.s4_command.specs.CommandLine.{line, program, list_line, log_line, cat_line, info_line, diff_line, export_line, restore_line};
+ghost use Rattle.s4_command.specs.CommandLine.{check_line, compact_line};
 
-use clap::{Arg, ArgAction, Command};
+use crate::arguments::{
+    named, with_flag, with_needed_number, with_number, with_numbers, with_operand, with_optional,
+};
+use clap::Command;
 use std::alloc::{AllocError, Global};
 
 /// The version of the program, as the file VERSION has it.
@@ -18,82 +20,8 @@ const IMAGE: (&str, &str) = ("IMAGE", "The file of a drive");
 /// What each `--json` does.
 const JSON: &str = "Prints one JSON object a line";
 
-fn number_of<'a>(alloc: Global, name: &'a str, value: &'a str, help: &'a str) -> Arg<'a>
-    ensures rule { rule_of result ≡ number_rule name.entry.now }
-    ensures own { result.global ≡ false }
-{
-    Arg::new(alloc, name)
-        .long(name)
-        .action(ArgAction::Set)
-        .value_name(value)
-        .help(help)
-}
-
-fn operand_of<'a>(alloc: Global, name: &'a str, value: &'a str, help: &'a str) -> Arg<'a>
-    ensures rule { rule_of result ≡ needed_rule name.entry.now }
-    ensures own { result.global ≡ false }
-{
-    Arg::new(alloc, name)
-        .action(ArgAction::Set)
-        .value_name(value)
-        .required(true)
-        .help(help)
-}
-
-fn flag_of<'a>(alloc: Global, name: &'a str, help: &'a str) -> Arg<'a>
-    ensures rule { rule_of result ≡ flag_rule name.entry.now }
-    ensures own { result.global ≡ false }
-{
-    Arg::new(alloc, name)
-        .long(name)
-        .action(ArgAction::SetTrue)
-        .help(help)
-}
-
-// A command that is being made, with an option for a number more. The first refusal of memory stays.
-fn with_number<'a>(
-    alloc: Global,
-    command: Result<Command<'a>, AllocError>,
-    name: &'a str,
-    value: &'a str,
-    help: &'a str,
-) -> Result<Command<'a>, AllocError>
-    ensures { (app : App) → IsLine command.entry app → IsLine result (with_rule app (number_rule name.entry.now)) }
-{
-    command?.arg(number_of(alloc, name, value, help))
-}
-
-// It, with an operand more.
-fn with_operand<'a>(
-    alloc: Global,
-    command: Result<Command<'a>, AllocError>,
-    name: &'a str,
-    value: &'a str,
-    help: &'a str,
-) -> Result<Command<'a>, AllocError>
-    ensures { (app : App) → IsLine command.entry app → IsLine result (with_rule app (needed_rule name.entry.now)) }
-{
-    command?.arg(operand_of(alloc, name, value, help))
-}
-
-// It, with a flag more.
-fn with_flag<'a>(
-    alloc: Global,
-    command: Result<Command<'a>, AllocError>,
-    name: &'a str,
-    help: &'a str,
-) -> Result<Command<'a>, AllocError>
-    ensures { (app : App) → IsLine command.entry app → IsLine result (with_rule app (flag_rule name.entry.now)) }
-{
-    command?.arg(flag_of(alloc, name, help))
-}
-
-// A command with its name and what it does.
-fn named<'a>(alloc: Global, name: &'a str, about: &'a str) -> Result<Command<'a>, AllocError>
-    ensures { IsLine result (new_app name.entry.now) }
-{
-    Ok(Command::new(alloc, name).about(about))
-}
+/// What an `--at` does that need not be given.
+const AT: &str = "At this moment, in place of the clock's";
 
 fn list_command<'a>(alloc: Global) -> Result<Command<'a>, AllocError>
     ensures { IsLine result list_line }
@@ -103,13 +31,7 @@ fn list_command<'a>(alloc: Global) -> Result<Command<'a>, AllocError>
         "list",
         "Prints the objects that are live, by ascending number",
     );
-    let at = with_number(
-        alloc,
-        list,
-        "at",
-        "M",
-        "At this moment, in place of the clock's",
-    );
+    let at = with_number(alloc, list, "at", "M", AT);
     let deleted = with_flag(alloc, at, "deleted", "Also those that were deleted before");
     let json = with_flag(alloc, deleted, "json", JSON);
     with_operand(alloc, json, "image", IMAGE.0, IMAGE.1)
@@ -134,13 +56,7 @@ fn cat_command<'a>(alloc: Global) -> Result<Command<'a>, AllocError>
     ensures { IsLine result cat_line }
 {
     let cat = named(alloc, "cat", "Prints the bytes of an object");
-    let at = with_number(
-        alloc,
-        cat,
-        "at",
-        "M",
-        "At this moment, in place of the clock's",
-    );
+    let at = with_number(alloc, cat, "at", "M", AT);
     let image = with_operand(alloc, at, "image", IMAGE.0, IMAGE.1);
     with_operand(alloc, image, "object", "OBJECT", "The number of an object")
 }
@@ -151,6 +67,80 @@ fn info_command<'a>(alloc: Global) -> Result<Command<'a>, AllocError>
     let info = named(alloc, "info", "Prints the numbers of an image");
     let json = with_flag(alloc, info, "json", JSON);
     with_operand(alloc, json, "image", IMAGE.0, IMAGE.1)
+}
+
+fn diff_command<'a>(alloc: Global) -> Result<Command<'a>, AllocError>
+    ensures { IsLine result diff_line }
+{
+    let diff = named(alloc, "diff", "Prints what differs between two moments");
+    let object = with_number(alloc, diff, "object", "O", "Of this object alone");
+    let patch = with_flag(alloc, object, "patch", "Also the bytes that differ");
+    let json = with_flag(alloc, patch, "json", JSON);
+    let image = with_operand(alloc, json, "image", IMAGE.0, IMAGE.1);
+    let from = with_operand(alloc, image, "from", "FROM", "The first moment");
+    with_optional(
+        alloc,
+        from,
+        "to",
+        "TO",
+        "The other moment; the clock's where it isn't given",
+    )
+}
+
+fn export_command<'a>(alloc: Global) -> Result<Command<'a>, AllocError>
+    ensures { IsLine result export_line }
+{
+    let export = named(
+        alloc,
+        "export",
+        "Writes the bytes of each object into a folder, with a manifest",
+    );
+    let at = with_number(alloc, export, "at", "M", AT);
+    let image = with_operand(alloc, at, "image", IMAGE.0, IMAGE.1);
+    with_operand(alloc, image, "folder", "DIR", "The folder")
+}
+
+fn restore_command<'a>(alloc: Global) -> Result<Command<'a>, AllocError>
+    ensures { IsLine result restore_line }
+{
+    let restore = named(
+        alloc,
+        "restore",
+        "Makes the present what it was at a moment",
+    );
+    let at = with_needed_number(alloc, restore, "at", "M", "The moment");
+    let objects = with_numbers(
+        alloc,
+        at,
+        "object",
+        "O",
+        "This object alone; may be given again, for a greater number",
+    );
+    let dry_run = with_flag(
+        alloc,
+        objects,
+        "dry-run",
+        "Prints what would be done, and does nothing",
+    );
+    with_operand(alloc, dry_run, "image", IMAGE.0, IMAGE.1)
+}
+
+fn check_command<'a>(alloc: Global) -> Result<Command<'a>, AllocError>
+    ensures { IsLine result check_line }
+{
+    let check = named(alloc, "check", "Reads every version that can be read");
+    with_operand(alloc, check, "image", IMAGE.0, IMAGE.1)
+}
+
+fn compact_command<'a>(alloc: Global) -> Result<Command<'a>, AllocError>
+    ensures { IsLine result compact_line }
+{
+    let compact = named(
+        alloc,
+        "compact",
+        "Cleans a drive, and gathers what is scattered",
+    );
+    with_operand(alloc, compact, "image", IMAGE.0, IMAGE.1)
 }
 
 // The program with one command more. The first refusal of memory stays.
@@ -170,7 +160,9 @@ fn empty_program<'a>(alloc: Global) -> Result<Command<'a>, AllocError>
 {
     Ok(
         Command::new(alloc, "s4")
-            .about("Looks into the past of a drive. No command changes an image")
+            .about(
+                "Looks into the past of a drive, and brings it back. Only restore and compact change an image",
+            )
             .version(VERSION)
             .propagate_version(true)
             .subcommand_required(true)
@@ -182,8 +174,13 @@ fn empty_program<'a>(alloc: Global) -> Result<Command<'a>, AllocError>
 pub(crate) fn command_line<'a>(alloc: Global) -> Result<Command<'a>, AllocError>
     ensures { IfOk result (λ c. app_of c ≡ line) }
 {
-    let first = with_command(empty_program(alloc), list_command(alloc));
-    let second = with_command(first, log_command(alloc));
-    let third = with_command(second, cat_command(alloc));
-    with_command(third, info_command(alloc))
+    let list = with_command(empty_program(alloc), list_command(alloc));
+    let log = with_command(list, log_command(alloc));
+    let cat = with_command(log, cat_command(alloc));
+    let info = with_command(cat, info_command(alloc));
+    let diff = with_command(info, diff_command(alloc));
+    let export = with_command(diff, export_command(alloc));
+    let restore = with_command(export, restore_command(alloc));
+    let check = with_command(restore, check_command(alloc));
+    with_command(check, compact_command(alloc))
 }

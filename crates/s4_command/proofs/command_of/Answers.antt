@@ -1,18 +1,24 @@
-use Rattle.std.proofs.Common.{rules, ◌≡◌, ◌≢◌, OnErr, Option, List, map, true, sym, subst}
-use Rattle.clap.specs.Simple.{App, subcommand_of, subcommand_rows_of}
+use Rattle.std.proofs.Common.{◌≡◌, ◌≢◌, IfOk, IfErr, Option, List, map, true, sym, subst}
+use Rattle.clap.specs.Simple.{App, subcommand_of}
 use Rattle.clap.specs.Takes.{takes}
 use Rattle.clap.specs.Walk.{Row, Text}
-use Rattle.s4_command.specs.CommandLine.{line, SpellsNone}
+use Rattle.s4_command.specs.CommandLine.{line, Spells, SpellsNone}
 use Rattle.s4_command.specs.declared.NoCommand.TheVariants.{NoMemory}
-use Rattle.s4_command.proofs.Refusals.{under_premises}
+use Rattle.s4_command.proofs.Refusals.{under_premise}
+use Rattle.s4_command.proofs.Simple.{same_subcommand}
 use Rattle.s4_command.proofs.command_of.Goals as goal
+
+pub returns-in-Ok-clause-spelled : goal.returns-in-Ok-clause-spelled
+returns-in-Ok-clause-spelled g c =
+    let same = same_subcommand _ (map g.S.AsStr.text c.args.words.now) c.in-Ok.matches c.in_ok-parser.ensures c.in-Ok.ensures.matches in
+    subst (λ (named : Option (Text × List Row)). IfOk c.command_in.result (Spells named)) same c.command_in.ensures.spelled
 
 pub returns-in-Ok-clause-usage : goal.returns-in-Ok-clause-usage
 returns-in-Ok-clause-usage g c =
     let words = map g.S.AsStr.text c.args.words.now in
-    let same : subcommand_rows_of c.in-Ok.matches ≡ subcommand_of line words = search rules in
-    under_premises (SpellsNone (subcommand_of line words)) (takes line words ≡ true) c.command_in.result (λ e. e ≢ NoMemory)
-    (subst (λ (named : Option (Text × List Row)). OnErr c.command_in.result (SpellsNone named)) same c.command_in.ensures.usage)
+    let same = same_subcommand _ words c.in-Ok.matches c.in_ok-parser.ensures c.in-Ok.ensures.matches in
+    under_premise (SpellsNone (subcommand_of line words)) (takes line words ≡ true) c.command_in.result (λ e. e ≢ NoMemory)
+    (subst (λ (named : Option (Text × List Row)). IfErr c.command_in.result (λ e. e ≢ NoMemory → SpellsNone named)) same c.command_in.ensures.usage)
 
 pub returns-in-Err-clause-usage : goal.returns-in-Err-clause-usage
 returns-in-Err-clause-usage g c = λ apart taken.

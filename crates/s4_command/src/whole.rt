@@ -1,0 +1,88 @@
+//! What asks for an image as a whole: `info`, `check` and `compact`.
+ghost use Rattle.std.specs.Prelude.{IfOk, OnErr, Some, codes};
+ghost use Rattle.clap.specs.Walk.{rows_of};
+ghost use Rattle.clap.specs.Matches.{found_of};
+ghost use Rattle.s4_command.specs.CommandLine.{Spells, SpellsNone, SpellsInfo, SpellsCheck, SpellsCompact};
+
+use crate::reading::{is_given, text_in};
+use crate::{Command, NoCommand};
+use clap::ArgMatches;
+
+/// What `info` asks for.
+#[derive(Clone, Copy)]
+pub struct InfoAsked<'a> {
+    /// The image's file.
+    pub image: &'a str,
+    pub json: bool,
+}
+
+/// What `check` asks for.
+#[derive(Clone, Copy)]
+pub struct CheckAsked<'a> {
+    /// The image's file.
+    pub image: &'a str,
+}
+
+/// What `compact` asks for.
+#[derive(Clone, Copy)]
+pub struct CompactAsked<'a> {
+    /// The image's file.
+    pub image: &'a str,
+}
+
+pub(crate) fn info_asked<'a>(found: &ArgMatches<'a>) -> Result<Command<'a>, NoCommand<'a>>
+    ensures spelled { IfOk result (Spells (Some (codes "info", rows_of (found_of found.now)))) }
+    ensures usage { OnErr result (SpellsNone (Some (codes "info", rows_of (found_of found.now)))) }
+{
+    match info_in(found) {
+        Ok(info) => Ok(Command::Info(info)),
+        Err(refusal) => Err(refusal),
+    }
+}
+
+pub(crate) fn check_asked<'a>(found: &ArgMatches<'a>) -> Result<Command<'a>, NoCommand<'a>>
+    ensures spelled { IfOk result (Spells (Some (codes "check", rows_of (found_of found.now)))) }
+    ensures usage { OnErr result (SpellsNone (Some (codes "check", rows_of (found_of found.now)))) }
+{
+    match check_in(found) {
+        Ok(check) => Ok(Command::Check(check)),
+        Err(refusal) => Err(refusal),
+    }
+}
+
+pub(crate) fn compact_asked<'a>(found: &ArgMatches<'a>) -> Result<Command<'a>, NoCommand<'a>>
+    ensures spelled { IfOk result (Spells (Some (codes "compact", rows_of (found_of found.now)))) }
+    ensures usage { OnErr result (SpellsNone (Some (codes "compact", rows_of (found_of found.now)))) }
+{
+    match compact_in(found) {
+        Ok(compact) => Ok(Command::Compact(compact)),
+        Err(refusal) => Err(refusal),
+    }
+}
+
+fn info_in<'a>(matches: &ArgMatches<'a>) -> Result<InfoAsked<'a>, NoCommand<'a>>
+    ensures spelled { IfOk result (SpellsInfo (rows_of (found_of matches.now))) }
+    ensures usage { OnErr result ((info : _) → SpellsInfo (rows_of (found_of matches.now)) info → ⊥) }
+{
+    let image = text_in(matches, "image").ok_or(NoCommand::Unspelled)?;
+    Ok(InfoAsked {
+        image,
+        json: is_given(matches, "json"),
+    })
+}
+
+fn check_in<'a>(matches: &ArgMatches<'a>) -> Result<CheckAsked<'a>, NoCommand<'a>>
+    ensures spelled { IfOk result (SpellsCheck (rows_of (found_of matches.now))) }
+    ensures usage { OnErr result ((check : _) → SpellsCheck (rows_of (found_of matches.now)) check → ⊥) }
+{
+    let image = text_in(matches, "image").ok_or(NoCommand::Unspelled)?;
+    Ok(CheckAsked { image })
+}
+
+fn compact_in<'a>(matches: &ArgMatches<'a>) -> Result<CompactAsked<'a>, NoCommand<'a>>
+    ensures spelled { IfOk result (SpellsCompact (rows_of (found_of matches.now))) }
+    ensures usage { OnErr result ((compact : _) → SpellsCompact (rows_of (found_of matches.now)) compact → ⊥) }
+{
+    let image = text_in(matches, "image").ok_or(NoCommand::Unspelled)?;
+    Ok(CompactAsked { image })
+}
