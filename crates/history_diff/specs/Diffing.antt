@@ -1,0 +1,120 @@
+-- What is told of the differences between two moments of a drive.
+use Rattle.std.specs.Prelude.{◌≡◌, ◌⊎◌, ⊤, ℕ, ◌<◌, ◌++◌, if◌then◌else◌, Bool, true, false, List, [], ◌∷◌, Option, Some, None}
+use Rattle.std.specs.List.{flat_map}
+use Rattle.std.specs.Io.KnownBytes.{Appends}
+use Rattle.s4_types.specs.declared.versions.Version.{Version}
+use Rattle.s4_model.specs.State.{State}
+use Rattle.s4_model.specs.VersionAt.{version_of}
+use Rattle.s4_model.specs.Visible.{IsVisible}
+use Rattle.history_text.specs.Json.{json_line}
+use Rattle.history_diff.specs.declared.diffing.Comparison.{Comparison}
+use Rattle.history_diff.specs.declared.diffing.DiffAsked.{DiffAsked}
+use Rattle.history_diff.specs.declared.faults.DiffFault.{DiffFault}
+use Rattle.history_diff.specs.declared.faults.DiffFault.TheVariants.{Unreadable, Stopped}
+use Rattle.history_diff.specs.Differences.{AreAlike, IsDifferenceOf, Told, content_of}
+use Rattle.history_diff.specs.Lines.{difference_line}
+use Rattle.history_diff.specs.Patches.{patch_lines}
+use Rattle.history_diff.specs.Json.{difference_data, ranges_data}
+
+-- an object's two versions, and what differs between them
+pub record ObjectDifference : Type 0 where
+  pub object : ℕ
+  pub before : Version
+  pub after : Version
+  pub told : Told
+
+-- the text of what differs of an object: its line, and where a patch is asked for the lines of its bytes
+abbrev pub text_of : Bool → ObjectDifference → List ℕ
+text_of patch d = difference_line d.object d.told ++ (if patch then patch_lines (content_of d.before) (content_of d.after) d.told.ranges else [])
+
+-- its line for programs
+abbrev pub json_of : Bool → ObjectDifference → List ℕ
+json_of patch d = json_line (difference_data d.object (ranges_data patch (content_of d.before) (content_of d.after) d.told.ranges) d.told)
+
+-- what is written of it, for programs or for people
+abbrev pub lines_of : Comparison → ObjectDifference → List ℕ
+lines_of c d = if c.json then json_of c.patch d else text_of c.patch d
+
+-- An object is passed: its versions at the two moments are alike, or one of these moments of it can't be read.
+abbrev pub IsPassed : State → Comparison → ℕ → Type 0
+IsPassed s c o = IsVisible s o c.before → IsVisible s o c.after → AreAlike (version_of s o c.before) (version_of s o c.after)
+
+-- This is what differs of an object between the two moments, which can be read.
+pub record IsDifferenceAt (s : State) (c : Comparison) (d : ObjectDifference) : Type 0 where
+  pub visible_before : IsVisible s d.object c.before
+  pub visible_after : IsVisible s d.object c.after
+  pub before : d.before ≡ version_of s d.object c.before
+  pub after : d.after ≡ version_of s d.object c.after
+  pub told : IsDifferenceOf d.before d.after d.told
+
+-- This is the difference of the least object above one that isn't passed.
+pub record IsDifferenceNext (s : State) (c : Comparison) (above : ℕ) (d : ObjectDifference) : Type 0 where
+  pub behind : above < d.object
+  pub here : IsDifferenceAt s c d
+  pub least : (o : ℕ) → above < o → o < d.object → IsPassed s c o
+
+-- These are the differences of all objects above one, by ascending number.
+abbrev pub AreDifferencesFrom : State → Comparison → ℕ → List ObjectDifference → Type 0
+AreDifferencesFrom s c above [] = (o : ℕ) → above < o → IsPassed s c o
+AreDifferencesFrom s c above (d ∷ differences) = IsDifferenceNext s c above d × AreDifferencesFrom s c d.object differences
+
+-- These are the differences of the one object: one, or none.
+abbrev pub AreDifferencesOf : State → Comparison → ℕ → List ObjectDifference → Type 0
+AreDifferencesOf s c o [] = IsPassed s c o
+AreDifferencesOf s c o (d ∷ []) = (d.object ≡ o) × IsDifferenceAt s c d
+AreDifferencesOf s c o (d ∷ e ∷ differences) = ⊥
+
+-- the differences of the object that is asked for, or of all
+abbrev pub AreAsked : State → Comparison → Option ℕ → List ObjectDifference → Type 0
+AreAsked s c None differences = AreDifferencesFrom s c 0 differences
+AreAsked s c (Some o) differences = AreDifferencesOf s c o differences
+
+-- The differences that are asked for are the only ones: it is a clause of a function with an empty body.
+abbrev pub DifferencesAreOnly : Type 0
+DifferencesAreOnly = (s : State) (c : Comparison) (object : Option ℕ) (one other : List ObjectDifference) → AreAsked s c object one → AreAsked s c object other → one ≡ other
+
+-- whether a list has an element
+abbrev pub has_any : {X : Type 0} → List X → Bool
+has_any [] = false
+has_any (x ∷ xs) = true
+
+-- The output has the lines of the differences behind it that are asked for, and this says whether there are any.
+pub record WritesAsked (s : State) (c : Comparison) (object : Option ℕ) (differs : Bool) (output output' : Option (List ℕ)) : Type 0 where
+  pub differences : List ObjectDifference
+  pub asked : AreAsked s c object differences
+  pub wrote : Appends output output' (flat_map (lines_of c) differences)
+  pub answer : differs ≡ has_any differences
+
+-- the object whose moments must be such that can be read; where none is asked for, 0: its moments are hidden where those of all objects are
+abbrev pub object_asked : Option ℕ → ℕ
+object_asked None = 0
+object_asked (Some o) = o
+
+-- the moment that is asked for, and the clock's where none is
+abbrev pub moment_asked : State → Option ℕ → ℕ
+moment_asked s None = s.clock
+moment_asked s (Some at) = at
+
+-- which moments are compared, and how what differs is told
+abbrev pub comparison_of : State → DiffAsked → Comparison
+comparison_of s asked = record { before = asked.before; after = moment_asked s asked.after; json = asked.json; patch = asked.patch }
+
+-- both moments of an object can be read
+pub record AreVisible (s : State) (o t u : ℕ) : Type 0 where
+  pub before : IsVisible s o t
+  pub after : IsVisible s o u
+
+-- Both moments can be read, and the output has the lines of the differences behind it that are asked for; this says whether there are any.
+pub record TellsDifferences (s : State) (asked : DiffAsked) (differs : Bool) (output output' : Option (List ℕ)) : Type 0 where
+  pub visible : AreVisible s (object_asked asked.object) asked.before (moment_asked s asked.after)
+  pub wrote : WritesAsked s (comparison_of s asked) asked.object differs output output'
+
+-- a moment of an object is one of the two, and can't be read
+pub record IsUnreadable (s : State) (o before after moment : ℕ) : Type 0 where
+  pub among : (moment ≡ before) ⊎ (moment ≡ after)
+  pub hidden : IsVisible s o moment → ⊥
+
+-- A moment is told as one that can't be read only where it is one of the two, and can't; then nothing is written.
+abbrev pub IsFaultOf : State → DiffAsked → (output output' : Option (List ℕ)) → DiffFault → Type 0
+IsFaultOf s asked output output' (Unreadable moment) = IsUnreadable s (object_asked asked.object) asked.before (moment_asked s asked.after) moment × (output' ≡ output)
+IsFaultOf s asked output output' (Stopped stop) = ⊤

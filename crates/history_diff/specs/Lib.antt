@@ -1,0 +1,7 @@
+pub mod Ranges
+pub mod Differences
+pub mod Lines
+pub mod Patches
+pub mod Json
+pub mod Diffing
+pub mod private
