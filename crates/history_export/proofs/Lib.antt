@@ -1,0 +1,5 @@
+mod Covering
+mod Files
+mod Fronts
+pub mod Counts
+pub mod Seen

@@ -1,0 +1,34 @@
+-- What a check of a drive has read.
+use Rattle.std.specs.Prelude.{◌≡◌, ℕ, ◌+◌, ◌-◌, ◌^◌, ◌<◌, min, List, [], ◌∷◌, length, Option, None}
+use Rattle.std.specs.List.{flat_map}
+use Rattle.std.specs.Io.KnownBytes.{Appends}
+use Rattle.s4_model.specs.State.{State}
+use Rattle.object_map.specs.Objects.{IsNextAbove}
+use Rattle.object_map.specs.Rows.{row_of}
+use Rattle.version_store.specs.Store.{StoreFields}
+use Rattle.history_export.specs.Versions.{pairs_of, bytes_at}
+use Rattle.history_export.specs.declared.checking.Checked.{Checked}
+
+-- a count, which stops at 2^64 - 1
+abbrev pub capped : ℕ → ℕ
+capped n = min n (2 ^ 64 - 1)
+
+-- counts, with the versions of these objects at these moments
+abbrev pub with_read : State → Checked → List (ℕ × ℕ) → Checked
+with_read s c pairs = record { versions = capped (c.versions + length pairs); bytes = capped (c.bytes + bytes_at s pairs) }
+
+-- nothing is counted
+abbrev pub none_read : Checked
+none_read = record { versions = 0; bytes = 0 }
+
+-- These are all objects above one that have a row, by ascending number.
+abbrev pub HaveRowsFrom : StoreFields → ℕ → List ℕ → Type 0
+HaveRowsFrom store after [] = (o : ℕ) → after < o → row_of store.rows o ≡ None
+HaveRowsFrom store after (o ∷ objects) = IsNextAbove store.rows after o × HaveRowsFrom store o objects
+
+-- Each version of each object that can be read was read once, and whoever is told was told of each object.
+pub record ChecksAll (s : State) (store : StoreFields) (checked : Checked) (told told' : Option (List ℕ)) : Type 0 where
+  pub objects : List ℕ
+  pub have_rows : HaveRowsFrom store 0 objects
+  pub read : checked ≡ with_read s none_read (flat_map (pairs_of s store) objects)
+  pub objects_told : Appends told told' objects

@@ -1,0 +1,23 @@
+//! The cores of two commands over a drive: `export` writes the objects of a moment into a folder, and `check` reads every version.
+//!
+//! The layer above may rely on this: nothing here changes a drive's state, and at a moment that can be read nothing is refused but for
+//! want of memory, or of a seat. `export` leaves one file in an empty folder for each object that is live at the moment, with exactly its
+//! bytes, and a manifest with one line of JSON for each. `check_all` reads each version that can be read once, from the first moment of its
+//! object that can be, and counts versions and bytes.
+//!
+//! What a folder of the system has of the bytes that it was given no clause says.
+#![tactic(auto)]
+
+mod checking;
+mod exporting;
+mod faults;
+mod folders;
+pub mod laws;
+mod manifest;
+mod versions;
+
+pub use checking::{Checked, Progress, Silent, check_all};
+pub use exporting::export;
+pub use faults::{ExportError, ExportedFile};
+pub use folders::{Folder, SystemFolder};
+pub use manifest::MANIFEST;
