@@ -1,0 +1,39 @@
+-- All objects of a drive were restored.
+use Rattle.std.proofs.Common.{◌≡◌, ◌≢◌, ◌∙◌, ℕ, List, inl, inr, sym, ap, subst, arith}
+use Rattle.std.specs.List.{AllByRecursion}
+use Rattle.std.proofs.lemmas.Bool.{cases_eq}
+use Rattle.s4_types.specs.declared.versions.Version.TheVariants.{Absent}
+use Rattle.s4_model.specs.State.{State}
+use Rattle.s4_model.specs.VersionAt.{version_of}
+use Rattle.s4_model.specs.Visible.{IsVisible}
+use Rattle.s4_model.specs.Refusals.{present}
+use Rattle.s4_model.specs.Sound.{IsSound}
+use Rattle.version_store.specs.Store.{StoreFields}
+use Rattle.drive.specs.Keeping.{DecodesWhereVisible}
+use Rattle.drive.specs.Opened.{NoneFrom}
+use Rattle.history_restore.specs.declared.restoring.Restored.{Restored}
+use Rattle.history_restore.specs.Whole.{AreRowsFrom, AscendBelow, RestoresEach, RestoresAll, LeavesRest}
+use Rattle.history_restore.proofs.Readable.{clock_is_visible}
+use Rattle.history_restore.proofs.Rows.{rows_ascend, no_row, rowless_is_absent}
+use Rattle.history_restore.proofs.Each.{map_all}
+
+-- an object that has no row isn't there at any moment that can be read; nor is number 0
+absent_where_rowless : (store : StoreFields) (s : State) (objects : List ℕ) (q t : ℕ) → DecodesWhereVisible store s → IsSound s → AreRowsFrom store 0 objects → AllByRecursion (λ (o : ℕ). q ≢ o) objects → IsVisible s q t → version_of s q t ≡ Absent
+absent_where_rowless store s objects q t decodes sound rows apart visible =
+    elim (cases_eq q 0) [
+      | inl zero ↦ ap (λ o. version_of s o t) zero ∙ sound.nobody t
+      | inr above ↦ rowless_is_absent store s q t decodes (no_row store 0 objects q rows (omega (arith, above)) apart) visible
+    ]
+
+pub restores_all : (s later : State) (store : StoreFields) (at : ℕ) (objects : List ℕ) (all : List Restored) → DecodesWhereVisible store s → IsSound s → NoneFrom s.next store → AreRowsFrom store 0 objects
+    → RestoresEach s later at objects all → LeavesRest s later objects → RestoresAll s later at all
+restores_all s later store at objects all decodes sound unborn rows each rest =
+    record {
+      each = each.each;
+      ascend = subst (AscendBelow 0 s.next) (sym each.objects_are) (rows_ascend store s.next 0 objects unborn rows);
+      numbered = each.numbered;
+      rest = λ q lt apart.
+          let others : AllByRecursion (λ (o : ℕ). q ≢ o) objects = subst (AllByRecursion (λ (o : ℕ). q ≢ o)) each.objects_are (map_all (λ (o : ℕ). q ≢ o) (λ (r : Restored). r.object) all apart) in
+          let now : present s q ≡ Absent = absent_where_rowless store s objects q s.clock decodes sound rows others (clock_is_visible s q sound) in
+          (rest q lt others ∙ now, now, λ visible. absent_where_rowless store s objects q at decodes sound rows others visible);
+    }

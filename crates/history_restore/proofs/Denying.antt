@@ -1,0 +1,56 @@
+-- What is left to refuse of a change of an object that is there, within the limits.
+use Rattle.std.proofs.Common.{◌≡◌, ℕ, true, Option, inl, inr, refl, ap, subst}
+use Rattle.s4_types.specs.History.{History}
+use Rattle.s4_types.specs.declared.requests.Role.{Role}
+use Rattle.s4_types.specs.declared.requests.Request.{Request}
+use Rattle.s4_types.specs.declared.requests.Request.TheVariants.{Create, Delete, Read, Write, Append, Truncate, GetAttr, SetAttr, SetWindow, Flush, FlushO}
+use Rattle.s4_types.specs.declared.refusals.Refusal.{Refusal}
+use Rattle.s4_types.specs.declared.refusals.Refusal.TheVariants.{NoSpace, NoMemory, ChainFull, Busy}
+use Rattle.s4_types.specs.declared.replies.Reply.{Reply}
+use Rattle.s4_types.specs.declared.replies.Reply.TheVariants.{Refused}
+use Rattle.s4_model.specs.State.{State, state_of}
+use Rattle.s4_model.specs.Refusals.{first_refusal}
+use Rattle.s4_model.specs.Step.{Step, Refuses, Serves, MayRefuse, AsFirst, ForMemory, AsOpen, IsLeftOpen, judged}
+use Rattle.s4_model.specs.Laws.{is_of_want}
+use Rattle.drive.specs.Later.{IsOfVersions}
+use Rattle.history_restore.specs.Asking.{IsGiven}
+use Rattle.history_restore.proofs.Stepping.{IsNoRead, no_read, accepts_none}
+
+-- ---- what a step refuses
+
+-- a change is judged by the history as it was
+judged_as_was : (h : History) (request : Request) (now : ℕ) → IsOfVersions request → judged h request now ≡ state_of h
+judged_as_was h (Create attribute) now of = refl
+judged_as_was h (Delete object) now of = refl
+judged_as_was h (Read object offset len at) now of = absurd of
+judged_as_was h (Write object offset bytes) now of = refl
+judged_as_was h (Append object bytes) now of = refl
+judged_as_was h (Truncate object size) now of = refl
+judged_as_was h (GetAttr object at) now of = absurd of
+judged_as_was h (SetAttr object attribute) now of = refl
+judged_as_was h (SetWindow window) now of = refl
+judged_as_was h (Flush first last) now of = refl
+judged_as_was h (FlushO object first last) now of = refl
+
+want_of_open : (e : Refusal) → IsLeftOpen e → is_of_want e ≡ true
+want_of_open ChainFull is = refl
+want_of_open NoSpace is = refl
+want_of_open Busy is = refl
+want_of_open NoMemory is = refl
+want_of_open _ is = absurd is
+
+may_is_given : (first : Option Refusal) (request : Request) (e : Refusal) → MayRefuse first request e → IsGiven first e
+may_is_given first request e (AsFirst is) = inr is
+may_is_given first request e (ForMemory is wants) = inl (ap is_of_want is)
+may_is_given first request e (AsOpen none is) = inl (want_of_open e is)
+
+-- what a step of a change is refused for
+given_by : (h after : History) (role : Role) (request : Request) (now : ℕ) (reply : Reply) (e : Refusal) → IsOfVersions request → reply ≡ Refused e → Step h role request now reply after → IsNoRead request → IsGiven (first_refusal (state_of h) role request) e
+given_by h after role request now reply e of refused (Refuses refusal is may after_is) unread =
+    let same : refusal ≡ e = cc in
+    subst (λ (s : State). IsGiven (first_refusal s role request) e) (judged_as_was h request now of)
+    (subst (IsGiven (first_refusal (judged h request now) role request)) same (may_is_given (first_refusal (judged h request now) role request) request refusal may))
+given_by h after role request now reply e of refused (Serves r free accepts after_is) unread = absurd (accepts_none h request now reply r e unread refused accepts)
+
+pub is_given : (h after : History) (role : Role) (request : Request) (now : ℕ) (reply : Reply) (e : Refusal) → IsOfVersions request → reply ≡ Refused e → Step h role request now reply after → IsGiven (first_refusal (state_of h) role request) e
+is_given h after role request now reply e of refused step = given_by h after role request now reply e of refused step (no_read request of)

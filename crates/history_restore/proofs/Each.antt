@@ -1,0 +1,262 @@
+-- Objects that are restored one by one.
+use Rattle.std.proofs.Common.{◌≡◌, ◌≢◌, ◌⊎◌, ◌∙◌, ◌+◌, ◌++◌, ◌<◌, ◌≤◌, ℕ, zero, suc, List, [], ◌∷◌, length, take, get_or, map, inl, inr, refl, sym, ap, subst, arith}
+use Rattle.std.specs.List.{AllByRecursion}
+use Rattle.std.proofs.lemmas.List.{map_push, take_more}
+use Rattle.s4_types.specs.declared.versions.Version.{Version}
+use Rattle.s4_types.specs.declared.versions.Version.TheVariants.{Absent, Live}
+use Rattle.s4_model.specs.State.{State}
+use Rattle.s4_model.specs.VersionAt.{version_of}
+use Rattle.s4_model.specs.Visible.{IsVisible}
+use Rattle.s4_model.specs.Refusals.{present}
+use Rattle.history_restore.specs.declared.plans.Plan.{Plan}
+use Rattle.history_restore.specs.declared.plans.Plan.TheVariants.{Keep, Delete, Remake, Change}
+use Rattle.history_restore.specs.declared.failures.Failure.{Failure}
+use Rattle.history_restore.specs.declared.restoring.Restored.{Restored}
+use Rattle.history_restore.specs.Content.{content_of}
+use Rattle.history_restore.specs.Plans.{IsPlan, number_by, next_by_plan}
+use Rattle.history_restore.specs.Keeping.{LeavesPast, LeavesOthers}
+use Rattle.history_restore.specs.Restoring.{Restores, IsStopped, number_after, number_from}
+use Rattle.history_restore.specs.Whole.{AscendBelow, IsRestored, AreNumbered, LeavesRest, RestoresEach, StopsAll, AtObject}
+use Rattle.history_restore.proofs.Chained.{past_same, past_on}
+use Rattle.history_restore.proofs.Back.{number_planned}
+
+-- ---- lists
+
+-- what holds of all holds of all of a front
+all_front : {X : Type 0} (P : X → Type 0) (xs : List X) (n : ℕ) → AllByRecursion P xs → AllByRecursion P (take n xs)
+all_front P [] zero all = tt
+all_front P [] (suc n) all = tt
+all_front P (x ∷ xs) zero all = tt
+all_front P (x ∷ xs) (suc n) all = (all.0, all_front P xs n all.1)
+
+all_push : {X : Type 0} (P : X → Type 0) (xs : List X) (x : X) → AllByRecursion P xs → P x → AllByRecursion P (xs ++ x ∷ [])
+all_push P [] x all here = (here, tt)
+all_push P (y ∷ xs) x all here = (all.0, all_push P xs x all.1 here)
+
+-- the last of a list that is one longer
+all_last : {X : Type 0} (P : X → Type 0) (xs : List X) (x : X) → AllByRecursion P (xs ++ x ∷ []) → AllByRecursion P xs × P x
+all_last P [] x all = (tt, all.0)
+all_last P (y ∷ xs) x all = let rest = all_last P xs x all.1 in ((all.0, rest.0), rest.1)
+
+all_weaker : {X : Type 0} (P Q : X → Type 0) (xs : List X) → ((x : X) → P x → Q x) → AllByRecursion P xs → AllByRecursion Q xs
+all_weaker P Q [] f all = tt
+all_weaker P Q (x ∷ xs) f all = (f x all.0, all_weaker P Q xs f all.1)
+
+-- two facts of all
+all_both : {X : Type 0} (P Q : X → Type 0) (xs : List X) → AllByRecursion P xs → AllByRecursion Q xs → AllByRecursion (λ x. P x × Q x) xs
+all_both P Q [] p q = tt
+all_both P Q (x ∷ xs) p q = ((p.0, q.0), all_both P Q xs p.1 q.1)
+
+-- what holds of all images
+pub all_map : {X Y : Type 0} (P : Y → Type 0) (f : X → Y) (xs : List X) → AllByRecursion P (map f xs) → AllByRecursion (λ x. P (f x)) xs
+all_map P f [] all = tt
+all_map P f (x ∷ xs) all = (all.0, all_map P f xs all.1)
+
+pub map_all : {X Y : Type 0} (P : Y → Type 0) (f : X → Y) (xs : List X) → AllByRecursion (λ x. P (f x)) xs → AllByRecursion P (map f xs)
+map_all P f [] all = tt
+map_all P f (x ∷ xs) all = (all.0, map_all P f xs all.1)
+
+-- ---- numbers that ascend
+
+-- each is above the lower bound and below the higher one
+ascending_at : (low high : ℕ) (objects : List ℕ) (i d : ℕ) → AscendBelow low high objects → i < length objects → (low < get_or objects i d) × (get_or objects i d < high)
+ascending_at low high [] i d ascend lt = absurd (omega arith)
+ascending_at low high (o ∷ objects) zero d ascend lt = (ascend.0, ascend.1)
+ascending_at low high (o ∷ objects) (suc i) d ascend lt =
+    let first : low < o = ascend.0 in
+    let rest = ascending_at o high objects i d ascend.2 (omega arith) in
+    (omega (arith, rest.0), rest.1)
+
+-- and differs from those in front of it
+ascending_apart : (low high : ℕ) (objects : List ℕ) (i d : ℕ) → AscendBelow low high objects → i < length objects → AllByRecursion (λ (o : ℕ). get_or objects i d ≢ o) (take i objects)
+ascending_apart low high [] i d ascend lt = absurd (omega arith)
+ascending_apart low high (o ∷ objects) zero d ascend lt = tt
+ascending_apart low high (o ∷ objects) (suc i) d ascend lt =
+    let rest = ascending_at o high objects i d ascend.2 (omega arith) in
+    ((λ same. absurd (omega (arith, rest.0, same))), ascending_apart o high objects i d ascend.2 (omega arith))
+
+-- ---- numbers that are given
+
+-- the next number after all
+abbrev pub next_after : ℕ → List Restored → ℕ
+next_after next [] = next
+next_after next (r ∷ all) = next_after (next_by_plan r.plan next) all
+
+next_push : (next : ℕ) (all : List Restored) (r : Restored) → next_after next (all ++ r ∷ []) ≡ next_by_plan r.plan (next_after next all)
+next_push next [] r = refl
+next_push next (q ∷ all) r = next_push (next_by_plan q.plan next) all r
+
+numbered_push : (next : ℕ) (all : List Restored) (r : Restored) → AreNumbered next all → r.number ≡ number_by r.plan (next_after next all) r.object → AreNumbered next (all ++ r ∷ [])
+numbered_push next [] r are here = (here, tt)
+numbered_push next (q ∷ all) r are here = (are.0, numbered_push (next_by_plan q.plan next) all r are.1 here)
+
+-- ---- one more object
+
+-- a restored object has its own number or a later one, and it is given
+pub record IsPlaced (s later : State) (r : Restored) : Type 0 where
+  pub own : (r.number ≡ r.object) ⊎ (s.next ≤ r.number)
+  pub object : r.object < s.next
+  pub given : r.number < later.next
+
+-- Objects were restored so far.
+pub record GoesOn (s later : State) (at : ℕ) (objects : List ℕ) (all : List Restored) : Type 0 where
+  pub objects_are : map (λ (r : Restored). r.object) all ≡ objects
+  pub each : AllByRecursion (IsRestored s later at) all
+  pub placed : AllByRecursion (IsPlaced s later) all
+  pub numbered : AreNumbered s.next all
+  pub next : later.next ≡ next_after s.next all
+  pub begun : (later ≡ s) ⊎ (at ≤ s.clock)
+
+-- what every call leaves, however it ends
+pub record StandsBy (s later : State) (objects : List ℕ) : Type 0 where
+  pub rest : LeavesRest s later objects
+  pub past : LeavesPast s later
+
+-- the number that an object has afterwards is its own, or the next one
+own_or_next : (before now : Version) (next o : ℕ) → (number_from before now next o ≡ o) ⊎ (number_from before now next o ≡ next)
+own_or_next Absent Absent next o = inl refl
+own_or_next Absent (Live now attribute created changed) next o = inl refl
+own_or_next (Live bytes attribute created changed) Absent next o = inr refl
+own_or_next (Live bytes attribute created changed) (Live now attribute_now created_now changed_now) next o = inl refl
+
+-- an older number isn't touched where another object is restored
+untouched : (s middle : State) (o at q : ℕ) → s.next ≤ middle.next → q < s.next → q ≢ o → q ≢ number_after middle o at
+untouched s middle o at q le lt apart same =
+    elim (own_or_next (version_of middle o at) (present middle o) middle.next o) [
+      | inl own ↦ apart (same ∙ own)
+      | inr next ↦ absurd (omega (arith, same, next))
+    ]
+
+-- neither is the number of an object that was restored before
+untouched_placed : (s middle : State) (o at : ℕ) (r : Restored) → s.next ≤ middle.next → o < s.next → o ≢ r.object → IsPlaced s middle r → r.number ≢ number_after middle o at
+untouched_placed s middle o at r le lt apart placed same =
+    elim (own_or_next (version_of middle o at) (present middle o) middle.next o) [
+      | inr next ↦ absurd (omega (arith, same, next, placed.given))
+      | inl own ↦
+          elim placed.own [
+            | inl is ↦ apart (sym own ∙ sym same ∙ is)
+            | inr new ↦ absurd (omega (arith, same, own, new))
+          ]
+    ]
+
+-- what stays by one more object, whether it was restored or not
+pub stands_on : (s middle later : State) (at : ℕ) (objects : List ℕ) (o : ℕ) → StandsBy s middle objects → LeavesOthers (number_after middle o at) middle later → LeavesPast middle later → StandsBy s later (objects ++ o ∷ [])
+stands_on s middle later at objects o before others past = record {
+  rest = λ q lt apart.
+      let both = all_last (λ (p : ℕ). q ≢ p) objects o apart in
+      others q (untouched s middle o at q before.past.next lt both.1) ∙ before.rest q lt both.0;
+  past = past_on s middle later before.past past;
+}
+
+-- a moment that can be read later can be read at first, where it isn't later than the clock was
+visible_before : (s middle : State) (o at : ℕ) → LeavesPast s middle → at ≤ s.clock → IsVisible middle o at → IsVisible s o at
+visible_before s middle o at past le visible = record { kept = omega (arith, past.floor, visible.kept); reached = le; shown = sym (past.hidden o at) ∙ visible.shown }
+
+-- a moment that is read isn't later than the clock was when the first object was restored
+read_by_clock : (s middle : State) (o at : ℕ) → (middle ≡ s) ⊎ (at ≤ s.clock) → IsVisible middle o at → at ≤ s.clock
+read_by_clock s middle o at (inl same) visible = subst (λ (k : State). at ≤ k.clock) same visible.reached
+read_by_clock s middle o at (inr le) visible = le
+
+-- what was restored before still is
+each_stays : (s middle later : State) (o at : ℕ) (all : List Restored) → s.next ≤ middle.next → o < s.next → LeavesOthers (number_after middle o at) middle later → AllByRecursion (λ (r : Restored). o ≢ r.object) all
+    → AllByRecursion (IsPlaced s middle) all → AllByRecursion (IsRestored s middle at) all → AllByRecursion (IsRestored s later at) all
+each_stays s middle later o at all le lt others apart placed each =
+    all_weaker (λ (r : Restored). (o ≢ r.object) × (IsPlaced s middle r × IsRestored s middle at r)) (IsRestored s later at) all
+    (λ r both. record {
+      visible = both.1.1.visible;
+      planned = both.1.1.planned;
+      content = ap content_of (others r.number (untouched_placed s middle o at r le lt both.0 both.1.0)) ∙ both.1.1.content;
+    })
+    (all_both (λ (r : Restored). o ≢ r.object) (λ (r : Restored). IsPlaced s middle r × IsRestored s middle at r) all apart (all_both (IsPlaced s middle) (IsRestored s middle at) all placed each))
+
+placed_stays : (s middle later : State) (all : List Restored) → middle.next ≤ later.next → AllByRecursion (IsPlaced s middle) all → AllByRecursion (IsPlaced s later) all
+placed_stays s middle later all le placed = all_weaker (IsPlaced s middle) (IsPlaced s later) all (λ r is. record { own = is.own; object = is.object; given = omega (arith, is.given) }) placed
+
+-- the next number is given by a plan that gives it
+next_is_given : (plan : Plan) (next later_next number o : ℕ) → number ≡ next → number_by plan next o ≡ next → later_next ≡ next_by_plan plan next → o < next → number < later_next
+next_is_given (Remake size) next later_next number o is by more lt = omega arith
+next_is_given Keep next later_next number o is by more lt = omega arith
+next_is_given Delete next later_next number o is by more lt = omega arith
+next_is_given (Change changes) next later_next number o is by more lt = omega arith
+
+-- the number that one more object has
+placed_next : (s middle later : State) (o at : ℕ) (r : Restored) → s.next ≤ middle.next → o < s.next → middle.next ≤ later.next → Restores middle later o at r → IsPlaced s later r
+placed_next s middle later o at r le lt more restores =
+    elim (own_or_next (version_of middle o at) (present middle o) middle.next o) [
+      | inl own ↦
+          let is : r.number ≡ r.object = restores.number ∙ own ∙ sym restores.object in
+          record { own = inl is; object = omega (arith, restores.object); given = omega (arith, is, restores.object) }
+      | inr next ↦
+          let is : r.number ≡ middle.next = restores.number ∙ next in
+          record {
+            own = inr (omega (arith, is));
+            object = omega (arith, restores.object);
+            given = next_is_given r.plan middle.next later.next r.number o is (number_planned middle o at r.plan restores.planned ∙ next) restores.next (omega (arith, lt, le));
+          }
+    ]
+
+-- one more object was restored, as its plan says
+restored_next : (s middle later : State) (o at : ℕ) (r : Restored) → at ≤ s.clock → LeavesPast s middle → present middle o ≡ present s o → Restores middle later o at r → IsRestored s later at r
+restored_next s middle later o at r le past same restores =
+    let version : version_of middle o at ≡ version_of s o at = past.versions o at le in
+    let planned : IsPlan (version_of s o at) (present s o) r.plan =
+    subst (λ (v : Version). IsPlan (version_of s o at) v r.plan) same (subst (λ (v : Version). IsPlan v (present middle o) r.plan) version restores.planned) in
+    record {
+      visible = subst (λ (q : ℕ). IsVisible s q at) (sym restores.object) (visible_before s middle o at past le restores.visible);
+      planned = subst (λ (q : ℕ). IsPlan (version_of s q at) (present s q) r.plan) (sym restores.object) planned;
+      content = restores.content ∙ ap content_of version ∙ ap (λ q. content_of (version_of s q at)) (sym restores.object);
+    }
+
+-- it has the next number where it was made anew
+numbered_next : (s middle later : State) (o at : ℕ) (all : List Restored) (r : Restored) → middle.next ≡ next_after s.next all → Restores middle later o at r → r.number ≡ number_by r.plan (next_after s.next all) r.object
+numbered_next s middle later o at all r next restores =
+    restores.number ∙ sym (number_planned middle o at r.plan restores.planned) ∙ ap (λ n. number_by r.plan n o) next ∙ ap (number_by r.plan (next_after s.next all)) (sym restores.object)
+
+pub goes_on : (s middle later : State) (at : ℕ) (objects : List ℕ) (o : ℕ) (all : List Restored) (r : Restored) → StandsBy s middle objects → GoesOn s middle at objects all → o < s.next → AllByRecursion (λ (p : ℕ). o ≢ p) objects
+    → Restores middle later o at r → LeavesOthers (number_after middle o at) middle later → LeavesPast middle later → GoesOn s later at (objects ++ o ∷ []) (all ++ r ∷ [])
+goes_on s middle later at objects o all r before goes lt apart restores others past =
+    let le : at ≤ s.clock = read_by_clock s middle o at goes.begun restores.visible in
+    let more : s.next ≤ middle.next = before.past.next in
+    let others_apart : AllByRecursion (λ (q : Restored). o ≢ q.object) all = all_map (λ (p : ℕ). o ≢ p) (λ (q : Restored). q.object) all (subst (AllByRecursion (λ (p : ℕ). o ≢ p)) (sym goes.objects_are) apart) in
+    record {
+      objects_are = map_push (λ (q : Restored). q.object) all r ∙ ap (λ l. l ++ r.object ∷ []) goes.objects_are ∙ ap (λ q. objects ++ q ∷ []) restores.object;
+      each = all_push (IsRestored s later at) all r (each_stays s middle later o at all more lt others others_apart goes.placed goes.each)
+          (restored_next s middle later o at r le before.past (before.rest o lt apart) restores);
+      placed = all_push (IsPlaced s later) all r (placed_stays s middle later all past.next goes.placed) (placed_next s middle later o at r more lt past.next restores);
+      numbered = numbered_push s.next all r goes.numbered (numbered_next s middle later o at all r goes.next restores);
+      next = restores.next ∙ ap (next_by_plan r.plan) goes.next ∙ sym (next_push s.next all r);
+      begun = inr le;
+    }
+
+-- ---- the beginning and the end
+
+pub stands_none : (s : State) → StandsBy s s []
+stands_none s = record { rest = λ q lt apart. refl; past = past_same s s refl }
+
+pub goes_none : (s : State) (at : ℕ) → GoesOn s s at [] []
+goes_none s at = record { objects_are = refl; each = tt; placed = tt; numbered = tt; next = refl; begun = inl refl }
+
+-- what stands by the first objects stands by all
+pub stands_whole : (s later : State) (objects : List ℕ) (n : ℕ) → StandsBy s later (take n objects) → StandsBy s later objects
+stands_whole s later objects n before = record { rest = λ q lt apart. before.rest q lt (all_front (λ (o : ℕ). q ≢ o) objects n apart); past = before.past }
+
+pub goes_whole : (s later : State) (at : ℕ) (objects : List ℕ) (all : List Restored) → GoesOn s later at objects all → RestoresEach s later at objects all
+goes_whole s later at objects all goes = record { objects_are = goes.objects_are; each = goes.each; numbered = goes.numbered }
+
+-- an object that wasn't restored stops all
+pub stops_at : (s middle later : State) (o at : ℕ) (f : Failure) → LeavesPast s middle → IsStopped middle later o at f → StopsAll s later at f
+stops_at s middle later o at f before stopped = AtObject middle (record { before = before; stopped = subst (λ (q : ℕ). IsStopped middle later q at f) (sym stopped.object) stopped })
+
+-- one more of a list
+pub one_more : (objects : List ℕ) (i o : ℕ) → i < length objects → o ≡ get_or objects i o → take (i + 1) objects ≡ take i objects ++ o ∷ []
+one_more objects i o lt is = take_more objects i o lt ∙ ap (λ (x : ℕ). take i objects ++ x ∷ []) (sym is)
+
+-- it is above all in front of it
+pub ascending_item : (high : ℕ) (objects : List ℕ) (i o : ℕ) → AscendBelow 0 high objects → i < length objects → o ≡ get_or objects i o → (o < high) × AllByRecursion (λ (p : ℕ). o ≢ p) (take i objects)
+ascending_item high objects i o ascend lt is =
+    (subst (λ (x : ℕ). x < high) (sym is) (ascending_at 0 high objects i o ascend lt).1, subst (λ (x : ℕ). AllByRecursion (λ (p : ℕ). x ≢ p) (take i objects)) (sym is) (ascending_apart 0 high objects i o ascend lt))
+
+-- what stands by all objects where one of them was the last
+pub stands_after : (s middle later : State) (at : ℕ) (objects : List ℕ) (i o : ℕ) → i < length objects → o ≡ get_or objects i o → StandsBy s middle (take i objects) → LeavesOthers (number_after middle o at) middle later → LeavesPast middle later → StandsBy s later objects
+stands_after s middle later at objects i o lt is before others past =
+    stands_whole s later objects (i + 1) (subst (StandsBy s later) (sym (one_more objects i o lt is)) (stands_on s middle later at (take i objects) o before others past))

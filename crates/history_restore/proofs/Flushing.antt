@@ -1,0 +1,66 @@
+-- What a flush of an object leaves.
+use Rattle.std.proofs.Common.{◌≡◌, ◌≢◌, ◌∙◌, ◌≤◌, ◌&&◌, ◌||◌, ◌==◌, ℕ, Bool, true, false, refl, ap, sym, subst, arith}
+use Rattle.std.specs.Prelude.{nat_le}
+use Rattle.std.proofs.lemmas.Option.{none-some}
+use Rattle.std.proofs.lemmas.Bool.{ne_eqb}
+use Rattle.s4_types.specs.History.{History, Took}
+use Rattle.s4_types.specs.declared.changes.Accepted.{Accepted}
+use Rattle.s4_types.specs.declared.requests.Role.{Role}
+use Rattle.s4_types.specs.declared.requests.Request.TheVariants.{FlushO}
+use Rattle.s4_types.specs.declared.refusals.Refusal.{Refusal}
+use Rattle.s4_types.specs.declared.replies.Reply.{Reply}
+use Rattle.s4_types.specs.declared.replies.Reply.TheVariants.{Refused}
+use Rattle.s4_model.specs.State.{State, state_of, grown, seen, took}
+use Rattle.s4_model.specs.Visible.{is_hidden}
+use Rattle.s4_model.specs.Step.{Step, accepted_record}
+use Rattle.s4_model.specs.Sound.{IsSound}
+use Rattle.s4_model.specs.Laws.{LeavesVersions, AFlushOfAnObjectHidesItsSpan}
+use Rattle.history_restore.specs.Room.{HidesBetween, LeavesObjects}
+use Rattle.history_restore.proofs.Stepping.{BySeen, ByTook, IsTaken, refused_saw, granted_took, present_of_seen}
+
+objects_of_seen : (s : State) (o now : ℕ) → IsSound s → LeavesObjects s o (seen s now)
+objects_of_seen s o now sound = record {
+  objects = present_of_seen s now sound;
+  versions = λ q t le. refl;
+  hidden = λ q t apart. refl;
+  clock = omega arith;
+}
+
+pub refused_flush : (h after : History) (role : Role) (o first last now : ℕ) (reply : Reply) (e : Refusal) → BySeen → IsSound (state_of h) → reply ≡ Refused e → Step h role (FlushO o first last) now reply after
+    → LeavesObjects (state_of h) o (state_of after)
+refused_flush h after role o first last now reply e by_seen sound refused step =
+    subst (LeavesObjects (state_of h) o) (sym (ap state_of (refused_saw h after role (FlushO o first last) now reply e (λ s r is. none-some r is) refused step) ∙ by_seen h now)) (objects_of_seen (state_of h) o now sound)
+
+-- what another object hides is hidden as before
+hidden_as_before : (b c : Bool) (q o : ℕ) → q ≢ o → (b || (o == q && c)) ≡ b
+hidden_as_before b c q o apart = ap (λ e. b || (e && c)) (ne_eqb o q (λ same. apart (sym same))) ∙ or_none b
+  where
+    or_none : (b : Bool) → (b || false) ≡ b
+    or_none true = refl
+    or_none false = refl
+
+-- what a flush that was granted leaves
+pub record FlushLeaves (s : State) (o first last : ℕ) (later : State) : Type 0 where
+  pub hides : HidesBetween s o first last later
+  pub objects : LeavesObjects s o later
+
+flushed : (s later : State) (o first last : ℕ) → HidesBetween s o first last later → LeavesVersions s later → s.clock ≤ later.clock → FlushLeaves s o first last later
+flushed s later o first last hides leaves le = record {
+  hides = hides;
+  objects = record {
+    objects = leaves.current;
+    versions = λ q t before. leaves.versions q t;
+    hidden = λ q t apart. hides q t ∙ hidden_as_before (is_hidden s q t) (nat_le first t && nat_le t last) q o apart;
+    clock = le;
+  };
+}
+
+pub granted_flush : (h after : History) (role : Role) (o first last now : ℕ) (reply : Reply) → ByTook → AFlushOfAnObjectHidesItsSpan → IsSound (state_of h) → ((e : Refusal) → reply ≡ Refused e → ⊥)
+    → Step h role (FlushO o first last) now reply after → FlushLeaves (state_of h) o first last (state_of after)
+granted_flush h after role o first last now reply by_took hides_law sound free step =
+    let s : State = state_of h in
+    let taken : IsTaken h (FlushO o first last) now after = granted_took h after role (FlushO o first last) now reply (λ s r is. none-some r is) free step in
+    let a : Accepted = accepted_record s taken.change now in
+    let both = hides_law h role o first last now reply a sound (subst (λ k. Step h role (FlushO o first last) now reply k) taken.took step) in
+    let later : s.clock ≤ (took s a).clock = omega arith in
+    subst (FlushLeaves s o first last) (sym (ap state_of taken.took)) (flushed s (state_of (grown h (Took a))) o first last both.0 both.1 (subst (λ (k : State). s.clock ≤ k.clock) (sym (by_took h a)) later))

@@ -1,0 +1,15 @@
+pub mod Patching
+pub mod Contents
+pub mod Turning
+pub mod Settled
+pub mod Stepping
+pub mod Chained
+pub mod Readable
+pub mod Back
+pub mod Rows
+pub mod Each
+pub mod Flushing
+pub mod Denying
+pub mod There
+pub mod AllBack
+pub mod Asked

@@ -1,0 +1,44 @@
+-- Objects that stay there, within the limits.
+use Rattle.std.proofs.Common.{◌≡◌, ◌∙◌, ◌≤◌, ℕ, false, List, length, Option, None, Some, refl, ap, arith}
+use Rattle.std.specs.Prelude.{is_none}
+use Rattle.std.proofs.lemmas.Bool.{true≢false}
+use Rattle.s4_types.specs.declared.limits.TheConstants.{OBJECT_BYTES, ATTRIBUTE_BYTES}
+use Rattle.s4_types.specs.declared.versions.Version.{Version}
+use Rattle.s4_types.specs.declared.versions.Version.TheVariants.{Absent, Live}
+use Rattle.s4_model.specs.Limits.{IsWithinLimits}
+use Rattle.s4_model.specs.Refusals.{is_absent}
+use Rattle.history_restore.specs.declared.plans.Patch.{Patch}
+use Rattle.history_restore.specs.Content.{content_of, bytes_of, attribute_of}
+use Rattle.history_restore.specs.Plans.{cut_by, written_by}
+
+-- an object is there where it has a content
+absent_by_content : (v : Version) → is_absent v ≡ is_none (content_of v)
+absent_by_content Absent = refl
+absent_by_content (Live bytes attribute created changed) = refl
+
+-- so one that is cut stays there
+cut_there : (size : Option ℕ) (o moment : ℕ) (v : Version) → is_absent v ≡ false → is_none (content_of (cut_by size o moment v)) ≡ false
+cut_there size o moment Absent there = absurd (true≢false there)
+cut_there None o moment (Live bytes attribute created changed) there = refl
+cut_there (Some size) o moment (Live bytes attribute created changed) there = refl
+
+pub there_after_cut : (size : Option ℕ) (o moment : ℕ) (v w : Version) → content_of w ≡ content_of (cut_by size o moment v) → is_absent v ≡ false → is_absent w ≡ false
+there_after_cut size o moment v w same there = absent_by_content w ∙ ap is_none same ∙ cut_there size o moment v there
+
+-- and one that bytes are written to
+written_there : (bytes : List ℕ) (patch : Option Patch) (o moment : ℕ) (v : Version) → is_absent v ≡ false → is_none (content_of (written_by bytes patch o moment v)) ≡ false
+written_there bytes patch o moment Absent there = absurd (true≢false there)
+written_there bytes None o moment (Live content attribute created changed) there = refl
+written_there bytes (Some patch) o moment (Live content attribute created changed) there = refl
+
+pub there_after_write : (bytes : List ℕ) (patch : Option Patch) (o moment : ℕ) (v w : Version) → content_of w ≡ content_of (written_by bytes patch o moment v) → is_absent v ≡ false → is_absent w ≡ false
+there_after_write bytes patch o moment v w same there = absent_by_content w ∙ ap is_none same ∙ written_there bytes patch o moment v there
+
+-- the bytes and the attribute of a version within the limits
+pub bytes_fit : (v : Version) → IsWithinLimits v → length (bytes_of v) ≤ OBJECT_BYTES
+bytes_fit Absent fits = omega arith
+bytes_fit (Live bytes attribute created changed) fits = fits.0
+
+pub attribute_fits : (v : Version) → IsWithinLimits v → length (attribute_of v) ≤ ATTRIBUTE_BYTES
+attribute_fits Absent fits = omega arith
+attribute_fits (Live bytes attribute created changed) fits = fits.1

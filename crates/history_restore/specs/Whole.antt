@@ -1,0 +1,71 @@
+-- What restoring all objects of a drive comes to.
+use Rattle.std.specs.Prelude.{◌≡◌, ◌≢◌, ℕ, ◌<◌, List, [], ◌∷◌, map, None}
+use Rattle.std.specs.List.{AllByRecursion}
+use Rattle.s4_types.specs.declared.refusals.Refusal.TheVariants.{NoMemory}
+use Rattle.s4_types.specs.declared.versions.Version.TheVariants.{Absent}
+use Rattle.s4_model.specs.State.{State}
+use Rattle.s4_model.specs.VersionAt.{version_of}
+use Rattle.s4_model.specs.Visible.{IsVisible}
+use Rattle.s4_model.specs.Refusals.{present}
+use Rattle.object_map.specs.Objects.{IsNextAbove}
+use Rattle.object_map.specs.Rows.{row_of}
+use Rattle.version_store.specs.Store.{StoreFields}
+use Rattle.history_restore.specs.declared.failures.Failure.{Failure}
+use Rattle.history_restore.specs.declared.restoring.Restored.{Restored}
+use Rattle.history_restore.specs.Content.{content_of}
+use Rattle.history_restore.specs.Plans.{IsPlan, number_by, next_by_plan}
+use Rattle.history_restore.specs.Keeping.{LeavesPast}
+use Rattle.history_restore.specs.Restoring.{IsStopped}
+
+-- These are all objects above one that have a row, by ascending number.
+abbrev pub AreRowsFrom : StoreFields → ℕ → List ℕ → Type 0
+AreRowsFrom store after [] = (o : ℕ) → after < o → row_of store.rows o ≡ None
+AreRowsFrom store after (o ∷ objects) = IsNextAbove store.rows after o × AreRowsFrom store o objects
+
+-- numbers that ascend strictly, from above one, and are below another
+abbrev pub AscendBelow : ℕ → ℕ → List ℕ → Type 0
+AscendBelow low high [] = Unit {0}
+AscendBelow low high (o ∷ objects) = (low < o) × (o < high) × AscendBelow o high objects
+
+-- An object is now what it was at a moment, under its number; the plan was made of what it was then and when restoring began.
+pub record IsRestored (s later : State) (at : ℕ) (restored : Restored) : Type 0 where
+  pub visible : IsVisible s restored.object at
+  pub planned : IsPlan (version_of s restored.object at) (present s restored.object) restored.plan
+  pub content : content_of (present later restored.number) ≡ content_of (version_of s restored.object at)
+
+-- Each object that was made anew has the next free number, in order, and each other has its own: so all numbers are different.
+abbrev pub AreNumbered : ℕ → List Restored → Type 0
+AreNumbered next [] = Unit {0}
+AreNumbered next (r ∷ all) = (r.number ≡ number_by r.plan next r.object) × AreNumbered (next_by_plan r.plan next) all
+
+-- the objects that these tell of
+abbrev pub objects_of : List Restored → List ℕ
+objects_of all = map (λ (r : Restored). r.object) all
+
+-- Objects were restored, in order, and no other one was touched that was there or had been.
+pub record RestoresEach (s later : State) (at : ℕ) (objects : List ℕ) (all : List Restored) : Type 0 where
+  pub objects_are : objects_of all ≡ objects
+  pub each : AllByRecursion (IsRestored s later at) all
+  pub numbered : AreNumbered s.next all
+
+-- Objects that aren't among these are what they were.
+abbrev pub LeavesRest : State → State → List ℕ → Type 0
+LeavesRest s later objects = (q : ℕ) → q < s.next → AllByRecursion (λ (o : ℕ). q ≢ o) objects → present later q ≡ present s q
+
+-- All objects of a drive were restored: those that are listed are now what they were at the moment, and any other isn't there, as it wasn't
+-- then and before.
+pub record RestoresAll (s later : State) (at : ℕ) (all : List Restored) : Type 0 where
+  pub each : AllByRecursion (IsRestored s later at) all
+  pub ascend : AscendBelow 0 s.next (objects_of all)
+  pub numbered : AreNumbered s.next all
+  pub rest : (q : ℕ) → q < s.next → AllByRecursion (λ (r : Restored). q ≢ r.object) all → (present later q ≡ Absent) × (present s q ≡ Absent) × (IsVisible s q at → version_of s q at ≡ Absent)
+
+-- Why not all objects were restored: one of them wasn't, over the drive as it was then, to which the objects before it had led; or there was no
+-- memory for a list.
+pub record StopsOver (s middle later : State) (at : ℕ) (failure : Failure) : Type 0 where
+  pub before : LeavesPast s middle
+  pub stopped : IsStopped middle later failure.object at failure
+
+pub data StopsAll (s later : State) (at : ℕ) (failure : Failure) : Type 0 where
+  AtObject : (middle : State) → StopsOver s middle later at failure → StopsAll s later at failure
+  ForMemory : failure.refusal ≡ NoMemory → failure.flush ≡ None → StopsAll s later at failure

@@ -1,0 +1,254 @@
+//! What a plan asks for, done by requests.
+ghost use Rattle.std.specs.Prelude.{◌≡◌, ◌+◌, ◌≤◌, [], true, false, length, IfOk, IfErr, OnOk};
+ghost use Rattle.s4_types.specs.declared.limits.TheConstants.{OBJECT_BYTES, ATTRIBUTE_BYTES};
+ghost use Rattle.s4_model.specs.Limits.{IsWithinLimits};
+ghost use Rattle.s4_model.specs.Refusals.{present, is_absent};
+ghost use Rattle.s4_model.specs.Step.{part};
+ghost use Rattle.drive.specs.Fields.{state_in};
+ghost use Rattle.history_restore.specs.Content.{content_of, holding, bytes_of, attribute_of};
+ghost use Rattle.history_restore.specs.Plans.{cut_by, written_by, named_by, turned, number_by, next_by_plan, FitsCut, IsWithinBytes, IsWithinPlan, IsThereFor};
+ghost use Rattle.history_restore.specs.Asking.{is_left};
+ghost use Rattle.history_restore.specs.Keeping.{LeavesPast, LeavesOthers};
+
+use crate::asking::ask;
+use crate::plans::{Changes, Patch, Plan, patch_between};
+use drive::{Drive, Session};
+use s4_types::{Bytes, Moment, ObjectId, Refusal, Request, Version};
+use segment_word::Naming;
+use std::alloc::Global;
+
+/// The bytes of a version; none where the object isn't there.
+fn bytes_of(version: &Version) -> &[u8]
+    ensures { result.now ≡ bytes_of version.now }
+{
+    match version {
+        Version::Absent => &[],
+        Version::Live { bytes, .. } => bytes.as_slice(),
+    }
+}
+
+/// The attribute of a version; none where the object isn't there.
+fn attribute_of(version: &Version) -> &[u8]
+    ensures { result.now ≡ attribute_of version.now }
+{
+    match version {
+        Version::Absent => &[],
+        Version::Live { attribute, .. } => attribute.as_slice(),
+    }
+}
+
+/// The bytes that a patch names.
+fn part(bytes: &[u8], patch: Patch) -> &[u8]
+    requires { patch.offset + patch.length ≤ length bytes.now }
+    ensures { result.now ≡ part bytes.now patch.offset patch.length }
+{
+    let first = patch.offset as usize;
+    let end = first + patch.length as usize;
+    &bytes[first..end]
+}
+
+/// The object is cut to a size, where one is given.
+fn cut<J: Naming>(
+    drive: &mut Drive<J>,
+    session: &mut Session<J>,
+    object: ObjectId,
+    size: Option<u64>,
+    now: Moment,
+) -> Result<(), Refusal>
+    ensures content { OnOk result (content_of (present (state_in drive.new) object) ≡ content_of (cut_by size object 0 (present (state_in drive.old) object))) }
+    ensures next { OnOk result ((state_in drive.new).next ≡ (state_in drive.old).next) }
+    ensures refused { IfErr result (λ e. is_absent (present (state_in drive.old) object) ≡ false → FitsCut size → is_left e ≡ true) }
+    ensures others { LeavesOthers object (state_in drive.old) (state_in drive.new) }
+    ensures past { LeavesPast (state_in drive.old) (state_in drive.new) }
+{
+    match size {
+        None => Ok(()),
+        Some(size) => ask(drive, session, Request::Truncate { object, size }, now),
+    }
+}
+
+/// Bytes are written as a patch says.
+fn write_patch<J: Naming>(
+    alloc: Global,
+    drive: &mut Drive<J>,
+    session: &mut Session<J>,
+    object: ObjectId,
+    bytes: &[u8],
+    patch: Patch,
+    now: Moment,
+) -> Result<(), Refusal>
+    requires { patch.offset + patch.length ≤ length bytes.now }
+    ensures content { OnOk result (content_of (present (state_in drive.new) object) ≡ content_of (written_by bytes.now (Some patch) object 0 (present (state_in drive.old) object))) }
+    ensures next { OnOk result ((state_in drive.new).next ≡ (state_in drive.old).next) }
+    ensures refused { IfErr result (λ e. is_absent (present (state_in drive.old) object) ≡ false → length bytes.now ≤ OBJECT_BYTES → is_left e ≡ true) }
+    ensures others { LeavesOthers object (state_in drive.old) (state_in drive.new) }
+    ensures past { LeavesPast (state_in drive.old) (state_in drive.new) }
+{
+    let new = part(bytes, patch);
+    let Ok(bytes) = Bytes::from_slice(alloc, new) else {
+        return Err(Refusal::NoMemory);
+    };
+    let request = Request::Write {
+        object,
+        offset: patch.offset,
+        bytes,
+    };
+    ask(drive, session, request, now)
+}
+
+/// Bytes are written as a patch says, where one is given.
+fn write<J: Naming>(
+    alloc: Global,
+    drive: &mut Drive<J>,
+    session: &mut Session<J>,
+    object: ObjectId,
+    bytes: &[u8],
+    patch: Option<Patch>,
+    now: Moment,
+) -> Result<(), Refusal>
+    requires { IsWithinBytes bytes.now patch }
+    ensures content { OnOk result (content_of (present (state_in drive.new) object) ≡ content_of (written_by bytes.now patch object 0 (present (state_in drive.old) object))) }
+    ensures next { OnOk result ((state_in drive.new).next ≡ (state_in drive.old).next) }
+    ensures refused { IfErr result (λ e. is_absent (present (state_in drive.old) object) ≡ false → length bytes.now ≤ OBJECT_BYTES → is_left e ≡ true) }
+    ensures others { LeavesOthers object (state_in drive.old) (state_in drive.new) }
+    ensures past { LeavesPast (state_in drive.old) (state_in drive.new) }
+{
+    match patch {
+        None => Ok(()),
+        Some(patch) => write_patch(alloc, drive, session, object, bytes, patch, now),
+    }
+}
+
+/// The attribute is replaced, where that is wanted.
+fn name<J: Naming>(
+    alloc: Global,
+    drive: &mut Drive<J>,
+    session: &mut Session<J>,
+    object: ObjectId,
+    attribute: &[u8],
+    wanted: bool,
+    now: Moment,
+) -> Result<(), Refusal>
+    ensures content { OnOk result (content_of (present (state_in drive.new) object) ≡ content_of (named_by attribute.now wanted object 0 (present (state_in drive.old) object))) }
+    ensures next { OnOk result ((state_in drive.new).next ≡ (state_in drive.old).next) }
+    ensures refused { IfErr result (λ e. is_absent (present (state_in drive.old) object) ≡ false → length attribute.now ≤ ATTRIBUTE_BYTES → is_left e ≡ true) }
+    ensures others { LeavesOthers object (state_in drive.old) (state_in drive.new) }
+    ensures past { LeavesPast (state_in drive.old) (state_in drive.new) }
+{
+    if !wanted {
+        return Ok(());
+    }
+    let Ok(attribute) = Bytes::from_slice(alloc, attribute) else {
+        return Err(Refusal::NoMemory);
+    };
+    ask(drive, session, Request::SetAttr { object, attribute }, now)
+}
+
+/// The changes of an object that was there and is there.
+fn change<J: Naming>(
+    alloc: Global,
+    drive: &mut Drive<J>,
+    session: &mut Session<J>,
+    object: ObjectId,
+    before: &Version,
+    changes: Changes,
+    now: Moment,
+) -> Result<(), Refusal>
+    requires { IsWithinPlan (bytes_of before.now) (Plan.Change changes) }
+    ensures content { OnOk result (content_of (present (state_in drive.new) object) ≡ content_of (turned before.now (Plan.Change changes) object 0 (present (state_in drive.old) object))) }
+    ensures next { OnOk result ((state_in drive.new).next ≡ (state_in drive.old).next) }
+    ensures refused { IfErr result (λ e. IsWithinLimits before.now → is_absent (present (state_in drive.old) object) ≡ false → is_left e ≡ true) }
+    ensures others { LeavesOthers object (state_in drive.old) (state_in drive.new) }
+    ensures past { LeavesPast (state_in drive.old) (state_in drive.new) }
+{
+    let bytes = bytes_of(before);
+    let attribute = attribute_of(before);
+    cut(drive, session, object, changes.cut, now)?;
+    write(alloc, drive, session, object, bytes, changes.written, now)?;
+    name(
+        alloc,
+        drive,
+        session,
+        object,
+        attribute,
+        changes.attribute,
+        now,
+    )
+}
+
+/// The next object is made, with the attribute that a version has.
+fn create<J: Naming>(
+    alloc: Global,
+    drive: &mut Drive<J>,
+    session: &mut Session<J>,
+    attribute: &[u8],
+    now: Moment,
+) -> Result<ObjectId, Refusal>
+    ensures number { IfOk result (λ number. number ≡ (state_in drive.old).next) }
+    ensures content { OnOk result (content_of (present (state_in drive.new) (state_in drive.old).next) ≡ holding [] attribute.now) }
+    ensures next { OnOk result ((state_in drive.new).next ≡ (state_in drive.old).next + 1) }
+    ensures refused { IfErr result (λ e. length attribute.now ≤ ATTRIBUTE_BYTES → is_left e ≡ true) }
+    ensures others { LeavesOthers (state_in drive.old).next (state_in drive.old) (state_in drive.new) }
+    ensures past { LeavesPast (state_in drive.old) (state_in drive.new) }
+{
+    let number = drive.next();
+    let Ok(attribute) = Bytes::from_slice(alloc, attribute) else {
+        return Err(Refusal::NoMemory);
+    };
+    ask(drive, session, Request::Create { attribute }, now)?;
+    Ok(number)
+}
+
+/// An object is made anew, with the attribute and the bytes of a version.
+fn remake<J: Naming>(
+    alloc: Global,
+    drive: &mut Drive<J>,
+    session: &mut Session<J>,
+    before: &Version,
+    now: Moment,
+) -> Result<ObjectId, Refusal>
+    ensures number { IfOk result (λ number. number ≡ (state_in drive.old).next) }
+    ensures content { OnOk result (content_of (present (state_in drive.new) (state_in drive.old).next) ≡ holding (bytes_of before.now) (attribute_of before.now)) }
+    ensures next { OnOk result ((state_in drive.new).next ≡ (state_in drive.old).next + 1) }
+    ensures refused { IfErr result (λ e. IsWithinLimits before.now → is_left e ≡ true) }
+    ensures others { LeavesOthers (state_in drive.old).next (state_in drive.old) (state_in drive.new) }
+    ensures past { LeavesPast (state_in drive.old) (state_in drive.new) }
+{
+    let number = create(alloc, drive, session, attribute_of(before), now)?;
+    let bytes = bytes_of(before);
+    let patch = patch_between(bytes, &[]);
+    write(alloc, drive, session, number, bytes, patch, now)?;
+    Ok(number)
+}
+
+/// Does what a plan asks for, and answers the object's number. What the object was is `before`.
+pub(crate) fn perform<J: Naming>(
+    alloc: Global,
+    drive: &mut Drive<J>,
+    session: &mut Session<J>,
+    object: ObjectId,
+    before: &Version,
+    plan: Plan,
+    now: Moment,
+) -> Result<ObjectId, Refusal>
+    requires { IsWithinPlan (bytes_of before.now) plan }
+    ensures number { IfOk result (λ number. number ≡ number_by plan (state_in drive.old).next object) }
+    ensures content { OnOk result (content_of (present (state_in drive.new) (number_by plan (state_in drive.old).next object)) ≡ content_of (turned before.now plan object 0 (present (state_in drive.old) object))) }
+    ensures next { OnOk result ((state_in drive.new).next ≡ next_by_plan plan (state_in drive.old).next) }
+    ensures refused { IfErr result (λ e. IsWithinLimits before.now → IsThereFor plan (present (state_in drive.old) object) → is_left e ≡ true) }
+    ensures others { LeavesOthers (number_by plan (state_in drive.old).next object) (state_in drive.old) (state_in drive.new) }
+    ensures past { LeavesPast (state_in drive.old) (state_in drive.new) }
+{
+    match plan {
+        Plan::Keep => Ok(object),
+        Plan::Delete => {
+            ask(drive, session, Request::Delete { object }, now)?;
+            Ok(object)
+        }
+        Plan::Remake(_) => remake(alloc, drive, session, before, now),
+        Plan::Change(changes) => {
+            change(alloc, drive, session, object, before, changes, now)?;
+            Ok(object)
+        }
+    }
+}

@@ -1,0 +1,8 @@
+//! What plans come to, for the layers above: the function does nothing, and its contract is the law.
+ghost use Rattle.history_restore.specs.Plans.{APlanTurnsBack};
+
+/// A plan turns an object back: after its changes it has the bytes and the attribute that it had, or isn't there where it wasn't.
+#[tactic(auto, using(crate::proofs::Turning::turns_back))]
+pub fn a_plan_turns_back()
+    ensures { APlanTurnsBack }
+{}

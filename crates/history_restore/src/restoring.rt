@@ -1,0 +1,81 @@
+//! An object is made what it was at a moment.
+ghost use Rattle.std.specs.Prelude.{◌≡◌, IfOk, IfErr, OnOk};
+ghost use Rattle.s4_model.specs.Refusals.{present};
+ghost use Rattle.s4_model.specs.VersionAt.{version_of};
+ghost use Rattle.s4_model.specs.Visible.{IsVisible};
+ghost use Rattle.drive.specs.Fields.{state_in, store_of};
+ghost use Rattle.history_restore.specs.Plans.{IsPlan};
+ghost use Rattle.history_restore.specs.Keeping.{LeavesPast, LeavesOthers};
+ghost use Rattle.history_restore.specs.Restoring.{IsUnread, Restores, IsStopped, number_after};
+
+use crate::changing::perform;
+use crate::comparing::compare;
+use crate::failures::{Failure, stopped, unread};
+use crate::laws::a_plan_turns_back;
+use crate::plans::{Plan, plan_of};
+use drive::{Drive, Session};
+use s4_types::{Moment, ObjectId, Refusal};
+use segment_word::Naming;
+use std::alloc::Global;
+
+/// What was done to an object.
+#[derive(Clone, Copy, PartialEq, Eq)]
+pub struct Restored {
+    pub object: ObjectId,
+    /// The number that it has now: another one where it was made anew.
+    pub number: ObjectId,
+    pub plan: Plan,
+}
+
+/// What would be done to an object, so that it is what it was at a moment. Nothing is done.
+///
+/// Future, Expired or Flushed where the moment can't be read; NoMemory where memory was refused; Busy alone else.
+pub fn plan_object<J: Naming>(
+    alloc: Global,
+    drive: &mut Drive<J>,
+    session: &mut Session<J>,
+    object: ObjectId,
+    at: Moment,
+) -> Result<Plan, Refusal>
+    ensures plan { IfOk result (IsPlan (version_of (state_in drive.old) object at) (present (state_in drive.old) object)) }
+    ensures visible { OnOk result (IsVisible (state_in drive.old) object at) }
+    ensures refused { IfErr result (IsUnread (state_in drive.old) object at) }
+    ensures state { state_in drive.new ≡ state_in drive.old }
+    ensures store { store_of drive.new ≡ store_of drive.old }
+{
+    let compared = compare(alloc, drive, session, object, at)?;
+    Ok(plan_of(&compared.earlier, &compared.latest))
+}
+
+/// Makes an object what it was at a moment, by requests at the moment `now` of the server's clock: exactly what [`plan_object`] plans.
+/// An object that was deleted since stays deleted, as numbers are given once; what it was is made anew under the next number.
+///
+/// A refusal says why, as [`Failure`] tells. What was done before it stays.
+pub fn restore_object<J: Naming>(
+    alloc: Global,
+    drive: &mut Drive<J>,
+    session: &mut Session<J>,
+    object: ObjectId,
+    at: Moment,
+    now: Moment,
+) -> Result<Restored, Failure>
+    ensures restored { IfOk result (Restores (state_in drive.old) (state_in drive.new) object at) }
+    ensures stopped { IfErr result (IsStopped (state_in drive.old) (state_in drive.new) object at) }
+    ensures others { LeavesOthers (number_after (state_in drive.old) object at) (state_in drive.old) (state_in drive.new) }
+    ensures past { LeavesPast (state_in drive.old) (state_in drive.new) }
+{
+    a_plan_turns_back();
+    let compared = match compare(alloc, drive, session, object, at) {
+        Ok(compared) => compared,
+        Err(refusal) => return Err(unread(object, refusal)),
+    };
+    let plan = plan_of(&compared.earlier, &compared.latest);
+    match perform(alloc, drive, session, object, &compared.earlier, plan, now) {
+        Ok(number) => Ok(Restored {
+            object,
+            number,
+            plan,
+        }),
+        Err(refusal) => Err(stopped(object, refusal, at, &compared.latest)),
+    }
+}

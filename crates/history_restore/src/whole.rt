@@ -1,0 +1,94 @@
+//! All objects of a drive are made what they were at a moment.
+ghost use Rattle.std.specs.Prelude.{◌≡◌, ◌⊎◌, IsTrue, IfOk, IfErr, length};
+ghost use Rattle.s4_types.specs.declared.refusals.Refusal.TheVariants.{NoMemory};
+ghost use Rattle.drive.specs.Fields.{state_in, store_of};
+ghost use Rattle.history_restore.specs.Keeping.{LeavesPast};
+ghost use Rattle.history_restore.specs.Whole.{AreRowsFrom, AscendBelow, RestoresEach, RestoresAll, StopsAll, LeavesRest};
+
+use crate::failures::{Failure, unread};
+use crate::restoring::{Restored, restore_object};
+use drive::{Drive, Session};
+use s4_types::{Moment, ObjectId, Refusal};
+use segment_word::Naming;
+use std::alloc::Global;
+
+/// All objects that have a row, by ascending number.
+fn rows<J: Naming>(alloc: Global, drive: &Drive<J>) -> Result<Vec<ObjectId>, Refusal>
+    ensures rows { IfOk result (λ rows. AreRowsFrom (store_of drive.now) 0 rows.items) }
+    ensures refusal { IfErr result (λ e. e ≡ NoMemory) }
+{
+    let mut rows = Vec::new(alloc);
+    let mut last = ObjectId::new(0);
+    while let Some(object) = drive.next_row(last) {
+        rows.push(object)?;
+        last = object;
+    }
+    Ok(rows)
+}
+
+/// Whether the numbers of objects ascend strictly, from above one, and are below another.
+pub fn ascend_below(low: ObjectId, high: ObjectId, objects: &[ObjectId]) -> bool
+    ensures { IsTrue result → AscendBelow low high objects.now }
+{
+    match objects {
+        [] => true,
+        [first, rest @ ..] => {
+            low.number() < first.number()
+                && first.number() < high.number()
+                && ascend_below(*first, high, rest)
+        }
+    }
+}
+
+/// Makes objects of ascending numbers what they were at a moment, by requests at the moment `now` of the server's clock, and tells of each
+/// what was done to it, in order.
+///
+/// A refusal says of which object and why, as [`Failure`] tells. What was done before it stays.
+pub fn restore_each<J: Naming>(
+    alloc: Global,
+    drive: &mut Drive<J>,
+    session: &mut Session<J>,
+    objects: &[ObjectId],
+    at: Moment,
+    now: Moment,
+) -> Result<Vec<Restored>, Failure>
+    requires { AscendBelow 0 (state_in drive.old).next objects.now }
+    ensures each { IfOk result (λ all. RestoresEach (state_in drive.old) (state_in drive.new) at objects.now all.items) }
+    ensures stopped { IfErr result (StopsAll (state_in drive.old) (state_in drive.new) at) }
+    ensures rest { LeavesRest (state_in drive.old) (state_in drive.new) objects.now }
+    ensures past { LeavesPast (state_in drive.old) (state_in drive.new) }
+{
+    let mut all = Vec::new(alloc);
+    for object in objects {
+        let restored = restore_object(alloc, drive, session, *object, at, now)?;
+        match all.push(restored) {
+            Ok(()) => {}
+            Err(_) => return Err(unread(*object, Refusal::NoMemory)),
+        }
+    }
+    Ok(all)
+}
+
+/// Makes all objects of a drive what they were at a moment, by requests at the moment `now` of the server's clock, and tells of each object
+/// that has a row what was done to it, by ascending number. An object that is made anew is a new one and isn't visited again.
+///
+/// A refusal says of which object and why, as [`Failure`] tells, of object 0 where there was no memory for a list of the rows. What was
+/// done before it stays; Expired comes where the floor has passed the moment by the changes that were made.
+pub fn restore_all<J: Naming>(
+    alloc: Global,
+    drive: &mut Drive<J>,
+    session: &mut Session<J>,
+    at: Moment,
+    now: Moment,
+) -> Result<Vec<Restored>, Failure>
+    ensures all { IfOk result (λ all. RestoresAll (state_in drive.old) (state_in drive.new) at all.items) }
+    ensures stopped { IfErr result (StopsAll (state_in drive.old) (state_in drive.new) at) }
+    ensures past { LeavesPast (state_in drive.old) (state_in drive.new) }
+{
+    drive.rules();
+    let objects = match rows(alloc, drive) {
+        Ok(objects) => objects,
+        Err(refusal) => return Err(unread(ObjectId::new(0), refusal)),
+    };
+    restore_each(alloc, drive, session, objects.as_slice(), at, now)
+}
