@@ -1,0 +1,59 @@
+-- The objects of held blocks have rows.
+use Rattle.std.proofs.Common.{◌≡◌, ◌⊎◌, inl, inr, ℕ, zero, suc, ◌+◌, ◌<◌, Bool, true, ◌&&◌, ◌==◌, if◌then◌else◌, length, List, Option, Some, None, Result, Ok, Err, refl, sym, ap, subst, ◌∙◌, arith}
+use Rattle.std.specs.Prelude.{IsSome, IfSome, IfErr, option_map}
+use Rattle.std.proofs.lemmas.Bool.{eq-eqb, and_from}
+use Rattle.s4_types.specs.Pointer.{Place}
+use Rattle.s4_types.specs.declared.refusals.Refusal.{Refusal}
+use Rattle.s4_types.specs.declared.refusals.Refusal.TheVariants.{NoObject, NoMemory, NoRoom, Busy, Stale}
+use Rattle.block_log.specs.declared.kinds.BlockKind.{BlockKind}
+use Rattle.block_log.specs.declared.kinds.BlockKind.TheVariants.{Journal, Checkpoint, Data}
+use Rattle.block_log.specs.Log.{Stored, same_kind, seen_as, of_kind}
+use Rattle.codec.specs.declared.summaries.BlockRole.{BlockRole}
+use Rattle.object_map.specs.declared.map.Row.{Row}
+use Rattle.object_map.specs.Rows.{row_of}
+use Rattle.segment_table.specs.Table.{held_at, role_of}
+use Rattle.version_store.specs.Store.{IsStore, HasNothing}
+use Rattle.drive.specs.Fields.{DriveFields, store_of}
+use Rattle.interleaving.specs.Moving.{Move, IsCurrent, IsMoveOf}
+use Rattle.interleaving.specs.Acting.{IsUnplanned, IsUnmoved}
+use Rattle.segment_copier.specs.Commits.{blocks_moved}
+use Rattle.segment_copier.specs.Gathering.{MovesNow}
+use Rattle.drive_compaction.specs.Emptying.{Leaves, LeavesPlace, LeavesBelow, LacksRoom, IsKeptBack, Stays, StopsAt, block_of}
+
+-- ---- what is held has a row
+
+same_as_itself : (kind : BlockKind) → same_kind kind kind ≡ true
+same_as_itself Journal = refl
+same_as_itself Checkpoint = refl
+same_as_itself Data = refl
+
+seen_itself : (block : Stored) (o : ℕ) → block.object ≡ o → seen_as block.kind o (Some block) ≡ None → ⊥
+seen_itself block o is none =
+    let both : (same_kind block.kind block.kind && block.object == o) ≡ true = and_from (same_kind block.kind block.kind) (block.object == o) (same_as_itself block.kind) (eq-eqb block.object o is) in
+    let some : Some block.bytes ≡ None = sym (ap (λ (b : Bool). if b then Some block.bytes else None) both) ∙ none in
+    absurd (cc)
+
+not_none : (r : Option Row) → (r ≡ None → ⊥) → IsSome r
+not_none None some = absurd (some refl)
+not_none (Some row) some = refl
+
+pub row_there : (d : DriveFields) (p : Place) (block : Stored) (o : ℕ) → IsStore (store_of d) → held_at d.store.table p ≡ Some block → block.object ≡ o → IsSome (row_of d.store.rows o)
+row_there d p block o store held is = not_none (row_of d.store.rows o) (λ none.
+    seen_itself block o is (ap (seen_as block.kind o) (sym held) ∙ store.nothing o none block.kind p))
+
+-- a held block, by what it is for
+pub record IsOf (d : DriveFields) (p : Place) (o : ℕ) : Type 0 where
+  pub block : Stored
+  pub held : held_at d.store.table p ≡ Some block
+  pub object : block.object ≡ o
+
+block_from : (held : Option Stored) (role : BlockRole) → Some role ≡ option_map role_of held → (block : Stored) × (held ≡ Some block) × (block.object ≡ role.object)
+block_from None role e = absurd (cc)
+block_from (Some block) role e =
+    let same : role_of block ≡ role = (cc) in
+    (block, refl, ap (λ (r : BlockRole). r.object) same)
+
+pub held_role : (d : DriveFields) (p : Place) (role : BlockRole) → Some role ≡ option_map role_of (held_at d.store.table p) → IsOf d p role.object
+held_role d p role e =
+    let found = block_from (held_at d.store.table p) role e in
+    record { block = found.0; held = found.1; object = found.2 }

@@ -1,0 +1,4 @@
+pub mod Counting
+pub mod Keeping
+pub mod Leaving
+pub mod Freed

@@ -1,0 +1,13 @@
+-- As far as the loop has come, what was counted is told of the blocks that were looked at.
+use Rattle.std.proofs.Common.{◌≡◌, ◌≤◌}
+use Rattle.segment_copier.specs.Choosing.{IsLife}
+use Rattle.drive_compaction.proofs.Counting.{CountsTo}
+use Rattle.drive_compaction.proofs.choices.count_of.Given as goal
+
+abbrev pub invariant-loop-index : goal.invariant-loop-index
+invariant-loop-index g l =
+    record {
+      same : l.drive ≡ l.initial.drive;
+      life : 1 ≤ l.index → IsLife l.generation;
+      counts : CountsTo l.initial.drive l.frame l.index l.so_far;
+    }

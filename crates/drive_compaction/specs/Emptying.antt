@@ -1,0 +1,94 @@
+-- What the emptying of frames comes to.
+use Rattle.std.specs.Prelude.{◌≡◌, ◌⊎◌, ℕ, zero, suc, ◌+◌, ◌<◌, length, Option, Some, None, Ok}
+use Rattle.s4_types.specs.Pointer.{Place}
+use Rattle.s4_types.specs.declared.limits.TheConstants.{PAYLOAD_BLOCKS}
+use Rattle.s4_types.specs.declared.refusals.Refusal.{Refusal}
+use Rattle.s4_types.specs.declared.refusals.Refusal.TheVariants.{NoMemory, NoRoom, Busy, InUse}
+use Rattle.block_log.specs.Log.{Stored}
+use Rattle.object_map.specs.declared.map.Row.{Row}
+use Rattle.object_map.specs.Rows.{row_of}
+use Rattle.segment_word.specs.Layout.{frame_at}
+use Rattle.segment_word.specs.Handles.{Drive}
+use Rattle.segment_table.specs.Table.{held_at}
+use Rattle.version_store.specs.Upkeep.{KeepsObjects}
+use Rattle.drive.specs.Fields.{DriveFields, state_in, store_of}
+use Rattle.drive.specs.Keeping.{KeepsVersions}
+use Rattle.history_cleaner.specs.Emptying.{AllVacated, HasFoundReader}
+use Rattle.segment_copier.specs.Commits.{blocks_moved}
+use Rattle.segment_copier.specs.Gathering.{MovesNow}
+use Rattle.drive_compaction.specs.Choosing.{IsLowestFrame}
+
+-- the history is as it was, and every version that can be read
+pub record KeepsAll (d later : DriveFields) : Type 0 where
+  pub ledger : later.ledger ≡ d.ledger
+  pub needed : KeepsVersions (state_in d) (store_of d) (store_of later)
+
+-- ---- the blocks of a frame
+
+-- What is done about the block at a place, by so many moves: nothing where none is held there; else its object leaves the frame, with
+-- all that it holds in it.
+abbrev pub Leaves : DriveFields → Place → Option Stored → ℕ → DriveFields → Type 0
+Leaves d p None moves later = (moves ≡ 0) × (later ≡ d)
+Leaves d p (Some block) moves later = (moves ≡ 1) × MovesNow d p.frame block.object (Ok tt) later
+
+-- so of the block that is held there
+abbrev pub LeavesPlace : DriveFields → Place → ℕ → DriveFields → Type 0
+LeavesPlace d p moves later = Leaves d p (held_at d.store.table p) moves later
+
+-- block b of frame f at a generation
+abbrev pub block_of : ℕ → ℕ → ℕ → Place
+block_of f generation b = record { frame = f; block = b; generation = generation }
+
+-- The first n payload blocks of frame f at a generation, one after the other, by so many moves in all.
+abbrev pub LeavesBelow : DriveFields → ℕ → ℕ → ℕ → ℕ → DriveFields → Type 0
+LeavesBelow d f generation zero moves later = (moves ≡ 0) × (later ≡ d)
+LeavesBelow d f generation (suc n) moves later =
+    (between : DriveFields) × (k : ℕ) × (m : ℕ) × LeavesBelow d f generation n k between × LeavesPlace between (block_of f generation (suc n)) m later × (moves ≡ k + m)
+
+-- fewer places are ahead than the move of an object out of a frame takes
+pub record LacksRoom (d : DriveFields) (f o : ℕ) : Type 0 where
+  pub row : Row
+  pub there : row_of d.store.rows o ≡ Some row
+  pub short : length (store_of d).log.ahead < blocks_moved d f o row
+
+-- why the move of an object out of a frame isn't made
+abbrev pub IsKeptBack : DriveFields → ℕ → ℕ → Refusal → Type 0
+IsKeptBack d f o e = ((e ≡ NoRoom) × LacksRoom d f o) ⊎ ((e ≡ NoMemory) ⊎ (e ≡ Busy))
+
+-- The object of the block at a place stays in its frame, for this reason, and nothing has changed.
+pub record Stays (d : DriveFields) (p : Place) (e : Refusal) (later : DriveFields) : Type 0 where
+  pub block : Stored
+  pub held : held_at d.store.table p ≡ Some block
+  pub same : store_of later ≡ store_of d
+  pub why : IsKeptBack d p.frame block.object e
+
+-- The emptying of a frame stopped at one of its blocks.
+pub record StopsAt (d : DriveFields) (f generation moves : ℕ) (e : Refusal) (later : DriveFields) : Type 0 where
+  pub before : ℕ
+  pub between : DriveFields
+  pub left : LeavesBelow d f generation before moves between
+  pub stays : Stays between (block_of f generation (before + 1)) e later
+
+-- all blocks of a frame, or up to the one at which it stopped
+abbrev pub Empties : DriveFields → ℕ → ℕ → ℕ → Option Refusal → DriveFields → Type 0
+Empties d f generation moves None later = LeavesBelow d f generation PAYLOAD_BLOCKS moves later
+Empties d f generation moves (Some e) later = StopsAt d f generation moves e later
+
+-- ---- frame after frame
+
+-- A frame was emptied, or up to the block at which it stopped, and then each frame that holds nothing was freed.
+pub record Frees (d : DriveFields) (f moves : ℕ) (stopped : Option Refusal) (later : DriveFields) : Type 0 where
+  pub between : DriveFields
+  pub empties : Empties d f (frame_at d.store.table.seat.frames f).generation moves stopped between
+  pub vacated : AllVacated later.store.table
+  pub objects : KeepsObjects (store_of between) (store_of later)
+
+-- So many frames were emptied and freed, each the lowest one that could be, by so many moves in all.
+unfoldable pub FreesInTurn : DriveFields → ℕ → ℕ → DriveFields → Type 0
+FreesInTurn d zero moves later = (moves ≡ 0) × (later ≡ d)
+FreesInTurn d (suc n) moves later =
+    (between : DriveFields) × (f : ℕ) × (k : ℕ) × (m : ℕ) × FreesInTurn d n k between × IsLowestFrame between f × Frees between f m None later × (moves ≡ k + m)
+
+-- a release was tried since some state of the frames, and found a reader
+abbrev pub FindsReader : Drive → Refusal → Type 0
+FindsReader new e = (e ≡ InUse) × (since : Drive) × HasFoundReader since new
