@@ -1,2 +1,3 @@
+mod Done
 mod Fronts
 mod Rows

@@ -4,6 +4,8 @@ use Rattle.drive.specs.Fields.{DriveFields}
 use Rattle.drive.specs.Opened.{OpenedFields}
 use Rattle.verifier.specs.Images.{ImageFields}
 use Rattle.verifier.specs.Opened.{IsOpenedOf, IsNamedOf}
+use Rattle.verifier.specs.Saved.{SpellsSaved}
+use Rattle.image_commands.specs.Files.{AreKnown}
 use Rattle.image_commands.specs.Verifying.{IsVerified}
 
 -- The drive that an image tells: one that is opened from an image which was read and verified, and to which nothing has come yet.
@@ -25,3 +27,27 @@ pub record OverImage (known : Option (List ℕ)) (Holds : DriveFields → Type 0
   pub drive : DriveFields
   pub told : IsToldDrive known drive
   pub holds : Holds drive
+
+-- A drive that was opened is changed, and saved as these bytes.
+pub record ChangesOpened (opened : OpenedFields) (bytes : List ℕ) (Changes : DriveFields → DriveFields → Type 0) : Type 0 where
+  pub drive : DriveFields
+  pub named : IsNamedOf opened drive
+  pub later : DriveFields
+  pub changes : Changes drive later
+  pub saved : SpellsSaved later bytes
+
+-- The same, and these are what is known of a file then.
+pub record SavesOpened (opened : OpenedFields) (known' : Option (List ℕ)) (Changes : DriveFields → DriveFields → Type 0) : Type 0 where
+  pub bytes : List ℕ
+  pub changed : ChangesOpened opened bytes Changes
+  pub kept : AreKnown known' bytes
+
+-- The drive that an image told is changed, and its file has what it is saved as then.
+pub record ChangesImage (known known' : Option (List ℕ)) (Changes : DriveFields → DriveFields → Type 0) : Type 0 where
+  pub drive : DriveFields
+  pub told : IsToldDrive known drive
+  pub later : DriveFields
+  pub changes : Changes drive later
+  pub bytes : List ℕ
+  pub saved : SpellsSaved later bytes
+  pub kept : AreKnown known' bytes

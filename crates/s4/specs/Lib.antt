@@ -1,5 +1,10 @@
+pub mod Checking
 pub mod Commands
+pub mod Compacting
+pub mod Comparing
+pub mod Exporting
 pub mod Listing
 pub mod Logging
 pub mod Performing
+pub mod Restoring
 pub mod Telling

@@ -1,10 +1,11 @@
 //! Commands over the drive that an image tells.
-ghost use Rattle.std.specs.Prelude.{◌≡◌, ℕ, ◌+◌, ◌^◌, ◌<◌, List, Option, OnOk};
+ghost use Rattle.std.specs.Prelude.{◌≡◌, ℕ, ◌+◌, ◌^◌, ◌<◌, List, Option, IfOk};
 ghost use Rattle.segment_table.specs.Room.{log_of};
 ghost use Rattle.version_store.specs.Store.{fields_of};
 ghost use Rattle.drive.specs.Fields.{DriveFields};
 ghost use Rattle.drive.specs.Opened.{base_of};
 ghost use Rattle.s4.specs.Commands.{OverImage, OverOpened};
+ghost use Rattle.s4.specs.declared.commands.Verdict.{Verdict as Found};
 
 use crate::faults::Failure;
 use drive::{Drive, OpenedDrive};
@@ -16,10 +17,19 @@ use std::marker::Brand;
 use std::thread::Threads;
 use verifier::open;
 
-/// What prints something of a drive, and leaves it as it was.
+/// What a command found, as the program's status tells it.
+#[derive(Clone, Copy, PartialEq, Eq)]
+pub enum Verdict {
+    /// What was asked for.
+    Fine,
+    /// Something that differs.
+    Differs,
+}
+
+/// What prints something of a drive.
 pub trait DriveCommand {
-    // What the output has behind it, over a drive, once the command is done: by the output before and after it.
-    ghost shows: { Self → DriveFields → Option (List ℕ) → Option (List ℕ) → Type 0 };
+    // What was found over a drive once the command is done, and what the output has behind it then: by the output before and after.
+    ghost shows: { Self → DriveFields → Found → Option (List ℕ) → Option (List ℕ) → Type 0 };
 
     /// Prints it.
     fn perform<J: Naming, W: Sink>(
@@ -27,9 +37,9 @@ pub trait DriveCommand {
         alloc: Global,
         drive: &mut Drive<J>,
         writer: &mut W,
-    ) -> Result<(), Failure>
+    ) -> Result<Verdict, Failure>
         requires writer { W.failures writer.old + 1 < 2 ^ 64 }
-        ensures shows { OnOk result (shows self.now drive.old (W.passed writer.old) (W.passed writer.new)) };
+        ensures shows { IfOk result (λ verdict. shows self.now drive.old verdict (W.passed writer.old) (W.passed writer.new)) };
 }
 
 /// Performs a command over the drive that the image in a file tells.
@@ -40,9 +50,9 @@ pub fn over_image<T: Threads, F: Files, C: DriveCommand, W: Sink>(
     image: &str,
     command: &C,
     writer: &mut W,
-) -> Result<(), Failure>
+) -> Result<Verdict, Failure>
     requires writer { W.failures writer.old + 1 < 2 ^ 64 }
-    ensures shows { OnOk result (OverImage (F.contents files.now image.now) (λ drive. C.shows command.now drive (W.passed writer.old) (W.passed writer.new))) }
+    ensures shows { IfOk result (λ verdict. OverImage (F.contents files.now image.now) (λ drive. C.shows command.now drive verdict (W.passed writer.old) (W.passed writer.new))) }
 {
     let image = read_image(rt, alloc, files, image)?;
     let opened = open(alloc, image)?;
@@ -55,12 +65,12 @@ fn over_opened<J: Naming, C: DriveCommand, W: Sink>(
     opened: OpenedDrive,
     command: &C,
     writer: &mut W,
-) -> Result<(), Failure>
+) -> Result<Verdict, Failure>
     requires accepts { opened.accepts ≡ J.accepts }
     requires frames { opened.store.table.seat.table ≡ J.frames }
     requires base { base_of (fields_of log_of opened.store) opened.timeline opened.next ≡ J.base }
     requires writer { W.failures writer.old + 1 < 2 ^ 64 }
-    ensures shows { OnOk result (OverOpened opened (λ drive. C.shows command.now drive (W.passed writer.old) (W.passed writer.new))) }
+    ensures shows { IfOk result (λ verdict. OverOpened opened (λ drive. C.shows command.now drive verdict (W.passed writer.old) (W.passed writer.new))) }
 {
     let mut drive = opened.named::<J>();
     command.perform(alloc, &mut drive, writer)

@@ -1,4 +1,5 @@
 //! Why a command failed.
+use history_export::{ExportError, ExportedFile};
 use image_commands::Fault;
 use s4_types::Refusal;
 use thiserror::Error;
@@ -27,6 +28,33 @@ pub enum Failure {
     /// Standard output can't be written.
     #[error("cannot write standard output; give it a place with room")]
     WriteFailed,
+    /// The objects that are named don't ascend, or one of them never was.
+    #[error("name objects that were made, by ascending number, each once; `s4 list --deleted` prints them")]
+    Unordered,
+    /// The object's journal has no room for what restores it; the moments between can be hidden.
+    #[error("object {object} has a full journal; hide its moments {first} to {last} by FlushO in a session of an administrator, and restore then")]
+    JournalFull { object: u64, first: u64, last: u64 },
+    /// The object's journal has no room, and no moments that can be hidden.
+    #[error("object {object} has a full journal, and no moments between that could be hidden; restore the others by --object")]
+    JournalStuck { object: u64 },
+    /// The drive has no room for what restores the object.
+    #[error("there is no room to restore object {object}; run `s4 compact`, or restore fewer by --object")]
+    NoRoom { object: u64 },
+    /// The folder can't be made, or isn't one.
+    #[error("the folder cannot be made; name one that is empty, or a new one where you may write")]
+    NoFolder,
+    /// Anything is in the folder.
+    #[error("the folder is not empty; name one that is, or a new one")]
+    FolderNotEmpty,
+    /// A file in the folder can't be written.
+    #[error("{0} cannot be written in the folder; give it room, and export into an empty folder")]
+    CannotExport(ExportedFile),
+    /// The image can't be replaced.
+    #[error("cannot be written; end the program that serves it, and give it a folder with room that you may write")]
+    CannotWrite,
+    /// The image can't be replaced; the new one is in a file of its own.
+    #[error("cannot be replaced; the new image is in {0}")]
+    KeptIn(String),
 }
 
 impl From<Fault<'_>> for Failure {
@@ -34,8 +62,20 @@ impl From<Fault<'_>> for Failure {
         match fault {
             Fault::CannotRead(_) => Failure::CannotRead,
             Fault::Refused(refusal) => Failure::from(refusal),
-            Fault::WriteFailed | Fault::CannotWrite(_) | Fault::KeptIn(_, _) =>
-                Failure::WriteFailed,
+            Fault::WriteFailed => Failure::WriteFailed,
+            Fault::CannotWrite(_) => Failure::CannotWrite,
+            Fault::KeptIn(_, kept) => Failure::KeptIn(kept),
+        }
+    }
+}
+
+impl From<ExportError> for Failure {
+    fn from(error: ExportError) -> Failure {
+        match error {
+            ExportError::NotEmpty => Failure::FolderNotEmpty,
+            ExportError::CannotRead => Failure::NoFolder,
+            ExportError::CannotWrite(file) => Failure::CannotExport(file),
+            ExportError::Refused(refusal) => Failure::from(refusal),
         }
     }
 }

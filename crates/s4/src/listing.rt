@@ -5,7 +5,7 @@ ghost use Rattle.std.specs.Io.KnownBytes.{Appends};
 ghost use Rattle.drive.specs.Fields.{state_in, store_of};
 ghost use Rattle.s4.specs.Listing.{ListsObjects, ListsRows, head_of_list, line_of_listed};
 
-use crate::commands::DriveCommand;
+use crate::commands::{DriveCommand, Verdict};
 use crate::faults::Failure;
 use crate::moments::moment_asked;
 use drive::Drive;
@@ -19,15 +19,16 @@ use serving::Sink;
 use std::alloc::{AllocError, Global};
 
 impl DriveCommand for ListAsked<'_> {
-    ghost shows = { λ asked d. ListsObjects (state_in d) (store_of d) asked.at asked.deleted asked.json };
+    ghost shows = { λ asked d verdict. ListsObjects (state_in d) (store_of d) asked.at asked.deleted asked.json };
 
     fn perform<J: Naming, W: Sink>(
         &self,
         alloc: Global,
         drive: &mut Drive<J>,
         writer: &mut W,
-    ) -> Result<(), Failure> {
-        list(alloc, drive, self, writer)
+    ) -> Result<Verdict, Failure> {
+        list(alloc, drive, self, writer)?;
+        Ok(Verdict::Fine)
     }
 }
 

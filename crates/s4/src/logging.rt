@@ -6,8 +6,9 @@ ghost use Rattle.object_map.specs.Rows.{row_of};
 ghost use Rattle.drive.specs.Fields.{state_in, store_of};
 ghost use Rattle.s4.specs.Logging.{LogsObjects, LogsRows, first_asked, last_asked, head_of_log, line_of_change, lines_of_object};
 
-use crate::commands::DriveCommand;
+use crate::commands::{DriveCommand, Verdict};
 use crate::faults::Failure;
+use crate::moments::check_object;
 use drive::Drive;
 use history_text::{LOG_HEAD, change_json, change_line};
 use history_view::{ObjectChange, changes_between};
@@ -27,15 +28,16 @@ struct Manner {
 }
 
 impl DriveCommand for LogAsked<'_> {
-    ghost shows = { λ asked d. LogsObjects (state_in d) (store_of d) asked.object asked.since asked.until asked.json };
+    ghost shows = { λ asked d verdict. LogsObjects (state_in d) (store_of d) asked.object asked.since asked.until asked.json };
 
     fn perform<J: Naming, W: Sink>(
         &self,
         alloc: Global,
         drive: &mut Drive<J>,
         writer: &mut W,
-    ) -> Result<(), Failure> {
-        log(alloc, drive, self, writer)
+    ) -> Result<Verdict, Failure> {
+        log(alloc, drive, self, writer)?;
+        Ok(Verdict::Fine)
     }
 }
 
@@ -53,19 +55,6 @@ fn log<J: Naming, W: Sink>(
     check_object(drive, asked.object)?;
     write_out(writer, head_of_log(asked.json).as_bytes())?;
     write_asked(alloc, drive, asked.object, &manner, writer)
-}
-
-// An error where no object has the number that is asked for.
-fn check_object<J: Naming>(drive: &Drive<J>, object: Option<u64>) -> Result<(), Failure>
-    ensures there { OnOk result (IfSome object (λ o. row_of drive.now.store.rows o ≢ None)) }
-{
-    let Some(object) = object else {
-        return Ok(());
-    };
-    match drive.row(ObjectId::new(object)) {
-        Some(_) => Ok(()),
-        None => Err(Failure::NoObject { object }),
-    }
 }
 
 fn manner_of(asked: &LogAsked<'_>) -> Manner

@@ -1,21 +1,30 @@
-//! The program `s4`: looks into the past of a drive that is kept in a file.
+//! The program `s4`: looks into the past of a drive that is kept in a file, and brings it back.
 //!
-//! `perform` does what a line of words asks for, over any files and writers, and `main` calls it with the system's. No command changes
-//! an image or keeps another program from it. What is proved over any files that say what they hold: `list` writes the line of exactly
-//! the objects that are listed at a moment, `log` a line for each entry of the journals between two moments, and `cat` the bytes of an
-//! object at a moment. That the system's files read and write as such files do is tested, and so are the texts on standard error.
+//! `perform` does what a line of words asks for, over any files and writers, and `main` calls it with the system's. `restore` and
+//! `compact` alone change an image; no other command does, or keeps another program from it. What is proved over any files that say what they hold:
+//! `list` writes the line of exactly the objects that are listed at a moment, `log` a line for each entry of the journals between two
+//! moments, `cat` the bytes of an object at a moment, `diff` what differs between two moments, `check` how many versions can be read, all
+//! of which were; `restore` leaves what the drive is saved as in which the objects are what they were, and `compact` what the compacted
+//! drive is saved as. That the system's files read and write as such files do is
+//! tested, and so are the texts on standard error.
 #![tactic(auto)]
 
 ghost use Rattle.std.specs.Prelude.{◌≡◌, ◌≢◌};
 ghost use Rattle.std.specs.declared.io.ErrorKind.TheVariants.{OutOfMemory};
 
+mod changing;
+mod checking;
 mod commands;
+mod compacting;
+mod comparing;
+mod exporting;
 mod faults;
 mod listing;
 mod logging;
 mod moments;
 mod performing;
 mod reading;
+mod restoring;
 mod telling;
 
 use faults::Failure;
@@ -29,10 +38,12 @@ use std::process::ExitCode;
 fn main(rt: HostRuntime) -> ExitCode {
     // Where the system has nothing to open, the streams stay as they are.
     let _ = hold_standard_streams(&rt);
+    let mut files = rt;
     match words_of(&rt) {
         Ok(words) => ExitCode::from(perform(
             &rt,
             rt.alloc(),
+            &mut files,
             &rt,
             words.as_slice(),
             &mut WriteSink::new(rt.stdout()),

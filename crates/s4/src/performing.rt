@@ -1,10 +1,13 @@
 //! What a line of words asks for, and the status of the program.
 ghost use Rattle.std.specs.Prelude.{◌≡◌, ◌+◌, ◌^◌, ◌<◌, ◌≤◌, map};
-ghost use Rattle.s4.specs.Commands.{OverImage};
-ghost use Rattle.s4.specs.Performing.{IsDone, IsUsage};
+ghost use Rattle.s4.specs.Commands.{OverImage, ChangesImage};
+ghost use Rattle.s4.specs.Performing.{IsDone, IsDoneOver, IsUsage};
 
-use crate::commands::{DriveCommand, over_image};
+use crate::changing::{DriveChange, change_image};
+use crate::commands::{DriveCommand, Verdict, over_image};
+use crate::exporting::{Folders, export_image};
 use crate::faults::Failure;
+use crate::restoring::DryRun;
 use image_commands::Files;
 use s4_command::{Command, NoCommand, command_of};
 use s4_types::Refusal;
@@ -25,57 +28,23 @@ const FAILED: u8 = 1;
 const USAGE: u8 = 2;
 
 /// Does what the words ask for, the program's name first among them, and answers the program's status: 0 where it is done, 1 with a line
-/// on `errors` where it failed, 2 with lines there where the words spell no command.
-pub fn perform<T: Threads, F: Files, S: AsStr, W: Sink, E: Write>(
+/// on `errors` where it failed, or without one where `diff` printed what differs, 2 with lines there where the words spell no command.
+pub fn perform<T: Threads, F: Files, D: Folders, S: AsStr, W: Sink, E: Write>(
     rt: &T,
     alloc: Global,
-    files: &F,
+    files: &mut F,
+    folders: &D,
     words: &[S],
     writer: &mut W,
     errors: &mut E,
 ) -> u8
     requires writer { W.failures writer.old + 1 < 2 ^ 64 }
     ensures status { result ≤ 2 }
-    ensures done { result ≡ 0 → IsDone (map S.text words.now) (F.contents files.now) (W.passed writer.old) (W.passed writer.new) }
+    ensures done { result ≡ 0 → IsDone (map S.text words.now) (F.contents files.old) (F.contents files.new) (W.passed writer.old) (W.passed writer.new) }
     ensures usage { result ≡ 2 → IsUsage (map S.text words.now) }
 {
     match command_of(alloc, words) {
-        Ok(Command::List(asked)) => perform_over(
-            rt,
-            alloc,
-            files,
-            asked.image,
-            &asked,
-            writer,
-            errors,
-        ),
-        Ok(Command::Log(asked)) => perform_over(
-            rt,
-            alloc,
-            files,
-            asked.image,
-            &asked,
-            writer,
-            errors,
-        ),
-        Ok(Command::Cat(asked)) => perform_over(
-            rt,
-            alloc,
-            files,
-            asked.image,
-            &asked,
-            writer,
-            errors,
-        ),
-        Ok(Command::Info(asked)) => perform_over(
-            rt,
-            alloc,
-            files,
-            asked.image,
-            &asked,
-            writer,
-            errors,
-        ),
+        Ok(command) => perform_command(rt, alloc, files, folders, &command, writer, errors),
         Err(NoCommand::Asked(help)) => show(alloc, help, writer, errors),
         Err(NoCommand::Refused(error)) => say(errors, error),
         Err(NoCommand::NoNumber { name, word }) => refuse_number(errors, name, word),
@@ -84,8 +53,48 @@ pub fn perform<T: Threads, F: Files, S: AsStr, W: Sink, E: Write>(
     }
 }
 
-// Performs a command over the drive of an image.
-fn perform_over<T: Threads, F: Files, C: DriveCommand, W: Sink, E: Write>(
+// Performs a command.
+fn perform_command<T: Threads, F: Files, D: Folders, W: Sink, E: Write>(
+    rt: &T,
+    alloc: Global,
+    files: &mut F,
+    folders: &D,
+    command: &Command<'_>,
+    writer: &mut W,
+    errors: &mut E,
+) -> u8
+    requires writer { W.failures writer.old + 1 < 2 ^ 64 }
+    ensures status { result ≤ 1 }
+    ensures done { result ≡ 0 → IsDoneOver (F.contents files.old) (F.contents files.new) (W.passed writer.old) (W.passed writer.new) command.now }
+{
+    match command {
+        Command::List(list) => show_image(rt, alloc, files, list.image, list, writer, errors),
+        Command::Log(log) => show_image(rt, alloc, files, log.image, log, writer, errors),
+        Command::Cat(cat) => show_image(rt, alloc, files, cat.image, cat, writer, errors),
+        Command::Info(info) => show_image(rt, alloc, files, info.image, info, writer, errors),
+        Command::Diff(diff) => show_image(rt, alloc, files, diff.image, diff, writer, errors),
+        Command::Check(check) => show_image(rt, alloc, files, check.image, check, writer, errors),
+        Command::Export(export) => {
+            match export_image(rt, alloc, files, folders, export) {
+                Ok(()) => DONE,
+                Err(failure) => fail_over(errors, export.image, failure),
+            }
+        }
+        Command::Restore(restore) if restore.dry_run => {
+            let dry = DryRun { asked: restore };
+            show_image(rt, alloc, files, restore.image, &dry, writer, errors)
+        }
+        Command::Restore(restore) => {
+            alter_image(rt, alloc, files, restore.image, restore, writer, errors)
+        }
+        Command::Compact(compact) => {
+            alter_image(rt, alloc, files, compact.image, compact, writer, errors)
+        }
+    }
+}
+
+// Prints something of the drive of an image.
+fn show_image<T: Threads, F: Files, C: DriveCommand, W: Sink, E: Write>(
     rt: &T,
     alloc: Global,
     files: &F,
@@ -96,9 +105,30 @@ fn perform_over<T: Threads, F: Files, C: DriveCommand, W: Sink, E: Write>(
 ) -> u8
     requires writer { W.failures writer.old + 1 < 2 ^ 64 }
     ensures status { result ≤ 1 }
-    ensures done { result ≡ 0 → OverImage (F.contents files.now image.now) (λ drive. C.shows command.now drive (W.passed writer.old) (W.passed writer.new)) }
+    ensures done { result ≡ 0 → OverImage (F.contents files.now image.now) (λ drive. C.shows command.now drive Verdict.Fine (W.passed writer.old) (W.passed writer.new)) }
 {
     match over_image(rt, alloc, files, image, command, writer) {
+        Ok(Verdict::Fine) => DONE,
+        Ok(Verdict::Differs) => FAILED,
+        Err(failure) => fail_over(errors, image, failure),
+    }
+}
+
+// Changes the drive of an image.
+fn alter_image<T: Threads, F: Files, C: DriveChange, W: Sink, E: Write>(
+    rt: &T,
+    alloc: Global,
+    files: &mut F,
+    image: &str,
+    change: &C,
+    writer: &mut W,
+    errors: &mut E,
+) -> u8
+    requires writer { W.failures writer.old + 1 < 2 ^ 64 }
+    ensures status { result ≤ 1 }
+    ensures done { result ≡ 0 → ChangesImage (F.contents files.old image.now) (F.contents files.new image.now) (λ drive later. C.changes change.now drive later (W.passed writer.old) (W.passed writer.new)) }
+{
+    match change_image(rt, alloc, files, image, change, writer) {
         Ok(()) => DONE,
         Err(failure) => fail_over(errors, image, failure),
     }

@@ -5,7 +5,7 @@ ghost use Rattle.drive.specs.Fields.{state_in};
 ghost use Rattle.image_commands.specs.ReadingPast.{GivesVersion};
 ghost use Rattle.s4.specs.Listing.{moment_asked};
 
-use crate::commands::DriveCommand;
+use crate::commands::{DriveCommand, Verdict};
 use crate::faults::Failure;
 use crate::moments::moment_asked;
 use drive::Drive;
@@ -18,15 +18,16 @@ use serving::Sink;
 use std::alloc::Global;
 
 impl DriveCommand for CatAsked<'_> {
-    ghost shows = { λ asked d. GivesVersion (version_of (state_in d) asked.object (moment_asked (state_in d) asked.at)) };
+    ghost shows = { λ asked d verdict. GivesVersion (version_of (state_in d) asked.object (moment_asked (state_in d) asked.at)) };
 
     fn perform<J: Naming, W: Sink>(
         &self,
         alloc: Global,
         drive: &mut Drive<J>,
         writer: &mut W,
-    ) -> Result<(), Failure> {
-        cat(alloc, drive, self, writer)
+    ) -> Result<Verdict, Failure> {
+        cat(alloc, drive, self, writer)?;
+        Ok(Verdict::Fine)
     }
 }
 

@@ -4,7 +4,7 @@ ghost use Rattle.std.specs.Io.KnownBytes.{Appends};
 ghost use Rattle.drive.specs.Fields.{state_in, store_of};
 ghost use Rattle.s4.specs.Telling.{CountsObjects, IsNumbersOf, TellsNumbers, text_of_numbers};
 
-use crate::commands::DriveCommand;
+use crate::commands::{DriveCommand, Verdict};
 use crate::faults::Failure;
 use drive::Drive;
 use history_text::{DriveNumbers, numbers_json, numbers_lines};
@@ -18,15 +18,16 @@ use serving::Sink;
 use std::alloc::{AllocError, Global};
 
 impl DriveCommand for InfoAsked<'_> {
-    ghost shows = { λ asked d. TellsNumbers (state_in d) (store_of d) (length d.store.table.seat.frames) asked.json };
+    ghost shows = { λ asked d verdict. TellsNumbers (state_in d) (store_of d) (length d.store.table.seat.frames) asked.json };
 
     fn perform<J: Naming, W: Sink>(
         &self,
         alloc: Global,
         drive: &mut Drive<J>,
         writer: &mut W,
-    ) -> Result<(), Failure> {
-        info(alloc, drive, self.json, writer)
+    ) -> Result<Verdict, Failure> {
+        info(alloc, drive, self.json, writer)?;
+        Ok(Verdict::Fine)
     }
 }
 

@@ -1,10 +1,10 @@
-use Rattle.image_commands.proofs.Done.{for_ok}
+use Rattle.s4.proofs.Done.{if_ok}
 use Rattle.s4.proofs.commands.over_image.Goals as goal
 
 pub returns : goal.returns
 returns g c = record {
-  shows = for_ok c.over_opened.result
-      (λ done. record {
+  shows = if_ok c.over_opened.result
+      (λ verdict done. record {
         drive = done.drive;
         told = record { image = c.in_ok-image.image; verified = c.in_ok-image.ensures.verified; opened = c.in_ok-opened.opened; parts = c.in_ok-opened.ensures.opened; named = done.named };
         holds = done.holds;

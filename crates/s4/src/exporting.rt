@@ -1,0 +1,92 @@
+//! `export`: the objects of a moment as files in a folder.
+ghost use Rattle.std.specs.Prelude.{◌≡◌, OnOk};
+ghost use Rattle.segment_table.specs.Room.{log_of};
+ghost use Rattle.version_store.specs.Store.{fields_of};
+ghost use Rattle.drive.specs.Opened.{base_of};
+ghost use Rattle.s4.specs.Commands.{OverImage, OverOpened};
+ghost use Rattle.s4.specs.Exporting.{Exported, ExportsInto};
+
+use crate::faults::Failure;
+use crate::moments::moment_asked;
+use drive::{Drive, OpenedDrive};
+use history_export::{Folder, SystemFolder, export};
+use image_commands::{Files, read_image};
+use s4_command::ExportAsked;
+use s4_types::{ObjectId, Role};
+use segment_word::Naming;
+use std::alloc::Global;
+use std::io;
+use std::marker::Brand;
+use std::thread::Threads;
+use verifier::open;
+
+/// Folders, each found by its path.
+pub trait Folders {
+    /// What is at a path.
+    type Opened: Folder + Drop;
+
+    /// The folder at a path. It is made where it isn't there.
+    fn folder(&self, alloc: Global, path: &str) -> io::Result<Self::Opened>;
+}
+
+impl Folders for HostRuntime {
+    type Opened = SystemFolder;
+
+    fn folder(&self, alloc: Global, path: &str) -> io::Result<SystemFolder> {
+        SystemFolder::at(self, alloc, path)
+    }
+}
+
+/// Writes the objects that an image's drive has at a moment into the folder at a path.
+pub fn export_image<T: Threads, F: Files, D: Folders>(
+    rt: &T,
+    alloc: Global,
+    files: &F,
+    folders: &D,
+    asked: &ExportAsked<'_>,
+) -> Result<(), Failure>
+    ensures exports { OnOk result (OverImage (F.contents files.now asked.now.image.now) (λ drive. Exported drive asked.now.at)) }
+{
+    let image = read_image(rt, alloc, files, asked.image)?;
+    let opened = open(alloc, image)?;
+    let Ok(mut folder) = folders.folder(alloc, asked.folder) else {
+        return Err(Failure::NoFolder);
+    };
+    export_opened::<Brand, D::Opened>(alloc, opened, &mut folder, asked.at)
+}
+
+// The same of a drive that was just opened, into a folder.
+fn export_opened<J: Naming, D: Folder>(
+    alloc: Global,
+    opened: OpenedDrive,
+    folder: &mut D,
+    at: Option<u64>,
+) -> Result<(), Failure>
+    requires accepts { opened.accepts ≡ J.accepts }
+    requires frames { opened.store.table.seat.table ≡ J.frames }
+    requires base { base_of (fields_of log_of opened.store) opened.timeline opened.next ≡ J.base }
+    ensures exports { OnOk result (OverOpened opened (λ drive. ExportsInto drive at (D.files folder.old) (D.files folder.new))) }
+{
+    let mut drive = opened.named::<J>();
+    export_drive(alloc, &mut drive, folder, at)
+}
+
+// The same of a drive.
+fn export_drive<J: Naming, D: Folder>(
+    alloc: Global,
+    drive: &mut Drive<J>,
+    folder: &mut D,
+    at: Option<u64>,
+) -> Result<(), Failure>
+    ensures exports { OnOk result (ExportsInto drive.old at (D.files folder.old) (D.files folder.new)) }
+{
+    let moment = match moment_asked(drive, ObjectId::new(0), at) {
+        Ok(moment) => moment,
+        Err(failure) => return Err(failure),
+    };
+    let mut session = drive.session(Role::Client)?;
+    match export(alloc, drive, &mut session, folder, moment) {
+        Ok(()) => Ok(()),
+        Err(error) => Err(Failure::from(error)),
+    }
+}
