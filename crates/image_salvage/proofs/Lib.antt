@@ -1,0 +1,5 @@
+pub mod Seeing
+pub mod Alike
+pub mod Later
+pub mod Whole
+pub mod Going

@@ -1,0 +1,136 @@
+-- Each row of an image that isn't damaged gives its object.
+use Rattle.std.proofs.Common.{◌≡◌, ℕ, zero, suc, ◌<◌, ◌≤◌, ◌&&◌, ◌==◌, Bool, true, false, cond, List, [], ◌∷◌, ◌^◌, length, get_or, Option, Some, None, refl, sym, ap, subst, ◌∙◌, arith}
+use Rattle.std.specs.Prelude.{IsSome, MatchOption, unwrap_or}
+use Rattle.std.specs.List.{All, AllByRecursion, Contains}
+use Rattle.std.proofs.lemmas.List.Elements.{All-get_or}
+use Rattle.s4_types.specs.Pointer.{Place}
+use Rattle.block_log.specs.Log.{Stored, seen_as, same_kind, of_kind}
+use Rattle.block_log.specs.declared.kinds.BlockKind.TheVariants.{Data}
+use Rattle.codec.specs.Fields.{SpellsSlot}
+use Rattle.codec.specs.Checkpoint.{pointer_at}
+use Rattle.codec.specs.Entry.{EntryFields}
+use Rattle.codec.specs.declared.inodes.Inode.{Inode}
+use Rattle.undo_redo.specs.Runs.{AllBy, redone_all, inode_after}
+use Rattle.inode.specs.Contents.{bytes_stored, contents_of, meaning}
+use Rattle.inode.specs.Laws.{OnlyItsBlocksMatter}
+use Rattle.version_store.specs.Store.{IsLed}
+use Rattle.segment_table.specs.Used.{used_at}
+use Rattle.image_parts.specs.Image.{Image}
+use Rattle.image_parts.specs.declared.rows.RowPart.{RowPart}
+use Rattle.image_objects.specs.declared.rows.ImageRow.{ImageRow}
+use Rattle.image_objects.specs.Chains.{entries_used}
+use Rattle.image_objects.specs.Inodes.{first_used}
+use Rattle.image_objects.specs.VersionChain.{present_used}
+use Rattle.image_objects.specs.Objects.{ObjectStands, inode_used, pointers_used}
+use Rattle.image_objects.specs.Laws.{InodesUsedPointToWhatRowsLeadTo}
+use Rattle.verifier.specs.Rows.{SpellsRow, SpellRows}
+use Rattle.verifier.specs.Grammar.{SpellsDrive}
+use Rattle.image_salvage.specs.declared.rows.Salvaged.{Salvaged}
+use Rattle.image_salvage.specs.Contents.{data_of}
+use Rattle.image_salvage.specs.Rows.{last_moment, IsLost, IsPresentOf, IsSalvagedBy}
+use Rattle.image_salvage.specs.Salvaging.{SalvageFields, IsSalvageOf}
+use Rattle.image_salvage.specs.Laws.{salvaged_version, IsSalvagedWhole, HasAll}
+use Rattle.image_salvage.proofs.Seeing.{OneSummaryASpelling}
+use Rattle.image_salvage.proofs.Alike.{RulesOfASummary, used_alike, none_lost_of}
+use Rattle.image_salvage.proofs.Later.{stands_later, all_by}
+
+-- what laws tell
+abbrev pub OnePointerASpelling : Type 0
+OnePointerASpelling = (bytes : List ℕ) (p q : Option Place) → SpellsSlot bytes p → SpellsSlot bytes q → p ≡ q
+
+abbrev pub AllEntriesAreDone : Type 0
+AllEntriesAreDone = (i : Inode) (entries : List EntryFields) (t : ℕ) → AllBy t entries → inode_after i entries t ≡ redone_all entries i
+
+-- ---- bytes
+
+by_kind : (b : Bool) (bytes : List ℕ) → IsSome (cond b (Some bytes) None) → unwrap_or (cond b (Some bytes) None) [] ≡ bytes
+by_kind true bytes some = refl
+by_kind false bytes some = absurd (cc)
+
+data_there : (o : ℕ) (held : Option Stored) → IsSome (seen_as Data o held) → unwrap_or (seen_as Data o held) [] ≡ bytes_stored held
+data_there o None some = absurd (cc)
+data_there o (Some block) some = by_kind (same_kind Data block.kind && block.object == o) block.bytes some
+
+-- where each pointer of an inode leads to data of its object, it stands for the same over that data alone
+same_version : OnlyItsBlocksMatter → (used : Place → Option Stored) (o : ℕ) (i : Inode) → ((k : ℕ) (p : Place) → pointer_at i k ≡ Some p → IsSome (of_kind Data o used p)) → meaning (data_of used o) i ≡ meaning (contents_of used) i
+same_version only used o i led = (only (contents_of used) (data_of used o) i (λ k p is. data_there o (used p) (led k p is))).0
+
+-- ---- pointers
+
+led_by : (used : Place → Option Stored) (o : ℕ) (all : List (Option Place)) (p : Place) → All (IsLed used o) all → Contains all (Some p) → IsSome (of_kind Data o used p)
+led_by used o all p each (k, h, e) = subst (IsLed used o) e (All-get_or (IsLed used o) all k (Some p) h each)
+
+-- ---- one row
+
+same_row : OnePointerASpelling → (part : RowPart) (row other : ImageRow) → SpellsRow part row → SpellsRow part other → row ≡ other
+same_row one part row other a b =
+    let checkpoint : row.checkpoint ≡ other.checkpoint = one _ row.checkpoint other.checkpoint a.checkpoint b.checkpoint in
+    let head : row.head ≡ other.head = one _ row.head other.head a.head b.head in
+    let object : row.object ≡ other.object = a.object ∙ sym b.object in
+    let created : row.created ≡ other.created = a.created ∙ sym b.created in
+    let moment : row.checkpoint_moment ≡ other.checkpoint_moment = a.checkpoint_moment ∙ sym b.checkpoint_moment in
+    ap (λ (n : ℕ). record row { object = n }) object
+    ∙ ap (λ (n : ℕ). record { object = other.object; created = n; checkpoint = row.checkpoint; checkpoint_moment = row.checkpoint_moment; head = row.head }) created
+    ∙ ap (λ (p : Option Place). record { object = other.object; created = other.created; checkpoint = p; checkpoint_moment = row.checkpoint_moment; head = row.head }) checkpoint
+    ∙ ap (λ (n : ℕ). record { object = other.object; created = other.created; checkpoint = other.checkpoint; checkpoint_moment = n; head = row.head }) moment
+    ∙ ap (λ (p : Option Place). record { object = other.object; created = other.created; checkpoint = other.checkpoint; checkpoint_moment = other.checkpoint_moment; head = p }) head
+
+present_whole : OnePointerASpelling → AllEntriesAreDone → InodesUsedPointToWhatRowsLeadTo → OnlyItsBlocksMatter → (used seen : Place → Option Stored) (clock : ℕ) (part : RowPart) (row : ImageRow) (salvaged : Salvaged) (found : Option Inode)
+    → seen ≡ used → clock ≤ last_moment → SpellsRow part row → ObjectStands used row clock → salvaged.object ≡ part.object → salvaged.present ≡ found → MatchOption found (IsLost used part) (IsPresentOf used part)
+    → IsSalvagedWhole used clock row seen salvaged
+present_whole one done points only used seen clock part row salvaged None same later spelled stands object is lost =
+    absurd (lost row spelled (stands_later used row clock last_moment later stands.versions))
+present_whole one done points only used seen clock part row salvaged (Some inode) same later spelled stands object is present =
+    let rows : present.row ≡ row = same_row one part present.row row present.spelled spelled in
+    let by : AllBy clock (entries_used used row) = all_by row.created clock (entries_used used row) stands.versions.chain.moments in
+    let current : inode ≡ inode_used used row clock = present.present ∙ ap (present_used used) rows ∙ sym (done (first_used used row) (entries_used used row) clock by) in
+    let led : (k : ℕ) (p : Place) → pointer_at (inode_used used row clock) k ≡ Some p → IsSome (of_kind Data row.object used p) =
+    (λ k p at. led_by used row.object (pointers_used used row) p stands.led (points used row clock k p at)) in
+    record {
+      object = object ∙ sym spelled.object;
+      inode = inode;
+      present = is;
+      version = ap (λ (view : Place → Option Stored). salvaged_version view row.object inode) same
+          ∙ ap (salvaged_version used row.object) current
+          ∙ same_version only used row.object (inode_used used row clock) led;
+    }
+
+-- ---- all rows
+
+spelled_count : (parts : List RowPart) (rows : List ImageRow) → SpellRows parts rows → length parts ≡ length rows
+spelled_count [] [] all = refl
+spelled_count [] (row ∷ rows) all = absurd all
+spelled_count (part ∷ parts) [] all = absurd all
+spelled_count (part ∷ parts) (row ∷ rows) all = ap suc (spelled_count parts rows all.1)
+
+spelled_at : (parts : List RowPart) (rows : List ImageRow) (k : ℕ) (part : RowPart) (row : ImageRow) → SpellRows parts rows → k < length rows → SpellsRow (get_or parts k part) (get_or rows k row)
+spelled_at [] [] k p r all h = absurd (omega arith)
+spelled_at [] (row ∷ rows) k p r all h = absurd all
+spelled_at (part ∷ parts) [] k p r all h = absurd all
+spelled_at (part ∷ parts) (row ∷ rows) zero p r all h = all.0
+spelled_at (part ∷ parts) (row ∷ rows) (suc k) p r all h = spelled_at parts rows k p r all.1 (omega arith)
+
+stands_at : (P : ImageRow → Type 0) (rows : List ImageRow) (k : ℕ) (row : ImageRow) → AllByRecursion P rows → k < length rows → P (get_or rows k row)
+stands_at P [] k r all h = absurd (omega arith)
+stands_at P (row ∷ rows) zero r all h = all.0
+stands_at P (row ∷ rows) (suc k) r all h = stands_at P rows k r all.1 (omega arith)
+
+pub has_all : RulesOfASummary → OneSummaryASpelling → OnePointerASpelling → AllEntriesAreDone → InodesUsedPointToWhatRowsLeadTo → OnlyItsBlocksMatter → (bytes : List ℕ) (image : Image) (s : SalvageFields) → SpellsDrive bytes image → IsSalvageOf image s → HasAll image s
+has_all rules_of one_summary one_pointer done points only bytes image s spells salvages =
+    let chains = spells.chains in
+    let same : used_at s.table ≡ used_at chains.table = used_alike rules_of one_summary image.frames s.table chains.table spells.parts.rules.frames.each salvages.sees chains.frames in
+    let count : length image.rows ≡ length chains.rows = spelled_count image.rows chains.rows chains.spelled in
+    let clock : image.clock < 2 ^ 64 = spells.parts.is.clock in
+    record {
+      table = chains.table;
+      frames = chains.frames;
+      rows = chains.rows;
+      spelled = chains.spelled;
+      intact = none_lost_of image.frames s.lost spells.parts.rules.frames.each salvages.lost;
+      each = λ k part row salvaged h by.
+          let here : IsSalvagedBy (used_at chains.table) (get_or image.rows k part) salvaged = subst (λ (view : Place → Option Stored). IsSalvagedBy view (get_or image.rows k part) salvaged) same by in
+          present_whole one_pointer done points only (used_at chains.table) (used_at s.table) image.clock (get_or image.rows k part) (get_or chains.rows k row) salvaged salvaged.present same (omega (arith, clock))
+          (spelled_at image.rows chains.rows k part row chains.spelled h)
+          (stands_at (λ r. ObjectStands (used_at chains.table) r image.clock) chains.rows k row chains.stand.objects h)
+          here.object refl here.present;
+    }

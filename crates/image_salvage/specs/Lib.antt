@@ -1,0 +1,5 @@
+pub mod Frames
+pub mod Rows
+pub mod Contents
+pub mod Salvaging
+pub mod Laws

@@ -1,0 +1,20 @@
+//! Laws of salvage, for the layers above: each function does nothing, and its contract is the law.
+ghost use Rattle.image_salvage.specs.Laws.{AnUndamagedImageIsSalvagedWhole};
+
+use codec::laws::{one_pointer_a_spelling, one_summary_a_spelling, rules_of_a_summary};
+use image_objects::laws::inodes_used_point_to_what_rows_lead_to;
+use inode::laws::only_its_blocks_matter;
+use undo_redo::laws::the_inode_at_a_moment;
+
+/// Of an image that isn't damaged no object is lost, and each stands for the version that it has at the clock in a drive that is opened
+/// from it.
+pub fn an_undamaged_image_is_salvaged_whole()
+    ensures { AnUndamagedImageIsSalvagedWhole }
+{
+    rules_of_a_summary();
+    one_summary_a_spelling();
+    one_pointer_a_spelling();
+    the_inode_at_a_moment();
+    inodes_used_point_to_what_rows_lead_to();
+    only_its_blocks_matter();
+}

@@ -1,0 +1,19 @@
+//! Salvage: what the whole frames of a damaged image still tell of its objects.
+//!
+//! Each frame of an image that isn't free has a summary with a digest of its own. The layers above may rely on this: no block is used but
+//! of frames whose own digest holds in the bytes that were given; and of each row the present inode of its object is given exactly where
+//! its chain, from the head on, and its checkpoint stand over those blocks. Neither the image's digest nor its clock is asked. Of a
+//! present version the bytes are given that those frames have, with zeros for the blocks that are gone, and how many these are.
+//!
+//! Nothing is salvaged where the header is none, or the parts don't fill the bytes: then no frame has a place.
+#![tactic(auto)]
+
+mod contents;
+mod frames;
+pub mod laws;
+mod rows;
+mod salvaging;
+mod used;
+
+pub use rows::Salvaged;
+pub use salvaging::{SalvagedImage, salvage};

@@ -1,0 +1,70 @@
+//! The object that a row leads to.
+ghost use Rattle.std.specs.Prelude.{◌≡◌, IfSome, IfOk, IfErr, MatchOption};
+ghost use Rattle.s4_types.specs.declared.refusals.Refusal.TheVariants.{NoMemory};
+ghost use Rattle.segment_table.specs.Used.{used_at};
+ghost use Rattle.image_objects.specs.declared.rows.ImageRow.{ImageRow as RowFields};
+ghost use Rattle.verifier.specs.Rows.{SpellsRow};
+ghost use Rattle.image_salvage.specs.Rows.{IsLost, IsPresentOf, IsSalvagedBy};
+
+use crate::used::TableBlocks;
+use codec::Inode;
+use image_objects::{ImageRow, read_version_chain};
+use image_parts::RowPart;
+use s4_types::{Moment, ObjectId, Refusal};
+use segment_table::TableBuilder;
+use std::alloc::Global;
+
+/// What a row gives.
+#[derive(Clone, Copy)]
+pub struct Salvaged {
+    pub object: ObjectId,
+    /// The object's present inode, which may be dead; none where the object is lost.
+    pub present: Option<Inode>,
+}
+
+/// A row of an image, with the pointers that its bytes spell. None where they spell neither a pointer nor a hole.
+fn row_of(part: &RowPart) -> Option<ImageRow>
+    ensures found { IfSome result (λ row. SpellsRow part.now row) }
+    ensures only { (row : RowFields) → SpellsRow part.now row → result ≡ Some row }
+{
+    let checkpoint = part.checkpoint_slot()?;
+    let head = part.head_slot()?;
+    Some(ImageRow {
+        object: part.object,
+        created: part.created,
+        checkpoint,
+        checkpoint_moment: part.checkpoint_moment,
+        head,
+    })
+}
+
+/// The present inode of the object of a row. None exactly where it is lost. NoMemory alone.
+fn present_of(alloc: Global, table: &TableBuilder, part: &RowPart) -> Result<Option<Inode>, Refusal>
+    ensures found { IfOk result (λ found. MatchOption found (IsLost (used_at table.now) part.now) (IsPresentOf (used_at table.now) part.now)) }
+    ensures refusal { IfErr result (λ e. e ≡ NoMemory) }
+{
+    let Some(row) = row_of(part) else {
+        return Ok(None);
+    };
+    let blocks = TableBlocks { table };
+    let Some(versions) = read_version_chain(alloc, &blocks, &row, Moment::new(u64::MAX))? else {
+        return Ok(None);
+    };
+    Ok(Some(versions.present))
+}
+
+/// What a row gives. NoMemory alone.
+pub(crate) fn salvage_row(
+    alloc: Global,
+    table: &TableBuilder,
+    part: &RowPart,
+) -> Result<Salvaged, Refusal>
+    ensures salvaged { IfOk result (IsSalvagedBy (used_at table.now) part.now) }
+    ensures refusal { IfErr result (λ e. e ≡ NoMemory) }
+{
+    let present = present_of(alloc, table, part)?;
+    Ok(Salvaged {
+        object: part.object,
+        present,
+    })
+}
