@@ -34,7 +34,7 @@ _s4_options() {
         cat | export) echo --at ;;
         info) echo --json ;;
         diff) echo --object --patch --json ;;
-        restore) echo --at --object --dry-run ;;
+        restore) echo --at --object --dry-run --flush ;;
     esac
 }
 

@@ -5,6 +5,7 @@ pub mod Comparing
 pub mod Exporting
 pub mod Listing
 pub mod Logging
+pub mod MakingRoom
 pub mod Performing
 pub mod Restoring
 pub mod Telling

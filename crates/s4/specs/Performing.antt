@@ -17,6 +17,7 @@ use Rattle.s4.specs.Comparing.{comparison_asked}
 use Rattle.s4.specs.Exporting.{Exported}
 use Rattle.s4.specs.Listing.{ListsObjects, moment_asked}
 use Rattle.s4.specs.Logging.{LogsObjects}
+use Rattle.s4.specs.MakingRoom.{RestoresWithRoom}
 use Rattle.s4.specs.Restoring.{RestoresDrive, WouldRestore}
 use Rattle.s4.specs.Telling.{TellsNumbers}
 
@@ -30,7 +31,9 @@ IsDoneOver files files' output output' (command.Diff diff) = OverImage (files di
 IsDoneOver files files' output output' (command.Export export) = OverImage (files export.image.now) (λ d. Exported d export.at)
 IsDoneOver files files' output output' (command.Restore restore) = MatchBool restore.dry_run
     (OverImage (files restore.image.now) (λ d. WouldRestore (state_in d) restore.at restore.objects.items output output'))
-    (ChangesImage (files restore.image.now) (files' restore.image.now) (λ d later. RestoresDrive (state_in d) (state_in later) restore.at restore.objects.items output output'))
+    (MatchBool restore.flush
+    (ChangesImage (files restore.image.now) (files' restore.image.now) (λ d later. RestoresWithRoom (state_in d) (state_in later) restore.at restore.objects.items output output'))
+    (ChangesImage (files restore.image.now) (files' restore.image.now) (λ d later. RestoresDrive (state_in d) (state_in later) restore.at restore.objects.items output output')))
 IsDoneOver files files' output output' (command.Check check) = OverImage (files check.image.now) (λ d. Checks (state_in d) (store_of d) output output')
 IsDoneOver files files' output output' (command.Compact compact) = ChangesImage (files compact.image.now) (files' compact.image.now) (λ d later. Compacts d later output output')
 

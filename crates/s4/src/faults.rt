@@ -32,7 +32,7 @@ pub enum Failure {
     #[error("name objects that were made, by ascending number, each once; `s4 list --deleted` prints them")]
     Unordered,
     /// The object's journal has no room for what restores it; the moments between can be hidden.
-    #[error("object {object} has a full journal; hide its moments {first} to {last} by FlushO in a session of an administrator, and restore then")]
+    #[error("object {object} has a full journal; hide its moments {first} to {last}, as --flush does, and restore then")]
     JournalFull { object: u64, first: u64, last: u64 },
     /// The object's journal has no room, and no moments that can be hidden.
     #[error("object {object} has a full journal, and no moments between that could be hidden; restore the others by --object")]

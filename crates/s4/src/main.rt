@@ -21,6 +21,7 @@ mod exporting;
 mod faults;
 mod listing;
 mod logging;
+mod making_room;
 mod moments;
 mod performing;
 mod reading;

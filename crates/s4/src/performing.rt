@@ -7,6 +7,7 @@ use crate::changing::{DriveChange, change_image};
 use crate::commands::{DriveCommand, Verdict, over_image};
 use crate::exporting::{Folders, export_image};
 use crate::faults::Failure;
+use crate::making_room::restore_image;
 use crate::restoring::DryRun;
 use image_commands::Files;
 use s4_command::{Command, NoCommand, command_of};
@@ -83,6 +84,12 @@ fn perform_command<T: Threads, F: Files, D: Folders, W: Sink, E: Write>(
         Command::Restore(restore) if restore.dry_run => {
             let dry = DryRun { asked: restore };
             show_image(rt, alloc, files, restore.image, &dry, writer, errors)
+        }
+        Command::Restore(restore) if restore.flush => {
+            match restore_image(rt, alloc, files, restore, writer) {
+                Ok(()) => DONE,
+                Err(failure) => fail_over(errors, restore.image, failure),
+            }
         }
         Command::Restore(restore) => {
             alter_image(rt, alloc, files, restore.image, restore, writer, errors)

@@ -27,7 +27,7 @@ impl DriveChange for RestoreAsked<'_> {
         drive: &mut Drive<J>,
         writer: &mut W,
     ) -> Result<(), Failure> {
-        restore(alloc, drive, self, writer)
+        restore(alloc, drive, self.at, self.objects.as_slice(), writer)
     }
 }
 
@@ -46,23 +46,25 @@ impl DriveCommand for DryRun<'_, '_> {
         drive: &mut Drive<J>,
         writer: &mut W,
     ) -> Result<Verdict, Failure> {
-        restore(alloc, drive, self.asked, writer)?;
+        let (at, objects) = (self.asked.at, self.asked.objects.as_slice());
+        restore(alloc, drive, at, objects, writer)?;
         Ok(Verdict::Fine)
     }
 }
 
-// Restores a drive, and prints what was done to each object.
-fn restore<J: Naming, W: Sink>(
+/// Restores a drive, and prints what was done to each object.
+pub fn restore<J: Naming, W: Sink>(
     alloc: Global,
     drive: &mut Drive<J>,
-    asked: &RestoreAsked<'_>,
+    at: u64,
+    objects: &[u64],
     writer: &mut W,
 ) -> Result<(), Failure>
     requires writer { W.failures writer.old + 1 < 2 ^ 64 }
-    ensures restores { OnOk result (RestoresDrive (state_in drive.old) (state_in drive.new) asked.now.at asked.now.objects.items (W.passed writer.old) (W.passed writer.new)) }
+    ensures restores { OnOk result (RestoresDrive (state_in drive.old) (state_in drive.new) at objects.now (W.passed writer.old) (W.passed writer.new)) }
 {
-    let at = Moment::new(asked.at);
-    let Ok(objects) = objects_of(alloc, asked.objects.as_slice()) else {
+    let at = Moment::new(at);
+    let Ok(objects) = objects_of(alloc, objects) else {
         return Err(Failure::from(Refusal::NoMemory));
     };
     let mut session = drive.session(Role::Client)?;

@@ -85,12 +85,13 @@ export_line = with_rule (with_rule (with_rule (new_app (codes "export"))
     (needed_rule (codes "image")))
     (needed_rule (codes "folder"))
 
--- `restore --at M [--object O].. [--dry-run] IMAGE`
+-- `restore --at M [--object O].. [--dry-run] [--flush] IMAGE`
 abbrev pub restore_line : App
-restore_line = with_rule (with_rule (with_rule (with_rule (new_app (codes "restore"))
+restore_line = with_rule (with_rule (with_rule (with_rule (with_rule (new_app (codes "restore"))
     (needed_number_rule (codes "at")))
     (numbers_rule (codes "object")))
     (flag_rule (codes "dry-run")))
+    (flag_rule (codes "flush")))
     (needed_rule (codes "image"))
 
 -- `check IMAGE`
@@ -173,6 +174,7 @@ pub record SpellsRestore (rows : List Row) (restore : RestoreAsked) : Type 0 whe
   pub at : IsAsked (codes "at") rows (Some restore.at)
   pub objects : AreNumbers (texts_of (codes "object") rows) restore.objects.items
   pub dry_run : (restore.dry_run ≡ true) ↔ IsGiven (codes "dry-run") rows
+  pub flush : (restore.flush ≡ true) ↔ IsGiven (codes "flush") rows
 
 -- The matches of `check` have this text.
 pub record SpellsCheck (rows : List Row) (check : CheckAsked) : Type 0 where

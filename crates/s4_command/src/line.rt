@@ -122,7 +122,13 @@ fn restore_command<'a>(alloc: Global) -> Result<Command<'a>, AllocError>
         "dry-run",
         "Prints what would be done, and does nothing",
     );
-    with_operand(alloc, dry_run, "image", IMAGE.0, IMAGE.1)
+    let flush = with_flag(
+        alloc,
+        dry_run,
+        "flush",
+        "Where a journal is full, hides the object's moments between",
+    );
+    with_operand(alloc, flush, "image", IMAGE.0, IMAGE.1)
 }
 
 fn check_command<'a>(alloc: Global) -> Result<Command<'a>, AllocError>

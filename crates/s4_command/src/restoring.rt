@@ -20,6 +20,8 @@ pub struct RestoreAsked<'a> {
     pub objects: Vec<u64>,
     /// Whether it is only printed what would be done.
     pub dry_run: bool,
+    /// Whether moments between that one and the present are hidden where an object's journal is full.
+    pub flush: bool,
 }
 
 pub(crate) fn restore_asked<'a>(
@@ -50,5 +52,6 @@ fn restore_in<'a>(
         at,
         objects,
         dry_run: is_given(matches, "dry-run"),
+        flush: is_given(matches, "flush"),
     })
 }
