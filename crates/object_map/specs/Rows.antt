@@ -1,5 +1,5 @@
 -- The rows of objects.
-use Rattle.std.specs.Prelude.{ℕ, List, Option, None}
+use Rattle.std.specs.Prelude.{ℕ, List, [], Option, None}
 use Rattle.object_map.specs.declared.map.Row.{Row}
 use Rattle.object_map.specs.Objects.{value_of, with_value, without_value}
 
@@ -17,4 +17,4 @@ without_row rows o = without_value rows o
 
 -- the row of an object that was just created
 abbrev pub fresh_row : ℕ → Row
-fresh_row created = record { created = created; checkpoint = None; checkpoint_moment = 0; head = None; journal_bytes = 0; head_bytes = 0; stamp = 0 }
+fresh_row created = record { created = created; checkpoint = None; checkpoint_moment = 0; head = None; journal_bytes = 0; head_bytes = 0; sides = []; stamp = 0 }

@@ -6,6 +6,10 @@
 //! logarithmic time.
 #![tactic(auto)]
 
+mod limits;
 mod map;
+mod sides;
 
+pub use limits::SIDES;
 pub use map::{Kept, ObjectMap, Row};
+pub use sides::{Side, Sides};

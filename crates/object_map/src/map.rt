@@ -6,6 +6,7 @@ ghost use Rattle.std.specs.Borrow.{sem};
 ghost use Rattle.std.specs.Option.{option_copied_mut};
 ghost use Rattle.s4_types.specs.declared.refusals.Refusal.TheVariants.{NoMemory};
 
+use crate::sides::Sides;
 use s4_types::{Moment, ObjectId, Ptr, Refusal};
 use std::alloc::Global;
 use std::collections::BTreeMap;
@@ -27,12 +28,14 @@ pub struct Row {
     pub journal_bytes: u16,
     /// Bytes of the entries in the newest block.
     pub head_bytes: u16,
+    /// The older checkpoints, each of an earlier moment than the next and than the row's own.
+    pub sides: Sides,
     /// How often the row was changed.
     pub stamp: u64,
 }
 
 impl Row {
-    /// The row of an object that was just created: no checkpoint, no journal, stamp 0.
+    /// The row of an object that was just created: no checkpoint, no older ones, no journal, stamp 0.
     pub fn fresh(created: Moment) -> Row
         ensures { result ≡ fresh_row created }
     {
@@ -43,6 +46,7 @@ impl Row {
             head: None,
             journal_bytes: 0,
             head_bytes: 0,
+            sides: Sides::new(),
             stamp: 0,
         }
     }

@@ -1,7 +1,7 @@
-use Rattle.std.proofs.Common.{◌≡◌, ℕ, ◌+◌, ◌<◌, ◌^◌, Option, Some, None, IfSome, is_some, refl, sym, ap, subst, ◌∙◌}
+use Rattle.std.proofs.Common.{◌+◌, ◌<◌, ◌^◌, Option, Some, None, IfSome, is_some, refl, sym, ap, subst, ◌∙◌}
 use Rattle.object_map.specs.declared.map.Row.{Row}
 use Rattle.object_map.specs.declared.map.Kept.{Kept}
-use Rattle.object_map.specs.Objects.{MapOf, Puts, parts_of, value_of}
+use Rattle.object_map.specs.Objects.{MapOf, Puts, parts_of}
 use Rattle.object_map.specs.Rows.{row_of}
 use Rattle.object_map.proofs.Mapped.{if_none, lent, row_found, value_found}
 use Rattle.object_map.proofs.map.ObjectMap.change_in_place.Goals as goal
