@@ -1,5 +1,6 @@
 -- What a row tells depends on its object's own blocks alone.
-use Rattle.std.proofs.Common.{◌≡◌, ℕ, true, List, [], Option, Some, None, IsSome, unwrap_or, MatchOption, sym, ap, subst, ◌∙◌}
+use Rattle.std.proofs.Common.{◌≡◌, ℕ, true, List, [], ◌∷◌, ◌++◌, Option, Some, None, IsSome, unwrap_or, MatchOption, sym, ap, subst, ◌∙◌}
+use Rattle.std.specs.List.{AllByRecursion}
 use Rattle.s4_types.specs.Pointer.{Place}
 use Rattle.block_log.specs.Log.{Stored, of_kind}
 use Rattle.block_log.specs.declared.kinds.BlockKind.TheVariants.{Journal, Checkpoint}
@@ -11,8 +12,9 @@ use Rattle.undo_redo.specs.Runs.{Run, inode_after}
 use Rattle.undo_redo.specs.Groups.{grouped}
 use Rattle.checkpoint.specs.Held.{checkpoint_held, checkpoint_in, places_named, is_one_of}
 use Rattle.object_map.specs.declared.map.Row.{Row}
+use Rattle.object_map.specs.declared.sides.Side.{Side}
 use Rattle.journal_chain.specs.Chain.{BlockView, IsChain, Holds, chain_entries, entries_in}
-use Rattle.time_read.specs.Rows.{chain_of, entries_of, checkpoint_of, first_of, inode_before, inode_of, IsRow}
+use Rattle.time_read.specs.Rows.{chain_of, entries_of, checkpoint_of, side_places, first_of, inode_before, inode_of, IsRow, IsSide}
 
 pub same_entries : (held later : Place → Option Stored) (o : ℕ) (row : Row) → of_kind Journal o later ≡ of_kind Journal o held → entries_of later o row ≡ entries_of held o row
 unfolding chain_entries
@@ -39,6 +41,16 @@ carried : (N : Type 0) (c : Option Place) (f g : Place → Option CheckpointFiel
 carried N None f g x y same is h = h
 carried N (Some p) f g x y same is h = same p ∙ h ∙ sym (ap (λ (z : CheckpointFields). Some z) is)
 
+all_mapped : {A : Type 0} (P Q : A → Type 0) → ((x : A) → P x → Q x) → (xs : List A) → AllByRecursion P xs → AllByRecursion Q xs
+all_mapped P Q each [] h = tt
+all_mapped P Q each (x ∷ xs) h = (each x h.0, all_mapped P Q each xs h.1)
+
+same_side : (held later : Place → Option Stored) (o : ℕ) (row : Row) → of_kind Journal o later ≡ of_kind Journal o held → of_kind Checkpoint o later ≡ of_kind Checkpoint o held → (side : Side) → IsSide held o row side → IsSide later o row side
+same_side held later o row journal checkpoint side is = record {
+  told = same_read held later o side.place checkpoint ∙ is.told ∙ ap (λ (i : Inode). Some (record { object = o; moment = side.moment; inode = i })) (sym (same_inode held later o side.moment row journal checkpoint));
+  older = is.older;
+}
+
 pub same_row : (held later : Place → Option Stored) (o : ℕ) (row : Row) → of_kind Journal o later ≡ of_kind Journal o held → of_kind Checkpoint o later ≡ of_kind Checkpoint o held → IsRow held o row → IsRow later o row
 same_row held later o row journal checkpoint r =
     let entries : entries_of later o row ≡ entries_of held o row = same_entries held later o row journal in
@@ -52,6 +64,8 @@ same_row held later o row journal checkpoint r =
       run = subst (λ (es : List EntryFields). Run (first_of later o row) es r.last) (sym entries) run;
       groups = subst (λ (es : List EntryFields). grouped es ≡ true) (sym entries) r.groups;
       checkpoint = carried (row.checkpoint_moment ≡ 0) row.checkpoint (checkpoint_held held o) (checkpoint_held later o) (record { object = o; moment = row.checkpoint_moment; inode = inode_of held o row row.checkpoint_moment }) (record { object = o; moment = row.checkpoint_moment; inode = inode_of later o row row.checkpoint_moment }) (λ p. same_read held later o p checkpoint) (ap (λ (i : Inode). record { object = o; moment = row.checkpoint_moment; inode = i }) (same_inode held later o row.checkpoint_moment row journal checkpoint)) r.checkpoint;
-      only = λ p there. ap (λ (v : BlockView). is_one_of (places_named v row.checkpoint) p) checkpoint ∙ r.only p (subst (λ (v : BlockView). IsSome (v p)) checkpoint there);
+      sides = all_mapped (IsSide held o row) (IsSide later o row) (same_side held later o row journal checkpoint) row.sides r.sides;
+      ascending = r.ascending;
+      only = λ p there. ap (λ (v : BlockView). is_one_of (places_named v row.checkpoint ++ side_places v row.sides) p) checkpoint ∙ r.only p (subst (λ (v : BlockView). IsSome (v p)) checkpoint there);
       created = subst (λ (i : Inode). i.created ≡ row.created) (sym first) r.created;
     }
