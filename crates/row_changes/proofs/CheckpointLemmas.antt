@@ -17,7 +17,7 @@ use Rattle.journal_chain.specs.Chain.{BlockView, IsChain, Holds}
 use Rattle.time_read.specs.Rows.{chain_of, checkpoint_of, entries_of, inode_before, first_of, inode_of, IsRow}
 use Rattle.row_changes.specs.Moving.{kept_blocks, inode_kept}
 use Rattle.row_changes.specs.Recent.{IsBy}
-use Rattle.row_changes.proofs.Places.{Put, put_journal, told_on, new_alone}
+use Rattle.row_changes.proofs.Places.{Put, put_journal, told_on, new_alone, alone_of_all, no_sides}
 use Rattle.row_changes.proofs.Recently.{same_entries}
 
 -- ---- the new one
@@ -32,9 +32,10 @@ pub record Laws : Type 0 where
   pub done : (i : Inode) (entries : List EntryFields) (t : ℕ) → AllBy t entries → inode_after i entries t ≡ redone_all entries i
 
 -- The inode that is current at a moment stands as a checkpoint at a place, and no block of another checkpoint of the object is
--- held; its journal is as it was.
+-- held; its journal is as it was, and its row names no older checkpoints.
 pub record Written (held later : Place → Option Stored) (o : ℕ) (row : Row) (p : Place) (i : Inode) (m : ℕ) : Type 0 where
   pub stands : IsRow held o row
+  pub none : row.sides ≡ []
   pub latest : IsBy held o row m
   pub present : i ≡ inode_of held o row m
   pub told : checkpoint_held later o p ≡ Some (record { object = o; moment = m; inode = i })
@@ -43,11 +44,12 @@ pub record Written (held later : Place → Option Stored) (o : ℕ) (row : Row) 
 
 -- the checkpoint was put, and then the older one was dropped
 pub written : (log between after : Place → Option Stored) (o : ℕ) (row : Row) (p : Place) (i : Inode) (m : ℕ) →
-    IsRow log o row → IsBy log o row m → i ≡ inode_of log o row m →
+    IsRow log o row → row.sides ≡ [] → IsBy log o row m → i ≡ inode_of log o row m →
     Put log between between o p row.checkpoint → DropsCheckpoint between o row.checkpoint after → checkpoint_held between o p ≡ Some (record { object = o; moment = m; inode = i }) →
     Written log after o row p i m
-written log between after o row p i m r latest present s d told = record {
+written log between after o row p i m r none latest present s d told = record {
   stands = r;
+  none = none;
   latest = latest;
   present = present;
   told = told_on log between between after o p row.checkpoint (record { object = o; moment = m; inode = i }) s d told;
@@ -104,7 +106,9 @@ written_row held later o row p i m laws w =
       run = subst (λ (es : List EntryFields). Run (first_of later o next) es w.stands.last) (sym entries) run;
       groups = ap grouped entries ∙ w.stands.groups;
       checkpoint = w.told ∙ ap (λ (k : Inode). Some (record { object = o; moment = m; inode = k })) (w.present ∙ sym (written_inode held later o row p i m m laws w));
-      only = w.only;
+      sides = no_sides later o next row.sides w.none;
+      ascending = w.stands.ascending;
+      only = λ q there. alone_of_all (of_checkpoints o later) (checkpoint_places later o p) row.sides q w.none (w.only q there);
       created = ap (λ (k : Inode). k.created) first ∙ w.stands.created;
     }
 

@@ -51,6 +51,8 @@ fresh_stands empty held o created least none no_checkpoint =
       run = subst (λ (es : List EntryFields). Run first es first) (sym is) refl;
       groups = ap grouped is;
       checkpoint = refl;
+      sides = tt;
+      ascending = tt;
       only = λ p there. absurd (false≢true (sym (ap is_some (no_checkpoint p)) ∙ there));
       created = ap (λ (i : Inode). i.created) (blank_first held o created) ∙ blank_made created;
     }

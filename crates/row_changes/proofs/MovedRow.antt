@@ -1,5 +1,5 @@
 -- What a row tells once its checkpoint and its journal were written anew, each as of its own moments.
-use Rattle.std.proofs.Common.{◌≡◌, ℕ, ◌+◌, Bool, true, false, ◌==◌, ◌&&◌, ◌||◌, List, take, drop, Option, Some, None, IsSome, IfSome, is_some, MatchOption, refl, sym, ap, subst, ◌∙◌}
+use Rattle.std.proofs.Common.{◌≡◌, ℕ, ◌+◌, Bool, true, false, ◌==◌, ◌&&◌, ◌||◌, List, [], take, drop, Option, Some, None, IsSome, IfSome, is_some, MatchOption, refl, sym, ap, subst, ◌∙◌}
 use Rattle.std.specs.List.{Contains}
 use Rattle.std.proofs.lemmas.Bool.{false≢true}
 use Rattle.std.proofs.lemmas.List.Elements.{Contains-append_left, Contains-append_right}
@@ -22,15 +22,17 @@ use Rattle.time_read.specs.Rows.{chain_of, entries_of, inode_before, first_of, i
 use Rattle.time_read.specs.Orderly.{IsFromTo, IsOrderlyChain, IsOrderly, BeginsDead}
 use Rattle.row_changes.specs.Rewritten.{OnlyMetadataChanged}
 use Rattle.row_changes.specs.Moving.{CanTell, checkpoint_at, checkpoint_with, first_with}
+use Rattle.row_changes.proofs.Places.{alone_of_all, no_sides}
 
 -- the row with another checkpoint, of the same moment, and another chain
 abbrev pub with_moved : Row → Option Place → Option Place → ℕ → ℕ → Row
-with_moved row p head bytes filled = record { created = row.created; checkpoint = p; checkpoint_moment = row.checkpoint_moment; head = head; journal_bytes = bytes; head_bytes = filled; stamp = row.stamp }
+with_moved row p head bytes filled = record { created = row.created; checkpoint = p; checkpoint_moment = row.checkpoint_moment; head = head; journal_bytes = bytes; head_bytes = filled; sides = row.sides; stamp = row.stamp }
 
 -- A journal that an object's row can tell stands: its inode in a checkpoint at a place, if there is one, and its entries in a
--- chain; and no block of another checkpoint of the object is held.
+-- chain; and no block of another checkpoint of the object is held. The row names no older checkpoints.
 pub record Stands (held later : Place → Option Stored) (o : ℕ) (row : Row) (kept : Option Inode) (entries : List EntryFields) (p h : Option Place) (b f : ℕ) : Type 0 where
   pub was : IsRow held o row
+  pub none : row.sides ≡ []
   pub tell : CanTell o row kept entries
   pub some : is_some p ≡ is_some row.checkpoint
   pub told : checkpoint_of later o (with_moved row p h b f) ≡ checkpoint_with o row kept
@@ -89,7 +91,9 @@ moved_row held later o row kept entries p h b f s =
       checkpoint = checkpoint_tells later o row.checkpoint_moment row kept (inode_of later o next row.checkpoint_moment) p
           (λ q. checkpoint_held held o q ≡ Some (record { object = o; moment = row.checkpoint_moment; inode = inode_of held o row row.checkpoint_moment }))
           s.some s.tell.same refl s.was.checkpoint (current_is kept (inode_after start entries row.checkpoint_moment) (inode_of later o next row.checkpoint_moment) (sym now) s.tell.current) s.told;
-      only = s.only;
+      sides = no_sides later o next row.sides s.none;
+      ascending = s.was.ascending;
+      only = λ q there. alone_of_all (of_checkpoints o later) (places_named (of_checkpoints o later) p) row.sides q s.none (s.only q there);
       created = ap (λ (k : Inode). k.created) first ∙ s.tell.created;
     }
 

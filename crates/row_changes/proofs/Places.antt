@@ -1,7 +1,9 @@
 -- What a table shows where a checkpoint is put, the object's journal changes, and the older checkpoint is dropped.
-use Rattle.std.proofs.Common.{◌≡◌, inl, inr, ℕ, Bool, true, false, List, take, Option, Some, None, IsSome, MatchOption, is_some, refl, sym, ap, subst, ◌∙◌}
+use Rattle.std.proofs.Common.{◌≡◌, inl, inr, ℕ, Bool, true, false, List, [], ◌++◌, take, Option, Some, None, IsSome, MatchOption, is_some, refl, sym, ap, subst, ◌∙◌}
 use Rattle.std.specs.List.{Contains}
+use Rattle.std.specs.List.{AllByRecursion}
 use Rattle.std.proofs.lemmas.Bool.{cases_Bool, both_ways, false≢true}
+use Rattle.std.proofs.lemmas.List.{append-nil}
 use Rattle.s4_types.specs.Pointer.{Place}
 use Rattle.block_log.specs.declared.kinds.BlockKind.TheVariants.{Journal, Checkpoint}
 use Rattle.block_log.specs.Log.{Log, Stored, seen_as, of_kind}
@@ -10,7 +12,8 @@ use Rattle.codec.specs.Checkpoint.{CheckpointFields}
 use Rattle.checkpoint.specs.Held.{checkpoint_held, checkpoint_in, checkpoint_places, places_in, places_named, of_checkpoints, is_one_of, HasItsBlocks, OnlyCheckpointChanged, PutsCheckpoint, DropsCheckpoint}
 use Rattle.journal_chain.specs.Chain.{BlockView, OnlyJournalChanged}
 use Rattle.object_map.specs.declared.map.Row.{Row}
-use Rattle.time_read.specs.Rows.{IsRow, inode_of}
+use Rattle.object_map.specs.declared.sides.Side.{Side}
+use Rattle.time_read.specs.Rows.{IsRow, IsSide, checkpoint_places_of, side_places, inode_of}
 use Rattle.row_changes.specs.Moved.{IsMoved}
 
 -- ---- what is known of checkpoints
@@ -33,6 +36,23 @@ told_there laws N held o c (Some p) h q is = laws.held held o p (ap is_some h) q
 pub older_there : CheckpointLaws → (held : Place → Option Stored) (o : ℕ) (row : Row) → IsRow held o row → HasItsBlocks held o row.checkpoint
 older_there laws held o row r =
     told_there laws (row.checkpoint_moment ≡ 0) held o (record { object = o; moment = row.checkpoint_moment; inode = inode_of held o row row.checkpoint_moment }) row.checkpoint r.checkpoint
+
+-- ---- a row that names no older checkpoints
+
+-- the blocks of its checkpoints are those of one
+places_alone : (view : BlockView) (places : List Place) (sides : List Side) → sides ≡ [] → places ++ side_places view sides ≡ places
+places_alone view places sides none = ap (λ (ss : List Side). places ++ side_places view ss) none ∙ append-nil places
+
+pub checkpoint_alone : (held : Place → Option Stored) (o : ℕ) (row : Row) → IsRow held o row → row.sides ≡ []
+    → (q : Place) → IsSome (of_checkpoints o held q) → is_one_of (places_named (of_checkpoints o held) row.checkpoint) q ≡ true
+checkpoint_alone held o row r none q there =
+    sym (ap (λ (places : List Place). is_one_of places q) (places_alone (of_checkpoints o held) (checkpoint_places_of held o row) row.sides none)) ∙ r.only q there
+
+pub alone_of_all : (view : BlockView) (places : List Place) (sides : List Side) (q : Place) → sides ≡ [] → is_one_of places q ≡ true → is_one_of (places ++ side_places view sides) q ≡ true
+alone_of_all view places sides q none is = ap (λ (all : List Place). is_one_of all q) (places_alone view places sides none) ∙ is
+
+pub no_sides : (held : Place → Option Stored) (o : ℕ) (row : Row) (sides : List Side) → sides ≡ [] → AllByRecursion (IsSide held o row) sides
+no_sides held o row sides none = subst (λ (ss : List Side). AllByRecursion (IsSide held o row) ss) (sym none) tt
 
 -- where a checkpoint is seen, something is held
 held_there : (o : ℕ) (there : Option Stored) → IsSome (seen_as Checkpoint o there) → there ≡ None → ⊥

@@ -3,6 +3,7 @@ use Rattle.std.proofs.Common.{◌≡◌, inl, inr, ℕ, ◌-◌, ◌≤◌, ◌<
 use Rattle.std.proofs.lemmas.List.{append-nil}
 use Rattle.std.proofs.lemmas.List.Elements.{filter-append}
 use Rattle.std.proofs.lemmas.Bool.{cases_Bool, cond-true, cond-false, leb-true, leb-false, le-leb, lt-leb}
+use Rattle.std.specs.List.{AllByRecursion}
 use Rattle.s4_types.specs.Pointer.{Place}
 use Rattle.block_log.specs.Log.{Stored, of_kind}
 use Rattle.block_log.specs.declared.kinds.BlockKind.TheVariants.{Checkpoint}
@@ -14,8 +15,9 @@ use Rattle.undo_redo.specs.Runs.{Run, AllAt, AllBy, AllPast, entry_is_by, entrie
 use Rattle.undo_redo.specs.Groups.{grouped}
 use Rattle.checkpoint.specs.Held.{checkpoint_held, checkpoint_in, places_named, is_one_of}
 use Rattle.object_map.specs.declared.map.Row.{Row}
+use Rattle.object_map.specs.declared.sides.Side.{Side}
 use Rattle.journal_chain.specs.Chain.{BlockView, ChainFields, Holds, entries_held}
-use Rattle.time_read.specs.Rows.{chain_of, entries_of, checkpoint_of, inode_before, first_of, inode_of, IsRow}
+use Rattle.time_read.specs.Rows.{chain_of, entries_of, checkpoint_of, side_places, inode_before, first_of, inode_of, IsRow, IsSide}
 use Rattle.row_changes.specs.Recent.{IsBy}
 use Rattle.row_changes.specs.private.Joining.{LaterEntriesJoin}
 use Rattle.row_changes.proofs.Recently.{all_by_later}
@@ -156,6 +158,20 @@ carried : (N : Type 0) (c : Option Place) (f g : Place → Option CheckpointFiel
 carried N None f g x y same is h = h
 carried N (Some p) f g x y same is h = same p ∙ h ∙ sym (ap (λ (z : CheckpointFields). Some z) is)
 
+all_mapped : {A : Type 0} (P Q : A → Type 0) → ((x : A) → P x → Q x) → (xs : List A) → AllByRecursion P xs → AllByRecursion Q xs
+all_mapped P Q each [] h = tt
+all_mapped P Q each (x ∷ xs) h = (each x h.0, all_mapped P Q each xs h.1)
+
+-- an older checkpoint tells of a moment before the push
+side_stays : (held later : Place → Option Stored) (o : ℕ) (row : Row) (h : Option Place) (b f : ℕ) (i j : Inode) (m : ℕ) (new : List EntryFields) → LaterEntriesJoin → Pushed held later o row (with_chain row h b f) i j m new
+    → (side : Side) → IsSide held o row side → IsSide later o (with_chain row h b f) side
+side_stays held later o row h b f i j m new laws p side is =
+    let earlier : side.moment < m = omega (arith, is.older, p.earlier.checkpoint, p.least) in
+    record {
+      told = ap (λ (v : BlockView). checkpoint_in v side.place) p.checkpoints ∙ is.told ∙ ap (λ (k : Inode). Some (record { object = o; moment = side.moment; inode = k })) (sym (earlier_stay held later o row h b f i j m new side.moment laws p earlier));
+      older = is.older;
+    }
+
 pub pushed_row : (held later : Place → Option Stored) (o : ℕ) (row : Row) (h : Option Place) (b f : ℕ) (i j : Inode) (m : ℕ) (new : List EntryFields) → LaterEntriesJoin → Pushed held later o row (with_chain row h b f) i j m new → IsRow later o (with_chain row h b f)
 pushed_row held later o row h b f i j m new laws p =
     let next : Row = with_chain row h b f in
@@ -172,6 +188,8 @@ pushed_row held later o row h b f i j m new laws p =
       run = subst (λ (es : List EntryFields). Run (first_of later o next) es j) (sym p.chain.entries) run;
       groups = ap grouped p.chain.entries ∙ laws.groups (m - 1) old new p.stands.groups p.group p.earlier.entries (at_past m (m - 1) new before p.moments);
       checkpoint = carried (row.checkpoint_moment ≡ 0) row.checkpoint (checkpoint_held held o) (checkpoint_held later o) (record { object = o; moment = row.checkpoint_moment; inode = inode_of held o row row.checkpoint_moment }) (record { object = o; moment = row.checkpoint_moment; inode = inode_of later o next row.checkpoint_moment }) (λ q. ap (λ (v : BlockView). checkpoint_in v q) p.checkpoints) (ap (λ (k : Inode). record { object = o; moment = row.checkpoint_moment; inode = k }) inode) p.stands.checkpoint;
-      only = λ q there. ap (λ (v : BlockView). is_one_of (places_named v row.checkpoint) q) p.checkpoints ∙ p.stands.only q (subst (λ (v : BlockView). IsSome (v q)) p.checkpoints there);
+      sides = all_mapped (IsSide held o row) (IsSide later o next) (side_stays held later o row h b f i j m new laws p) row.sides p.stands.sides;
+      ascending = p.stands.ascending;
+      only = λ q there. ap (λ (v : BlockView). is_one_of (places_named v row.checkpoint ++ side_places v row.sides) q) p.checkpoints ∙ p.stands.only q (subst (λ (v : BlockView). IsSome (v q)) p.checkpoints there);
       created = ap (λ (k : Inode). k.created) first ∙ p.stands.created;
     }

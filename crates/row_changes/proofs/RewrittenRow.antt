@@ -1,5 +1,5 @@
 -- What a checkpoint and a chain that are written anew make of an object's row.
-use Rattle.std.proofs.Common.{◌≡◌, ℕ, ◌≤◌, true, List, Option, Some, IsSome, sym, ap, subst, ◌∙◌, arith}
+use Rattle.std.proofs.Common.{◌≡◌, ℕ, ◌≤◌, true, List, [], Option, Some, IsSome, sym, ap, subst, ◌∙◌, arith}
 use Rattle.s4_types.specs.Pointer.{Place}
 use Rattle.block_log.specs.Log.{Stored, of_kind}
 use Rattle.block_log.specs.declared.kinds.BlockKind.TheVariants.{Journal}
@@ -11,19 +11,21 @@ use Rattle.undo_redo.specs.Groups.{grouped}
 use Rattle.checkpoint.specs.Held.{checkpoint_held, checkpoint_places, of_checkpoints, is_one_of}
 use Rattle.object_map.specs.declared.map.Row.{Row}
 use Rattle.journal_chain.specs.Chain.{BlockView, ChainFields, IsChain, Holds}
-use Rattle.time_read.specs.Rows.{chain_of, entries_of, inode_before, first_of, inode_of, last_inode, IsRow}
+use Rattle.time_read.specs.Rows.{chain_of, entries_of, inode_before, first_of, inode_of, last_inode, IsRow, SidesAscend}
 use Rattle.time_read.specs.Orderly.{IsFromTo, IsOrderlyChain, IsOrderly}
 use Rattle.row_changes.specs.Recent.{IsBy}
 use Rattle.row_changes.proofs.CheckpointLemmas.{Laws, all_by, told_before}
+use Rattle.row_changes.proofs.Places.{alone_of_all, no_sides}
 
 -- the row with another checkpoint and another chain
 abbrev pub with_journal : Row → Place → ℕ → Option Place → ℕ → ℕ → Row
-with_journal row p m head bytes filled = record { created = row.created; checkpoint = Some p; checkpoint_moment = m; head = head; journal_bytes = bytes; head_bytes = filled; stamp = row.stamp }
+with_journal row p m head bytes filled = record { created = row.created; checkpoint = Some p; checkpoint_moment = m; head = head; journal_bytes = bytes; head_bytes = filled; sides = row.sides; stamp = row.stamp }
 
 -- An inode stands as the checkpoint of a moment at a place, and no block of another checkpoint of the object is
--- held; a chain of entries that lead to the inode is held.
+-- held; a chain of entries that lead to the inode is held. The row names no older checkpoints.
 pub record Rewritten (later : Place → Option Stored) (o : ℕ) (row : Row) (p : Place) (i : Inode) (m : ℕ) (h : Option Place) (b f : ℕ) (entries : List EntryFields) : Type 0 where
   pub object : 1 ≤ o
+  pub none : row.sides ≡ []
   pub run : Run (undone_all entries i) entries i
   pub groups : grouped entries ≡ true
   pub by : AllBy m entries
@@ -84,7 +86,9 @@ rewritten_row later o row p i m h b f entries laws making w =
       run = subst (λ (es : List EntryFields). Run (first_of later o next) es i) (sym w.found) run;
       groups = ap grouped w.found ∙ w.groups;
       checkpoint = w.told ∙ ap (λ (k : Inode). Some (record { object = o; moment = m; inode = k })) (sym (present_now later o row p i m h b f entries laws w));
-      only = w.only;
+      sides = no_sides later o next row.sides w.none;
+      ascending = subst SidesAscend (sym w.none) tt;
+      only = λ q there. alone_of_all (of_checkpoints o later) (checkpoint_places later o p) row.sides q w.none (w.only q there);
       created = ap (λ (k : Inode). k.created) first ∙ making (undone_all entries i) i entries w.run ∙ w.created;
     }
 

@@ -1,4 +1,4 @@
-ghost use Rattle.std.specs.Prelude.{◌≡◌, ℕ, ◌<◌, ◌≤◌, true, length, Some, IsSome, IfOk, OnErr, MatchResult};
+ghost use Rattle.std.specs.Prelude.{◌≡◌, ℕ, ◌<◌, ◌≤◌, true, [], length, Some, IsSome, IfOk, OnErr, MatchResult};
 ghost use Rattle.s4_types.specs.declared.refusals.Refusal.TheVariants.{NoSpace};
 ghost use Rattle.block_log.specs.Taken.{TakesPlaces};
 ghost use Rattle.codec.specs.Checkpoint.{checkpoint_rules};
@@ -56,7 +56,8 @@ pub(crate) fn put_ahead<B: Blocks>(
 }
 
 /// Appends an object's inode at a moment as its checkpoint, drops the one before, if there was one, and answers the
-/// object's row after that. The inode at each moment is as it was, and a row that was in order stays so.
+/// object's row after that. The inode at each moment is as it was, and a row that was in order stays so. The row names no older
+/// checkpoints.
 ///
 /// NoSpace exactly where fewer places are ahead than the checkpoint takes; then nothing has changed.
 pub fn record_checkpoint<B: Blocks>(
@@ -67,6 +68,7 @@ pub fn record_checkpoint<B: Blocks>(
     moment: Moment,
 ) -> Result<Row, Refusal>
     requires row { IsRow (B.log table.old).held object row.now }
+    requires sides { row.now.sides ≡ [] }
     requires latest { IsBy (B.log table.old).held object row.now moment }
     requires inode { inode.now ≡ inode_of (B.log table.old).held object row.now moment }
     requires rules { checkpoint_rules (record { object = object; moment = moment; inode = inode.now }) ≡ true }

@@ -100,6 +100,7 @@ pub fn moved_blocks<B: Blocks>(table: &mut B, object: ObjectId, row: &Row) -> us
 /// Puts a checkpoint of this inode in place of the one that an object's row names, if it names one, where there is room.
 fn put_anew<B: Blocks>(table: &mut B, object: ObjectId, row: &Row, inode: &Inode) -> Ptr
     requires row { IsRow (B.log table.old).held object row.now }
+    requires sides { row.now.sides ≡ [] }
     requires rules { checkpoint_rules (checkpoint_at object row.now inode.now) ≡ true }
     requires room { checkpoint_blocks inode.now ≤ length (B.log table.old).ahead }
     ensures told { checkpoint_held (B.log table.new).held object result ≡ Some (checkpoint_at object row.now inode.now) }
@@ -126,6 +127,7 @@ fn move_checkpoint<B: Blocks>(
     kept: Option<&Inode>,
 ) -> Option<Ptr>
     requires row { IsRow (B.log table.old).held object row.now }
+    requires sides { row.now.sides ≡ [] }
     requires same { is_some (option_copied kept) ≡ is_some row.now.checkpoint }
     requires rules { IfSome (option_copied kept) (λ i. checkpoint_rules (checkpoint_at object row.now i) ≡ true) }
     requires room { kept_blocks (option_copied kept) ≤ length (B.log table.old).ahead }
@@ -198,7 +200,8 @@ pub(crate) fn move_chain<B: Blocks>(
 /// where there was none. No block of the old journal is held any more, and each of the new one is at a place that was
 /// taken for it.
 ///
-/// At each moment the inode is then the one that the entries tell. A row whose new entries are in order is in order.
+/// At each moment the inode is then the one that the entries tell. A row whose new entries are in order is in order. The row
+/// names no older checkpoints.
 ///
 /// NoRoom exactly where fewer places are ahead than the checkpoint and the entries take; then nothing has changed.
 pub fn move_row<B: Blocks>(
@@ -209,6 +212,7 @@ pub fn move_row<B: Blocks>(
     entries: &[Entry],
 ) -> Result<Row, Refusal>
     requires row { IsRow (B.log table.old).held object row.now }
+    requires sides { row.now.sides ≡ [] }
     requires tell { CanTell object row.now (option_copied kept) entries.now }
     ensures row { IfOk result (λ later. IsRow (B.log table.new).held object later) }
     ensures entries { IfOk result (λ later. entries_of (B.log table.new).held object later ≡ entries.now) }

@@ -1,4 +1,4 @@
-ghost use Rattle.std.specs.Prelude.{◌≡◌, ℕ, ◌<◌, ◌≤◌, true, length, map, Some, IsSome, IfOk, OnErr, MatchResult};
+ghost use Rattle.std.specs.Prelude.{◌≡◌, ℕ, ◌<◌, ◌≤◌, true, [], length, map, Some, IsSome, IfOk, OnErr, MatchResult};
 ghost use Rattle.s4_types.specs.declared.limits.TheConstants.{CHAIN_ENTRIES, CHAIN_ENTRY_BYTES};
 ghost use Rattle.s4_types.specs.declared.refusals.Refusal.TheVariants.{NoRoom};
 ghost use Rattle.block_log.specs.Taken.{TakesPlaces};
@@ -69,7 +69,8 @@ pub fn rewritten_blocks(present: &Inode, entries: &[Entry]) -> usize
 /// the oldest first and at most `CHAIN_ENTRY_BYTES` of them, in place of what stood; and answers its row after that. With no
 /// entry there is no journal, and the checkpoint alone tells the inode.
 ///
-/// At each moment the inode is then the one that the entries tell. A row whose new entries are in order is in order.
+/// At each moment the inode is then the one that the entries tell. A row whose new entries are in order is in order. The row
+/// names no older checkpoints.
 ///
 /// NoRoom exactly where fewer places are ahead than `rewritten_blocks` counts; then nothing has changed.
 pub fn rewrite_row<B: Blocks>(
@@ -81,6 +82,7 @@ pub fn rewrite_row<B: Blocks>(
     entries: &[Entry],
 ) -> Result<Row, Refusal>
     requires row { IsRow (B.log table.old).held object row.now }
+    requires sides { row.now.sides ≡ [] }
     requires run { Run (undone_all entries.now present.now) entries.now present.now }
     requires groups { grouped entries.now ≡ true }
     requires latest { AllBy moment entries.now }

@@ -1,6 +1,6 @@
 use Rattle.std.proofs.Common.{rules, ◌∙◌}
 use Rattle.checkpoint.specs.Held.{checkpoint_blocks}
-use Rattle.row_changes.proofs.Places.{CheckpointLaws, Put, older_there, older_still, no_journal_yet, moved, put_only}
+use Rattle.row_changes.proofs.Places.{CheckpointLaws, Put, older_there, older_still, checkpoint_alone, no_journal_yet, moved, put_only}
 use Rattle.row_changes.proofs.RewrittenBlocks.{taken_first}
 use Rattle.row_changes.proofs.CheckpointLemmas.{Laws, written, written_row, written_by, written_inode}
 use Rattle.row_changes.proofs.OrderKept.{written_orderly}
@@ -29,12 +29,12 @@ returns g c =
     let put : Put log.held between.held between.held o place row.checkpoint = record {
       laws = known;
       there = older_there known log.held o row c.requires.row;
-      only = c.requires.row.only;
+      only = checkpoint_alone log.held o row c.requires.row c.requires.sides;
       put = c.in_ok-place.ensures.growth;
       journal = no_journal_yet o between.held;
     } in
     let dropped = c.drop_checkpoint.ensures.dropped in
-    let w = written log.held between.held later.held o row place inode m c.requires.row c.requires.latest c.requires.inode put dropped c.in_ok-place.ensures.told in
+    let w = written log.held between.held later.held o row place inode m c.requires.row c.requires.sides c.requires.latest c.requires.inode put dropped c.in_ok-place.ensures.told in
     record {
       row = written_row log.held later.held o row place inode m laws w;
       latest = written_by log.held later.held o row place inode m w;
@@ -64,7 +64,7 @@ drop_checkpoint-requires g c =
     let put : Put log.held between.held between.held o c.in_ok-place.place row.checkpoint = record {
       laws = known;
       there = older_there known log.held o row c.requires.row;
-      only = c.requires.row.only;
+      only = checkpoint_alone log.held o row c.requires.row c.requires.sides;
       put = c.in_ok-place.ensures.growth;
       journal = no_journal_yet o between.held;
     } in

@@ -39,6 +39,7 @@ returns g c =
     let holds = holds_told after.held o row place head bytes filled c.move_chain-chain.result entries c.move_chain-chain.ensures.object c.head.ensures c.bytes.ensures.bytes c.filled.ensures.filled c.move_chain-chain.ensures.holds in
     let s : Stands log.held after.held o row kept entries place head bytes filled = record {
       was = c.requires.row;
+      none = c.requires.sides;
       tell = c.requires.tell;
       some = c.move_checkpoint-checkpoint.ensures.some;
       told = told_still between.held after.held o row kept place head bytes filled same c.move_checkpoint-checkpoint.ensures.told;

@@ -1,6 +1,6 @@
 use Rattle.std.proofs.Common.{◌∙◌}
 use Rattle.checkpoint.specs.Held.{checkpoint_blocks}
-use Rattle.row_changes.proofs.Places.{CheckpointLaws, Put, older_there, older_still, no_journal_yet, told_on, new_alone, new_among, put_only}
+use Rattle.row_changes.proofs.Places.{CheckpointLaws, Put, older_there, older_still, checkpoint_alone, no_journal_yet, told_on, new_alone, new_among, put_only}
 use Rattle.row_changes.proofs.RewrittenBlocks.{taken_first}
 use Rattle.row_changes.proofs.moves.put_anew.Goals as goal
 
@@ -18,7 +18,7 @@ drop_checkpoint-requires g c =
     let s : Put log.held between.held between.held o c.put_ahead-place.result row.checkpoint = record {
       laws = known;
       there = older_there known log.held o row c.requires.row;
-      only = c.requires.row.only;
+      only = checkpoint_alone log.held o row c.requires.row c.requires.sides;
       put = c.put_ahead-place.ensures.growth;
       journal = no_journal_yet o between.held;
     } in
@@ -41,7 +41,7 @@ returns g c =
     let s : Put log.held between.held between.held o place row.checkpoint = record {
       laws = known;
       there = older_there known log.held o row c.requires.row;
-      only = c.requires.row.only;
+      only = checkpoint_alone log.held o row c.requires.row c.requires.sides;
       put = c.put_ahead-place.ensures.growth;
       journal = no_journal_yet o between.held;
     } in

@@ -6,7 +6,7 @@ use Rattle.journal_chain.specs.Chain.{Holds}
 use Rattle.journal_chain.specs.Push.{whole_blocks}
 use Rattle.checkpoint.specs.Held.{checkpoint_blocks}
 use Rattle.row_changes.proofs.CheckpointLemmas.{Laws}
-use Rattle.row_changes.proofs.Places.{CheckpointLaws, Put, older_there, put_journal, older_still, told_on, new_alone}
+use Rattle.row_changes.proofs.Places.{CheckpointLaws, Put, older_there, put_journal, older_still, checkpoint_alone, told_on, new_alone}
 use Rattle.row_changes.proofs.Recently.{same_entries}
 use Rattle.row_changes.proofs.RewrittenBlocks.{metadata_only, taken_together}
 use Rattle.row_changes.proofs.RewrittenRow.{Rewritten, with_journal, holds_on, rewritten_row, rewritten_by, rewritten_first, rewritten_inode, rewritten_last, rewritten_orderly}
@@ -38,7 +38,7 @@ drop_checkpoint-requires g c =
     let s : Put log.held between.held chained.held o place row.checkpoint = record {
       laws = known;
       there = older_there known log.held o row c.requires.row;
-      only = c.requires.row.only;
+      only = checkpoint_alone log.held o row c.requires.row c.requires.sides;
       put = c.put_ahead-place.ensures.growth;
       journal = c.move_chain-chain.ensures.others;
     } in
@@ -72,7 +72,7 @@ returns g c =
     let s : Put log.held between.held chained.held o place row.checkpoint = record {
       laws = known;
       there = older_there known log.held o row c.requires.row;
-      only = c.requires.row.only;
+      only = checkpoint_alone log.held o row c.requires.row c.requires.sides;
       put = c.put_ahead-place.ensures.growth;
       journal = c.move_chain-chain.ensures.others;
     } in
@@ -81,6 +81,7 @@ returns g c =
     holds_on chained.held after.held o row place m head bytes filled c.move_chain-chain.result entries c.move_chain-chain.ensures.object c.head.ensures c.bytes.ensures.bytes c.filled.ensures.filled (d.others Journal o refl) c.move_chain-chain.ensures.holds in
     let w : Rewritten after.held o row place inode m head bytes filled entries = record {
       object = c.requires.row.object;
+      none = c.requires.sides;
       run = c.requires.run;
       groups = c.requires.groups;
       by = c.requires.latest;
