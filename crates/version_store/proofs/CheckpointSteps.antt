@@ -23,7 +23,7 @@ use Rattle.time_read.specs.Rows.{IsRow, entries_of, inode_of, checkpoint_places_
 use Rattle.time_read.specs.Orderly.{IsOrderly}
 use Rattle.row_changes.specs.Recent.{IsBy}
 use Rattle.row_changes.specs.Moved.{IsMoved}
-use Rattle.version_store.specs.Store.{StoreFields, IsStore, IsObject, DataIsNamed, pointers_of}
+use Rattle.version_store.specs.Store.{StoreFields, IsStore, IsObject, HasNoSides, DataIsNamed, pointers_of}
 use Rattle.version_store.specs.Versions.{Stays, inode_by, inode_in, version_by, version_in}
 use Rattle.version_store.specs.Checkpointing.{last_entry, is_behind, IsCheckpointed}
 use Rattle.version_store.specs.private.CheckpointSteps.{CanCheckpoint, Checkpointed}
@@ -101,6 +101,7 @@ covers ascend s o row m store there is behind =
 -- what is known where a checkpoint can be written
 pub record Known (s : StoreFields) (o : ℕ) (row : Row) (i : Inode) (m : ℕ) : Type 0 where
   pub stands : IsRow s.log.held o row
+  pub alone : HasNoSides row
   pub by : IsBy s.log.held o row m
   pub inode : i ≡ inode_of s.log.held o row m
   pub rules : checkpoint_rules (record { object = o; moment = m; inode = i }) ≡ true
@@ -127,6 +128,7 @@ known ascend making takes s o row i m can =
     (holes_all (inode_of held o row m).size (inode_of held o row m).pointers tidy.holes) in
     record {
       stands = object.stands;
+      alone = object.alone;
       by = covered.by;
       inode = can.inode;
       rules = subst (λ (k : Inode). checkpoint_rules (record { object = o; moment = m; inode = k }) ≡ true) (sym can.inode) rules;
@@ -184,6 +186,7 @@ rewritten_object later_by matter s log o row next m n writes upto object =
     let is : (t : ℕ) → inode_of log.held o (record next { stamp = n }) t ≡ inode_of s.log.held o row t = λ t. stamped_inode log.held o next n t ∙ writes.inode t in
     record {
       stands = stamped_row log.held o next n writes.stands;
+      alone = ap (λ (r : Row). r.sides) writes.fields ∙ object.alone;
       by = record { entries = by.entries; checkpoint = by.checkpoint };
       led = moved_leads s.log.held log.held o row next (rewritten_moves s log o row next m writes object.stands)
           (λ t. subst (PointersHeld log.held o) (sym (writes.inode t)) (data_pointers o s.log.held log.held (inode_of s.log.held o row t) stays (object.pointers t)))

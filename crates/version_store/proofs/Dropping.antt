@@ -1,7 +1,8 @@
 -- What a table shows where data blocks of an object are dropped, and where all blocks of it are.
-use Rattle.std.proofs.Common.{◌≡◌, inl, inr, ℕ, true, false, ◌==◌, ◌&&◌, ◌||◌, not, cond, Bool, List, [], ◌∷◌, length, Option, Some, None, IsSome, is_some, unwrap_or, ◌≤◌, refl, sym, ap, subst, ◌∙◌, arith}
+use Rattle.std.proofs.Common.{◌≡◌, inl, inr, ℕ, true, false, ◌==◌, ◌&&◌, ◌||◌, not, cond, Bool, List, [], ◌∷◌, ◌++◌, length, Option, Some, None, IsSome, is_some, unwrap_or, ◌≤◌, refl, sym, ap, subst, ◌∙◌, arith}
 use Rattle.std.specs.List.{All, Contains}
 use Rattle.std.proofs.lemmas.Bool.{cases_Bool, cond-true, cond-false, and_from, and_parts, and_right, eqb-true, eq-eqb, false≢true}
+use Rattle.std.proofs.lemmas.List.{append-nil}
 use Rattle.std.proofs.lemmas.List.Folds.{list_any_at}
 use Rattle.std.proofs.lemmas.List.Elements.{Contains-append_right}
 use Rattle.std.proofs.lemmas.Option.{none-some, same_Some}
@@ -16,8 +17,9 @@ use Rattle.codec.specs.Entry.{entries_length}
 use Rattle.journal_chain.specs.Chain.{ChainFields, Link, Holds, OnlyJournalChanged, times, places_of, blocks_of, chain_places, chain_links}
 use Rattle.checkpoint.specs.Held.{of_checkpoints, places_named, is_one_of, HasItsBlocks, OnlyCheckpointChanged, DropsCheckpoint}
 use Rattle.object_map.specs.declared.map.Row.{Row}
-use Rattle.time_read.specs.Rows.{IsRow}
-use Rattle.version_store.specs.Store.{IsLed, HasNothing}
+use Rattle.object_map.specs.declared.sides.Side.{Side}
+use Rattle.time_read.specs.Rows.{IsRow, checkpoint_places_of, side_places}
+use Rattle.version_store.specs.Store.{IsLed, HasNothing, HasNoSides}
 use Rattle.version_store.specs.Replacing.{OnlyDataChanged, OtherObjectsStay}
 use Rattle.version_store.specs.private.Dropping.{is_at, leads_to, is_among}
 use Rattle.version_store.specs.private.Below.{OnePlace, CheckpointsHaveBlocks}
@@ -121,22 +123,26 @@ pub checkpoint_stands : CheckpointsHaveBlocks → (held later : Place → Option
 checkpoint_stands law held later o row stands only =
     subst (λ (view : Place → Option (List ℕ)). (q : Place) → is_one_of (places_named view row.checkpoint) q ≡ true → IsSome (view q)) (sym (only Checkpoint o refl)) (checkpoint_there law held o row stands)
 
-checkpoint_only : (held later : Place → Option Stored) (o : ℕ) (row : Row) → IsRow held o row → OnlyJournalChanged o held later → (p : Place) → IsSome (of_checkpoints o later p) → is_one_of (places_named (of_checkpoints o later) row.checkpoint) p ≡ true
-checkpoint_only held later o row stands only =
-    subst (λ (view : Place → Option (List ℕ)). (p : Place) → IsSome (view p) → is_one_of (places_named view row.checkpoint) p ≡ true) (sym (only Checkpoint o refl)) stands.only
+checkpoint_only : (held later : Place → Option Stored) (o : ℕ) (row : Row) → IsRow held o row → HasNoSides row → OnlyJournalChanged o held later → (p : Place) → IsSome (of_checkpoints o later p) → is_one_of (places_named (of_checkpoints o later) row.checkpoint) p ≡ true
+checkpoint_only held later o row stands alone only =
+    let places : checkpoint_places_of held o row ++ side_places (of_checkpoints o held) row.sides ≡ checkpoint_places_of held o row =
+    ap (λ (sides : List Side). checkpoint_places_of held o row ++ side_places (of_checkpoints o held) sides) alone ∙ append-nil (checkpoint_places_of held o row) in
+    let was : (p : Place) → IsSome (of_checkpoints o held p) → is_one_of (places_named (of_checkpoints o held) row.checkpoint) p ≡ true =
+    λ p there. sym (ap (λ (all : List Place). is_one_of all p) places) ∙ stands.only p there in
+    subst (λ (view : Place → Option (List ℕ)). (p : Place) → IsSome (view p) → is_one_of (places_named view row.checkpoint) p ≡ true) (sym (only Checkpoint o refl)) was
 
 none_there : (seen : Option (List ℕ)) → (IsSome seen → ⊥) → seen ≡ None
 none_there None not = refl
 none_there (Some bytes) not = absurd (not refl)
 
--- no checkpoint is left, once that of the row was dropped
-pub checkpoint_gone : (held first second : Place → Option Stored) (o : ℕ) (row : Row) → IsRow held o row → OnlyJournalChanged o held first → DropsCheckpoint first o row.checkpoint second
+-- no checkpoint is left, once that of a row with no older ones was dropped
+pub checkpoint_gone : (held first second : Place → Option Stored) (o : ℕ) (row : Row) → IsRow held o row → HasNoSides row → OnlyJournalChanged o held first → DropsCheckpoint first o row.checkpoint second
     → (p : Place) → of_kind Checkpoint o second p ≡ None
-checkpoint_gone held first second o row stands journal dropped p = elim (cases_Bool (is_one_of (places_named (of_checkpoints o first) row.checkpoint) p)) [
+checkpoint_gone held first second o row stands alone journal dropped p = elim (cases_Bool (is_one_of (places_named (of_checkpoints o first) row.checkpoint) p)) [
   | inl is ↦ ap (seen_as Checkpoint o) (dropped.gone p is)
   | inr beside ↦
       let same : of_checkpoints o second p ≡ of_checkpoints o first p = ap (seen_as Checkpoint o) (dropped.kept p beside) in
-      none_there (of_checkpoints o second p) (λ there. false≢true (sym beside ∙ checkpoint_only held first o row stands journal p (subst (λ b. IsSome b) same there)))
+      none_there (of_checkpoints o second p) (λ there. false≢true (sym beside ∙ checkpoint_only held first o row stands alone journal p (subst (λ b. IsSome b) same there)))
 ]
 
 same_data : (o : ℕ) (held first second : Place → Option Stored) → OnlyJournalChanged o held first → OnlyCheckpointChanged o first second → of_kind Data o second ≡ of_kind Data o held

@@ -1,6 +1,8 @@
 -- Which blocks rows name: that it stays, that a change names the data which it appends, and that no other block is held.
 use Rattle.std.proofs.Common.{◌≡◌, ◌⊎◌, ◌↔◌, inl, inr, ℕ, suc, ◌+◌, ◌-◌, ◌*◌, ◌/◌, ◌<◌, ◌≤◌, ◌==◌, ◌&&◌, leb, ltb, true, false, cond, List, [], ◌∷◌, length, slice_get, Option, Some, None, MatchOption, IsSome, is_some, refl, sym, ap, subst, ◌∙◌, arith}
-use Rattle.std.proofs.lemmas.Bool.{cases_Bool, cases_lt, cond-true, cond-false, and_from, le-leb, lt-leb, lt-ltb, eq-eqb, false≢true}
+use Rattle.std.specs.List.{AllByRecursion}
+use Rattle.std.proofs.lemmas.List.Folds.{list_any-append}
+use Rattle.std.proofs.lemmas.Bool.{cases_Bool, cases_lt, or_cases, cond-true, cond-false, and_from, le-leb, lt-leb, lt-ltb, eq-eqb, false≢true}
 use Rattle.std.proofs.lemmas.Option.{none-some, same_Some}
 use Rattle.s4_types.specs.Pointer.{Place}
 use Rattle.block_log.specs.declared.kinds.BlockKind.{BlockKind}
@@ -9,13 +11,14 @@ use Rattle.block_log.specs.Log.{Log, Stored, of_kind, seen_as, same_kind, same_p
 use Rattle.codec.specs.Fields.{bit}
 use Rattle.codec.specs.Checkpoint.{CheckpointFields, pointer_at}
 use Rattle.codec.specs.declared.inodes.Inode.{Inode}
-use Rattle.checkpoint.specs.Held.{checkpoint_held, HasItsBlocks}
+use Rattle.checkpoint.specs.Held.{checkpoint_held, of_checkpoints, places_in, is_one_of, HasItsBlocks}
 use Rattle.inode.specs.Touched.{touched_count, is_touched, is_cut, cut_count}
 use Rattle.inode.specs.Changed.{Written, Truncated}
 use Rattle.inode.specs.Growth.{data_block, log_grown, grown_at, with_data}
 use Rattle.object_map.specs.declared.map.Row.{Row}
+use Rattle.object_map.specs.declared.sides.Side.{Side}
 use Rattle.object_map.specs.Rows.{row_of}
-use Rattle.time_read.specs.Rows.{IsRow, inode_of}
+use Rattle.time_read.specs.Rows.{IsRow, IsSide, inode_of, checkpoint_places_of, all_places_of, side_places}
 use Rattle.version_store.specs.Store.{StoreFields, IsStore, IsObject, pointers_of, DataIsNamed, Names, IsNamed}
 use Rattle.version_store.specs.Versions.{inode_by, inode_in}
 use Rattle.version_store.specs.private.Turning.{LeadsTo}
@@ -111,6 +114,24 @@ pub checkpoint_there : CheckpointsHaveBlocks → (held : Place → Option Stored
 checkpoint_there law held o row r =
     told_there law (row.checkpoint_moment ≡ 0) held o (record { object = o; moment = row.checkpoint_moment; inode = inode_of held o row row.checkpoint_moment }) row.checkpoint r.checkpoint
 
+sides_there : CheckpointsHaveBlocks → (held : Place → Option Stored) (o : ℕ) (row : Row) (sides : List Side) → AllByRecursion (IsSide held o row) sides → (q : Place) → is_one_of (side_places (of_checkpoints o held) sides) q ≡ true → IsSome (of_checkpoints o held q)
+sides_there law held o row [] all q is = absurd (false≢true is)
+sides_there law held o row (side ∷ sides) all q is =
+    let view = of_checkpoints o held in
+    elim (or_cases (is_one_of (places_in view side.place) q) (is_one_of (side_places view sides) q) (sym (list_any-append (λ p. same_place p q) (places_in view side.place) (side_places view sides)) ∙ is)) [
+      | inl here ↦ law held o side.place (ap is_some all.0.told) q here
+      | inr later ↦ sides_there law held o row sides all.1 q later
+    ]
+
+-- each block of all checkpoints that a row names is held
+checkpoints_there : CheckpointsHaveBlocks → (held : Place → Option Stored) (o : ℕ) (row : Row) → IsRow held o row → (q : Place) → is_one_of (all_places_of held o row) q ≡ true → IsSome (of_checkpoints o held q)
+checkpoints_there law held o row r q is =
+    let view = of_checkpoints o held in
+    elim (or_cases (is_one_of (checkpoint_places_of held o row) q) (is_one_of (side_places view row.sides) q) (sym (list_any-append (λ p. same_place p q) (checkpoint_places_of held o row) (side_places view row.sides)) ∙ is)) [
+      | inl here ↦ checkpoint_there law held o row r q here
+      | inr older ↦ sides_there law held o row row.sides r.sides q older
+    ]
+
 held_named : (held : Place → Option Stored) (o : ℕ) (row : Row) (kind : BlockKind) (p : Place) → IsRow held o row → DataIsNamed held o row → IsSome (of_kind kind o held p) → Names held o row kind p
 held_named held o row Journal p r named there = r.chain.once p ∙ ap bit there
 held_named held o row Checkpoint p r named there = r.only p there
@@ -118,7 +139,7 @@ held_named held o row Data p r named there = named p there
 
 named_held : CheckpointsHaveBlocks → (held : Place → Option Stored) (o : ℕ) (row : Row) (kind : BlockKind) (p : Place) (latest : ℕ) → IsObject held o row latest → Names held o row kind p → IsSome (of_kind kind o held p)
 named_held law held o row Journal p latest object names = counted_there (is_some (of_kind Journal o held p)) (sym (object.stands.chain.once p) ∙ names)
-named_held law held o row Checkpoint p latest object names = checkpoint_there law held o row object.stands p names
+named_held law held o row Checkpoint p latest object names = checkpoints_there law held o row object.stands p names
 named_held law held o row Data p latest object names = led_there held o (pointers_of held o row) p object.led names
 
 row_there : (s : StoreFields) (o : ℕ) (kind : BlockKind) (p : Place) (row : Option Row) → row_of s.rows o ≡ row → IsStore s → IsSome (of_kind kind o s.log.held p) → IsNamed s o kind p

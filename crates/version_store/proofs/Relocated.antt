@@ -74,7 +74,7 @@ relocates laws order lengths holes row_stays inode_stays order_stays add_up befo
       inode = λ t. inode_stays moved.held later.held o t next journal checkpoints ∙ m.inode t ∙ shown_renamed laws.blank laws.undo laws.by laws.shown before.held o row r t;
       orderly = λ latest was. order_stays moved.held later.held o latest next journal checkpoints
           (m.orderly latest (order_renamed laws order before.held o latest row r was.chain) was.made (match_renamed r entries row.checkpoint (IsFromTo row.created latest row.checkpoint_moment) was.checkpoint));
-      fields = m.fields ∙ ap (λ n. record { created = row.created; checkpoint = next.checkpoint; checkpoint_moment = row.checkpoint_moment; head = next.head; journal_bytes = n; head_bytes = next.head_bytes; stamp = row.stamp }) bytes;
+      fields = m.fields ∙ ap (λ n. record { created = row.created; checkpoint = next.checkpoint; checkpoint_moment = row.checkpoint_moment; head = next.head; journal_bytes = n; head_bytes = next.head_bytes; sides = row.sides; stamp = row.stamp }) bytes;
       moved = moved_are before between moved later o copies r d;
       copied = copied_is before between moved later o copies r d;
       gone = gone_is before between moved later o copies r d;

@@ -194,6 +194,7 @@ replaced_object later_by matter s log o row next present entries m can know swap
     let is : (t : ℕ) → inode_of log.held o (put_row row next) t ≡ inode_led present entries t = λ t. stamped_inode log.held o next (row.stamp + 1) t ∙ writes.inode t in
     record {
       stands = stamped_row log.held o next (row.stamp + 1) writes.stands;
+      alone = ap (λ (r : Row). r.sides) writes.fields ∙ know.object.alone;
       by = record { entries = by.entries; checkpoint = by.checkpoint };
       led = subst (Leads log.held o) (sym (pointers_are log o row next present entries m writes know.last)) (told_led log.held o (pointers_told present entries) there);
       tidy = λ t. subst (Tidy (contents_of log.held)) (sym (is t))

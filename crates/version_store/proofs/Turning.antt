@@ -1,5 +1,5 @@
 -- The turn of an object to its next inode.
-use Rattle.std.proofs.Common.{◌≡◌, inl, inr, true, ℕ, ◌+◌, ◌-◌, ◌^◌, ◌<◌, ◌≤◌, ◌++◌, nat_le, if◌then◌else◌, List, length, map, Option, Some, None, sym, ap, refl, subst, ◌∙◌, arith}
+use Rattle.std.proofs.Common.{◌≡◌, inl, inr, true, ℕ, ◌+◌, ◌-◌, ◌^◌, ◌<◌, ◌≤◌, ◌++◌, nat_le, if◌then◌else◌, List, length, map, Option, Some, sym, ap, refl, subst, ◌∙◌, arith}
 use Rattle.std.specs.List.{AllByRecursion}
 use Rattle.std.proofs.lemmas.List.{length-map}
 use Rattle.std.proofs.lemmas.Option.{same_Some}
@@ -77,6 +77,7 @@ records_of s later o i j m row next tell at can there orderly made kept stands b
       told = between_led s.log.held o i j (entries_between i j m) before can.pointers (tell i j m);
       moments = at i j m;
       made = ap (λ (r : Row). r.created) rest;
+      sides = ap (λ (r : Row). r.sides) rest;
       row_stands = stands;
       by = by;
       inode = inode;

@@ -12,7 +12,7 @@ use Rattle.journal_chain.specs.Chain.{times, chain_places}
 use Rattle.object_map.specs.declared.map.Row.{Row}
 use Rattle.object_map.specs.Rows.{row_of}
 use Rattle.checkpoint.specs.Held.{is_one_of}
-use Rattle.time_read.specs.Rows.{IsRow, inode_of, entries_of, checkpoint_of, checkpoint_places_of}
+use Rattle.time_read.specs.Rows.{IsRow, inode_of, entries_of, checkpoint_of, all_places_of}
 use Rattle.time_read.specs.Orderly.{IsOrderly}
 use Rattle.row_changes.specs.Recent.{IsBy}
 use Rattle.inode.specs.Contents.{contents_of}
@@ -57,11 +57,16 @@ pointers_of held o row = pointers_kept (checkpoint_of held o row) ++ sides_told 
 abbrev pub IsLed : (Place → Option Stored) → ℕ → Option Place → Type 0
 IsLed held o pointer = IfSome pointer (λ p. IsSome (of_kind Data o held p))
 
--- An object of this row is held: nothing that the row tells of is later than the last change, each pointer that the row
+-- a row names no older checkpoints: no call keeps one
+abbrev pub HasNoSides : Row → Type 0
+HasNoSides row = row.sides ≡ []
+
+-- An object of this row is held: the row names no older checkpoints, nothing that the row tells of is later than the last change, each pointer that the row
 -- leads to is a hole or leads to a data block of the object, and at each moment the object's inode is tidy, and its
 -- pointers lead to such blocks too.
 pub record IsObject (held : Place → Option Stored) (o : ℕ) (row : Row) (latest : ℕ) : Type 0 where
   pub stands : IsRow held o row
+  pub alone : HasNoSides row
   pub by : IsBy held o row latest
   pub led : All (IsLed held o) (pointers_of held o row)
   pub tidy : (t : ℕ) → Tidy (contents_of held) (inode_of held o row t)
@@ -93,11 +98,11 @@ pub record IsStore (s : StoreFields) : Type 0 where
   pub ascending : MakingsAscend s.rows
   pub apart : ChainsShareNoMoment s.log.held s.rows
 
--- A row names an object's block of this kind at a place: it stands in the object's chain, once; or it is a block of the row's
--- checkpoint; or the checkpoint has a pointer to it, or a triple of the chain has, on either side.
+-- A row names an object's block of this kind at a place: it stands in the object's chain, once; or it is a block of one of the
+-- row's checkpoints; or the newest checkpoint has a pointer to it, or a triple of the chain has, on either side.
 abbrev pub Names : (Place → Option Stored) → ℕ → Row → BlockKind → Place → Type 0
 Names held o row Journal p = times p (chain_places (of_kind Journal o held) o row.head) ≡ 1
-Names held o row Checkpoint p = is_one_of (checkpoint_places_of held o row) p ≡ true
+Names held o row Checkpoint p = is_one_of (all_places_of held o row) p ≡ true
 Names held o row Data p = Contains (pointers_of held o row) (Some p)
 
 -- an object has a row, which names its block of this kind at a place

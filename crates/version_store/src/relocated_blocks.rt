@@ -7,7 +7,7 @@ ghost use Rattle.time_read.specs.Orderly.{IsOrderly};
 ghost use Rattle.chain_rewriting.specs.CleaningLaws.{TellsWithin};
 ghost use Rattle.chain_rewriting.specs.Renaming.{renamed_entries, renamed_inode};
 ghost use Rattle.chain_rewriting.specs.Apart.{HasDistinctPlaces, IsNotNew};
-ghost use Rattle.version_store.specs.Store.{IsLed, NamesNoneTwice, pointers_of};
+ghost use Rattle.version_store.specs.Store.{IsLed, HasNoSides, NamesNoneTwice, pointers_of};
 ghost use Rattle.version_store.specs.Relocating.{AreCopies, blocks_relocated};
 ghost use Rattle.version_store.specs.private.Relocating.{Relocates};
 
@@ -66,6 +66,7 @@ pub(crate) fn relocate_blocks<B: Blocks>(
     copies: &[CopiedBlock],
 ) -> Relocated
     requires row { IsRow (B.log table.old).held object row.now }
+    requires sides { HasNoSides row.now }
     requires orderly { (latest : ℕ) × IsOrderly (B.log table.old).held object row.now latest }
     requires led { All (IsLed (B.log table.old).held object) (pointers_of (B.log table.old).held object row.now) }
     requires journal { IsJournalOf (B.log table.old).held object row.now journal.old }

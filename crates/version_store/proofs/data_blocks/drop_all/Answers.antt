@@ -23,7 +23,7 @@ returns-clause-nothing g c =
     let dropped = c.drop_checkpoint.ensures.dropped in
     nothing_left c.args.object held first second (g.B.Blocks.log c.drop_data.new.table).held
     c.args.pointers.now c.new.result.keys c.new.ensures.empty c.requires.named c.drop_journal.ensures.gone c.drop_journal.ensures.others
-    (checkpoint_gone held first second c.args.object c.args.row.now c.requires.row c.drop_journal.ensures.others dropped) dropped.others
+    (checkpoint_gone held first second c.args.object c.args.row.now c.requires.row c.requires.sides c.drop_journal.ensures.others dropped) dropped.others
     c.drop_data.ensures.«data» c.drop_data.ensures.others
 
 pub returns-clause-others : goal.returns-clause-others

@@ -41,6 +41,15 @@ rewrite_row-requires-clause-row g c =
     let others = subst (λ (l : Log). OnlyDataChanged o l.held between.held) c.last_entry-moment.ensures.same c.drop_data.ensures.others in
     c.what_changes_rest_on.ensures.row s.log.held between.held o row (others Journal o refl) (others Checkpoint o refl) know.object.stands
 
+pub rewrite_row-requires-clause-sides : goal.rewrite_row-requires-clause-sides
+rewrite_row-requires-clause-sides g c =
+    let o = c.args.object in
+    let row = c.args.row.now in
+    let s : StoreFields = record { rows = c.self.inside.objects.rows; log = g.B.Blocks.log c.self.inside.table; latest = c.self.inside.latest } in
+    let store = subst (λ (v : StoreOf _). IsStore (fields_of g.B.Blocks.log v)) (sym c.self.view_is) c.requires.store in
+    let there = subst (λ (v : StoreOf _). row_of v.rows o ≡ Some row) (sym c.self.view_is) c.requires.row in
+    (store.objects o row there).alone
+
 pub rewrite_row-requires-clause-rules : goal.rewrite_row-requires-clause-rules
 rewrite_row-requires-clause-rules g c =
     let o = c.args.object in
