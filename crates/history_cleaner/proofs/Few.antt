@@ -2,13 +2,14 @@
 use Rattle.std.proofs.Common.{◌≡◌, ◌⊎◌, ℕ, zero, suc, ◌+◌, ◌*◌, ◌/◌, ◌%◌, ◌^◌, ◌<◌, ◌≤◌, ◌==◌, ◌&&◌, Bool, true, false, inl, inr, List, [], ◌∷◌, length, map, Option, Some, None, IsSome, refl, sym, ap, subst, ◌∙◌, arith}
 use Rattle.std.specs.Prelude.{not, IfSome, MatchOption, count_by}
 use Rattle.std.specs.List.{range_with_len}
-use Rattle.std.proofs.lemmas.Bool.{cases_Bool, cases_eq, and_parts, and_from, and_left, eqb-true, eqb-false, ne_eqb, not-true, cond-false, false≢true, false_from_ne_true}
+use Rattle.std.proofs.lemmas.List.Folds.{list_any-append}
+use Rattle.std.proofs.lemmas.Bool.{cases_Bool, cases_eq, or_left, and_parts, and_from, and_left, eqb-true, eqb-false, ne_eqb, not-true, cond-false, false≢true, false_from_ne_true}
 use Rattle.std.proofs.lemmas.Option.{none-some, same_Some}
 use Rattle.std.proofs.lemmas.List.FromFn.{length-map-range_with_len}
 use Rattle.s4_types.specs.Pointer.{Place, IsPlace}
 use Rattle.block_log.specs.declared.kinds.BlockKind.{BlockKind}
 use Rattle.block_log.specs.declared.kinds.BlockKind.TheVariants.{Journal, Checkpoint}
-use Rattle.block_log.specs.Log.{Stored, of_kind, seen_as, same_kind}
+use Rattle.block_log.specs.Log.{Stored, of_kind, seen_as, same_kind, same_place}
 use Rattle.segment_word.specs.Layout.{frame_at, block_bytes}
 use Rattle.segment_table.specs.Table.{Table, slots_at, held_at, stored, block_slot}
 use Rattle.codec.specs.Fields.{◌>>=◌}
@@ -19,7 +20,7 @@ use Rattle.journal_chain.specs.Chain.{BlockView, Link, journal_of, journal_in, l
 use Rattle.s4_types.specs.declared.limits.TheConstants.{CHAIN_BLOCKS}
 use Rattle.object_map.specs.declared.map.Row.{Row}
 use Rattle.object_map.specs.Rows.{row_of}
-use Rattle.time_read.specs.Rows.{entries_of, checkpoint_places_of}
+use Rattle.time_read.specs.Rows.{entries_of, checkpoint_places_of, all_places_of, side_places}
 use Rattle.time_read.specs.Orderly.{BeginsDead, IsFromTo}
 use Rattle.version_store.specs.Store.{IsStore}
 use Rattle.checkpoint.specs.Held.{checkpoint_places, places_named, of_checkpoints, is_one_of}
@@ -206,7 +207,9 @@ row_block_at exact own d o row None is store there begins first last =
     block_at d o Journal p (placed row.head p at last) held
 row_block_at exact own d o row (Some p) is store there begins first last =
     let held = (store_of d).log.held in
-    let named : is_one_of (checkpoint_places_of held o row) p ≡ true = ap (λ (c : Option Place). is_one_of (places_named (of_checkpoints o held) c) p) is ∙ own held o p in
+    let newest : is_one_of (checkpoint_places_of held o row) p ≡ true = ap (λ (c : Option Place). is_one_of (places_named (of_checkpoints o held) c) p) is ∙ own held o p in
+    let older = side_places (of_checkpoints o held) row.sides in
+    let named : is_one_of (all_places_of held o row) p ≡ true = list_any-append (λ q. same_place q p) (checkpoint_places_of held o row) older ∙ or_left (is_one_of (checkpoint_places_of held o row) p) (is_one_of older p) newest in
     block_at d o Checkpoint p (placed row.checkpoint p is first) ((exact (store_of d) o Checkpoint p store).1 (record { row = row; there = there; names = named }))
 
 -- an object with a row has a block

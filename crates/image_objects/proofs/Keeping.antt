@@ -2,6 +2,7 @@
 use Rattle.std.proofs.Common.{◌≡◌, ℕ, ◌≤◌, cond, true, inl, inr, List, [], ◌∷◌, Option, Some, None, IsSome, is_some, refl, sym, ap, ◌∙◌, subst}
 use Rattle.std.specs.Prelude.{MatchOption}
 use Rattle.std.proofs.lemmas.Bool.{cases_Bool, false≢true}
+use Rattle.std.proofs.lemmas.List.{append-nil}
 use Rattle.s4_types.specs.Pointer.{Place}
 use Rattle.block_log.specs.Log.{Stored, of_kind}
 use Rattle.block_log.specs.declared.kinds.BlockKind.TheVariants.{Journal, Checkpoint}
@@ -151,7 +152,10 @@ is_row names rests again its used held row clock stamp object h journal checkpoi
       run = subst (λ (l : List EntryFields). Run (first_of held row.object kept) l (present_used used row)) (sym s.entries) (subst (λ (i : Inode). Run i (entries_used used row) (present_used used row)) (sym s.first) h.run);
       groups = ap (λ (l : List EntryFields). grouped l) s.entries ∙ h.chain.groups;
       checkpoint = subst (λ (i : Inode). AtItsMoment held row i row.checkpoint) (sym now) (at_its_moment rests used held row clock (entries_used used row) row.checkpoint refl checkpoints h.beginning);
-      only = λ p some. ap (λ (places : List Place). is_one_of places p) (same_places rests used held row.object row.checkpoint checkpoints)
+      sides = tt;
+      ascending = tt;
+      only = λ p some. ap (λ (places : List Place). is_one_of places p) (append-nil (places_named (of_checkpoints row.object held) row.checkpoint))
+          ∙ ap (λ (places : List Place). is_one_of places p) (same_places rests used held row.object row.checkpoint checkpoints)
           ∙ named_once (of_checkpoints row.object used) (checkpoint_places_used used row) p (of_checkpoints row.object held p) (checkpoints p) some;
       created = ap (λ (i : Inode). i.created) s.first ∙ created_is used row clock (entries_used used row) row.checkpoint refl h.beginning;
     }

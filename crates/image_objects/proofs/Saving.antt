@@ -106,11 +106,11 @@ same_pointers used held o row entries checkpoint =
     ap (λ (c : Option CheckpointFields). pointers_kept c ++ sides_told (entries_used used (saved_row o row))) checkpoint
     ∙ ap (λ (es : List EntryFields). pointers_kept (checkpoint_of held o row) ++ sides_told es) entries
 
--- a row with other counts of its chain's bytes
+-- a row with other counts of its chain's bytes, and no older checkpoints
 abbrev with_counts : Row → ℕ → ℕ → Row
-with_counts row bytes filled = record row { journal_bytes = bytes; head_bytes = filled }
+with_counts row bytes filled = record row { journal_bytes = bytes; head_bytes = filled; sides = [] }
 
-same_row : (used held : Place → Option Stored) (o : ℕ) (row : Row) → entries_used used (saved_row o row) ≡ entries_of held o row → IsRow held o row → kept_row used (saved_row o row) row.stamp ≡ row
+same_row : (used held : Place → Option Stored) (o : ℕ) (row : Row) → entries_used used (saved_row o row) ≡ entries_of held o row → IsRow held o row → kept_row used (saved_row o row) row.stamp ≡ record row { sides = [] }
 same_row used held o row entries stands =
     ap (λ (es : List EntryFields). with_counts row (entries_length es) (filled_bytes (packed es))) entries
     ∙ ap (λ (n : ℕ). with_counts row n (filled_bytes (packed (entries_of held o row)))) (sym stands.chain.bytes)

@@ -1,5 +1,5 @@
 -- When the whole version chain of a row stands in an image: the chain, the checkpoint, and the inodes that the entries lead through.
-use Rattle.std.specs.Prelude.{ℕ, if◌then◌else◌, List, Option, None}
+use Rattle.std.specs.Prelude.{ℕ, if◌then◌else◌, List, [], Option, None}
 use Rattle.s4_types.specs.Pointer.{Place}
 use Rattle.block_log.specs.Log.{Stored}
 use Rattle.checkpoint.specs.Held.{of_checkpoints, is_one_of}
@@ -36,7 +36,7 @@ named_at places view p = if is_one_of places p then view p else None
 abbrev pub checkpoint_view : (Place → Option Stored) → ImageRow → BlockView
 checkpoint_view used row = λ p. named_at (checkpoint_places_used used row) (of_checkpoints row.object used) p
 
--- the row that a drive keeps of a row of an image, with this stamp
+-- the row that a drive keeps of a row of an image, with this stamp: it names no older checkpoints
 abbrev pub kept_row : (Place → Option Stored) → ImageRow → ℕ → Row
 kept_row used row stamp = record {
   created = row.created;
@@ -45,5 +45,6 @@ kept_row used row stamp = record {
   head = row.head;
   journal_bytes = entries_length (entries_used used row);
   head_bytes = filled_bytes (packed (entries_used used row));
+  sides = [];
   stamp = stamp;
 }

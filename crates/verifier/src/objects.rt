@@ -18,7 +18,7 @@ use crate::rows::row_of;
 use image_objects::laws::moments_told_once_are_not_shared;
 use image_objects::{ImageRow, VersionChain, push_named, read_object, what_a_row_names_is_used};
 use image_parts::{ImageParts, RowPart};
-use object_map::Row;
+use object_map::{Row, Sides};
 use s4_types::{Moment, Ptr, Refusal};
 use segment_table::TableBuilder;
 use std::alloc::Global;
@@ -53,6 +53,7 @@ fn kept_of(alloc: Global, row: &ImageRow, versions: &VersionChain) -> OpenedObje
         head: row.head,
         journal_bytes: versions.chain.journal_bytes,
         head_bytes: versions.chain.head_bytes,
+        sides: Sides::new(),
         stamp: 0,
     };
     OpenedObject::new(
