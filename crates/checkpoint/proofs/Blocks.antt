@@ -1,6 +1,7 @@
 -- The blocks of a checkpoint: one, where its pointer leads to.
 use Rattle.std.proofs.Common.{◌≡◌, inl, inr, ℕ, ◌+◌, ◌≤◌, ◌<◌, Bool, true, false, cond, ◌==◌, ◌&&◌, ◌||◌, List, [], ◌∷◌, length, map, Option, Some, None, is_some, IsSome, IfOk, IfErr, Result, Ok, Err, MatchResult, refl, sym, ap, subst, ◌∙◌, arith}
 use Rattle.std.proofs.lemmas.Bool.{cases_Bool, false≢true, and_from, and_parts, eq-eqb, eqb-true}
+use Rattle.std.proofs.lemmas.Option.{same_Some}
 use Rattle.s4_types.specs.Pointer.{Place}
 use Rattle.s4_types.specs.declared.limits.TheConstants.{CHECKPOINT_BLOCKS}
 use Rattle.s4_types.specs.declared.refusals.Refusal.{Refusal}
@@ -11,7 +12,7 @@ use Rattle.block_log.specs.declared.kinds.BlockKind.{BlockKind}
 use Rattle.block_log.specs.declared.kinds.BlockKind.TheVariants.{Journal, Checkpoint, Data}
 use Rattle.codec.specs.Checkpoint.{CheckpointFields}
 use Rattle.codec.specs.declared.inodes.Inode.{Inode}
-use Rattle.checkpoint.specs.Held.{checkpoint_in, places_in, checkpoint_held, checkpoint_places, checkpoint_blocks, spelled_checkpoint, of_checkpoints, is_one_of, places_named, HasItsBlocks, OnlyCheckpointChanged, PutsCheckpoint, DropsCheckpoint}
+use Rattle.checkpoint.specs.Held.{checkpoint_in, places_in, checkpoint_held, checkpoint_places, checkpoint_blocks, spelled_checkpoint, of_checkpoints, is_one_of, places_named, HasItsBlocks, IsInBoth, OnlyCheckpointChanged, PutsCheckpoint, DropsCheckpoint}
 
 -- Places that the test finds to be one are equal.
 abbrev pub OneName : Type 0
@@ -56,6 +57,12 @@ pub blocks_there : OneName → (held : Place → Option Stored) (o : ℕ) (p : P
 unfolding checkpoint_in
 blocks_there one held o p told q is =
     subst (λ (r : Place). IsSome (of_checkpoints o held r)) (one p q (tested held o p q true is)) (spelled_there (of_checkpoints o held p) told)
+
+pub one_moment : OneName → (held : Place → Option Stored) (o : ℕ) (p r q : Place) (c d : CheckpointFields) → checkpoint_held held o p ≡ Some c → checkpoint_held held o r ≡ Some d → IsInBoth held o p r q → c.moment ≡ d.moment
+one_moment one held o p r q c d first second both =
+    let same : p ≡ r = one p q (tested held o p q true both.0) ∙ sym (one r q (tested held o r q true both.1)) in
+    let found : Some c ≡ Some d = sym first ∙ ap (checkpoint_held held o) same ∙ second in
+    ap (λ (k : CheckpointFields). k.moment) (same_Some c d found)
 
 pub one_block : (held : Place → Option Stored) (o : ℕ) (p : Place) (i : Inode) → length (checkpoint_places held o p) ≡ checkpoint_blocks i
 unfolding places_in checkpoint_blocks

@@ -51,6 +51,10 @@ checkpoint_blocks i = 1
 abbrev pub is_one_of : List Place → Place → Bool
 is_one_of places q = list_any (λ p. same_place p q) places
 
+-- a place is that of a block of both of two pointers' checkpoints
+abbrev pub IsInBoth : (Place → Option Stored) → ℕ → Place → Place → Place → Type 0
+IsInBoth held o p r q = (is_one_of (checkpoint_places held o p) q ≡ true) × (is_one_of (checkpoint_places held o r) q ≡ true)
+
 -- each block of a pointer's checkpoint, if there is a pointer, is held as one of the object's checkpoints
 abbrev pub HasItsBlocks : (Place → Option Stored) → ℕ → Option Place → Type 0
 HasItsBlocks held o c = (q : Place) → is_one_of (places_named (of_checkpoints o held) c) q ≡ true → IsSome (of_checkpoints o held q)

@@ -5,7 +5,7 @@ ghost use Rattle.s4_types.specs.declared.limits.TheConstants.{CHECKPOINT_BLOCKS}
 ghost use Rattle.block_log.specs.Log.{Stored};
 ghost use Rattle.codec.specs.Checkpoint.{CheckpointFields};
 ghost use Rattle.codec.specs.declared.inodes.Inode.{Inode};
-ghost use Rattle.checkpoint.specs.Held.{checkpoint_held, checkpoint_places, checkpoint_blocks, of_checkpoints, is_one_of, HasItsBlocks};
+ghost use Rattle.checkpoint.specs.Held.{checkpoint_held, checkpoint_places, checkpoint_blocks, of_checkpoints, is_one_of, HasItsBlocks, IsInBoth};
 
 use block_log::laws::one_place_has_one_name;
 
@@ -35,3 +35,11 @@ pub fn a_checkpoint_takes_its_blocks()
     ensures few { (i : Inode) → checkpoint_blocks i ≤ CHECKPOINT_BLOCKS }
     ensures holes { (i j : Inode) → map is_some i.pointers ≡ map is_some j.pointers → checkpoint_blocks i ≡ checkpoint_blocks j }
 {}
+
+/// Two checkpoints of an object that have a block in common are of one moment.
+pub fn checkpoints_of_two_moments_share_no_block()
+    ensures { (held : Place → Option Stored) (o : ℕ) (p r q : Place) (c d : CheckpointFields) → checkpoint_held held o p ≡ Some c → checkpoint_held held o r ≡ Some d
+        → IsInBoth held o p r q → c.moment ≡ d.moment }
+{
+    one_place_has_one_name();
+}
