@@ -1,9 +1,11 @@
 -- Older checkpoints in an array of SIDES.
-use Rattle.std.proofs.Common.{◌≡◌, ℕ, zero, suc, ◌+◌, ◌-◌, ◌<◌, ◌≤◌, List, [], ◌∷◌, ◌++◌, length, take, drop, replicate, set, refl, sym, ap, arith, ◌∙◌, length-append}
+use Rattle.std.proofs.Common.{◌≡◌, inl, inr, ltb, slice_get, Option, Some, None, ℕ, zero, suc, ◌+◌, ◌-◌, ◌<◌, ◌≤◌, List, [], ◌∷◌, ◌++◌, length, take, drop, replicate, set, refl, sym, ap, arith, ◌∙◌, length-append}
+use Rattle.std.specs.Option.{option_to_list}
+use Rattle.std.proofs.lemmas.Bool.{cases_lt, cond-true, cond-false, lt-ltb, le-ltb}
 use Rattle.std.proofs.lemmas.List.{take_at, drop-append-le, drop-replicate, length-drop, length-replicate, set-append_right, append_assoc}
 use Rattle.object_map.specs.declared.limits.TheConstants.{SIDES}
 use Rattle.object_map.specs.declared.sides.Side.{Side}
-use Rattle.object_map.specs.Sides.{sides_with}
+use Rattle.object_map.specs.Sides.{sides_with, side_dropped}
 use Rattle.object_map.specs.private.Padding.{no_side, padded_sides}
 
 pub filled : (sides : List Side) → length sides ≤ SIDES → sides ++ drop (length sides) (replicate SIDES no_side) ≡ padded_sides sides
@@ -65,3 +67,28 @@ pushed_is sides older kept all side are few stays is =
     ∙ ap (λ (xs : List Side). xs ++ side ∷ []) stays
     ∙ sym (drop-append-le (length older + 1 - SIDES) older (side ∷ []) least)
     ∙ ap (λ (xs : List Side). sides_with xs side) are
+
+-- what goes and what is kept are all
+first_of_full : (sides : List Side) (side : Side) → length sides ≡ SIDES → option_to_list (slice_get sides 0) ++ drop 1 (sides ++ side ∷ []) ≡ sides ++ side ∷ []
+first_of_full [] side full = absurd (omega (arith, full))
+first_of_full (first ∷ sides) side full = refl
+
+pub all_are : (sides : List Side) (side : Side) → length sides ≤ SIDES → option_to_list (side_dropped sides) ++ sides_with sides side ≡ sides ++ side ∷ []
+all_are sides side few = elim (cases_lt (length sides) SIDES) [
+  | inl lt ↦
+      let none : length sides + 1 - SIDES ≡ 0 = omega (arith, lt) in
+      ap (λ (gone : Option Side). option_to_list gone ++ sides_with sides side) (cond-true (ltb (length sides) SIDES) None (slice_get sides 0) (lt-ltb (length sides) SIDES lt))
+      ∙ ap (λ n. drop n (sides ++ side ∷ [])) none
+  | inr le ↦
+      let one : length sides + 1 - SIDES ≡ 1 = omega (arith, few, le) in
+      ap (λ (gone : Option Side). option_to_list gone ++ sides_with sides side) (cond-false (ltb (length sides) SIDES) None (slice_get sides 0) (le-ltb (length sides) SIDES le))
+      ∙ ap (λ n. option_to_list (slice_get sides 0) ++ drop n (sides ++ side ∷ [])) one
+      ∙ first_of_full sides side (omega (arith, few, le))
+]
+
+pub pushed_all : (sides older kept all : List Side) (side : Side) (gone : Option Side) → older ≡ sides → length sides ≤ SIDES → kept ≡ drop (length older + 1 - SIDES) older → all ≡ padded_sides (kept ++ side ∷ []) → gone ≡ side_dropped older
+    → option_to_list gone ++ take (length kept + 1) all ≡ sides ++ side ∷ []
+pushed_all sides older kept all side gone are few stays is goes =
+    ap (λ (x : Option Side). option_to_list x ++ take (length kept + 1) all) (goes ∙ ap side_dropped are)
+    ∙ ap (λ (xs : List Side). option_to_list (side_dropped sides) ++ xs) (pushed_is sides older kept all side are few stays is)
+    ∙ all_are sides side few

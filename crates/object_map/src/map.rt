@@ -1,12 +1,14 @@
 ghost use Rattle.std.specs.Prelude.{◌≡◌, ℕ, ◌+◌, ◌<◌, ◌^◌, Some, None, IsSome, IfSome, IfNone, IfOk, IfErr, OnOk, OnErr, [], ◌∷◌, ◌++◌, length, option_copied, option_map};
 ghost use Rattle.object_map.specs.Objects.{value_of, without_value, PutsAt, IsNextAbove, IsKeptOf, AreBelow, Puts, PutsBehind, PutsRow, Removes};
 ghost use Rattle.object_map.specs.Rows.{row_of, fresh_row};
+ghost use Rattle.object_map.specs.Sides.{sides_after, side_gone, sides_named};
 ghost use Rattle.object_map.specs.Lending.{LendsChanged};
+ghost use Rattle.std.specs.Option.{option_to_list};
 ghost use Rattle.std.specs.Borrow.{sem};
 ghost use Rattle.std.specs.Option.{option_copied_mut};
 ghost use Rattle.s4_types.specs.declared.refusals.Refusal.TheVariants.{NoMemory};
 
-use crate::sides::Sides;
+use crate::sides::{Side, Sides};
 use s4_types::{Moment, ObjectId, Ptr, Refusal};
 use std::alloc::Global;
 use std::collections::BTreeMap;
@@ -49,6 +51,20 @@ impl Row {
             sides: Sides::new(),
             stamp: 0,
         }
+    }
+
+    /// The row's newest checkpoint, if it has one, becomes one of the older ones, for another that will be named in its place.
+    /// Where that makes one too many, the first goes and is answered; so what went and what is kept are all, in order.
+    pub fn set_aside(&mut self) -> Option<Side>
+        ensures row { self.new ≡ record self.old { sides = sides_after self.old } }
+        ensures gone { result ≡ side_gone self.old.sides self.old.checkpoint }
+        ensures all { option_to_list result ++ self.new.sides ≡ sides_named self.old }
+    {
+        let place = self.checkpoint?;
+        self.sides.push(Side {
+            moment: self.checkpoint_moment,
+            place,
+        })
     }
 }
 

@@ -2,6 +2,7 @@ ghost use Rattle.std.specs.Prelude.{◌≡◌, ◌+◌, ◌-◌, ◌<◌, ◌≤
 ghost use Rattle.object_map.specs.declared.limits.TheConstants.{SIDES};
 ghost use Rattle.object_map.specs.Sides.{sides_with, side_dropped};
 ghost use Rattle.object_map.specs.private.Padding.{no_side, padded_sides};
+ghost use Rattle.std.specs.Option.{option_to_list};
 
 use crate::limits::SIDES;
 use s4_types::{Moment, Ptr};
@@ -120,10 +121,12 @@ impl Sides {
         &self.kept[..self.count as usize]
     }
 
-    /// Appends an older checkpoint. The first of `SIDES` goes for it, and is answered; of fewer none goes.
+    /// Appends an older checkpoint. The first of `SIDES` goes for it, and is answered; of fewer none goes. So what went and what is
+    /// kept are all, in order.
     pub fn push(&mut self, side: Side) -> Option<Side>
         ensures sides { self.new ≡ sides_with self.old side }
         ensures dropped { result ≡ side_dropped self.old }
+        ensures all { option_to_list result ++ self.new ≡ self.old ++ side ∷ [] }
     {
         let sides = *self;
         let older = sides.as_slice();
