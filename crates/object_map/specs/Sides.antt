@@ -36,6 +36,10 @@ side_gone sides (Some p) = side_dropped sides
 abbrev pub sides_after : Row → List Side
 sides_after row = sides_grown row.sides row.checkpoint row.checkpoint_moment
 
+-- where an older checkpoint stands, if there is one
+abbrev pub place_of : Option Side → Option Place
+place_of side = option_map (λ s. s.place) side
+
 -- where the checkpoint stands that goes then, if one goes
 abbrev pub place_gone : Row → Option Place
-place_gone row = option_map (λ side. side.place) (side_gone row.sides row.checkpoint)
+place_gone row = place_of (side_gone row.sides row.checkpoint)

@@ -1,5 +1,5 @@
 -- What a checkpoint that is written anew makes of an object's row.
-use Rattle.std.proofs.Common.{◌≡◌, ℕ, true, List, [], ◌∷◌, length, Option, Some, IsSome, MatchOption, refl, sym, ap, subst, ◌∙◌, arith}
+use Rattle.std.proofs.Common.{◌≡◌, ℕ, List, [], ◌∷◌, length, Option, Some, MatchOption, refl, sym, ap, subst, ◌∙◌, arith}
 use Rattle.std.specs.Prelude.{option_map}
 use Rattle.std.proofs.lemmas.Bool.{cond-true}
 use Rattle.s4_types.specs.Pointer.{Place}
@@ -11,50 +11,51 @@ use Rattle.codec.specs.Entry.{EntryFields}
 use Rattle.codec.specs.Checkpoint.{CheckpointFields}
 use Rattle.undo_redo.specs.Runs.{Run, AllBy, entry_is_by, entries_by, inode_after, redone_all, undone_all}
 use Rattle.undo_redo.specs.Groups.{grouped}
-use Rattle.checkpoint.specs.Held.{checkpoint_held, checkpoint_places, checkpoint_blocks, of_checkpoints, is_one_of, DropsCheckpoint}
+use Rattle.checkpoint.specs.Held.{checkpoint_held, checkpoint_places, checkpoint_blocks, DropsCheckpoint}
 use Rattle.object_map.specs.declared.map.Row.{Row}
+use Rattle.object_map.specs.declared.sides.Side.{Side}
 use Rattle.journal_chain.specs.Chain.{BlockView, IsChain, Holds}
-use Rattle.time_read.specs.Rows.{chain_of, checkpoint_of, entries_of, inode_before, first_of, inode_of, IsRow}
+use Rattle.time_read.specs.Rows.{chain_of, checkpoint_of, entries_of, inode_before, first_of, inode_of, IsRow, IsSide}
 use Rattle.row_changes.specs.Moving.{kept_blocks, inode_kept}
 use Rattle.row_changes.specs.Recent.{IsBy}
-use Rattle.row_changes.proofs.Places.{Put, put_journal, told_on, new_alone, alone_of_all, no_sides}
+use Rattle.row_changes.proofs.Places.{Put, put_journal, told_on}
+use Rattle.row_changes.proofs.Sides.{all_mapped}
+use Rattle.row_changes.proofs.SetAside.{IsKept, Keeps}
 use Rattle.row_changes.proofs.Recently.{same_entries}
 
 -- ---- the new one
 
--- the row with another checkpoint
-abbrev pub with_checkpoint : Row → Place → ℕ → Row
-with_checkpoint row p m = record row { checkpoint = Some p; checkpoint_moment = m }
+-- the row with another checkpoint, and other older ones
+abbrev pub with_checkpoint : Row → Place → ℕ → List Side → Row
+with_checkpoint row p m kept = record row { checkpoint = Some p; checkpoint_moment = m; sides = kept }
 
 pub record Laws : Type 0 where
   pub end : (i j : Inode) (entries : List EntryFields) → Run i entries j → j ≡ redone_all entries i
   pub beginning : (i j : Inode) (entries : List EntryFields) → Run i entries j → i ≡ undone_all entries j
   pub done : (i : Inode) (entries : List EntryFields) (t : ℕ) → AllBy t entries → inode_after i entries t ≡ redone_all entries i
 
--- The inode that is current at a moment stands as a checkpoint at a place, and no block of another checkpoint of the object is
--- held; its journal is as it was, and its row names no older checkpoints.
-pub record Written (held later : Place → Option Stored) (o : ℕ) (row : Row) (p : Place) (i : Inode) (m : ℕ) : Type 0 where
+-- The inode that is current at a moment stands as a checkpoint at a place; these older ones are kept, and no block of another
+-- checkpoint of the object is held; its journal is as it was.
+pub record Written (held later : Place → Option Stored) (o : ℕ) (row : Row) (p : Place) (i : Inode) (m : ℕ) (kept : List Side) : Type 0 where
   pub stands : IsRow held o row
-  pub none : row.sides ≡ []
   pub latest : IsBy held o row m
   pub present : i ≡ inode_of held o row m
   pub told : checkpoint_held later o p ≡ Some (record { object = o; moment = m; inode = i })
   pub journal : of_kind Journal o later ≡ of_kind Journal o held
-  pub only : (q : Place) → IsSome (of_checkpoints o later q) → is_one_of (checkpoint_places later o p) q ≡ true
+  pub keeps : Keeps held later o row p m kept
 
--- the checkpoint was put, and then the older one was dropped
-pub written : (log between after : Place → Option Stored) (o : ℕ) (row : Row) (p : Place) (i : Inode) (m : ℕ) →
-    IsRow log o row → row.sides ≡ [] → IsBy log o row m → i ≡ inode_of log o row m →
-    Put log between between o p row.checkpoint → DropsCheckpoint between o row.checkpoint after → checkpoint_held between o p ≡ Some (record { object = o; moment = m; inode = i }) →
-    Written log after o row p i m
-written log between after o row p i m r none latest present s d told = record {
+-- the checkpoint was put, and then an older one was dropped
+pub written : (log between after : Place → Option Stored) (o : ℕ) (row : Row) (p : Place) (i : Inode) (m : ℕ) (older : Option Place) (kept : List Side) →
+    IsRow log o row → IsBy log o row m → i ≡ inode_of log o row m →
+    Put log between between o p older → DropsCheckpoint between o older after → Keeps log after o row p m kept → checkpoint_held between o p ≡ Some (record { object = o; moment = m; inode = i }) →
+    Written log after o row p i m kept
+written log between after o row p i m older kept r latest present s d keeps told = record {
   stands = r;
-  none = none;
   latest = latest;
   present = present;
-  told = told_on log between between after o p row.checkpoint (record { object = o; moment = m; inode = i }) s d told;
+  told = told_on log between between after o p older (record { object = o; moment = m; inode = i }) s d told;
   journal = d.others Journal o refl ∙ put_journal log between o p s.put;
-  only = new_alone log between between after o p row.checkpoint s d;
+  keeps = keeps;
 }
 
 pub all_by : (t : ℕ) (entries : List EntryFields) → AllBy t entries → entries_by t entries ≡ entries
@@ -71,32 +72,32 @@ pub told_before : (created t : ℕ) (entries : List EntryFields) (c : Checkpoint
 unfolding inode_before
 told_before created t entries c = refl
 
-pub written_first : (held later : Place → Option Stored) (o : ℕ) (row : Row) (p : Place) (i : Inode) (m : ℕ) → Laws → Written held later o row p i m → first_of later o (with_checkpoint row p m) ≡ first_of held o row
+pub written_first : (held later : Place → Option Stored) (o : ℕ) (row : Row) (p : Place) (i : Inode) (m : ℕ) (kept : List Side) → Laws → Written held later o row p i m kept → first_of later o (with_checkpoint row p m kept) ≡ first_of held o row
 unfolding inode_of
-written_first held later o row p i m laws w =
+written_first held later o row p i m kept laws w =
     let c : CheckpointFields = record { object = o; moment = m; inode = i } in
     ap (λ (es : List EntryFields). inode_before row.created m es (checkpoint_held later o p)) (same_entries held later o row w.journal)
     ∙ ap (λ (found : Option CheckpointFields). inode_before row.created m (entries_of held o row) found) w.told
     ∙ told_before row.created m (entries_of held o row) c
     ∙ undone laws (first_of held o row) w.stands.last i (entries_of held o row) m w.stands.run w.latest.entries w.present
 
-pub written_inode : (held later : Place → Option Stored) (o : ℕ) (row : Row) (p : Place) (i : Inode) (m t : ℕ) → Laws → Written held later o row p i m → inode_of later o (with_checkpoint row p m) t ≡ inode_of held o row t
+pub written_inode : (held later : Place → Option Stored) (o : ℕ) (row : Row) (p : Place) (i : Inode) (m t : ℕ) (kept : List Side) → Laws → Written held later o row p i m kept → inode_of later o (with_checkpoint row p m kept) t ≡ inode_of held o row t
 unfolding inode_of
-written_inode held later o row p i m t laws w =
-    ap (λ (es : List EntryFields). inode_after (first_of later o (with_checkpoint row p m)) es t) (same_entries held later o row w.journal)
-    ∙ ap (λ (k : Inode). inode_after k (entries_of held o row) t) (written_first held later o row p i m laws w)
+written_inode held later o row p i m t kept laws w =
+    ap (λ (es : List EntryFields). inode_after (first_of later o (with_checkpoint row p m kept)) es t) (same_entries held later o row w.journal)
+    ∙ ap (λ (k : Inode). inode_after k (entries_of held o row) t) (written_first held later o row p i m kept laws w)
 
-pub written_by : (held later : Place → Option Stored) (o : ℕ) (row : Row) (p : Place) (i : Inode) (m : ℕ) → Written held later o row p i m → IsBy later o (with_checkpoint row p m) m
-written_by held later o row p i m w = record {
+pub written_by : (held later : Place → Option Stored) (o : ℕ) (row : Row) (p : Place) (i : Inode) (m : ℕ) (kept : List Side) → Written held later o row p i m kept → IsBy later o (with_checkpoint row p m kept) m
+written_by held later o row p i m kept w = record {
   entries = subst (λ (es : List EntryFields). AllBy m es) (sym (same_entries held later o row w.journal)) w.latest.entries;
   checkpoint = omega arith;
 }
 
-pub written_row : (held later : Place → Option Stored) (o : ℕ) (row : Row) (p : Place) (i : Inode) (m : ℕ) → Laws → Written held later o row p i m → IsRow later o (with_checkpoint row p m)
-written_row held later o row p i m laws w =
-    let next : Row = with_checkpoint row p m in
+pub written_row : (held later : Place → Option Stored) (o : ℕ) (row : Row) (p : Place) (i : Inode) (m : ℕ) (kept : List Side) → Laws → Written held later o row p i m kept → IsRow later o (with_checkpoint row p m kept)
+written_row held later o row p i m kept laws w =
+    let next : Row = with_checkpoint row p m kept in
     let entries : entries_of later o next ≡ entries_of held o row = same_entries held later o row w.journal in
-    let first : first_of later o next ≡ first_of held o row = written_first held later o row p i m laws w in
+    let first : first_of later o next ≡ first_of held o row = written_first held later o row p i m kept laws w in
     let run : Run (first_of later o next) (entries_of held o row) w.stands.last = subst (λ (k : Inode). Run k (entries_of held o row) w.stands.last) (sym first) w.stands.run in
     let chain : Holds later (chain_of o next) (entries_of held o row) = subst (λ (v : BlockView). IsChain v (chain_of o row) (entries_of held o row)) (sym w.journal) w.stands.chain in
     record {
@@ -105,10 +106,11 @@ written_row held later o row p i m laws w =
       last = w.stands.last;
       run = subst (λ (es : List EntryFields). Run (first_of later o next) es w.stands.last) (sym entries) run;
       groups = ap grouped entries ∙ w.stands.groups;
-      checkpoint = w.told ∙ ap (λ (k : Inode). Some (record { object = o; moment = m; inode = k })) (w.present ∙ sym (written_inode held later o row p i m m laws w));
-      sides = no_sides later o next row.sides w.none;
-      ascending = w.stands.ascending;
-      only = λ q there. alone_of_all (of_checkpoints o later) (checkpoint_places later o p) row.sides q w.none (w.only q there);
+      checkpoint = w.told ∙ ap (λ (k : Inode). Some (record { object = o; moment = m; inode = k })) (w.present ∙ sym (written_inode held later o row p i m m kept laws w));
+      sides = all_mapped (IsKept held later o row m) (IsSide later o next)
+          (λ side is. record { told = is.0 ∙ ap (λ (k : Inode). Some (record { object = o; moment = side.moment; inode = k })) (sym (written_inode held later o row p i m side.moment kept laws w)); older = is.1 }) kept w.keeps.sides;
+      ascending = w.keeps.ascending;
+      only = w.keeps.only;
       created = ap (λ (k : Inode). k.created) first ∙ w.stands.created;
     }
 

@@ -8,3 +8,6 @@ pub mod Pushing
 pub mod Recently
 pub mod RewrittenBlocks
 pub mod RewrittenRow
+pub mod SetAside
+pub mod Sides
+pub mod Bared

@@ -17,6 +17,7 @@ use Rattle.undo_redo.specs.Groups.{continues, grouped_behind, grouped}
 use Rattle.undo_redo.specs.Between.{CanLead}
 use Rattle.checkpoint.specs.Held.{checkpoint_held}
 use Rattle.object_map.specs.declared.map.Row.{Row}
+use Rattle.object_map.specs.declared.sides.Side.{Side}
 use Rattle.object_map.specs.Rows.{fresh_row}
 use Rattle.time_read.specs.Rows.{IsRow, entries_of, first_of, inode_of}
 use Rattle.time_read.specs.Orderly.{inode_behind, IsFromTo, BeginsDead, IsOrderlyChain, IsOrderly}
@@ -270,11 +271,11 @@ made_by None created latest m t (e ∷ entries) h moments by le =
     omega (arith, least, most)
 made_by (Some p) created latest m t entries h moments by le = (let least : created ≤ t = h.0 in omega (arith, least, le))
 
-pub written_orderly : (held later : Place → Option Stored) (o : ℕ) (row : Row) (p : Place) (i : Inode) (m latest : ℕ) → Laws → Written held later o row p i m → m ≤ latest → IsOrderly held o row latest → IsOrderly later o (with_checkpoint row p m) latest
-written_orderly held later o row p i m latest laws w le was =
-    let next : Row = with_checkpoint row p m in
+pub written_orderly : (held later : Place → Option Stored) (o : ℕ) (row : Row) (p : Place) (i : Inode) (m latest : ℕ) (kept : List Side) → Laws → Written held later o row p i m kept → m ≤ latest → IsOrderly held o row latest → IsOrderly later o (with_checkpoint row p m kept) latest
+written_orderly held later o row p i m latest kept laws w le was =
+    let next : Row = with_checkpoint row p m kept in
     let entries : entries_of later o next ≡ entries_of held o row = same_entries held later o row w.journal in
-    let first : first_of later o next ≡ first_of held o row = written_first held later o row p i m laws w in
+    let first : first_of later o next ≡ first_of held o row = written_first held later o row p i m kept laws w in
     let chain : IsOrderlyChain row.created latest (first_of held o row) (entries_of later o next) = subst (λ (es : List EntryFields). IsOrderlyChain row.created latest (first_of held o row) es) (sym entries) was.chain in
     record {
       made = was.made;

@@ -55,17 +55,16 @@ pub no_sides : (held : Place → Option Stored) (o : ℕ) (row : Row) (sides : L
 no_sides held o row sides none = subst (λ (ss : List Side). AllByRecursion (IsSide held o row) ss) (sym none) tt
 
 -- where a checkpoint is seen, something is held
-held_there : (o : ℕ) (there : Option Stored) → IsSome (seen_as Checkpoint o there) → there ≡ None → ⊥
+pub held_there : (o : ℕ) (there : Option Stored) → IsSome (seen_as Checkpoint o there) → there ≡ None → ⊥
 held_there o there seen none = both_ways false refl (sym (ap (λ x. is_some (seen_as Checkpoint o x)) none) ∙ seen)
 
 -- ---- a checkpoint was put, and the journal has changed
 
--- A checkpoint of the object was put, and then its journal alone has changed; each older block of a checkpoint was one of
--- that which this pointer leads to, if there is one.
+-- A checkpoint of the object was put, and then its journal alone has changed; the older one that this pointer leads to, if it
+-- leads to one, was there.
 pub record Put (log between chained : Place → Option Stored) (o : ℕ) (p : Place) (older : Option Place) : Type 0 where
   pub laws : CheckpointLaws
   pub there : HasItsBlocks log o older
-  pub only : (q : Place) → IsSome (of_checkpoints o log q) → is_one_of (places_named (of_checkpoints o log) older) q ≡ true
   pub put : PutsCheckpoint log o p between
   pub journal : OnlyJournalChanged o between chained
 
@@ -77,13 +76,16 @@ put_journal log between o p put = put.others Journal o refl
 pub no_journal_yet : (o : ℕ) (held : Place → Option Stored) → OnlyJournalChanged o held held
 no_journal_yet o held kind other h = refl
 
--- the places of the new checkpoint, where nothing was held, are none of the older one
-apart : (log between chained : Place → Option Stored) (o : ℕ) (p : Place) (older : Option Place) → Put log between chained o p older
-    → (q : Place) → is_one_of (places_named (of_checkpoints o log) older) q ≡ true → is_one_of (checkpoint_places between o p) q ≡ false
-apart log between chained o p older s q old = elim (cases_Bool (is_one_of (checkpoint_places between o p) q)) [
-  | inl new ↦ absurd (held_there o (log q) (s.there q old) (s.put.fresh q new))
+-- the places of the new checkpoint, where nothing was held, are none of a block that was there
+pub not_new : (log between : Place → Option Stored) (o : ℕ) (p q : Place) → PutsCheckpoint log o p between → IsSome (of_checkpoints o log q) → is_one_of (checkpoint_places between o p) q ≡ false
+not_new log between o p q put there = elim (cases_Bool (is_one_of (checkpoint_places between o p) q)) [
+  | inl new ↦ absurd (held_there o (log q) there (put.fresh q new))
   | inr beside ↦ beside
 ]
+
+apart : (log between chained : Place → Option Stored) (o : ℕ) (p : Place) (older : Option Place) → Put log between chained o p older
+    → (q : Place) → is_one_of (places_named (of_checkpoints o log) older) q ≡ true → is_one_of (checkpoint_places between o p) q ≡ false
+apart log between chained o p older s q old = not_new log between o p q s.put (s.there q old)
 
 places_stay : CheckpointLaws → (log between : Place → Option Stored) (o : ℕ) (older : Option Place) → ((q : Place) → is_one_of (places_named (of_checkpoints o log) older) q ≡ true → between q ≡ log q)
     → places_named (of_checkpoints o between) older ≡ places_named (of_checkpoints o log) older
@@ -97,7 +99,7 @@ older_places log between chained o p older s =
     ap (λ (v : BlockView). places_named v older) (s.journal Checkpoint o refl)
     ∙ places_stay s.laws log between o older (λ q old. s.put.kept q (apart log between chained o p older s q old))
 
-older_is : (log between chained : Place → Option Stored) (o : ℕ) (p : Place) (older : Option Place) → Put log between chained o p older
+pub older_is : (log between chained : Place → Option Stored) (o : ℕ) (p : Place) (older : Option Place) → Put log between chained o p older
     → (q : Place) (b : Bool) → is_one_of (places_named (of_checkpoints o chained) older) q ≡ b → is_one_of (places_named (of_checkpoints o log) older) q ≡ b
 older_is log between chained o p older s q b is = sym (ap (λ (places : List Place). is_one_of places q) (older_places log between chained o p older s)) ∙ is
 
@@ -140,29 +142,33 @@ told_on log between chained after o p older c s d told =
 pub new_places : (log between chained after : Place → Option Stored) (o : ℕ) (p : Place) (older : Option Place) → Put log between chained o p older → DropsCheckpoint chained o older after → checkpoint_places after o p ≡ checkpoint_places between o p
 new_places log between chained after o p older s d = s.laws.places chained after o p (new_stays log between chained after o p older s d) ∙ chained_places log between chained o p older s
 
-new_is : (log between chained after : Place → Option Stored) (o : ℕ) (p : Place) (older : Option Place) → Put log between chained o p older → DropsCheckpoint chained o older after
+pub new_is : (log between chained after : Place → Option Stored) (o : ℕ) (p : Place) (older : Option Place) → Put log between chained o p older → DropsCheckpoint chained o older after
     → (q : Place) (b : Bool) → is_one_of (checkpoint_places after o p) q ≡ b → is_one_of (checkpoint_places between o p) q ≡ b
 new_is log between chained after o p older s d q b is = sym (ap (λ (places : List Place). is_one_of places q) (new_places log between chained after o p older s d)) ∙ is
 
+-- no block of a checkpoint of the object is held but those of the older one
+abbrev pub OnlyOlder : (Place → Option Stored) → ℕ → Option Place → Type 0
+OnlyOlder log o older = (q : Place) → IsSome (of_checkpoints o log q) → is_one_of (places_named (of_checkpoints o log) older) q ≡ true
+
 -- no block of a checkpoint but those of the new one is left
-pub new_alone : (log between chained after : Place → Option Stored) (o : ℕ) (p : Place) (older : Option Place) → Put log between chained o p older → DropsCheckpoint chained o older after
+pub new_alone : (log between chained after : Place → Option Stored) (o : ℕ) (p : Place) (older : Option Place) → Put log between chained o p older → DropsCheckpoint chained o older after → OnlyOlder log o older
     → (q : Place) → IsSome (of_checkpoints o after q) → is_one_of (checkpoint_places after o p) q ≡ true
-new_alone log between chained after o p older s d q there = elim (cases_Bool (is_one_of (checkpoint_places after o p) q)) [
+new_alone log between chained after o p older s d only q there = elim (cases_Bool (is_one_of (checkpoint_places after o p) q)) [
   | inl new ↦ new
   | inr other ↦ elim (cases_Bool (is_one_of (places_named (of_checkpoints o chained) older) q)) [
     | inl old ↦ absurd (held_there o (after q) there (d.gone q old))
     | inr beside ↦
         let was : of_checkpoints o after q ≡ of_checkpoints o log q =
         ap (seen_as Checkpoint o) (d.kept q beside) ∙ beside_new log between chained o p q older s (new_is log between chained after o p older s d q false other) in
-        absurd (false≢true (sym (older_is log between chained o p older s q false beside) ∙ s.only q (subst (λ b. IsSome b) was there)))
+        absurd (false≢true (sym (older_is log between chained o p older s q false beside) ∙ only q (subst (λ b. IsSome b) was there)))
   ]
 ]
 
 -- each of its blocks stands at a place that was taken
-pub new_among : (n : ℕ) (log between after : Log) (o : ℕ) (p : Place) (older : Option Place) → Put log.held between.held between.held o p older → DropsCheckpoint between.held o older after.held → TakesPlaces n log between
+pub new_among : (n : ℕ) (log between after : Log) (o : ℕ) (p : Place) (older : Option Place) → Put log.held between.held between.held o p older → DropsCheckpoint between.held o older after.held → OnlyOlder log.held o older → TakesPlaces n log between
     → (q : Place) → IsSome (of_checkpoints o after.held q) → Contains (take n log.ahead) q
-new_among n log between after o p older s d takes q there =
-    let new = new_is log.held between.held between.held after.held o p older s d q true (new_alone log.held between.held between.held after.held o p older s d q there) in
+new_among n log between after o p older s d only takes q there =
+    let new = new_is log.held between.held between.held after.held o p older s d q true (new_alone log.held between.held between.held after.held o p older s d only q there) in
     let same : after.held q ≡ between.held q = d.kept q (kept_new log.held between.held between.held o p older s q new) in
     takes.among q (s.put.fresh q new) (subst (λ (x : Option Stored). IsSome x) same (something o (after.held q) there))
   where

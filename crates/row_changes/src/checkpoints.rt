@@ -1,19 +1,23 @@
-ghost use Rattle.std.specs.Prelude.{◌≡◌, ℕ, ◌<◌, ◌≤◌, true, [], length, Some, IsSome, IfOk, OnErr, MatchResult};
+ghost use Rattle.std.specs.Prelude.{◌≡◌, ℕ, ◌<◌, ◌≤◌, true, [], length, Some, IsSome, IfSome, IfOk, OnErr, MatchResult};
 ghost use Rattle.s4_types.specs.declared.refusals.Refusal.TheVariants.{NoSpace};
 ghost use Rattle.block_log.specs.Taken.{TakesPlaces};
 ghost use Rattle.codec.specs.Checkpoint.{checkpoint_rules};
-ghost use Rattle.checkpoint.specs.Held.{checkpoint_held, checkpoint_blocks, OnlyCheckpointChanged, PutsCheckpoint};
-ghost use Rattle.time_read.specs.Rows.{IsRow, inode_of, checkpoint_places_of};
+ghost use Rattle.checkpoint.specs.Held.{checkpoint_held, checkpoint_blocks, HasItsBlocks, OnlyCheckpointChanged, PutsCheckpoint, DropsCheckpoint};
+ghost use Rattle.object_map.specs.Sides.{sides_after, place_of};
+ghost use Rattle.time_read.specs.Rows.{IsRow, entries_of, checkpoint_of, inode_of, checkpoint_places_of};
 ghost use Rattle.time_read.specs.Orderly.{IsOrderly};
 ghost use Rattle.row_changes.specs.Recent.{IsBy};
-ghost use Rattle.row_changes.specs.Moved.{IsMoved};
+ghost use Rattle.row_changes.specs.Moved.{IsMoved, DropsSides, places_gone};
 
 use block_log::Blocks;
-use block_log::laws::places_taken_add_up;
-use checkpoint::laws::{a_checkpoint_has_its_blocks, a_checkpoint_rests_on_its_blocks};
+use block_log::laws::{no_change_takes_no_place, places_taken_add_up};
+use checkpoint::laws::{
+    a_checkpoint_has_its_blocks, a_checkpoint_rests_on_its_blocks,
+    checkpoints_of_two_moments_share_no_block,
+};
 use checkpoint::{drop_checkpoint, write_checkpoint};
 use codec::{Checkpoint, Inode};
-use object_map::Row;
+use object_map::{Row, Side, Sides};
 use s4_types::{Moment, ObjectId, Ptr, Refusal};
 use undo_redo::laws::{a_run_has_one_end_and_one_beginning, the_inode_at_a_moment};
 
@@ -55,9 +59,23 @@ pub(crate) fn put_ahead<B: Blocks>(
     put(table, object, inode, moment).unwrap()
 }
 
-/// Appends an object's inode at a moment as its checkpoint, drops the one before, if there was one, and answers the
-/// object's row after that. The inode at each moment is as it was, and a row that was in order stays so. The row names no older
-/// checkpoints.
+/// Drops the checkpoint of an object that an older one of its row tells of, if there is one.
+fn drop_side<B: Blocks>(table: &mut B, object: ObjectId, side: Option<Side>)
+    requires held { HasItsBlocks (B.log table.old).held object (place_of side) }
+    ensures dropped { DropsCheckpoint (B.log table.old).held object (place_of side) (B.log table.new).held }
+    ensures named { (B.log table.new).named ≡ (B.log table.old).named }
+    ensures takes { TakesPlaces 0 (B.log table.old) (B.log table.new) }
+{
+    let place = match side {
+        Some(side) => Some(side.place),
+        None => None,
+    };
+    drop_checkpoint(table, object, place);
+}
+
+/// Appends an object's inode at a moment as its newest checkpoint, and answers the object's row after that. The one before, if
+/// there was one, becomes the last of the older ones; where that makes one too many, the first of them is dropped. The inode at
+/// each moment is as it was, and a row that was in order stays so.
 ///
 /// NoSpace exactly where fewer places are ahead than the checkpoint takes; then nothing has changed.
 pub fn record_checkpoint<B: Blocks>(
@@ -68,7 +86,7 @@ pub fn record_checkpoint<B: Blocks>(
     moment: Moment,
 ) -> Result<Row, Refusal>
     requires row { IsRow (B.log table.old).held object row.now }
-    requires sides { row.now.sides ≡ [] }
+    requires newer { IfSome row.now.checkpoint (λ _. row.now.checkpoint_moment < moment) }
     requires latest { IsBy (B.log table.old).held object row.now moment }
     requires inode { inode.now ≡ inode_of (B.log table.old).held object row.now moment }
     requires rules { checkpoint_rules (record { object = object; moment = moment; inode = inode.now }) ≡ true }
@@ -76,8 +94,8 @@ pub fn record_checkpoint<B: Blocks>(
     ensures latest { IfOk result (λ later. IsBy (B.log table.new).held object later moment) }
     ensures inode { IfOk result (λ later. (t : ℕ) → inode_of (B.log table.new).held object later t ≡ inode_of (B.log table.old).held object row.now t) }
     ensures orderly { IfOk result (λ later. (latest : ℕ) → moment ≤ latest → IsOrderly (B.log table.old).held object row.now latest → IsOrderly (B.log table.new).held object later latest) }
-    ensures fields { IfOk result (λ later. later ≡ record row.now { checkpoint = later.checkpoint; checkpoint_moment = moment }) }
-    ensures moved { IfOk result (λ later. IsMoved (B.log table.old).held (checkpoint_places_of (B.log table.old).held object row.now) (checkpoint_places_of (B.log table.new).held object later) (B.log table.new).held) }
+    ensures fields { IfOk result (λ later. later ≡ record row.now { checkpoint = later.checkpoint; checkpoint_moment = moment; sides = sides_after row.now }) }
+    ensures moved { IfOk result (λ later. IsMoved (B.log table.old).held (places_gone (B.log table.old).held object row.now) (checkpoint_places_of (B.log table.new).held object later) (B.log table.new).held) }
     ensures some { IfOk result (λ later. IsSome later.checkpoint) }
     ensures others { OnlyCheckpointChanged object (B.log table.old).held (B.log table.new).held }
     ensures takes { IfOk result (λ _. TakesPlaces (checkpoint_blocks inode.now) (B.log table.old) (B.log table.new)) }
@@ -89,14 +107,60 @@ pub fn record_checkpoint<B: Blocks>(
 {
     a_checkpoint_rests_on_its_blocks();
     a_checkpoint_has_its_blocks();
+    checkpoints_of_two_moments_share_no_block();
     places_taken_add_up();
     a_run_has_one_end_and_one_beginning();
     the_inode_at_a_moment();
     let place = put(table, object, inode, moment)?;
-    drop_checkpoint(table, object, row.checkpoint);
+    let mut next = *row;
+    let gone = next.set_aside();
+    drop_side(table, object, gone);
     Ok(Row {
         checkpoint: Some(place),
         checkpoint_moment: moment,
-        ..*row
+        ..next
     })
+}
+
+/// Drops the older checkpoints of an object's row.
+fn drop_each<B: Blocks>(table: &mut B, object: ObjectId, row: &Row)
+    requires row { IsRow (B.log table.old).held object row.now }
+    ensures dropped { DropsSides (B.log table.old).held object row.now.sides (B.log table.new).held }
+    ensures named { (B.log table.new).named ≡ (B.log table.old).named }
+    ensures takes { TakesPlaces 0 (B.log table.old) (B.log table.new) }
+{
+    a_checkpoint_rests_on_its_blocks();
+    a_checkpoint_has_its_blocks();
+    checkpoints_of_two_moments_share_no_block();
+    no_change_takes_no_place();
+    places_taken_add_up();
+    let sides = row.sides.as_slice();
+    for side in sides {
+        drop_checkpoint(table, object, Some(side.place));
+    }
+}
+
+/// Drops all older checkpoints of an object, and answers the row that names none of them. All else that the row tells is as it
+/// was: its entries, its newest checkpoint, and the inode at each moment.
+pub fn drop_sides<B: Blocks>(table: &mut B, object: ObjectId, row: &Row) -> Row
+    requires row { IsRow (B.log table.old).held object row.now }
+    ensures row { IsRow (B.log table.new).held object result }
+    ensures fields { result ≡ record row.now { sides = [] } }
+    ensures latest { (t : ℕ) → IsBy (B.log table.old).held object row.now t → IsBy (B.log table.new).held object result t }
+    ensures entries { entries_of (B.log table.new).held object result ≡ entries_of (B.log table.old).held object row.now }
+    ensures checkpoint { checkpoint_of (B.log table.new).held object result ≡ checkpoint_of (B.log table.old).held object row.now }
+    ensures inode { (t : ℕ) → inode_of (B.log table.new).held object result t ≡ inode_of (B.log table.old).held object row.now t }
+    ensures orderly { (latest : ℕ) → IsOrderly (B.log table.old).held object row.now latest → IsOrderly (B.log table.new).held object result latest }
+    ensures dropped { DropsSides (B.log table.old).held object row.now.sides (B.log table.new).held }
+    ensures named { (B.log table.new).named ≡ (B.log table.old).named }
+    ensures takes { TakesPlaces 0 (B.log table.old) (B.log table.new) }
+{
+    a_checkpoint_rests_on_its_blocks();
+    a_checkpoint_has_its_blocks();
+    checkpoints_of_two_moments_share_no_block();
+    drop_each(table, object, row);
+    Row {
+        sides: Sides::new(),
+        ..*row
+    }
 }

@@ -13,6 +13,6 @@ mod moves;
 mod rewrites;
 
 pub use changes::record_change;
-pub use checkpoints::record_checkpoint;
+pub use checkpoints::{drop_sides, record_checkpoint};
 pub use moves::{move_row, moved_blocks};
 pub use rewrites::{rewrite_row, rewritten_blocks};

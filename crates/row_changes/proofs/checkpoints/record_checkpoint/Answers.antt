@@ -1,8 +1,16 @@
-use Rattle.std.proofs.Common.{rules, ◌∙◌}
-use Rattle.checkpoint.specs.Held.{checkpoint_blocks}
-use Rattle.row_changes.proofs.Places.{CheckpointLaws, Put, older_there, older_still, checkpoint_alone, no_journal_yet, moved, put_only}
+use Rattle.std.proofs.Common.{◌≡◌, Option, Some, rules, sym, ap, subst, ◌∙◌}
+use Rattle.checkpoint.specs.Held.{checkpoint_blocks, checkpoint_places, of_checkpoints, places_named}
+use Rattle.object_map.specs.declared.map.Row.{Row}
+use Rattle.object_map.specs.declared.sides.Side.{Side}
+use Rattle.object_map.specs.Sides.{sides_after, place_of}
+use Rattle.time_read.specs.Rows.{IsRow, inode_of}
+use Rattle.time_read.specs.Orderly.{IsOrderly}
+use Rattle.row_changes.specs.Recent.{IsBy}
+use Rattle.row_changes.specs.Moved.{IsMoved}
+use Rattle.row_changes.proofs.Places.{CheckpointLaws, Put, older_still, no_journal_yet, moved, put_only}
 use Rattle.row_changes.proofs.RewrittenBlocks.{taken_first}
-use Rattle.row_changes.proofs.CheckpointLemmas.{Laws, written, written_row, written_by, written_inode}
+use Rattle.row_changes.proofs.SetAside.{Parted, parted_aside, goes_there, keeps}
+use Rattle.row_changes.proofs.CheckpointLemmas.{Laws, with_checkpoint, written, written_row, written_by, written_inode}
 use Rattle.row_changes.proofs.OrderKept.{written_orderly}
 use Rattle.row_changes.proofs.checkpoints.record_checkpoint.Goals as goal
 
@@ -10,12 +18,14 @@ pub returns : goal.returns
 returns g c =
     let log = g.B.Blocks.log c.args.table.now in
     let between = g.B.Blocks.log c.put.new.table in
-    let later = g.B.Blocks.log c.drop_checkpoint.new.table in
+    let later = g.B.Blocks.log c.drop_side.new.table in
     let o = c.args.object in
     let row = c.args.row.now in
     let place = c.in_ok-place.place in
     let inode = c.args.inode.now in
     let m = c.args.moment in
+    let gone = c.set_aside-gone.result in
+    let kept = sides_after row in
     let laws : Laws = record {
       end = c.a_run_has_one_end_and_one_beginning.ensures.end;
       beginning = c.a_run_has_one_end_and_one_beginning.ensures.beginning;
@@ -26,46 +36,57 @@ returns g c =
       places = c.a_checkpoint_rests_on_its_blocks.ensures.places;
       held = c.a_checkpoint_has_its_blocks.ensures.held;
     } in
-    let put : Put log.held between.held between.held o place row.checkpoint = record {
+    let parts : Parted log.held o row m gone kept =
+    parted_aside log.held o row c.set_aside-gone.new.self m gone c.requires.row c.requires.latest.checkpoint c.requires.newer c.set_aside-gone.ensures.row c.set_aside-gone.ensures.all in
+    let put : Put log.held between.held between.held o place (place_of gone) = record {
       laws = known;
-      there = older_there known log.held o row c.requires.row;
-      only = checkpoint_alone log.held o row c.requires.row c.requires.sides;
+      there = goes_there known log.held o row gone parts.goes;
       put = c.in_ok-place.ensures.growth;
       journal = no_journal_yet o between.held;
     } in
-    let dropped = c.drop_checkpoint.ensures.dropped in
-    let w = written log.held between.held later.held o row place inode m c.requires.row c.requires.sides c.requires.latest c.requires.inode put dropped c.in_ok-place.ensures.told in
+    let dropped = c.drop_side.ensures.dropped in
+    let kept_all = keeps c.checkpoints_of_two_moments_share_no_block.ensures log.held between.held later.held o row place m gone kept c.requires.row parts put dropped in
+    let w = written log.held between.held later.held o row place inode m (place_of gone) kept c.requires.row c.requires.latest c.requires.inode put dropped kept_all c.in_ok-place.ensures.told in
+    let next = with_checkpoint row place m kept in
+    let is : record (c.set_aside-gone.new.self) { checkpoint = Some place; checkpoint_moment = m } ≡ next = ap (λ (r : Row). record r { checkpoint = Some place; checkpoint_moment = m }) c.set_aside-gone.ensures.row in
+    let gives = sym is in
     record {
-      row = written_row log.held later.held o row place inode m laws w;
-      latest = written_by log.held later.held o row place inode m w;
-      inode = λ t. written_inode log.held later.held o row place inode m t laws w;
-      orderly = λ latest. written_orderly log.held later.held o row place inode m latest laws w;
-      fields = search rules;
-      moved = moved log.held between.held later.held o place row.checkpoint put dropped;
+      row = subst (λ (r : Row). IsRow later.held o r) gives (written_row log.held later.held o row place inode m kept laws w);
+      latest = subst (λ (r : Row). IsBy later.held o r m) gives (written_by log.held later.held o row place inode m kept w);
+      inode = λ t. subst (λ (r : Row). inode_of later.held o r t ≡ inode_of log.held o row t) gives (written_inode log.held later.held o row place inode m t kept laws w);
+      orderly = λ latest le was. subst (λ (r : Row). IsOrderly later.held o r latest) gives (written_orderly log.held later.held o row place inode m latest kept laws w le was);
+      fields = is;
+      moved = subst (λ (gone : Option Side). IsMoved log.held (places_named (of_checkpoints o log.held) (place_of gone)) (checkpoint_places later.held o place) later.held) c.set_aside-gone.ensures.gone
+          (moved log.held between.held later.held o place (place_of gone) put dropped);
       some = search rules;
       others = put_only log.held between.held later.held o place c.in_ok-place.ensures.growth dropped.others;
-      takes = taken_first log between later (checkpoint_blocks inode) c.places_taken_add_up.ensures c.in_ok-place.ensures.takes c.drop_checkpoint.ensures.takes;
-      named = c.drop_checkpoint.ensures.named ∙ c.put.ensures.named;
+      takes = taken_first log between later (checkpoint_blocks inode) c.places_taken_add_up.ensures c.in_ok-place.ensures.takes c.drop_side.ensures.takes;
+      named = c.drop_side.ensures.named ∙ c.put.ensures.named;
       answer = search rules;
       unchanged = search rules;
     }
 
-pub drop_checkpoint-requires : goal.drop_checkpoint-requires
-drop_checkpoint-requires g c =
+pub drop_side-requires : goal.drop_side-requires
+drop_side-requires g c =
     let log = g.B.Blocks.log c.args.table.now in
     let between = g.B.Blocks.log c.put.new.table in
     let o = c.args.object in
     let row = c.args.row.now in
+    let place = c.in_ok-place.place in
+    let m = c.args.moment in
+    let gone = c.set_aside-gone.result in
+    let kept = sides_after row in
     let known : CheckpointLaws = record {
       told = c.a_checkpoint_rests_on_its_blocks.ensures.told;
       places = c.a_checkpoint_rests_on_its_blocks.ensures.places;
       held = c.a_checkpoint_has_its_blocks.ensures.held;
     } in
-    let put : Put log.held between.held between.held o c.in_ok-place.place row.checkpoint = record {
+    let parts : Parted log.held o row m gone kept =
+    parted_aside log.held o row c.set_aside-gone.new.self m gone c.requires.row c.requires.latest.checkpoint c.requires.newer c.set_aside-gone.ensures.row c.set_aside-gone.ensures.all in
+    let put : Put log.held between.held between.held o place (place_of gone) = record {
       laws = known;
-      there = older_there known log.held o row c.requires.row;
-      only = checkpoint_alone log.held o row c.requires.row c.requires.sides;
+      there = goes_there known log.held o row gone parts.goes;
       put = c.in_ok-place.ensures.growth;
       journal = no_journal_yet o between.held;
     } in
-    record { held = older_still log.held between.held between.held o c.in_ok-place.place row.checkpoint put }
+    record { held = older_still log.held between.held between.held o place (place_of gone) put }

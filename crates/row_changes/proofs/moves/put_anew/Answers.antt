@@ -18,7 +18,6 @@ drop_checkpoint-requires g c =
     let s : Put log.held between.held between.held o c.put_ahead-place.result row.checkpoint = record {
       laws = known;
       there = older_there known log.held o row c.requires.row;
-      only = checkpoint_alone log.held o row c.requires.row c.requires.sides;
       put = c.put_ahead-place.ensures.growth;
       journal = no_journal_yet o between.held;
     } in
@@ -41,15 +40,15 @@ returns g c =
     let s : Put log.held between.held between.held o place row.checkpoint = record {
       laws = known;
       there = older_there known log.held o row c.requires.row;
-      only = checkpoint_alone log.held o row c.requires.row c.requires.sides;
       put = c.put_ahead-place.ensures.growth;
       journal = no_journal_yet o between.held;
     } in
     let d = c.drop_checkpoint.ensures.dropped in
+    let only = checkpoint_alone log.held o row c.requires.row c.requires.sides in
     record {
       told = told_on log.held between.held between.held after.held o place row.checkpoint (record { object = o; moment = row.checkpoint_moment; inode = inode }) s d c.put_ahead-place.ensures.told;
-      only = new_alone log.held between.held between.held after.held o place row.checkpoint s d;
-      places = new_among (checkpoint_blocks inode) log between after o place row.checkpoint s d c.put_ahead-place.ensures.takes;
+      only = new_alone log.held between.held between.held after.held o place row.checkpoint s d only;
+      places = new_among (checkpoint_blocks inode) log between after o place row.checkpoint s d only c.put_ahead-place.ensures.takes;
       others = put_only log.held between.held after.held o place c.put_ahead-place.ensures.growth d.others;
       takes = taken_first log between after (checkpoint_blocks inode) c.places_taken_add_up.ensures c.put_ahead-place.ensures.takes c.drop_checkpoint.ensures.takes;
       named = c.drop_checkpoint.ensures.named ∙ c.put_ahead-place.ensures.named;

@@ -38,7 +38,6 @@ drop_checkpoint-requires g c =
     let s : Put log.held between.held chained.held o place row.checkpoint = record {
       laws = known;
       there = older_there known log.held o row c.requires.row;
-      only = checkpoint_alone log.held o row c.requires.row c.requires.sides;
       put = c.put_ahead-place.ensures.growth;
       journal = c.move_chain-chain.ensures.others;
     } in
@@ -72,7 +71,6 @@ returns g c =
     let s : Put log.held between.held chained.held o place row.checkpoint = record {
       laws = known;
       there = older_there known log.held o row c.requires.row;
-      only = checkpoint_alone log.held o row c.requires.row c.requires.sides;
       put = c.put_ahead-place.ensures.growth;
       journal = c.move_chain-chain.ensures.others;
     } in
@@ -87,7 +85,7 @@ returns g c =
       by = c.requires.latest;
       created = c.requires.created;
       told = told_on log.held between.held chained.held after.held o place row.checkpoint (record { object = o; moment = m; inode = inode }) s d c.put_ahead-place.ensures.told;
-      only = new_alone log.held between.held chained.held after.held o place row.checkpoint s d;
+      only = new_alone log.held between.held chained.held after.held o place row.checkpoint s d (checkpoint_alone log.held o row c.requires.row c.requires.sides);
       holds = holds;
       found = c.a_chain_has_its_entries.ensures after.held (chain_of o (with_journal row place m head bytes filled)) entries holds;
     } in
