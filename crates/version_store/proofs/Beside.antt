@@ -15,6 +15,7 @@ use Rattle.time_read.specs.Undoings.{Undoing}
 use Rattle.object_map.specs.declared.map.Row.{Row}
 use Rattle.object_map.specs.Objects.{value_of, with_value, without_value, PutsAt}
 use Rattle.object_map.specs.Rows.{row_of, with_row, fresh_row}
+use Rattle.object_map.specs.Sides.{sides_after}
 use Rattle.time_read.specs.Rows.{entries_of, inode_of, last_inode}
 use Rattle.time_read.specs.declared.presents.Present.{Present}
 use Rattle.version_store.specs.Store.{StoreFields, IsStore}
@@ -61,7 +62,7 @@ entries_here s o row there = ap (entries_of_row s.log.held o) there
 -- a checkpoint leaves an object's entries, and those of all others
 pub all_stay : (s later : StoreFields) (o : ℕ) (row : Row) → row_of s.rows o ≡ Some row → IsCheckpointed s o row later → (q : ℕ) → entries_of_object later q ≡ entries_of_object s q
 all_stay s later o row there made q =
-    let next : Row = record row { checkpoint = Some made.place; checkpoint_moment = last_entry s.log.held o row; stamp = row.stamp + 1 } in
+    let next : Row = record row { checkpoint = Some made.place; checkpoint_moment = last_entry s.log.held o row; sides = sides_after row; stamp = row.stamp + 1 } in
     elim (cases_Bool (o == q)) [
       | inl is ↦ subst (λ (n : ℕ). entries_of_object later n ≡ entries_of_object s n) (eqb-true o q is)
           (entries_here later o next (made.put o ∙ row_here (row_of s.rows) o next)

@@ -19,11 +19,12 @@ use Rattle.inode.specs.Tidiness.{Tidy, PointersHeld}
 use Rattle.inode.specs.Laws.{OnlyItsBlocksMatter}
 use Rattle.object_map.specs.declared.map.Row.{Row}
 use Rattle.object_map.specs.Rows.{row_of, with_row}
+use Rattle.object_map.specs.Sides.{sides_after}
 use Rattle.time_read.specs.Rows.{IsRow, entries_of, inode_of, checkpoint_places_of}
 use Rattle.time_read.specs.Orderly.{IsOrderly}
 use Rattle.row_changes.specs.Recent.{IsBy}
-use Rattle.row_changes.specs.Moved.{IsMoved}
-use Rattle.version_store.specs.Store.{StoreFields, IsStore, IsObject, HasNoSides, DataIsNamed, pointers_of}
+use Rattle.row_changes.specs.Moved.{IsMoved, places_gone}
+use Rattle.version_store.specs.Store.{StoreFields, IsStore, IsObject, DataIsNamed, pointers_of}
 use Rattle.version_store.specs.Versions.{Stays, inode_by, inode_in, version_by, version_in}
 use Rattle.version_store.specs.Checkpointing.{last_entry, is_behind, IsCheckpointed}
 use Rattle.version_store.specs.private.CheckpointSteps.{CanCheckpoint, Checkpointed}
@@ -101,14 +102,18 @@ covers ascend s o row m store there is behind =
 -- what is known where a checkpoint can be written
 pub record Known (s : StoreFields) (o : ℕ) (row : Row) (i : Inode) (m : ℕ) : Type 0 where
   pub stands : IsRow s.log.held o row
-  pub alone : HasNoSides row
   pub by : IsBy s.log.held o row m
   pub inode : i ≡ inode_of s.log.held o row m
   pub rules : checkpoint_rules (record { object = o; moment = m; inode = i }) ≡ true
   pub upto : m ≤ s.latest
+  pub newer : IfSome row.checkpoint (λ _. row.checkpoint_moment < m)
   pub stamp : row.stamp + 1 < 2 ^ 64
   pub ahead : checkpoint_blocks (inode_of s.log.held o row m) ≤ length s.log.ahead
   pub some : 1 ≤ checkpoint_blocks (inode_of s.log.held o row m)
+
+if_there : {A : Type 0} (x : Option Place) → A → IfSome x (λ _. A)
+if_there None h = tt
+if_there (Some p) h = h
 
 pub known : GroupsAscend → RowsKeepTheMaking → CheckpointsTakeBlocks → (s : StoreFields) (o : ℕ) (row : Row) (i : Inode) (m : ℕ) → CanCheckpoint s o row i m → Known s o row i m
 known ascend making takes s o row i m can =
@@ -128,11 +133,11 @@ known ascend making takes s o row i m can =
     (holes_all (inode_of held o row m).size (inode_of held o row m).pointers tidy.holes) in
     record {
       stands = object.stands;
-      alone = object.alone;
       by = covered.by;
       inode = can.inode;
       rules = subst (λ (k : Inode). checkpoint_rules (record { object = o; moment = m; inode = k }) ≡ true) (sym can.inode) rules;
       upto = covered.upto;
+      newer = if_there row.checkpoint (omega (arith, is, behind));
       stamp = omega (arith, bound, most);
       ahead = omega (arith, free, same);
       some = takes (inode_of held o row m);
@@ -146,8 +151,8 @@ pub record Rewrites (s : StoreFields) (log : Log) (o : ℕ) (row next : Row) (m 
   pub by : IsBy log.held o next m
   pub inode : (t : ℕ) → inode_of log.held o next t ≡ inode_of s.log.held o row t
   pub orderly : (latest : ℕ) → m ≤ latest → IsOrderly s.log.held o row latest → IsOrderly log.held o next latest
-  pub fields : next ≡ record row { checkpoint = next.checkpoint; checkpoint_moment = m }
-  pub moved : IsMoved s.log.held (checkpoint_places_of s.log.held o row) (checkpoint_places_of log.held o next) log.held
+  pub fields : next ≡ record row { checkpoint = next.checkpoint; checkpoint_moment = m; sides = sides_after row }
+  pub moved : IsMoved s.log.held (places_gone s.log.held o row) (checkpoint_places_of log.held o next) log.held
   pub some : IsSome next.checkpoint
   pub others : OnlyCheckpointChanged o s.log.held log.held
   pub takes : TakesPlaces (checkpoint_blocks (inode_of s.log.held o row m)) s.log log
@@ -186,7 +191,6 @@ rewritten_object later_by matter s log o row next m n writes upto object =
     let is : (t : ℕ) → inode_of log.held o (record next { stamp = n }) t ≡ inode_of s.log.held o row t = λ t. stamped_inode log.held o next n t ∙ writes.inode t in
     record {
       stands = stamped_row log.held o next n writes.stands;
-      alone = ap (λ (r : Row). r.sides) writes.fields ∙ object.alone;
       by = record { entries = by.entries; checkpoint = by.checkpoint };
       led = moved_leads s.log.held log.held o row next (rewritten_moves s log o row next m writes object.stands)
           (λ t. subst (PointersHeld log.held o) (sym (writes.inode t)) (data_pointers o s.log.held log.held (inode_of s.log.held o row t) stays (object.pointers t)))
@@ -303,15 +307,15 @@ rewritten_made : LastInodeStays → (s : StoreFields) (rows : List (ℕ × Row))
     → IsCheckpointed s o row (next_store s rows log)
 rewritten_made last s rows log o row next i m can know writes put =
     let (p, at) = some_place next.checkpoint writes.some in
-    let is : record next { stamp = row.stamp + 1 } ≡ record row { checkpoint = Some p; checkpoint_moment = last_entry s.log.held o row; stamp = row.stamp + 1 } =
+    let is : record next { stamp = row.stamp + 1 } ≡ record row { checkpoint = Some p; checkpoint_moment = last_entry s.log.held o row; sides = sides_after row; stamp = row.stamp + 1 } =
     ap (λ (r : Row). record r { stamp = row.stamp + 1 }) writes.fields
-    ∙ ap (λ (c : Option Place). record row { checkpoint = c; checkpoint_moment = m; stamp = row.stamp + 1 }) at
-    ∙ ap (λ (k : ℕ). record row { checkpoint = Some p; checkpoint_moment = k; stamp = row.stamp + 1 }) can.moment in
+    ∙ ap (λ (c : Option Place). record row { checkpoint = c; checkpoint_moment = m; sides = sides_after row; stamp = row.stamp + 1 }) at
+    ∙ ap (λ (k : ℕ). record row { checkpoint = Some p; checkpoint_moment = k; sides = sides_after row; stamp = row.stamp + 1 }) can.moment in
     record {
       place = p;
       put = λ q. put q ∙ ap (λ (r : Row). with_row (row_of s.rows) o r q) is;
       written = rewritten_told last s log o row next i m p can know writes at;
-      moved = subst (λ (c : Option Place). IsMoved s.log.held (checkpoint_places_of s.log.held o row) (places_named (of_checkpoints o log.held) c) log.held) at writes.moved;
+      moved = subst (λ (c : Option Place). IsMoved s.log.held (places_gone s.log.held o row) (places_named (of_checkpoints o log.held) c) log.held) at writes.moved;
       others = writes.others;
       takes = subst (λ (j : Inode). TakesPlaces (checkpoint_blocks j) s.log log) (sym (last s.log.held o row m s.latest know.by know.upto)) writes.takes;
     }

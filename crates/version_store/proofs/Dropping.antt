@@ -19,7 +19,7 @@ use Rattle.checkpoint.specs.Held.{of_checkpoints, places_named, is_one_of, HasIt
 use Rattle.object_map.specs.declared.map.Row.{Row}
 use Rattle.object_map.specs.declared.sides.Side.{Side}
 use Rattle.time_read.specs.Rows.{IsRow, checkpoint_places_of, side_places}
-use Rattle.version_store.specs.Store.{IsLed, HasNothing, HasNoSides}
+use Rattle.version_store.specs.Store.{IsLed, HasNothing}
 use Rattle.version_store.specs.Replacing.{OnlyDataChanged, OtherObjectsStay}
 use Rattle.version_store.specs.private.Dropping.{is_at, leads_to, is_among}
 use Rattle.version_store.specs.private.Below.{OnePlace, CheckpointsHaveBlocks}
@@ -123,7 +123,7 @@ pub checkpoint_stands : CheckpointsHaveBlocks → (held later : Place → Option
 checkpoint_stands law held later o row stands only =
     subst (λ (view : Place → Option (List ℕ)). (q : Place) → is_one_of (places_named view row.checkpoint) q ≡ true → IsSome (view q)) (sym (only Checkpoint o refl)) (checkpoint_there law held o row stands)
 
-checkpoint_only : (held later : Place → Option Stored) (o : ℕ) (row : Row) → IsRow held o row → HasNoSides row → OnlyJournalChanged o held later → (p : Place) → IsSome (of_checkpoints o later p) → is_one_of (places_named (of_checkpoints o later) row.checkpoint) p ≡ true
+checkpoint_only : (held later : Place → Option Stored) (o : ℕ) (row : Row) → IsRow held o row → row.sides ≡ [] → OnlyJournalChanged o held later → (p : Place) → IsSome (of_checkpoints o later p) → is_one_of (places_named (of_checkpoints o later) row.checkpoint) p ≡ true
 checkpoint_only held later o row stands alone only =
     let places : checkpoint_places_of held o row ++ side_places (of_checkpoints o held) row.sides ≡ checkpoint_places_of held o row =
     ap (λ (sides : List Side). checkpoint_places_of held o row ++ side_places (of_checkpoints o held) sides) alone ∙ append-nil (checkpoint_places_of held o row) in
@@ -136,7 +136,7 @@ none_there None not = refl
 none_there (Some bytes) not = absurd (not refl)
 
 -- no checkpoint is left, once that of a row with no older ones was dropped
-pub checkpoint_gone : (held first second : Place → Option Stored) (o : ℕ) (row : Row) → IsRow held o row → HasNoSides row → OnlyJournalChanged o held first → DropsCheckpoint first o row.checkpoint second
+pub checkpoint_gone : (held first second : Place → Option Stored) (o : ℕ) (row : Row) → IsRow held o row → row.sides ≡ [] → OnlyJournalChanged o held first → DropsCheckpoint first o row.checkpoint second
     → (p : Place) → of_kind Checkpoint o second p ≡ None
 checkpoint_gone held first second o row stands alone journal dropped p = elim (cases_Bool (is_one_of (places_named (of_checkpoints o first) row.checkpoint) p)) [
   | inl is ↦ ap (seen_as Checkpoint o) (dropped.gone p is)
@@ -172,3 +172,16 @@ nothing_left o held first second later pointers kept none named journal_none jou
 pub others_left : (o : ℕ) (held first second later : Place → Option Stored) → OnlyJournalChanged o held first → OnlyCheckpointChanged o first second → OnlyDataChanged o second later → OtherObjectsStay o held later
 others_left o held first second later journal checkpoint others kind other beside =
     others kind other (and_right (same_kind Data kind) (o == other) beside) ∙ checkpoint kind other (and_right (same_kind Checkpoint kind) (o == other) beside) ∙ journal kind other (and_right (same_kind Journal kind) (o == other) beside)
+
+-- ---- older checkpoints are dropped before
+
+pub led_still : (o : ℕ) (held later : Place → Option Stored) (pointers : List (Option Place)) → OnlyCheckpointChanged o held later → All (IsLed held o) pointers → All (IsLed later o) pointers
+led_still o held later pointers checkpoints led =
+    leads_later held later o pointers (λ p there. subst (λ (view : Place → Option (List ℕ)). IsSome (view p)) (sym (checkpoints Data o refl)) there) led
+
+pub named_still : (o : ℕ) (held later : Place → Option Stored) (pointers : List (Option Place)) → OnlyCheckpointChanged o held later → ((p : Place) → IsSome (of_kind Data o held p) → Contains pointers (Some p))
+    → (p : Place) → IsSome (of_kind Data o later p) → Contains pointers (Some p)
+named_still o held later pointers checkpoints named p there = named p (subst (λ (view : Place → Option (List ℕ)). IsSome (view p)) (checkpoints Data o refl) there)
+
+pub others_still : (o : ℕ) (held between later : Place → Option Stored) → OnlyCheckpointChanged o held between → OtherObjectsStay o between later → OtherObjectsStay o held later
+others_still o held between later checkpoints others kind other beside = others kind other beside ∙ checkpoints kind other (and_right (same_kind Checkpoint kind) (o == other) beside)

@@ -71,7 +71,6 @@ stays_meaning same matter o held later row latest t stays object =
 pub stays_object : RowStays → RowInodeStays → IsByStays → OnlyItsBlocksMatter → (o : ℕ) (held later : Place → Option Stored) (row : Row) (latest : ℕ) → Stays o held later → IsObject held o row latest → IsObject later o row latest
 stays_object stands same by matter o held later row latest stays object = record {
   stands = stands held later o row stays.journal stays.checkpoints object.stands;
-  alone = object.alone;
   by = by held later o row latest stays.journal object.by;
   led = subst (Leads later o) (sym (same_pointers held later o row stays.journal stays.checkpoints)) (leads_later held later o (pointers_of held o row) (data_there o held later stays.kept) object.led);
   tidy = λ t. subst (Tidy (contents_of later)) (sym (stays_inode same o held later row t stays))

@@ -29,3 +29,4 @@ pub mod Replaced
 pub mod Cutting
 pub mod Stamps
 pub mod Opening
+pub mod Anew

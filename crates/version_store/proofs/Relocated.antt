@@ -7,34 +7,18 @@ use Rattle.block_log.specs.Taken.{TakesPlaces}
 use Rattle.block_log.specs.declared.kinds.BlockKind.TheVariants.{Journal, Checkpoint}
 use Rattle.codec.specs.Entry.{EntryFields, entries_length}
 use Rattle.codec.specs.declared.inodes.Inode.{Inode}
-use Rattle.undo_redo.specs.Runs.{inode_after}
 use Rattle.object_map.specs.declared.map.Row.{Row}
-use Rattle.time_read.specs.Rows.{IsRow, entries_of, checkpoint_of, first_of, inode_of}
+use Rattle.time_read.specs.Rows.{IsRow, entries_of, checkpoint_of, first_of}
 use Rattle.time_read.specs.Orderly.{IsFromTo, IsOrderly, IsOrderlyChain, BeginsDead}
-use Rattle.row_changes.specs.Moving.{checkpoint_with, first_with, moved_blocks, row_blocks}
-use Rattle.row_changes.specs.Rewritten.{OnlyMetadataChanged}
+use Rattle.row_changes.specs.Moving.{first_with, moved_blocks, row_blocks}
 use Rattle.chain_rewriting.specs.Renaming.{RenamingFields, renamed_entries}
 use Rattle.chain_rewriting.specs.RenamingLaws.{RenamedEntriesStayInOrder, RenamedEntriesTakeAsManyBytes}
 use Rattle.version_store.specs.declared.copies.CopiedBlock.{CopiedBlock}
 use Rattle.version_store.specs.private.Below.{RowStays, RowInodeStays, PlacesAddUp, HolesTellBlocks}
-use Rattle.version_store.specs.private.Relocating.{Relocates}
+use Rattle.version_store.specs.private.Relocating.{Moved, Relocates}
 use Rattle.version_store.proofs.Telling.{same_entries, same_checkpoint}
 use Rattle.version_store.proofs.RenamedJournal.{RenamingStands, kept_renamed, first_renamed, shown_renamed, checkpoint_renamed}
 use Rattle.version_store.proofs.RelocatedBlocks.{Dropped, moved_are, from_copy, copied_is, stayed_is, old_or_new, gone_is, only_data, others_are, same_blocks, behind, takes_all}
-
--- A journal was written in place of an object's: this inode in its checkpoint, if there is one, and these entries.
-pub record Moved (between moved : Log) (o : ℕ) (row next : Row) (kept : Option Inode) (entries : List EntryFields) : Type 0 where
-  pub stands : IsRow moved.held o next
-  pub journal : entries_of moved.held o next ≡ entries
-  pub checkpoint : checkpoint_of moved.held o next ≡ checkpoint_with o row kept
-  pub inode : (t : ℕ) → inode_of moved.held o next t ≡ inode_after (first_with o row kept entries) entries t
-  pub orderly : (latest : ℕ) → IsOrderlyChain row.created latest (first_with o row kept entries) entries → IsFromTo 1 latest row.created
-      → MatchOption row.checkpoint (BeginsDead entries) (λ p. IsFromTo row.created latest row.checkpoint_moment) → IsOrderly moved.held o next latest
-  pub fields : next ≡ record row { checkpoint = next.checkpoint; head = next.head; journal_bytes = entries_length entries; head_bytes = next.head_bytes }
-  pub metadata : OnlyMetadataChanged o between.held moved.held
-  pub takes : TakesPlaces (moved_blocks kept entries) between moved
-  pub chains : (p : Place) → IsSome (of_kind Journal o moved.held p) → Contains (take (moved_blocks kept entries) between.ahead) p
-  pub checkpoints : (p : Place) → IsSome (of_kind Checkpoint o moved.held p) → Contains (take (moved_blocks kept entries) between.ahead) p
 
 -- rows in order rest on their own blocks
 abbrev pub OrderRestsOnBlocks : Type 0
@@ -74,7 +58,7 @@ relocates laws order lengths holes row_stays inode_stays order_stays add_up befo
       inode = λ t. inode_stays moved.held later.held o t next journal checkpoints ∙ m.inode t ∙ shown_renamed laws.blank laws.undo laws.by laws.shown before.held o row r t;
       orderly = λ latest was. order_stays moved.held later.held o latest next journal checkpoints
           (m.orderly latest (order_renamed laws order before.held o latest row r was.chain) was.made (match_renamed r entries row.checkpoint (IsFromTo row.created latest row.checkpoint_moment) was.checkpoint));
-      fields = m.fields ∙ ap (λ n. record { created = row.created; checkpoint = next.checkpoint; checkpoint_moment = row.checkpoint_moment; head = next.head; journal_bytes = n; head_bytes = next.head_bytes; sides = row.sides; stamp = row.stamp }) bytes;
+      fields = m.fields ∙ ap (λ n. record { created = row.created; checkpoint = next.checkpoint; checkpoint_moment = row.checkpoint_moment; head = next.head; journal_bytes = n; head_bytes = next.head_bytes; sides = []; stamp = row.stamp }) bytes;
       moved = moved_are before between moved later o copies r d;
       copied = copied_is before between moved later o copies r d;
       gone = gone_is before between moved later o copies r d;

@@ -129,7 +129,6 @@ relocated_object laws before later o latest row next copies r w object =
     let moment : next.checkpoint_moment ≡ row.checkpoint_moment = ap (λ (x : Row). x.checkpoint_moment) w.fields in
     record {
       stands = stamped_row later.held o next (row.stamp + 1) w.stands;
-      alone = ap (λ (r : Row). r.sides) w.fields ∙ object.alone;
       by = record {
         entries = subst (λ (es : List EntryFields). AllBy latest es) (sym w.journal) (laws.within r (λ m. leb m latest) (entries_of before.held o row) object.by.entries);
         checkpoint = subst (λ m. m ≤ latest) (sym moment) object.by.checkpoint;

@@ -9,7 +9,7 @@ use Rattle.block_log.specs.Log.{Log, Stored, of_kind, same_kind}
 use Rattle.block_log.specs.declared.kinds.BlockKind.TheVariants.{Journal, Checkpoint, Data}
 use Rattle.codec.specs.Fields.{◌>>=◌}
 use Rattle.codec.specs.Checkpoint.{pointer_at, checkpoint_rules}
-use Rattle.codec.specs.Entry.{EntryFields, entries_length}
+use Rattle.codec.specs.Entry.{EntryFields}
 use Rattle.codec.specs.declared.inodes.Inode.{Inode}
 use Rattle.undo_redo.specs.Runs.{AllBy, Run, undone_all, entries_by, last_moment}
 use Rattle.checkpoint.specs.Held.{checkpoint_held}
@@ -19,9 +19,8 @@ use Rattle.inode.specs.Laws.{OnlyItsBlocksMatter}
 use Rattle.object_map.specs.declared.map.Row.{Row}
 use Rattle.object_map.specs.Objects.{with_value}
 use Rattle.object_map.specs.Rows.{row_of, with_row}
-use Rattle.time_read.specs.Rows.{IsRow, entries_of, checkpoint_of, inode_of}
-use Rattle.time_read.specs.Orderly.{IsOrderly, IsOrderlyChain, IsFromTo}
-use Rattle.row_changes.specs.Recent.{IsBy}
+use Rattle.time_read.specs.Rows.{entries_of, checkpoint_of, inode_of}
+use Rattle.time_read.specs.Orderly.{IsOrderly, IsFromTo}
 use Rattle.version_store.specs.Store.{StoreFields, IsStore, IsObject, DataIsNamed, IsLed, sides_told, pointers_kept, pointers_of}
 use Rattle.version_store.specs.Versions.{inode_by, inode_in, version_by, version_in}
 use Rattle.version_store.specs.Checkpointing.{last_entry}
@@ -29,7 +28,7 @@ use Rattle.version_store.specs.Replacing.{IsMomentOf, OnlyDataChanged, OtherObje
 use Rattle.row_changes.specs.Rewritten.{OnlyMetadataChanged, rewritten_blocks}
 use Rattle.version_store.specs.private.Below.{OnePlace, OrderlyStays, RowStays, RowInodeStays, IsByStays, IsByLater, CheckpointsTakeBlocks}
 use Rattle.version_store.specs.private.Dropping.{leads_to, is_among}
-use Rattle.version_store.specs.private.Replacing.{Replaces, AllAreDone, RunsEnd}
+use Rattle.version_store.specs.private.Replacing.{Rewrites, Replaces, AllAreDone, RunsEnd}
 use Rattle.version_store.proofs.Frames.{same_bytes, stays_object, inode_in_stays, version_in_stays}
 use Rattle.version_store.proofs.Telling.{same_entries, Leads, redone_cases, undone_cases, by_told, slot_there, led_there}
 use Rattle.version_store.proofs.Steps.{row_here, row_beside, row_cases, none_cases, stamped_row, stamped_inode}
@@ -127,16 +126,6 @@ swapped one held between later o row present entries kept named is others droppe
 
 -- ---- the object
 
--- what was recorded of the object: its next row stands, and tells these entries and this present inode
-pub record Rewrites (later : Log) (o : ℕ) (row next : Row) (present : Inode) (entries : List EntryFields) (m : ℕ) : Type 0 where
-  pub stands : IsRow later.held o next
-  pub by : IsBy later.held o next m
-  pub entries_are : entries_of later.held o next ≡ entries
-  pub inode : (t : ℕ) → inode_of later.held o next t ≡ inode_led present entries t
-  pub orderly : (latest : ℕ) → IsOrderlyChain row.created latest (undone_all entries present) entries → IsFromTo row.created latest m → IsFromTo 1 latest row.created → IsOrderly later.held o next latest
-  pub fields : next ≡ record row { checkpoint = next.checkpoint; checkpoint_moment = m; head = next.head; journal_bytes = entries_length entries; head_bytes = next.head_bytes }
-  pub some : IsSome next.checkpoint
-
 -- each inode that the entries lead to points to what is told
 led_told : (present : Inode) (entries : List EntryFields) (t k : ℕ) (p : Place) → pointer_at (inode_led present entries t) k ≡ Some p → Contains (pointers_told present entries) (Some p)
 led_told present entries t k p at = elim (redone_cases (entries_by t entries) (undone_all entries present) k p at) [
@@ -194,7 +183,6 @@ replaced_object later_by matter s log o row next present entries m can know swap
     let is : (t : ℕ) → inode_of log.held o (put_row row next) t ≡ inode_led present entries t = λ t. stamped_inode log.held o next (row.stamp + 1) t ∙ writes.inode t in
     record {
       stands = stamped_row log.held o next (row.stamp + 1) writes.stands;
-      alone = ap (λ (r : Row). r.sides) writes.fields ∙ know.object.alone;
       by = record { entries = by.entries; checkpoint = by.checkpoint };
       led = subst (Leads log.held o) (sym (pointers_are log o row next present entries m writes know.last)) (told_led log.held o (pointers_told present entries) there);
       tidy = λ t. subst (Tidy (contents_of log.held)) (sym (is t))
@@ -270,7 +258,7 @@ replaced_made : (s : StoreFields) (rows : List (ℕ × Row)) (log : Log) (o : �
 replaced_made s rows log o row next present entries m know is swaps writes takes put = record {
   next = put_row row next;
   rest = ap (λ (r : Row). record r { stamp = row.stamp + 1; journal_bytes = next.journal_bytes }) writes.fields
-      ∙ ap (λ (k : ℕ). record row { checkpoint = next.checkpoint; checkpoint_moment = k; head = next.head; journal_bytes = next.journal_bytes; head_bytes = next.head_bytes; stamp = row.stamp + 1 }) is;
+      ∙ ap (λ (k : ℕ). record row { checkpoint = next.checkpoint; checkpoint_moment = k; head = next.head; journal_bytes = next.journal_bytes; head_bytes = next.head_bytes; sides = []; stamp = row.stamp + 1 }) is;
   put = put;
   journal = writes.entries_are;
   pointers = pointers_are log o row next present entries m writes know.last;

@@ -124,7 +124,6 @@ blank_means contents m = refl
 fresh_object : FreshRowStands → FreshRowIsBy → FreshInode → IsByLater → BlankCount → BlankHoles → (held : Place → Option Stored) (o m latest : ℕ) → 1 ≤ o → HasNothing held o → IsObject held o (fresh_row m) latest
 fresh_object stands by fresh later count holes held o m latest numbered nothing = record {
   stands = stands held o m numbered (λ p. nothing Journal p) (λ p. nothing Checkpoint p);
-  alone = refl;
   by = later held o (fresh_row m) 0 latest (omega arith) (by held o m);
   led = subst (Leads held o) (sym (fresh_pointers held o m)) (All-nil (IsLed held o));
   tidy = λ t. subst (Tidy (contents_of held)) (sym (fresh held o m t)) (blank_tidy count holes (contents_of held) m);
@@ -192,7 +191,6 @@ pub record Records (held later : Place → Option Stored) (o : ℕ) (row next : 
   pub told : Leads held o (sides_told new)
   pub moments : AllAt m new
   pub made : next.created ≡ row.created
-  pub sides : next.sides ≡ row.sides
   pub row_stands : IsRow later o next
   pub by : IsBy later o next m
   pub inode : (t : ℕ) → inode_of later o next t ≡ cond (leb m t) i (inode_of held o row t)
@@ -243,7 +241,6 @@ recorded_object matter held later o row next i m latest n records object tidy po
     let is : (t : ℕ) → inode_of later o (record next { stamp = n }) t ≡ cond (leb m t) i (inode_of held o row t) = λ t. stamped_inode later o next n t ∙ records.inode t in
     record {
       stands = stamped_row later o next n records.row_stands;
-      alone = records.sides ∙ object.alone;
       by = record { entries = records.by.entries; checkpoint = records.by.checkpoint };
       led = grown_leads held later o row next records.new records.grows (leads_later held later o (pointers_of held o row) there object.led) (leads_later held later o (sides_told records.new) there records.told);
       tidy = λ t. subst (Tidy (contents_of later)) (sym (is t)) (either (Tidy (contents_of later)) m t i (inode_of held o row t) (tidy_later i pointers tidy) (tidy_later (inode_of held o row t) (object.pointers t) (object.tidy t)));
@@ -272,7 +269,7 @@ recorded_beside s later o i only store q r other e p held =
     ]
 
 by_later : IsByLater → (held : Place → Option Stored) (o : ℕ) (row : Row) (latest m : ℕ) → latest ≤ m → IsObject held o row latest → IsObject held o row m
-by_later later held o row latest m le object = record { stands = object.stands; alone = object.alone; by = later held o row latest m le object.by; led = object.led; tidy = object.tidy; pointers = object.pointers }
+by_later later held o row latest m le object = record { stands = object.stands; by = later held o row latest m le object.by; led = object.led; tidy = object.tidy; pointers = object.pointers }
 
 -- what holds across rows is kept: the object's chain has entries of the moment besides, and no other chain is changed
 recorded_across : (s later : StoreFields) (o : ℕ) (row next : Row) (i : Inode) (m n : ℕ) → Records s.log.held later.log.held o row next i m → row_of s.rows o ≡ Some row → IsOpenFor o i s → s.latest < m

@@ -77,7 +77,6 @@ records_of s later o i j m row next tell at can there orderly made kept stands b
       told = between_led s.log.held o i j (entries_between i j m) before can.pointers (tell i j m);
       moments = at i j m;
       made = ap (λ (r : Row). r.created) rest;
-      sides = ap (λ (r : Row). r.sides) rest;
       row_stands = stands;
       by = by;
       inode = inode;

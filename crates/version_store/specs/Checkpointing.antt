@@ -9,8 +9,9 @@ use Rattle.undo_redo.specs.Runs.{last_moment}
 use Rattle.checkpoint.specs.Held.{checkpoint_held, checkpoint_places, checkpoint_blocks, OnlyCheckpointChanged}
 use Rattle.object_map.specs.declared.map.Row.{Row}
 use Rattle.object_map.specs.Rows.{row_of, with_row}
-use Rattle.time_read.specs.Rows.{entries_of, inode_of, checkpoint_places_of}
-use Rattle.row_changes.specs.Moved.{IsMoved}
+use Rattle.object_map.specs.Sides.{sides_after}
+use Rattle.time_read.specs.Rows.{entries_of, inode_of}
+use Rattle.row_changes.specs.Moved.{IsMoved, places_gone}
 use Rattle.version_store.specs.Store.{StoreFields}
 use Rattle.version_store.specs.Costs.{room}
 
@@ -32,13 +33,14 @@ refusal_for space t held o (Some row) = if is_behind held o row && nat_lt space 
 abbrev pub checkpoint_refusal : StoreFields → ℕ → Option Refusal
 checkpoint_refusal s o = refusal_for (room s) s.latest s.log.held o (row_of s.rows o)
 
--- The present inode of an object was written as its checkpoint, with the moment of its last entry and in place of the one
--- before; the object's row names it and was changed once more. All else is as it was, but for the places that it took.
+-- The present inode of an object was written as its newest checkpoint, with the moment of its last entry. The one before is
+-- the last of the older ones, and where that makes one too many, the first of them was dropped. The object's row names them
+-- and was changed once more. All else is as it was, but for the places that it took.
 pub record IsCheckpointed (s : StoreFields) (o : ℕ) (row : Row) (later : StoreFields) : Type 0 where
   pub place : Place
-  pub put : (q : ℕ) → row_of later.rows q ≡ with_row (row_of s.rows) o (record row { checkpoint = Some place; checkpoint_moment = last_entry s.log.held o row; stamp = row.stamp + 1 }) q
+  pub put : (q : ℕ) → row_of later.rows q ≡ with_row (row_of s.rows) o (record row { checkpoint = Some place; checkpoint_moment = last_entry s.log.held o row; sides = sides_after row; stamp = row.stamp + 1 }) q
   pub written : checkpoint_held later.log.held o place ≡ Some (record { object = o; moment = last_entry s.log.held o row; inode = inode_of s.log.held o row s.latest })
-  pub moved : IsMoved s.log.held (checkpoint_places_of s.log.held o row) (checkpoint_places later.log.held o place) later.log.held
+  pub moved : IsMoved s.log.held (places_gone s.log.held o row) (checkpoint_places later.log.held o place) later.log.held
   pub others : OnlyCheckpointChanged o s.log.held later.log.held
   pub takes : TakesPlaces (checkpoint_blocks (inode_of s.log.held o row s.latest)) s.log later.log
 

@@ -62,12 +62,12 @@ renamed_checkpoint r c = record c { inode = renamed_inode r c.inode }
 
 -- An object of this row was relocated: its copied blocks stand at the first places ahead, in order, and no block is held
 -- where they stood. Its checkpoint, if it has one, and its journal were written anew, as of the moments that they had, with
--- each pointer to a copied block renamed, and its row was changed once more. Each block of the object that is held is a data
--- block that stood at its place before, or stands at one of so many places that were taken; all other rows and blocks are as
--- they were, and so is the last change.
+-- each pointer to a copied block renamed; no older checkpoint is left, and its row was changed once more. Each block of the
+-- object that is held is a data block that stood at its place before, or stands at one of so many places that were taken; all
+-- other rows and blocks are as they were, and so is the last change.
 pub record IsRelocated (s : StoreFields) (o : ℕ) (row : Row) (copies : List CopiedBlock) (later : StoreFields) : Type 0 where
   pub next : Row
-  pub rest : next ≡ record row { checkpoint = next.checkpoint; head = next.head; head_bytes = next.head_bytes; stamp = row.stamp + 1 }
+  pub rest : next ≡ record row { checkpoint = next.checkpoint; head = next.head; head_bytes = next.head_bytes; sides = []; stamp = row.stamp + 1 }
   pub put : (q : ℕ) → row_of later.rows q ≡ with_row (row_of s.rows) o next q
   pub journal : entries_of later.log.held o next ≡ renamed_entries (renaming_by copies s.log.ahead) (entries_of s.log.held o row)
   pub kept : checkpoint_of later.log.held o next ≡ option_map (renamed_checkpoint (renaming_by copies s.log.ahead)) (checkpoint_of s.log.held o row)

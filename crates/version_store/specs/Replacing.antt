@@ -1,5 +1,5 @@
 -- What a store is once an object's row was removed, or its journal was replaced.
-use Rattle.std.specs.Prelude.{◌≡◌, ℕ, ◌+◌, ◌<◌, ◌≤◌, ◌==◌, ◌&&◌, ◌++◌, true, false, List, length, Option, Some, IsSome}
+use Rattle.std.specs.Prelude.{◌≡◌, ℕ, ◌+◌, ◌<◌, ◌≤◌, ◌==◌, ◌&&◌, ◌++◌, true, false, List, [], length, Option, Some, IsSome}
 use Rattle.std.specs.List.{Contains}
 use Rattle.s4_types.specs.Pointer.{Place}
 use Rattle.s4_types.specs.declared.limits.TheConstants.{CHAIN_ENTRY_BYTES}
@@ -67,7 +67,7 @@ pub record CanReplace (s : StoreFields) (o : ℕ) (row : Row) (present : Inode) 
   pub pointers : (p : Place) → Contains (pointers_told present entries) (Some p) → Contains (pointers_of s.log.held o row) (Some p)
 
 -- The journal of an object of this row was replaced by these entries, and its present inode is this one. A checkpoint was
--- written, with the moment of the entry that was the last before. The row was changed once more. Of its data the blocks
+-- written, with the moment of the entry that was the last before; no older one is left. The row was changed once more. Of its data the blocks
 -- that these point to are as they were, and no other is held. All other rows and blocks are as they were, so many places were
 -- taken, and the last change is the same.
 pub record IsReplaced (s : StoreFields) (o : ℕ) (row : Row) (present : Inode) (entries : List EntryFields) (later : StoreFields) : Type 0 where
@@ -78,6 +78,7 @@ pub record IsReplaced (s : StoreFields) (o : ℕ) (row : Row) (present : Inode) 
     head = next.head;
     journal_bytes = next.journal_bytes;
     head_bytes = next.head_bytes;
+    sides = [];
     stamp = row.stamp + 1;
   }
   pub put : (q : ℕ) → row_of later.rows q ≡ with_row (row_of s.rows) o next q

@@ -57,16 +57,11 @@ pointers_of held o row = pointers_kept (checkpoint_of held o row) ++ sides_told 
 abbrev pub IsLed : (Place → Option Stored) → ℕ → Option Place → Type 0
 IsLed held o pointer = IfSome pointer (λ p. IsSome (of_kind Data o held p))
 
--- a row names no older checkpoints: no call keeps one
-abbrev pub HasNoSides : Row → Type 0
-HasNoSides row = row.sides ≡ []
-
--- An object of this row is held: the row names no older checkpoints, nothing that the row tells of is later than the last change, each pointer that the row
+-- An object of this row is held: nothing that the row tells of is later than the last change, each pointer that the row
 -- leads to is a hole or leads to a data block of the object, and at each moment the object's inode is tidy, and its
 -- pointers lead to such blocks too.
 pub record IsObject (held : Place → Option Stored) (o : ℕ) (row : Row) (latest : ℕ) : Type 0 where
   pub stands : IsRow held o row
-  pub alone : HasNoSides row
   pub by : IsBy held o row latest
   pub led : All (IsLed held o) (pointers_of held o row)
   pub tidy : (t : ℕ) → Tidy (contents_of held) (inode_of held o row t)

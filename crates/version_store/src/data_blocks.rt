@@ -9,7 +9,7 @@ ghost use Rattle.block_log.specs.Log.{of_kind, without};
 ghost use Rattle.block_log.specs.Taken.{TakesPlaces};
 ghost use Rattle.journal_chain.specs.Chain.{OnlyJournalChanged};
 ghost use Rattle.time_read.specs.Rows.{IsRow, checkpoint_of};
-ghost use Rattle.version_store.specs.Store.{IsLed, HasNothing, HasNoSides, NamesNoneTwice, sides_of, sides_told, pointers_kept, pointers_of};
+ghost use Rattle.version_store.specs.Store.{IsLed, HasNothing, NamesNoneTwice, sides_of, sides_told, pointers_kept, pointers_of};
 ghost use Rattle.version_store.specs.Replacing.{OnlyDataChanged, OtherObjectsStay};
 ghost use Rattle.version_store.specs.private.Dropping.{is_at, leads_to, is_among};
 
@@ -23,6 +23,7 @@ use checkpoint::{drop_checkpoint, read_checkpoint};
 use codec::Entry;
 use journal_chain::Chain;
 use object_map::Row;
+use row_changes::drop_sides;
 use s4_types::{ObjectId, Ptr, Refusal};
 use std::alloc::Global;
 use std::collections::HashSet;
@@ -235,7 +236,6 @@ pub(crate) fn drop_all<B: Blocks>(
     pointers: &[Option<Ptr>],
 )
     requires row { IsRow (B.log table.old).held object row.now }
-    requires sides { HasNoSides row.now }
     requires led { All (IsLed (B.log table.old).held object) pointers.now }
     requires named { (p : Place) → IsSome (of_kind Data object (B.log table.old).held p) → Contains pointers.now (Some p) }
     requires once { NamesNoneTwice (B.log table.old) }
@@ -246,7 +246,8 @@ pub(crate) fn drop_all<B: Blocks>(
 {
     a_checkpoint_has_its_blocks();
     places_taken_add_up();
-    drop_journal(table, object, row);
-    drop_checkpoint(table, object, row.checkpoint);
+    let bare = drop_sides(table, object, row);
+    drop_journal(table, object, &bare);
+    drop_checkpoint(table, object, bare.checkpoint);
     drop_data(table, object, pointers, &HashSet::new(alloc));
 }

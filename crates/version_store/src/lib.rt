@@ -19,6 +19,7 @@ mod named_table;
 mod opened;
 mod relocated_blocks;
 mod store;
+mod written_anew;
 
 pub use copies::CopiedBlock;
 pub use named_table::NamedTable;

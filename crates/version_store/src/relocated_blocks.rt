@@ -7,11 +7,12 @@ ghost use Rattle.time_read.specs.Orderly.{IsOrderly};
 ghost use Rattle.chain_rewriting.specs.CleaningLaws.{TellsWithin};
 ghost use Rattle.chain_rewriting.specs.Renaming.{renamed_entries, renamed_inode};
 ghost use Rattle.chain_rewriting.specs.Apart.{HasDistinctPlaces, IsNotNew};
-ghost use Rattle.version_store.specs.Store.{IsLed, HasNoSides, NamesNoneTwice, pointers_of};
+ghost use Rattle.version_store.specs.Store.{IsLed, NamesNoneTwice, pointers_of};
 ghost use Rattle.version_store.specs.Relocating.{AreCopies, blocks_relocated};
 ghost use Rattle.version_store.specs.private.Relocating.{Relocates};
 
 use crate::copies::{CopiedBlock, append_copies, drop_copies};
+use crate::written_anew::move_blocks;
 use block_log::Blocks;
 use block_log::laws::{one_place_has_one_name, places_taken_add_up};
 use chain_rewriting::Renaming;
@@ -23,7 +24,6 @@ use chain_rewriting::renaming_laws::{
 use checkpoint::laws::a_checkpoint_takes_its_blocks;
 use codec::Inode;
 use object_map::Row;
-use row_changes::move_row;
 use s4_types::ObjectId;
 use time_read::ObjectJournal;
 use time_read::laws::{a_row_is_its_own_blocks, an_orderly_row_stays};
@@ -56,8 +56,8 @@ pub(crate) struct Relocated {
     pub(crate) renaming: Renaming,
 }
 
-/// Appends copies of an object's data blocks where there is room, renames the pointers of its journal and its checkpoint, writes
-/// these at other places, and drops what was copied.
+/// Appends copies of an object's data blocks where there is room, renames the pointers of its journal and its newest checkpoint,
+/// writes these at other places, and drops what was copied, and all older checkpoints.
 pub(crate) fn relocate_blocks<B: Blocks>(
     table: &mut B,
     object: ObjectId,
@@ -66,7 +66,6 @@ pub(crate) fn relocate_blocks<B: Blocks>(
     copies: &[CopiedBlock],
 ) -> Relocated
     requires row { IsRow (B.log table.old).held object row.now }
-    requires sides { HasNoSides row.now }
     requires orderly { (latest : ℕ) × IsOrderly (B.log table.old).held object row.now latest }
     requires led { All (IsLed (B.log table.old).held object) (pointers_of (B.log table.old).held object row.now) }
     requires journal { IsJournalOf (B.log table.old).held object row.now journal.old }
@@ -93,9 +92,7 @@ pub(crate) fn relocate_blocks<B: Blocks>(
     let renaming = append_copies(table, object, copies);
     rename(journal, &renaming);
     let checkpoint = journal.checkpoint.as_ref();
-    let Ok(row) = move_row(table, object, row, checkpoint, journal.entries.as_slice()) else {
-        unreachable!()
-    };
+    let row = move_blocks(table, object, row, checkpoint, journal.entries.as_slice());
     drop_copies(table, copies);
     Relocated { row, renaming }
 }

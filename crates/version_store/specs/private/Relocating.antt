@@ -1,15 +1,20 @@
 -- What is appended for copies, and what becomes of an object's blocks. No public clause cites this file.
-use Rattle.std.specs.Prelude.{◌≡◌, ◌⊎◌, ◌↔◌, ◌==◌, if◌then◌else◌, ℕ, suc, Bool, true, List, length, take, Option, Some, None, IsSome, option_map}
+use Rattle.std.specs.Prelude.{◌≡◌, ◌⊎◌, ◌↔◌, ◌==◌, if◌then◌else◌, ℕ, suc, Bool, true, List, [], length, take, Option, Some, None, IsSome, MatchOption, option_map}
 use Rattle.std.specs.List.{Contains, list_any}
 use Rattle.s4_types.specs.Pointer.{Place}
 use Rattle.s4_types.specs.declared.limits.TheConstants.{PAYLOAD_BLOCKS}
-use Rattle.block_log.specs.declared.kinds.BlockKind.TheVariants.{Journal, Data}
+use Rattle.block_log.specs.declared.kinds.BlockKind.TheVariants.{Journal, Checkpoint, Data}
 use Rattle.block_log.specs.Log.{Log, Stored, of_kind, same_place}
 use Rattle.block_log.specs.Taken.{TakesPlaces}
 use Rattle.checkpoint.specs.Held.{of_checkpoints}
+use Rattle.codec.specs.Entry.{EntryFields, entries_length}
+use Rattle.codec.specs.declared.inodes.Inode.{Inode}
+use Rattle.undo_redo.specs.Runs.{inode_after}
 use Rattle.object_map.specs.declared.map.Row.{Row}
 use Rattle.time_read.specs.Rows.{IsRow, entries_of, checkpoint_of, inode_of}
-use Rattle.time_read.specs.Orderly.{IsOrderly}
+use Rattle.time_read.specs.Orderly.{BeginsDead, IsFromTo, IsOrderlyChain, IsOrderly}
+use Rattle.row_changes.specs.Moving.{checkpoint_with, first_with, moved_blocks}
+use Rattle.row_changes.specs.Rewritten.{OnlyMetadataChanged}
 use Rattle.inode.specs.Growth.{data_block}
 use Rattle.chain_rewriting.specs.Renaming.{RenamingFields, move_of, new_place, renamed_entries, renamed_inode}
 use Rattle.chain_rewriting.specs.Apart.{HasDistinctPlaces}
@@ -18,6 +23,21 @@ use Rattle.version_store.specs.Store.{StoreFields, IsStore}
 use Rattle.version_store.specs.Versions.{inode_in, version_in}
 use Rattle.version_store.specs.Replacing.{OnlyDataChanged, OtherObjectsStay}
 use Rattle.version_store.specs.Relocating.{IsCopied, IsRelocated, blocks_relocated, frame_of_copies, with_moves, renaming_by, renamed_checkpoint, blocks_ascend_from}
+
+-- A journal was written in place of an object's: this inode in its checkpoint, if there is one, and these entries. The next
+-- row names no older checkpoints.
+pub record Moved (between moved : Log) (o : ℕ) (row next : Row) (kept : Option Inode) (entries : List EntryFields) : Type 0 where
+  pub stands : IsRow moved.held o next
+  pub journal : entries_of moved.held o next ≡ entries
+  pub checkpoint : checkpoint_of moved.held o next ≡ checkpoint_with o row kept
+  pub inode : (t : ℕ) → inode_of moved.held o next t ≡ inode_after (first_with o row kept entries) entries t
+  pub orderly : (latest : ℕ) → IsOrderlyChain row.created latest (first_with o row kept entries) entries → IsFromTo 1 latest row.created
+      → MatchOption row.checkpoint (BeginsDead entries) (λ p. IsFromTo row.created latest row.checkpoint_moment) → IsOrderly moved.held o next latest
+  pub fields : next ≡ record row { checkpoint = next.checkpoint; head = next.head; journal_bytes = entries_length entries; head_bytes = next.head_bytes; sides = [] }
+  pub metadata : OnlyMetadataChanged o between.held moved.held
+  pub takes : TakesPlaces (moved_blocks kept entries) between moved
+  pub chains : (p : Place) → IsSome (of_kind Journal o moved.held p) → Contains (take (moved_blocks kept entries) between.ahead) p
+  pub checkpoints : (p : Place) → IsSome (of_kind Checkpoint o moved.held p) → Contains (take (moved_blocks kept entries) between.ahead) p
 
 -- a copy of a block of this number is held at a place
 pub record IsCopyAt (o : ℕ) (copies : List CopiedBlock) (now : Log) (n : ℕ) (q : Place) : Type 0 where
@@ -65,7 +85,7 @@ pub record Relocates (before : Log) (o : ℕ) (row : Row) (copies : List CopiedB
   pub kept : checkpoint_of later.held o next ≡ option_map (renamed_checkpoint r) (checkpoint_of before.held o row)
   pub inode : (t : ℕ) → inode_of later.held o next t ≡ renamed_inode r (inode_of before.held o row t)
   pub orderly : (latest : ℕ) → IsOrderly before.held o row latest → IsOrderly later.held o next latest
-  pub fields : next ≡ record row { checkpoint = next.checkpoint; head = next.head; head_bytes = next.head_bytes }
+  pub fields : next ≡ record row { checkpoint = next.checkpoint; head = next.head; head_bytes = next.head_bytes; sides = [] }
   pub moved : (p : Place) → IsSome (new_place r p) ↔ IsCopied copies p
   pub copied : (p q : Place) → new_place r p ≡ Some q → IsSome (of_kind Data o before.held p) × (of_kind Data o later.held q ≡ of_kind Data o before.held p)
   pub gone : (p : Place) → IsCopied copies p → later.held p ≡ None

@@ -1,11 +1,15 @@
 -- What the removal of an object's row leaves of a whole store, and what its replacement does. No public clause cites this file.
-use Rattle.std.specs.Prelude.{◌≡◌, ℕ, ◌==◌, ◌++◌, true, if◌then◌else◌, List, Some, None}
+use Rattle.std.specs.Prelude.{◌≡◌, ℕ, ◌==◌, ◌++◌, true, if◌then◌else◌, List, [], Some, None, IsSome}
 use Rattle.s4_types.specs.declared.versions.Version.TheVariants.{Absent}
 use Rattle.codec.specs.declared.inodes.Inode.{Inode}
-use Rattle.codec.specs.Entry.{EntryFields}
+use Rattle.block_log.specs.Log.{Log}
+use Rattle.codec.specs.Entry.{EntryFields, entries_length}
 use Rattle.undo_redo.specs.Runs.{Run, AllBy, redone_all, undone_all, inode_after, entries_by, entries_past, moments_ascend_from}
 use Rattle.undo_redo.specs.Groups.{grouped}
 use Rattle.object_map.specs.declared.map.Row.{Row}
+use Rattle.time_read.specs.Rows.{IsRow, entries_of, inode_of}
+use Rattle.time_read.specs.Orderly.{IsFromTo, IsOrderly, IsOrderlyChain}
+use Rattle.row_changes.specs.Recent.{IsBy}
 use Rattle.inode.specs.Contents.{contents_of, meaning}
 use Rattle.version_store.specs.Store.{StoreFields, IsStore}
 use Rattle.version_store.specs.Versions.{inode_in, version_in}
@@ -24,6 +28,16 @@ pub record Replaces (s : StoreFields) (o : ℕ) (row : Row) (present : Inode) (e
   pub replaced : IsReplaced s o row present entries later
   pub inodes : (q t : ℕ) → inode_in later q t ≡ (if o == q then Some (inode_led present entries t) else inode_in s q t)
   pub versions : (q t : ℕ) → version_in later q t ≡ (if o == q then meaning (contents_of s.log.held) (inode_led present entries t) else version_in s q t)
+
+-- The object's next row stands, and tells these entries and this present inode; it names no older checkpoints.
+pub record Rewrites (later : Log) (o : ℕ) (row next : Row) (present : Inode) (entries : List EntryFields) (m : ℕ) : Type 0 where
+  pub stands : IsRow later.held o next
+  pub by : IsBy later.held o next m
+  pub entries_are : entries_of later.held o next ≡ entries
+  pub inode : (t : ℕ) → inode_of later.held o next t ≡ inode_led present entries t
+  pub orderly : (latest : ℕ) → IsOrderlyChain row.created latest (undone_all entries present) entries → IsFromTo row.created latest m → IsFromTo 1 latest row.created → IsOrderly later.held o next latest
+  pub fields : next ≡ record row { checkpoint = next.checkpoint; checkpoint_moment = m; head = next.head; journal_bytes = entries_length entries; head_bytes = next.head_bytes; sides = [] }
+  pub some : IsSome next.checkpoint
 
 -- each entry is done up to the moment of the last
 abbrev pub AllAreDone : Type 0

@@ -54,7 +54,7 @@ impl<B: Blocks> Store<B> {
         }
     }
 
-    /// Writes an object's inode as its checkpoint, with the moment of the last entry.
+    /// Writes an object's inode as its newest checkpoint, with the moment of the last entry.
     fn put_checkpoint(&mut self, object: ObjectId, row: &Row, inode: &Inode, moment: Moment)
         requires { CanCheckpoint (fields_of B.log self.old) object row.now inode.now moment }
         ensures { Checkpointed (fields_of B.log self.old) object row.now (fields_of B.log self.new) }
@@ -67,8 +67,8 @@ impl<B: Blocks> Store<B> {
     }
 
     /// Sees to it that an object's checkpoint isn't older than its last journal entry: where it is, the object's present
-    /// inode is written as its checkpoint with the moment of that entry, in place of the older one, which takes room;
-    /// else nothing is written. Each inode and each version is as it was, whatever is answered. An object that is deleted
+    /// inode is written as its checkpoint with the moment of that entry, which takes room; the one before is kept as the last of at
+    /// most `SIDES` older ones, of which the first may be dropped for it. Else nothing is written. Each inode and each version is as it was, whatever is answered. An object that is deleted
     /// and has a row still is like any other.
     ///
     /// NoObject exactly where the object has no row; else NoSpace exactly where the checkpoint has to be written and takes

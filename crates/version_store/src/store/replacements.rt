@@ -17,10 +17,11 @@ use crate::data_blocks::{drop_all, drop_data, places_told, pointers_of};
 use crate::laws::what_changes_rest_on;
 use crate::store::Store;
 use crate::store::checkpoints::last_entry;
+use crate::written_anew::rewrite_blocks;
 use block_log::Blocks;
 use codec::{Entry, Inode};
 use object_map::Row;
-use row_changes::{rewrite_row, rewritten_blocks};
+use row_changes::rewritten_blocks;
 use s4_types::{ObjectId, Ptr, Refusal};
 use std::collections::HashSet;
 use time_read::{Present, index_of};
@@ -61,7 +62,7 @@ impl<B: Blocks> Store<B> {
         self.objects.remove(object);
     }
 
-    /// An object's row goes, if it has one, and with it its journal, its checkpoint and its data: no block of the object is held
+    /// An object's row goes, if it has one, and with it its journal, its checkpoints and its data: no block of the object is held
     /// any more. All other objects are as they were, and no place is taken.
     ///
     /// NoMemory alone, where the memory for the list of its data blocks is refused; then nothing has changed.
@@ -106,9 +107,7 @@ impl<B: Blocks> Store<B> {
         a_run_has_one_end_and_one_beginning();
         let moment = last_entry(&mut self.table, object, row);
         drop_data(&mut self.table, object, pointers, kept);
-        let Ok(next) = rewrite_row(&mut self.table, object, row, present, moment, entries) else {
-            unreachable!()
-        };
+        let next = rewrite_blocks(&mut self.table, object, row, present, moment, entries);
         let beside = Present {
             inode: *present,
             index: index_of(self.alloc, entries),
@@ -139,8 +138,8 @@ impl<B: Blocks> Store<B> {
     }
 
     /// An object's journal becomes these entries, the oldest first, and its present inode this one, which is written as its
-    /// checkpoint with the moment of the last entry that stood. Its data blocks that nothing of the new row leads to are
-    /// dropped. So at each moment the object's inode is the one that the entries lead to, with the bytes that its blocks had.
+    /// checkpoint with the moment of the last entry that stood. Its older checkpoints, and its data blocks that nothing of the new row
+    /// leads to, are dropped. So at each moment the object's inode is the one that the entries lead to, with the bytes that its blocks had.
     /// All other objects are as they were, and the moment of the last change stays.
     ///
     /// NoRoom exactly where fewer places are ahead than the checkpoint and the entries take; else NoMemory alone, where the

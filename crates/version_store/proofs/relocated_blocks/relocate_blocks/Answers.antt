@@ -1,9 +1,9 @@
-use Rattle.version_store.proofs.Relocated.{Moved, relocates}
+use Rattle.version_store.specs.private.Relocating.{Moved}
+use Rattle.version_store.proofs.Relocated.{relocates}
 use Rattle.version_store.proofs.RelocatedBlocks.{Dropped, same_blocks}
 use Rattle.version_store.proofs.Spending.{sum_stays}
 use Rattle.version_store.proofs.Once.{once_stays}
-use Rattle.std.proofs.Common.{List, Option, ◌≡◌, ◌+◌, ◌<◌, ◌≤◌, length, MatchResult, option_map, option_copied, refl, sym, subst, ap, ◌∙◌, arith}
-use Rattle.s4_types.specs.declared.refusals.Refusal.TheVariants.{NoRoom}
+use Rattle.std.proofs.Common.{List, Option, ◌≡◌, ◌+◌, ◌≤◌, length, option_map, option_copied, refl, sym, subst, ap, ◌∙◌, arith}
 use Rattle.block_log.specs.Taken.{TakesPlaces}
 use Rattle.block_log.specs.declared.kinds.BlockKind.TheVariants.{Journal, Checkpoint}
 use Rattle.codec.specs.Entry.{EntryFields}
@@ -25,13 +25,13 @@ rename-requires-clause-apart g c =
     let apart = told_apart c.what_a_chain_tells.ensures.listed c.a_test_tells_a_renaming_apart.ensures.test held c.args.object c.args.row.now r a.distinct a.fresh c.requires.led in
     subst (λ (es : List EntryFields). AllByRecursion (TellsWithin (IsNotNew r)) es) (sym c.requires.journal.entries) apart.told.sides
 
-pub move_row-requires-clause-row : goal.move_row-requires-clause-row
-move_row-requires-clause-row g c =
+pub move_blocks-row-requires-clause-row : goal.move_blocks-row-requires-clause-row
+move_blocks-row-requires-clause-row g c =
     let a = c.append_copies-renaming.ensures.appending in
     c.a_row_is_its_own_blocks.ensures.row (g.B.Blocks.log c.args.table.now).held (g.B.Blocks.log c.append_copies-renaming.new.table).held c.args.object c.args.row.now (a.others Journal c.args.object refl) (a.others Checkpoint c.args.object refl) c.requires.row
 
-pub move_row-requires-clause-tell : goal.move_row-requires-clause-tell
-move_row-requires-clause-tell g c =
+pub move_blocks-row-requires-clause-tell : goal.move_blocks-row-requires-clause-tell
+move_blocks-row-requires-clause-tell g c =
     let held = (g.B.Blocks.log c.args.table.now).held in
     let o = c.args.object in
     let row = c.args.row.now in
@@ -57,11 +57,11 @@ pub returns-clause-moved : goal.returns-clause-moved
 returns-clause-moved g c =
     let before = g.B.Blocks.log c.args.table.now in
     let between = g.B.Blocks.log c.append_copies-renaming.new.table in
-    let moved = g.B.Blocks.log c.move_row.new.table in
+    let moved = g.B.Blocks.log c.move_blocks-row.new.table in
     let later = g.B.Blocks.log c.drop_copies.new.table in
     let o = c.args.object in
     let row = c.args.row.now in
-    let next = c.in-Ok.row in
+    let next = c.move_blocks-row.result in
     let copies = c.args.copies.now in
     let r = c.append_copies-renaming.result in
     let laws : RenamingStands = record {
@@ -78,25 +78,13 @@ returns-clause-moved g c =
     } in
     let kept : option_copied c.as_ref-checkpoint.result ≡ kept_renamed r (checkpoint_of before.held o row) = c.as_ref-checkpoint.ensures.value ∙ c.rename.ensures.checkpoint ∙ ap (option_map (renamed_inode r)) c.requires.journal.inode in
     let entries : c.as_slice.result.now ≡ renamed_entries r (entries_of before.held o row) = c.as_slice.ensures.value ∙ c.rename.ensures.entries ∙ ap (renamed_entries r) c.requires.journal.entries in
-    let given : Moved between moved o row next (option_copied c.as_ref-checkpoint.result) c.as_slice.result.now = record {
-      stands = c.in-Ok.ensures.row;
-      journal = c.in-Ok.ensures.entries;
-      checkpoint = c.in-Ok.ensures.checkpoint;
-      inode = c.in-Ok.ensures.inode;
-      orderly = c.in-Ok.ensures.orderly;
-      fields = c.in-Ok.ensures.fields;
-      metadata = c.in-Ok.ensures.others;
-      takes = c.in-Ok.ensures.takes;
-      chains = c.in-Ok.ensures.journal;
-      checkpoints = c.in-Ok.ensures.checkpoints;
-    } in
     let m : Moved between moved o row next (kept_renamed r (checkpoint_of before.held o row)) (renamed_entries r (entries_of before.held o row)) =
-    subst (λ (es : List EntryFields). Moved between moved o row next (kept_renamed r (checkpoint_of before.held o row)) es) entries (subst (λ (i : Option Inode). Moved between moved o row next i c.as_slice.result.now) kept given) in
+    subst (λ (es : List EntryFields). Moved between moved o row next (kept_renamed r (checkpoint_of before.held o row)) es) entries (subst (λ (i : Option Inode). Moved between moved o row next i c.as_slice.result.now) kept c.move_blocks-row.ensures.moved) in
     let d : Dropped before between moved later o copies r = record {
       one = c.one_place_has_one_name.ensures;
       are = c.requires.copies;
       appended = c.append_copies-renaming.ensures.appending;
-      metadata = c.in-Ok.ensures.others;
+      metadata = c.move_blocks-row.ensures.moved.metadata;
       dropped = c.drop_copies.ensures.held;
     } in
     relocates laws c.renamed_entries_stay_in_order.ensures.order c.a_renamed_chain_takes_as_many_bytes.ensures.each c.a_checkpoint_takes_its_blocks.ensures.holes c.a_row_is_its_own_blocks.ensures.row c.a_row_is_its_own_blocks.ensures.inode c.an_orderly_row_stays.ensures.blocks c.places_taken_add_up.ensures
@@ -104,11 +92,11 @@ returns-clause-moved g c =
 
 pub drop_copies-requires : goal.drop_copies-requires
 drop_copies-requires g c =
-    once_stays (g.B.Blocks.log c.append_copies-renaming.new.table) (g.B.Blocks.log c.move_row.new.table) c.move_row.ensures.named c.append_copies-renaming.ensures.once
+    once_stays (g.B.Blocks.log c.append_copies-renaming.new.table) (g.B.Blocks.log c.move_blocks-row.new.table) c.move_blocks-row.ensures.named c.append_copies-renaming.ensures.once
 
 -- there is room, so the checkpoint and the journal are written
-pub unreachable-requires : goal.unreachable-requires
-unreachable-requires g c =
+pub move_blocks-row-requires-clause-room : goal.move_blocks-row-requires-clause-room
+move_blocks-row-requires-clause-room g c =
     let before = g.B.Blocks.log c.args.table.now in
     let between = g.B.Blocks.log c.append_copies-renaming.new.table in
     let o = c.args.object in
@@ -116,8 +104,6 @@ unreachable-requires g c =
     let r = c.append_copies-renaming.result in
     let count = length c.args.copies.now in
     let n = moved_blocks (option_copied c.as_ref-checkpoint.result) c.as_slice.result.now in
-    let refused = subst (λ (x : _). MatchResult x (λ _. n ≤ length between.ahead) (λ e. (e ≡ NoRoom) × (length between.ahead < n))) c.in_default.is c.move_row.ensures.answer in
-    let few : length between.ahead < n = refused.1 in
     let kept : option_copied c.as_ref-checkpoint.result ≡ kept_renamed r (checkpoint_of before.held o row) = c.as_ref-checkpoint.ensures.value ∙ c.rename.ensures.checkpoint ∙ ap (option_map (renamed_inode r)) c.requires.journal.inode in
     let entries : c.as_slice.result.now ≡ renamed_entries r (entries_of before.held o row) = c.as_slice.ensures.value ∙ c.rename.ensures.entries ∙ ap (renamed_entries r) c.requires.journal.entries in
     let same : n ≡ row_blocks before.held o row =
@@ -127,4 +113,4 @@ unreachable-requires g c =
     let room : count + row_blocks before.held o row ≤ length before.ahead = c.requires.room in
     let sum = sum_stays count before between takes (omega (arith, room)) in
     let spent : between.spent ≡ count + before.spent = takes.spent in
-    absurd (omega (arith, few, same, room, sum, spent))
+    omega (arith, same, room, sum, spent)

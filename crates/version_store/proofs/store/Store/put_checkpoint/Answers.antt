@@ -18,7 +18,7 @@ record_checkpoint-requires g c =
     let s : StoreFields = record { rows = c.self.inside.objects.rows; log = g.B.Blocks.log c.self.inside.table; latest = c.self.inside.latest } in
     let can = subst (λ (v : StoreOf _). CanCheckpoint (fields_of g.B.Blocks.log v) c.args.object c.args.row.now c.args.inode.now c.args.moment) (sym c.self.view_is) c.requires in
     let know = known c.what_changes_rest_on.ensures.groups_ascend c.what_changes_rest_on.ensures.making c.what_changes_rest_on.ensures.checkpoint_blocks s c.args.object c.args.row.now c.args.inode.now c.args.moment can in
-    record { row = know.stands; sides = know.alone; latest = know.by; inode = know.inode; rules = know.rules }
+    record { row = know.stands; newer = know.newer; latest = know.by; inode = know.inode; rules = know.rules }
 
 pub returns : goal.returns
 returns g c =
