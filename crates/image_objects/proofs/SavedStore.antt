@@ -1,29 +1,28 @@
 -- The rows of a store stand in the image that it is saved as.
-use Rattle.std.proofs.Common.{◌≡◌, ℕ, ◌+◌, ◌<◌, ◌≤◌, true, false, Bool, List, [], ◌∷◌, ◌++◌, Option, Some, None, IsSome, is_some, refl, sym, ap, ◌∙◌, subst, arith}
+use Rattle.std.proofs.Common.{◌≡◌, ◌⊎◌, inl, inr, ℕ, ◌+◌, ◌<◌, ◌≤◌, true, false, Bool, List, [], ◌∷◌, Option, Some, None, IsSome, is_some, refl, sym, ap, ◌∙◌, subst, arith}
 use Rattle.std.specs.List.{Contains, AllByRecursion}
-use Rattle.std.proofs.lemmas.Bool.{false≢true}
-use Rattle.std.proofs.lemmas.List.{append-nil}
+use Rattle.std.proofs.lemmas.Bool.{or_cases, or_left, false≢true}
+use Rattle.std.proofs.lemmas.List.Folds.{list_any-append}
 use Rattle.s4_types.specs.Pointer.{Place}
-use Rattle.block_log.specs.Log.{Stored, of_kind}
+use Rattle.block_log.specs.Log.{Stored, of_kind, same_place}
 use Rattle.block_log.specs.declared.kinds.BlockKind.{BlockKind}
 use Rattle.block_log.specs.declared.kinds.BlockKind.TheVariants.{Journal, Checkpoint, Data}
 use Rattle.codec.specs.Entry.{EntryFields}
 use Rattle.codec.specs.Fields.{bit}
 use Rattle.journal_chain.specs.Chain.{times, chain_places}
 use Rattle.object_map.specs.declared.map.Row.{Row}
-use Rattle.object_map.specs.declared.sides.Side.{Side}
 use Rattle.object_map.specs.Rows.{row_of}
-use Rattle.time_read.specs.Rows.{IsRow, entries_of, checkpoint_places_of, all_places_of, side_places}
+use Rattle.time_read.specs.Rows.{IsRow, entries_of, checkpoint_places_of, side_places}
 use Rattle.time_read.specs.Orderly.{IsOrderly}
 use Rattle.version_store.specs.Across.{ShareNoMoment}
-use Rattle.version_store.specs.Store.{StoreFields, IsObject, IsStore, HasNoSides, Names, IsNamed}
+use Rattle.version_store.specs.Store.{StoreFields, IsObject, IsStore, Names, IsNamed}
 use Rattle.version_store.specs.Laws.{HeldIsWhatRowsName, EachHeldBlockIsNamed}
 use Rattle.image_objects.specs.declared.rows.ImageRow.{ImageRow}
 use Rattle.image_objects.specs.Chains.{entries_used}
 use Rattle.image_objects.specs.Objects.{ObjectStands}
-use Rattle.image_objects.specs.Naming.{NamesUsed, IsNamedBy, HoldsWhatIsNamed}
+use Rattle.image_objects.specs.Naming.{NamesUsed, IsNamedBy}
 use Rattle.image_objects.specs.Rows.{RowsAscend, RowsShareNoMoment, RowsStand}
-use Rattle.image_objects.specs.Saved.{HoldsUsed, IsSavedAsHeld, ObjectsAscend, saved_row, saved_rows}
+use Rattle.image_objects.specs.Saved.{HoldsUsed, HoldsWhatIsSaved, IsAside, IsSavedAsHeld, ObjectsAscend, saved_row, saved_rows}
 use Rattle.image_objects.proofs.HeldByName.{Seen, seen}
 use Rattle.image_objects.proofs.SavedRows.{first_listed, listed_behind, object_from, listed_found, found_listed, is_saved, was_saved, all_saved, saved_ascend}
 use Rattle.checkpoint.specs.Held.{of_checkpoints, is_one_of}
@@ -84,41 +83,50 @@ at_most_one : (b : Bool) → bit b ≤ 1
 at_most_one true = omega arith
 at_most_one false = omega arith
 
--- of a row that names no older checkpoints all blocks are those of its newest
-all_places : (held : Place → Option Stored) (o : ℕ) (row : Row) → HasNoSides row → all_places_of held o row ≡ checkpoint_places_of held o row
-all_places held o row alone =
-    ap (λ (sides : List Side). checkpoint_places_of held o row ++ side_places (of_checkpoints o held) sides) alone ∙ append-nil (checkpoint_places_of held o row)
-
--- what a row names of what is held it names of what is used
-names_used : CheckpointLaws → (used held : Place → Option Stored) (o : ℕ) (row : Row) (k : BlockKind) (p : Place) → HoldsUsed used held → IsRow held o row → HasNoSides row → Names held o row k p → NamesUsed used (saved_row o row) k p
-names_used laws used held o row Journal p holds stands alone names =
+-- what a row names of what is held it names of what is used, but for the blocks of older checkpoints
+names_used : CheckpointLaws → (used held : Place → Option Stored) (o : ℕ) (row : Row) (k : BlockKind) (p : Place) → HoldsUsed used held → IsRow held o row → Names held o row k p
+    → NamesUsed used (saved_row o row) k p ⊎ ((k ≡ Checkpoint) × (is_one_of (side_places (of_checkpoints o held) row.sides) p ≡ true))
+names_used laws used held o row Journal p holds stands names =
     let places : chain_places (of_kind Journal o used) o row.head ≡ chain_places (of_kind Journal o held) o row.head = same_places used held o row (walked used held o row holds stands) in
     let count : times p (chain_places (of_kind Journal o used) o row.head) ≡ 1 = ap (λ (ps : List Place). times p ps) places ∙ names in
-    omega (arith, count)
-names_used laws used held o row Checkpoint p holds stands alone names = ap (λ (places : List Place). is_one_of places p) (same_checkpoint_places laws used held o row holds stands ∙ sym (all_places held o row alone)) ∙ names
-names_used laws used held o row Data p holds stands alone names = subst (λ (slots : List (Option Place)). Contains slots (Some p)) (sym (saved_as_held laws used held o row holds stands).pointers) names
+    inl (omega (arith, count))
+names_used laws used held o row Checkpoint p holds stands names =
+    let newest = checkpoint_places_of held o row in
+    let older = side_places (of_checkpoints o held) row.sides in
+    elim (or_cases (is_one_of newest p) (is_one_of older p) (sym (list_any-append (λ q. same_place q p) newest older) ∙ names)) [
+      | inl here ↦ inl (ap (λ (places : List Place). is_one_of places p) (same_checkpoint_places laws used held o row holds stands) ∙ here)
+      | inr aside ↦ inr (refl, aside)
+    ]
+names_used laws used held o row Data p holds stands names = inl (subst (λ (slots : List (Option Place)). Contains slots (Some p)) (sym (saved_as_held laws used held o row holds stands).pointers) names)
 
-names_held : CheckpointLaws → (used held : Place → Option Stored) (o : ℕ) (row : Row) (k : BlockKind) (p : Place) → HoldsUsed used held → IsRow held o row → HasNoSides row → NamesUsed used (saved_row o row) k p → Names held o row k p
-names_held laws used held o row Journal p holds stands alone names =
+names_held : CheckpointLaws → (used held : Place → Option Stored) (o : ℕ) (row : Row) (k : BlockKind) (p : Place) → HoldsUsed used held → IsRow held o row → NamesUsed used (saved_row o row) k p → Names held o row k p
+names_held laws used held o row Journal p holds stands names =
     let places : chain_places (of_kind Journal o used) o row.head ≡ chain_places (of_kind Journal o held) o row.head = same_places used held o row (walked used held o row holds stands) in
     let count : times p (chain_places (of_kind Journal o used) o row.head) ≡ times p (chain_places (of_kind Journal o held) o row.head) = ap (λ (ps : List Place). times p ps) places in
     let there : Bool = is_some (of_kind Journal o held p) in
     let once : times p (chain_places (of_kind Journal o held) o row.head) ≡ bit there = stands.chain.once p in
     let few = at_most_one there in
     omega (arith, names, count, once, few)
-names_held laws used held o row Checkpoint p holds stands alone names = sym (ap (λ (places : List Place). is_one_of places p) (same_checkpoint_places laws used held o row holds stands ∙ sym (all_places held o row alone))) ∙ names
-names_held laws used held o row Data p holds stands alone names = subst (λ (slots : List (Option Place)). Contains slots (Some p)) (saved_as_held laws used held o row holds stands).pointers names
+names_held laws used held o row Checkpoint p holds stands names =
+    let newest = checkpoint_places_of held o row in
+    let older = side_places (of_checkpoints o held) row.sides in
+    list_any-append (λ q. same_place q p) newest older
+    ∙ or_left (is_one_of newest p) (is_one_of older p) (sym (ap (λ (places : List Place). is_one_of places p) (same_checkpoint_places laws used held o row holds stands)) ∙ names)
+names_held laws used held o row Data p holds stands names = subst (λ (slots : List (Option Place)). Contains slots (Some p)) (saved_as_held laws used held o row holds stands).pointers names
 
-named_by : CheckpointLaws → EachHeldBlockIsNamed → (used : Place → Option Stored) (s : StoreFields) (p : Place) (block : Stored) → IsStore s → HoldsUsed used s.log.held → s.log.held p ≡ Some block → IsNamedBy used (saved_rows s.rows) p block
+named_by : CheckpointLaws → EachHeldBlockIsNamed → (used : Place → Option Stored) (s : StoreFields) (p : Place) (block : Stored) → IsStore s → HoldsUsed used s.log.held → s.log.held p ≡ Some block → IsNamedBy used (saved_rows s.rows) p block ⊎ IsAside s p block
 named_by laws law used s p block store holds here =
     let n : IsNamed s block.object block.kind p = law s p block store here in
     let o = block.object in
-    record {
-      row = saved_row o n.row;
-      listed = is_saved s.rows (o, n.row) (found_listed s.rows o n.row n.there);
-      object = refl;
-      names = names_used laws used s.log.held o n.row block.kind p holds (store.objects o n.row n.there).stands (store.objects o n.row n.there).alone n.names;
-    }
+    elim (names_used laws used s.log.held o n.row block.kind p holds (store.objects o n.row n.there).stands n.names) [
+      | inl names ↦ inl (record {
+        row = saved_row o n.row;
+        listed = is_saved s.rows (o, n.row) (found_listed s.rows o n.row n.there);
+        object = refl;
+        names = names;
+      })
+      | inr aside ↦ inr (record { row = n.row; there = n.there; kind = aside.0; among = aside.1 })
+    ]
 
 some_there : {X : Type 0} (found : Option X) → IsSome found → (x : X) × (found ≡ Some x)
 some_there None some = absurd (false≢true some)
@@ -129,7 +137,7 @@ held_of : CheckpointLaws → HeldIsWhatRowsName → (used : Place → Option Sto
     → used p ≡ Some block → NamesUsed used (saved_row e.0 e.1) block.kind p → s.log.held p ≡ Some block
 held_of laws law used s low e p block store holds ascend there here names =
     let found : row_of s.rows e.0 ≡ Some e.1 = listed_found low s.rows e ascend there in
-    let n : IsNamed s e.0 block.kind p = record { row = e.1; there = found; names = names_held laws used s.log.held e.0 e.1 block.kind p holds (store.objects e.0 e.1 found).stands (store.objects e.0 e.1 found).alone names } in
+    let n : IsNamed s e.0 block.kind p = record { row = e.1; there = found; names = names_held laws used s.log.held e.0 e.1 block.kind p holds (store.objects e.0 e.1 found).stands names } in
     let (bytes, is) = some_there (of_kind block.kind e.0 s.log.held p) ((law s e.0 block.kind p store).1 n) in
     let b : Seen block.kind e.0 (s.log.held p) bytes = seen block.kind e.0 (s.log.held p) bytes is in
     b.there ∙ sym (holds p b.block b.there) ∙ here
@@ -141,7 +149,7 @@ held_by laws law used s low p block store holds ascend here n =
     held_of laws law used s low e p block store holds ascend there here (subst (λ (r : ImageRow). NamesUsed used r block.kind p) (sym same) n.names)
 
 pub holds_what_is_named : CheckpointLaws → HeldIsWhatRowsName → EachHeldBlockIsNamed → (used : Place → Option Stored) (s : StoreFields) (low : ℕ) → IsStore s → HoldsUsed used s.log.held → ObjectsAscend low s.rows
-    → HoldsWhatIsNamed used s.log.held (saved_rows s.rows)
+    → HoldsWhatIsSaved used s
 holds_what_is_named laws exact each used s low store holds ascend =
     record {
       kept = holds;

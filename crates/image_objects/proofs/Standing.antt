@@ -169,7 +169,6 @@ held_as_used laws used held rows row clock stamp ascend stand holds there =
       orderly = s.orderly;
       object = record {
         stands = s.stands;
-        alone = refl;
         by = laws.by held o kept clock s.stands s.orderly;
         led = subst (λ (slots : List (Option Place)). All (IsLed held o) slots) (sym pointers) (all_led used held o (pointers_used used row) leads);
         tidy = λ t. subst (λ (i : Inode). Tidy (contents_of held) i) (sym (inodes t)) ((matter t).1 (object.tidy t));

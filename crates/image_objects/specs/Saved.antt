@@ -1,14 +1,18 @@
 -- The rows of a store as an image's: what a drive that is saved writes of them.
-use Rattle.std.specs.Prelude.{◌≡◌, ℕ, ◌+◌, ◌≤◌, List, [], ◌∷◌, map, Option, Some}
+use Rattle.std.specs.Prelude.{◌≡◌, ◌⊎◌, ℕ, ◌+◌, ◌≤◌, true, List, [], ◌∷◌, map, Option, Some}
 use Rattle.s4_types.specs.Pointer.{Place}
 use Rattle.block_log.specs.Log.{Stored}
+use Rattle.block_log.specs.declared.kinds.BlockKind.TheVariants.{Checkpoint}
+use Rattle.checkpoint.specs.Held.{of_checkpoints, is_one_of}
 use Rattle.object_map.specs.declared.map.Row.{Row}
-use Rattle.version_store.specs.Store.{pointers_of}
-use Rattle.time_read.specs.Rows.{entries_of, first_of, inode_of}
+use Rattle.object_map.specs.Rows.{row_of}
+use Rattle.version_store.specs.Store.{StoreFields, pointers_of}
+use Rattle.time_read.specs.Rows.{entries_of, first_of, inode_of, side_places}
 use Rattle.image_objects.specs.declared.rows.ImageRow.{ImageRow}
 use Rattle.image_objects.specs.Chains.{entries_used}
 use Rattle.image_objects.specs.Inodes.{first_used}
 use Rattle.image_objects.specs.VersionChain.{kept_row}
+use Rattle.image_objects.specs.Naming.{IsNamedBy}
 use Rattle.image_objects.specs.Objects.{pointers_used, inode_used}
 
 -- the row of an image that the row of a drive's object is saved as
@@ -37,3 +41,17 @@ pub record IsSavedAsHeld (used held : Place → Option Stored) (o : ℕ) (row : 
   pub inodes : (t : ℕ) → inode_used used (saved_row o row) t ≡ inode_of held o row t
   pub pointers : pointers_used used (saved_row o row) ≡ pointers_of held o row
   pub kept : kept_row used (saved_row o row) row.stamp ≡ record row { sides = [] }
+
+-- a block is one of an older checkpoint that its object's row in a store names
+pub record IsAside (s : StoreFields) (p : Place) (block : Stored) : Type 0 where
+  pub row : Row
+  pub there : row_of s.rows block.object ≡ Some row
+  pub kind : block.kind ≡ Checkpoint
+  pub among : is_one_of (side_places (of_checkpoints block.object s.log.held) row.sides) p ≡ true
+
+-- What a store holds of the used blocks of an image that it is saved as: those that the rows of the image name, and beside them
+-- the blocks of older checkpoints alone, which a drive that is opened again holds no more.
+pub record HoldsWhatIsSaved (used : Place → Option Stored) (s : StoreFields) : Type 0 where
+  pub kept : HoldsUsed used s.log.held
+  pub named : (p : Place) (block : Stored) → s.log.held p ≡ Some block → IsNamedBy used (saved_rows s.rows) p block ⊎ IsAside s p block
+  pub all : (p : Place) (block : Stored) → used p ≡ Some block → IsNamedBy used (saved_rows s.rows) p block → s.log.held p ≡ Some block

@@ -6,10 +6,9 @@ ghost use Rattle.object_map.specs.declared.map.Row.{Row};
 ghost use Rattle.time_read.specs.Rows.{IsRow};
 ghost use Rattle.time_read.specs.Orderly.{IsOrderly};
 ghost use Rattle.version_store.specs.Store.{IsObject, IsStore, StoreFields};
-ghost use Rattle.image_objects.specs.Naming.{HoldsWhatIsNamed};
 ghost use Rattle.image_objects.specs.Objects.{ObjectStands};
 ghost use Rattle.image_objects.specs.Rows.{RowsAscend, RowsStand};
-ghost use Rattle.image_objects.specs.Saved.{HoldsUsed, IsSavedAsHeld, ObjectsAscend, saved_row, saved_rows};
+ghost use Rattle.image_objects.specs.Saved.{HoldsUsed, HoldsWhatIsSaved, IsSavedAsHeld, ObjectsAscend, saved_row, saved_rows};
 
 use checkpoint::laws::{a_checkpoint_has_its_blocks, a_checkpoint_rests_on_its_blocks};
 use inode::laws::only_its_blocks_matter;
@@ -55,10 +54,10 @@ pub fn a_store_stands_in_its_image()
     a_row_that_is_held_stands();
 }
 
-/// And of the used blocks just those are held that the rows of the image name.
+/// And of the used blocks just those are held that the rows of the image name, and those of older checkpoints.
 pub fn what_is_held_is_what_saved_rows_name()
     ensures { (used : Place → Option Stored) (s : StoreFields) (low : ℕ) → IsStore s → HoldsUsed used s.log.held → ObjectsAscend low s.rows
-        → HoldsWhatIsNamed used s.log.held (saved_rows s.rows) }
+        → HoldsWhatIsSaved used s }
 {
     a_checkpoint_rests_on_its_blocks();
     a_checkpoint_has_its_blocks();

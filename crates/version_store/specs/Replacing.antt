@@ -67,9 +67,9 @@ pub record CanReplace (s : StoreFields) (o : ℕ) (row : Row) (present : Inode) 
   pub pointers : (p : Place) → Contains (pointers_told present entries) (Some p) → Contains (pointers_of s.log.held o row) (Some p)
 
 -- The journal of an object of this row was replaced by these entries, and its present inode is this one. A checkpoint was
--- written, with the moment of the entry that was the last before; no older one is left. The row was changed once more. Of its data the blocks
--- that these point to are as they were, and no other is held. All other rows and blocks are as they were, so many places were
--- taken, and the last change is the same.
+-- written, with the moment of the entry that was the last before; no older one is left. The row was changed once more. Of its
+-- data the blocks that these point to are as they were, and no other is held. All other rows and blocks are as they were, so
+-- many places were taken, and the last change is the same.
 pub record IsReplaced (s : StoreFields) (o : ℕ) (row : Row) (present : Inode) (entries : List EntryFields) (later : StoreFields) : Type 0 where
   pub next : Row
   pub rest : next ≡ record row {
