@@ -1,5 +1,5 @@
-//! What a change of an object makes of its row and of its blocks: entries behind its journal, a checkpoint in place of an
-//! older one, and both written anew.
+//! What a change of an object makes of its row and of its blocks: entries behind its journal, a checkpoint before older ones, both
+//! written anew, and the older checkpoints dropped.
 //!
 //! The layers above may rely on this: from a change's moment on the object's inode is the changed one, and before it
 //! each is as it was; a checkpoint changes no inode; a journal that is written anew tells what it was given. A row tells

@@ -68,8 +68,8 @@ impl<B: Blocks> Store<B> {
 
     /// Sees to it that an object's checkpoint isn't older than its last journal entry: where it is, the object's present
     /// inode is written as its checkpoint with the moment of that entry, which takes room; the one before is kept as the last of at
-    /// most `SIDES` older ones, of which the first may be dropped for it. Else nothing is written. Each inode and each version is as it was, whatever is answered. An object that is deleted
-    /// and has a row still is like any other.
+    /// most `SIDES` older ones, of which the first may be dropped for it. Else nothing is written. Each inode and each version is as
+    /// it was, whatever is answered. An object that is deleted and has a row still is like any other.
     ///
     /// NoObject exactly where the object has no row; else NoSpace exactly where the checkpoint has to be written and takes
     /// more than the room beside the reserve. Then nothing has changed.

@@ -78,9 +78,9 @@ impl<B: Blocks> Store<B> {
 
     /// An object's blocks go to new places: these copies of its data blocks in one frame, in their order, then its checkpoint,
     /// if it has one, and its whole journal, with each pointer to a copied block leading to the copy. The blocks that were
-    /// copied are dropped, and so are older checkpoints. With no copies the checkpoint and the journal alone go. Checkpoint and entries keep their moments;
-    /// the row is changed once more. Each version of each object is as it was, at every moment, and the moment of the last
-    /// change stays.
+    /// copied are dropped, and so are older checkpoints. With no copies the checkpoint and the journal alone go. Checkpoint and
+    /// entries keep their moments; the row is changed once more. Each version of each object is as it was, at every moment, and the
+    /// moment of the last change stays.
     ///
     /// NoRoom exactly where fewer places are ahead than the copies, the checkpoint and the journal take; else NoMemory alone,
     /// where the memory for the entries is refused. Then nothing has changed. It takes time in proportion to the copies and
