@@ -1,9 +1,9 @@
 -- Older checkpoints in an array of SIDES.
-use Rattle.std.proofs.Common.{◌≡◌, inl, inr, ltb, slice_get, Option, Some, None, ℕ, zero, suc, ◌+◌, ◌-◌, ◌<◌, ◌≤◌, List, [], ◌∷◌, ◌++◌, length, take, drop, replicate, set, refl, sym, ap, arith, ◌∙◌, length-append}
+use Rattle.std.proofs.Common.{◌≡◌, inl, inr, ltb, slice_get, Option, None, ℕ, zero, suc, ◌+◌, ◌-◌, ◌<◌, ◌≤◌, List, [], ◌∷◌, ◌++◌, length, take, drop, replicate, set, refl, sym, ap, arith, ◌∙◌, length-append}
 use Rattle.std.specs.Option.{option_to_list}
 use Rattle.std.proofs.lemmas.Bool.{cases_lt, cond-true, cond-false, lt-ltb, le-ltb}
 use Rattle.std.proofs.lemmas.List.{take_at, drop-append-le, drop-replicate, length-drop, length-replicate, set-append_right, append_assoc}
-use Rattle.object_map.specs.declared.limits.TheConstants.{SIDES}
+use Rattle.s4_types.specs.declared.limits.TheConstants.{SIDES}
 use Rattle.object_map.specs.declared.sides.Side.{Side}
 use Rattle.object_map.specs.Sides.{sides_with, side_dropped}
 use Rattle.object_map.specs.private.Padding.{no_side, padded_sides}

@@ -1,7 +1,7 @@
 -- The older checkpoints of an object where one more comes.
 use Rattle.std.specs.Prelude.{◌+◌, ◌-◌, ℕ, if◌then◌else◌, List, [], ◌∷◌, ◌++◌, length, drop, Option, Some, None, nat_lt, slice_get, option_map}
 use Rattle.s4_types.specs.Pointer.{Place}
-use Rattle.object_map.specs.declared.limits.TheConstants.{SIDES}
+use Rattle.s4_types.specs.declared.limits.TheConstants.{SIDES}
 use Rattle.object_map.specs.declared.map.Row.{Row}
 use Rattle.object_map.specs.declared.sides.Side.{Side}
 

@@ -6,10 +6,8 @@
 //! logarithmic time.
 #![tactic(auto)]
 
-mod limits;
 mod map;
 mod sides;
 
-pub use limits::SIDES;
 pub use map::{Kept, ObjectMap, Row};
 pub use sides::{Side, Sides};

@@ -1,10 +1,10 @@
 ghost use Rattle.std.specs.Prelude.{◌≡◌, ◌+◌, ◌-◌, ◌<◌, ◌≤◌, ◌++◌, [], ◌∷◌, length, drop, replicate};
-ghost use Rattle.object_map.specs.declared.limits.TheConstants.{SIDES};
+ghost use Rattle.s4_types.specs.declared.limits.TheConstants.{SIDES};
 ghost use Rattle.object_map.specs.Sides.{sides_with, side_dropped};
 ghost use Rattle.object_map.specs.private.Padding.{no_side, padded_sides};
 ghost use Rattle.std.specs.Option.{option_to_list};
 
-use crate::limits::SIDES;
+use s4_types::limits::SIDES;
 use s4_types::{Moment, Ptr};
 use std::marker::Model;
 
@@ -27,7 +27,7 @@ pub struct Sides {
 
 impl Model for Sides {
     ghost use Rattle.std.specs.Prelude.{◌≡◌, ◌≤◌, List, length, take};
-    ghost use Rattle.object_map.specs.declared.limits.TheConstants.{SIDES};
+    ghost use Rattle.s4_types.specs.declared.limits.TheConstants.{SIDES};
     ghost use Rattle.object_map.specs.declared.sides.Side.{Side};
     ghost use Rattle.object_map.specs.private.Padding.{padded_sides};
     ghost use Rattle.object_map.specs.private.Cutting.{cut_sides};

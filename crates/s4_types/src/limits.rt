@@ -74,6 +74,9 @@ pub const CHAIN_ENTRIES: usize = CHAIN_ENTRY_BYTES / SHORTEST_ENTRY_BYTES;
 /// more, which makes pairs of all, would have more than `CHAIN_ENTRY_BYTES`.
 pub const CHAIN_BLOCKS: usize = 2 * (CHAIN_ENTRY_BYTES / JOURNAL_ENTRY_BYTES) - 1;
 
+/// Older checkpoints that are kept of an object at most, beside its newest one. Chosen.
+pub const SIDES: usize = 8;
+
 /// Runs of hidden moments in one list of spans. Chosen: a look-up goes through at most two lists.
 pub const RUNS_IN_A_LIST: usize = 64;
 

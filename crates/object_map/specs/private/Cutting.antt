@@ -2,7 +2,7 @@
 use Rattle.std.specs.Prelude.{◌≡◌, ◌≤◌, List, length, take}
 use Rattle.std.proofs.Common.{refl, arith}
 use Rattle.std.proofs.lemmas.List.{length-take}
-use Rattle.object_map.specs.declared.limits.TheConstants.{SIDES}
+use Rattle.s4_types.specs.declared.limits.TheConstants.{SIDES}
 use Rattle.object_map.specs.declared.sides.Side.{Side}
 use Rattle.object_map.specs.declared.sides.Sides.TheInside.{Inside}
 use Rattle.object_map.specs.private.Padding.{padded_sides}

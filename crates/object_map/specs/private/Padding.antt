@@ -1,6 +1,6 @@
 -- A list of older checkpoints in an array of SIDES.
 use Rattle.std.specs.Prelude.{◌-◌, List, ◌++◌, length, replicate}
-use Rattle.object_map.specs.declared.limits.TheConstants.{SIDES}
+use Rattle.s4_types.specs.declared.limits.TheConstants.{SIDES}
 use Rattle.object_map.specs.declared.sides.Side.{Side}
 
 -- what is behind the list in the array
