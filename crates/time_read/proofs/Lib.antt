@@ -1,11 +1,15 @@
+pub mod Cached
 pub mod Counting
 pub mod Fetching
+pub mod Leading
 pub mod Locating
 pub mod Ordering
 pub mod Pins
 pub mod Planning
 pub mod Found
 pub mod Reading
+pub mod Starting
 pub mod Staying
 pub mod Undoing
 pub mod Undone
+pub mod Worked

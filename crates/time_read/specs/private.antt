@@ -1,2 +1,3 @@
+pub mod Nearest
 pub mod Planning
 pub mod Sources

@@ -71,11 +71,10 @@ fn undo_past<B: Blocks>(back: &mut EntriesBack, table: &mut B, at: Moment, inode
     }
 }
 
-/// The inode of an object that is current at a moment: all changes up to the moment are in it, and none behind.
-///
-/// It is led to from the present one, which all entries have made: those later than the moment are undone, the newest
-/// first. No block before the one with the newest entry that isn't later is read, and no memory is taken.
-pub fn inode_at<B: Blocks>(
+/// The inode of an object that is current at a moment, led to from the present one, which all entries have made: those later
+/// than the moment are undone, the newest first. No block before the one with the newest entry that isn't later is read, and
+/// no memory is taken.
+pub fn inode_before<B: Blocks>(
     table: &mut B,
     object: ObjectId,
     row: &Row,

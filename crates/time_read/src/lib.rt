@@ -15,12 +15,14 @@ mod journals;
 pub mod laws;
 mod plans;
 mod presents;
+mod starts;
 mod undo_index;
 pub mod undo_laws;
 mod undo_records;
 
-pub use inodes::{entries, inode_at};
+pub use inodes::{entries, inode_before};
 pub use journals::ObjectJournal;
 pub use plans::{ReadPlan, plan};
 pub use presents::{Present, index_of, turn_beside};
+pub use starts::{inode_at, inode_at_counted};
 pub use undo_index::UndoIndex;

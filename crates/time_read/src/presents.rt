@@ -5,7 +5,7 @@ ghost use Rattle.object_map.specs.Rows.{row_of};
 ghost use Rattle.time_read.specs.Presents.{IsIndexOf, TurnsBeside};
 ghost use Rattle.time_read.specs.Rows.{IsRow, entries_of, inode_of, last_inode};
 
-use crate::inodes::inode_at;
+use crate::inodes::inode_before;
 use crate::undo_index::UndoIndex;
 use block_log::Blocks;
 use codec::{Entry, Inode};
@@ -43,7 +43,7 @@ impl Present {
     {
         a_run_has_one_end_and_one_beginning();
         let Some(index) = &self.index else {
-            *inode = inode_at(table, object, row, inode, at);
+            *inode = inode_before(table, object, row, inode, at);
             return;
         };
         index.undo_past(at, inode);

@@ -1,7 +1,7 @@
 use Rattle.time_read.proofs.Reading.{few_in_head}
 use Rattle.time_read.proofs.Undoing.{is_left, all_left, groups_left, undone_is}
 use Rattle.journal_chain.specs.Back.{left}
-use Rattle.time_read.proofs.inodes.inode_at.Goals as goal
+use Rattle.time_read.proofs.inodes.inode_before.Goals as goal
 
 pub of-chain-requires-clause-one_block : goal.of-chain-requires-clause-one_block
 of-chain-requires-clause-one_block g c = few_in_head (g.B.Blocks.log c.args.table.now).held c.args.object c.args.row.now c.packing_keeps_the_rule.ensures.packed c.requires.row
