@@ -38,9 +38,9 @@ pub struct Compaction {
 /// some frame is free. So each leaves more places ahead than there were. It ends where there is no such frame, where a move finds too
 /// little room, or after [`MOST_FREED`](crate::MOST_FREED) frames; none of these is a failure.
 ///
-/// The session is that of whoever moves, and stays as it is. NoMemory where memory is refused, Busy where no pin is to be had, InUse where a frame that is being emptied has a reader, which
-/// comes only where another session reads. What was cleaned and moved stays so then. The history and every version that can be read
-/// stay, whatever is answered.
+/// The session is that of whoever moves, and stays as it is. NoMemory where memory is refused, Busy where no pin is to be had, InUse
+/// where a frame that is being emptied has a reader, which comes only where another session reads. What was cleaned and moved stays
+/// so then. The history and every version that can be read stay, whatever is answered.
 pub fn compact<J: Naming>(
     alloc: Global,
     drive: &mut Drive<J>,

@@ -160,13 +160,14 @@ fn keep_beside<J: Naming + Send + Sync, R: Threads + Wait + Clock + Sync>(
 /// Serves sessions of one drive at once, as [`run_sessions`] does, and beside them keeps the drive up, on two threads more: one cleans,
 /// the other moves blocks.
 ///
-/// The cleaner has the lock for one object at a time, by ascending number and round again, and frees the frames that hold nothing
-/// behind each round, and behind each turn while little room is left. Its first and its last round are over all objects, those between
+/// The cleaner has the lock for one object at a time, by ascending number and round again. It frees the frames that hold nothing
+/// after each round, and after each turn while little room is left. Its first and its last round are over all objects, those between
 /// over the ones that have history to free, as far as that is known. It rests until a flush or another window hides moments, or until
-/// room is short or a chain nearly full, and enough has aged since its last round; where that is so, a change waits for a round before
+/// room is short or a chain nearly full, and enough has aged since its last round. Where that is so, a change waits for a round before
 /// it is asked, a Read never, and no request where no cleaner is at work. The copier takes step after step while room is short: it has
 /// the lock while it plans the next move and while it puts it in place, and copies without it. It takes one step at least, and ends
-/// once all sessions have ended. Then the cleaner goes round a last time. Where the system gives no thread for one of the two, it goes round once, or takes one step, behind the sessions.
+/// once all sessions have ended. Then the cleaner goes round a last time. Where the system gives no thread for one of the two, it
+/// goes round once, or takes one step, after the sessions.
 ///
 /// Answers the clients, the cleaner's last round, and what the copier did.
 pub fn run_with_upkeep<
