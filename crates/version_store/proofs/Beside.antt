@@ -12,6 +12,7 @@ use Rattle.undo_redo.specs.Runs.{AllBy}
 use Rattle.journal_chain.specs.Chain.{OnlyJournalChanged}
 use Rattle.inode.specs.Growth.{GrowsBy}
 use Rattle.time_read.specs.Undoings.{Undoing}
+use Rattle.checkpoint.specs.declared.cache.CacheKey.{CacheKey}
 use Rattle.object_map.specs.declared.map.Row.{Row}
 use Rattle.object_map.specs.Objects.{value_of, with_value, without_value, PutsAt}
 use Rattle.object_map.specs.Rows.{row_of, with_row, fresh_row}
@@ -24,7 +25,9 @@ use Rattle.time_read.specs.Presents.{IsIndexOf, KeepsIndexOf}
 use Rattle.version_store.specs.private.Beside.{inode_beside, IsBeside}
 use Rattle.version_store.specs.Checkpointing.{last_entry, IsCheckpointed}
 use Rattle.version_store.specs.Replacing.{OtherObjectsStay, IsRemoved}
+use Rattle.time_read.specs.Caches.{AddsTrue}
 use Rattle.version_store.proofs.Across.{fresh_entries}
+use Rattle.version_store.proofs.Cached.{added_true}
 use Rattle.version_store.proofs.Frames.{growth_stays}
 use Rattle.version_store.proofs.Telling.{same_entries}
 use Rattle.version_store.proofs.Steps.{row_here, row_beside}
@@ -156,11 +159,22 @@ grown_indexed s log object blocks values grows indexed =
 
 -- ---- what is found of an object
 
-pub inode_kept : (values : List (ℕ × Present)) (s : StoreFields) (o : ℕ) (k : Present) → Some k ≡ value_of values o → IsBeside values s → Some k.inode ≡ inode_in s o s.latest
-inode_kept values s o k is beside = ap (option_map (λ p. p.inode)) is ∙ beside.inodes o
+pub inode_kept : (values : List (ℕ × Present)) (pairs : List (CacheKey × Inode)) (s : StoreFields) (o : ℕ) (k : Present) → Some k ≡ value_of values o → IsBeside values pairs s → Some k.inode ≡ inode_in s o s.latest
+inode_kept values pairs s o k is beside = ap (option_map (λ p. p.inode)) is ∙ beside.inodes o
 
-pub index_kept : (values : List (ℕ × Present)) (s : StoreFields) (o : ℕ) (k : Present) → Some k ≡ value_of values o → IsBeside values s → IsIndexOf k.index (entries_of_object s o)
-index_kept values s o k is beside = subst (λ (p : Option Present). KeepsIndexOf p (entries_of_object s o)) (sym is) (beside.indexes o)
+pub index_kept : (values : List (ℕ × Present)) (pairs : List (CacheKey × Inode)) (s : StoreFields) (o : ℕ) (k : Present) → Some k ≡ value_of values o → IsBeside values pairs s → IsIndexOf k.index (entries_of_object s o)
+index_kept values pairs s o k is beside = subst (λ (p : Option Present). KeepsIndexOf p (entries_of_object s o)) (sym is) (beside.indexes o)
+
+-- inodes of an object's checkpoint were kept, and the log is as it was
+pub beside_added : (values : List (ℕ × Present)) (pairs after : List (CacheKey × Inode)) (s : StoreFields) (log : Log) (o : ℕ) (row : Row) → log ≡ s.log → row_of s.rows o ≡ Some row → AddsTrue s.log.held o row pairs after
+    → IsBeside values pairs s → IsBeside values after (record s { log = log })
+beside_added values pairs after s log o row same there adds beside =
+    subst (λ (l : Log). IsBeside values after (record s { log = l })) (sym same) (record {
+      inodes = beside.inodes;
+      indexes = beside.indexes;
+      once = beside.once;
+      cached = added_true s.log.held s.rows o row pairs after there adds beside.cached;
+    })
 
 -- ---- an inode at a moment by the index
 

@@ -14,6 +14,7 @@ pub mod Steps
 pub mod Subjects
 pub mod Kind
 pub mod Present
+pub mod Cached
 pub mod Beside
 pub mod Planned
 pub mod Costing

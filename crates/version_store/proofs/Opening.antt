@@ -21,6 +21,7 @@ use Rattle.version_store.specs.Versions.{inode_by, entries_of_row, entries_of_ob
 use Rattle.time_read.specs.Presents.{KeepsIndexOf}
 use Rattle.version_store.specs.private.Beside.{IsBeside}
 use Rattle.version_store.specs.private.Opening.{present_of, presents_opened}
+use Rattle.version_store.proofs.Cached.{none_true}
 
 -- ---- numbers that ascend
 
@@ -128,7 +129,7 @@ found_among P (x ∷ xs) o all =
 
 -- beside the rows of objects that fit their rows stand their present inodes and the indexes of their entries
 pub opened_beside : (log : Log) (latest : ℕ) (objects : List OpenedFields) → All (FitsItsRow log.held latest) objects → NamesNoneTwice log
-    → IsBeside (presents_opened objects) (record { rows = rows_opened objects; log = log; latest = latest })
+    → IsBeside (presents_opened objects) [] (record { rows = rows_opened objects; log = log; latest = latest })
 opened_beside log latest objects all once =
     let s : StoreFields = record { rows = rows_opened objects; log = log; latest = latest } in
     let values = presents_opened objects in
@@ -151,4 +152,5 @@ opened_beside log latest objects all once =
         | inr none ↦ subst (λ (p : Option Present). KeepsIndexOf p (entries_of_object s o)) (sym none.value) tt
       ];
       once = once;
+      cached = none_true log.held (rows_opened objects) [] refl;
     }

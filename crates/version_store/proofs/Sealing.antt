@@ -8,6 +8,9 @@ use Rattle.block_log.specs.Log.{Log, Stored}
 use Rattle.segment_table.specs.Table.{Table}
 use Rattle.segment_table.specs.Room.{is_filling, numbers, rest_of, places_ahead}
 use Rattle.segment_table.specs.Changes.{IsFilling, NoneIsFilling}
+use Rattle.codec.specs.declared.inodes.Inode.{Inode}
+use Rattle.checkpoint.specs.Held.{of_checkpoints}
+use Rattle.checkpoint.specs.declared.cache.CacheKey.{CacheKey}
 use Rattle.object_map.specs.declared.map.Row.{Row}
 use Rattle.object_map.specs.Objects.{value_of}
 use Rattle.object_map.specs.Rows.{row_of}
@@ -16,6 +19,7 @@ use Rattle.time_read.specs.declared.presents.Present.{Present}
 use Rattle.version_store.specs.Store.{StoreFields, IsStore}
 use Rattle.version_store.specs.Versions.{inode_by, version_by, entries_of_row}
 use Rattle.version_store.specs.private.Beside.{IsBeside}
+use Rattle.version_store.proofs.Cached.{stays_true}
 use Rattle.version_store.proofs.Once.{once_stays}
 use Rattle.version_store.specs.Upkeep.{KeepsObjects}
 
@@ -54,11 +58,12 @@ store_over s log same spent bounded store =
     })
 
 -- what stands beside the rows does so over the other log
-pub beside_over : (values : List (ℕ × Present)) (s : StoreFields) (log : Log) → log.held ≡ s.log.held → log.named ≡ s.log.named → IsBeside values s → IsBeside values (over s log)
-beside_over values s log held named beside = record {
+pub beside_over : (values : List (ℕ × Present)) (pairs : List (CacheKey × Inode)) (s : StoreFields) (log : Log) → log.held ≡ s.log.held → log.named ≡ s.log.named → IsBeside values pairs s → IsBeside values pairs (over s log)
+beside_over values pairs s log held named beside = record {
   inodes = λ o. beside.inodes o ∙ sym (ap (λ (h : Place → Option Stored). inode_by h o s.latest (row_of s.rows o)) held);
   indexes = λ o. subst (λ (h : Place → Option Stored). KeepsIndexOf (value_of values o) (entries_of_row h o (row_of s.rows o))) (sym held) (beside.indexes o);
   once = once_stays s.log log named beside.once;
+  cached = stays_true s.log.held log.held s.rows pairs (λ q. ap (of_checkpoints q) held) beside.cached;
 }
 
 pub shrunk_store : (s : StoreFields) (log : Log) → log.held ≡ s.log.held → length log.ahead ≤ length s.log.ahead → log.spent ≡ s.log.spent → IsStore s → IsStore (over s log)

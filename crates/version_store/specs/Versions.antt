@@ -13,6 +13,7 @@ use Rattle.codec.specs.Entry.{EntryFields}
 use Rattle.object_map.specs.declared.map.Row.{Row}
 use Rattle.object_map.specs.Rows.{row_of}
 use Rattle.time_read.specs.Rows.{entries_of, inode_of}
+use Rattle.time_read.specs.Starts.{least_distance}
 use Rattle.inode.specs.Contents.{contents_of, meaning}
 use Rattle.version_store.specs.Store.{StoreFields}
 
@@ -33,6 +34,16 @@ inode_by held o t (Some row) = Some (inode_of held o row t)
 -- the inode that an object has at a moment; none where it has no row
 abbrev pub inode_in : StoreFields → ℕ → ℕ → Option Inode
 inode_in s o t = inode_by s.log.held o t (row_of s.rows o)
+
+-- how many entries lie between a moment's place in an object's journal and the nearest start of the way there, by its row: none
+-- where it has no row
+abbrev pub distance_by : (Place → Option Stored) → ℕ → ℕ → Option Row → Option ℕ
+distance_by held o t None = None
+distance_by held o t (Some row) = Some (least_distance held o row t)
+
+-- how many entries of an object have to be undone or redone at least for its inode at a moment; none where it has no row
+abbrev pub distance_in : StoreFields → ℕ → ℕ → Option ℕ
+distance_in s o t = distance_by s.log.held o t (row_of s.rows o)
 
 -- the version that an inode stands for over the blocks that are held; Absent for none
 abbrev pub version_by : (Place → Option Stored) → Option Inode → Version

@@ -15,6 +15,7 @@ mod copies;
 mod costs;
 mod data_blocks;
 pub mod laws;
+mod leading;
 mod named_table;
 mod opened;
 mod relocated_blocks;

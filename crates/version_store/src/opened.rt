@@ -33,7 +33,7 @@ impl Model for OpenedObject {
 
 impl OpenedObject {
     /// The object of a row, with its present inode and an index of its journal's entries. Where memory for the index is refused
-    /// it has none, and the journal is walked whenever an earlier inode is asked for.
+    /// it has none, and the journal is read whenever an earlier inode is asked for.
     pub fn new(
         alloc: Global,
         object: ObjectId,

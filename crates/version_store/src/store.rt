@@ -1,12 +1,13 @@
 //! A store of objects: made, looked at and read.
-ghost use Rattle.std.specs.Prelude.{◌≡◌, ℕ, ◌+◌, ◌^◌, ◌≤◌, ◌<◌, Some, None, length, take, drop, IsSome, IfSome, IfNone, IfOk, IfErr, option_copied};
+ghost use Rattle.std.specs.Prelude.{◌≡◌, ℕ, ◌+◌, ◌^◌, ◌≤◌, ◌<◌, Some, None, length, take, drop, IsSome, IfSome, IfNone, IfOk, IfErr, option_copied, option_map};
 ghost use Rattle.s4_types.specs.Pointer.{Place};
 ghost use Rattle.s4_types.specs.declared.refusals.Refusal.TheVariants.{NoMemory};
 ghost use Rattle.object_map.specs.Objects.{IsNextAbove};
 ghost use Rattle.object_map.specs.Rows.{row_of};
 ghost use Rattle.inode.specs.Contents.{contents_of, bytes_of};
 ghost use Rattle.version_store.specs.Store.{fields_of, IsStore};
-ghost use Rattle.version_store.specs.Versions.{entries_of_object, inode_in};
+ghost use Rattle.checkpoint.specs.declared.cache.TheConstants.{CACHED_INODES};
+ghost use Rattle.version_store.specs.Versions.{entries_of_object, inode_in, distance_in};
 ghost use Rattle.version_store.specs.Costs.{room};
 
 mod changes;
@@ -18,8 +19,10 @@ mod replacements;
 mod upkeep;
 
 use crate::laws::{an_object_has_an_inode_at_all_moments_or_at_none, the_present_stays};
+use crate::leading::lead_back;
 use block_log::Blocks;
 use block_log::laws::what_is_not_held_has_no_name;
+use checkpoint::InodeCache;
 use codec::{Entry, Inode};
 use inode::laws::held_pointers_lead;
 use object_map::{ObjectMap, Row};
@@ -27,14 +30,14 @@ use s4_types::limits::RESERVE_BLOCKS;
 use s4_types::{Moment, ObjectId, Refusal};
 use std::alloc::Global;
 use std::marker::Model;
-use time_read::Present;
 use time_read::laws::the_last_inode_is_current;
+use time_read::{Present, inode_at_counted};
 
 /// The rows of all objects, and the table that their blocks are in.
 #[derive(Drop)]
 pub struct Store<B: Blocks> {
     alloc: Global,
-    // The present inode and an index of the journal are kept beside each row, so that neither a change nor a read walks a journal,
+    // The present inode and an index of the journal are kept beside each row, so that neither a change nor a read goes through a journal,
     // unless memory for the index was refused.
     // An inode takes 672 bytes, its row some 60, the index's own part some 80; with the gaps of the tree these take up to 1,800.
     // At most 15,300 objects can have a row, each with at least one block of 512 bytes in the table: so at worst this takes
@@ -44,6 +47,9 @@ pub struct Store<B: Blocks> {
     table: B,
     // The moment of the last change, 0 where there was none.
     latest: Moment,
+    // What is kept under a stamp that its row no longer has isn't looked at any more; a row that goes takes all with it, since its
+    // stamps begin anew where its number is given once more.
+    cache: InodeCache,
 }
 
 impl<B: Blocks> Model for Store<B> {
@@ -54,28 +60,38 @@ impl<B: Blocks> Model for Store<B> {
 
     ghost view = { λ s. record { rows = s.objects.rows; table = s.table; latest = s.latest } };
 
-    ghost invariant = { λ s. IsBeside s.objects.values (fields_of B.log (record { rows = s.objects.rows; table = s.table; latest = s.latest })) };
+    ghost invariant = { λ s. IsBeside s.objects.values s.cache.pairs (fields_of B.log (record { rows = s.objects.rows; table = s.table; latest = s.latest })) };
 }
 
 impl<B: Blocks> Store<B> {
     /// A store without objects, over a table that holds no block; places of it that were taken and those ahead are fewer than 2^46.
-    #[tactic(auto, using(crate::proofs::Once::once_none))]
-    pub fn new(alloc: Global, table: B) -> Self
+    /// It keeps the inodes of at most `inodes` checkpoints in memory, 1 to `CACHED_INODES`.
+    ///
+    /// NoMemory alone, where the memory for these is refused; the table is let go then.
+    #[tactic(auto, using(crate::proofs::Once::once_none, crate::proofs::Cached::none_true))]
+    pub fn new(alloc: Global, table: B, inodes: usize) -> Result<Self, Refusal>
+    where
+        B: Drop,
+        requires some { 0 < inodes }
+        requires few { inodes ≤ CACHED_INODES }
         requires nothing { (p : Place) → (B.log table).held p ≡ None }
         requires bounded { (B.log table).spent + length (B.log table).ahead < 2 ^ 46 }
-        ensures store { IsStore (fields_of B.log result) }
-        ensures empty { (o : ℕ) → row_of result.rows o ≡ None }
-        ensures log { B.log result.table ≡ B.log table }
-        ensures latest { result.latest ≡ 0 }
+        ensures store { IfOk result (λ s. IsStore (fields_of B.log s)) }
+        ensures empty { IfOk result (λ s. (o : ℕ) → row_of s.rows o ≡ None) }
+        ensures log { IfOk result (λ s. B.log s.table ≡ B.log table) }
+        ensures latest { IfOk result (λ s. s.latest ≡ 0) }
+        ensures refusal { IfErr result (λ e. e ≡ NoMemory) }
     {
         what_is_not_held_has_no_name();
         table.names();
-        Store {
+        let cache = InodeCache::new(alloc, inodes)?;
+        Ok(Store {
             alloc,
             objects: ObjectMap::new(alloc),
             table,
             latest: Moment::new(0),
-        }
+            cache,
+        })
     }
 
     /// The moment of the last change, and 0 where there was none.
@@ -128,9 +144,10 @@ impl<B: Blocks> Store<B> {
         Some(inode)
     }
 
-    /// Makes of an object's present inode the one at a moment, in its place. Takes no memory. For a moment before the store's last
-    /// change, of whatever object, the object's later changes are undone, the newest first: by the index, or where memory for
-    /// that was refused by a walk of the journal. No block is read but by such a walk.
+    /// Makes of an object's present inode the one at a moment, in its place. For a moment before the store's last change, of
+    /// whatever object, the object's later changes are undone, the newest first, by the index: that takes no memory, and no block
+    /// is read. Where memory for the index was refused, the inode is led to from the nearest checkpoint, or where memory for that
+    /// is refused too by a walk of the journal.
     pub fn lead_back(&mut self, object: ObjectId, at: Moment, inode: &mut Inode)
         requires store { IsStore (fields_of B.log self.old) }
         requires present { inode_in (fields_of B.log self.old) object self.old.latest ≡ Some inode.old }
@@ -145,8 +162,46 @@ impl<B: Blocks> Store<B> {
         let Some(kept) = self.objects.get(object) else {
             unreachable!()
         };
-        kept.value
-            .lead_back(&mut self.table, object, &kept.row, at, inode);
+        lead_back(
+            self.alloc,
+            &mut self.table,
+            &mut self.cache,
+            object,
+            kept,
+            at,
+            inode,
+        );
+    }
+
+    /// The inode of an object at a moment, and how many entries of its journal were undone or redone for it: as many as lie between
+    /// the moment's place in the journal and the nearest start, which is one of the checkpoints that its row names, or the blank
+    /// inode before all entries where it names none. None exactly where the object has no row.
+    ///
+    /// The journal is read whole, and the checkpoint, but for the newest one where its inode was kept in memory when it was read
+    /// before. NoMemory alone, where the memory for the entries is refused.
+    pub fn inode_at_counted(
+        &mut self,
+        object: ObjectId,
+        at: Moment,
+    ) -> Result<Option<(Inode, u32)>, Refusal>
+        requires { IsStore (fields_of B.log self.old) }
+        ensures inode { IfOk result (λ found. option_map (λ pair. pair.0) found ≡ inode_in (fields_of B.log self.old) object at) }
+        ensures count { IfOk result (λ found. option_map (λ pair. pair.1) found ≡ distance_in (fields_of B.log self.old) object at) }
+        ensures refusal { IfErr result (λ e. e ≡ NoMemory) }
+        ensures same { fields_of B.log self.new ≡ fields_of B.log self.old }
+    {
+        let Some(row) = self.row(object) else {
+            return Ok(None);
+        };
+        let found = inode_at_counted(
+            self.alloc,
+            &mut self.table,
+            &mut self.cache,
+            object,
+            &row,
+            at,
+        )?;
+        Ok(Some(found))
     }
 
     /// The journal entries of an object, the oldest first, and none where it has no row.

@@ -32,12 +32,14 @@ impl Store<SegmentTable> {
             objects,
             table,
             latest,
+            cache,
         } = self;
         Store {
             alloc,
             objects,
             table: NamedTable::new(table),
             latest,
+            cache,
         }
     }
 }

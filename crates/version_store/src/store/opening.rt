@@ -8,6 +8,7 @@ ghost use Rattle.version_store.specs.Store.{fields_of, IsStore, NamesNoneTwice};
 use crate::opened::{OpenedObject, map_of};
 use crate::store::Store;
 use block_log::Blocks;
+use checkpoint::{CACHED_INODES, InodeCache};
 use s4_types::{Moment, Refusal};
 use std::alloc::Global;
 
@@ -15,7 +16,7 @@ impl<B: Blocks> Store<B> {
     /// A store of the objects whose blocks a table holds, as they were up to the moment of the last change. No data block has more
     /// than one name in the table, since the store gives none a second one.
     ///
-    /// NoMemory alone, where memory for the rows is refused; the table is let go then.
+    /// NoMemory alone, where memory for the rows, or for the inodes that are kept of checkpoints, is refused; the table is let go then.
     pub fn from_parts(
         alloc: Global,
         table: B,
@@ -35,11 +36,13 @@ impl<B: Blocks> Store<B> {
         ensures refusal { IfErr result (λ e. e ≡ NoMemory) }
     {
         let objects = map_of(alloc, objects)?;
+        let cache = InodeCache::new(alloc, CACHED_INODES)?;
         Ok(Store {
             alloc,
             objects,
             table,
             latest,
+            cache,
         })
     }
 }

@@ -60,6 +60,7 @@ impl<B: Blocks> Store<B> {
         what_changes_rest_on();
         drop_all(self.alloc, &mut self.table, object, row, pointers);
         self.objects.remove(object);
+        self.cache.clear();
     }
 
     /// An object's row goes, if it has one, and with it its journal, its checkpoints and its data: no block of the object is held

@@ -1,12 +1,14 @@
 -- The store's facts are those of the opened store; what is to be shown is of the store as it was passed.
 use Rattle.std.proofs.Common.{◌==◌, cond, Option, None, refl, sym, ap, subst, ◌∙◌}
 use Rattle.codec.specs.declared.inodes.Inode.{Inode}
+use Rattle.checkpoint.specs.Cached.{CachedInodes}
 use Rattle.version_store.specs.Store.{StoreOf, StoreFields, IsStore, fields_of}
 use Rattle.version_store.specs.Replacing.{IsRemoved}
 use Rattle.version_store.specs.private.Replacing.{Removes}
 use Rattle.version_store.proofs.Beside.{gone_inode, removed_indexed}
 use Rattle.version_store.proofs.CheckpointSteps.{next_store}
 use Rattle.version_store.proofs.Replacing.{removed}
+use Rattle.version_store.proofs.Cached.{none_true}
 use Rattle.version_store.proofs.store.Store.forget.Goals as goal
 
 pub drop_all-requires-clause-once : goal.drop_all-requires-clause-once
@@ -34,4 +36,5 @@ invariant_of-self g c =
       inodes = λ q. gone_inode c.self.inside.objects.values c.remove.new.self.values c.args.object c.remove.ensures.values q ∙ ap (λ (i : Option Inode). cond (c.args.object == q) None i) (c.self.invariant.inodes q) ∙ sym (made.inodes q c.self.inside.latest);
       indexes = removed_indexed s (next_store s c.remove.new.self.rows log) c.args.object c.self.inside.objects.values c.remove.new.self.values gone c.remove.ensures.values c.self.invariant.indexes;
       once = c.drop_all.ensures.once;
+      cached = none_true log.held c.remove.new.self.rows c.clear.new.self.pairs (ap (λ (cache : CachedInodes). cache.pairs) c.clear.ensures);
     }

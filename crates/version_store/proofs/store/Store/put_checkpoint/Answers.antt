@@ -1,5 +1,7 @@
 -- The row's facts are those of the opened store; what is to be shown is of the store as it was passed.
-use Rattle.std.proofs.Common.{◌+◌, Option, IfSome, sym, ap, subst, ◌∙◌}
+use Rattle.std.proofs.Common.{◌≡◌, ◌+◌, Option, IfSome, sym, ap, subst, ◌∙◌, arith}
+use Rattle.std.proofs.lemmas.Option.{same_Some}
+use Rattle.block_log.specs.declared.kinds.BlockKind.TheVariants.{Checkpoint}
 use Rattle.std.specs.Prelude.{option_map}
 use Rattle.block_log.specs.Taken.{TakesPlaces}
 use Rattle.codec.specs.declared.inodes.Inode.{Inode}
@@ -11,6 +13,7 @@ use Rattle.version_store.specs.private.CheckpointSteps.{CanCheckpoint, Checkpoin
 use Rattle.version_store.proofs.Beside.{checkpointed_indexed}
 use Rattle.version_store.proofs.CheckpointSteps.{Rewrites, known, rewritten, next_store}
 use Rattle.version_store.proofs.Once.{once_stays}
+use Rattle.version_store.proofs.Cached.{put_true}
 use Rattle.version_store.proofs.store.Store.put_checkpoint.Goals as goal
 
 pub record_checkpoint-requires : goal.record_checkpoint-requires
@@ -66,4 +69,6 @@ invariant_of-self g c =
       inodes = λ q. ap (option_map (λ p. p.inode)) (put.values q) ∙ c.self.invariant.inodes q ∙ sym (made.stands.inodes q c.self.inside.latest);
       indexes = checkpointed_indexed s (next_store s c.change_row.new.self.rows log) c.args.object c.args.row.now c.self.inside.objects.values c.change_row.new.self.values can.there made.made put.values c.self.invariant.indexes;
       once = once_stays s.log log c.record_checkpoint.ensures.named c.self.invariant.once;
+      cached = put_true s.log.held log.held s.rows c.change_row.new.self.rows c.args.object (record c.in-Ok.next { stamp = c.args.row.now.stamp + 1 }) c.self.inside.cache.pairs (λ old is. let same : old.stamp ≡ c.args.row.now.stamp = ap (λ (r : Row). r.stamp) (same_Some old c.args.row.now (sym is ∙ can.there)) in omega (arith, same))
+          put.rows (λ q other. c.in-Ok.ensures.others Checkpoint q other) c.self.invariant.cached;
     }

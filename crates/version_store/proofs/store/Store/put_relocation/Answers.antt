@@ -1,4 +1,6 @@
-use Rattle.std.proofs.Common.{◌≡◌, ◌≤◌, ◌+◌, ℕ, List, length, Option, Some, IfSome, sym, ap, subst, ◌∙◌}
+use Rattle.std.proofs.Common.{◌≡◌, ◌≤◌, ◌+◌, ℕ, List, length, Option, Some, IfSome, sym, ap, subst, ◌∙◌, arith}
+use Rattle.std.proofs.lemmas.Option.{same_Some}
+use Rattle.block_log.specs.declared.kinds.BlockKind.TheVariants.{Checkpoint}
 use Rattle.codec.specs.declared.inodes.Inode.{Inode}
 use Rattle.object_map.specs.declared.map.Row.{Row}
 use Rattle.object_map.specs.Objects.{Puts, with_value}
@@ -15,6 +17,7 @@ use Rattle.version_store.specs.private.Relocating.{RelocatesIn}
 use Rattle.version_store.proofs.Beside.{inode_put, replaced_indexed}
 use Rattle.version_store.proofs.CheckpointSteps.{next_store}
 use Rattle.version_store.proofs.RelocatedStore.{Laws, relocated, renamed_beside}
+use Rattle.version_store.proofs.Cached.{put_true}
 use Rattle.version_store.proofs.store.Store.put_relocation.Goals as goal
 
 pub relocate_blocks-moved-requires-clause-once : goal.relocate_blocks-moved-requires-clause-once
@@ -93,4 +96,6 @@ invariant_of-self g c =
       indexes = replaced_indexed s (next_store s c.change.new.self.rows log) o (record next { stamp = row.stamp + 1 }) (renamed_entries r (entries_of s.log.held o row)) beside c.self.inside.objects.values c.change.new.self.values
           put.rows made.relocated.others c.relocate_blocks-moved.ensures.moved.journal (subst (λ (es : List _). IsIndexOf c.index_of.result es) (c.as_slice.ensures.value ∙ c.relocate_blocks-moved.ensures.entries) c.index_of.ensures) put.values c.self.invariant.indexes;
       once = c.relocate_blocks-moved.ensures.once;
+      cached = put_true s.log.held log.held s.rows c.change.new.self.rows o (record next { stamp = row.stamp + 1 }) c.self.inside.cache.pairs (λ old same. let is : old.stamp ≡ row.stamp = ap (λ (x : Row). x.stamp) (same_Some old row (sym same ∙ there)) in omega (arith, is))
+          put.rows (λ q other. made.relocated.others Checkpoint q other) c.self.invariant.cached;
     }

@@ -1,5 +1,6 @@
 -- The store's facts are those of the opened store; what is to be shown is of the store as it was passed.
-use Rattle.std.proofs.Common.{◌≡◌, ℕ, ◌≤◌, ◌+◌, ◌&&◌, not, cond, List, length, Option, Some, None, IfSome, refl, sym, ap, subst}
+use Rattle.std.proofs.Common.{◌≡◌, ℕ, ◌≤◌, ◌+◌, ◌&&◌, not, cond, List, length, Option, Some, None, IfSome, refl, sym, ap, subst, ◌∙◌, arith}
+use Rattle.std.proofs.lemmas.Option.{same_Some}
 use Rattle.s4_types.specs.Pointer.{Place}
 use Rattle.block_log.specs.Taken.{TakesPlaces}
 use Rattle.block_log.specs.Log.{Log, of_kind}
@@ -19,6 +20,7 @@ use Rattle.version_store.proofs.Spending.{none_more}
 use Rattle.version_store.proofs.CheckpointSteps.{next_store}
 use Rattle.version_store.proofs.Replaced.{known, swapped, replaced, led_later, kept_beside}
 use Rattle.version_store.proofs.Once.{once_stays}
+use Rattle.version_store.proofs.Cached.{put_true}
 use Rattle.version_store.proofs.store.Store.put_replacement.Goals as goal
 
 pub drop_data-requires-clause-once : goal.drop_data-requires-clause-once
@@ -116,4 +118,6 @@ invariant_of-self g c =
       indexes = replaced_indexed s (next_store s c.change.new.self.rows log) o (record c.rewrite_blocks-next.result { stamp = row.stamp + 1 }) entries beside c.self.inside.objects.values c.change.new.self.values
           put.rows made.replaced.others c.rewrite_blocks-next.ensures.rewritten.entries_are c.index_of.ensures put.values c.self.invariant.indexes;
       once = once_stays between log c.rewrite_blocks-next.ensures.named c.drop_data.ensures.once;
+      cached = put_true s.log.held log.held s.rows c.change.new.self.rows o (record c.rewrite_blocks-next.result { stamp = row.stamp + 1 }) c.self.inside.cache.pairs (λ old is. let same : old.stamp ≡ row.stamp = ap (λ (r : Row). r.stamp) (same_Some old row (sym is ∙ there)) in omega (arith, same))
+          put.rows (λ q other. made.replaced.others Checkpoint q other) c.self.invariant.cached;
     }

@@ -16,7 +16,7 @@ returns-in-Some g c =
     let inode : Inode = c.in-Some.kept.now.value.inode in
     let there : row ≡ subject_row s o m = ap (row_or_fresh m) c.in-Some.ensures.row in
     let begins : inode ≡ subject_inode s o m =
-    sym ((c.changes_begin_with_the_present.ensures s o m).0 inode (sym (inode_kept c.self.inside.objects.values s o c.in-Some.kept.now.value c.in-Some.ensures.value c.self.invariant))) in
+    sym ((c.changes_begin_with_the_present.ensures s o m).0 inode (sym (inode_kept c.self.inside.objects.values c.self.inside.cache.pairs s o c.in-Some.kept.now.value c.in-Some.ensures.value c.self.invariant))) in
     record {
       row = subst (λ (v : StoreOf _). row ≡ subject_row (fields_of g.B.Blocks.log v) o m) c.self.view_is there;
       inode = subst (λ (v : StoreOf _). inode ≡ subject_inode (fields_of g.B.Blocks.log v) o m) c.self.view_is begins;

@@ -7,6 +7,8 @@ use Rattle.inode.specs.Contents.{contents_of}
 use Rattle.inode.specs.Changed.{blocks_cut}
 use Rattle.version_store.specs.private.Beside.{inode_beside}
 use Rattle.version_store.proofs.Beside.{grown_indexed}
+use Rattle.version_store.proofs.Cached.{stays_true}
+use Rattle.version_store.proofs.Frames.{growth_stays}
 use Rattle.version_store.proofs.Present.{grown_keeps}
 use Rattle.version_store.proofs.Kind.{can_turn, bytes_made, taken_of}
 use Rattle.version_store.proofs.Making.{can_subject, subject_is, truncated_makes}
@@ -59,4 +61,5 @@ invariant_of-self g c =
       inodes = grown_keeps c.what_changes_rest_on.ensures.inode s log c.args.object blocks (inode_beside c.self.inside.objects.values) c.truncate-after.ensures.growth c.self.invariant.inodes;
       indexes = grown_indexed s log c.args.object blocks c.self.inside.objects.values c.truncate-after.ensures.growth c.self.invariant.indexes;
       once = once_grown c.what_is_not_held_has_no_name.ensures c.args.object blocks s.log log c.truncate-after.ensures.growth c.names.ensures c.self.invariant.once;
+      cached = stays_true s.log.held log.held s.rows c.self.inside.cache.pairs (λ q. (growth_stays c.args.object blocks s.log log q c.truncate-after.ensures.growth).checkpoints) c.self.invariant.cached;
     }

@@ -1,5 +1,7 @@
 -- The row's facts are those of the opened store; what is to be shown is of the store as it was passed.
 use Rattle.std.proofs.Common.{◌≡◌, ℕ, ◌+◌, ◌++◌, List, Option, Some, IfSome, refl, sym, ap, subst, ◌∙◌, arith}
+use Rattle.std.proofs.lemmas.Option.{same_Some}
+use Rattle.block_log.specs.declared.kinds.BlockKind.TheVariants.{Checkpoint}
 use Rattle.codec.specs.Entry.{EntryFields, entries_length}
 use Rattle.codec.specs.declared.inodes.Inode.{Inode}
 use Rattle.journal_chain.specs.Push.{HasRoom}
@@ -16,6 +18,7 @@ use Rattle.version_store.proofs.Steps.{Records}
 use Rattle.version_store.proofs.Present.{turned_keeps}
 use Rattle.version_store.proofs.Turning.{known, records_of, turned}
 use Rattle.version_store.proofs.Once.{once_stays}
+use Rattle.version_store.proofs.Cached.{put_true}
 use Rattle.version_store.proofs.store.Store.turn.Goals as goal
 
 pub new-entries-requires : goal.new-entries-requires
@@ -90,4 +93,6 @@ invariant_of-self g c =
       indexes = turned_indexed s later o (row.stamp + 1) row next c.new-entries.result turns.present c.self.inside.objects.values c.turn_beside.new.objects.values there turns.put.rows made.others
           (made.entries ∙ ap (λ (es : List EntryFields). entries_of s.log.held o row ++ es) (sym c.new-entries.ensures)) turns.told turns.put.values c.self.invariant.indexes;
       once = once_stays s.log later.log made.named c.self.invariant.once;
+      cached = put_true s.log.held later.log.held s.rows later.rows o (record next { stamp = row.stamp + 1 }) c.self.inside.cache.pairs (λ old is. let same : old.stamp ≡ row.stamp = ap (λ (r : Row). r.stamp) (same_Some old row (sym is ∙ there)) in omega (arith, same))
+          turns.put.rows (λ q other. made.others Checkpoint q refl) c.self.invariant.cached;
     }

@@ -17,9 +17,9 @@ plan-requires-clause-size g c =
     let old : StoreOf Table = record { rows = c.self-inside.inside.0.1.0.rows; table = c.self-inside.inside.0.1.1.0.table; latest = c.self-inside.inside.0.1.1.1.0 } in
     let is : old ≡ c.args.self.now = along {B = StoreOf Table} c.self-inside.view_is (λ i. record { rows = i.objects.rows; table = i.table; latest = i.latest }) ∙ c.self.view_is in
     let s : StoreFields = fields_of log_of old in
-    let beside : IsBeside c.self-inside.inside.0.1.0.values s = across c.self-inside.view_is (λ i. IsBeside i.objects.values (fields_of log_of (record { rows = i.objects.rows; table = i.table; latest = i.latest }))) c.self.invariant in
+    let beside : IsBeside c.self-inside.inside.0.1.0.values c.self-inside.inside.0.1.1.1.1.0.pairs s = across c.self-inside.view_is (λ i. IsBeside i.objects.values i.cache.pairs (fields_of log_of (record { rows = i.objects.rows; table = i.table; latest = i.latest }))) c.self.invariant in
     let i : Inode = c.in-Some.kept.now.value.inode in
-    let kept : Some i ≡ inode_in s c.args.object s.latest = inode_kept c.self-inside.inside.0.1.0.values s c.args.object c.in-Some.kept.now.value c.in-Some.ensures.value beside in
+    let kept : Some i ≡ inode_in s c.args.object s.latest = inode_kept c.self-inside.inside.0.1.0.values c.self-inside.inside.0.1.1.1.1.0.pairs s c.args.object c.in-Some.kept.now.value c.in-Some.ensures.value beside in
     let store : IsStore s = subst (λ (v : StoreOf Table). IsStore (fields_of log_of v)) (sym is) c.requires.store in
     (can_read s c.args.object s.latest i store (sym kept)).0.size
 
@@ -28,9 +28,9 @@ plan-requires-clause-count g c =
     let old : StoreOf Table = record { rows = c.self-inside.inside.0.1.0.rows; table = c.self-inside.inside.0.1.1.0.table; latest = c.self-inside.inside.0.1.1.1.0 } in
     let is : old ≡ c.args.self.now = along {B = StoreOf Table} c.self-inside.view_is (λ i. record { rows = i.objects.rows; table = i.table; latest = i.latest }) ∙ c.self.view_is in
     let s : StoreFields = fields_of log_of old in
-    let beside : IsBeside c.self-inside.inside.0.1.0.values s = across c.self-inside.view_is (λ i. IsBeside i.objects.values (fields_of log_of (record { rows = i.objects.rows; table = i.table; latest = i.latest }))) c.self.invariant in
+    let beside : IsBeside c.self-inside.inside.0.1.0.values c.self-inside.inside.0.1.1.1.1.0.pairs s = across c.self-inside.view_is (λ i. IsBeside i.objects.values i.cache.pairs (fields_of log_of (record { rows = i.objects.rows; table = i.table; latest = i.latest }))) c.self.invariant in
     let i : Inode = c.in-Some.kept.now.value.inode in
-    let kept : Some i ≡ inode_in s c.args.object s.latest = inode_kept c.self-inside.inside.0.1.0.values s c.args.object c.in-Some.kept.now.value c.in-Some.ensures.value beside in
+    let kept : Some i ≡ inode_in s c.args.object s.latest = inode_kept c.self-inside.inside.0.1.0.values c.self-inside.inside.0.1.1.1.1.0.pairs s c.args.object c.in-Some.kept.now.value c.in-Some.ensures.value beside in
     let store : IsStore s = subst (λ (v : StoreOf Table). IsStore (fields_of log_of v)) (sym is) c.requires.store in
     (can_read s c.args.object s.latest i store (sym kept)).0.count
 
@@ -39,9 +39,9 @@ plan-requires-clause-lead g c =
     let old : StoreOf Table = record { rows = c.self-inside.inside.0.1.0.rows; table = c.self-inside.inside.0.1.1.0.table; latest = c.self-inside.inside.0.1.1.1.0 } in
     let is : old ≡ c.args.self.now = along {B = StoreOf Table} c.self-inside.view_is (λ i. record { rows = i.objects.rows; table = i.table; latest = i.latest }) ∙ c.self.view_is in
     let s : StoreFields = fields_of log_of old in
-    let beside : IsBeside c.self-inside.inside.0.1.0.values s = across c.self-inside.view_is (λ i. IsBeside i.objects.values (fields_of log_of (record { rows = i.objects.rows; table = i.table; latest = i.latest }))) c.self.invariant in
+    let beside : IsBeside c.self-inside.inside.0.1.0.values c.self-inside.inside.0.1.1.1.1.0.pairs s = across c.self-inside.view_is (λ i. IsBeside i.objects.values i.cache.pairs (fields_of log_of (record { rows = i.objects.rows; table = i.table; latest = i.latest }))) c.self.invariant in
     let i : Inode = c.in-Some.kept.now.value.inode in
-    let kept : Some i ≡ inode_in s c.args.object s.latest = inode_kept c.self-inside.inside.0.1.0.values s c.args.object c.in-Some.kept.now.value c.in-Some.ensures.value beside in
+    let kept : Some i ≡ inode_in s c.args.object s.latest = inode_kept c.self-inside.inside.0.1.0.values c.self-inside.inside.0.1.1.1.1.0.pairs s c.args.object c.in-Some.kept.now.value c.in-Some.ensures.value beside in
     let store : IsStore s = subst (λ (v : StoreOf Table). IsStore (fields_of log_of v)) (sym is) c.requires.store in
     c.held_pointers_lead.ensures s.log.held c.args.object i (can_read s c.args.object s.latest i store (sym kept)).1
 
@@ -50,9 +50,9 @@ returns-clause-plan g c =
     let old : StoreOf Table = record { rows = c.self-inside.inside.0.1.0.rows; table = c.self-inside.inside.0.1.1.0.table; latest = c.self-inside.inside.0.1.1.1.0 } in
     let is : old ≡ c.args.self.now = along {B = StoreOf Table} c.self-inside.view_is (λ i. record { rows = i.objects.rows; table = i.table; latest = i.latest }) ∙ c.self.view_is in
     let s : StoreFields = fields_of log_of old in
-    let beside : IsBeside c.self-inside.inside.0.1.0.values s = across c.self-inside.view_is (λ i. IsBeside i.objects.values (fields_of log_of (record { rows = i.objects.rows; table = i.table; latest = i.latest }))) c.self.invariant in
+    let beside : IsBeside c.self-inside.inside.0.1.0.values c.self-inside.inside.0.1.1.1.1.0.pairs s = across c.self-inside.view_is (λ i. IsBeside i.objects.values i.cache.pairs (fields_of log_of (record { rows = i.objects.rows; table = i.table; latest = i.latest }))) c.self.invariant in
     let i : Inode = c.in-Some.kept.now.value.inode in
-    let kept : Some i ≡ inode_in s c.args.object s.latest = inode_kept c.self-inside.inside.0.1.0.values s c.args.object c.in-Some.kept.now.value c.in-Some.ensures.value beside in
+    let kept : Some i ≡ inode_in s c.args.object s.latest = inode_kept c.self-inside.inside.0.1.0.values c.self-inside.inside.0.1.1.1.1.0.pairs s c.args.object c.in-Some.kept.now.value c.in-Some.ensures.value beside in
     subst (λ (v : StoreOf Table). IfOk c.plan.result (λ plan. IfSome (inode_in (fields_of log_of v) c.args.object v.latest) (λ inode. IsReadPlan v.table inode c.args.offset c.args.wanted plan))) is
     (planned old.table (inode_in s c.args.object s.latest) i c.args.offset c.args.wanted c.plan.result kept c.plan.ensures.pieces c.plan.ensures.bytes c.plan.ensures.pins c.plan.ensures.seat c.plan.ensures.at)
 
@@ -61,8 +61,8 @@ returns-clause-refusal g c =
     let old : StoreOf Table = record { rows = c.self-inside.inside.0.1.0.rows; table = c.self-inside.inside.0.1.1.0.table; latest = c.self-inside.inside.0.1.1.1.0 } in
     let is : old ≡ c.args.self.now = along {B = StoreOf Table} c.self-inside.view_is (λ i. record { rows = i.objects.rows; table = i.table; latest = i.latest }) ∙ c.self.view_is in
     let s : StoreFields = fields_of log_of old in
-    let beside : IsBeside c.self-inside.inside.0.1.0.values s = across c.self-inside.view_is (λ i. IsBeside i.objects.values (fields_of log_of (record { rows = i.objects.rows; table = i.table; latest = i.latest }))) c.self.invariant in
+    let beside : IsBeside c.self-inside.inside.0.1.0.values c.self-inside.inside.0.1.1.1.1.0.pairs s = across c.self-inside.view_is (λ i. IsBeside i.objects.values i.cache.pairs (fields_of log_of (record { rows = i.objects.rows; table = i.table; latest = i.latest }))) c.self.invariant in
     let i : Inode = c.in-Some.kept.now.value.inode in
-    let kept : Some i ≡ inode_in s c.args.object s.latest = inode_kept c.self-inside.inside.0.1.0.values s c.args.object c.in-Some.kept.now.value c.in-Some.ensures.value beside in
+    let kept : Some i ≡ inode_in s c.args.object s.latest = inode_kept c.self-inside.inside.0.1.0.values c.self-inside.inside.0.1.1.1.1.0.pairs s c.args.object c.in-Some.kept.now.value c.in-Some.ensures.value beside in
     subst (λ (v : StoreOf Table). IfErr c.plan.result (λ e. IfSome (inode_in (fields_of log_of v) c.args.object v.latest) (λ inode. IsPlanRefusal v.table inode c.args.offset c.args.wanted e))) is
     (unplanned old.table (inode_in s c.args.object s.latest) i c.args.offset c.args.wanted c.plan.result kept c.plan.ensures.refusal)

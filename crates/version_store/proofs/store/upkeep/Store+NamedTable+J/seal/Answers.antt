@@ -15,9 +15,9 @@ invariant_of-self-inside g c = sealed_here c.self-inside.inside.0.1.1.0.table c.
 pub invariant_of-self : goal.invariant_of-self
 invariant_of-self g c =
     let old : StoreOf Table = record { rows = c.self-inside.inside.0.1.0.rows; table = c.self-inside.inside.0.1.1.0.table; latest = c.self-inside.inside.0.1.1.1.0 } in
-    let beside : IsBeside c.self-inside.inside.0.1.0.values (fields_of log_of old) =
-    across c.self-inside.view_is (λ i. IsBeside i.objects.values (fields_of log_of (record { rows = i.objects.rows; table = i.table; latest = i.latest }))) c.self.invariant in
-    beside_over c.self-inside.inside.0.1.0.values (fields_of log_of old) (log_of c.seal_open.new.self) c.seal_open.ensures.held c.seal_open.ensures.named beside
+    let beside : IsBeside c.self-inside.inside.0.1.0.values c.self-inside.inside.0.1.1.1.1.0.pairs (fields_of log_of old) =
+    across c.self-inside.view_is (λ i. IsBeside i.objects.values i.cache.pairs (fields_of log_of (record { rows = i.objects.rows; table = i.table; latest = i.latest }))) c.self.invariant in
+    beside_over c.self-inside.inside.0.1.0.values c.self-inside.inside.0.1.1.1.1.0.pairs (fields_of log_of old) (log_of c.seal_open.new.self) c.seal_open.ensures.held c.seal_open.ensures.named beside
 
 pub returns-clause-store : goal.returns-clause-store
 returns-clause-store g c =
