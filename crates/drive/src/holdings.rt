@@ -1,5 +1,5 @@
 //! What a drive holds, for the layers above it.
-ghost use Rattle.std.specs.Prelude.{◌≡◌, ℕ, ◌<◌, ◌≤◌, length, None, MatchBool, IfSome, IfNone, IfOk, IfErr};
+ghost use Rattle.std.specs.Prelude.{◌≡◌, ℕ, ◌<◌, ◌≤◌, length, None, MatchBool, IfSome, IfNone, IfOk, IfErr, option_map};
 ghost use Rattle.s4_types.specs.declared.refusals.Refusal.TheVariants.{NoMemory};
 ghost use Rattle.std.specs.List.{AllByRecursion};
 ghost use Rattle.s4_types.specs.declared.limits.TheConstants.{RUNS_IN_ALL};
@@ -13,7 +13,7 @@ ghost use Rattle.object_map.specs.Rows.{row_of};
 ghost use Rattle.segment_table.specs.Rules.{HasFramesInOrder};
 ghost use Rattle.version_store.specs.Store.{IsStore};
 ghost use Rattle.version_store.specs.Costs.{room};
-ghost use Rattle.version_store.specs.Versions.{entries_of_object, inode_in};
+ghost use Rattle.version_store.specs.Versions.{entries_of_object, inode_in, distance_in};
 ghost use Rattle.drive.specs.Fields.{history_of, state_in, store_of};
 ghost use Rattle.drive.specs.Keeping.{DecodesWhereVisible};
 ghost use Rattle.drive.specs.Opened.{NoneFrom};
@@ -119,14 +119,34 @@ impl<J: Naming> Drive<J> {
     }
 
     /// The inode of an object at a moment, and none where it has no row. For a moment before the drive's last change, of
-    /// whatever object, this object's later changes are undone, the newest first: by the index that is kept in memory, or where
-    /// memory for that was refused by a walk of the journal. No block is read but by such a walk.
+    /// whatever object, this object's later changes are undone, the newest first, by the index that is kept in memory: no block is
+    /// read. Where memory for the index was refused, the inode is led to from the nearest checkpoint, as by
+    /// [`Drive::inode_at_counted`], or where memory for that is refused too by a walk of the journal.
     pub fn inode_at(&mut self, object: ObjectId, at: Moment) -> Option<Inode>
         ensures inode { result ≡ inode_in (store_of self.old) object at }
         ensures ledger { self.new.ledger ≡ self.old.ledger }
         ensures store { store_of self.new ≡ store_of self.old }
     {
         self.store.inode_at(object, at)
+    }
+
+    /// The inode of an object at a moment, and how many entries of its journal were undone or redone for it: as many as lie between
+    /// the moment's place in the journal and the nearest start, which is one of the checkpoints that the object's row names, or
+    /// the blank inode before all entries where it names none. None exactly where the object has no row.
+    ///
+    /// NoMemory alone, where the memory for the entries is refused.
+    pub fn inode_at_counted(
+        &mut self,
+        object: ObjectId,
+        at: Moment,
+    ) -> Result<Option<(Inode, u32)>, Refusal>
+        ensures inode { IfOk result (λ found. option_map (λ pair. pair.0) found ≡ inode_in (store_of self.old) object at) }
+        ensures count { IfOk result (λ found. option_map (λ pair. pair.1) found ≡ distance_in (store_of self.old) object at) }
+        ensures refusal { IfErr result (λ e. e ≡ NoMemory) }
+        ensures ledger { self.new.ledger ≡ self.old.ledger }
+        ensures store { store_of self.new ≡ store_of self.old }
+    {
+        self.store.inode_at_counted(object, at)
     }
 
     /// The journal entries of an object, the oldest first, and none where it has no row.

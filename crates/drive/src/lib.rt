@@ -16,7 +16,8 @@
 //!
 //! A read costs the blocks of its own bytes, and a change those, its journal's and the sealing of the frames that it fills,
 //! whatever else the drive has. A read of a moment before the drive's last change, of whatever object, undoes the later changes
-//! of its own object besides: by an index in memory, or by one walk of the journal where memory for the index was refused.
+//! of its own object besides, by an index in memory. Where memory for the index was refused, the journal is read: the way begins at
+//! the nearest checkpoint, or where there is no memory for that either at the present.
 //! Nothing here waits or knows of threads: whoever shares a drive holds it under a lock.
 #![tactic(auto)]
 

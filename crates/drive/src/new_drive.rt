@@ -1,14 +1,16 @@
 //! A new drive, before and when it gets its name.
-ghost use Rattle.std.specs.Prelude.{◌≡◌, ◌⊎◌, ◌≤◌, ℕ, None, IfOk, IfErr};
+ghost use Rattle.std.specs.Prelude.{◌≡◌, ◌⊎◌, ◌<◌, ◌≤◌, ℕ, None, IfOk, IfErr};
 ghost use Rattle.s4_types.specs.Sizes.{IsFrameCount};
 ghost use Rattle.s4_types.specs.declared.refusals.Refusal.TheVariants.{NoMemory, Busy};
 ghost use Rattle.s4_model.specs.State.{new_base};
 ghost use Rattle.segment_word.specs.AcceptViews.{begun};
+ghost use Rattle.checkpoint.specs.declared.cache.TheConstants.{CACHED_INODES as MOST_INODES};
 ghost use Rattle.object_map.specs.Rows.{row_of};
 ghost use Rattle.segment_table.specs.Room.{log_of, new_places};
 ghost use Rattle.version_store.specs.Store.{fields_of, IsStore};
 
 use crate::drive::Drive;
+use checkpoint::CACHED_INODES;
 use s4_model::laws::every_history_is_sound;
 use s4_types::{ObjectId, Refusal};
 use segment_table::{OverFrames, SegmentTable};
@@ -44,12 +46,35 @@ impl Model for NewDrive {
 
 impl NewDrive {
     /// A new drive of `FEWEST_FRAMES` to `MOST_FRAMES` frames, whose history reaches `window` moments back. Nothing is stored
-    /// in it, and no object has a row.
+    /// in it, and no object has a row. It keeps the inodes of at most `CACHED_INODES` checkpoints in memory.
     ///
     /// NoMemory where memory was refused, Busy where a count of those that share it was full.
-    #[tactic(auto, using(crate::proofs::Beginning::kept_new))]
     pub fn new(alloc: Global, frames: usize, window: u64) -> Result<Self, Refusal>
         requires { IsFrameCount frames }
+        ensures window { IfOk result (λ d. d.window ≡ window) }
+        ensures log { IfOk result (λ d. log_of d.store.table ≡ record { held = λ p. None; ahead = new_places frames; spent = 0; named = λ p. 0 }) }
+        ensures empty { IfOk result (λ d. (o : ℕ) → row_of d.store.rows o ≡ None) }
+        ensures latest { IfOk result (λ d. d.store.latest ≡ 0) }
+        ensures store { IfOk result (λ d. IsStore (fields_of log_of d.store)) }
+        ensures refusal { IfErr result (λ e. (e ≡ NoMemory) ⊎ (e ≡ Busy)) }
+    {
+        Self::with_cache(alloc, frames, window, CACHED_INODES)
+    }
+
+    /// [`NewDrive::new`], but the drive keeps the inodes of at most `inodes` checkpoints in memory, 1 to `CACHED_INODES`. That
+    /// changes no answer, only which blocks are read for it.
+    ///
+    /// It is refused as that is.
+    #[tactic(auto, using(crate::proofs::Beginning::kept_new))]
+    pub fn with_cache(
+        alloc: Global,
+        frames: usize,
+        window: u64,
+        inodes: usize,
+    ) -> Result<Self, Refusal>
+        requires frames { IsFrameCount frames }
+        requires some { 0 < inodes }
+        requires few { inodes ≤ MOST_INODES }
         ensures window { IfOk result (λ d. d.window ≡ window) }
         ensures log { IfOk result (λ d. log_of d.store.table ≡ record { held = λ p. None; ahead = new_places frames; spent = 0; named = λ p. 0 }) }
         ensures empty { IfOk result (λ d. (o : ℕ) → row_of d.store.rows o ≡ None) }
@@ -60,7 +85,7 @@ impl NewDrive {
         every_history_is_sound();
         let table = SegmentTable::new(alloc, frames)?;
         table.frame_rules();
-        let store = Store::new(alloc, table);
+        let store = Store::new(alloc, table, inodes)?;
         let accepts = Accepts::new(alloc)?;
         let window = Window::new(alloc, window);
         Ok(NewDrive {
