@@ -69,6 +69,7 @@ pub(crate) enum Look {
     Entry,
     LastEntry,
     Inode,
+    Distance,
     Held,
     Frame,
     Word,
@@ -117,6 +118,7 @@ pub(crate) enum Sitting {
 pub(crate) enum Beginning {
     Drive,
     Alone,
+    Caching,
     Open,
 }
 
@@ -136,9 +138,10 @@ pub(crate) enum Verb {
 
 /// How commands are spelled: `$` stands for a name, `#` for a number, `%` for bytes, `[at]` and `[now]` for such a word and a
 /// number, or for none.
-static COMMANDS: [(&str, Verb); 74] = [
+static COMMANDS: [(&str, Verb); 76] = [
     ("drive # window #", Verb::Begin(Beginning::Drive)),
     ("drive # window # alone", Verb::Begin(Beginning::Alone)),
+    ("drive # window # inodes #", Verb::Begin(Beginning::Caching)),
     ("open", Verb::Begin(Beginning::Open)),
     ("session $ client", Verb::Sit(Sitting::Come(Role::Client))),
     ("session $ admin", Verb::Sit(Sitting::Come(Role::Admin))),
@@ -177,6 +180,7 @@ static COMMANDS: [(&str, Verb); 74] = [
     ("entry # #", Verb::Look(Look::Entry)),
     ("entry # last", Verb::Look(Look::LastEntry)),
     ("inode # #", Verb::Look(Look::Inode)),
+    ("entries_to # #", Verb::Look(Look::Distance)),
     ("held # #", Verb::Look(Look::Held)),
     ("frame #", Verb::Look(Look::Frame)),
     ("word #", Verb::Look(Look::Word)),

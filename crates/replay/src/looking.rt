@@ -138,6 +138,19 @@ fn tell_inode<D: Played>(text: &mut Text, drive: &mut D, object: u64, at: u64) {
     tell_pointers(text, &inode.pointers);
 }
 
+fn tell_distance<D: Played>(
+    text: &mut Text,
+    drive: &mut D,
+    object: u64,
+    at: u64,
+) -> Result<(), Refusal> {
+    match drive.inode_counted(object, at)? {
+        Some((_, entries)) => text.number(entries as u64),
+        None => text.word("none"),
+    }
+    Ok(())
+}
+
 fn tell_moment(text: &mut Text, moment: Moment) {
     text.number(moment.number());
 }
@@ -224,6 +237,7 @@ fn look_at_object<D: Played>(
         Look::Above => tell_above(text, drive, object),
         Look::Row => tell_row(text, drive, object),
         Look::Inode => tell_inode(text, drive, object, second),
+        Look::Distance => return tell_distance(text, drive, object, second),
         Look::Held => return tell_held(text, drive, object, second),
         Look::Entry => return tell_numbered(text, drive, object, second),
         Look::Entries => tell_moments(text, drive.entries(object)?.as_slice()),

@@ -1,7 +1,8 @@
 //! A drive with its sessions, its cleaner's rounds and a pile of plans, as scripts are played over it.
-ghost use Rattle.std.specs.Prelude.{◌≡◌};
+ghost use Rattle.std.specs.Prelude.{◌≡◌, ◌<◌, ◌≤◌};
 ghost use Rattle.s4_types.specs.Sizes.{IsFrameCount};
 ghost use Rattle.s4_model.specs.State.{new_base};
+ghost use Rattle.checkpoint.specs.declared.cache.TheConstants.{CACHED_INODES};
 ghost use Rattle.segment_table.specs.Room.{log_of};
 ghost use Rattle.version_store.specs.Store.{fields_of};
 ghost use Rattle.drive.specs.Opened.{base_of};
@@ -84,6 +85,8 @@ pub(crate) trait Played {
     fn entries(&mut self, object: u64) -> Result<Vec<Entry>, Refusal>;
 
     fn inode(&mut self, object: u64, at: u64) -> Option<Inode>;
+
+    fn inode_counted(&mut self, object: u64, at: u64) -> Result<Option<(Inode, u32)>, Refusal>;
 
     fn held(&mut self, object: u64, frame: u16) -> Result<Vec<Ptr>, Refusal>;
 
@@ -243,6 +246,11 @@ impl<J: Naming> Played for Party<J> {
         self.drive.inode_at(ObjectId::new(object), Moment::new(at))
     }
 
+    fn inode_counted(&mut self, object: u64, at: u64) -> Result<Option<(Inode, u32)>, Refusal> {
+        self.drive
+            .inode_at_counted(ObjectId::new(object), Moment::new(at))
+    }
+
     fn held(&mut self, object: u64, frame: u16) -> Result<Vec<Ptr>, Refusal> {
         self.drive.held_in(ObjectId::new(object), frame)
     }
@@ -309,11 +317,13 @@ fn play_opened<J: Naming, R: Threads>(
 }
 
 /// A new drive. What is refused for want of memory is asked for once more.
-fn new_drive(alloc: Global, frames: usize, window: u64) -> Result<NewDrive, Refusal>
-    requires { IsFrameCount frames }
+fn new_drive(alloc: Global, frames: usize, window: u64, inodes: usize) -> Result<NewDrive, Refusal>
+    requires frames { IsFrameCount frames }
+    requires some { 0 < inodes }
+    requires few { inodes ≤ CACHED_INODES }
 {
-    match NewDrive::new(alloc, frames, window) {
-        Err(_) => NewDrive::new(alloc, frames, window),
+    match NewDrive::with_cache(alloc, frames, window, inodes) {
+        Err(_) => NewDrive::with_cache(alloc, frames, window, inodes),
         made => made,
     }
 }
@@ -324,11 +334,14 @@ pub(crate) fn play_new<R: Threads>(
     alloc: Global,
     frames: usize,
     window: u64,
+    inodes: usize,
     player: &mut Player<'_>,
 ) -> Result<Start, Refusal>
-    requires { IsFrameCount frames }
+    requires frames { IsFrameCount frames }
+    requires some { 0 < inodes }
+    requires few { inodes ≤ CACHED_INODES }
 {
-    let made = new_drive(alloc, frames, window)?;
+    let made = new_drive(alloc, frames, window, inodes)?;
     play_made::<Brand, R>(rt, alloc, made, player)
 }
 

@@ -1,4 +1,9 @@
 //! A script is played line by line.
+ghost use Rattle.std.specs.Prelude.{◌<◌, ◌≤◌};
+ghost use Rattle.std.specs.Bool.{OnTrue};
+ghost use Rattle.s4_types.specs.Sizes.{IsFrameCount};
+ghost use Rattle.checkpoint.specs.declared.cache.TheConstants.{CACHED_INODES as MOST_INODES};
+
 use crate::acting::{perform_acting, perform_asking, perform_tidying, perform_upkeep};
 use crate::commands::{Beginning, Command, Exchange, Line, Verb, line_of};
 use crate::comparing::{perform_comparing, watch, watch_line};
@@ -9,6 +14,7 @@ use crate::sitting::{come, perform_sitting};
 use crate::stage::Stage;
 use crate::text::Text;
 use crate::words::is_said;
+use checkpoint::CACHED_INODES;
 use s4_model::PlainDrive;
 use s4_types::limits::{FEWEST_FRAMES, MOST_FRAMES};
 use s4_types::{Refusal, Role};
@@ -24,6 +30,7 @@ pub(crate) enum Start {
     New {
         frames: usize,
         window: u64,
+        inodes: usize,
         is_alone: bool,
     },
     Image,
@@ -48,6 +55,15 @@ pub(crate) struct Player<'a> {
     is_printed: bool,
     stage: Stage,
     report: Report,
+}
+
+/// Whether a drive can be made of so many frames, which keeps so many inodes of checkpoints at most.
+fn can_be_made(frames: usize, inodes: usize) -> bool
+    ensures frames { OnTrue result (IsFrameCount frames) }
+    ensures some { OnTrue result (0 < inodes) }
+    ensures few { OnTrue result (inodes ≤ MOST_INODES) }
+{
+    (FEWEST_FRAMES..=MOST_FRAMES).contains(&frames) && (1..=CACHED_INODES).contains(&inodes)
 }
 
 /// Does what a command says, and tells what it is answered.
@@ -271,14 +287,19 @@ impl<'a> Player<'a> {
             verify(rt, self.alloc, self.stage.image.as_slice())?;
             return Ok(Some(Start::Image));
         }
-        let [frames, window, _] = command.asked(0).numbers;
+        let [frames, window, inodes] = command.asked(0).numbers;
         let frames = usize::try_from(frames).unwrap_or(0);
-        if !(FEWEST_FRAMES..=MOST_FRAMES).contains(&frames) {
+        let inodes = match beginning {
+            Beginning::Caching => usize::try_from(inodes).unwrap_or(0),
+            _ => CACHED_INODES,
+        };
+        if !can_be_made(frames, inodes) {
             return Ok(None);
         }
         Ok(Some(Start::New {
             frames,
             window,
+            inodes,
             is_alone: matches!(beginning, Beginning::Alone),
         }))
     }
@@ -358,6 +379,7 @@ impl<'a> Player<'a> {
             Start::New {
                 frames,
                 window,
+                inodes,
                 is_alone,
             } => {
                 let plain = if is_alone {
@@ -366,10 +388,10 @@ impl<'a> Player<'a> {
                     Some(PlainDrive::new(self.alloc, window))
                 };
                 self.stage.begin(plain);
-                if !(FEWEST_FRAMES..=MOST_FRAMES).contains(&frames) {
+                if !can_be_made(frames, inodes) {
                     return Ok(Start::End);
                 }
-                play_new(rt, self.alloc, frames, window, self)
+                play_new(rt, self.alloc, frames, window, inodes, self)
             }
             Start::Image => {
                 self.stage.begin(None);
@@ -456,6 +478,7 @@ pub(crate) fn play_script<R: Threads>(
     let mut start = Start::New {
         frames: FEWEST_FRAMES,
         window: 100,
+        inodes: CACHED_INODES,
         is_alone: false,
     };
     for _ in 0..=lines.len() {
