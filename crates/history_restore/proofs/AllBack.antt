@@ -25,6 +25,13 @@ absent_where_rowless store s objects q t decodes sound rows apart visible =
       | inr above ↦ rowless_is_absent store s q t decodes (no_row store 0 objects q rows (omega (arith, above)) apart) visible
     ]
 
+-- so it is absent afterwards, where it was left, as it was then and before
+pub absent_now_and_then : (s later : State) (store : StoreFields) (rows : List ℕ) (q at : ℕ) → DecodesWhereVisible store s → IsSound s → AreRowsFrom store 0 rows → AllByRecursion (λ (o : ℕ). q ≢ o) rows → present later q ≡ present s q
+    → (present later q ≡ Absent) × (present s q ≡ Absent) × (IsVisible s q at → version_of s q at ≡ Absent)
+absent_now_and_then s later store rows q at decodes sound are apart left =
+    let now : present s q ≡ Absent = absent_where_rowless store s rows q s.clock decodes sound are apart (clock_is_visible s q sound) in
+    (left ∙ now, now, λ visible. absent_where_rowless store s rows q at decodes sound are apart visible)
+
 pub restores_all : (s later : State) (store : StoreFields) (at : ℕ) (objects : List ℕ) (all : List Restored) → DecodesWhereVisible store s → IsSound s → NoneFrom s.next store → AreRowsFrom store 0 objects
     → RestoresEach s later at objects all → LeavesRest s later objects → RestoresAll s later at all
 restores_all s later store at objects all decodes sound unborn rows each rest =
@@ -34,6 +41,5 @@ restores_all s later store at objects all decodes sound unborn rows each rest =
       numbered = each.numbered;
       rest = λ q lt apart.
           let others : AllByRecursion (λ (o : ℕ). q ≢ o) objects = subst (AllByRecursion (λ (o : ℕ). q ≢ o)) each.objects_are (map_all (λ (o : ℕ). q ≢ o) (λ (r : Restored). r.object) all apart) in
-          let now : present s q ≡ Absent = absent_where_rowless store s objects q s.clock decodes sound rows others (clock_is_visible s q sound) in
-          (rest q lt others ∙ now, now, λ visible. absent_where_rowless store s objects q at decodes sound rows others visible);
+          absent_now_and_then s later store objects q at decodes sound rows others (rest q lt others);
     }

@@ -13,3 +13,4 @@ pub mod Denying
 pub mod There
 pub mod AllBack
 pub mod Asked
+pub mod Chosen

@@ -8,7 +8,7 @@ use Rattle.history_restore.specs.declared.plans.Changes.{Changes}
 use Rattle.history_restore.specs.declared.plans.Plan.{Plan}
 use Rattle.history_restore.specs.declared.plans.Plan.TheVariants.{Keep, Delete, Remake, Change}
 use Rattle.history_restore.specs.Content.{content_of, holding, bytes_of}
-use Rattle.history_restore.specs.Plans.{IsPlan, IsPlanBetween, IsChangesOf, IsCut, IsWritten, IsCutWithin, IsWithinBytes, IsWithinPlan, IsThereFor, turned, named_by, written_by, cut_by, number_by}
+use Rattle.history_restore.specs.Plans.{IsPlan, IsPlanBetween, IsChangesOf, IsCut, IsWritten, IsCutWithin, IsWithinBytes, IsWithinPlan, IsThereFor, turned, attribute_by, written_by, cut_by, number_by}
 use Rattle.history_restore.specs.Restoring.{number_from}
 use Rattle.history_restore.proofs.Patching.{cut_bytes, written_bytes, rewritten_bytes, written_over_none}
 
@@ -19,7 +19,7 @@ renamed attribute now false is = sym is
 
 -- what changes make of a live version
 changes_act : (bytes attribute now attribute_now : List ℕ) (created changed o moment : ℕ) (cut : Option ℕ) (patch : Option Patch) (wanted : Bool)
-    → content_of (named_by attribute wanted o moment (written_by bytes patch o moment (cut_by cut o moment (Live now attribute_now created changed)))) ≡ holding (written_bytes bytes patch (cut_bytes cut now)) (cond wanted attribute attribute_now)
+    → content_of (attribute_by attribute wanted o moment (written_by bytes patch o moment (cut_by cut o moment (Live now attribute_now created changed)))) ≡ holding (written_bytes bytes patch (cut_bytes cut now)) (cond wanted attribute attribute_now)
 changes_act bytes attribute now attribute_now created changed o moment None None true = refl
 changes_act bytes attribute now attribute_now created changed o moment None None false = refl
 changes_act bytes attribute now attribute_now created changed o moment None (Some patch) true = refl
@@ -31,7 +31,7 @@ changes_act bytes attribute now attribute_now created changed o moment (Some siz
 
 -- changes turn a live object back
 changes_turn : (bytes attribute now attribute_now : List ℕ) (created changed o moment : ℕ) (changes : Changes) → IsChangesOf bytes attribute now attribute_now changes
-    → content_of (named_by attribute changes.attribute o moment (written_by bytes changes.written o moment (cut_by changes.cut o moment (Live now attribute_now created changed)))) ≡ holding bytes attribute
+    → content_of (attribute_by attribute changes.attribute o moment (written_by bytes changes.written o moment (cut_by changes.cut o moment (Live now attribute_now created changed)))) ≡ holding bytes attribute
 changes_turn bytes attribute now attribute_now created changed o moment changes is =
     changes_act bytes attribute now attribute_now created changed o moment changes.cut changes.written changes.attribute
     ∙ ap (λ b. holding b (cond changes.attribute attribute attribute_now)) (rewritten_bytes bytes now changes.cut changes.written is.shorter is.rewritten)

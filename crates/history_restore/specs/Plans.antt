@@ -71,15 +71,15 @@ written_by bytes None o moment now = now
 written_by bytes (Some patch) o moment now = effect (change.Write o patch.offset (part bytes patch.offset patch.length)) moment now
 
 -- after the attribute was replaced, if that is planned
-abbrev pub named_by : List ℕ → Bool → ℕ → ℕ → Version → Version
-named_by attribute wanted o moment now = if wanted then effect (change.SetAttr o attribute) moment now else now
+abbrev pub attribute_by : List ℕ → Bool → ℕ → ℕ → Version → Version
+attribute_by attribute wanted o moment now = if wanted then effect (change.SetAttr o attribute) moment now else now
 
 -- what an object becomes by the changes of a plan, whose bytes and attribute are those of an earlier version
 abbrev pub turned : Version → Plan → ℕ → ℕ → Version → Version
 turned before Keep o moment now = now
 turned before Delete o moment now = effect (change.Delete o) moment now
 turned before (Remake size) o moment now = effect (change.Write o 0 (bytes_of before)) moment (effect (change.Create o (attribute_of before)) moment now)
-turned before (Change changes) o moment now = named_by (attribute_of before) changes.attribute o moment (written_by (bytes_of before) changes.written o moment (cut_by changes.cut o moment now))
+turned before (Change changes) o moment now = attribute_by (attribute_of before) changes.attribute o moment (written_by (bytes_of before) changes.written o moment (cut_by changes.cut o moment now))
 
 -- A plan turns an object back: after its changes it has the bytes and the attribute that it had, or isn't there where it wasn't.
 abbrev pub APlanTurnsBack : Type 0

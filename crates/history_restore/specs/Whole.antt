@@ -1,6 +1,6 @@
 -- What restoring all objects of a drive comes to.
-use Rattle.std.specs.Prelude.{◌≡◌, ◌≢◌, ℕ, ◌<◌, List, [], ◌∷◌, map, None}
-use Rattle.std.specs.List.{AllByRecursion}
+use Rattle.std.specs.Prelude.{◌≡◌, ◌≢◌, ℕ, ◌<◌, List, [], ◌∷◌, map, None, ◌==◌, Bool, true, false}
+use Rattle.std.specs.List.{AllByRecursion, list_any, filter}
 use Rattle.s4_types.specs.declared.refusals.Refusal.TheVariants.{NoMemory}
 use Rattle.s4_types.specs.declared.versions.Version.TheVariants.{Absent}
 use Rattle.s4_model.specs.State.{State}
@@ -59,6 +59,29 @@ pub record RestoresAll (s later : State) (at : ℕ) (all : List Restored) : Type
   pub ascend : AscendBelow 0 s.next (objects_of all)
   pub numbered : AreNumbered s.next all
   pub rest : (q : ℕ) → q < s.next → AllByRecursion (λ (r : Restored). q ≢ r.object) all → (present later q ≡ Absent) × (present s q ≡ Absent) × (IsVisible s q at → version_of s q at ≡ Absent)
+
+-- whether an object is among those that are asked for
+abbrev pub is_among : List ℕ → ℕ → Bool
+is_among asked o = list_any (λ (x : ℕ). x == o) asked
+
+-- These are the objects that are asked for and have a row, by ascending number.
+pub record AreAskedRows (store : StoreFields) (asked objects : List ℕ) : Type 0 where
+  pub rows : List ℕ
+  pub all : AreRowsFrom store 0 rows
+  pub chosen : objects ≡ filter (is_among asked) rows
+
+-- objects that aren't asked for are what they were
+abbrev pub LeavesUnasked : State → State → List ℕ → Type 0
+LeavesUnasked s later asked = (q : ℕ) → q < s.next → is_among asked q ≡ false → present later q ≡ present s q
+
+-- The objects that are asked for were restored: those that are listed are now what they were at the moment, and any other that is asked for
+-- isn't there, as it wasn't then and before.
+pub record RestoresAsked (s later : State) (at : ℕ) (asked : List ℕ) (all : List Restored) : Type 0 where
+  pub each : AllByRecursion (IsRestored s later at) all
+  pub among : AllByRecursion (λ (r : Restored). is_among asked r.object ≡ true) all
+  pub ascend : AscendBelow 0 s.next (objects_of all)
+  pub numbered : AreNumbered s.next all
+  pub rest : (q : ℕ) → q < s.next → is_among asked q ≡ true → AllByRecursion (λ (r : Restored). q ≢ r.object) all → (present later q ≡ Absent) × (present s q ≡ Absent) × (IsVisible s q at → version_of s q at ≡ Absent)
 
 -- Why not all objects were restored: one of them wasn't, over the drive as it was then, to which the objects before it had led; or there was no
 -- memory for a list.

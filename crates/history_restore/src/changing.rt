@@ -6,7 +6,7 @@ ghost use Rattle.s4_model.specs.Refusals.{present, is_absent};
 ghost use Rattle.s4_model.specs.Step.{part};
 ghost use Rattle.drive.specs.Fields.{state_in};
 ghost use Rattle.history_restore.specs.Content.{content_of, holding, bytes_of, attribute_of};
-ghost use Rattle.history_restore.specs.Plans.{cut_by, written_by, named_by, turned, number_by, next_by_plan, FitsCut, IsWithinBytes, IsWithinPlan, IsThereFor};
+ghost use Rattle.history_restore.specs.Plans.{cut_by, written_by, attribute_by, turned, number_by, next_by_plan, FitsCut, IsWithinBytes, IsWithinPlan, IsThereFor};
 ghost use Rattle.history_restore.specs.Asking.{is_left};
 ghost use Rattle.history_restore.specs.Keeping.{LeavesPast, LeavesOthers};
 
@@ -120,7 +120,7 @@ fn write<J: Naming>(
 }
 
 /// The attribute is replaced, where that is wanted.
-fn name<J: Naming>(
+fn set_attribute<J: Naming>(
     alloc: Global,
     drive: &mut Drive<J>,
     session: &mut Session<J>,
@@ -129,7 +129,7 @@ fn name<J: Naming>(
     wanted: bool,
     now: Moment,
 ) -> Result<(), Refusal>
-    ensures content { OnOk result (content_of (present (state_in drive.new) object) ≡ content_of (named_by attribute.now wanted object 0 (present (state_in drive.old) object))) }
+    ensures content { OnOk result (content_of (present (state_in drive.new) object) ≡ content_of (attribute_by attribute.now wanted object 0 (present (state_in drive.old) object))) }
     ensures next { OnOk result ((state_in drive.new).next ≡ (state_in drive.old).next) }
     ensures refused { IfErr result (λ e. is_absent (present (state_in drive.old) object) ≡ false → length attribute.now ≤ ATTRIBUTE_BYTES → is_left e ≡ true) }
     ensures others { LeavesOthers object (state_in drive.old) (state_in drive.new) }
@@ -165,7 +165,7 @@ fn change<J: Naming>(
     let attribute = attribute_of(before);
     cut(drive, session, object, changes.cut, now)?;
     write(alloc, drive, session, object, bytes, changes.written, now)?;
-    name(
+    set_attribute(
         alloc,
         drive,
         session,

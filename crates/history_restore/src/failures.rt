@@ -11,8 +11,8 @@ use s4_types::{Moment, ObjectId, Refusal, Span, Version};
 pub struct Failure {
     pub object: ObjectId,
     /// Future, Expired or Flushed where the moment can't be read, Expired also where the floor has passed it while other objects were
-    /// restored. ChainFull where the object's journal is full, NoSpace where there is too little room for blocks. NoMemory where memory
-    /// was refused.
+    /// restored. ChainFull where the object's journal is full, NoSpace where there is too little room for blocks, ClockEnd where no later
+    /// moment or no further number is left. NoMemory where memory was refused, Busy where a read would have needed a pin.
     pub refusal: Refusal,
     /// Where the journal is full: the moments of the object whose flush may make room in it, if there are such.
     pub flush: Option<Span>,
@@ -29,7 +29,7 @@ fn changed_in(version: &Version) -> Moment
 
 /// The moments between the one asked for and the object's last change, both left out. The version at the former is what is restored, and
 /// the last change made the present one, which is there as long as the object is; only what was there between them can be given up.
-fn between(object: ObjectId, at: Moment, latest: &Version) -> Option<Span>
+pub fn between(object: ObjectId, at: Moment, latest: &Version) -> Option<Span>
     ensures { result ≡ between object at latest.now }
 {
     let first = at.number().saturating_add(1);

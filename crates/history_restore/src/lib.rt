@@ -3,8 +3,9 @@
 //! The layers above may rely on this: `plan_of` says what has to be done to an object, by what it was and what it is, with as few requests
 //! as serve, and `laws` that this turns it back. `restore_object` does what `plan_object` plans: afterwards the object has exactly the bytes
 //! and the attribute that it had, under its own number, or under the next one where it was deleted since. `restore_all` does so with every
-//! object that has a row. Whatever these answer, every other object is what it was, every version up to the clock stays, and no moment is
-//! hidden. `make_room` alone hides moments, of the one object that it is asked for, and then cleans that object's chain.
+//! object that has a row, `restore_objects` with those of them that are asked for. Whatever these answer, every other object is what it was,
+//! every version up to the clock stays, and no moment is hidden. `make_room` alone hides moments, of the one object that it is asked for,
+//! and then cleans that object's chain.
 //!
 //! Each change moves the clock on, and the floor with it, so that the moment may fall below the floor while objects are restored; that is
 //! refused then, and what was done before stays. Whoever saves the drive saves it only where all was done.
@@ -21,8 +22,8 @@ mod restoring;
 mod room;
 mod whole;
 
-pub use failures::Failure;
+pub use failures::{Failure, between};
 pub use plans::{Changes, Patch, Plan, plan_of};
 pub use restoring::{Restored, plan_object, restore_object};
 pub use room::make_room;
-pub use whole::{ascend_below, restore_all, restore_each};
+pub use whole::{restore_all, restore_objects};

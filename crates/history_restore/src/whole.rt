@@ -1,9 +1,9 @@
 //! All objects of a drive are made what they were at a moment.
-ghost use Rattle.std.specs.Prelude.{◌≡◌, ◌⊎◌, IsTrue, IfOk, IfErr, length};
+ghost use Rattle.std.specs.Prelude.{◌≡◌, IfOk, IfErr, filter};
 ghost use Rattle.s4_types.specs.declared.refusals.Refusal.TheVariants.{NoMemory};
 ghost use Rattle.drive.specs.Fields.{state_in, store_of};
 ghost use Rattle.history_restore.specs.Keeping.{LeavesPast};
-ghost use Rattle.history_restore.specs.Whole.{AreRowsFrom, AscendBelow, RestoresEach, RestoresAll, StopsAll, LeavesRest};
+ghost use Rattle.history_restore.specs.Whole.{AreRowsFrom, AreAskedRows, AscendBelow, RestoresEach, RestoresAsked, RestoresAll, StopsAll, LeavesRest, LeavesUnasked, is_among};
 
 use crate::failures::{Failure, unread};
 use crate::restoring::{Restored, restore_object};
@@ -26,25 +26,42 @@ fn rows<J: Naming>(alloc: Global, drive: &Drive<J>) -> Result<Vec<ObjectId>, Ref
     Ok(rows)
 }
 
-/// Whether the numbers of objects ascend strictly, from above one, and are below another.
-pub fn ascend_below(low: ObjectId, high: ObjectId, objects: &[ObjectId]) -> bool
-    ensures { IsTrue result → AscendBelow low high objects.now }
+/// Whether an object is among those that are asked for.
+fn is_among(asked: &[ObjectId], object: ObjectId) -> bool
+    ensures { result ≡ is_among asked.now object }
 {
-    match objects {
-        [] => true,
-        [first, rest @ ..] => {
-            low.number() < first.number()
-                && first.number() < high.number()
-                && ascend_below(*first, high, rest)
-        }
-    }
+    asked.iter().any(|one| *one == object)
 }
 
-/// Makes objects of ascending numbers what they were at a moment, by requests at the moment `now` of the server's clock, and tells of each
-/// what was done to it, in order.
-///
-/// A refusal says of which object and why, as [`Failure`] tells. What was done before it stays.
-pub fn restore_each<J: Naming>(
+/// Of these objects those that are asked for.
+fn choose(alloc: Global, objects: &[ObjectId], asked: &[ObjectId]) -> Result<Vec<ObjectId>, Refusal>
+    ensures chosen { IfOk result (λ chosen. chosen.items ≡ filter (is_among asked.now) objects.now) }
+    ensures refusal { IfErr result (λ e. e ≡ NoMemory) }
+{
+    let mut chosen = Vec::new(alloc);
+    for object in objects {
+        if is_among(asked, *object) {
+            chosen.push(*object)?;
+        }
+    }
+    Ok(chosen)
+}
+
+/// Those objects that are asked for and have a row, by ascending number.
+fn rows_among<J: Naming>(
+    alloc: Global,
+    drive: &Drive<J>,
+    asked: &[ObjectId],
+) -> Result<Vec<ObjectId>, Refusal>
+    ensures rows { IfOk result (λ rows. AreAskedRows (store_of drive.now) asked.now rows.items) }
+    ensures refusal { IfErr result (λ e. e ≡ NoMemory) }
+{
+    let all = rows(alloc, drive)?;
+    choose(alloc, all.as_slice(), asked)
+}
+
+/// Makes objects of ascending numbers what they were at a moment.
+fn restore_each<J: Naming>(
     alloc: Global,
     drive: &mut Drive<J>,
     session: &mut Session<J>,
@@ -67,6 +84,31 @@ pub fn restore_each<J: Naming>(
         }
     }
     Ok(all)
+}
+
+/// Makes the objects that are asked for what they were at a moment, by requests at the moment `now` of the server's clock, and tells of
+/// each that has a row what was done to it, by ascending number and once, in whatever order and how often it is asked for.
+///
+/// A refusal says of which object and why, as [`restore_all`] does.
+pub fn restore_objects<J: Naming>(
+    alloc: Global,
+    drive: &mut Drive<J>,
+    session: &mut Session<J>,
+    asked: &[ObjectId],
+    at: Moment,
+    now: Moment,
+) -> Result<Vec<Restored>, Failure>
+    ensures asked { IfOk result (λ all. RestoresAsked (state_in drive.old) (state_in drive.new) at asked.now all.items) }
+    ensures stopped { IfErr result (StopsAll (state_in drive.old) (state_in drive.new) at) }
+    ensures unasked { LeavesUnasked (state_in drive.old) (state_in drive.new) asked.now }
+    ensures past { LeavesPast (state_in drive.old) (state_in drive.new) }
+{
+    drive.rules();
+    let objects = match rows_among(alloc, drive, asked) {
+        Ok(objects) => objects,
+        Err(refusal) => return Err(unread(ObjectId::new(0), refusal)),
+    };
+    restore_each(alloc, drive, session, objects.as_slice(), at, now)
 }
 
 /// Makes all objects of a drive what they were at a moment, by requests at the moment `now` of the server's clock, and tells of each object

@@ -22,7 +22,7 @@ returns-clause-refused g c =
     let before = present (state_in c.args.drive.now) o in
     let middle = present (state_in c.cut.new.drive) o in
     let after = present (state_in c.write.new.drive) o in
-    IfErr-weaker c.name.result _ _
+    IfErr-weaker c.set_attribute.result _ _
     (λ e left fits there. left (there_after_write c.bytes_of-bytes.result.now changes.written o 0 middle after c.in_ok-write.ensures.content (there_after_cut changes.cut o 0 before middle c.in_ok-cut.ensures.content there))
     (subst (λ (a : List ℕ). length a ≤ ATTRIBUTE_BYTES) (sym c.attribute_of-attribute.ensures) (attribute_fits c.args.before.now fits)))
-    c.name.ensures.refused
+    c.set_attribute.ensures.refused
