@@ -30,9 +30,13 @@ line_at s t row = manifest_line row (content_at s t row)
 abbrev pub exported : State → ℕ → List Listed → List NamedFile
 exported s t rows = record { name = manifest_name; bytes = flat_map (line_at s t) rows } ∷ map (file_at s t) rows
 
+-- the files with that of an object of these bytes, and with a line at the end of the manifest
+abbrev pub with_line : ℕ → List ℕ → List ℕ → List NamedFile → List NamedFile
+with_line o content line files = with_bytes manifest_name line (with_file (file_name o) content files)
+
 -- the files with that of a listed object of these bytes, and with its line at the end of the manifest
 abbrev pub with_object : Listed → List ℕ → List NamedFile → List NamedFile
-with_object row content files = with_bytes manifest_name (manifest_line row content) (with_file (file_name row.object) content files)
+with_object row content files = with_line row.object content (manifest_line row content) files
 
 -- The files are those of all objects that are live at a moment which can be read of them, and nothing else.
 pub record HasExported (s : State) (store : StoreFields) (t : ℕ) (files : Option (List NamedFile)) : Type 0 where

@@ -1,6 +1,6 @@
 -- The versions of objects that can be read: their bytes, and the moments at which they can be read first.
 use Rattle.std.specs.Prelude.{ℕ, zero, suc, ◌+◌, ◌-◌, nat_lt, if◌then◌else◌, Bool, List, [], ◌∷◌, length, map}
-use Rattle.std.specs.List.{sum_by}
+use Rattle.std.specs.List.{flat_map, sum_by}
 use Rattle.s4_types.specs.declared.versions.Version.{Version}
 use Rattle.s4_types.specs.declared.versions.Version.TheVariants.{Absent, Live}
 use Rattle.s4_model.specs.State.{State}
@@ -55,3 +55,11 @@ size_at s pair = length (content_of (version_of s pair.0 pair.1))
 -- how many bytes objects have at moments, together
 abbrev pub bytes_at : State → List (ℕ × ℕ) → ℕ
 bytes_at s pairs = sum_by (size_at s) pairs
+
+-- the bytes that an object has at a moment
+abbrev pub content_in : State → ℕ × ℕ → List ℕ
+content_in s pair = content_of (version_of s pair.0 pair.1)
+
+-- the bytes that objects have at moments, one after the other
+abbrev pub contents_at : State → List (ℕ × ℕ) → List ℕ
+contents_at s pairs = flat_map (content_in s) pairs

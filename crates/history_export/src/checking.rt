@@ -1,18 +1,19 @@
 //! `check`: every version that can be read is read once.
-ghost use Rattle.std.specs.Prelude.{◌≡◌, ◌⊎◌, ℕ, ◌≤◌, List, [], ◌∷◌, if◌then◌else◌, Option, None, IfOk, IfErr, OnOk};
+ghost use Rattle.std.specs.Prelude.{◌≡◌, ◌⊎◌, ℕ, ◌≤◌, List, [], ◌∷◌, if◌then◌else◌, Option, None, IfOk, IfErr, OnOk, MatchBool};
 ghost use Rattle.std.specs.Io.KnownBytes.{Appends};
 ghost use Rattle.s4_types.specs.declared.refusals.Refusal.TheVariants.{NoMemory, Busy};
 ghost use Rattle.s4_model.specs.Visible.{IsVisible};
 ghost use Rattle.version_store.specs.Versions.{entries_of_object};
 ghost use Rattle.drive.specs.Fields.{state_in, store_of};
 ghost use Rattle.history_export.specs.Versions.{begins, pairs_of, seen_from};
-ghost use Rattle.history_export.specs.Checks.{ChecksAll, with_read};
+ghost use Rattle.history_export.specs.Checks.{ChecksAll, HasRead};
 
 use crate::versions::{content_of, first_seen, version_seen};
 use codec::Entry;
 use drive::{Drive, Session};
 use s4_types::{Moment, ObjectId, Refusal};
 use segment_word::Naming;
+use sha2::{Digest, Sha256};
 use std::alloc::Global;
 
 /// How much was read. Each count stops at 2^64 - 1, far above what a drive can have.
@@ -22,6 +23,21 @@ pub struct Checked {
     pub versions: u64,
     /// How many bytes they have together.
     pub bytes: u64,
+}
+
+/// What a check has read.
+#[derive(Clone, Copy, Debug, PartialEq, Eq)]
+pub struct CheckReport {
+    pub checked: Checked,
+    /// The SHA-256 of the bytes of all versions, one version after the other.
+    pub digest: [u8; 32],
+}
+
+// What was read so far, and the hasher that was fed with it.
+#[derive(Drop)]
+pub(crate) struct Reading {
+    pub(crate) checked: Checked,
+    pub(crate) hasher: Sha256,
 }
 
 /// What is told how far a check has come.
@@ -45,7 +61,8 @@ impl Progress for Silent {
 }
 
 /// Reads each version that can be read of each object of a drive, once, by ascending object and moment: at the first of the moments from
-/// its beginning to the next one's that can be read. Counts these versions and their bytes.
+/// its beginning to the next one's that can be read. Counts these versions and their bytes, and gives the SHA-256 of the latter in that
+/// order, which an object that isn't there at a moment adds nothing to.
 ///
 /// NoMemory where a growth is refused, Busy where a block that is needed has no seat left.
 pub fn check_all<J: Naming, P: Progress>(
@@ -53,23 +70,27 @@ pub fn check_all<J: Naming, P: Progress>(
     drive: &mut Drive<J>,
     session: &mut Session<J>,
     progress: &mut P,
-) -> Result<Checked, Refusal>
-    ensures checked { IfOk result (λ checked. ChecksAll (state_in drive.old) (store_of drive.old) checked (P.told progress.old) (P.told progress.new)) }
+) -> Result<CheckReport, Refusal>
+    ensures checked { IfOk result (λ report. ChecksAll (state_in drive.old) (store_of drive.old) report (P.told progress.old) (P.told progress.new)) }
     ensures refused { IfErr result (λ e. (e ≡ NoMemory) ⊎ (e ≡ Busy)) }
     ensures state { state_in drive.new ≡ state_in drive.old }
     ensures store { store_of drive.new ≡ store_of drive.old }
 {
-    let mut checked = Checked {
+    let checked = Checked {
         versions: 0,
         bytes: 0,
     };
+    let hasher = Sha256::new();
+    let mut reading = Reading { checked, hasher };
     let mut last = ObjectId::new(0);
     while let Some(object) = drive.next_row(last) {
-        check_object(alloc, drive, session, object, &mut checked)?;
-        progress.tell(object, checked);
+        check_object(alloc, drive, session, object, &mut reading)?;
+        progress.tell(object, reading.checked);
         last = object;
     }
-    Ok(checked)
+    let Reading { checked, hasher } = reading;
+    let digest = hasher.finalize();
+    Ok(CheckReport { checked, digest })
 }
 
 // Reads each version of an object that can be read.
@@ -78,15 +99,15 @@ fn check_object<J: Naming>(
     drive: &mut Drive<J>,
     session: &mut Session<J>,
     object: ObjectId,
-    checked: &mut Checked,
+    reading: &mut Reading,
 ) -> Result<(), Refusal>
-    ensures read { OnOk result (checked.new ≡ with_read (state_in drive.old) checked.old (pairs_of (state_in drive.old) (store_of drive.old) object)) }
+    ensures read { OnOk result (HasRead (state_in drive.old) (pairs_of (state_in drive.old) (store_of drive.old) object) reading.old reading.new) }
     ensures refused { IfErr result (λ e. (e ≡ NoMemory) ⊎ (e ≡ Busy)) }
     ensures state { state_in drive.new ≡ state_in drive.old }
     ensures store { store_of drive.new ≡ store_of drive.old }
 {
     let entries = drive.entries(object)?;
-    check_entries(alloc, drive, session, object, entries.as_slice(), checked)
+    check_entries(alloc, drive, session, object, entries.as_slice(), reading)
 }
 
 // The same of an object that has these entries.
@@ -96,19 +117,19 @@ fn check_entries<J: Naming>(
     session: &mut Session<J>,
     object: ObjectId,
     entries: &[Entry],
-    checked: &mut Checked,
+    reading: &mut Reading,
 ) -> Result<(), Refusal>
     requires entries { entries.now ≡ entries_of_object (store_of drive.old) object }
-    ensures read { OnOk result (checked.new ≡ with_read (state_in drive.old) checked.old (pairs_of (state_in drive.old) (store_of drive.old) object)) }
+    ensures read { OnOk result (HasRead (state_in drive.old) (pairs_of (state_in drive.old) (store_of drive.old) object) reading.old reading.new) }
     ensures refused { IfErr result (λ e. (e ≡ NoMemory) ⊎ (e ≡ Busy)) }
     ensures state { state_in drive.new ≡ state_in drive.old }
     ensures store { store_of drive.new ≡ store_of drive.old }
 {
     drive.rules();
-    let first = read_earliest(alloc, drive, session, object, checked)?;
+    let first = read_earliest(alloc, drive, session, object, reading)?;
     let mut last = first;
     for entry in entries {
-        last = check_entry(alloc, drive, session, object, last, entry, checked)?;
+        last = check_entry(alloc, drive, session, object, last, entry, reading)?;
     }
     Ok(())
 }
@@ -119,17 +140,17 @@ fn read_earliest<J: Naming>(
     drive: &mut Drive<J>,
     session: &mut Session<J>,
     object: ObjectId,
-    checked: &mut Checked,
+    reading: &mut Reading,
 ) -> Result<Moment, Refusal>
     ensures first { IfOk result (λ first. first ≡ seen_from (state_in drive.old) object (state_in drive.old).floor) }
-    ensures read { OnOk result (checked.new ≡ with_read (state_in drive.old) checked.old ((object, seen_from (state_in drive.old) object (state_in drive.old).floor) ∷ [])) }
+    ensures read { OnOk result (HasRead (state_in drive.old) ((object, seen_from (state_in drive.old) object (state_in drive.old).floor) ∷ []) reading.old reading.new) }
     ensures refused { IfErr result (λ e. (e ≡ NoMemory) ⊎ (e ≡ Busy)) }
     ensures state { state_in drive.new ≡ state_in drive.old }
     ensures store { store_of drive.new ≡ store_of drive.old }
 {
     drive.rules();
     let earliest = first_seen(drive, object, drive.floor());
-    read_version(alloc, drive, session, object, earliest, checked)?;
+    read_version(alloc, drive, session, object, earliest, reading)?;
     Ok(earliest)
 }
 
@@ -141,11 +162,11 @@ fn check_entry<J: Naming>(
     object: ObjectId,
     last: Moment,
     entry: &Entry,
-    checked: &mut Checked,
+    reading: &mut Reading,
 ) -> Result<Moment, Refusal>
     requires reached { entry.now.moment ≤ (state_in drive.old).clock }
     ensures next { IfOk result (λ next. next ≡ (if begins (state_in drive.old) object last entry.now then seen_from (state_in drive.old) object entry.now.moment else last)) }
-    ensures read { OnOk result (checked.new ≡ (if begins (state_in drive.old) object last entry.now then with_read (state_in drive.old) checked.old ((object, seen_from (state_in drive.old) object entry.now.moment) ∷ []) else checked.old)) }
+    ensures read { OnOk result (MatchBool (begins (state_in drive.old) object last entry.now) (HasRead (state_in drive.old) ((object, seen_from (state_in drive.old) object entry.now.moment) ∷ []) reading.old reading.new) (reading.new ≡ reading.old)) }
     ensures refused { IfErr result (λ e. (e ≡ NoMemory) ⊎ (e ≡ Busy)) }
     ensures state { state_in drive.new ≡ state_in drive.old }
     ensures store { store_of drive.new ≡ store_of drive.old }
@@ -154,28 +175,30 @@ fn check_entry<J: Naming>(
     if moment.number() <= last.number() {
         return Ok(last);
     }
-    read_version(alloc, drive, session, object, moment, checked)?;
+    read_version(alloc, drive, session, object, moment, reading)?;
     Ok(moment)
 }
 
-// Reads a version and counts it.
+// Reads a version, counts it and hashes its bytes.
 fn read_version<J: Naming>(
     alloc: Global,
     drive: &mut Drive<J>,
     session: &mut Session<J>,
     object: ObjectId,
     at: Moment,
-    checked: &mut Checked,
+    reading: &mut Reading,
 ) -> Result<(), Refusal>
     requires visible { IsVisible (state_in drive.old) object at }
-    ensures read { OnOk result (checked.new ≡ with_read (state_in drive.old) checked.old ((object, at) ∷ [])) }
+    ensures read { OnOk result (HasRead (state_in drive.old) ((object, at) ∷ []) reading.old reading.new) }
     ensures refused { IfErr result (λ e. (e ≡ NoMemory) ⊎ (e ≡ Busy)) }
     ensures state { state_in drive.new ≡ state_in drive.old }
     ensures store { store_of drive.new ≡ store_of drive.old }
 {
     let version = version_seen(alloc, drive, session, object, at)?;
-    let size = content_of(&version).len() as u64;
-    checked.versions = checked.versions.saturating_add(1);
-    checked.bytes = checked.bytes.saturating_add(size);
+    let content = content_of(&version);
+    let (versions, bytes) = (reading.checked.versions, reading.checked.bytes);
+    reading.checked.versions = versions.saturating_add(1);
+    reading.checked.bytes = bytes.saturating_add(content.len() as u64);
+    reading.hasher.update(content);
     Ok(())
 }

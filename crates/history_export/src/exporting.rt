@@ -7,7 +7,7 @@ ghost use Rattle.drive.specs.Fields.{state_in, store_of};
 ghost use Rattle.history_export.specs.Folders.{AreFiles, with_bytes, with_file};
 ghost use Rattle.history_export.specs.Manifest.{manifest_name};
 ghost use Rattle.history_export.specs.Versions.{content_of};
-ghost use Rattle.history_export.specs.Exports.{Exports, HasExported, Explains, IsOfWriting, exported, with_object};
+ghost use Rattle.history_export.specs.Exports.{Exports, HasExported, Explains, IsOfWriting, exported, with_line, with_object};
 
 use crate::faults::{ExportError, ExportedFile, reading, writing};
 use crate::folders::Folder;
@@ -32,13 +32,24 @@ pub fn export<J: Naming, F: Folder>(
     at: Moment,
 ) -> Result<(), ExportError>
     ensures exports { OnOk result (Exports (state_in drive.old) (store_of drive.old) at (F.files folder.old) (F.files folder.new)) }
+    ensures path { F.path folder.new ≡ F.path folder.old }
     ensures refused { IfErr result (Explains (F.files folder.old)) }
     ensures state { state_in drive.new ≡ state_in drive.old }
     ensures store { store_of drive.new ≡ store_of drive.old }
 {
-    check_empty(folder)?;
-    make_file(folder, ExportedFile::Manifest, MANIFEST, &[])?;
+    begin_folder(folder)?;
     export_objects(alloc, drive, session, folder, at)
+}
+
+/// Makes an empty manifest in a folder that has nothing. NotEmpty where anything is in it.
+pub fn begin_folder<F: Folder>(folder: &mut F) -> Result<(), ExportError>
+    ensures empty { OnOk result (AreFiles (F.files folder.old) []) }
+    ensures begun { OnOk result (F.files folder.new ≡ option_map (with_file manifest_name []) (F.files folder.old)) }
+    ensures path { F.path folder.new ≡ F.path folder.old }
+    ensures refused { IfErr result (Explains (F.files folder.old)) }
+{
+    check_empty(folder)?;
+    make_file(folder, ExportedFile::Manifest, MANIFEST, &[])
 }
 
 // An error where anything is in the folder, or where that can't be read.
@@ -61,6 +72,7 @@ fn make_file<F: Folder>(
     bytes: &[u8],
 ) -> Result<(), ExportError>
     ensures made { OnOk result (F.files folder.new ≡ option_map (with_file name.now bytes.now) (F.files folder.old)) }
+    ensures path { F.path folder.new ≡ F.path folder.old }
     ensures refused { IfErr result IsOfWriting }
 {
     match folder.make_file(name, bytes) {
@@ -69,9 +81,10 @@ fn make_file<F: Folder>(
     }
 }
 
-// Adds a line to the manifest.
-fn add_line<F: Folder>(folder: &mut F, line: &[u8]) -> Result<(), ExportError>
+/// Adds a line to the manifest.
+pub fn add_line<F: Folder>(folder: &mut F, line: &[u8]) -> Result<(), ExportError>
     ensures grown { OnOk result (F.files folder.new ≡ option_map (with_bytes manifest_name line.now) (F.files folder.old)) }
+    ensures path { F.path folder.new ≡ F.path folder.old }
     ensures refused { IfErr result IsOfWriting }
 {
     match folder.append(MANIFEST, line) {
@@ -90,6 +103,7 @@ fn export_objects<J: Naming, F: Folder>(
 ) -> Result<(), ExportError>
     requires begun { AreFiles (F.files folder.old) (exported (state_in drive.old) at []) }
     ensures exported { OnOk result (HasExported (state_in drive.old) (store_of drive.old) at (F.files folder.new)) }
+    ensures path { F.path folder.new ≡ F.path folder.old }
     ensures refused { IfErr result IsOfWriting }
     ensures state { state_in drive.new ≡ state_in drive.old }
     ensures store { store_of drive.new ≡ store_of drive.old }
@@ -113,6 +127,7 @@ fn export_object<J: Naming, F: Folder>(
 ) -> Result<(), ExportError>
     requires visible { IsVisible (state_in drive.old) row.now.object at }
     ensures files { OnOk result (F.files folder.new ≡ option_map (with_object row.now (content_of (version_of (state_in drive.old) row.now.object at))) (F.files folder.old)) }
+    ensures path { F.path folder.new ≡ F.path folder.old }
     ensures refused { IfErr result IsOfWriting }
     ensures state { state_in drive.new ≡ state_in drive.old }
     ensures store { store_of drive.new ≡ store_of drive.old }
@@ -129,15 +144,26 @@ fn write_object<F: Folder>(
     content: &[u8],
 ) -> Result<(), ExportError>
     ensures files { OnOk result (F.files folder.new ≡ option_map (with_object row.now content.now) (F.files folder.old)) }
+    ensures path { F.path folder.new ≡ F.path folder.old }
     ensures refused { IfErr result IsOfWriting }
 {
-    let name = file_name(alloc, row.object)?;
     let line = manifest_line(alloc, row, content)?;
-    make_file(
-        folder,
-        ExportedFile::Object(row.object),
-        name.as_str(),
-        content,
-    )?;
-    add_line(folder, line.as_bytes())
+    add_object(alloc, folder, row.object, content, line.as_bytes())
+}
+
+/// Writes an object of these bytes, and adds its line to the manifest.
+pub fn add_object<F: Folder>(
+    alloc: Global,
+    folder: &mut F,
+    object: ObjectId,
+    content: &[u8],
+    line: &[u8],
+) -> Result<(), ExportError>
+    ensures files { OnOk result (F.files folder.new ≡ option_map (with_line object content.now line.now) (F.files folder.old)) }
+    ensures path { F.path folder.new ≡ F.path folder.old }
+    ensures refused { IfErr result IsOfWriting }
+{
+    let name = file_name(alloc, object)?;
+    make_file(folder, ExportedFile::Object(object), name.as_str(), content)?;
+    add_line(folder, line)
 }

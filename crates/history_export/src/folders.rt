@@ -1,5 +1,5 @@
 //! The folders that exports are written to.
-ghost use Rattle.std.specs.Prelude.{◌≡◌, List, [], Option, None, IfOk, OnOk, MatchBool};
+ghost use Rattle.std.specs.Prelude.{◌≡◌, ℕ, List, [], Option, None, IfOk, OnOk, MatchBool, string_bytes};
 ghost use Rattle.std.specs.Option.{option_map};
 ghost use Rattle.history_export.specs.Folders.{NamedFile, AreFiles, HasFiles, with_file, with_bytes};
 
@@ -10,6 +10,9 @@ use std::path::Path;
 
 /// A folder of files. An error of the kind `OutOfMemory` says that a growth was refused.
 pub trait Folder {
+    // The path at which the folder was opened.
+    ghost path: { Self → List ℕ };
+
     // The files of the folder, by their order, where they are known.
     ghost files: { Self → Option (List NamedFile) };
 
@@ -19,11 +22,13 @@ pub trait Folder {
 
     /// Makes a file of these bytes. An error where anything in the folder has the name.
     fn make_file(&mut self, name: &str, bytes: &[u8]) -> io::Result<()>
-        ensures made { OnOk result (files self.new ≡ option_map (with_file name.now bytes.now) (files self.old)) };
+        ensures made { OnOk result (files self.new ≡ option_map (with_file name.now bytes.now) (files self.old)) }
+        ensures path { path self.new ≡ path self.old };
 
     /// Adds bytes at the end of a file.
     fn append(&mut self, name: &str, bytes: &[u8]) -> io::Result<()>
-        ensures grown { OnOk result (files self.new ≡ option_map (with_bytes name.now bytes.now) (files self.old)) };
+        ensures grown { OnOk result (files self.new ≡ option_map (with_bytes name.now bytes.now) (files self.old)) }
+        ensures path { path self.new ≡ path self.old };
 }
 
 /// A folder of this system.
@@ -38,7 +43,9 @@ impl SystemFolder {
     /// The folder at a path. It is made where it isn't there, and so are the folders above it.
     ///
     /// An error where it can't be made, or where something else is at the path.
-    pub fn at(rt: &HostRuntime, alloc: Global, path: &str) -> io::Result<Self> {
+    pub fn at(rt: &HostRuntime, alloc: Global, path: &str) -> io::Result<Self>
+        ensures path { IfOk result (λ folder. string_bytes folder.path ≡ path.now) }
+    {
         fs::create_dir_all(rt, path)?;
         Ok(SystemFolder {
             rt: *rt,
@@ -55,6 +62,8 @@ impl SystemFolder {
 }
 
 impl Folder for SystemFolder {
+    ghost path = { λ folder. string_bytes folder.path };
+
     // No clause of the standard library says what a folder of the system holds.
     ghost files = { λ _. None };
 

@@ -3,7 +3,9 @@
 //! The layer above may rely on this: nothing here changes a drive's state, and at a moment that can be read nothing is refused but for
 //! want of memory, or of a seat. `export` leaves one file in an empty folder for each object that is live at the moment, with exactly its
 //! bytes, and a manifest with one line of JSON for each. `check_all` reads each version that can be read once, from the first moment of its
-//! object that can be, and counts versions and bytes.
+//! object that can be, counts versions and bytes, and gives the digest of these bytes.
+//!
+//! Whoever gives out objects of another source writes the same files by `begin_folder`, `add_object` and `add_line`.
 //!
 //! What a folder of the system has of the bytes that it was given no clause says.
 #![tactic(auto)]
@@ -16,8 +18,8 @@ pub mod laws;
 mod manifest;
 mod versions;
 
-pub use checking::{Checked, Progress, Silent, check_all};
-pub use exporting::export;
+pub use checking::{CheckReport, Checked, Progress, Silent, check_all};
+pub use exporting::{add_line, add_object, begin_folder, export};
 pub use faults::{ExportError, ExportedFile};
 pub use folders::{Folder, SystemFolder};
-pub use manifest::MANIFEST;
+pub use manifest::{MANIFEST, file_name, line_of, text_value};

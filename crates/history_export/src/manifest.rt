@@ -16,15 +16,15 @@ use std::str;
 pub const MANIFEST: &str = "manifest.jsonl";
 
 /// The name of an object's file.
-pub(crate) fn file_name(alloc: Global, object: ObjectId) -> Result<String, AllocError>
+pub fn file_name(alloc: Global, object: ObjectId) -> Result<String, AllocError>
     ensures { IfOk result (λ name. string_bytes name ≡ file_name object) }
 {
     let number = object.number();
     format!(in alloc; "object-{number}")
 }
 
-// The text that bytes spell; null where they spell none.
-fn text_value(alloc: Global, bytes: &[u8]) -> Result<Value, AllocError>
+/// The text that bytes spell; null where they spell none.
+pub fn text_value(alloc: Global, bytes: &[u8]) -> Result<Value, AllocError>
     ensures { IfOk result (λ value. view value ≡ text_data bytes.now) }
 {
     match str::from_utf8(bytes) {
@@ -67,8 +67,8 @@ pub(crate) fn manifest_line(
     line_of(alloc, &value)
 }
 
-// The line of a value.
-fn line_of(alloc: Global, value: &Value) -> Result<String, AllocError>
+/// The line of a value.
+pub fn line_of(alloc: Global, value: &Value) -> Result<String, AllocError>
     requires { has_float (view value.now) ≡ false }
     ensures { IfOk result (λ line. string_bytes line ≡ json_line (view value.now)) }
 {

@@ -15,6 +15,6 @@ mod moments;
 mod versions;
 
 pub use changes::{Blocks, Kind, ObjectChange, change_of, changes_between};
-pub use listing::{Listed, look_at, next_listed};
+pub use listing::{Listed, listed_of, look_at, next_listed};
 pub use moments::{earliest, is_visible};
 pub use versions::{moment_refusal, version_at};

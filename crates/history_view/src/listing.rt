@@ -23,7 +23,8 @@ pub struct Listed {
     pub attribute: Attribute,
 }
 
-fn listed_of(object: ObjectId, inode: &Inode) -> Listed
+/// What an inode tells of its object.
+pub fn listed_of(object: ObjectId, inode: &Inode) -> Listed
     ensures { result ≡ listed_of object inode.now }
 {
     Listed {

@@ -8,7 +8,7 @@ abbrev pub invariant-loop-object : goal.invariant-loop-object
 invariant-loop-object g l = record {
   state : state_in l.drive ≡ state_in l.initial.drive;
   store : store_of l.drive ≡ store_of l.initial.drive;
-  checked : CheckedTo (state_in l.initial.drive) (store_of l.initial.drive) l.last l.checked (g.P.Progress.told l.initial.progress) (g.P.Progress.told l.progress);
+  checked : CheckedTo (state_in l.initial.drive) (store_of l.initial.drive) l.last l.reading (g.P.Progress.told l.initial.progress) (g.P.Progress.told l.progress);
 }
 
 abbrev pub decreases-loop-object : goal.decreases-loop-object

@@ -1,10 +1,10 @@
-use Rattle.std.proofs.Common.{◌≡◌, ◌∙◌, ◌<◌, ◌≤◌, ℕ, List, [], ◌∷◌, length, get_or, cond, sym, ap, subst, refl}
+use Rattle.std.proofs.Common.{◌≡◌, ◌∙◌, ◌<◌, ◌≤◌, ℕ, List, [], ◌∷◌, length, get_or, cond, MatchBool, sym, ap, subst, refl}
 use Rattle.s4_model.specs.State.{State}
 use Rattle.codec.specs.Entry.{EntryFields}
 use Rattle.version_store.specs.Versions.{entries_of_object}
 use Rattle.drive.specs.Fields.{state_in, store_of}
 use Rattle.history_export.specs.Versions.{seen_from, begins}
-use Rattle.history_export.specs.Checks.{with_read}
+use Rattle.history_export.specs.Checks.{HasRead}
 use Rattle.history_export.proofs.Seen.{entry_reached}
 use Rattle.history_export.proofs.Counts.{ReadTo, first_read, read_on, all_read}
 use Rattle.history_export.proofs.checking.check_entries.Goals as goal
@@ -14,8 +14,8 @@ loop-entry-init g c =
     let s = state_in c.args.drive.now in
     let o = c.args.object in
     let first = seen_from s o s.floor in
-    let before = c.args.checked.now in
-    let after = c.read_earliest.new.checked in
+    let before = c.args.reading.now in
+    let after = c.read_earliest.new.reading in
     record {
       state = c.read_earliest.ensures.state;
       store = c.read_earliest.ensures.store;
@@ -40,16 +40,16 @@ loop-entry-preserved g c =
     let before = c.loop-entry.invariant in
     let last = c.loop-entry.last in
     let e = c.entry-item.result in
-    let d = c.loop-entry.checked in
-    let later = c.check_entry.new.checked in
+    let d = c.loop-entry.reading in
+    let later = c.check_entry.new.reading in
     let moved : c.in_ok-last.last ≡ cond (begins s o last e) (seen_from s o e.moment) last =
     subst (λ (x : State). c.in_ok-last.last ≡ cond (begins x o last e) (seen_from x o e.moment) last) before.state c.in_ok-last.ensures.next in
-    let counts : later ≡ cond (begins s o last e) (with_read s d ((o, seen_from s o e.moment) ∷ [])) d =
-    subst (λ (x : State). later ≡ cond (begins x o last e) (with_read x d ((o, seen_from x o e.moment) ∷ [])) d) before.state c.in_ok-last.ensures.read in
+    let read : MatchBool (begins s o last e) (HasRead s ((o, seen_from s o e.moment) ∷ []) d later) (later ≡ d) =
+    subst (λ (x : State). MatchBool (begins x o last e) (HasRead x ((o, seen_from x o e.moment) ∷ []) d later) (later ≡ d)) before.state c.in_ok-last.ensures.read in
     record {
       state = c.check_entry.ensures.state ∙ before.state;
       store = c.check_entry.ensures.store ∙ before.store;
-      read = read_on s o (seen_from s o s.floor) c.args.entries.now c.loop-entry.entry-index last c.in_ok-last.last e c.args.checked.now d later c.loop-entry-test.true c.entry-item.is before.read moved counts;
+      read = read_on s o (seen_from s o s.floor) c.args.entries.now c.loop-entry.entry-index last c.in_ok-last.last e c.args.reading.now d later c.loop-entry-test.true c.entry-item.is before.read moved read;
     }
 
 pub returns-clause-read : goal.returns-clause-read
@@ -57,4 +57,4 @@ returns-clause-read g c =
     let s = state_in c.args.drive.now in
     let store = store_of c.args.drive.now in
     let o = c.args.object in
-    all_read s store o (seen_from s o s.floor) c.args.entries.now c.loop-entry.entry-index c.loop-entry.last c.args.checked.now c.loop-entry.checked refl c.requires.entries c.loop-entry-test.false c.loop-entry.invariant.read
+    all_read s store o (seen_from s o s.floor) c.args.entries.now c.loop-entry.entry-index c.loop-entry.last c.args.reading.now c.loop-entry.reading refl c.requires.entries c.loop-entry-test.false c.loop-entry.invariant.read

@@ -11,5 +11,5 @@ invariant-loop-entry g l =
     record {
       state : state_in l.drive ≡ s;
       store : store_of l.drive ≡ store_of l.fn.drive;
-      read : ReadTo s l.object (seen_from s l.object s.floor) l.entries l.entry-index l.last l.fn.checked l.checked;
+      read : ReadTo s l.object (seen_from s l.object s.floor) l.entries l.entry-index l.last l.fn.reading l.reading;
     }

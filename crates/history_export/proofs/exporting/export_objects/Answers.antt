@@ -16,6 +16,7 @@ loop-row-init g c =
     record {
       state = refl;
       store = refl;
+      path = refl;
       exported = subst (λ (o : ℕ). ExportedTo s store c.args.at o files) (sym c.new-last.ensures) (none_exported s store c.args.at files c.requires.begun);
     }
 
@@ -35,6 +36,7 @@ loop-row-preserved g c =
     record {
       state = c.export_object.ensures.state ∙ state;
       store = c.export_object.ensures.store ∙ c.next_listed.ensures.store ∙ before.store;
+      path = c.export_object.ensures.path ∙ before.path;
       exported = exported_on s store c.args.at c.loop-row.last row (files c.loop-row.folder) (files c.export_object.new.folder) before.exported
           (next_as_before s (state_in c.loop-row.drive) store (store_of c.loop-row.drive) c.args.at c.loop-row.last row before.state before.store c.in-Some.ensures.some)
           (c.in_ok-export_object.ensures.files ∙ ap (λ (x : State). option_map (with_object row (content_at x c.args.at row)) (files c.loop-row.folder)) state);

@@ -8,6 +8,7 @@ abbrev pub invariant-loop-row : goal.invariant-loop-row
 invariant-loop-row g l = record {
   state : state_in l.drive ≡ state_in l.initial.drive;
   store : store_of l.drive ≡ store_of l.initial.drive;
+  path : g.F.Folder.path l.folder ≡ g.F.Folder.path l.initial.folder;
   exported : ExportedTo (state_in l.initial.drive) (store_of l.initial.drive) l.at l.last (g.F.Folder.files l.folder);
 }
 
