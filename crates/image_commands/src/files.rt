@@ -1,5 +1,5 @@
 //! The files that the commands read and write.
-ghost use Rattle.std.specs.Prelude.{◌≡◌, ℕ, List, [], Option, None, ⊤, IfOk, IsFalse, OnOk};
+ghost use Rattle.std.specs.Prelude.{◌≡◌, ℕ, Bool, true, false, List, [], Option, None, ⊤, IfOk, IsFalse, OnErr, OnOk};
 ghost use Rattle.std.specs.Io.KnownBytes.{Keeps};
 ghost use Rattle.image_commands.specs.Files.{AreKnown};
 
@@ -28,6 +28,9 @@ pub trait Files {
 
     // Whether a path leads to what was claimed.
     ghost leads: { Self.Claim → List ℕ → Type 0 };
+
+    // Whether a path leads to the file beside an image.
+    ghost is_beside: { Self.Beside → List ℕ → Bool };
 
     // Whether two paths never lead to one file: what is written to the one is never what the other has.
     ghost apart: { List ℕ → List ℕ → Type 0 };
@@ -70,10 +73,12 @@ pub trait Files {
         claim: &Self::Claim,
         length: usize,
     ) -> io::Result<Self::Beside>
-        ensures others { (path : List ℕ) → Keeps (contents self.old path) (contents self.new path) };
+        ensures others { (path : List ℕ) → Keeps (contents self.old path) (contents self.new path) }
+        ensures unknown { IfOk result (λ b. (path : List ℕ) → is_beside b path ≡ true → contents self.old path ≡ None) };
 
     /// Removes the file beside an image.
-    fn remove_beside(&mut self, beside: Self::Beside);
+    fn remove_beside(&mut self, beside: Self::Beside)
+        ensures others { (path : List ℕ) → is_beside beside path ≡ false → Keeps (contents self.old path) (contents self.new path) };
 
     /// Fills the file beside an image with these bytes and puts it in the image's place. Whoever reads the path, at whatever time,
     /// finds all bytes of the old file or all of the new one. An error leaves the old file; where the new one has all bytes then, it
@@ -84,7 +89,8 @@ pub trait Files {
         beside: Self::Beside,
         bytes: &[u8],
     ) -> Result<(), NotReplaced>
-        ensures replaced { OnOk result ((path : List ℕ) → leads claim path → AreKnown (contents self.new path) bytes.now) };
+        ensures replaced { OnOk result ((path : List ℕ) → leads claim path → AreKnown (contents self.new path) bytes.now) }
+        ensures others { OnErr result ((path : List ℕ) → is_beside beside path ≡ false → Keeps (contents self.old path) (contents self.new path)) };
 }
 
 /// Why an image was not replaced.
@@ -174,6 +180,8 @@ impl Files for HostRuntime {
     ghost contents = { λ _ _. None };
 
     ghost leads = { λ _ _. ⊤ };
+
+    ghost is_beside = { λ _ _. false };
 
     ghost apart = { λ _ _. ⊤ };
 

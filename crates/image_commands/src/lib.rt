@@ -1,6 +1,7 @@
 //! The commands over images that serve no sessions: `new`, `verify` and `at`; and how every command reads an image and writes one.
 //!
-//! The layer above may rely on this: `read_image` gives the image that a file's bytes spell. `verify_file` writes its line, `write_object`
+//! The layer above may rely on this: `read_image` gives the image that a file's bytes spell, and `read_bytes` these, whatever they are.
+//! `verify_file` writes its line, `write_object`
 //! the bytes of an object at a moment in the drive that begins with it, and `make_file` leaves the image of a new drive in a file; what
 //! was written has been passed on where they succeed. That is proved over any `Files` that say what files hold. The system's files say
 //! nothing of it, since no clause of the standard library does: that they read and write as the trait says is tested through the
@@ -19,4 +20,4 @@ pub use files::{Files, NotReplaced};
 pub use reading_past::{write_object, write_version};
 pub use saving::{Place, longest_image, make_file};
 pub use streams::hold_standard_streams;
-pub use verifying::{read_image, verify_file, write_out};
+pub use verifying::{read_bytes, read_image, verify_file, write_out};

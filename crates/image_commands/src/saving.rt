@@ -1,5 +1,5 @@
 //! Drives that are written to files, and `new`.
-ghost use Rattle.std.specs.Prelude.{◌≡◌, ◌+◌, ◌*◌, ℕ, List, IfOk, OnOk};
+ghost use Rattle.std.specs.Prelude.{◌≡◌, ◌+◌, ◌*◌, ℕ, true, false, List, None, IfOk, OnErr, OnOk};
 ghost use Rattle.std.specs.Io.KnownBytes.{Keeps};
 ghost use Rattle.s4_types.specs.Sizes.{IsFrameCount};
 ghost use Rattle.s4_types.specs.declared.limits.TheConstants.{PAYLOAD_BLOCKS, RUNS_IN_ALL};
@@ -80,6 +80,7 @@ impl<'a, F: Files> Place<'a, F> {
         ensures path { IfOk result (λ place. place.path.now ≡ path.now) }
         ensures claimed { IfOk result (λ place. F.leads place.claim place.path.now) }
         ensures others { (other : List ℕ) → Keeps (F.contents files.old other) (F.contents files.new other) }
+        ensures unknown { IfOk result (λ place. (other : List ℕ) → F.is_beside place.beside other ≡ true → F.contents files.old other ≡ None) }
     {
         match files.make_beside(alloc, &claim, length) {
             Ok(beside) => Ok(Place {
@@ -92,7 +93,9 @@ impl<'a, F: Files> Place<'a, F> {
     }
 
     /// Leaves the image as it is.
-    pub fn leave(self, files: &mut F) {
+    pub fn leave(self, files: &mut F)
+        ensures others { (other : List ℕ) → F.is_beside self.entry.beside other ≡ false → Keeps (F.contents files.old other) (F.contents files.new other) }
+    {
         files.remove_beside(self.beside);
     }
 
@@ -100,6 +103,7 @@ impl<'a, F: Files> Place<'a, F> {
     pub fn put(self, files: &mut F, bytes: &[u8]) -> Result<(), Fault<'a>>
         requires claimed { F.leads self.claim self.path.now }
         ensures image { OnOk result (AreKnown (F.contents files.new self.entry.path.now) bytes.now) }
+        ensures others { OnErr result ((other : List ℕ) → F.is_beside self.entry.beside other ≡ false → Keeps (F.contents files.old other) (F.contents files.new other)) }
     {
         let Place {
             path,

@@ -1,5 +1,5 @@
 //! `verify`, and how each command reads an image.
-ghost use Rattle.std.specs.Prelude.{◌≡◌, ℕ, ◌+◌, ◌^◌, ◌<◌, List, Option, IfOk, IfErr, OnOk, length, string_bytes};
+ghost use Rattle.std.specs.Prelude.{◌≡◌, ℕ, ◌+◌, ◌^◌, ◌<◌, List, Option, IfOk, IfSome, IfErr, OnOk, length, string_bytes};
 ghost use Rattle.std.specs.Io.{StartsWith};
 ghost use Rattle.std.specs.Io.KnownBytes.{Appends, Consumes, IsAtEnd};
 ghost use Rattle.s4_types.specs.declared.refusals.Cause.{Cause as Found};
@@ -9,7 +9,9 @@ ghost use Rattle.image_commands.specs.Verifying.{number_line, image_line, IsDama
 
 use crate::faults::{Fault, reading};
 use crate::files::Files;
+use crate::saving::longest_image;
 use image_parts::longest_with;
+use s4_types::limits::MOST_FRAMES;
 use s4_types::{Cause, Moment, Refusal};
 use s4d_command::Verify;
 use serving::Sink;
@@ -58,6 +60,38 @@ fn read_whole<'a, F: Files>(alloc: Global, files: &F, path: &'a str) -> Result<V
         Ok(Err(cause)) => Err(Fault::Refused(Refusal::Damaged(cause))),
         Err(error) => Err(reading(error.kind(), path)),
     }
+}
+
+/// All bytes of a file, whatever they are. Damaged by its length where it has more than the longest image: it isn't read to its end then.
+pub fn read_bytes<'a, F: Files>(
+    alloc: Global,
+    files: &F,
+    path: &'a str,
+) -> Result<Vec<u8>, Fault<'a>>
+    ensures bytes { IfOk result (λ bytes. AreKnown (F.contents files.now path.now) bytes.items) }
+{
+    let mut reader = match files.open(path) {
+        Ok(reader) => reader,
+        Err(error) => return Err(reading(error.kind(), path)),
+    };
+    match read_shorter(alloc, &mut reader, longest_image(MOST_FRAMES as u16)) {
+        Ok(Some(bytes)) => Ok(bytes),
+        Ok(None) => Err(Fault::Refused(Refusal::Damaged(Cause::Length))),
+        Err(error) => Err(reading(error.kind(), path)),
+    }
+}
+
+// All bytes of a reader, none where they are more than so many: then one more of them is read.
+fn read_shorter<R: Read>(alloc: Global, reader: &mut R, most: usize) -> io::Result<Option<Vec<u8>>>
+    requires most { most < 2 ^ 39 }
+    ensures bytes { IfOk result (λ read. IfSome read (λ bytes. AreKnown (R.remaining reader.old) bytes.items)) }
+{
+    let mut bytes = Vec::new(alloc);
+    read_until(reader, &mut bytes, most + 1)?;
+    if bytes.len() > most {
+        return Ok(None);
+    }
+    Ok(Some(bytes))
 }
 
 // All bytes of a reader. Where they are too few or have no header in front, or are more than an image with that header can have, why
