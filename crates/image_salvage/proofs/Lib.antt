@@ -3,3 +3,4 @@ pub mod Alike
 pub mod Later
 pub mod Whole
 pub mod Going
+pub mod RowByRow

@@ -3,3 +3,5 @@ pub mod Rows
 pub mod Contents
 pub mod Salvaging
 pub mod Laws
+pub mod Manifest
+pub mod Giving

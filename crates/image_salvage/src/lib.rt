@@ -5,15 +5,20 @@
 //! its chain, from the head on, and its checkpoint stand over those blocks. Neither the image's digest nor its clock is asked. Of a
 //! present version the bytes are given that those frames have, with zeros for the blocks that are gone, and how many these are.
 //!
+//! `give_out` writes these into an empty folder, one file for each object that is there, and a manifest of them and of what is lost.
+//!
 //! Nothing is salvaged where the header is none, or the parts don't fill the bytes: then no frame has a place.
 #![tactic(auto)]
 
 mod contents;
 mod frames;
+mod giving;
 pub mod laws;
+mod manifest;
 mod rows;
 mod salvaging;
 mod used;
 
+pub use giving::{GivenOut, give_out};
 pub use rows::Salvaged;
 pub use salvaging::{SalvagedImage, salvage};

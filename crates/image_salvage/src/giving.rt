@@ -1,0 +1,222 @@
+//! What was salvaged, given out as files of a folder.
+ghost use Rattle.std.specs.Prelude.{◌≡◌, length, IfOk, IfErr, OnOk};
+ghost use Rattle.std.specs.Option.{option_map};
+ghost use Rattle.segment_table.specs.Used.{used_at};
+ghost use Rattle.history_export.specs.Folders.{with_bytes};
+ghost use Rattle.history_export.specs.Manifest.{manifest_name};
+ghost use Rattle.history_export.specs.Exports.{Explains, IsOfWriting};
+ghost use Rattle.image_salvage.specs.Contents.{blocks_gone};
+ghost use Rattle.image_salvage.specs.Manifest.{lost_object_line};
+ghost use Rattle.image_salvage.specs.Giving.{GivesOut, GivesRows, counted, fate_of, is_whole, none_given, with_frames, with_given, with_lost, with_row, with_salvaged};
+
+use crate::manifest::{lost_frame_line, lost_object_line, salvaged_line};
+use crate::rows::Salvaged;
+use crate::salvaging::SalvagedImage;
+use codec::Inode;
+use history_export::{ExportError, Folder, add_line, add_object, begin_folder};
+use history_view::listed_of;
+use s4_types::ObjectId;
+use std::alloc::Global;
+
+/// What was given out of an image, and what is lost. Each count stops at 2^64 - 1, far above what an image can have.
+#[derive(Clone, Copy, Debug, PartialEq, Eq)]
+pub struct GivenOut {
+    /// The last object that was given out, 0 where none was.
+    pub last: ObjectId,
+    /// How many objects were given out.
+    pub objects: u64,
+    /// How many blocks of these are gone, for which zeros stand.
+    pub blocks_gone: u64,
+    /// How many rows gave no object: they lead to none, or tell of one again or out of order.
+    pub lost_objects: u64,
+    /// How many frames are lost.
+    pub lost_frames: u64,
+}
+
+impl GivenOut {
+    /// Whether nothing is lost.
+    pub fn is_whole(&self) -> bool
+        ensures { result ≡ is_whole self.now }
+    {
+        self.blocks_gone == 0 && self.lost_objects == 0 && self.lost_frames == 0
+    }
+
+    // With an object more, of which so many blocks are gone.
+    fn with_given(&self, object: ObjectId, gone: u64) -> GivenOut
+        ensures { result ≡ with_given object gone self.now }
+    {
+        GivenOut {
+            last: object,
+            objects: self.objects.saturating_add(1),
+            blocks_gone: self.blocks_gone.saturating_add(gone),
+            lost_objects: self.lost_objects,
+            lost_frames: self.lost_frames,
+        }
+    }
+
+    // With a lost object more.
+    fn with_lost(&self) -> GivenOut
+        ensures { result ≡ with_lost self.now }
+    {
+        GivenOut {
+            last: self.last,
+            objects: self.objects,
+            blocks_gone: self.blocks_gone,
+            lost_objects: self.lost_objects.saturating_add(1),
+            lost_frames: self.lost_frames,
+        }
+    }
+}
+
+/// What becomes of a row.
+#[derive(Clone, Copy)]
+enum Fate {
+    /// Its object is given out.
+    Given(Inode),
+    Lost,
+    /// Its object was deleted.
+    Deleted,
+}
+
+// What becomes of a row, behind the object that was given out last.
+fn fate_of(last: ObjectId, row: &Salvaged) -> Fate
+    ensures { result ≡ fate_of last row.now }
+{
+    let Some(inode) = row.present else {
+        return Fate::Lost;
+    };
+    if !inode.alive {
+        return Fate::Deleted;
+    }
+    if row.object.number() <= last.number() {
+        return Fate::Lost;
+    }
+    Fate::Given(inode)
+}
+
+/// Writes each object that was salvaged into an empty folder, as a file of its bytes, and what each file is into a manifest, one line of
+/// JSON for each, in the order of the rows. Lines in front tell of the frames that are lost, and lines between of the objects. An object
+/// that was deleted has neither.
+///
+/// NotEmpty where anything is in the folder. In memory there is one object at a time, beside the image.
+pub fn give_out<F: Folder>(
+    alloc: Global,
+    image: &SalvagedImage<'_>,
+    folder: &mut F,
+) -> Result<GivenOut, ExportError>
+    ensures gives { IfOk result (λ given. GivesOut image.now given (F.files folder.old) (F.files folder.new)) }
+    ensures path { F.path folder.new ≡ F.path folder.old }
+    ensures refused { IfErr result (Explains (F.files folder.old)) }
+{
+    begin_folder(folder)?;
+    tell_frames(alloc, image.lost_frames(), folder)?;
+    give_rows(alloc, image, folder)
+}
+
+// Adds the lines of lost frames to the manifest.
+fn tell_frames<F: Folder>(alloc: Global, lost: &[u16], folder: &mut F) -> Result<(), ExportError>
+    ensures files { OnOk result (F.files folder.new ≡ option_map (with_frames lost.now) (F.files folder.old)) }
+    ensures path { F.path folder.new ≡ F.path folder.old }
+    ensures refused { IfErr result IsOfWriting }
+{
+    match lost {
+        [] => Ok(()),
+        [frame, rest @ ..] => {
+            let line = lost_frame_line(alloc, *frame)?;
+            add_line(folder, line.as_bytes())?;
+            tell_frames(alloc, rest, folder)
+        }
+    }
+}
+
+// Gives out what each row gives.
+fn give_rows<F: Folder>(
+    alloc: Global,
+    image: &SalvagedImage<'_>,
+    folder: &mut F,
+) -> Result<GivenOut, ExportError>
+    ensures gives { IfOk result (λ given. GivesRows image.now given (F.files folder.old) (F.files folder.new)) }
+    ensures path { F.path folder.new ≡ F.path folder.old }
+    ensures refused { IfErr result IsOfWriting }
+{
+    let mut given = none_given(image.lost_frames());
+    for index in 0..image.rows() {
+        let row = image.row(alloc, index)?;
+        give_row(alloc, image, folder, &row, &mut given)?;
+    }
+    Ok(given)
+}
+
+// Nothing is given out of an image of which these frames are lost.
+fn none_given(lost: &[u16]) -> GivenOut
+    ensures { result ≡ none_given lost.now }
+{
+    GivenOut {
+        last: ObjectId::new(0),
+        objects: 0,
+        blocks_gone: 0,
+        lost_objects: 0,
+        lost_frames: lost.len() as u64,
+    }
+}
+
+// Gives out what a row gives.
+fn give_row<F: Folder>(
+    alloc: Global,
+    image: &SalvagedImage<'_>,
+    folder: &mut F,
+    row: &Salvaged,
+    given: &mut GivenOut,
+) -> Result<(), ExportError>
+    ensures files { OnOk result (F.files folder.new ≡ option_map (with_row (used_at image.now.table) given.old row.now) (F.files folder.old)) }
+    ensures path { F.path folder.new ≡ F.path folder.old }
+    ensures given { OnOk result (given.new ≡ counted (used_at image.now.table) given.old row.now) }
+    ensures refused { IfErr result IsOfWriting }
+{
+    match fate_of(given.last, row) {
+        Fate::Given(inode) => give_object(alloc, image, folder, row.object, &inode, given),
+        Fate::Lost => tell_lost(alloc, folder, row.object, given),
+        Fate::Deleted => Ok(()),
+    }
+}
+
+// Writes an object, tells it in the manifest, and counts it.
+fn give_object<F: Folder>(
+    alloc: Global,
+    image: &SalvagedImage<'_>,
+    folder: &mut F,
+    object: ObjectId,
+    inode: &Inode,
+    given: &mut GivenOut,
+) -> Result<(), ExportError>
+    ensures files { OnOk result (F.files folder.new ≡ option_map (with_salvaged (used_at image.now.table) object inode.now) (F.files folder.old)) }
+    ensures path { F.path folder.new ≡ F.path folder.old }
+    ensures given { OnOk result (given.new ≡ with_given object (blocks_gone (used_at image.now.table) object inode.now) given.old) }
+    ensures refused { IfErr result IsOfWriting }
+{
+    let content = image.content(alloc, object, inode)?;
+    let gone = image.gone(object, inode) as u64;
+    let row = listed_of(object, inode);
+    let line = salvaged_line(alloc, &row, content.as_slice(), gone)?;
+    add_object(alloc, folder, object, content.as_slice(), line.as_bytes())?;
+    *given = given.with_given(object, gone);
+    Ok(())
+}
+
+// Tells in the manifest that an object is lost, and counts it.
+fn tell_lost<F: Folder>(
+    alloc: Global,
+    folder: &mut F,
+    object: ObjectId,
+    given: &mut GivenOut,
+) -> Result<(), ExportError>
+    ensures files { OnOk result (F.files folder.new ≡ option_map (with_bytes manifest_name (lost_object_line object)) (F.files folder.old)) }
+    ensures path { F.path folder.new ≡ F.path folder.old }
+    ensures given { OnOk result (given.new ≡ with_lost given.old) }
+    ensures refused { IfErr result IsOfWriting }
+{
+    let line = lost_object_line(alloc, object)?;
+    add_line(folder, line.as_bytes())?;
+    *given = given.with_lost();
+    Ok(())
+}
