@@ -47,11 +47,11 @@ _s4() {
     elif [[ $word == -* && ! $is_past_options ]]; then
         mapfile -t COMPREPLY < <(compgen -W "$(_s4_options "$command") --help --version" -- "$word")
     elif [[ ! $command ]]; then
-        mapfile -t COMPREPLY < <(compgen -W 'list log cat info diff export restore check compact' -- "$word")
+        mapfile -t COMPREPLY < <(compgen -W 'list log cat info diff export restore check compact salvage' -- "$word")
     elif [[ $operands == 0 ]]; then
         mapfile -t COMPREPLY < <(compgen -f -- "$word")
         compopt -o filenames 2> /dev/null
-    elif [[ $operands == 1 && $command == export ]]; then
+    elif [[ $operands == 1 && $command == @(export|salvage) ]]; then
         mapfile -t COMPREPLY < <(compgen -d -- "$word")
         compopt -o filenames 2> /dev/null
     fi

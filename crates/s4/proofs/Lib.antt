@@ -1,3 +1,5 @@
+mod Checked
 mod Done
 mod Fronts
+mod Kept
 mod Rows

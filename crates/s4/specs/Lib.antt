@@ -8,4 +8,5 @@ pub mod Logging
 pub mod MakingRoom
 pub mod Performing
 pub mod Restoring
+pub mod Salvaging
 pub mod Telling

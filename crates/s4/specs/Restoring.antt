@@ -5,7 +5,7 @@ use Rattle.std.specs.Io.KnownBytes.{Appends}
 use Rattle.s4_model.specs.State.{State}
 use Rattle.history_text.specs.Lines.{column}
 use Rattle.history_restore.specs.Keeping.{LeavesPast}
-use Rattle.history_restore.specs.Whole.{RestoresAll, RestoresEach, LeavesRest}
+use Rattle.history_restore.specs.Whole.{RestoresAll, RestoresAsked, LeavesUnasked}
 use Rattle.history_restore.specs.declared.plans.Plan.{Plan}
 use Rattle.history_restore.specs.declared.plans.Plan.TheVariants.{Keep, Delete, Remake, Change}
 use Rattle.history_restore.specs.declared.restoring.Restored.{Restored}
@@ -23,7 +23,7 @@ restored_line r = planned_line r.object r.number r.plan
 -- The objects that are named were restored, or all where none is; every other one is what it was, and the past stays.
 abbrev pub AreRestored : State → State → ℕ → List ℕ → List Restored → Type 0
 AreRestored s later at [] all = RestoresAll s later at all × LeavesPast s later
-AreRestored s later at (o ∷ objects) all = RestoresEach s later at (o ∷ objects) all × LeavesRest s later (o ∷ objects) × LeavesPast s later
+AreRestored s later at (o ∷ objects) all = RestoresAsked s later at (o ∷ objects) all × LeavesUnasked s later (o ∷ objects) × LeavesPast s later
 
 -- So it was, and the output has the lines of that behind it.
 pub record RestoresDrive (s later : State) (at : ℕ) (objects : List ℕ) (output output' : Option (List ℕ)) : Type 0 where

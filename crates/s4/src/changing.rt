@@ -1,5 +1,6 @@
 //! Commands that change the drive of an image, and save it.
-ghost use Rattle.std.specs.Prelude.{◌≡◌, ℕ, ◌+◌, ◌^◌, ◌<◌, List, Option, IfOk, OnOk};
+ghost use Rattle.std.specs.Prelude.{◌≡◌, ℕ, ◌+◌, ◌^◌, ◌<◌, false, List, Option, IfOk, OnErr, OnOk};
+ghost use Rattle.std.specs.Io.KnownBytes.{Keeps};
 ghost use Rattle.segment_table.specs.Room.{log_of};
 ghost use Rattle.version_store.specs.Store.{fields_of};
 ghost use Rattle.drive.specs.Fields.{DriveFields};
@@ -32,9 +33,10 @@ pub trait DriveChange {
         ensures changes { OnOk result (changes self.now drive.old drive.new (W.passed writer.old) (W.passed writer.new)) };
 }
 
-/// Changes the drive that the image in a file tells, and saves it in that file. Where anything fails the file is as it was. That it can be
+/// Changes the drive that the image in a file tells, and saves it in that file. Where anything fails all files are as they were. That it can be
 /// replaced is known before the change: another program that serves it, a file that can't be made beside it, or a disk without room for
 /// the longest image is a failure then.
+#[tactic(auto, using(crate::proofs::Kept::untouched))]
 pub fn change_image<T: Threads, F: Files, C: DriveChange, W: Sink>(
     rt: &T,
     alloc: Global,
@@ -45,6 +47,7 @@ pub fn change_image<T: Threads, F: Files, C: DriveChange, W: Sink>(
 ) -> Result<(), Failure>
     requires writer { W.failures writer.old + 1 < 2 ^ 64 }
     ensures changed { OnOk result (ChangesImage (F.contents files.old image.now) (F.contents files.new image.now) (λ drive later. C.changes change.now drive later (W.passed writer.old) (W.passed writer.new))) }
+    ensures kept { OnErr result ((path : List ℕ) → Keeps (F.contents files.old path) (F.contents files.new path)) }
 {
     // The claim comes first, so that nobody replaces what is read; what can't be read is the first failure all the same.
     let claim = files.claim(alloc, image);
@@ -74,6 +77,7 @@ fn change_opened<'a, J: Naming, F: Files, C: DriveChange, W: Sink>(
     requires writer { W.failures writer.old + 1 < 2 ^ 64 }
     requires claimed { F.leads place.claim place.path.now }
     ensures changed { OnOk result (SavesOpened opened (F.contents files.new place.entry.path.now) (λ drive later. C.changes change.now drive later (W.passed writer.old) (W.passed writer.new))) }
+    ensures kept { OnErr result ((path : List ℕ) → F.is_beside place.entry.beside path ≡ false → Keeps (F.contents files.old path) (F.contents files.new path)) }
 {
     match changed_bytes::<J, C, W>(alloc, opened, change, writer) {
         Ok(bytes) => {

@@ -1,5 +1,5 @@
 //! `export`: the objects of a moment as files in a folder.
-ghost use Rattle.std.specs.Prelude.{◌≡◌, OnOk};
+ghost use Rattle.std.specs.Prelude.{◌≡◌, IfOk, OnOk};
 ghost use Rattle.segment_table.specs.Room.{log_of};
 ghost use Rattle.version_store.specs.Store.{fields_of};
 ghost use Rattle.drive.specs.Opened.{base_of};
@@ -26,7 +26,8 @@ pub trait Folders {
     type Opened: Folder + Drop;
 
     /// The folder at a path. It is made where it isn't there.
-    fn folder(&self, alloc: Global, path: &str) -> io::Result<Self::Opened>;
+    fn folder(&self, alloc: Global, path: &str) -> io::Result<Self::Opened>
+        ensures opened { IfOk result (λ folder. Self.Opened.path folder ≡ path.now) };
 }
 
 impl Folders for HostRuntime {
@@ -45,7 +46,7 @@ pub fn export_image<T: Threads, F: Files, D: Folders>(
     folders: &D,
     asked: &ExportAsked<'_>,
 ) -> Result<(), Failure>
-    ensures exports { OnOk result (OverImage (F.contents files.now asked.now.image.now) (λ drive. Exported drive asked.now.at)) }
+    ensures exports { OnOk result (OverImage (F.contents files.now asked.now.image.now) (λ drive. Exported D.Opened.path D.Opened.files drive asked.now.at asked.now.folder.now)) }
 {
     let image = read_image(rt, alloc, files, asked.image)?;
     let opened = open(alloc, image)?;
@@ -66,6 +67,7 @@ fn export_opened<J: Naming, D: Folder>(
     requires frames { opened.store.table.seat.table ≡ J.frames }
     requires base { base_of (fields_of log_of opened.store) opened.timeline opened.next ≡ J.base }
     ensures exports { OnOk result (OverOpened opened (λ drive. ExportsInto drive at (D.files folder.old) (D.files folder.new))) }
+    ensures path { D.path folder.new ≡ D.path folder.old }
 {
     let mut drive = opened.named::<J>();
     export_drive(alloc, &mut drive, folder, at)
@@ -79,6 +81,7 @@ fn export_drive<J: Naming, D: Folder>(
     at: Option<u64>,
 ) -> Result<(), Failure>
     ensures exports { OnOk result (ExportsInto drive.old at (D.files folder.old) (D.files folder.new)) }
+    ensures path { D.path folder.new ≡ D.path folder.old }
 {
     let moment = match moment_asked(drive, ObjectId::new(0), at) {
         Ok(moment) => moment,

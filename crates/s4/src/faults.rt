@@ -28,9 +28,6 @@ pub enum Failure {
     /// Standard output can't be written.
     #[error("cannot write standard output; give it a place with room")]
     WriteFailed,
-    /// The objects that are named don't ascend, or one of them never was.
-    #[error("name objects that were made, by ascending number, each once; `s4 list --deleted` prints them")]
-    Unordered,
     /// The object's journal has no room for what restores it; the moments between can be hidden.
     #[error("object {object} has a full journal; hide its moments {first} to {last}, as --flush does, and restore then")]
     JournalFull { object: u64, first: u64, last: u64 },
@@ -47,7 +44,7 @@ pub enum Failure {
     #[error("the folder is not empty; name one that is, or a new one")]
     FolderNotEmpty,
     /// A file in the folder can't be written.
-    #[error("{0} cannot be written in the folder; give it room, and export into an empty folder")]
+    #[error("{0} cannot be written in the folder; give it room, and name an empty folder")]
     CannotExport(ExportedFile),
     /// The image can't be replaced.
     #[error("cannot be written; end the program that serves it, and give it a folder with room that you may write")]

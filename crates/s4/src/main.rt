@@ -4,7 +4,7 @@
 //! `compact` alone change an image; no other command does, or keeps another program from it. What is proved over any files that say what they hold:
 //! `list` writes the line of exactly the objects that are listed at a moment, `log` a line for each entry of the journals between two
 //! moments, `cat` the bytes of an object at a moment, `diff` what differs between two moments, `check` how many versions can be read, all
-//! of which were; `restore` leaves what the drive is saved as in which the objects are what they were, and `compact` what the compacted
+//! of which were; `salvage` how much of a damaged image was written into a folder, file by file; `restore` leaves what the drive is saved as in which the objects are what they were, and `compact` what the compacted
 //! drive is saved as. That the system's files read and write as such files do is
 //! tested, and so are the texts on standard error.
 #![tactic(auto)]
@@ -26,7 +26,9 @@ mod moments;
 mod performing;
 mod reading;
 mod restoring;
+mod salvaging;
 mod telling;
+mod watching;
 
 use faults::Failure;
 use image_commands::hold_standard_streams;

@@ -1,16 +1,23 @@
 //! What a line of words asks for, and the status of the program.
-ghost use Rattle.std.specs.Prelude.{◌≡◌, ◌+◌, ◌^◌, ◌<◌, ◌≤◌, map};
+ghost use Rattle.std.specs.Prelude.{◌≡◌, ◌≢◌, ℕ, ◌+◌, ◌^◌, ◌<◌, ◌≤◌, List, map};
+ghost use Rattle.std.specs.Io.KnownBytes.{Keeps};
 ghost use Rattle.s4.specs.Commands.{OverImage, ChangesImage};
+ghost use Rattle.s4.specs.Exporting.{Exported};
+ghost use Rattle.s4.specs.MakingRoom.{RestoresWithRoom};
+ghost use Rattle.s4.specs.Salvaging.{SalvagesFile};
 ghost use Rattle.s4.specs.Performing.{IsDone, IsDoneOver, IsUsage};
 
 use crate::changing::{DriveChange, change_image};
+use crate::checking::WatchedCheck;
 use crate::commands::{DriveCommand, Verdict, over_image};
 use crate::exporting::{Folders, export_image};
 use crate::faults::Failure;
 use crate::making_room::restore_image;
 use crate::restoring::DryRun;
+use crate::salvaging::salvage_image;
+use crate::watching::Screens;
 use image_commands::Files;
-use s4_command::{Command, NoCommand, command_of};
+use s4_command::{Command, ExportAsked, NoCommand, RestoreAsked, SalvageAsked, command_of};
 use s4_types::Refusal;
 use serving::Sink;
 use std::alloc::Global;
@@ -29,8 +36,10 @@ const FAILED: u8 = 1;
 const USAGE: u8 = 2;
 
 /// Does what the words ask for, the program's name first among them, and answers the program's status: 0 where it is done, 1 with a line
-/// on `errors` where it failed, or without one where `diff` printed what differs, 2 with lines there where the words spell no command.
-pub fn perform<T: Threads, F: Files, D: Folders, S: AsStr, W: Sink, E: Write>(
+/// on `errors` where it failed, or without one where `diff` printed what differs or `salvage` that something is lost, 2 with lines there
+/// where the words spell no command.
+#[tactic(auto, using(crate::proofs::Kept::untouched))]
+pub fn perform<T: Threads, F: Files, D: Folders + Screens, S: AsStr, W: Sink, E: Write>(
     rt: &T,
     alloc: Global,
     files: &mut F,
@@ -41,7 +50,8 @@ pub fn perform<T: Threads, F: Files, D: Folders, S: AsStr, W: Sink, E: Write>(
 ) -> u8
     requires writer { W.failures writer.old + 1 < 2 ^ 64 }
     ensures status { result ≤ 2 }
-    ensures done { result ≡ 0 → IsDone (map S.text words.now) (F.contents files.old) (F.contents files.new) (W.passed writer.old) (W.passed writer.new) }
+    ensures done { result ≡ 0 → IsDone (map S.text words.now) (F.contents files.old) (F.contents files.new) (Exported D.Opened.path D.Opened.files) (SalvagesFile D.Opened.path D.Opened.files Verdict.Fine) (W.passed writer.old) (W.passed writer.new) }
+    ensures kept { result ≢ 0 → (path : List ℕ) → Keeps (F.contents files.old path) (F.contents files.new path) }
     ensures usage { result ≡ 2 → IsUsage (map S.text words.now) }
 {
     match command_of(alloc, words) {
@@ -55,7 +65,8 @@ pub fn perform<T: Threads, F: Files, D: Folders, S: AsStr, W: Sink, E: Write>(
 }
 
 // Performs a command.
-fn perform_command<T: Threads, F: Files, D: Folders, W: Sink, E: Write>(
+#[tactic(auto, using(crate::proofs::Kept::untouched))]
+fn perform_command<T: Threads, F: Files, D: Folders + Screens, W: Sink, E: Write>(
     rt: &T,
     alloc: Global,
     files: &mut F,
@@ -66,7 +77,8 @@ fn perform_command<T: Threads, F: Files, D: Folders, W: Sink, E: Write>(
 ) -> u8
     requires writer { W.failures writer.old + 1 < 2 ^ 64 }
     ensures status { result ≤ 1 }
-    ensures done { result ≡ 0 → IsDoneOver (F.contents files.old) (F.contents files.new) (W.passed writer.old) (W.passed writer.new) command.now }
+    ensures done { result ≡ 0 → IsDoneOver (F.contents files.old) (F.contents files.new) (Exported D.Opened.path D.Opened.files) (SalvagesFile D.Opened.path D.Opened.files Verdict.Fine) (W.passed writer.old) (W.passed writer.new) command.now }
+    ensures kept { result ≢ 0 → (path : List ℕ) → Keeps (F.contents files.old path) (F.contents files.new path) }
 {
     match command {
         Command::List(list) => show_image(rt, alloc, files, list.image, list, writer, errors),
@@ -74,22 +86,17 @@ fn perform_command<T: Threads, F: Files, D: Folders, W: Sink, E: Write>(
         Command::Cat(cat) => show_image(rt, alloc, files, cat.image, cat, writer, errors),
         Command::Info(info) => show_image(rt, alloc, files, info.image, info, writer, errors),
         Command::Diff(diff) => show_image(rt, alloc, files, diff.image, diff, writer, errors),
-        Command::Check(check) => show_image(rt, alloc, files, check.image, check, writer, errors),
-        Command::Export(export) => {
-            match export_image(rt, alloc, files, folders, export) {
-                Ok(()) => DONE,
-                Err(failure) => fail_over(errors, export.image, failure),
-            }
+        Command::Check(check) => {
+            let watched = WatchedCheck { screens: folders };
+            show_image(rt, alloc, files, check.image, &watched, writer, errors)
         }
+        Command::Export(export) => write_folder(rt, alloc, files, folders, export, errors),
         Command::Restore(restore) if restore.dry_run => {
             let dry = DryRun { asked: restore };
             show_image(rt, alloc, files, restore.image, &dry, writer, errors)
         }
         Command::Restore(restore) if restore.flush => {
-            match restore_image(rt, alloc, files, restore, writer) {
-                Ok(()) => DONE,
-                Err(failure) => fail_over(errors, restore.image, failure),
-            }
+            alter_with_room(rt, alloc, files, restore, writer, errors)
         }
         Command::Restore(restore) => {
             alter_image(rt, alloc, files, restore.image, restore, writer, errors)
@@ -97,6 +104,7 @@ fn perform_command<T: Threads, F: Files, D: Folders, W: Sink, E: Write>(
         Command::Compact(compact) => {
             alter_image(rt, alloc, files, compact.image, compact, writer, errors)
         }
+        Command::Salvage(salvage) => save_rest(alloc, files, folders, salvage, writer, errors),
     }
 }
 
@@ -121,7 +129,68 @@ fn show_image<T: Threads, F: Files, C: DriveCommand, W: Sink, E: Write>(
     }
 }
 
+// Writes the objects of an image into a folder.
+fn write_folder<T: Threads, F: Files, D: Folders, E: Write>(
+    rt: &T,
+    alloc: Global,
+    files: &F,
+    folders: &D,
+    export: &ExportAsked<'_>,
+    errors: &mut E,
+) -> u8
+    ensures status { result ≤ 1 }
+    ensures done { result ≡ 0 → OverImage (F.contents files.now export.now.image.now) (λ drive. Exported D.Opened.path D.Opened.files drive export.now.at export.now.folder.now) }
+{
+    match export_image(rt, alloc, files, folders, export) {
+        Ok(()) => DONE,
+        Err(failure) => fail_over(errors, export.image, failure),
+    }
+}
+
+// Writes what a damaged image still has of its objects into a folder.
+fn save_rest<F: Files, D: Folders, W: Sink, E: Write>(
+    alloc: Global,
+    files: &F,
+    folders: &D,
+    salvage: &SalvageAsked<'_>,
+    writer: &mut W,
+    errors: &mut E,
+) -> u8
+    requires writer { W.failures writer.old + 1 < 2 ^ 64 }
+    ensures status { result ≤ 1 }
+    ensures done { result ≡ 0 → SalvagesFile D.Opened.path D.Opened.files Verdict.Fine (F.contents files.now salvage.now.image.now) salvage.now.folder.now (W.passed writer.old) (W.passed writer.new) }
+{
+    match salvage_image(alloc, files, folders, salvage, writer) {
+        Ok(Verdict::Fine) => DONE,
+        Ok(Verdict::Differs) => FAILED,
+        Err(failure) => fail_over(errors, salvage.image, failure),
+    }
+}
+
+// Restores the drive of an image once moments are hidden that fill journals.
+#[tactic(auto, using(crate::proofs::Kept::untouched))]
+fn alter_with_room<T: Threads, F: Files, W: Sink, E: Write>(
+    rt: &T,
+    alloc: Global,
+    files: &mut F,
+    restore: &RestoreAsked<'_>,
+    writer: &mut W,
+    errors: &mut E,
+) -> u8
+    requires writer { W.failures writer.old + 1 < 2 ^ 64 }
+    ensures status { result ≤ 1 }
+    ensures done { result ≡ 0 → ChangesImage (F.contents files.old restore.now.image.now) (F.contents files.new restore.now.image.now)
+        (λ drive later. RestoresWithRoom drive later restore.now.at restore.now.objects.items (W.passed writer.old) (W.passed writer.new)) }
+    ensures kept { result ≢ 0 → (path : List ℕ) → Keeps (F.contents files.old path) (F.contents files.new path) }
+{
+    match restore_image(rt, alloc, files, restore, writer) {
+        Ok(()) => DONE,
+        Err(failure) => fail_over(errors, restore.image, failure),
+    }
+}
+
 // Changes the drive of an image.
+#[tactic(auto, using(crate::proofs::Kept::untouched))]
 fn alter_image<T: Threads, F: Files, C: DriveChange, W: Sink, E: Write>(
     rt: &T,
     alloc: Global,
@@ -134,6 +203,7 @@ fn alter_image<T: Threads, F: Files, C: DriveChange, W: Sink, E: Write>(
     requires writer { W.failures writer.old + 1 < 2 ^ 64 }
     ensures status { result ≤ 1 }
     ensures done { result ≡ 0 → ChangesImage (F.contents files.old image.now) (F.contents files.new image.now) (λ drive later. C.changes change.now drive later (W.passed writer.old) (W.passed writer.new)) }
+    ensures kept { result ≢ 0 → (path : List ℕ) → Keeps (F.contents files.old path) (F.contents files.new path) }
 {
     match change_image(rt, alloc, files, image, change, writer) {
         Ok(()) => DONE,

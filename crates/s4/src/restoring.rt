@@ -8,9 +8,9 @@ ghost use Rattle.s4.specs.Restoring.{RestoresDrive, WouldRestore, AreRestored, p
 use crate::changing::DriveChange;
 use crate::commands::{DriveCommand, Verdict};
 use crate::faults::Failure;
-use crate::moments::unreadable;
+use crate::moments::{check_object, unreadable};
 use drive::{Drive, Session};
-use history_restore::{Plan, Restored, ascend_below, restore_all, restore_each};
+use history_restore::{Plan, Restored, restore_all, restore_objects};
 use image_commands::write_out;
 use s4_command::RestoreAsked;
 use s4_types::{Moment, ObjectId, Refusal, Role};
@@ -83,7 +83,7 @@ fn objects_of(alloc: Global, numbers: &[u64]) -> Result<Vec<ObjectId>, AllocErro
     Ok(objects)
 }
 
-// Restores the objects that are named, or all where none is.
+// Restores the objects that are named, in whatever order and how often, or all where none is.
 fn restored<J: Naming>(
     alloc: Global,
     drive: &mut Drive<J>,
@@ -99,13 +99,19 @@ fn restored<J: Naming>(
             Err(failure) => Err(failure_of(drive, at, failure)),
         };
     }
-    if !ascend_below(ObjectId::new(0), drive.next(), objects) {
-        return Err(Failure::Unordered);
-    }
-    match restore_each(alloc, drive, session, objects, at, Moment::new(0)) {
+    check_objects(drive, objects)?;
+    match restore_objects(alloc, drive, session, objects, at, Moment::new(0)) {
         Ok(all) => Ok(all),
         Err(failure) => Err(failure_of(drive, at, failure)),
     }
+}
+
+// An error where no object has one of the numbers that are asked for.
+fn check_objects<J: Naming>(drive: &Drive<J>, objects: &[ObjectId]) -> Result<(), Failure> {
+    for object in objects {
+        check_object(drive, Some(object.number()))?;
+    }
+    Ok(())
 }
 
 // The failure of an object that wasn't restored.

@@ -15,6 +15,7 @@ use Rattle.s4_command.specs.declared.changes.DiffAsked.{DiffAsked}
 use Rattle.s4_command.specs.declared.whole.InfoAsked.{InfoAsked}
 use Rattle.s4_command.specs.declared.whole.CheckAsked.{CheckAsked}
 use Rattle.s4_command.specs.declared.whole.CompactAsked.{CompactAsked}
+use Rattle.s4_command.specs.declared.whole.SalvageAsked.{SalvageAsked}
 use Rattle.s4_command.specs.declared.restoring.RestoreAsked.{RestoreAsked}
 
 -- `--name VALUE`, which is given or not
@@ -102,6 +103,12 @@ check_line = with_rule (new_app (codes "check")) (needed_rule (codes "image"))
 abbrev pub compact_line : App
 compact_line = with_rule (new_app (codes "compact")) (needed_rule (codes "image"))
 
+-- `salvage IMAGE DIR`
+abbrev pub salvage_line : App
+salvage_line = with_rule (with_rule (new_app (codes "salvage"))
+    (needed_rule (codes "image")))
+    (needed_rule (codes "folder"))
+
 -- the program, which has a version, as each of its commands has, and no command for help; one of its commands has to be given
 abbrev pub program : App
 program = on_top (λ s. record s { has_version = true; propagate_version = true; subcommand_required = true; disable_help_subcommand = true })
@@ -110,9 +117,9 @@ program = on_top (λ s. record s { has_version = true; propagate_version = true;
 -- the program's whole command line
 abbrev pub line : App
 line = with_subcommand (with_subcommand (with_subcommand (with_subcommand (with_subcommand (with_subcommand
-    (with_subcommand (with_subcommand (with_subcommand program
+    (with_subcommand (with_subcommand (with_subcommand (with_subcommand program
     list_line.top) log_line.top) cat_line.top) info_line.top)
-    diff_line.top) export_line.top) restore_line.top) check_line.top) compact_line.top
+    diff_line.top) export_line.top) restore_line.top) check_line.top) compact_line.top) salvage_line.top
 
 -- a number that is given is what the text reads as; none is where no text is there
 abbrev pub IsAsked : Text → List Row → Option ℕ → Type 0
@@ -184,6 +191,11 @@ pub record SpellsCheck (rows : List Row) (check : CheckAsked) : Type 0 where
 pub record SpellsCompact (rows : List Row) (compact : CompactAsked) : Type 0 where
   pub image : first_of (codes "image") rows ≡ Some compact.image.now
 
+-- The matches of `salvage` have these texts.
+pub record SpellsSalvage (rows : List Row) (salvage : SalvageAsked) : Type 0 where
+  pub image : first_of (codes "image") rows ≡ Some salvage.image.now
+  pub folder : first_of (codes "folder") rows ≡ Some salvage.folder.now
+
 -- The name and the matches of a subcommand spell the command.
 abbrev pub Spells : Option (Text × List Row) → Command → Type 0
 Spells None c = ⊥
@@ -196,6 +208,7 @@ Spells (Some named) (command.Export export) = (named.0 ≡ codes "export") × Sp
 Spells (Some named) (command.Restore restore) = (named.0 ≡ codes "restore") × SpellsRestore named.1 restore
 Spells (Some named) (command.Check check) = (named.0 ≡ codes "check") × SpellsCheck named.1 check
 Spells (Some named) (command.Compact compact) = (named.0 ≡ codes "compact") × SpellsCompact named.1 compact
+Spells (Some named) (command.Salvage salvage) = (named.0 ≡ codes "salvage") × SpellsSalvage named.1 salvage
 
 -- They spell none.
 abbrev pub SpellsNone : Option (Text × List Row) → Type 0

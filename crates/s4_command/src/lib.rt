@@ -32,8 +32,8 @@ pub use restoring::RestoreAsked;
 use restoring::restore_asked;
 use std::alloc::{AllocError, Global};
 use std::convert::AsStr;
-pub use whole::{CheckAsked, CompactAsked, InfoAsked};
-use whole::{check_asked, compact_asked, info_asked};
+pub use whole::{CheckAsked, CompactAsked, InfoAsked, SalvageAsked};
+use whole::{check_asked, compact_asked, info_asked, salvage_asked};
 
 /// What the program is to do. Its texts are words of the line.
 #[derive(Drop)]
@@ -56,6 +56,8 @@ pub enum Command<'a> {
     Check(CheckAsked<'a>),
     /// Cleans a drive, and gathers what is scattered.
     Compact(CompactAsked<'a>),
+    /// Writes what a damaged image still has of each object into a folder.
+    Salvage(SalvageAsked<'a>),
 }
 
 /// Why a line of words gave no command.
@@ -136,6 +138,7 @@ fn named_command<'a>(
         "restore" => restore_asked(alloc, found),
         "check" => check_asked(found),
         "compact" => compact_asked(found),
+        "salvage" => salvage_asked(found),
         _ => Err(NoCommand::Unspelled),
     }
 }

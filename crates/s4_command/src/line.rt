@@ -3,7 +3,7 @@ ghost use Rattle.std.specs.Prelude.{◌≡◌, IfOk};
 ghost use Rattle.clap.specs.Simple.{App, app_of, with_subcommand};
 ghost use Rattle.s4d_command.specs.CommandLine.{IsLine};
 ghost use Rattle.s4_command.specs.CommandLine.{line, program, list_line, log_line, cat_line, info_line, diff_line, export_line, restore_line};
-ghost use Rattle.s4_command.specs.CommandLine.{check_line, compact_line};
+ghost use Rattle.s4_command.specs.CommandLine.{check_line, compact_line, salvage_line};
 
 use crate::arguments::{
     named, with_flag, with_needed_number, with_number, with_numbers, with_operand, with_optional,
@@ -114,7 +114,7 @@ fn restore_command<'a>(alloc: Global) -> Result<Command<'a>, AllocError>
         at,
         "object",
         "O",
-        "This object alone; may be given again, for a greater number",
+        "This object alone; may be given again",
     );
     let dry_run = with_flag(
         alloc,
@@ -147,6 +147,18 @@ fn compact_command<'a>(alloc: Global) -> Result<Command<'a>, AllocError>
         "Cleans a drive, and gathers what is scattered",
     );
     with_operand(alloc, compact, "image", IMAGE.0, IMAGE.1)
+}
+
+fn salvage_command<'a>(alloc: Global) -> Result<Command<'a>, AllocError>
+    ensures { IsLine result salvage_line }
+{
+    let salvage = named(
+        alloc,
+        "salvage",
+        "Writes what a damaged image still has of each object into a folder",
+    );
+    let image = with_operand(alloc, salvage, "image", IMAGE.0, IMAGE.1);
+    with_operand(alloc, image, "folder", "DIR", "The folder")
 }
 
 // The program with one command more. The first refusal of memory stays.
@@ -188,5 +200,6 @@ pub(crate) fn command_line<'a>(alloc: Global) -> Result<Command<'a>, AllocError>
     let export = with_command(diff, export_command(alloc));
     let restore = with_command(export, restore_command(alloc));
     let check = with_command(restore, check_command(alloc));
-    with_command(check, compact_command(alloc))
+    let compact = with_command(check, compact_command(alloc));
+    with_command(compact, salvage_command(alloc))
 }

@@ -1,8 +1,8 @@
-//! What asks for an image as a whole: `info`, `check` and `compact`.
+//! What asks for an image as a whole: `info`, `check`, `compact` and `salvage`.
 ghost use Rattle.std.specs.Prelude.{IfOk, OnErr, Some, codes};
 ghost use Rattle.clap.specs.Walk.{rows_of};
 ghost use Rattle.clap.specs.Matches.{found_of};
-ghost use Rattle.s4_command.specs.CommandLine.{Spells, SpellsNone, SpellsInfo, SpellsCheck, SpellsCompact};
+ghost use Rattle.s4_command.specs.CommandLine.{Spells, SpellsNone, SpellsInfo, SpellsCheck, SpellsCompact, SpellsSalvage};
 
 use crate::reading::{is_given, text_in};
 use crate::{Command, NoCommand};
@@ -28,6 +28,15 @@ pub struct CheckAsked<'a> {
 pub struct CompactAsked<'a> {
     /// The image's file.
     pub image: &'a str,
+}
+
+/// What `salvage` asks for.
+#[derive(Clone, Copy)]
+pub struct SalvageAsked<'a> {
+    /// The image's file.
+    pub image: &'a str,
+    /// The folder that is written into.
+    pub folder: &'a str,
 }
 
 pub(crate) fn info_asked<'a>(found: &ArgMatches<'a>) -> Result<Command<'a>, NoCommand<'a>>
@@ -60,6 +69,16 @@ pub(crate) fn compact_asked<'a>(found: &ArgMatches<'a>) -> Result<Command<'a>, N
     }
 }
 
+pub(crate) fn salvage_asked<'a>(found: &ArgMatches<'a>) -> Result<Command<'a>, NoCommand<'a>>
+    ensures spelled { IfOk result (Spells (Some (codes "salvage", rows_of (found_of found.now)))) }
+    ensures usage { OnErr result (SpellsNone (Some (codes "salvage", rows_of (found_of found.now)))) }
+{
+    match salvage_in(found) {
+        Ok(salvage) => Ok(Command::Salvage(salvage)),
+        Err(refusal) => Err(refusal),
+    }
+}
+
 fn info_in<'a>(matches: &ArgMatches<'a>) -> Result<InfoAsked<'a>, NoCommand<'a>>
     ensures spelled { IfOk result (SpellsInfo (rows_of (found_of matches.now))) }
     ensures usage { OnErr result ((info : _) → SpellsInfo (rows_of (found_of matches.now)) info → ⊥) }
@@ -85,4 +104,13 @@ fn compact_in<'a>(matches: &ArgMatches<'a>) -> Result<CompactAsked<'a>, NoComman
 {
     let image = text_in(matches, "image").ok_or(NoCommand::Unspelled)?;
     Ok(CompactAsked { image })
+}
+
+fn salvage_in<'a>(matches: &ArgMatches<'a>) -> Result<SalvageAsked<'a>, NoCommand<'a>>
+    ensures spelled { IfOk result (SpellsSalvage (rows_of (found_of matches.now))) }
+    ensures usage { OnErr result ((salvage : _) → SpellsSalvage (rows_of (found_of matches.now)) salvage → ⊥) }
+{
+    let image = text_in(matches, "image").ok_or(NoCommand::Unspelled)?;
+    let folder = text_in(matches, "folder").ok_or(NoCommand::Unspelled)?;
+    Ok(SalvageAsked { image, folder })
 }

@@ -1,6 +1,8 @@
 use Rattle.std.proofs.Common.{ℕ, List, subst}
 use Rattle.image_commands.specs.Files.{AreKnown}
 use Rattle.image_commands.proofs.Done.{for_ok}
+use Rattle.s4.proofs.Done.{for_err}
+use Rattle.s4.proofs.Kept.{kept_beside}
 use Rattle.s4.proofs.changing.change_image.Goals as goal
 
 pub returns : goal.returns
@@ -16,4 +18,8 @@ returns g c = record {
         kept = subst (λ (path : List ℕ). AreKnown (g.F.Files.contents c.change_opened.new.files path) done.bytes) c.in_ok-place.ensures.path done.kept;
       })
       c.change_opened.ensures.changed;
+  kept = for_err c.change_opened.result
+      (λ kept. kept_beside (g.F.Files.contents c.args.files.now) (g.F.Files.contents c.beside.new.files) (g.F.Files.contents c.change_opened.new.files) (g.F.Files.is_beside c.in_ok-place.place.beside)
+      c.beside.ensures.others c.in_ok-place.ensures.unknown kept)
+      c.change_opened.ensures.kept;
 }
