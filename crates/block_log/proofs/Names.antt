@@ -1,8 +1,8 @@
 -- Names of data blocks: what a drop leaves of them, and where there is none.
-use Rattle.std.proofs.Common.{◌≡◌, inl, inr, ℕ, ◌-◌, ◌≤◌, Bool, true, false, if◌then◌else◌, Option, None, refl, sym, ap, ◌∙◌, subst, arith}
+use Rattle.std.proofs.Common.{◌≡◌, inl, inr, ℕ, ◌-◌, ◌≤◌, Bool, true, false, if◌then◌else◌, None, refl, sym, ap, ◌∙◌, subst, arith}
 use Rattle.std.proofs.lemmas.Bool.{cases_Bool, cond-true, cond-false, le-leb, ltb-false}
 use Rattle.s4_types.specs.Pointer.{Place}
-use Rattle.block_log.specs.Log.{Log, Stored, same_place, without, is_data, dropped_by, dropped, NamesAreOfData}
+use Rattle.block_log.specs.Log.{Log, same_place, without, is_data, dropped_by, dropped, NamesAreOfData}
 
 -- a block that is named once or not at all goes, whatever it is for
 last_gone_by : (b : Bool) (log : Log) (p : Place) → log.named p ≤ 1 → (dropped_by b log p).held ≡ without log.held p

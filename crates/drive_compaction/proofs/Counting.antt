@@ -1,24 +1,22 @@
 -- What is counted of a frame, block by block.
 use Rattle.std.proofs.Common.{◌≡◌, inl, inr, ℕ, zero, suc, ◌+◌, ◌*◌, ◌<◌, ◌≤◌, List, ◌∷◌, length, get_or, take, drop, count_by, Bool, true, false, Option, Some, None, refl, sym, ap, ◌∙◌, arith}
-use Rattle.std.specs.Prelude.{is_some, option_map, MatchBool}
+use Rattle.std.specs.Prelude.{is_some, option_map}
 use Rattle.std.proofs.lemmas.Bool.{cases_lt}
-use Rattle.std.proofs.Math.ListN.{get_or-eq_default}
 use Rattle.std.proofs.lemmas.List.{take_all, drop_more, drop_all}
 use Rattle.std.proofs.lemmas.List.Sums.{count_by_more_yes, count_by_more_no}
 use Rattle.s4_types.specs.Pointer.{Place}
 use Rattle.block_log.specs.Log.{Stored}
 use Rattle.codec.specs.declared.summaries.BlockRole.{BlockRole}
 use Rattle.object_map.specs.declared.map.Row.{Row}
-use Rattle.segment_word.specs.Frames.{Phase, Free, Open, Sealed, Draining, is_sealed, Frame, no_frame}
 use Rattle.segment_word.specs.Layout.{frame_at}
 use Rattle.segment_table.specs.Table.{Table, held_at, role_of}
 use Rattle.segment_table.specs.Room.{places, whole_of}
 use Rattle.drive.specs.Fields.{DriveFields}
-use Rattle.segment_copier.specs.Choosing.{held_count, IsSparse}
+use Rattle.segment_copier.specs.Choosing.{held_count}
 use Rattle.segment_copier.specs.Gathering.{free_count, blocks_added, added_at, last_at, most_to_move, most_to_empty}
 use Rattle.drive_compaction.specs.declared.choices.Counted.{Counted}
-use Rattle.drive_compaction.specs.Choosing.{NoneCanBeFreed, IsLowestFrame}
-use Rattle.drive_compaction.specs.private.Counting.{IsCounted, IsLittle, TakesFew}
+use Rattle.drive_compaction.specs.Choosing.{IsLowestFrame}
+use Rattle.drive_compaction.specs.private.Counting.{TakesFew}
 
 -- ---- the places of a frame
 

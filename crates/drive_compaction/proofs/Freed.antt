@@ -1,11 +1,9 @@
 -- Frames that are freed, one after the other.
-use Rattle.std.proofs.Common.{◌≡◌, ℕ, suc, ◌+◌, ◌<◌, Option, None, Some, refl, sym, ap, subst, ◌∙◌, arith}
+use Rattle.std.proofs.Common.{◌≡◌, ℕ, suc, ◌+◌, Option, None, refl, subst, arith}
 use Rattle.s4_types.specs.declared.refusals.Refusal.{Refusal}
-use Rattle.s4_types.specs.declared.refusals.Refusal.TheVariants.{NoRoom}
 use Rattle.drive.specs.Fields.{DriveFields}
 use Rattle.drive_compaction.specs.Choosing.{IsLowestFrame}
 use Rattle.drive_compaction.specs.Emptying.{Frees, FreesInTurn}
-use Rattle.drive_compaction.specs.Compacting.{RunsOut}
 
 pub none_freed : (d : DriveFields) → FreesInTurn d 0 0 d
 unfolding FreesInTurn

@@ -1,8 +1,7 @@
 -- What stays over several steps.
-use Rattle.std.proofs.Common.{◌≡◌, refl, sym, ap, subst, ◌∙◌, ℕ}
+use Rattle.std.proofs.Common.{◌≡◌, refl, ap, subst, ◌∙◌}
 use Rattle.s4_model.specs.State.{State, state_of}
 use Rattle.segment_word.specs.AcceptViews.{Ledger}
-use Rattle.version_store.specs.Upkeep.{KeepsObjects}
 use Rattle.drive.specs.Fields.{DriveFields, state_in, store_of}
 use Rattle.drive.specs.Keeping.{KeepsVersions}
 use Rattle.drive_compaction.specs.Emptying.{KeepsAll}

@@ -1,24 +1,17 @@
 -- The objects of held blocks have rows.
-use Rattle.std.proofs.Common.{◌≡◌, ◌⊎◌, inl, inr, ℕ, zero, suc, ◌+◌, ◌<◌, Bool, true, ◌&&◌, ◌==◌, if◌then◌else◌, length, List, Option, Some, None, Result, Ok, Err, refl, sym, ap, subst, ◌∙◌, arith}
-use Rattle.std.specs.Prelude.{IsSome, IfSome, IfErr, option_map}
+use Rattle.std.proofs.Common.{◌≡◌, ℕ, Bool, true, ◌&&◌, ◌==◌, if◌then◌else◌, Option, Some, None, refl, sym, ap, ◌∙◌}
+use Rattle.std.specs.Prelude.{IsSome, option_map}
 use Rattle.std.proofs.lemmas.Bool.{eq-eqb, and_from}
 use Rattle.s4_types.specs.Pointer.{Place}
-use Rattle.s4_types.specs.declared.refusals.Refusal.{Refusal}
-use Rattle.s4_types.specs.declared.refusals.Refusal.TheVariants.{NoObject, NoMemory, NoRoom, Busy, Stale}
 use Rattle.block_log.specs.declared.kinds.BlockKind.{BlockKind}
 use Rattle.block_log.specs.declared.kinds.BlockKind.TheVariants.{Journal, Checkpoint, Data}
-use Rattle.block_log.specs.Log.{Stored, same_kind, seen_as, of_kind}
+use Rattle.block_log.specs.Log.{Stored, same_kind, seen_as}
 use Rattle.codec.specs.declared.summaries.BlockRole.{BlockRole}
 use Rattle.object_map.specs.declared.map.Row.{Row}
 use Rattle.object_map.specs.Rows.{row_of}
 use Rattle.segment_table.specs.Table.{held_at, role_of}
-use Rattle.version_store.specs.Store.{IsStore, HasNothing}
+use Rattle.version_store.specs.Store.{IsStore}
 use Rattle.drive.specs.Fields.{DriveFields, store_of}
-use Rattle.interleaving.specs.Moving.{Move, IsCurrent, IsMoveOf}
-use Rattle.interleaving.specs.Acting.{IsUnplanned, IsUnmoved}
-use Rattle.segment_copier.specs.Commits.{blocks_moved}
-use Rattle.segment_copier.specs.Gathering.{MovesNow}
-use Rattle.drive_compaction.specs.Emptying.{Leaves, LeavesPlace, LeavesBelow, LacksRoom, IsKeptBack, Stays, StopsAt, block_of}
 
 -- ---- what is held has a row
 

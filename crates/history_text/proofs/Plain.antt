@@ -1,5 +1,5 @@
 -- Bytes that stand for themselves in a text.
-use Rattle.std.proofs.Common.{◌≡◌, ◌∙◌, ◌+◌, ◌<◌, ◌++◌, ◌==◌, ◌&&◌, ℕ, Bool, true, false, not, List, [], ◌∷◌, length, get_or, take, nat_le, nat_lt, encode_utf8, inl, inr, ap, sym, subst, append_assoc, arith}
+use Rattle.std.proofs.Common.{◌≡◌, ◌∙◌, ◌+◌, ◌<◌, ◌++◌, ◌==◌, ◌&&◌, ℕ, true, false, not, List, [], ◌∷◌, length, get_or, take, nat_le, nat_lt, encode_utf8, inl, inr, ap, sym, subst, append_assoc, arith}
 use Rattle.std.specs.List.{list_all}
 use Rattle.std.proofs.lemmas.Bool.{and_parts, ltb-true, cases_Bool, true≢false}
 use Rattle.std.proofs.lemmas.List.{take_more}

@@ -1,4 +1,4 @@
-use Rattle.std.proofs.Common.{◌≡◌, ◌<◌, ℕ, sym, subst, ◌∙◌, arith}
+use Rattle.std.proofs.Common.{◌≡◌, ◌<◌, sym, subst, ◌∙◌, arith}
 use Rattle.drive.specs.Fields.{DriveFields}
 use Rattle.segment_copier.specs.Gathering.{free_count}
 use Rattle.drive_compaction.specs.private.Counting.{TakesFew}

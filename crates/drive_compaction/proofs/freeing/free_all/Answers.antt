@@ -1,4 +1,4 @@
-use Rattle.std.proofs.Common.{◌≡◌, ℕ, sym, subst, ◌∙◌, arith}
+use Rattle.std.proofs.Common.{subst, arith}
 use Rattle.drive.specs.Fields.{DriveFields}
 use Rattle.drive_compaction.specs.Emptying.{KeepsAll, Frees}
 use Rattle.drive_compaction.proofs.Keeping.{keeps_all, keeps_on}

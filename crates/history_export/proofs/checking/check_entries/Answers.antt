@@ -1,4 +1,4 @@
-use Rattle.std.proofs.Common.{◌≡◌, ◌∙◌, ◌<◌, ◌≤◌, ℕ, List, [], ◌∷◌, length, get_or, cond, MatchBool, sym, ap, subst, refl}
+use Rattle.std.proofs.Common.{◌≡◌, ◌∙◌, ◌<◌, ◌≤◌, ℕ, List, [], ◌∷◌, length, get_or, cond, MatchBool, sym, subst, refl}
 use Rattle.s4_model.specs.State.{State}
 use Rattle.codec.specs.Entry.{EntryFields}
 use Rattle.version_store.specs.Versions.{entries_of_object}

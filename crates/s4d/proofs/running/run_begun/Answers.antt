@@ -1,7 +1,6 @@
-use Rattle.std.proofs.Common.{◌≡◌, ◌↔◌, ◌<◌, ℕ, All, IsTrue, List, IfOk, arith, length, subst}
+use Rattle.std.proofs.Common.{◌≡◌, ◌↔◌, ℕ, All, IsTrue, List, IfOk, arith, length, subst}
 use Rattle.serving.specs.declared.ends.ServeEnd.TheVariants.{Ended}
 use Rattle.server.specs.Drawing.{ClockFields}
-use Rattle.server.specs.declared.running.Client.{Client}
 use Rattle.server.specs.declared.running.Outcome.TheVariants.{Served}
 use Rattle.verifier.specs.Saved.{SpellsSaved}
 use Rattle.image_commands.specs.Files.{AreKnown}
