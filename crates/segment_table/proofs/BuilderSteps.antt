@@ -1,5 +1,5 @@
 -- The steps of a table before its frames are shared.
-use Rattle.std.proofs.Common.{◌≡◌, ◌≢◌, true, ℕ, ◌-◌, ◌^◌, ◌<◌, ◌≤◌, if◌then◌else◌, List, [], length, map, set, get_or, drop, Option, Some, IsSome, refl, sym, ap, subst, ◌∙◌, set-set, arith}
+use Rattle.std.proofs.Common.{◌≡◌, ◌≢◌, ℕ, ◌+◌, ◌-◌, ◌^◌, ◌<◌, ◌≤◌, if◌then◌else◌, List, [], length, map, set, get_or, drop, Option, Some, IsSome, refl, sym, ap, subst, ◌∙◌, set-set, arith}
 use Rattle.std.proofs.lemmas.List.{get_or_read, get_or-set_same, length-set}
 use Rattle.s4_types.specs.Pointer.{Place}
 use Rattle.block_log.specs.Log.{same_place, is_data}
@@ -9,7 +9,7 @@ use Rattle.segment_word.specs.Frames.{Phase, Free, Open, Frame, no_frame, is_ope
 use Rattle.segment_word.specs.Layout.{frame_at}
 use Rattle.segment_word.specs.Handles.{Drive}
 use Rattle.segment_table.specs.declared.slots.Slot.{Slot}
-use Rattle.segment_table.specs.Slots.{no_slot, hold_on, unheld}
+use Rattle.segment_table.specs.Slots.{no_slot, capped, data_names, hold_on, unheld}
 use Rattle.segment_table.specs.Table.{Table, slots_at, held_at, named_at}
 use Rattle.segment_table.specs.Used.{used_at}
 use Rattle.segment_table.specs.Room.{is_filling, numbers}
@@ -18,7 +18,7 @@ use Rattle.segment_table.specs.Building.{unnamed, IsSoundToBuild}
 use Rattle.segment_table.specs.Changes.{IsAlone}
 use Rattle.segment_table.specs.private.Storing.{AreStored}
 use Rattle.segment_table.proofs.Sound.{unchanged_drive}
-use Rattle.segment_table.proofs.Unshared.{alone_frames, changed_builder, filling_changed, free_unused, free_stays, fit_free, fit_used, held_unchanged, unheld_let_go, unheld_once, once_put, length-unheld}
+use Rattle.segment_table.proofs.Unshared.{alone_frames, changed_builder, filling_changed, free_unused, free_stays, fit_free, fit_used, held_unchanged, unheld_let_go, length-unheld}
 use Rattle.segment_table.proofs.UsedBlocks.{IsUsedAt, used_is, used_inside, named_phase, held_on, named_on, used_still, roles_still, fit_named}
 
 -- a free frame got its generation
@@ -34,7 +34,7 @@ freed_builder frames new slots f g current sound inside free started small chang
     let F : Frame → Type 0 = λ x. IsFit f x [] in
     changed_builder old (unnamed new slots) f [] current current sound inside a (free_stays old f none) (subst F (sym at) (fit_free f k (started, small) refl))
     (filling_changed old (unnamed new slots) f Free current sound inside free a (ap (λ (x : Frame). x.phase) at) (λ (e : Free ≡ Open). absurd (cc)))
-    (λ e. let clash : Free ≡ Open = sym (ap (λ (x : Frame). x.phase) at) ∙ e in absurd (cc)) tt
+    (λ e. let clash : Free ≡ Open = sym (ap (λ (x : Frame). x.phase) at) ∙ e in absurd (cc))
 
 -- What a free frame that is used leaves.
 pub record AreUsed (frames new : List Frame) (slots : List (List Slot)) (f : ℕ) (p : Phase) (current : Option ℕ) (roles : List BlockRole) : Type 0 where
@@ -62,18 +62,18 @@ used_builder frames mid new slots f g p current s blocks sound inside free store
       alone = alone;
       sound = changed_builder old made f (unheld s.roles) current (if is_open p then Some f else current) sound inside a refl fit
           (filling_changed old made f p current sound inside free a is none)
-          (λ e. let few : length s.roles ≤ 14 = room (sym is ∙ e) in (omega (arith, length-unheld s.roles), omega (arith, length-unheld s.roles))) (unheld_once s.roles);
+          (λ e. let few : length s.roles ≤ 14 = room (sym is ∙ e) in (omega (arith, length-unheld s.roles), omega (arith, length-unheld s.roles)));
       held = λ q. held_unchanged old made f (unheld s.roles) q within a refl (free_unused old f current sound inside free) (unheld_let_go s.roles);
     }
 
 hold_long : (s : List Slot) (i : ℕ) → length (hold_on s i) ≡ length s
-hold_long s i = length-set s i (record (get_or s i no_slot) { named = 1 })
+hold_long s i = length-set s i (record (get_or s i no_slot) { named = capped (1 + data_names (get_or s i no_slot)) })
 
 -- What holding a used block leaves.
 pub record IsHeldOn (new given : Table) (p : Place) (current : Option ℕ) : Type 0 where
   pub sound : IsSoundToBuild new current
   pub held : (q : Place) → held_at new q ≡ (if same_place p q then used_at given p else held_at given q)
-  pub named : (q : Place) → named_at new q ≡ (if same_place p q then (if is_data (used_at given p) then 1 else 0) else named_at given q)
+  pub named : (q : Place) → named_at new q ≡ (if same_place p q then (if is_data (used_at given p) then capped (1 + named_at given p) else 0) else named_at given q)
   pub used : (q : Place) → used_at new q ≡ used_at given q
   pub roles : (g : ℕ) → map (λ (x : Slot). x.role) (slots_at new.slots g) ≡ map (λ (x : Slot). x.role) (slots_at given.slots g)
 
@@ -90,16 +90,15 @@ held_first old new current p sound some drive slots =
     let same : frame_at new.seat.frames f ≡ k = ap (λ (d : Drive). frame_at d.frames f) drive in
     record {
       sound = changed_builder old new f (hold_on s (p.block - 1)) current current sound inside (unchanged_drive old.seat new.seat f drive) slots
-          (subst F (sym same) (fit_named f k s (p.block - 1) 1 (sound.fit f inside) (named_phase k.phase used.named).1))
+          (subst F (sym same) (fit_named f k s (p.block - 1) (capped (1 + data_names (get_or s (p.block - 1) no_slot))) (sound.fit f inside) (named_phase k.phase used.named).1))
           (sound.filling ∙ ap (λ (d : Drive). numbers is_filling 0 d.frames) (sym drive))
           (λ e. let open_before : k.phase ≡ Open = ap (λ (x : Frame). x.phase) (sym same) ∙ e in
           let filled = sound.part_filled f inside open_before in
-          (omega (arith, hold_long s (p.block - 1), filled.0), omega (arith, hold_long s (p.block - 1), filled.1)))
-          (once_put s (p.block - 1) (record (get_or s (p.block - 1) no_slot) { named = 1 }) (sound.once f) (omega arith));
+          (omega (arith, hold_long s (p.block - 1), filled.0), omega (arith, hold_long s (p.block - 1), filled.1)));
       held = λ q. held_on old new p q within used drive slots;
       named = λ q. named_on old new p q within used drive slots;
       used = λ q. used_still old new f (p.block - 1) q within drive slots;
-      roles = subst M (sym slots) (λ g. roles_still old.slots f (p.block - 1) 1 g within);
+      roles = subst M (sym slots) (λ g. roles_still old.slots f (p.block - 1) (capped (1 + data_names (get_or s (p.block - 1) no_slot))) g within);
     }
 
 pub held_made : (old new given : Table) (current : Option ℕ) (p : Place) (f b : ℕ) (lent after : List Slot) → old ≡ given → f ≡ p.frame → b ≡ p.block → IsSoundToBuild old current → IsSome (used_at given p)

@@ -22,3 +22,4 @@ pub mod UsedBlocks
 pub mod Unshared
 pub mod BuilderSteps
 pub mod MoreNames
+pub mod Counting

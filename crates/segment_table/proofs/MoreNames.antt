@@ -4,13 +4,12 @@ use Rattle.std.proofs.lemmas.Bool.{false≢true}
 use Rattle.std.proofs.lemmas.List.{get_or_read, length-set}
 use Rattle.s4_types.specs.Pointer.{Place}
 use Rattle.block_log.specs.Log.{Stored, is_data, held_more}
-use Rattle.segment_word.specs.Frames.{Free, Open, Sealed, Draining, Frame}
-use Rattle.codec.specs.declared.summaries.BlockRole.{BlockRole}
+use Rattle.segment_word.specs.Frames.{Open, Sealed, Draining, Frame}
 use Rattle.segment_word.specs.Layout.{frame_at}
 use Rattle.segment_word.specs.Handles.{Drive}
 use Rattle.segment_table.specs.declared.slots.Slot.{Slot}
 use Rattle.segment_table.specs.Slots.{no_slot, more_names}
-use Rattle.segment_table.specs.Table.{Table, slots_at, held_at, named_at}
+use Rattle.segment_table.specs.Table.{Table, slots_at, held_at}
 use Rattle.segment_table.specs.Room.{is_filling, can_open, numbers, places_ahead, places_spent, log_of}
 use Rattle.segment_table.specs.Sealing.{IsFit, IsSoundTable}
 use Rattle.segment_table.proofs.Ahead.{ahead_same}

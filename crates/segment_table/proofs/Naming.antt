@@ -1,9 +1,9 @@
 -- How often blocks of a table are named, and what a name more or less of one makes of it.
-use Rattle.std.proofs.Common.{◌≡◌, ◌≢◌, ◌⊎◌, inl, inr, ℕ, zero, suc, ◌+◌, ◌-◌, ◌<◌, ◌≤◌, Bool, true, false, cond, ltb, leb, ◌==◌, ◌&&◌, if◌then◌else◌, List, [], ◌∷◌, ◌++◌, length, set, get_or, Option, Some, None, refl, sym, ap, subst, ◌∙◌, add-one, arith}
+use Rattle.std.proofs.Common.{◌≡◌, inl, inr, ℕ, zero, suc, ◌+◌, ◌-◌, ◌<◌, ◌≤◌, Bool, true, false, cond, ltb, leb, ◌==◌, ◌&&◌, List, [], ◌∷◌, ◌++◌, length, set, get_or, Option, Some, None, refl, sym, ap, subst, ◌∙◌, add-one, arith}
 use Rattle.std.proofs.lemmas.List.{get_or_past, get_or-set_same, get_or-set_other, set_past}
-use Rattle.std.proofs.lemmas.Bool.{cases_Bool, cases_eq, cases_lt, ne_eqb, cond-true, cond-false, eq-eqb, eqb-true, and_parts, ltb-true, ltb-false, lt-ltb, leb-true, leb-false, false≢true}
+use Rattle.std.proofs.lemmas.Bool.{cases_Bool, cases_eq, cases_lt, ne_eqb, cond-true, cond-false, eq-eqb, eqb-true, and_parts, ltb-true, ltb-false, lt-ltb, leb-true, leb-false}
 use Rattle.s4_types.specs.Pointer.{Place}
-use Rattle.block_log.specs.Log.{Log, Stored, same_place, same_kind, is_data, without, with_more, with_fewer, named_with, held_more, held_less, dropped, dropped_by, NamesAreOfData}
+use Rattle.block_log.specs.Log.{Stored, same_place, same_kind, is_data, without, with_more, with_fewer, named_with, dropped, dropped_by, NamesAreOfData}
 use Rattle.block_log.specs.declared.kinds.BlockKind.{BlockKind}
 use Rattle.block_log.specs.declared.kinds.BlockKind.TheVariants.{Journal, Checkpoint, Data}
 use Rattle.codec.specs.declared.summaries.BlockRole.{BlockRole}
@@ -14,7 +14,7 @@ use Rattle.segment_table.specs.Slots.{no_slot, is_held, data_names, fewer_names,
 use Rattle.segment_table.specs.Table.{Table, slots_at, block_slot, stored, held_block, held_at, named_block, named_at}
 use Rattle.segment_table.specs.Room.{log_of}
 use Rattle.segment_word.specs.Handles.{Drive}
-use Rattle.segment_table.proofs.Viewing.{view_at, view_changed}
+use Rattle.segment_table.proofs.Viewing.{view_changed}
 use Rattle.segment_table.specs.Changes.{IsPut}
 use Rattle.segment_table.proofs.Alone.{generation_alone}
 use Rattle.segment_table.proofs.Holding.{slot_last, slot_more}

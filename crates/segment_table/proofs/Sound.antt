@@ -1,5 +1,5 @@
 -- What holds of a table goes on to hold, after each change of one frame.
-use Rattle.std.proofs.Common.{◌≡◌, inl, inr, ℕ, zero, suc, ◌+◌, ◌^◌, ◌<◌, ◌≤◌, false, List, [], ◌∷◌, ◌++◌, length, map, reverse, set, get_or, replicate, ltb, cond, ◌-◌, Option, Some, None, refl, sym, ap, subst, ◌∙◌, length-append, arith, Bool}
+use Rattle.std.proofs.Common.{◌≡◌, inl, inr, ℕ, zero, suc, ◌+◌, ◌^◌, ◌<◌, ◌≤◌, List, [], ◌∷◌, ◌++◌, length, map, reverse, set, get_or, replicate, ltb, cond, ◌-◌, Option, Some, None, refl, sym, ap, subst, ◌∙◌, length-append, arith, Bool}
 use Rattle.std.specs.List.{AllByRecursion, range_with_len}
 use Rattle.std.proofs.lemmas.List.{get_or-set_same, get_or-set_other, set-get_or, length-set, reverse-reverse, get_or-replicate, length-replicate}
 use Rattle.std.proofs.lemmas.Bool.{cases_eq, cases_Bool, ltb-false}
@@ -13,7 +13,7 @@ use Rattle.segment_word.specs.Frames.{Free, Open, Sealed, Draining, Frame, no_fr
 use Rattle.segment_word.specs.Layout.{frame_at, block_bytes}
 use Rattle.segment_word.specs.Handles.{Drive, with_changed, fresh_frame}
 use Rattle.segment_table.specs.declared.slots.Slot.{Slot}
-use Rattle.segment_table.specs.Slots.{no_slot, is_held, data_names, fewer_names, let_go}
+use Rattle.segment_table.specs.Slots.{no_slot, data_names, fewer_names, let_go}
 use Rattle.segment_table.specs.Table.{Table, slots_at}
 use Rattle.segment_table.specs.Room.{is_filling, can_open, numbers}
 use Rattle.segment_table.specs.Sealing.{payload_of, IsOwned, IsLetGo, AreWhole, IsFit, IsSoundTable}

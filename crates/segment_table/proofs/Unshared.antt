@@ -6,8 +6,7 @@ use Rattle.std.proofs.lemmas.List.{get_or-set_same, get_or-set_other, length-set
 use Rattle.std.proofs.lemmas.Grind.{get_or_after_one}
 use Rattle.std.proofs.lemmas.Bool.{cases_eq}
 use Rattle.s4_types.specs.Pointer.{Place}
-use Rattle.block_log.specs.Log.{Stored, same_kind}
-use Rattle.block_log.specs.declared.kinds.BlockKind.TheVariants.{Data}
+use Rattle.block_log.specs.Log.{Stored}
 use Rattle.codec.specs.declared.summaries.BlockRole.{BlockRole}
 use Rattle.codec.specs.Summary.{SummaryFields, KeepsSummaryRules, SpellsSummary}
 use Rattle.s4_types.specs.declared.limits.TheConstants.{FEWEST_FRAMES}
@@ -15,17 +14,16 @@ use Rattle.segment_word.specs.Frames.{Phase, Free, Open, Sealed, Draining, Frame
 use Rattle.segment_word.specs.Layout.{frame_at, block_bytes, with_block}
 use Rattle.segment_word.specs.Handles.{Drive, fresh_frame}
 use Rattle.segment_table.specs.declared.slots.Slot.{Slot}
-use Rattle.segment_table.specs.Slots.{unheld, is_held, data_names}
-use Rattle.segment_table.specs.Table.{Table, slots_at, block_slot, held_block, held_at, named_at}
+use Rattle.segment_table.specs.Slots.{unheld, is_held}
+use Rattle.segment_table.specs.Table.{Table, slots_at, block_slot, held_block, held_at}
 use Rattle.segment_table.specs.Room.{is_filling, can_open, numbers}
 use Rattle.segment_table.specs.Sealing.{blocks_from, payload_of, summary_of, IsOwned, IsLetGo, IsFit, IsSoundTable}
-use Rattle.segment_table.specs.Building.{unnamed, IsNamedOnce, IsSoundToBuild}
+use Rattle.segment_table.specs.Building.{unnamed, IsSoundToBuild}
 use Rattle.segment_table.specs.Changes.{IsAlone}
 use Rattle.segment_table.specs.private.Storing.{AreStored}
 use Rattle.segment_table.proofs.Numbers.{numbers_gained}
 use Rattle.segment_table.proofs.Alone.{length-alone, elsewhere, numbers_alone}
 use Rattle.segment_table.proofs.Sound.{fits_changed, stays, sound_new}
-use Rattle.segment_table.proofs.Reading.{no_slots_at}
 
 -- the frames of such a table after one of them has changed
 pub alone_frames : (old new : List Frame) (ss ts : List (List Slot)) (f : ℕ) → new ≡ set old f (frame_at new f) → IsAlone f (unnamed old ss).seat (unnamed new ts).seat
@@ -34,45 +32,11 @@ alone_frames old new ss ts f e = ap (λ (l : List Frame). (unnamed l ts).seat) e
 pub sound_table : (t : Table) (current : Option ℕ) → IsSoundToBuild t current → IsSoundTable t (reverse (numbers can_open 0 t.seat.frames)) current
 sound_table t current sound = record { least = sound.least; most = sound.most; counted = sound.counted; vacant = refl; filling = sound.filling; fit = sound.fit }
 
--- ---- names
-
--- the used blocks of one frame were changed
-once_set : (slots : List (List Slot)) (f : ℕ) (s : List Slot) → f < length slots → AllByRecursion IsNamedOnce s → ((g : ℕ) → AllByRecursion IsNamedOnce (slots_at slots g)) → (g : ℕ) → AllByRecursion IsNamedOnce (slots_at (set slots f s) g)
-once_set slots f s inside here all g = elim (cases_eq g f) [
-  | inl at ↦ subst (λ (n : ℕ). AllByRecursion IsNamedOnce (slots_at (set slots f s) n)) (sym at) (subst (AllByRecursion IsNamedOnce) (sym (get_or-set_same slots f s [] inside)) here)
-  | inr ne ↦ subst (AllByRecursion IsNamedOnce) (sym (get_or-set_other slots f g s [] ne)) (all g)
-]
-
-pub once_put : (s : List Slot) (i : ℕ) (slot : Slot) → AllByRecursion IsNamedOnce s → IsNamedOnce slot → AllByRecursion IsNamedOnce (set s i slot)
-once_put [] i slot all h = tt
-once_put (x ∷ s) zero slot all h = (h, all.1)
-once_put (x ∷ s) (suc i) slot all h = (all.0, once_put s i slot all.1 h)
-
-pub unheld_once : (roles : List BlockRole) → AllByRecursion IsNamedOnce (unheld roles)
-unheld_once [] = tt
-unheld_once (x ∷ roles) = (omega arith, unheld_once roles)
-
--- of what is no used block nothing is named either
-once_at : (s : List Slot) (b : ℕ) → AllByRecursion IsNamedOnce s → (block_slot s b).named ≤ 1
-once_at s zero all = omega arith
-once_at [] (suc b) all = omega arith
-once_at (x ∷ s) (suc zero) all = all.0
-once_at (x ∷ s) (suc (suc b)) all = once_at s (suc b) all.1
-
-either_once : (b : Bool) (n : ℕ) → n ≤ 1 → (if b then n else 0) ≤ 1
-either_once true n few = few
-either_once false n few = omega arith
-
-pub named_once : (t : Table) → ((f : ℕ) → AllByRecursion IsNamedOnce (slots_at t.slots f)) → (p : Place) → named_at t p ≤ 1
-named_once t all p =
-    let slot : Slot = block_slot (slots_at t.slots p.frame) p.block in
-    either_once ((frame_at t.seat.frames p.frame).generation == p.generation) (data_names slot) (either_once (same_kind slot.role.kind Data) slot.named (once_at (slots_at t.slots p.frame) p.block (all p.frame)))
-
 -- one frame has changed and fits
 pub changed_builder : (old new : Table) (f : ℕ) (s : List Slot) (current current' : Option ℕ) → IsSoundToBuild old current → f < length old.seat.frames → IsAlone f old.seat new.seat → new.slots ≡ set old.slots f s
     → IsFit f (frame_at new.seat.frames f) s → option_to_list current' ≡ numbers is_filling 0 new.seat.frames
-    → ((frame_at new.seat.frames f).phase ≡ Open → (1 ≤ length s) × (length s < 15)) → AllByRecursion IsNamedOnce s → IsSoundToBuild new current'
-changed_builder old new f s current current' sound inside alone slots fit filling room once =
+    → ((frame_at new.seat.frames f).phase ≡ Open → (1 ≤ length s) × (length s < 15)) → IsSoundToBuild new current'
+changed_builder old new f s current current' sound inside alone slots fit filling room =
     let within : f < length old.slots = omega (arith, sound.counted) in
     record {
       least = omega (arith, length-alone old.seat new.seat f alone, sound.least);
@@ -91,7 +55,6 @@ changed_builder old new f s current current' sound inside alone slots fit fillin
             let within : g < length old.seat.frames = omega (arith, length-alone old.seat new.seat f alone) in
             subst R (sym there) (sound.part_filled g within (ap (λ (k : Frame). k.phase) (sym same) ∙ phase)))
       ];
-      once = subst (λ (l : List (List Slot)). (g : ℕ) → AllByRecursion IsNamedOnce (slots_at l g)) (sym slots) (once_set old.slots f s within once sound.once);
     }
 
 -- which frame is open after a free one got a phase
@@ -251,5 +214,4 @@ sound_free count enough small =
           let free : (frame_at t.seat.frames f).phase ≡ Free = ap (λ (k : Frame). k.phase) (get_or-replicate count f fresh_frame no_frame low) in
           let clash : Free ≡ Open = sym free ∙ phase in
           absurd (cc));
-      once = λ f. subst (AllByRecursion IsNamedOnce) (sym (no_slots_at count f)) tt;
     }

@@ -1,8 +1,8 @@
 -- The used blocks of open and sealed frames: what they are, and what holding one changes.
-use Rattle.std.proofs.Common.{◌≡◌, ◌≢◌, inl, inr, ◌⊎◌, ℕ, zero, suc, ◌-◌, ◌<◌, ◌≤◌, Bool, true, false, ◌==◌, ◌&&◌, ◌||◌, if◌then◌else◌, List, [], ◌∷◌, length, map, set, get_or, slice_get, Option, Some, None, IsSome, IfSome, option_map, refl, sym, ap, subst, ◌∙◌, arith}
+use Rattle.std.proofs.Common.{◌≡◌, ◌≢◌, inl, inr, ◌⊎◌, ℕ, zero, suc, ◌+◌, ◌-◌, ◌^◌, ◌<◌, ◌≤◌, ltb, Bool, true, false, ◌==◌, ◌&&◌, ◌||◌, if◌then◌else◌, List, [], ◌∷◌, length, map, set, get_or, slice_get, Option, Some, None, IsSome, IfSome, option_map, refl, sym, ap, subst, ◌∙◌, arith}
 use Rattle.std.proofs.lemmas.List.{get_or-set_same, get_or-set_other, get_or_past, length-set}
 use Rattle.std.proofs.lemmas.Option.{slice_get-get_or, slice_get_past}
-use Rattle.std.proofs.lemmas.Bool.{cases_Bool, cases_eq, cases_lt, eq-eqb, ne_eqb, eqb-true}
+use Rattle.std.proofs.lemmas.Bool.{cases_Bool, cases_eq, cases_lt, cond-true, cond-false, eq-eqb, ne_eqb, eqb-true, lt-ltb, le-ltb}
 use Rattle.std.proofs.Math.Seq.{map-set_same}
 use Rattle.s4_types.specs.Pointer.{Place}
 use Rattle.block_log.specs.Log.{Stored, same_place, is_data}
@@ -12,7 +12,7 @@ use Rattle.segment_word.specs.Frames.{Phase, Free, Open, Sealed, Draining, Frame
 use Rattle.segment_word.specs.Layout.{frame_at, block_bytes}
 use Rattle.segment_word.specs.Handles.{Drive}
 use Rattle.segment_table.specs.declared.slots.Slot.{Slot}
-use Rattle.segment_table.specs.Slots.{no_slot, data_names, with_names, hold_on}
+use Rattle.segment_table.specs.Slots.{no_slot, is_held, capped, data_names, with_names, hold_on}
 use Rattle.segment_table.specs.Table.{Table, slots_at, block_slot, stored, held_block, held_at, named_at}
 use Rattle.segment_table.specs.Used.{used_slot, with_bytes, is_named, used_block, used_at, HasWholeBlocks, HoldsUsedBlocks}
 use Rattle.segment_table.specs.Sealing.{payload_of, AreWhole, IsFit, IsSoundTable}
@@ -103,6 +103,13 @@ pub used_kept : (k : Frame) (s : List Slot) (i b g : ℕ) → used_block k (hold
 used_kept k s i zero g = refl
 used_kept k s i (suc b) g = ap (λ (o : Option Stored). if is_named k && k.generation == g then o else None) (slot_kept (block_bytes k.contents (suc b)) s i b)
 
+-- what is counted once more is counted
+capped_some : (n : ℕ) → ltb 0 (capped (1 + n)) ≡ true
+capped_some n = elim (cases_lt (1 + n) (2 ^ 32)) [
+  | inl lt ↦ ap (λ (m : ℕ). ltb 0 m) (cond-true (ltb (1 + n) (2 ^ 32)) (1 + n) (2 ^ 32 - 1) (lt-ltb (1 + n) (2 ^ 32) lt)) ∙ lt-ltb 0 (1 + n) (omega arith)
+  | inr past ↦ ap (λ (m : ℕ). ltb 0 m) (cond-false (ltb (1 + n) (2 ^ 32)) (1 + n) (2 ^ 32 - 1) (le-ltb (1 + n) (2 ^ 32) past))
+]
+
 -- what a frame holds after one of its blocks is held
 held_on_at : (k : Frame) (s : List Slot) (p b g : ℕ) → 1 ≤ p → p ≤ length s
     → held_block k (hold_on s (p - 1)) b g ≡ (if p == b && k.generation == g then Some (with_bytes (block_bytes k.contents p) (get_or s (p - 1) no_slot)) else held_block k s b g)
@@ -110,7 +117,8 @@ held_on_at k s p zero g low high =
     let it : Stored = with_bytes (block_bytes k.contents p) (get_or s (p - 1) no_slot) in
     sym (ap (λ (x : Bool). if x && k.generation == g then Some it else held_block k s 0 g) (ne_eqb p 0 (λ (e : p ≡ 0). omega arith)))
 held_on_at k s p (suc b) g low high =
-    let slot : Slot = record (get_or s (p - 1) no_slot) { named = 1 } in
+    let n : ℕ = 1 + data_names (get_or s (p - 1) no_slot) in
+    let slot : Slot = record (get_or s (p - 1) no_slot) { named = capped n } in
     let it : Stored = with_bytes (block_bytes k.contents p) (get_or s (p - 1) no_slot) in
     let none : Option Stored = None in
     elim (cases_eq b (p - 1)) [
@@ -118,7 +126,9 @@ held_on_at k s p (suc b) g low high =
           let inside : b < length s = omega arith in
           let put : get_or (set s (p - 1) slot) b no_slot ≡ slot = ap (λ (n : ℕ). get_or (set s n slot) b no_slot) (sym at) ∙ get_or-set_same s b slot no_slot inside in
           let is : stored (get_or (set s (p - 1) slot) b no_slot) (block_bytes k.contents (suc b)) ≡ Some it =
-          ap (λ (x : Slot). stored x (block_bytes k.contents (suc b))) put ∙ ap (λ (n : ℕ). Some (with_bytes (block_bytes k.contents n) (get_or s (p - 1) no_slot))) (sym same) in
+          ap (λ (x : Slot). stored x (block_bytes k.contents (suc b))) put
+          ∙ cond-true (is_held slot) (Some (with_bytes (block_bytes k.contents (suc b)) (get_or s (p - 1) no_slot))) None (capped_some (data_names (get_or s (p - 1) no_slot)))
+          ∙ ap (λ (n : ℕ). Some (with_bytes (block_bytes k.contents n) (get_or s (p - 1) no_slot))) (sym same) in
           ap (λ (x : Option Stored). if k.generation == g then x else None) is
           ∙ elim (cases_Bool (k.generation == g)) [
             | inl own ↦ ap (λ (x : Bool). if x then Some it else none) own
@@ -157,14 +167,23 @@ held_on old new p q inside used drive slots =
     ]
     ∙ ap (λ (o : Option Stored). if same_place p q then o else held_at old q) (sym used.is)
 
--- and of data it has one name
+slot_below : (s : List Slot) (b : ℕ) → 1 ≤ b → block_slot s b ≡ get_or s (b - 1) no_slot
+slot_below s zero low = absurd (omega arith)
+slot_below s (suc b) low = let e : b ≡ suc b - 1 = omega arith in ap (λ (n : ℕ). get_or s n no_slot) e
+
+-- and of data it has one name more
 pub named_on : (old new : Table) (p q : Place) → p.frame < length old.slots → IsUsedAt (frame_at old.seat.frames p.frame) (slots_at old.slots p.frame) p.block p.generation
     → new.seat ≡ old.seat → new.slots ≡ set old.slots p.frame (hold_on (slots_at old.slots p.frame) (p.block - 1))
-    → named_at new q ≡ (if same_place p q then (if is_data (used_at old p) then 1 else 0) else named_at old q)
+    → named_at new q ≡ (if same_place p q then (if is_data (used_at old p) then capped (1 + named_at old p) else 0) else named_at old q)
 named_on old new p q inside used drive slots =
-    let slot : Slot = record (get_or (slots_at old.slots p.frame) (p.block - 1) no_slot) { named = 1 } in
+    let n : ℕ = data_names (get_or (slots_at old.slots p.frame) (p.block - 1) no_slot) in
+    let slot : Slot = record (get_or (slots_at old.slots p.frame) (p.block - 1) no_slot) { named = capped (1 + n) } in
+    let here : named_at old p ≡ n =
+    cond-true ((frame_at old.seat.frames p.frame).generation == p.generation) (data_names (block_slot (slots_at old.slots p.frame) p.block)) 0 (eq-eqb (frame_at old.seat.frames p.frame).generation p.generation used.generation)
+    ∙ ap data_names (slot_below (slots_at old.slots p.frame) p.block used.low) in
     view_changed (λ (k : Frame) (b : ℕ) (x : Slot). data_names x) 0 old new p q slot inside used.low used.high used.generation drive slots
-    ∙ ap (λ (o : Option Stored). if same_place p q then (if is_data o then 1 else 0) else named_at old q) (sym used.is)
+    ∙ ap (λ (o : Option Stored). if same_place p q then (if is_data o then capped (1 + n) else 0) else named_at old q) (sym used.is)
+    ∙ ap (λ (m : ℕ). if same_place p q then (if is_data (used_at old p) then capped (1 + m) else 0) else named_at old q) (sym here)
 
 -- and what is used stays
 pub used_still : (old new : Table) (f i : ℕ) (q : Place) → f < length old.slots → new.seat ≡ old.seat → new.slots ≡ set old.slots f (hold_on (slots_at old.slots f) i) → used_at new q ≡ used_at old q

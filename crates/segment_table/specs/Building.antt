@@ -1,6 +1,5 @@
 -- What holds of a table before its frames are shared.
 use Rattle.std.specs.Prelude.{◌≡◌, ℕ, ◌<◌, ◌≤◌, List, length, Option}
-use Rattle.std.specs.List.{AllByRecursion}
 use Rattle.std.specs.Option.{option_to_list}
 use Rattle.s4_types.specs.declared.limits.TheConstants.{FEWEST_FRAMES}
 use Rattle.segment_word.specs.Frames.{Frame, no_releases}
@@ -15,12 +14,7 @@ use Rattle.segment_table.specs.Sealing.{IsFit, IsPartFilled}
 abbrev pub unnamed : List Frame → List (List Slot) → Table
 unnamed frames slots = record { seat = record { table = no_table; frames = frames; releases = no_releases }; slots = slots }
 
--- one place names a used block, or none
-abbrev pub IsNamedOnce : Slot → Type 0
-IsNamedOnce slot = slot.named ≤ 1
-
--- What holds of its frames: the used blocks of each fit what it is for, and at most one is open, with 1 to 14 used blocks. No
--- used block has more than one name.
+-- What holds of its frames: the used blocks of each fit what it is for, and at most one is open, with 1 to 14 used blocks.
 pub record IsSoundToBuild (t : Table) (current : Option ℕ) : Type 0 where
   pub least : FEWEST_FRAMES ≤ length t.seat.frames
   pub most : length t.seat.frames ≤ 1024
@@ -28,4 +22,3 @@ pub record IsSoundToBuild (t : Table) (current : Option ℕ) : Type 0 where
   pub filling : option_to_list current ≡ numbers is_filling 0 t.seat.frames
   pub fit : (f : ℕ) → f < length t.seat.frames → IsFit f (frame_at t.seat.frames f) (slots_at t.slots f)
   pub part_filled : IsPartFilled t
-  pub once : (f : ℕ) → AllByRecursion IsNamedOnce (slots_at t.slots f)

@@ -2,6 +2,7 @@ pub mod Slots
 pub mod Table
 pub mod Used
 pub mod Room
+pub mod Counts
 pub mod Sealing
 pub mod Building
 pub mod Changes

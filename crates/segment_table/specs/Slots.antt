@@ -1,5 +1,5 @@
 -- The used payload blocks of one frame, block 1 first.
-use Rattle.std.specs.Prelude.{ℕ, ◌+◌, ◌-◌, nat_lt, Bool, if◌then◌else◌, List, map, slice_index_or, slice_set, Option, Some, None}
+use Rattle.std.specs.Prelude.{ℕ, ◌+◌, ◌-◌, ◌^◌, nat_lt, Bool, if◌then◌else◌, List, map, slice_index_or, slice_set, Option, Some, None}
 use Rattle.block_log.specs.declared.kinds.BlockKind.TheVariants.{Data}
 use Rattle.block_log.specs.Log.{same_kind}
 use Rattle.codec.specs.declared.summaries.BlockRole.{BlockRole}
@@ -30,9 +30,13 @@ fewer_names slot = record slot { named = data_names slot - 1 }
 abbrev pub with_names : List Slot → ℕ → ℕ → List Slot
 with_names slots i n = slice_set slots i (record (slice_index_or slots i no_slot) { named = n })
 
--- the used block of that index is held from now on: one place names it
+-- a number of names as 32 bits count it: one that is past the most that they can tell is told as that
+abbrev pub capped : ℕ → ℕ
+capped n = if nat_lt n (2 ^ 32) then n else 2 ^ 32 - 1
+
+-- the used block of that index is held from now on: of data one place more names it, and any other is named by one
 abbrev pub hold_on : List Slot → ℕ → List Slot
-hold_on slots i = with_names slots i 1
+hold_on slots i = with_names slots i (capped (1 + data_names (slice_index_or slots i no_slot)))
 
 -- one place more names the used block of that index
 abbrev pub more_names : List Slot → ℕ → List Slot

@@ -1,9 +1,9 @@
 //! The frames of a saved drive, before a table is made of them.
-ghost use Rattle.std.specs.Prelude.{◌≡◌, ◌≢◌, ℕ, ◌^◌, ◌<◌, ◌≤◌, ◌⊎◌, ◌&&◌, ◌==◌, if◌then◌else◌, [], length, map, reverse, replicate, drop, slice_set, slice_index_or, vec_capacity, Some, None, IsSome, IfOk, IfErr};
+ghost use Rattle.std.specs.Prelude.{◌≡◌, ◌≢◌, ℕ, ◌+◌, ◌^◌, ◌<◌, ◌≤◌, ◌⊎◌, ◌&&◌, ◌==◌, if◌then◌else◌, [], length, map, reverse, replicate, drop, slice_set, slice_index_or, vec_capacity, Some, None, IsSome, IfOk, IfErr};
 ghost use Rattle.s4_types.specs.Sizes.{IsFrameCount};
 ghost use Rattle.s4_types.specs.Pointer.{Place};
 ghost use Rattle.s4_types.specs.declared.refusals.Refusal.TheVariants.{NoMemory, Busy};
-ghost use Rattle.block_log.specs.Log.{Stored, same_place, is_data};
+ghost use Rattle.block_log.specs.Log.{Stored, same_place, is_data, NamesAreOfData};
 ghost use Rattle.codec.specs.Summary.{SpellsSummary};
 ghost use Rattle.segment_word.specs.Frames.{is_open};
 ghost use Rattle.segment_word.specs.Frames.Phase.{Free, Open};
@@ -11,10 +11,10 @@ ghost use Rattle.segment_word.specs.FrameStates.{phase_in};
 ghost use Rattle.segment_word.specs.Layout.{frame_at, block_bytes, with_block};
 ghost use Rattle.segment_word.specs.Handles.{fresh_frame};
 ghost use Rattle.segment_word.specs.AcceptHandles.{no_table};
-ghost use Rattle.segment_table.specs.Slots.{unheld};
+ghost use Rattle.segment_table.specs.Slots.{capped, unheld};
 ghost use Rattle.segment_table.specs.Table.{slots_at, held_at, named_at, role_of};
 ghost use Rattle.segment_table.specs.Used.{is_named, used_at, HasWholeBlocks};
-ghost use Rattle.segment_table.specs.Room.{is_filling, can_open, numbers};
+ghost use Rattle.segment_table.specs.Room.{is_filling, can_open, numbers, log_of};
 ghost use Rattle.segment_table.specs.Sealing.{IsPartFilled};
 ghost use Rattle.segment_table.specs.Rules.{HasFramesInOrder};
 ghost use Rattle.segment_table.specs.private.Storing.{AreStored};
@@ -130,12 +130,12 @@ impl TableBuilder {
         })
     }
 
-    /// Shows what holds: the frames are in order, under no name yet; each used block has 512 bytes; and no data block has more than
-    /// one name.
+    /// Shows what holds: the frames are in order, under no name yet; each used block has 512 bytes; and the held data blocks have
+    /// names, and nothing else has.
     pub fn rules(&self)
         ensures frames { HasFramesInOrder no_table self.now }
         ensures used_whole { HasWholeBlocks self.now }
-        ensures once { (p : Place) → named_at self.now p ≤ 1 }
+        ensures names { NamesAreOfData (log_of self.now) }
     {
         let _ = &self.current;
     }
@@ -220,11 +220,11 @@ impl TableBuilder {
         Some(UsedBlock { role, bytes })
     }
 
-    /// A used block is held from now on; one of data is named by one place then, however many name it in the drive that was saved.
+    /// A used block is held from now on; one of data is named by one place more, up to 2^32 - 1.
     pub fn hold(&mut self, place: Ptr)
         requires { IsSome (used_at self.old place) }
         ensures held { (q : Place) → held_at self.new q ≡ (if same_place place q then used_at self.old place else held_at self.old q) }
-        ensures named { (q : Place) → named_at self.new q ≡ (if same_place place q then (if is_data (used_at self.old place) then 1 else 0) else named_at self.old q) }
+        ensures named { (q : Place) → named_at self.new q ≡ (if same_place place q then (if is_data (used_at self.old place) then capped (1 + named_at self.old place) else 0) else named_at self.old q) }
         ensures used { (q : Place) → used_at self.new q ≡ used_at self.old q }
         ensures frames { self.new.seat.frames ≡ self.old.seat.frames }
         ensures roles { (f : ℕ) → map (λ slot. slot.role) (slots_at self.new.slots f) ≡ map (λ slot. slot.role) (slots_at self.old.slots f) }

@@ -3,7 +3,8 @@
 //! The layers above may rely on this: a [`SegmentTable`] is a log as `block_log` tells it. An append takes the lowest
 //! unused payload block of the open frame, or else opens the free frame of the lowest number, and no other pair of a
 //! pointer and its block changes. A data block has one name then; it is held until a drop takes its last one, and `hold`
-//! gives it another. A frame is sealed once its last block is filled, or by `seal_open`: its unused blocks
+//! gives it another. How many places name a block, and how many blocks of a frame are held, are counts that the table keeps. A
+//! frame is sealed once its last block is filled, or by `seal_open`: its unused blocks
 //! are zeros then, and its block 0 is the summary of what the used ones are for. A pointer has the generation of its
 //! frame, so that it never leads to a block of a later life. All memory but that of `count_on` and `held_in`
 //! is had in `new` and `from_parts`.

@@ -10,6 +10,7 @@ ghost use Rattle.segment_word.specs.Steps.{IsStateOf};
 ghost use Rattle.segment_word.specs.Handles.{pin_of};
 ghost use Rattle.segment_table.specs.Table.{Table, slots_at, held_at, role_of};
 ghost use Rattle.segment_table.specs.Room.{pointers_in};
+ghost use Rattle.segment_table.specs.Counts.{name_count, held_count};
 ghost use Rattle.segment_table.specs.Sealing.{summary_of};
 ghost use Rattle.segment_table.specs.Rules.{HasFramesInOrder};
 ghost use Rattle.segment_table.specs.Laws.{ListsAllHeld};
@@ -49,6 +50,19 @@ pub trait OverFrames {
         ensures generation { IfSome result (λ g. g ≡ (frame_at (table self.old).seat.frames frame).generation) }
         ensures outside { IfNone result (length (table self.old).seat.frames ≤ frame) }
         ensures same { self.new ≡ self.old };
+
+    /// How many places name a block of a frame, at the generation that the frame has: of a held data block as many as gave it a
+    /// name, of another held block 1. 0 where the block isn't held, and where there is no such frame or payload block.
+    ///
+    /// It is a count that the table keeps: no block is read.
+    fn name_count(&self, frame: u16, block: u8) -> u32
+        ensures { result ≡ name_count (table self.now) frame block };
+
+    /// How many payload blocks of a frame are held, 0 to 15: 0 where there is no such frame.
+    ///
+    /// It is a count that the table keeps: no block is read.
+    fn held_count(&self, frame: u16) -> u8
+        ensures { result ≡ held_count (table self.now) frame };
 
     /// The state word of a frame, as this one load finds it: its phase, its generation and the readers that are counted then. How many
     /// those are isn't known here, since pins come and go in other threads; a frame that is free or open has none.

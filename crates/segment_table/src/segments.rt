@@ -8,6 +8,7 @@ ghost use Rattle.segment_word.specs.Frames.{is_sealed};
 ghost use Rattle.segment_word.specs.Layout.{frame_at};
 ghost use Rattle.segment_table.specs.Table.{Table, slots_at, held_at, named_at, is_of, role_of};
 ghost use Rattle.segment_table.specs.Room.{is_filling, numbers, rest_of, places_ahead, places_spent, log_of, pointers_in};
+ghost use Rattle.segment_table.specs.Counts.{name_count, held_count};
 ghost use Rattle.segment_table.specs.Sealing.{IsSoundTable, IsPartFilled};
 ghost use Rattle.segment_table.specs.Changes.{IsFilling, NoneIsFilling, IsReadyFrame, IsPut, IsSealed, IsSealedIn, MarksFrame, ReleasesFrame};
 ghost use Rattle.segment_table.specs.private.Putting.{IsPutBetween};
@@ -259,6 +260,27 @@ impl Segments {
         ensures roles { (f : ℕ) → map (λ slot. slot.role) (slots_at self.new.slots f) ≡ map (λ slot. slot.role) (slots_at self.old.slots f) }
     {
         self.slots[place.frame() as usize].name(place.block() as usize);
+    }
+
+    /// How many places name a block of a frame, at the generation that the frame has: 0 where no such block is held.
+    pub fn name_count(&self, frame: u16, block: u8) -> u32
+        ensures { result ≡ name_count self.now frame block }
+    {
+        match self.slots.as_slice().get(frame as usize) {
+            Some(slots) => slots.name_count(block as usize),
+            None => 0,
+        }
+    }
+
+    /// How many payload blocks of a frame are held: 0 where no such frame is there.
+    #[tactic(auto, using(crate::proofs::Counting::held_count_is, crate::proofs::Counting::no_frame_held))]
+    pub fn held_count(&self, frame: u16) -> u8
+        ensures { result ≡ held_count self.now frame }
+    {
+        match self.slots.as_slice().get(frame as usize) {
+            Some(slots) => slots.held_count(),
+            None => 0,
+        }
     }
 
     // The generation of a frame, where it is there and sealed.

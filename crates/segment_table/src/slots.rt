@@ -1,7 +1,9 @@
 //! What the payload blocks of one frame are.
 ghost use Rattle.std.specs.Prelude.{◌≡◌, ℕ, ◌+◌, ◌-◌, ◌^◌, ◌<◌, ◌≤◌, true, cond, nat_lt, [], ◌∷◌, ◌++◌, length, map, option_map, replicate, slice_set, slice_get, slice_index_or, IfOk, IfErr};
 ghost use Rattle.s4_types.specs.declared.refusals.Refusal.TheVariants.{NoMemory};
-ghost use Rattle.std.specs.List.{list_any};
+ghost use Rattle.std.specs.List.{count_by, list_any};
+ghost use Rattle.segment_table.specs.Counts.{slot_names};
+ghost use Rattle.segment_table.specs.Table.{block_slot};
 ghost use Rattle.segment_table.specs.Slots.{no_slot, is_held, data_names, with_names, more_names, hold_on, let_go, held_role, unheld};
 
 use arrayvec::ArrayVec;
@@ -10,6 +12,7 @@ use codec::{BlockRole, BlockRoles};
 use s4_types::limits::PAYLOAD_BLOCKS;
 use s4_types::{ObjectId, Refusal};
 use std::alloc::Global;
+use std::cmp::min;
 use std::marker::Model;
 
 /// A used payload block: what it is for, whose it is, and how many places name it. It is held while some place does.
@@ -172,12 +175,14 @@ impl Slots {
         }
     }
 
-    /// The block of that number, from 1 on, is held from now on, and one place names it. Where it isn't used, nothing changes.
+    /// The block of that number, from 1 on, is held from now on: of data one place more names it, up to 2^32 - 1, and any other is
+    /// named by one. Where it isn't used, nothing changes.
     pub fn hold(&mut self, block: usize)
         requires { 1 ≤ block }
         ensures { self.new ≡ hold_on self.old (block - 1) }
     {
-        self.set_names(block - 1, 1);
+        let names = self.data_names(block - 1);
+        self.set_names(block - 1, names.saturating_add(1));
     }
 
     /// One place more names the block of that number, from 1 on. Where it isn't used, nothing changes.
@@ -197,6 +202,30 @@ impl Slots {
     {
         let names = self.data_names(block - 1);
         self.set_names(block - 1, names.saturating_sub(1));
+    }
+
+    /// How many places name the block of that number: the names of a data block, and 1 of another that is held. 0 where it isn't
+    /// held, isn't used, or isn't a payload block.
+    pub fn name_count(&self, block: usize) -> u32
+        ensures { result ≡ slot_names (block_slot self.now block) }
+    {
+        if block == 0 {
+            return 0;
+        }
+        let Some(slot) = self.slots.as_slice().get(block - 1) else {
+            return 0;
+        };
+        match slot.role.kind {
+            BlockKind::Data => slot.named,
+            BlockKind::Journal | BlockKind::Checkpoint => min(slot.named, 1),
+        }
+    }
+
+    /// How many blocks are held.
+    pub fn held_count(&self) -> u8
+        ensures { result ≡ count_by is_held self.now }
+    {
+        self.held
     }
 
     /// Whether some block is held.

@@ -199,6 +199,14 @@ impl OverFrames for SegmentTable {
         None
     }
 
+    fn name_count(&self, frame: u16, block: u8) -> u32 {
+        self.segments.name_count(frame, block)
+    }
+
+    fn held_count(&self, frame: u16) -> u8 {
+        self.segments.held_count(frame)
+    }
+
     fn state_word(&mut self, frame: u16) -> u64 {
         self.segments.seat.state(frame as usize)
     }

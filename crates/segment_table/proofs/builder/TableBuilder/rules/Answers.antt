@@ -1,14 +1,15 @@
-use Rattle.std.proofs.Common.{rules, ◌≤◌, length, reverse, refl, sym, ap, subst}
-use Rattle.s4_types.specs.Pointer.{Place}
-use Rattle.segment_table.specs.Table.{Table, named_at}
+use Rattle.std.proofs.Common.{rules, length, reverse, refl, sym, ap, subst}
+use Rattle.block_log.specs.Log.{NamesAreOfData}
+use Rattle.segment_table.specs.Table.{Table}
 use Rattle.segment_word.specs.AcceptHandles.{no_table}
 use Rattle.segment_table.specs.Used.{HasWholeBlocks}
 use Rattle.segment_table.specs.Rules.{HasFramesInOrder}
-use Rattle.segment_table.specs.Room.{can_open, numbers}
+use Rattle.segment_table.specs.Room.{can_open, numbers, log_of}
 use Rattle.segment_table.specs.Building.{unnamed}
 use Rattle.segment_table.proofs.Reading.{sound_whole, places_few}
 use Rattle.segment_table.proofs.UsedBlocks.{all_whole, all_used}
-use Rattle.segment_table.proofs.Unshared.{sound_table, named_once}
+use Rattle.segment_table.proofs.Unshared.{sound_table}
+use Rattle.segment_table.proofs.Naming.{names_are}
 use Rattle.segment_table.proofs.builder.TableBuilder.rules.Goals as goal
 
 pub returns-clause-used_whole : goal.returns-clause-used_whole
@@ -36,8 +37,8 @@ returns-clause-frames c =
       bounded = places_few t free current sound;
     })
 
-pub returns-clause-once : goal.returns-clause-once
-returns-clause-once c =
+pub returns-clause-names : goal.returns-clause-names
+returns-clause-names c =
     let t : Table = unnamed c.self.inside.words c.self.inside.slots.items in
-    let O : Table → Type 0 = λ x. (p : Place) → named_at x p ≤ 1 in
-    subst O c.self.view_is (named_once t c.self.invariant.once)
+    let N : Table → Type 0 = λ x. NamesAreOfData (log_of x) in
+    subst N c.self.view_is (λ p. names_are t p)

@@ -1,4 +1,4 @@
-use Rattle.std.proofs.Common.{◌<◌, length, true, subst}
+use Rattle.std.proofs.Common.{◌<◌, length, subst}
 use Rattle.segment_table.specs.declared.slots.Slot.{Slot}
 use Rattle.segment_table.specs.Table.{Table}
 use Rattle.segment_table.specs.Changes.{IsPut}
