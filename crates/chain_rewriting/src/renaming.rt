@@ -73,6 +73,13 @@ impl Renaming {
         self.moves[block as usize - 1] = Some(to);
     }
 
+    /// The new places of the blocks from 1 on, where they move.
+    pub fn moves(&self) -> &[Option<Ptr>]
+        ensures { result.now ≡ self.now.moves }
+    {
+        &self.moves
+    }
+
     /// The new place, where the block at the place moves; else the place as it is.
     fn rename_place(&self, place: Ptr) -> Ptr
         ensures { result ≡ renamed self.now place }

@@ -1,5 +1,5 @@
 -- The blocks of a checkpoint: one, where its pointer leads to.
-use Rattle.std.proofs.Common.{◌≡◌, inl, inr, ℕ, ◌+◌, ◌≤◌, ◌<◌, Bool, true, false, cond, ◌==◌, ◌&&◌, ◌||◌, List, [], ◌∷◌, length, map, Option, Some, None, is_some, IsSome, IfOk, IfErr, Result, Ok, Err, MatchResult, refl, sym, ap, subst, ◌∙◌, arith}
+use Rattle.std.proofs.Common.{◌≡◌, inl, inr, ℕ, ◌≤◌, ◌<◌, Bool, true, false, cond, ◌==◌, ◌&&◌, ◌||◌, List, ◌∷◌, length, count_by, Option, Some, None, is_some, IsSome, IfOk, IfErr, Result, Ok, Err, MatchResult, refl, sym, ap, subst, ◌∙◌, arith}
 use Rattle.std.proofs.lemmas.Bool.{cases_Bool, false≢true, and_from, and_parts, eq-eqb, eqb-true}
 use Rattle.std.proofs.lemmas.Option.{same_Some}
 use Rattle.s4_types.specs.Pointer.{Place}
@@ -7,7 +7,7 @@ use Rattle.s4_types.specs.declared.limits.TheConstants.{CHECKPOINT_BLOCKS}
 use Rattle.s4_types.specs.declared.refusals.Refusal.{Refusal}
 use Rattle.s4_types.specs.declared.refusals.Refusal.TheVariants.{NoSpace}
 use Rattle.block_log.specs.Growth.{Puts, LetsGo}
-use Rattle.block_log.specs.Log.{Log, Stored, of_kind, seen_as, same_place, same_kind, is_data, appended, dropped}
+use Rattle.block_log.specs.Log.{Log, Stored, seen_as, same_place, same_kind, is_data, appended, dropped}
 use Rattle.block_log.specs.declared.kinds.BlockKind.{BlockKind}
 use Rattle.block_log.specs.declared.kinds.BlockKind.TheVariants.{Journal, Checkpoint, Data}
 use Rattle.codec.specs.Checkpoint.{CheckpointFields}
@@ -57,6 +57,14 @@ pub blocks_there : OneName → (held : Place → Option Stored) (o : ℕ) (p : P
 unfolding checkpoint_in
 blocks_there one held o p told q is =
     subst (λ (r : Place). IsSome (of_checkpoints o held r)) (one p q (tested held o p q true is)) (spelled_there (of_checkpoints o held p) told)
+
+at_most_one : (b : Bool) → cond b 1 0 ≤ 1
+at_most_one true = omega arith
+at_most_one false = omega arith
+
+pub places_apart : (held : Place → Option Stored) (o : ℕ) (p q : Place) → count_by (λ (r : Place). same_place r q) (checkpoint_places held o p) ≤ 1
+unfolding places_in
+places_apart held o p q = let most = at_most_one (same_place p q) in omega (arith, most)
 
 pub one_moment : OneName → (held : Place → Option Stored) (o : ℕ) (p r q : Place) (c d : CheckpointFields) → checkpoint_held held o p ≡ Some c → checkpoint_held held o r ≡ Some d → IsInBoth held o p r q → c.moment ≡ d.moment
 one_moment one held o p r q c d first second both =

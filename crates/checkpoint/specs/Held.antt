@@ -2,7 +2,7 @@
 use Rattle.std.specs.Prelude.{◌≡◌, ℕ, Bool, true, false, ◌==◌, ◌&&◌, List, [], ◌∷◌, Option, Some, None, IsSome}
 use Rattle.std.specs.List.{list_any}
 use Rattle.s4_types.specs.Pointer.{Place}
-use Rattle.block_log.specs.Log.{Log, Stored, of_kind, same_kind, same_place}
+use Rattle.block_log.specs.Log.{Stored, of_kind, same_kind, same_place}
 use Rattle.block_log.specs.declared.kinds.BlockKind.{BlockKind}
 use Rattle.block_log.specs.declared.kinds.BlockKind.TheVariants as kind
 use Rattle.codec.specs.Fields.{all_of}

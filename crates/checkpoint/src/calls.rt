@@ -1,11 +1,11 @@
-ghost use Rattle.std.specs.Prelude.{◌≡◌, ℕ, ◌<◌, ◌≤◌, false, length, None, Some, IsSome, IfOk, OnErr, MatchResult};
+ghost use Rattle.std.specs.Prelude.{◌≡◌, ℕ, ◌<◌, ◌≤◌, ◌++◌, false, length, map, None, Some, IsSome, IfOk, IfErr, OnOk, OnErr, MatchResult};
 ghost use Rattle.codec.specs.Fields.{Reads};
 ghost use Rattle.checkpoint.specs.Held.{checkpoint_held, checkpoint_places, checkpoint_blocks, of_checkpoints, HasItsBlocks, OnlyCheckpointChanged, PutsCheckpoint, DropsCheckpoint};
 ghost use Rattle.block_log.specs.Log.{same_place};
 ghost use Rattle.block_log.specs.Taken.{TakesPlaces};
 ghost use Rattle.s4_types.specs.Pointer.{Place};
 ghost use Rattle.s4_types.specs.declared.limits.TheConstants.{CHECKPOINT_BLOCKS};
-ghost use Rattle.s4_types.specs.declared.refusals.Refusal.TheVariants.{NoSpace};
+ghost use Rattle.s4_types.specs.declared.refusals.Refusal.TheVariants.{NoMemory, NoSpace};
 
 use block_log::laws::{
     a_drop_takes_no_place, a_drop_takes_one_block, an_append_puts_one_block,
@@ -67,6 +67,25 @@ pub fn placed_blocks<B: Blocks>(table: &mut B, object: ObjectId, place: Ptr) -> 
     ensures same { B.log table.new ≡ B.log table.old }
 {
     1
+}
+
+/// Adds the places of the blocks of the checkpoint that a pointer leads to, in the order in which they are written.
+///
+/// NoMemory alone, where the memory for them is refused.
+#[tactic(auto, unfolding(crate::specs::Held::places_in))]
+pub fn add_places<B: Blocks>(
+    table: &mut B,
+    object: ObjectId,
+    place: Ptr,
+    places: &mut Vec<Option<Ptr>>,
+) -> Result<(), Refusal>
+    requires held { HasItsBlocks (B.log table.old).held object (Some place) }
+    ensures added { OnOk result (places.new.items ≡ places.old.items ++ map Some (checkpoint_places (B.log table.old).held object place)) }
+    ensures refusal { IfErr result (λ e. e ≡ NoMemory) }
+    ensures same { B.log table.new ≡ B.log table.old }
+{
+    places.push(Some(place))?;
+    Ok(())
 }
 
 /// Drops a block of a checkpoint of an object.

@@ -1,8 +1,9 @@
 //! Laws of checkpoints, for the layers above: each function does nothing, and its contract is the law.
 ghost use Rattle.std.specs.Prelude.{◌≡◌, ℕ, ◌≤◌, true, length, map, is_some, Option, Some, IsSome};
+ghost use Rattle.std.specs.List.{count_by};
 ghost use Rattle.s4_types.specs.Pointer.{Place};
 ghost use Rattle.s4_types.specs.declared.limits.TheConstants.{CHECKPOINT_BLOCKS};
-ghost use Rattle.block_log.specs.Log.{Stored};
+ghost use Rattle.block_log.specs.Log.{Stored, same_place};
 ghost use Rattle.codec.specs.Checkpoint.{CheckpointFields};
 ghost use Rattle.codec.specs.declared.inodes.Inode.{Inode};
 ghost use Rattle.checkpoint.specs.Held.{checkpoint_held, checkpoint_places, checkpoint_blocks, of_checkpoints, is_one_of, HasItsBlocks, IsInBoth};
@@ -19,10 +20,12 @@ pub fn a_checkpoint_rests_on_its_blocks()
         → checkpoint_places later o p ≡ checkpoint_places held o p }
 {}
 
-/// Where a checkpoint is told, each of its blocks is held, and the pointer that it is told by leads to one of them.
+/// Where a checkpoint is told, each of its blocks is held, and they are at places apart. The pointer that it is told by leads to
+/// one of them.
 pub fn a_checkpoint_has_its_blocks()
     ensures held { (held : Place → Option Stored) (o : ℕ) (p : Place) → IsSome (checkpoint_held held o p) → HasItsBlocks held o (Some p) }
     ensures first { (held : Place → Option Stored) (o : ℕ) (p : Place) → is_one_of (checkpoint_places held o p) p ≡ true }
+    ensures once { (held : Place → Option Stored) (o : ℕ) (p q : Place) → IsSome (checkpoint_held held o p) → count_by (λ r. same_place r q) (checkpoint_places held o p) ≤ 1 }
 {
     one_place_has_one_name();
 }

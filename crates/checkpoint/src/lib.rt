@@ -13,5 +13,6 @@ pub mod laws;
 
 pub use cache::{CACHED_INODES, CacheKey, InodeCache};
 pub use calls::{
-    checkpoint_blocks, drop_checkpoint, placed_blocks, read_checkpoint, write_checkpoint,
+    add_places, checkpoint_blocks, drop_checkpoint, placed_blocks, read_checkpoint,
+    write_checkpoint,
 };

@@ -9,7 +9,7 @@ use Rattle.block_log.specs.Log.{Log, Stored, of_kind}
 use Rattle.codec.specs.Fields.{◌>>=◌}
 use Rattle.codec.specs.Journal.{JournalFields}
 use Rattle.journal_chain.specs.Packing.{joined}
-use Rattle.journal_chain.specs.Chain.{Link, linked, links_from, chain_links, chain_entries, journal_in, places_of, blocks_of}
+use Rattle.journal_chain.specs.Chain.{Link, linked, links_from, chain_links, chain_entries, chain_places, journal_in, places_of, blocks_of}
 use Rattle.journal_chain.specs.Writing.{spelled_journal}
 use Rattle.journal_chain.specs.Back.{BackFields, links_back, entries_left, left, places_back}
 use Rattle.journal_chain.proofs.Spelled.{bind_some, bind_is}
@@ -73,6 +73,18 @@ reader_begins held o head there =
     bind_is (links_back held head) (λ links. Some (joined (blocks_of links) ++ [])) links (back_of_chain held o head links walk)
     ∙ ap Some (append-nil (joined (blocks_of links)))
     ∙ sym (bind_is (chain_links (of_kind Journal o held) o head) (λ links. Some (joined (blocks_of links))) links walk)
+
+-- a chain's blocks are found back, at the chain's places
+pub chain_goes_back : (held : Place → Option Stored) (o : ℕ) (head : Option Place) → IsSome (chain_entries held o head)
+    → IsSome (links_back held head) × (places_back held head ≡ chain_places (of_kind Journal o held) o head)
+unfolding chain_entries
+chain_goes_back held o head there =
+    let (entries, whole) = some_is (chain_entries held o head) there in
+    let (links, (walk, made)) = bind_some (chain_links (of_kind Journal o held) o head) (λ links. Some (joined (blocks_of links))) entries whole in
+    let back : links_back held head ≡ Some links = back_of_chain held o head links walk in (
+      ap is_some back,
+      ap (λ (found : Option (List Link)). places_of (unwrap_or found [])) (back ∙ sym walk),
+    )
 
 -- ---- a reader goes on to the block before
 

@@ -1,4 +1,4 @@
-ghost use Rattle.std.specs.Prelude.{◌≡◌, ℕ, ◌+◌, ◌≤◌, ◌<◌, ◌++◌, List, [], ◌∷◌, length, map, None, Some, OnOk, OnErr, MatchResult, IsSome, Option};
+ghost use Rattle.std.specs.Prelude.{◌≡◌, ℕ, ◌+◌, ◌≤◌, ◌<◌, ◌++◌, List, [], ◌∷◌, length, map, None, Some, OnOk, OnErr, IfErr, MatchResult, IsSome, Option};
 ghost use Rattle.std.specs.Option.{option_to_list};
 ghost use Rattle.s4_types.specs.declared.limits.TheConstants.{CHAIN_ENTRY_BYTES, JOURNAL_ENTRY_BYTES};
 ghost use Rattle.s4_types.specs.Pointer.{Place};
@@ -9,7 +9,7 @@ ghost use Rattle.block_log.specs.Taken.{TakesPlaces};
 ghost use Rattle.codec.specs.Entry.{entry_length, entries_length};
 ghost use Rattle.journal_chain.specs.Sizes.{blocks_needed, filled_with};
 ghost use Rattle.journal_chain.specs.Packing.{AllFit, filled_bytes, packed};
-ghost use Rattle.journal_chain.specs.Chain.{ChainFields, Holds, OnlyJournalChanged, chain_entries, entries_held};
+ghost use Rattle.journal_chain.specs.Chain.{ChainFields, Holds, OnlyJournalChanged, chain_entries, chain_places, entries_held};
 ghost use Rattle.journal_chain.specs.Back.{entries_left};
 ghost use Rattle.journal_chain.specs.Push.{HasRoom, pushed_blocks, rewrite_refusal, whole_blocks};
 ghost use Rattle.journal_chain.specs.Writing.{Standing, Finished, Unfinished, reopened};
@@ -227,6 +227,24 @@ impl Chain {
         }
         entries.reverse();
         Ok(entries)
+    }
+
+    /// Adds the places of the chain's blocks, the newest first.
+    ///
+    /// NoMemory alone, where the memory for them is refused.
+    pub fn add_places<B: Blocks>(
+        &self,
+        table: &mut B,
+        into: &mut Vec<Option<Ptr>>,
+    ) -> Result<(), Refusal>
+        requires { IsSome (chain_entries (B.log table.old).held self.now.object self.now.head) }
+        ensures added { OnOk result (into.new.items ≡ into.old.items ++ map Some (chain_places (of_kind Journal self.now.object (B.log table.old).held) self.now.object self.now.head)) }
+        ensures refusal { IfErr result (λ e. e ≡ NoMemory) }
+        ensures same { B.log table.new ≡ B.log table.old }
+    {
+        let places = places(table, self.head());
+        into.extend_from_slice(places.as_slice())?;
+        Ok(())
     }
 
     /// Writes all blocks of an object's chain, and answers the chain. What stands of an older one is not touched.

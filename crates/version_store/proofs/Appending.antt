@@ -1,12 +1,13 @@
 -- Copies are appended one by one, and a renaming gets their new places.
-use Rattle.std.proofs.Common.{◌≡◌, ◌≢◌, ◌⊎◌, inl, inr, ℕ, zero, suc, ◌+◌, ◌≤◌, ◌==◌, ◌&&◌, leb, Bool, true, List, [], ◌∷◌, length, Option, Some, None, IsSome, is_some, refl, sym, ap, subst, ◌∙◌, ◌-◌, arith}
+use Rattle.std.proofs.Common.{◌≡◌, ◌≢◌, ◌⊎◌, inl, inr, ℕ, zero, suc, ◌+◌, ◌≤◌, ◌==◌, ◌&&◌, leb, Bool, true, List, [], ◌∷◌, length, get_or, Option, Some, None, IsSome, is_some, refl, sym, ap, subst, ◌∙◌, ◌-◌, arith}
 use Rattle.std.specs.List.{Contains}
 use Rattle.std.proofs.lemmas.Bool.{cases_Bool, cases_eq, and_parts, and_from, leb-true, le-leb}
+use Rattle.std.proofs.lemmas.List.Sums.{sum_by-set}
 use Rattle.std.proofs.lemmas.List.Elements.{Contains-append_cases}
 use Rattle.std.proofs.Math.ListN.{length-set}
 use Rattle.std.proofs.lemmas.Option.{none-some, same_Some}
 use Rattle.s4_types.specs.Pointer.{Place, IsPlace}
-use Rattle.block_log.specs.Log.{Log, Stored, same_kind, same_place}
+use Rattle.block_log.specs.Log.{Log, Stored, same_kind, same_place, with_more}
 use Rattle.block_log.specs.Growth.{Puts}
 use Rattle.block_log.specs.Taken.{TakesPlaces}
 use Rattle.block_log.specs.declared.kinds.BlockKind.{BlockKind}
@@ -19,6 +20,9 @@ use Rattle.version_store.specs.declared.copies.CopiedBlock.{CopiedBlock}
 use Rattle.version_store.specs.Relocating.{AreCopies, frame_of_copies, with_moves, blocks_ascend_from}
 use Rattle.version_store.specs.private.Below.{OnePlace, PlacesAddUp}
 use Rattle.version_store.specs.private.Relocating.{Appending}
+use Rattle.version_store.specs.Store.{times_led}
+use Rattle.version_store.proofs.Counted.{more_is}
+use Rattle.version_store.proofs.Named.{once_led}
 use Rattle.version_store.proofs.Spending.{not_both, none_taken}
 
 -- ---- nothing is appended yet
@@ -31,8 +35,8 @@ none_distinct : NoPlacesAreDistinct → (copies : List CopiedBlock) → HasDisti
 none_distinct law [] = law 0 0
 none_distinct law (c ∷ copies) = law c.place.frame c.place.generation
 
-pub begun : NothingMovesYet → NoPlacesAreDistinct → (o : ℕ) (copies : List CopiedBlock) (log : Log) → length (frame_of_copies copies).moves ≡ 15 → AreCopies log.held o copies → Appending o copies log log (frame_of_copies copies) copies 0
-begun none distinct o copies log size are = record {
+pub begun : NothingMovesYet → NoPlacesAreDistinct → (o : ℕ) (copies : List CopiedBlock) (log : Log) → length (frame_of_copies copies).moves ≡ 15 → ((q : Place) → times_led q (frame_of_copies copies).moves ≡ 0) → AreCopies log.held o copies → Appending o copies log log (frame_of_copies copies) copies 0
+begun none distinct o copies log size nowhere are = record {
   exact = refl;
   takes = none_taken log;
   stays = λ p there. refl;
@@ -41,6 +45,7 @@ begun none distinct o copies log size are = record {
   generation = refl;
   size = size;
   distinct = none_distinct distinct copies;
+  named = λ q. let no_times = nowhere q in omega (arith, no_times);
   fresh = λ n q h. absurd (no_moves none copies n q h);
   there = λ n q h. absurd (no_moves none copies n q h);
   each = λ c among. inr among;
@@ -103,6 +108,17 @@ none_yet o copies before now r c rest count a = none_of (move_of r c.place.block
     let at : suc c.place.block ≤ c.place.block = leb-true (suc c.place.block) c.place.block parts.0 in
     absurd (omega (arith, at)))
 
+-- where a move is put in, it is one more
+move_at : (r : RenamingFields) (b : ℕ) → 1 ≤ b → move_of r b ≡ get_or r.moves (b - 1) None
+move_at r zero least = absurd (omega (arith, least))
+move_at r (suc n) least = ap (λ k. get_or r.moves k None) (let is : n ≡ suc n - 1 = omega arith in is)
+
+times_moved : (r : RenamingFields) (b : ℕ) (p q : Place) → length r.moves ≡ 15 → 1 ≤ b → b ≤ 15 → move_of r b ≡ None → times_led q (with_move r b p).moves ≡ once_led q (Some p) + times_led q r.moves
+times_moved r b p q size least most none =
+    let all = sum_by-set (once_led q) r.moves (b - 1) (Some p) None (omega (arith, size, least, most)) in
+    let was : once_led q (get_or r.moves (b - 1) None) ≡ 0 = ap (once_led q) (sym (move_at r b least) ∙ none) in
+    omega (arith, all, was)
+
 pub one_copied : OnePlace → PlacesAddUp → OneMoreMoves → PlacesStayDistinct → (o : ℕ) (copies : List CopiedBlock) (before now after : Log) (r : RenamingFields) (c : CopiedBlock) (rest : List CopiedBlock) (count : ℕ) (p : Place)
     → IsPlace c.place → Puts now (data_block o c.bytes) p after → TakesPlaces 1 now after → Contains copies c
     → Appending o copies before now r (c ∷ rest) count → Appending o copies before after (with_move r c.place.block p) rest (count + 1)
@@ -125,6 +141,12 @@ one_copied one add_up more apart o copies before now after r c rest count p plac
       generation = a.generation;
       size = length-set r.moves (b - 1) (Some p) ∙ a.size;
       distinct = apart r b p a.distinct (λ n h. none-some (data_block o (a.there n p h).copy.bytes) (sym puts.fresh ∙ (a.there n p h).there));
+      named = λ q.
+          let put : after.named q ≡ with_more now.named p q = ap (λ (n : Place → ℕ). n q) puts.named in
+          let more_here = more_is (same_place p q) (now.named q) in
+          let were = a.named q in
+          let times = times_moved r b p q a.size low high none in
+          omega (arith, put, more_here, were, times);
       fresh = λ n q h. elim (cases n q h) [
         | inl that ↦ subst (λ (x : Place). before.held x ≡ None) that.1 free
         | inr old ↦ a.fresh n q old.1

@@ -172,7 +172,6 @@ beside_added values pairs after s log o row same there adds beside =
     subst (λ (l : Log). IsBeside values after (record s { log = l })) (sym same) (record {
       inodes = beside.inodes;
       indexes = beside.indexes;
-      once = beside.once;
       cached = added_true s.log.held s.rows o row pairs after there adds beside.cached;
     })
 

@@ -1,6 +1,6 @@
 -- What a store keeps of inodes of checkpoints stays true of its rows: a row that is put has a higher stamp than the one before, so
 -- what was kept under that one says nothing any more, and the checkpoints of all other objects are as they were.
-use Rattle.std.proofs.Common.{◌≡◌, ℕ, ◌<◌, ◌==◌, false, List, [], Option, Some, None, sym, ap, subst, ◌∙◌, ◌⊎◌, inl, inr, arith}
+use Rattle.std.proofs.Common.{◌≡◌, ℕ, ◌<◌, ◌==◌, false, List, [], Option, Some, sym, ap, subst, ◌∙◌, inl, inr, arith}
 use Rattle.std.specs.Prelude.{option_map}
 use Rattle.std.specs.List.{Contains}
 use Rattle.std.proofs.lemmas.Bool.{cases_Bool, cond-true, eqb-true}
@@ -14,7 +14,7 @@ use Rattle.checkpoint.specs.declared.cache.CacheKey.{CacheKey}
 use Rattle.object_map.specs.declared.map.Row.{Row}
 use Rattle.object_map.specs.Rows.{row_of, with_row}
 use Rattle.time_read.specs.Caches.{key_of, HasInode, IsTrueOf, AddsTrue}
-use Rattle.version_store.specs.private.Beside.{IsTruePair, IsTrueCache}
+use Rattle.version_store.specs.private.Beside.{IsTrueCache}
 use Rattle.version_store.proofs.Steps.{row_beside}
 use Rattle.version_store.proofs.Telling.{same_checkpoint}
 

@@ -1,11 +1,10 @@
 -- What a checkpoint that is written leaves of a store.
 use Rattle.std.proofs.Common.{◌≡◌, ℕ, suc, ◌+◌, ◌*◌, ◌-◌, ◌^◌, ◌<◌, ◌≤◌, ◌==◌, ◌&&◌, ◌||◌, leb, ltb, true, false, List, [], ◌∷◌, length, slice_index_or, Option, Some, None, IsSome, IfSome, MatchOption, is_some, refl, sym, ap, subst, ◌∙◌, inl, inr, arith}
 use Rattle.std.specs.Prelude.{is_none}
-use Rattle.std.specs.List.{Contains}
 use Rattle.std.proofs.lemmas.Bool.{cases_Bool, and_from, and_parts, and_right, or_left, or_right, eqb-true, ltb-true, ltb-false, leb-true, le-leb, false≢true}
 use Rattle.std.proofs.lemmas.List.{append-nil}
 use Rattle.s4_types.specs.Pointer.{Place}
-use Rattle.s4_types.specs.declared.limits.TheConstants.{OBJECT_BYTES}
+use Rattle.s4_types.specs.declared.limits.TheConstants.{OBJECT_BYTES, SIDES}
 use Rattle.block_log.specs.Taken.{TakesPlaces}
 use Rattle.block_log.specs.Log.{Log, Stored, same_kind}
 use Rattle.block_log.specs.declared.kinds.BlockKind.TheVariants.{Journal, Checkpoint, Data}
@@ -24,13 +23,15 @@ use Rattle.time_read.specs.Rows.{IsRow, entries_of, inode_of, checkpoint_places_
 use Rattle.time_read.specs.Orderly.{IsOrderly}
 use Rattle.row_changes.specs.Recent.{IsBy}
 use Rattle.row_changes.specs.Moved.{IsMoved, places_gone}
-use Rattle.version_store.specs.Store.{StoreFields, IsStore, IsObject, DataIsNamed, pointers_of}
+use Rattle.version_store.specs.Store.{IsNamedBy, StoreFields, IsStore, IsObject, pointers_named, pointers_of}
 use Rattle.version_store.specs.Versions.{Stays, inode_by, inode_in, version_by, version_in}
 use Rattle.version_store.specs.Checkpointing.{last_entry, is_behind, IsCheckpointed}
 use Rattle.version_store.specs.private.CheckpointSteps.{CanCheckpoint, Checkpointed}
+use Rattle.version_store.specs.private.Recounting.{Counts}
 use Rattle.version_store.specs.private.Below.{OrderlyStays, RowStays, RowInodeStays, IsByStays, IsByLater, LastInodeStays, GroupsAscend, RowsKeepTheMaking, CheckpointsTakeBlocks}
 use Rattle.version_store.proofs.Frames.{DataStays, data_there, data_agree, data_pointers, stays_object, inode_in_stays, version_in_stays}
-use Rattle.version_store.proofs.Telling.{Moves, same_entries, leads_later, same_pointers, moved_leads_to, moved_leads}
+use Rattle.version_store.proofs.Telling.{Moves, same_entries, leads_later, moved_leads}
+use Rattle.version_store.proofs.Recounted.{counted_beside}
 use Rattle.version_store.proofs.Across.{IsAcross, changed_across}
 use Rattle.version_store.proofs.Spending.{sum_stays}
 use Rattle.version_store.proofs.Steps.{row_here, row_beside, row_cases, none_cases, stamped_row, stamped_inode}
@@ -176,7 +177,7 @@ checkpoint_data : (o : ℕ) (held later : Place → Option Stored) → OnlyCheck
 checkpoint_data o held later only p there = ap (λ (view : Place → Option (List ℕ)). view p) (only Data o refl)
 
 -- the entries stay, and so do all inodes
-rewritten_moves : (s : StoreFields) (log : Log) (o : ℕ) (row next : Row) (m : ℕ) → Rewrites s log o row next m → IsRow s.log.held o row → Moves s.log.held log.held o row next
+pub rewritten_moves : (s : StoreFields) (log : Log) (o : ℕ) (row next : Row) (m : ℕ) → Rewrites s log o row next m → IsRow s.log.held o row → Moves s.log.held log.held o row next
 rewritten_moves s log o row next m writes before = record {
   entries = ap (λ (r : Row). entries_of log.held o r) writes.fields ∙ same_entries s.log.held log.held o row (writes.others Journal o refl);
   inode = writes.inode;
@@ -200,18 +201,6 @@ rewritten_object later_by matter s log o row next m n writes upto object =
       pointers = λ t. subst (PointersHeld log.held o) (sym (is t)) (data_pointers o s.log.held log.held (inode_of s.log.held o row t) stays (object.pointers t));
     }
 
--- the data of the object is named as before, and that of each other
-rewritten_here : (s : StoreFields) (log : Log) (o : ℕ) (row next : Row) (m n : ℕ) → Rewrites s log o row next m → IsRow s.log.held o row → DataIsNamed s.log.held o row → DataIsNamed log.held o (record next { stamp = n })
-rewritten_here s log o row next m n writes before named p held =
-    moved_leads_to s.log.held log.held o row next p (rewritten_moves s log o row next m writes before)
-    (named p (subst (λ (view : Place → Option (List ℕ)). IsSome (view p)) (writes.others Data o refl) held))
-
-rewritten_beside : (s : StoreFields) (later : Place → Option Stored) (o q : ℕ) (r : Row) → OnlyCheckpointChanged o s.log.held later → (o == q) ≡ false → DataIsNamed s.log.held q r → DataIsNamed later q r
-rewritten_beside s later o q r only other named p held =
-    let stays = checkpoint_stays o q s.log.held later only other in
-    subst (λ (slots : List (Option Place)). Contains slots (Some p)) (sym (same_pointers s.log.held later q r stays.journal stays.checkpoints))
-    (named p (subst (λ (view : Place → Option (List ℕ)). IsSome (view p)) (only Data q refl) held))
-
 -- what holds across rows is kept: no entry is added, and no making is another
 rewritten_across : (s : StoreFields) (rows : List (ℕ × Row)) (log : Log) (o : ℕ) (row next : Row) (i : Inode) (m : ℕ) → CanCheckpoint s o row i m → Known s o row i m → Rewrites s log o row next m → IsPut s rows o row next → IsAcross log.held rows
 rewritten_across s rows log o row next i m can know writes put =
@@ -222,8 +211,8 @@ rewritten_across s rows log o row next i m can know writes put =
     (record { ascending = can.store.ascending; apart = can.store.apart })
 
 rewritten_store : OrderlyStays → RowStays → RowInodeStays → IsByStays → IsByLater → OnlyItsBlocksMatter → (s : StoreFields) (rows : List (ℕ × Row)) (log : Log) (o : ℕ) (row next : Row) (i : Inode) (m : ℕ)
-    → CanCheckpoint s o row i m → Known s o row i m → Rewrites s log o row next m → IsPut s rows o row next → IsStore (next_store s rows log)
-rewritten_store orderly stands same by later_by matter s rows log o row next i m can know writes put =
+    → CanCheckpoint s o row i m → Known s o row i m → Rewrites s log o row next m → IsPut s rows o row next → Counts s.log log o next → IsStore (next_store s rows log)
+rewritten_store orderly stands same by later_by matter s rows log o row next i m can know writes put counts =
     let some = know.some in
     let sum = sum_stays (checkpoint_blocks (inode_of s.log.held o row m)) s.log log writes.takes know.ahead in
     let more : log.spent ≡ checkpoint_blocks (inode_of s.log.held o row m) + s.log.spent = writes.takes.spent in
@@ -237,9 +226,13 @@ rewritten_store orderly stands same by later_by matter s rows log o row next i m
           (λ q r other e.
           let stays = checkpoint_stays o q s.log.held log.held writes.others other in
           orderly.blocks s.log.held log.held q s.latest r stays.journal stays.checkpoints (can.store.orderly q r e));
-      named = row_cases (row_of s.rows) (row_of rows) o (record next { stamp = row.stamp + 1 }) put (λ q r. DataIsNamed log.held q r)
-          (rewritten_here s log o row next m (row.stamp + 1) writes know.stands (can.store.named o row can.there))
-          (λ q r other e. rewritten_beside s log.held o q r writes.others other (can.store.named q r e));
+      names = counts.names;
+      counted = row_cases (row_of s.rows) (row_of rows) o (record next { stamp = row.stamp + 1 }) put (λ q r. IsNamedBy q log (pointers_named log.held q r))
+          counts.here
+          (λ q r other e.
+          let stays = checkpoint_stays o q s.log.held log.held writes.others other in
+          counted_beside s.log log q r stays.journal stays.checkpoints (λ p. counts.beside q p other) (can.store.counted q r e));
+      few = row_cases (row_of s.rows) (row_of rows) o (record next { stamp = row.stamp + 1 }) put (λ q r. length r.sides ≤ SIDES) counts.few (λ q r other e. can.store.few q r e);
       nothing = λ q none kind p.
           let gone = none_cases (row_of s.rows) (row_of rows) o (record next { stamp = row.stamp + 1 }) put q none in
           ap (λ (view : Place → Option (List ℕ)). view p) (writes.others kind q (and_right (same_kind Checkpoint kind) (o == q) gone.0)) ∙ can.store.nothing q gone.1 kind p;
@@ -329,10 +322,10 @@ rewritten_current s rows log o row next m writes put =
     subst (λ (r : Option Row). IfSome r (λ x. AllBy x.checkpoint_moment (entries_of log.held o x))) (sym found) by
 
 pub rewritten : OrderlyStays → RowStays → RowInodeStays → IsByStays → IsByLater → LastInodeStays → OnlyItsBlocksMatter → (s : StoreFields) (rows : List (ℕ × Row)) (log : Log) (o : ℕ) (row next : Row) (i : Inode) (m : ℕ)
-    → CanCheckpoint s o row i m → Known s o row i m → Rewrites s log o row next m → IsPut s rows o row next → Checkpointed s o row (next_store s rows log)
-rewritten orderly stands same by later_by last matter s rows log o row next i m can know writes put = record {
+    → CanCheckpoint s o row i m → Known s o row i m → Rewrites s log o row next m → IsPut s rows o row next → Counts s.log log o next → Checkpointed s o row (next_store s rows log)
+rewritten orderly stands same by later_by last matter s rows log o row next i m can know writes put counts = record {
   stands = record {
-    store = rewritten_store orderly stands same by later_by matter s rows log o row next i m can know writes put;
+    store = rewritten_store orderly stands same by later_by matter s rows log o row next i m can know writes put counts;
     versions = rewritten_versions same matter s rows log o row next m can.store can.there writes put;
     inodes = rewritten_inodes same s rows log o row next m can.there writes put;
     latest = refl;

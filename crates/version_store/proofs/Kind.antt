@@ -4,6 +4,7 @@ use Rattle.std.specs.Prelude.{is_some}
 use Rattle.std.proofs.lemmas.Bool.{cases_Bool, cond-true, cond-false, or_right, eqb-true, eq-eqb, eqb-false, ne_eqb, false≢true, true≢false, and_left}
 use Rattle.std.proofs.Math.Bool.{or-false}
 use Rattle.std.proofs.lemmas.Option.{none-some}
+use Rattle.s4_types.specs.Pointer.{Place}
 use Rattle.s4_types.specs.declared.changes.Change.{Change}
 use Rattle.s4_types.specs.declared.changes.Change.TheVariants.{Create, Delete, Write, Truncate, SetAttr, SetWindow, Flush, FlushO}
 use Rattle.s4_types.specs.declared.versions.Version.{Version}
@@ -29,9 +30,9 @@ use Rattle.version_store.specs.Costs.{subject_row, subject_inode, row_or_fresh, 
 use Rattle.version_store.specs.Taking.{IsReadyFor, IsAboveAll, RowChanges, data_by}
 use Rattle.version_store.specs.private.Turning.{CanTake, CanTurn, Turns, IsTaken, blocks_turned}
 use Rattle.version_store.proofs.Spending.{not_both, none_taken}
-use Rattle.version_store.specs.private.Below.{PlacesAddUp, OrderlyStays, RowStays, RowInodeStays, IsByStays, IsByLater, FreshRowStands, FreshRowIsBy, FreshInode, BlankCount, BlankHoles, EntriesHaveSizes, SizesAddUp}
+use Rattle.version_store.specs.private.Below.{OnePlace, PlacesAddUp, OrderlyStays, RowStays, RowInodeStays, IsByStays, IsByLater, FreshRowStands, FreshRowIsBy, FreshInode, BlankCount, BlankHoles, EntriesHaveSizes, SizesAddUp}
 use Rattle.version_store.proofs.Frames.{growth_stays, stays_inode}
-use Rattle.version_store.proofs.Naming.{NamesNew}
+use Rattle.version_store.proofs.Handed.{IsInHand}
 use Rattle.version_store.proofs.Steps.{grown_store, grown_versions, added_store, added_versions, row_here, row_beside}
 use Rattle.version_store.proofs.Across.{above_has_none}
 use Rattle.version_store.proofs.Subjects.{IsSubject, free_of, counted, room_to_push}
@@ -107,7 +108,6 @@ pub record Makes (s : StoreFields) (change : Change) (m : ℕ) (i : Inode) (log 
   pub lead : CanLead i j m
   pub tidy : Tidy (contents_of log.held) j
   pub pointers : PointersHeld log.held (object_of change) j
-  pub names : NamesNew (object_of change) s.log j log
   pub means : meaning (contents_of log.held) j ≡ effect change m (meaning (contents_of s.log.held) i)
 
 -- a change that a store takes is one of its object's versions
@@ -131,13 +131,13 @@ bytes_made sizes add_up s change m i log j bytes makes is = is ∙ sym (ap sum (
 
 -- ---- a change of an object that is there
 
-pub can_turn : OrderlyStays → RowStays → RowInodeStays → IsByStays → OnlyItsBlocksMatter → EntriesHaveSizes → SizesAddUp → (s : StoreFields) (change : Change) (m : ℕ) (log : Log) (i j : Inode)
-    → CanTake s change m i → IsSubject s (object_of change) m i → Makes s change m i log j → CanTurn (record s { log = log }) (object_of change) i j m
-can_turn orderly stands same by matter sizes add_up s change m log i j can subject makes =
+pub can_turn : OnePlace → OrderlyStays → RowStays → RowInodeStays → IsByStays → OnlyItsBlocksMatter → EntriesHaveSizes → SizesAddUp → (s : StoreFields) (change : Change) (m : ℕ) (log : Log) (i j : Inode) (hand : List (Option Place))
+    → CanTake s change m i → IsSubject s (object_of change) m i → Makes s change m i log j → IsInHand s.log log j hand → CanTurn (record s { log = log }) (object_of change) i j hand m
+can_turn one orderly stands same by matter sizes add_up s change m log i j hand can subject makes in_hand =
     let free_row : refusal_by (room s) change subject.row i ≡ None =
     ap (refusal_by (room s) change subject.row) can.begins ∙ sym (ap (λ (r : Row). refusal_by (room s) change r (subject_inode s (object_of change) m)) subject.subject) ∙ can.free in
     record {
-      store = grown_store orderly stands same by matter s log (object_of change) (data_by (contents_of s.log.held) change i) j makes.grows makes.names (subst (λ (r : Option Row). IsSome r) (sym subject.there) refl) can.store;
+      store = grown_store one orderly stands same by matter s log (object_of change) (data_by (contents_of s.log.held) change i) j hand makes.grows in_hand makes.pointers (subst (λ (r : Option Row). IsSome r) (sym subject.there) refl) can.store;
       later = can.later;
       row = subject.row;
       there = subject.there;
@@ -218,7 +218,7 @@ blank_subject fresh s o m none = ap (λ (r : Row). inode_of s.log.held o r s.lat
 
 pub can_create : FreshRowStands → FreshRowIsBy → FreshInode → IsByLater → BlankCount → BlankHoles → EntriesHaveSizes → SizesAddUp → (s : StoreFields) (change : Change) (m : ℕ) (rows : List (ℕ × Row)) (i j : Inode)
     → CanTake s change m i → IsAboveAll s (object_of change) → Makes s change m i s.log j → data_blocks change i ≡ 0
-    → ((q : ℕ) → row_of rows q ≡ with_row (row_of s.rows) (object_of change) (fresh_row m) q) → CanTurn (record s { rows = rows }) (object_of change) i j m
+    → ((q : ℕ) → row_of rows q ≡ with_row (row_of s.rows) (object_of change) (fresh_row m) q) → CanTurn (record s { rows = rows }) (object_of change) i j [] m
 can_create stands by fresh later_by count holes sizes add_up s change m rows i j can above makes no_data put =
     let none : row_of s.rows (object_of change) ≡ None = above_has_none s (object_of change) above in
     let subject : subject_row s (object_of change) m ≡ fresh_row m = fresh_subject s (object_of change) m none in

@@ -1,6 +1,7 @@
 pub mod RelocatedStore
 pub mod Relocated
 pub mod RelocatedBlocks
+pub mod Renamings
 pub mod RenamedJournal
 pub mod Appending
 pub mod Frames
@@ -9,7 +10,11 @@ pub mod Telling
 pub mod Naming
 pub mod Across
 pub mod Spending
-pub mod Once
+pub mod Counted
+pub mod Named
+pub mod Recounted
+pub mod Handed
+pub mod Gathering
 pub mod Steps
 pub mod Subjects
 pub mod Kind
@@ -24,6 +29,7 @@ pub mod Sealing
 pub mod InPlace
 pub mod Checkpointing
 pub mod CheckpointSteps
+pub mod Asides
 pub mod Dropping
 pub mod Replacing
 pub mod Replaced
@@ -31,3 +37,6 @@ pub mod Cutting
 pub mod Stamps
 pub mod Opening
 pub mod Anew
+pub mod Tallies
+pub mod Tallying
+pub mod Listing

@@ -1,12 +1,12 @@
 -- What each kind of change makes of an inode.
-use Rattle.std.proofs.Common.{◌≡◌, ℕ, ◌≤◌, true, false, List, length, Some, None, refl, sym, ap, subst, ◌∙◌, inl, arith}
+use Rattle.std.proofs.Common.{◌≡◌, ℕ, ◌≤◌, ◌/◌, true, false, List, [], length, take, drop, Option, Some, None, refl, sym, ap, subst, ◌∙◌, arith}
 use Rattle.std.proofs.lemmas.List.FromFn.{length-map-range_with_len}
 use Rattle.std.proofs.lemmas.Option.{none-some}
 use Rattle.s4_types.specs.Pointer.{Place}
 use Rattle.s4_types.specs.declared.changes.Change.{Change}
 use Rattle.s4_types.specs.declared.changes.Change.TheVariants.{Create, Delete, Write, Truncate, SetAttr}
 use Rattle.s4_model.specs.Effect.{effect, object_of}
-use Rattle.block_log.specs.Log.{Log}
+use Rattle.block_log.specs.Log.{Log, NamesAreOfData}
 use Rattle.codec.specs.Checkpoint.{pointer_at}
 use Rattle.codec.specs.declared.inodes.Inode.{Inode}
 use Rattle.undo_redo.specs.Runs.{blank}
@@ -25,7 +25,7 @@ use Rattle.version_store.specs.Taking.{IsThere, IsAboveAll}
 use Rattle.version_store.specs.private.Turning.{CanTake}
 use Rattle.version_store.specs.private.Below.{OnePlace, FreshInode, BlankCount, BlankHoles}
 use Rattle.version_store.proofs.Counting.{Fresh, none_moved, written_moves, truncated_moves}
-use Rattle.version_store.proofs.Naming.{written_names, truncated_names}
+use Rattle.version_store.proofs.Handed.{IsInHand, nothing_in_hand, written_in_hand, cut_in_hand}
 use Rattle.version_store.proofs.Across.{above_has_none}
 use Rattle.version_store.proofs.Steps.{row_here}
 use Rattle.version_store.proofs.Subjects.{IsSubject, subject_of}
@@ -60,7 +60,6 @@ deleted_makes s o m i j can subject is means tidy =
       lead = subst (λ (x : Inode). CanLead i x m) (sym is) (deleted_leads i m (omega (arith, later)) subject.alive subject.tidy.count subject.tidy.size);
       tidy = tidy;
       pointers = subst (PointersHeld s.log.held o) (sym is) subject.pointers;
-      names = λ p there. inl there;
       means = means;
     }
 
@@ -78,7 +77,6 @@ set_makes s o m attribute i j can subject is means tidy =
           (alive_leads i (record i { attribute = attribute; changed = m }) m (omega (arith, later)) subject.alive refl refl refl subject.tidy.count subject.tidy.count subject.tidy.size subject.tidy.size);
       tidy = tidy;
       pointers = subst (PointersHeld s.log.held o) (sym is) subject.pointers;
-      names = λ p there. inl there;
       means = means;
     }
 
@@ -97,7 +95,6 @@ created_makes fresh count holes s o m attribute i j can alive size made changed 
       lead = subst (λ (x : Inode). CanLead x j m) (sym is) (created_leads j m (omega (arith, later)) alive made changed (count m) tidy.count size);
       tidy = tidy;
       pointers = λ k p at. absurd (none-some p (sym (none k) ∙ at));
-      names = λ p there. inl there;
       means = means;
     }
 
@@ -133,7 +130,6 @@ written_makes one lead_law s o m offset bytes log i j can subject grows made wri
       lead = alive_leads i j m (omega (arith, later)) subject.alive written.alive written.created written.changed subject.tidy.count tidy.count subject.tidy.size tidy.size;
       tidy = tidy;
       pointers = pointers;
-      names = written_names one o m offset (length bytes) (blocks_written (contents_of s.log.held) i offset bytes) s.log log i j amount made written;
       means = means;
     }
 
@@ -155,6 +151,23 @@ truncated_makes one lead_law s o m size log i j can subject grows made truncated
       lead = alive_leads i j m (omega (arith, later)) subject.alive truncated.alive truncated.created truncated.changed subject.tidy.count tidy.count subject.tidy.size tidy.size;
       tidy = tidy;
       pointers = pointers;
-      names = truncated_names one o m size (blocks_cut (contents_of s.log.held) i size) s.log log i j amount made truncated;
       means = means;
     }
+
+-- ---- what is in hand then
+
+-- a change without data
+pub no_hand : (s : StoreFields) (change : Change) (m : ℕ) (i j : Inode) → CanTake s change m i → IsInHand s.log s.log j []
+no_hand s change m i j can = nothing_in_hand s.log j can.store.names
+
+pub written_hand : (s : StoreFields) (o m offset : ℕ) (bytes : List ℕ) (log : Log) (i j : Inode) (hand : List (Option Place)) → CanTake s (Write o offset bytes) m i
+    → GrowsBy o (blocks_written (contents_of s.log.held) i offset bytes) s.log log → log ≡ with_data o (blocks_written (contents_of s.log.held) i offset bytes) s.log → Written s.log.ahead m offset (length bytes) i j → Tidy (contents_of log.held) j
+    → hand ≡ take (touched_count offset (length bytes)) (drop (offset / 512) j.pointers) → NamesAreOfData log → IsInHand s.log log j hand
+written_hand s o m offset bytes log i j hand can grows made written tidy is names =
+    written_in_hand o m offset (length bytes) (blocks_written (contents_of s.log.held) i offset bytes) s.log log i j hand (written_amount (contents_of s.log.held) i offset bytes) grows.room made written tidy.count can.takes.fits is names
+
+pub truncated_hand : (s : StoreFields) (o m size : ℕ) (log : Log) (i j : Inode) (hand : List (Option Place)) → CanTake s (Truncate o size) m i → IsSubject s o m i
+    → GrowsBy o (blocks_cut (contents_of s.log.held) i size) s.log log → log ≡ with_data o (blocks_cut (contents_of s.log.held) i size) s.log → Truncated s.log.ahead m size i j → Tidy (contents_of log.held) j
+    → hand ≡ take (cut_count i size) (drop (size / 512) j.pointers) → NamesAreOfData log → IsInHand s.log log j hand
+truncated_hand s o m size log i j hand can subject grows made truncated tidy is names =
+    cut_in_hand o m size (blocks_cut (contents_of s.log.held) i size) s.log log i j hand (cut_amount (contents_of s.log.held) i size) grows.room made truncated tidy.count can.takes.fits subject.tidy.size is names

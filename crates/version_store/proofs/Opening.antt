@@ -16,7 +16,7 @@ use Rattle.object_map.specs.Rows.{row_of}
 use Rattle.time_read.specs.Rows.{entries_of, inode_of}
 use Rattle.time_read.specs.declared.presents.Present.{Present}
 use Rattle.version_store.specs.Opening.{OpenedFields, numbers_opened, rows_opened, AscendAbove, NumbersAscend, FitsItsRow}
-use Rattle.version_store.specs.Store.{StoreFields, NamesNoneTwice}
+use Rattle.version_store.specs.Store.{StoreFields}
 use Rattle.version_store.specs.Versions.{inode_by, entries_of_row, entries_of_object}
 use Rattle.time_read.specs.Presents.{KeepsIndexOf}
 use Rattle.version_store.specs.private.Beside.{IsBeside}
@@ -128,9 +128,9 @@ found_among P (x ∷ xs) o all =
     ]
 
 -- beside the rows of objects that fit their rows stand their present inodes and the indexes of their entries
-pub opened_beside : (log : Log) (latest : ℕ) (objects : List OpenedFields) → All (FitsItsRow log.held latest) objects → NamesNoneTwice log
+pub opened_beside : (log : Log) (latest : ℕ) (objects : List OpenedFields) → All (FitsItsRow log.held latest) objects
     → IsBeside (presents_opened objects) [] (record { rows = rows_opened objects; log = log; latest = latest })
-opened_beside log latest objects all once =
+opened_beside log latest objects all =
     let s : StoreFields = record { rows = rows_opened objects; log = log; latest = latest } in
     let values = presents_opened objects in
     record {
@@ -151,6 +151,5 @@ opened_beside log latest objects all once =
             (subst (λ (r : Option Row). KeepsIndexOf (Some (present_of x)) (entries_of_row log.held o r)) (sym found.row) told)
         | inr none ↦ subst (λ (p : Option Present). KeepsIndexOf p (entries_of_object s o)) (sym none.value) tt
       ];
-      once = once;
       cached = none_true log.held (rows_opened objects) [] refl;
     }

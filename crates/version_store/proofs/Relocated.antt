@@ -1,5 +1,5 @@
 -- An object's blocks were relocated in a table: what its row tells then, and where its blocks are.
-use Rattle.std.proofs.Common.{◌≡◌, ℕ, List, [], ◌∷◌, length, take, Option, Some, None, IsSome, MatchOption, refl, sym, ap, subst, ◌∙◌}
+use Rattle.std.proofs.Common.{◌≡◌, ℕ, List, [], ◌∷◌, length, take, Option, Some, None, IsSome, MatchOption, refl, sym, ap, subst, ◌∙◌, ◌+◌, arith}
 use Rattle.std.specs.List.{Contains}
 use Rattle.s4_types.specs.Pointer.{Place}
 use Rattle.block_log.specs.Log.{Log, Stored, of_kind}
@@ -10,6 +10,7 @@ use Rattle.codec.specs.declared.inodes.Inode.{Inode}
 use Rattle.object_map.specs.declared.map.Row.{Row}
 use Rattle.time_read.specs.Rows.{IsRow, entries_of, checkpoint_of, first_of}
 use Rattle.time_read.specs.Orderly.{IsFromTo, IsOrderly, IsOrderlyChain, BeginsDead}
+use Rattle.row_changes.specs.Rewritten.{OnlyMetadataChanged}
 use Rattle.row_changes.specs.Moving.{first_with, moved_blocks, row_blocks}
 use Rattle.chain_rewriting.specs.Renaming.{RenamingFields, renamed_entries}
 use Rattle.chain_rewriting.specs.RenamingLaws.{RenamedEntriesStayInOrder, RenamedEntriesTakeAsManyBytes}
@@ -72,3 +73,18 @@ relocates laws order lengths holes row_stays inode_stays order_stays add_up befo
       others = others_are before between moved later o copies r d;
       takes = takes_all add_up count blocks before between moved later d.appended.takes (subst (λ n. TakesPlaces n between moved) same m.takes) dropped;
     }
+
+-- what was written over counted names was written over what was held before
+pub moved_over : PlacesAddUp → (between counted moved : Log) (o : ℕ) (row next : Row) (kept : Option Inode) (entries : List EntryFields) → counted.held ≡ between.held → TakesPlaces 0 between counted → Moved counted moved o row next kept entries → Moved between moved o row next kept entries
+moved_over add_up between counted moved o row next kept entries held takes m = record {
+  stands = m.stands;
+  journal = m.journal;
+  checkpoint = m.checkpoint;
+  inode = m.inode;
+  orderly = m.orderly;
+  fields = m.fields;
+  metadata = subst (λ (view : Place → Option Stored). OnlyMetadataChanged o view moved.held) held m.metadata;
+  takes = subst (λ n. TakesPlaces n between moved) (let none : 0 + moved_blocks kept entries ≡ moved_blocks kept entries = omega arith in none) (add_up 0 (moved_blocks kept entries) between counted moved takes m.takes);
+  chains = λ p there. subst (λ (places : List Place). Contains (take (moved_blocks kept entries) places) p) takes.ahead (m.chains p there);
+  checkpoints = λ p there. subst (λ (places : List Place). Contains (take (moved_blocks kept entries) places) p) takes.ahead (m.checkpoints p there);
+}

@@ -28,7 +28,8 @@ use Rattle.version_store.specs.private.Relocating.{Appending, IsNewPlace, IsOldO
 use Rattle.version_store.proofs.RenamedJournal.{kept_renamed}
 use Rattle.version_store.proofs.Spending.{not_both}
 use Rattle.version_store.proofs.CheckpointSteps.{some_place}
-use Rattle.version_store.proofs.Dropping.{same_place-self, seen_alone, seen_cond, none_either}
+use Rattle.version_store.proofs.Named.{same_place-self, seen_alone}
+use Rattle.version_store.proofs.Dropping.{seen_cond, none_either}
 
 -- ---- what was copied
 
@@ -57,7 +58,7 @@ place_is p q frame block generation =
     ∙ ap (λ n. record { frame = q.frame; block = q.block; generation = n }) generation
 
 -- where a place's block moves, the place is in the frame
-new_of : (r : RenamingFields) (p q : Place) → new_place r p ≡ Some q → (is_in r p ≡ true) × (move_of r p.block ≡ Some q)
+pub new_of : (r : RenamingFields) (p q : Place) → new_place r p ≡ Some q → (is_in r p ≡ true) × (move_of r p.block ≡ Some q)
 new_of r p q new = elim (cases_Bool (is_in r p)) [
   | inl inside ↦ (inside, sym (cond-true (is_in r p) (move_of r p.block) None inside) ∙ new)
   | inr outside ↦ absurd (none-some q (sym (cond-false (is_in r p) (move_of r p.block) None outside) ∙ new))
@@ -71,7 +72,7 @@ pub record Dropped (before between moved later : Log) (o : ℕ) (copies : List C
   pub metadata : OnlyMetadataChanged o between.held moved.held
   pub dropped : (q : Place) → later.held q ≡ cond (stood_at q copies) None (moved.held q)
 
-copied_held : (before between moved later : Log) (o : ℕ) (copies : List CopiedBlock) (r : RenamingFields) → Dropped before between moved later o copies r → (p : Place) → IsCopied copies p → IsSome (of_kind Data o before.held p)
+pub copied_held : (before between moved later : Log) (o : ℕ) (copies : List CopiedBlock) (r : RenamingFields) → Dropped before between moved later o copies r → (p : Place) → IsCopied copies p → IsSome (of_kind Data o before.held p)
 copied_held before between moved later o copies r d p (c, (among, is)) =
     subst (λ (q : Place). IsSome (of_kind Data o before.held q)) is (ap is_some (recursion_at (λ (x : CopiedBlock). of_kind Data o before.held x.place ≡ Some x.bytes) copies c d.are.bytes among))
 
@@ -145,7 +146,7 @@ data_later before between moved later o copies r d p =
 data_here : (before between moved later : Log) (o : ℕ) (copies : List CopiedBlock) (r : RenamingFields) → Dropped before between moved later o copies r → (p : Place) → stood_at p copies ≡ false → of_kind Data o later.held p ≡ of_kind Data o between.held p
 data_here before between moved later o copies r d p beside = data_later before between moved later o copies r d p ∙ cond-false (stood_at p copies) None (of_kind Data o between.held p) beside
 
-block_seen : (o : ℕ) (bytes : List ℕ) → seen_as Data o (Some (data_block o bytes)) ≡ Some bytes
+pub block_seen : (o : ℕ) (bytes : List ℕ) → seen_as Data o (Some (data_block o bytes)) ≡ Some bytes
 block_seen o bytes = cond-true (o == o) (Some bytes) None (eq-eqb o o refl)
 
 pub copied_is : (before between moved later : Log) (o : ℕ) (copies : List CopiedBlock) (r : RenamingFields) → Dropped before between moved later o copies r → (p q : Place) → new_place r p ≡ Some q
@@ -157,7 +158,7 @@ copied_is before between moved later o copies r d p q new =
     let free : before.held q ≡ None = d.appended.fresh p.block q (new_of r p q new).1 in
     (ap is_some was, data_here before between moved later o copies r d q (new_stays before between moved later o copies r d q free) ∙ ap (seen_as Data o) of.there ∙ block_seen o of.copy.bytes ∙ sym was)
 
-data_held : (o : ℕ) (block : Option Stored) → IsSome (seen_as Data o block) → IsSome block
+pub data_held : (o : ℕ) (block : Option Stored) → IsSome (seen_as Data o block) → IsSome block
 data_held o None h = h
 data_held o (Some block) h = refl
 

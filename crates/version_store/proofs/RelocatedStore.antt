@@ -1,8 +1,9 @@
 -- What the relocation of an object's blocks leaves of a whole store.
-use Rattle.std.proofs.Common.{◌≡◌, ◌⊎◌, inl, inr, ℕ, zero, suc, ◌+◌, ◌<◌, ◌≤◌, ◌==◌, leb, cond, Bool, List, [], ◌∷◌, ◌++◌, length, map, take, Option, Some, None, IsSome, IfSome, is_some, MatchOption, option_map, unwrap_or, refl, sym, ap, subst, ◌∙◌, arith}
+use Rattle.std.proofs.Common.{◌≡◌, ◌⊎◌, inl, inr, ℕ, suc, ◌+◌, ◌<◌, ◌≤◌, ◌==◌, leb, cond, Bool, List, [], ◌∷◌, ◌++◌, length, map, take, Option, Some, None, IsSome, IfSome, is_some, MatchOption, option_map, unwrap_or, refl, sym, ap, subst, ◌∙◌, arith}
 use Rattle.std.specs.List.{Contains}
 use Rattle.std.proofs.lemmas.Bool.{cases_Bool, cond-true, cond-false, eqb-true}
-use Rattle.std.proofs.lemmas.List.Elements.{All-map, All-weaker, Contains-append_right}
+use Rattle.std.proofs.lemmas.List.Elements.{All-map, All-weaker}
+use Rattle.std.proofs.lemmas.List.{append-nil}
 use Rattle.std.proofs.lemmas.Option.{none-some, same_Some}
 use Rattle.s4_types.specs.Pointer.{Place}
 use Rattle.block_log.specs.Log.{Log, Stored, of_kind, seen_as}
@@ -18,6 +19,8 @@ use Rattle.inode.specs.Contents.{contents_of, meaning}
 use Rattle.inode.specs.Tidiness.{Tidy, PointersHeld}
 use Rattle.inode.specs.Laws.{OnlyItsBlocksMatter}
 use Rattle.object_map.specs.declared.map.Row.{Row}
+use Rattle.object_map.specs.declared.sides.Side.{Side}
+use Rattle.s4_types.specs.declared.limits.TheConstants.{SIDES}
 use Rattle.object_map.specs.Rows.{row_of}
 use Rattle.time_read.specs.Rows.{entries_of, checkpoint_of, inode_of}
 use Rattle.time_read.specs.Orderly.{IsOrderly, IsFromTo, BeginsDead}
@@ -28,11 +31,12 @@ use Rattle.chain_rewriting.specs.Apart.{Passes, HasCopies}
 use Rattle.chain_rewriting.specs.Places.{ARenamedChainTellsInOrder}
 use Rattle.chain_rewriting.specs.RenamingLaws.{APointerIsRenamed, ARenamedInodeMeansTheSame, RenamedEntriesHaveOldMoments, TheMomentsOfRenamedEntriesAreOld}
 use Rattle.version_store.specs.declared.copies.CopiedBlock.{CopiedBlock}
-use Rattle.version_store.specs.Store.{StoreFields, IsStore, IsObject, DataIsNamed, IsLed, sides_told, pointers_kept, pointers_of}
+use Rattle.version_store.specs.Store.{StoreFields, IsStore, IsObject, IsNamedBy, IsLed, sides_told, pointers_aside, pointers_kept, pointers_named, pointers_of, pointers_of_sides, times_led}
 use Rattle.version_store.specs.Versions.{inode_by, inode_in, version_by, version_in}
 use Rattle.version_store.specs.Relocating.{IsRelocated, blocks_relocated, renaming_by, renamed_checkpoint}
 use Rattle.version_store.specs.private.Below.{OrderlyStays, RowStays, RowInodeStays, IsByStays, SomeBlocksAreNeeded, CheckpointsTakeBlocks}
-use Rattle.version_store.specs.private.Relocating.{Relocates, RelocatesIn, IsOldOrNew}
+use Rattle.version_store.specs.private.Relocating.{IsOldOrNew, NamesMove, Relocates, RelocatesIn}
+use Rattle.version_store.specs.private.Recounting.{Counts}
 use Rattle.version_store.proofs.Frames.{same_bytes, stays_object, inode_in_stays, version_in_stays}
 use Rattle.version_store.proofs.Telling.{Leads, same_entries}
 use Rattle.version_store.proofs.Steps.{row_here, row_beside, row_cases, none_cases, stamped_row, stamped_inode}
@@ -40,7 +44,7 @@ use Rattle.version_store.proofs.Spending.{sum_stays}
 use Rattle.version_store.proofs.Across.{IsAcross, renewed_across}
 use Rattle.version_store.proofs.CheckpointSteps.{next_store}
 use Rattle.version_store.proofs.Replaced.{IsPut, put_row}
-use Rattle.version_store.proofs.Replacing.{other_stays, other_named}
+use Rattle.version_store.proofs.Replacing.{other_stays, other_counted}
 use Rattle.version_store.proofs.RenamedJournal.{of_pointers}
 
 -- the laws that this rests on
@@ -59,11 +63,6 @@ pub record Laws : Type 0 where
   pub takes : CheckpointsTakeBlocks
 
 -- ---- pointers
-
-contains_map : {X Y : Type 0} (f : X → Y) (xs : List X) (x : X) → Contains xs x → Contains (map f xs) (f x)
-contains_map f [] x (n, below, at) = absurd (omega (arith, below))
-contains_map f (y ∷ xs) x (zero, below, at) = (0, omega arith, ap f at)
-contains_map f (y ∷ xs) x (suc n, below, at) = Contains-append_right (f y ∷ []) (map f xs) (f x) (contains_map f xs x (n, omega (arith, below), at))
 
 kept_renamed : (r : RenamingFields) (c : Option CheckpointFields) → pointers_kept (option_map (renamed_checkpoint r) c) ≡ map (renamed_slot r) (pointers_kept c)
 kept_renamed r None = refl
@@ -140,16 +139,19 @@ relocated_object laws before later o latest row next copies r w object =
           (λ k q at. slot_goes before later o row next copies r w (pointer_at (inode_of before.held o row t) k) q (object.pointers t k) (sym (laws.points r (inode_of before.held o row t) k) ∙ at));
     }
 
-relocated_named : Laws → (before later : Log) (o : ℕ) (row next : Row) (copies : List CopiedBlock) (r : RenamingFields) → Relocates before o row copies next later r → DataIsNamed before.held o row → DataIsNamed later.held o (put_row row next)
-relocated_named laws before later o row next copies r w named p some =
-    subst (λ (pointers : List (Option Place)). Contains pointers (Some p)) (sym (pointers_renamed laws before later o row next copies r w)) (elim (w.blocks p some) [
-      | inl old ↦ subst (λ (q : Place). Contains (map (renamed_slot r) (pointers_of before.held o row)) (Some q)) (renamed_stays r p old.1)
-          (contains_map (renamed_slot r) (pointers_of before.held o row) (Some p) (named p (subst (λ (x : Option (List ℕ)). IsSome x) old.0 some)))
-      | inr new ↦
-          let (q, goes) = w.from p new.1 in
-          subst (λ (x : Place). Contains (map (renamed_slot r) (pointers_of before.held o row)) (Some x)) (renamed_goes r q p goes)
-          (contains_map (renamed_slot r) (pointers_of before.held o row) (Some q) (named q (w.copied q p goes).0))
-    ])
+-- the names of the object's data are those that its next row gives
+relocated_counts : Laws → (before later : Log) (o : ℕ) (row next : Row) (copies : List CopiedBlock) (r : RenamingFields) → Relocates before o row copies next later r → NamesMove before o row r later → Counts before later o next
+relocated_counts laws before later o row next copies r w names =
+    let none : next.sides ≡ [] = ap (λ (x : Row). x.sides) w.fields in
+    let are : pointers_named later.held o next ≡ map (renamed_slot r) (pointers_of before.held o row) ++ [] =
+    ap (λ (slots : List (Option Place)). slots ++ pointers_aside later.held o next) (pointers_renamed laws before later o row next copies r w)
+    ∙ ap (λ (sides : List Side). map (renamed_slot r) (pointers_of before.held o row) ++ pointers_of_sides later.held o sides) none in
+    record {
+      names = names.names;
+      here = λ p. names.here p ∙ sym (ap (times_led p) (are ∙ append-nil (map (renamed_slot r) (pointers_of before.held o row))));
+      beside = names.beside;
+      few = subst (λ (sides : List Side). length sides ≤ SIDES) (sym none) (omega arith);
+    }
 
 -- ---- the store
 
@@ -170,8 +172,8 @@ some_moved law takes (Some p) read c entries N A told h =
     omega (arith, is, some)
 
 relocated_store : Laws → (s : StoreFields) (rows : List (ℕ × Row)) (log : Log) (o : ℕ) (row next : Row) (copies : List CopiedBlock) (r : RenamingFields) → IsStore s → row_of s.rows o ≡ Some row
-    → Relocates s.log o row copies next log r → blocks_relocated s.log.held o row copies ≤ length s.log.ahead → IsPut s rows o row next → IsStore (next_store s rows log)
-relocated_store laws s rows log o row next copies r store there w room put =
+    → Relocates s.log o row copies next log r → blocks_relocated s.log.held o row copies ≤ length s.log.ahead → IsPut s rows o row next → Counts s.log log o next → IsStore (next_store s rows log)
+relocated_store laws s rows log o row next copies r store there w room put counts =
     let sum = sum_stays (blocks_relocated s.log.held o row copies) s.log log w.takes room in
     let more : log.spent ≡ blocks_relocated s.log.held o row copies + s.log.spent = w.takes.spent in
     let orderly = store.orderly o row there in
@@ -186,9 +188,11 @@ relocated_store laws s rows log o row next copies r store there w room put =
       orderly = row_cases (row_of s.rows) (row_of rows) o (put_row row next) put (λ q x. IsOrderly log.held q x s.latest)
           (laws.orderly.stamp log.held o s.latest (row.stamp + 1) next (w.orderly s.latest orderly))
           (λ q x beside e. laws.orderly.blocks s.log.held log.held q s.latest x (w.others Journal q beside) (w.others Checkpoint q beside) (store.orderly q x e));
-      named = row_cases (row_of s.rows) (row_of rows) o (put_row row next) put (λ q x. DataIsNamed log.held q x)
-          (relocated_named laws s.log log o row next copies r w (store.named o row there))
-          (λ q x beside e. other_named s.log.held log.held o q x w.others beside (store.named q x e));
+      names = counts.names;
+      counted = row_cases (row_of s.rows) (row_of rows) o (put_row row next) put (λ q x. IsNamedBy q log (pointers_named log.held q x))
+          counts.here
+          (λ q x beside e. other_counted s.log log o q x w.others counts.beside beside (store.counted q x e));
+      few = row_cases (row_of s.rows) (row_of rows) o (put_row row next) put (λ q x. length x.sides ≤ SIDES) counts.few (λ q x beside e. store.few q x e);
       nothing = λ q none kind p.
           let gone = none_cases (row_of s.rows) (row_of rows) o (put_row row next) put q none in
           ap (λ (view : Place → Option (List ℕ)). view p) (w.others kind q gone.0) ∙ store.nothing q gone.1 kind p;
@@ -263,11 +267,11 @@ relocated_made laws s rows log o row next copies w put =
     }
 
 pub relocated : Laws → (s : StoreFields) (rows : List (ℕ × Row)) (log : Log) (o : ℕ) (row next : Row) (copies : List CopiedBlock) (r : RenamingFields) → IsStore s → row_of s.rows o ≡ Some row
-    → Relocates s.log o row copies next log r → blocks_relocated s.log.held o row copies ≤ length s.log.ahead → IsPut s rows o row next → RelocatesIn s o row copies (next_store s rows log)
-relocated laws s rows log o row next copies r store there w room put =
+    → Relocates s.log o row copies next log r → blocks_relocated s.log.held o row copies ≤ length s.log.ahead → IsPut s rows o row next → NamesMove s.log o row r log → RelocatesIn s o row copies (next_store s rows log)
+relocated laws s rows log o row next copies r store there w room put names =
     let by : Relocates s.log o row copies next log (renaming_by copies s.log.ahead) = subst (λ (x : RenamingFields). Relocates s.log o row copies next log x) w.exact w in
     record {
-      store = relocated_store laws s rows log o row next copies r store there w room put;
+      store = relocated_store laws s rows log o row next copies r store there w room put (relocated_counts laws s.log log o row next copies r w names);
       relocated = relocated_made laws s rows log o row next copies by put;
       inodes = relocated_inodes laws s rows log o row next copies (renaming_by copies s.log.ahead) there by put;
       versions = relocated_versions laws s rows log o row next copies r store there w put;

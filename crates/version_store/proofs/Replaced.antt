@@ -1,11 +1,13 @@
 -- What the replacement of an object's journal leaves of a whole store.
-use Rattle.std.proofs.Common.{◌≡◌, inl, inr, ℕ, ◌+◌, ◌<◌, ◌≤◌, ◌==◌, ◌&&◌, ◌||◌, ◌++◌, not, true, false, cond, Bool, List, [], ◌∷◌, length, Option, Some, None, IsSome, MatchOption, refl, sym, ap, subst, ◌∙◌, arith}
+use Rattle.std.proofs.Common.{◌≡◌, inl, inr, ℕ, ◌+◌, ◌<◌, ◌≤◌, ◌==◌, ◌||◌, ◌++◌, true, cond, List, [], ◌∷◌, length, Option, Some, None, IsSome, MatchOption, refl, sym, ap, subst, ◌∙◌, arith}
 use Rattle.std.specs.List.{Contains, AllByRecursion}
-use Rattle.std.proofs.lemmas.Bool.{cases_Bool, cond-true, cond-false, and_right, eqb-true, le-leb, leb-true, false≢true}
+use Rattle.std.proofs.lemmas.Bool.{cases_Bool, cond-true, cond-false, and_right, eqb-true, le-leb, leb-true}
+use Rattle.std.proofs.lemmas.List.{append-nil}
 use Rattle.std.proofs.lemmas.List.Elements.{All-weaker, All-contains_itself, Contains-append_left, Contains-append_right}
 use Rattle.s4_types.specs.Pointer.{Place}
+use Rattle.s4_types.specs.declared.limits.TheConstants.{SIDES}
 use Rattle.block_log.specs.Taken.{TakesPlaces}
-use Rattle.block_log.specs.Log.{Log, Stored, of_kind, same_kind}
+use Rattle.block_log.specs.Log.{Log, NamesAreOfData, Stored, of_kind, same_kind, seen_as}
 use Rattle.block_log.specs.declared.kinds.BlockKind.TheVariants.{Journal, Checkpoint, Data}
 use Rattle.codec.specs.Fields.{◌>>=◌}
 use Rattle.codec.specs.Checkpoint.{pointer_at, checkpoint_rules}
@@ -17,17 +19,18 @@ use Rattle.inode.specs.Contents.{contents_of, meaning}
 use Rattle.inode.specs.Tidiness.{Tidy, PointersHeld, AgreeAt}
 use Rattle.inode.specs.Laws.{OnlyItsBlocksMatter}
 use Rattle.object_map.specs.declared.map.Row.{Row}
+use Rattle.object_map.specs.declared.sides.Side.{Side}
 use Rattle.object_map.specs.Objects.{with_value}
 use Rattle.object_map.specs.Rows.{row_of, with_row}
 use Rattle.time_read.specs.Rows.{entries_of, checkpoint_of, inode_of}
 use Rattle.time_read.specs.Orderly.{IsOrderly, IsFromTo}
-use Rattle.version_store.specs.Store.{StoreFields, IsStore, IsObject, DataIsNamed, IsLed, sides_told, pointers_kept, pointers_of}
+use Rattle.version_store.specs.Store.{IsNamedBy, StoreFields, IsStore, IsObject, IsLed, named_of, pointers_aside, pointers_kept, pointers_named, pointers_of, pointers_of_sides, sides_told, times_led}
 use Rattle.version_store.specs.Versions.{inode_by, inode_in, version_by, version_in}
 use Rattle.version_store.specs.Checkpointing.{last_entry}
-use Rattle.version_store.specs.Replacing.{IsMomentOf, OnlyDataChanged, OtherObjectsStay, CanReplace, IsReplaced, inode_led, pointers_told}
+use Rattle.version_store.specs.Replacing.{IsMomentOf, OtherObjectsStay, CanReplace, IsReplaced, inode_led, pointers_told}
 use Rattle.row_changes.specs.Rewritten.{OnlyMetadataChanged, rewritten_blocks}
 use Rattle.version_store.specs.private.Below.{OnePlace, OrderlyStays, RowStays, RowInodeStays, IsByStays, IsByLater, CheckpointsTakeBlocks}
-use Rattle.version_store.specs.private.Dropping.{leads_to, is_among}
+use Rattle.version_store.specs.private.Recounting.{Counts, Recounts}
 use Rattle.version_store.specs.private.Replacing.{Rewrites, Replaces, AllAreDone, RunsEnd}
 use Rattle.version_store.proofs.Frames.{same_bytes, stays_object, inode_in_stays, version_in_stays}
 use Rattle.version_store.proofs.Telling.{same_entries, Leads, redone_cases, undone_cases, by_told, slot_there, led_there}
@@ -35,8 +38,8 @@ use Rattle.version_store.proofs.Steps.{row_here, row_beside, row_cases, none_cas
 use Rattle.version_store.proofs.Spending.{sum_stays}
 use Rattle.version_store.proofs.Across.{IsAcross, renewed_across}
 use Rattle.version_store.proofs.CheckpointSteps.{next_store, keeps_rules, holes_all, some_place}
-use Rattle.version_store.proofs.Dropping.{contained_leads, leads_contained}
-use Rattle.version_store.proofs.Replacing.{other_stays, other_named}
+use Rattle.version_store.proofs.Named.{contained_times, named_alike, named_there, recounts_data, recounts_kept, there_named, times_contained, times_joined}
+use Rattle.version_store.proofs.Replacing.{other_stays, other_counted}
 
 -- ---- what is asked of the checkpoint
 
@@ -56,7 +59,6 @@ led_last done end present entries t run by = done (undone_all entries present) e
 pub record Known (s : StoreFields) (o : ℕ) (row : Row) (present : Inode) (entries : List EntryFields) (m : ℕ) : Type 0 where
   pub object : IsObject s.log.held o row s.latest
   pub orderly : IsOrderly s.log.held o row s.latest
-  pub named : DataIsNamed s.log.held o row
   pub within : IsFromTo row.created s.latest m
   pub by : AllBy m entries
   pub last : inode_led present entries m ≡ present
@@ -78,7 +80,6 @@ known done end s o row present entries m store there can is =
     record {
       object = object;
       orderly = orderly;
-      named = store.named o row there;
       within = within;
       by = by;
       last = last;
@@ -95,32 +96,34 @@ pub record Swaps (held later : Place → Option Stored) (o : ℕ) (present : Ino
   pub named : (p : Place) → IsSome (of_kind Data o later p) → Contains (pointers_told present entries) (Some p)
   pub others : OtherObjectsStay o held later
 
--- a block that is kept stays
-stays_kept : (leads among : Bool) (seen : Option (List ℕ)) → among ≡ true → cond (leads && not among) None seen ≡ seen
-stays_kept true true seen is = refl
-stays_kept true false seen is = absurd (false≢true is)
-stays_kept false among seen is = refl
+-- the names of the object's data are those that the new row gives it
+pub exchanged : (before between : Log) (o : ℕ) (row : Row) (present : Inode) (entries : List EntryFields) → IsNamedBy o before (pointers_named before.held o row)
+    → Recounts o before (pointers_told present entries) (pointers_aside before.held o row ++ pointers_of before.held o row) between → IsNamedBy o between (pointers_told present entries)
+exchanged before between o row present entries counted counts p =
+    let now = counts.here p in
+    let was = counted p in
+    let named = times_joined p (pointers_of before.held o row) (pointers_aside before.held o row) in
+    let fewer = times_joined p (pointers_aside before.held o row) (pointers_of before.held o row) in
+    omega (arith, now, was, named, fewer)
 
--- and one that stays is kept, or nothing led to it
-kept_stays : (leads among : Bool) (seen : Option (List ℕ)) → IsSome (cond (leads && not among) None seen) → (IsSome seen → leads ≡ true) → among ≡ true
-kept_stays true true seen some led = refl
-kept_stays true false seen some led = absurd (false≢true some)
-kept_stays false among seen some led = absurd (false≢true (led some))
-
-pub swapped : OnePlace → (held between later : Place → Option Stored) (o : ℕ) (row : Row) (present : Inode) (entries : List EntryFields) (kept : List Place) → DataIsNamed held o row
-    → ((p : Place) → is_among p kept ≡ leads_to p (pointers_told present entries)) → OnlyDataChanged o held between
-    → ((p : Place) → of_kind Data o between p ≡ cond (leads_to p (pointers_of held o row) && not (is_among p kept)) None (of_kind Data o held p))
-    → OnlyMetadataChanged o between later → Swaps held later o present entries
-swapped one held between later o row present entries kept named is others dropped metadata =
-    let same : of_kind Data o later ≡ of_kind Data o between = metadata Data o refl in
+pub swapped : OnePlace → (before between : Log) (later : Place → Option Stored) (o : ℕ) (row : Row) (present : Inode) (entries : List EntryFields) → IsNamedBy o before (pointers_named before.held o row)
+    → Recounts o before (pointers_told present entries) (pointers_aside before.held o row ++ pointers_of before.held o row) between → OnlyMetadataChanged o between.held later → Swaps before.held later o present entries
+swapped one before between later o row present entries counted counts metadata =
+    let same : of_kind Data o later ≡ of_kind Data o between.held = metadata Data o refl in
+    let named = exchanged before between o row present entries counted counts in
+    let others = recounts_data o before between (pointers_told present entries) (pointers_aside before.held o row ++ pointers_of before.held o row) counts in
     record {
-      kept = λ p there. ap (λ (view : Place → Option (List ℕ)). view p) same ∙ dropped p
-          ∙ stays_kept (leads_to p (pointers_of held o row)) (is_among p kept) (of_kind Data o held p) (is p ∙ contained_leads p (pointers_told present entries) there);
+      kept = λ p there.
+          let told = contained_times p (pointers_told present entries) there in
+          let is = named p in
+          let some = there_named o between p (omega (arith, told, is)) in
+          ap (λ (view : Place → Option (List ℕ)). view p) same
+          ∙ ap (seen_as Data o) (recounts_kept o before between (pointers_told present entries) (pointers_aside before.held o row ++ pointers_of before.held o row) counts p some);
       named = λ p some.
-          let some_between : IsSome (of_kind Data o between p) = subst (λ (view : Place → Option (List ℕ)). IsSome (view p)) same some in
-          leads_contained one p (pointers_told present entries)
-          (sym (is p) ∙ kept_stays (leads_to p (pointers_of held o row)) (is_among p kept) (of_kind Data o held p) (subst (λ (seen : Option (List ℕ)). IsSome seen) (dropped p) some_between)
-          (λ was. contained_leads p (pointers_of held o row) (named p was)));
+          let some_between : IsSome (of_kind Data o between.held p) = subst (λ (view : Place → Option (List ℕ)). IsSome (view p)) same some in
+          let least = named_there o between p counts.names some_between in
+          let is = named p in
+          times_contained one p (pointers_told present entries) (omega (arith, least, is));
       others = λ kind other beside. metadata kind other (and_right (same_kind Journal kind || same_kind Checkpoint kind) (o == other) beside) ∙ others kind other (and_right (same_kind Data kind) (o == other) beside);
     }
 
@@ -171,6 +174,23 @@ pointers_are later o row next present entries m writes last =
     ap (λ (kept : List (Option Place)). kept ++ sides_told (entries_of later.held o next)) (kept_is later o row next present entries m writes last)
     ∙ ap (λ (es : List EntryFields). present.pointers ++ sides_told es) writes.entries_are
 
+-- and the names of its data are counted
+pub replaced_counts : (before between later : Log) (o : ℕ) (row next : Row) (present : Inode) (entries : List EntryFields) (m : ℕ) → IsNamedBy o before (pointers_named before.held o row)
+    → Recounts o before (pointers_told present entries) (pointers_aside before.held o row ++ pointers_of before.held o row) between → OnlyMetadataChanged o between.held later.held → later.named ≡ between.named → NamesAreOfData later
+    → Rewrites later o row next present entries m → inode_led present entries m ≡ present → Counts before later o next
+replaced_counts before between later o row next present entries m counted counts metadata named names writes last =
+    let still : (q : ℕ) (p : Place) → named_of q later p ≡ named_of q between p = λ q p. named_alike q between later p (ap (λ (view : Place → Option (List ℕ)). view p) (metadata Data q refl)) (ap (λ (n : Place → ℕ). n p) named) in
+    let none : next.sides ≡ [] = ap (λ (r : Row). r.sides) writes.fields in
+    let are : pointers_named later.held o next ≡ pointers_told present entries ++ [] =
+    ap (λ (slots : List (Option Place)). slots ++ pointers_aside later.held o next) (pointers_are later o row next present entries m writes last)
+    ∙ ap (λ (sides : List Side). pointers_told present entries ++ pointers_of_sides later.held o sides) none in
+    record {
+      names = names;
+      here = λ p. still o p ∙ exchanged before between o row present entries counted counts p ∙ sym (ap (times_led p) (are ∙ append-nil (pointers_told present entries)));
+      beside = λ q p beside. still q p ∙ counts.beside q p beside;
+      few = subst (λ (sides : List Side). length sides ≤ SIDES) (sym none) (omega arith);
+    }
+
 -- the next row, changed once more
 abbrev pub put_row : Row → Row → Row
 put_row row next = record next { stamp = row.stamp + 1 }
@@ -198,8 +218,8 @@ IsPut s rows o row next = (q : ℕ) → row_of rows q ≡ with_row (row_of s.row
 
 replaced_store : OrderlyStays → RowStays → RowInodeStays → IsByStays → IsByLater → OnlyItsBlocksMatter → CheckpointsTakeBlocks → (s : StoreFields) (rows : List (ℕ × Row)) (log : Log) (o : ℕ) (row next : Row) (present : Inode) (entries : List EntryFields) (m : ℕ)
     → IsStore s → CanReplace s o row present entries → Known s o row present entries m → Swaps s.log.held log.held o present entries → Rewrites log o row next present entries m
-    → TakesPlaces (rewritten_blocks present entries) s.log log → rewritten_blocks present entries ≤ length s.log.ahead → IsPut s rows o row next → IsStore (next_store s rows log)
-replaced_store orderly stands same by later_by matter some s rows log o row next present entries m store can know swaps writes takes room put =
+    → TakesPlaces (rewritten_blocks present entries) s.log log → rewritten_blocks present entries ≤ length s.log.ahead → IsPut s rows o row next → Counts s.log log o next → IsStore (next_store s rows log)
+replaced_store orderly stands same by later_by matter some s rows log o row next present entries m store can know swaps writes takes room put counts =
     let sum = sum_stays (rewritten_blocks present entries) s.log log takes room in
     let more : log.spent ≡ rewritten_blocks present entries + s.log.spent = takes.spent in
     let across : IsAcross log.held rows = renewed_across s.rows rows s.log.held log.held o row (put_row row next) know.there put (ap (λ (r : Row). r.created) writes.fields)
@@ -213,9 +233,11 @@ replaced_store orderly stands same by later_by matter some s rows log o row next
       orderly = row_cases (row_of s.rows) (row_of rows) o (put_row row next) put (λ q r. IsOrderly log.held q r s.latest)
           (orderly.stamp log.held o s.latest (row.stamp + 1) next (writes.orderly s.latest can.order know.within know.orderly.made))
           (λ q r beside e. orderly.blocks s.log.held log.held q s.latest r (swaps.others Journal q beside) (swaps.others Checkpoint q beside) (store.orderly q r e));
-      named = row_cases (row_of s.rows) (row_of rows) o (put_row row next) put (λ q r. DataIsNamed log.held q r)
-          (λ p there. subst (λ (pointers : List (Option Place)). Contains pointers (Some p)) (sym (pointers_are log o row next present entries m writes know.last)) (swaps.named p there))
-          (λ q r beside e. other_named s.log.held log.held o q r swaps.others beside (store.named q r e));
+      names = counts.names;
+      counted = row_cases (row_of s.rows) (row_of rows) o (put_row row next) put (λ q r. IsNamedBy q log (pointers_named log.held q r))
+          counts.here
+          (λ q r beside e. other_counted s.log log o q r swaps.others counts.beside beside (store.counted q r e));
+      few = row_cases (row_of s.rows) (row_of rows) o (put_row row next) put (λ q r. length r.sides ≤ SIDES) counts.few (λ q r beside e. store.few q r e);
       nothing = λ q none kind p.
           let gone = none_cases (row_of s.rows) (row_of rows) o (put_row row next) put q none in
           ap (λ (view : Place → Option (List ℕ)). view p) (swaps.others kind q gone.0) ∙ store.nothing q gone.1 kind p;
@@ -271,9 +293,9 @@ replaced_made s rows log o row next present entries m know is swaps writes takes
 
 pub replaced : OrderlyStays → RowStays → RowInodeStays → IsByStays → IsByLater → OnlyItsBlocksMatter → CheckpointsTakeBlocks → (s : StoreFields) (rows : List (ℕ × Row)) (log : Log) (o : ℕ) (row next : Row) (present : Inode) (entries : List EntryFields) (m : ℕ)
     → IsStore s → CanReplace s o row present entries → Known s o row present entries m → m ≡ last_entry s.log.held o row → Swaps s.log.held log.held o present entries → Rewrites log o row next present entries m
-    → TakesPlaces (rewritten_blocks present entries) s.log log → rewritten_blocks present entries ≤ length s.log.ahead → IsPut s rows o row next → Replaces s o row present entries (next_store s rows log)
-replaced orderly stands same by later_by matter some s rows log o row next present entries m store can know is swaps writes takes room put = record {
-  store = replaced_store orderly stands same by later_by matter some s rows log o row next present entries m store can know swaps writes takes room put;
+    → TakesPlaces (rewritten_blocks present entries) s.log log → rewritten_blocks present entries ≤ length s.log.ahead → IsPut s rows o row next → Counts s.log log o next → Replaces s o row present entries (next_store s rows log)
+replaced orderly stands same by later_by matter some s rows log o row next present entries m store can know is swaps writes takes room put counts = record {
+  store = replaced_store orderly stands same by later_by matter some s rows log o row next present entries m store can know swaps writes takes room put counts;
   replaced = replaced_made s rows log o row next present entries m know is swaps writes takes put;
   inodes = replaced_inodes same s rows log o row next present entries m swaps writes put;
   versions = replaced_versions same matter s rows log o row next present entries m store can know swaps writes put;

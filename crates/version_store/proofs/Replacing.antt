@@ -1,6 +1,5 @@
 -- What the removal of an object's row leaves of a whole store, and what its replacement does.
-use Rattle.std.proofs.Common.{◌≡◌, inl, inr, ℕ, ◌+◌, ◌==◌, false, cond, List, length, Option, Some, None, IsSome, sym, ap, subst, ◌∙◌, arith}
-use Rattle.std.specs.List.{Contains}
+use Rattle.std.proofs.Common.{◌≡◌, inl, inr, ℕ, ◌+◌, ◌==◌, false, cond, List, length, Option, Some, None, sym, ap, subst, ◌∙◌, arith}
 use Rattle.std.proofs.lemmas.Bool.{cases_Bool, cond-true, cond-false, eqb-true}
 use Rattle.std.proofs.lemmas.Option.{none-some}
 use Rattle.s4_types.specs.Pointer.{Place}
@@ -10,13 +9,15 @@ use Rattle.block_log.specs.declared.kinds.BlockKind.TheVariants.{Journal, Checkp
 use Rattle.inode.specs.Laws.{OnlyItsBlocksMatter}
 use Rattle.object_map.specs.declared.map.Row.{Row}
 use Rattle.object_map.specs.Rows.{row_of}
-use Rattle.version_store.specs.Store.{StoreFields, IsStore, HasNothing, DataIsNamed}
+use Rattle.version_store.specs.Store.{IsNamedBy, StoreFields, IsStore, HasNothing, named_of, pointers_named}
 use Rattle.version_store.specs.Versions.{Stays, inode_by, inode_in, version_by, version_in}
 use Rattle.version_store.specs.Replacing.{OtherObjectsStay, IsRemoved}
 use Rattle.version_store.specs.private.Below.{OrderlyStays, RowStays, RowInodeStays, IsByStays}
+use Rattle.version_store.specs.private.Recounting.{Uncounts}
 use Rattle.version_store.specs.private.Replacing.{Removes}
 use Rattle.version_store.proofs.Frames.{stays_object, inode_in_stays, version_in_stays}
-use Rattle.version_store.proofs.Telling.{same_pointers, same_entries}
+use Rattle.version_store.proofs.Telling.{same_entries}
+use Rattle.version_store.proofs.Recounted.{counted_beside}
 use Rattle.version_store.proofs.Across.{IsAcross, fewer_across}
 use Rattle.version_store.proofs.CheckpointSteps.{next_store}
 
@@ -29,10 +30,9 @@ other_stays o q held later others beside = record {
   kept = λ p there. ap (λ (view : Place → Option (List ℕ)). view p) (others Data q beside);
 }
 
-pub other_named : (held later : Place → Option Stored) (o q : ℕ) (r : Row) → OtherObjectsStay o held later → (o == q) ≡ false → DataIsNamed held q r → DataIsNamed later q r
-other_named held later o q r others beside named p there =
-    subst (λ (slots : List (Option Place)). Contains slots (Some p)) (sym (same_pointers held later q r (others Journal q beside) (others Checkpoint q beside)))
-    (named p (subst (λ (view : Place → Option (List ℕ)). IsSome (view p)) (others Data q beside) there))
+pub other_counted : (before later : Log) (o q : ℕ) (r : Row) → OtherObjectsStay o before.held later.held → ((q : ℕ) (p : Place) → (o == q) ≡ false → named_of q later p ≡ named_of q before p) → (o == q) ≡ false
+    → IsNamedBy q before (pointers_named before.held q r) → IsNamedBy q later (pointers_named later.held q r)
+other_counted before later o q r others names beside = counted_beside before later q r (others Journal q beside) (others Checkpoint q beside) (λ p. names q p beside)
 
 -- ---- an object is removed
 
@@ -43,8 +43,8 @@ without_cases rows after o gone q r e = elim (cases_Bool (o == q)) [
   | inr beside ↦ (beside, sym (cond-false (o == q) None (rows q) beside) ∙ sym (gone q) ∙ e)
 ]
 
-removed_store : OrderlyStays → RowStays → RowInodeStays → IsByStays → OnlyItsBlocksMatter → (s : StoreFields) (rows : List (ℕ × Row)) (log : Log) (o : ℕ) → IsStore s → IsRemoved s o (next_store s rows log) → IsStore (next_store s rows log)
-removed_store orderly stands same by matter s rows log o store gone =
+removed_store : OrderlyStays → RowStays → RowInodeStays → IsByStays → OnlyItsBlocksMatter → (s : StoreFields) (rows : List (ℕ × Row)) (log : Log) (o : ℕ) → IsStore s → IsRemoved s o (next_store s rows log) → Uncounts s.log log o → IsStore (next_store s rows log)
+removed_store orderly stands same by matter s rows log o store gone counts =
     let room : length log.ahead ≡ length s.log.ahead = ap length gone.takes.ahead in
     let spent : log.spent ≡ 0 + s.log.spent = gone.takes.spent in
     let across : IsAcross log.held rows = fewer_across s.rows rows s.log.held log.held
@@ -59,9 +59,13 @@ removed_store orderly stands same by matter s rows log o store gone =
       orderly = λ q r e.
           let (beside, was) = without_cases (row_of s.rows) (row_of rows) o gone.rows q r e in
           orderly.blocks s.log.held log.held q s.latest r (gone.others Journal q beside) (gone.others Checkpoint q beside) (store.orderly q r was);
-      named = λ q r e.
+      names = counts.names;
+      counted = λ q r e.
           let (beside, was) = without_cases (row_of s.rows) (row_of rows) o gone.rows q r e in
-          other_named s.log.held log.held o q r gone.others beside (store.named q r was);
+          other_counted s.log log o q r gone.others counts.beside beside (store.counted q r was);
+      few = λ q r e.
+          let (beside, was) = without_cases (row_of s.rows) (row_of rows) o gone.rows q r e in
+          store.few q r was;
       nothing = λ q none. elim (cases_Bool (o == q)) [
         | inl is ↦ subst (λ (n : ℕ). HasNothing log.held n) (eqb-true o q is) gone.nothing
         | inr beside ↦ λ kind p. ap (λ (view : Place → Option (List ℕ)). view p) (gone.others kind q beside)
@@ -90,9 +94,9 @@ removed_versions same matter s rows log o store gone q t = elim (cases_Bool (o =
       ∙ sym (cond-false (o == q) Absent (version_in s q t) beside)
 ]
 
-pub removed : OrderlyStays → RowStays → RowInodeStays → IsByStays → OnlyItsBlocksMatter → (s : StoreFields) (rows : List (ℕ × Row)) (log : Log) (o : ℕ) → IsStore s → IsRemoved s o (next_store s rows log) → Removes s o (next_store s rows log)
-removed orderly stands same by matter s rows log o store gone = record {
-  store = removed_store orderly stands same by matter s rows log o store gone;
+pub removed : OrderlyStays → RowStays → RowInodeStays → IsByStays → OnlyItsBlocksMatter → (s : StoreFields) (rows : List (ℕ × Row)) (log : Log) (o : ℕ) → IsStore s → IsRemoved s o (next_store s rows log) → Uncounts s.log log o → Removes s o (next_store s rows log)
+removed orderly stands same by matter s rows log o store gone counts = record {
+  store = removed_store orderly stands same by matter s rows log o store gone counts;
   removed = gone;
   inodes = removed_inodes same s rows log o gone;
   versions = removed_versions same matter s rows log o store gone;

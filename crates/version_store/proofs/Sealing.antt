@@ -20,7 +20,6 @@ use Rattle.version_store.specs.Store.{StoreFields, IsStore}
 use Rattle.version_store.specs.Versions.{inode_by, version_by, entries_of_row}
 use Rattle.version_store.specs.private.Beside.{IsBeside}
 use Rattle.version_store.proofs.Cached.{stays_true}
-use Rattle.version_store.proofs.Once.{once_stays}
 use Rattle.version_store.specs.Upkeep.{KeepsObjects}
 
 fewer_by : (filling : List ℕ) (rest : ℕ → List Place) (before after : List Place) → length filling ≤ 1 → (filling ≡ [] → after ≡ before) → ((f : ℕ) → filling ≡ f ∷ [] → rest f ++ after ≡ before) → length after ≤ length before
@@ -44,30 +43,31 @@ abbrev pub over : StoreFields → Log → StoreFields
 over s log = record s { log = log }
 
 -- no fewer places were ever taken, and those with the ones ahead are few enough
-pub store_over : (s : StoreFields) (log : Log) → log.held ≡ s.log.held → s.log.spent ≤ log.spent → log.spent + length log.ahead < 2 ^ 46 → IsStore s → IsStore (over s log)
-store_over s log same spent bounded store =
-    subst (λ (h : Place → Option Stored). IsStore (over s (record log { held = h }))) (sym same) (record {
+pub store_over : (s : StoreFields) (log : Log) → log.held ≡ s.log.held → log.named ≡ s.log.named → s.log.spent ≤ log.spent → log.spent + length log.ahead < 2 ^ 46 → IsStore s → IsStore (over s log)
+store_over s log same named spent bounded store =
+    subst (λ (h : Place → Option Stored). IsStore (over s (record log { held = h }))) (sym same) (subst (λ (n : Place → ℕ). IsStore (over s (record log { held = s.log.held; named = n }))) (sym named) (record {
       objects = store.objects;
       orderly = store.orderly;
-      named = store.named;
+      names = store.names;
+      counted = store.counted;
+      few = store.few;
       nothing = store.nothing;
       stamps = λ o row e. let bound = store.stamps o row e in omega (arith, spent, bound);
       bounded = bounded;
       ascending = store.ascending;
       apart = store.apart;
-    })
+    }))
 
 -- what stands beside the rows does so over the other log
-pub beside_over : (values : List (ℕ × Present)) (pairs : List (CacheKey × Inode)) (s : StoreFields) (log : Log) → log.held ≡ s.log.held → log.named ≡ s.log.named → IsBeside values pairs s → IsBeside values pairs (over s log)
-beside_over values pairs s log held named beside = record {
+pub beside_over : (values : List (ℕ × Present)) (pairs : List (CacheKey × Inode)) (s : StoreFields) (log : Log) → log.held ≡ s.log.held → IsBeside values pairs s → IsBeside values pairs (over s log)
+beside_over values pairs s log held beside = record {
   inodes = λ o. beside.inodes o ∙ sym (ap (λ (h : Place → Option Stored). inode_by h o s.latest (row_of s.rows o)) held);
   indexes = λ o. subst (λ (h : Place → Option Stored). KeepsIndexOf (value_of values o) (entries_of_row h o (row_of s.rows o))) (sym held) (beside.indexes o);
-  once = once_stays s.log log named beside.once;
   cached = stays_true s.log.held log.held s.rows pairs (λ q. ap (of_checkpoints q) held) beside.cached;
 }
 
-pub shrunk_store : (s : StoreFields) (log : Log) → log.held ≡ s.log.held → length log.ahead ≤ length s.log.ahead → log.spent ≡ s.log.spent → IsStore s → IsStore (over s log)
-shrunk_store s log same fewer spent store = let bound = store.bounded in store_over s log same (omega (arith, spent)) (omega (arith, fewer, spent, bound)) store
+pub shrunk_store : (s : StoreFields) (log : Log) → log.held ≡ s.log.held → log.named ≡ s.log.named → length log.ahead ≤ length s.log.ahead → log.spent ≡ s.log.spent → IsStore s → IsStore (over s log)
+shrunk_store s log same named fewer spent store = let bound = store.bounded in store_over s log same named (omega (arith, spent)) (omega (arith, fewer, spent, bound)) store
 
 -- no fewer places were ever taken, whatever a release answers
 pub no_fewer_spent : {T E : Type 0} (r : Result T E) (old new : Log) → OnOk r (old.spent ≤ new.spent) → OnErr r (new ≡ old) → old.spent ≤ new.spent

@@ -1,18 +1,18 @@
 -- The steps that a change of an object is made of: its data is appended, its row is added, its journal is written.
-use Rattle.std.proofs.Common.{◌≡◌, ◌⊎◌, ℕ, ◌+◌, ◌<◌, ◌≤◌, ◌==◌, ◌&&◌, ◌/◌, ◌%◌, leb, Bool, false, cond, List, [], ◌∷◌, length, Option, Some, None, IsSome, refl, sym, ap, subst, ◌∙◌, inl, inr, arith}
+use Rattle.std.proofs.Common.{◌≡◌, ℕ, ◌+◌, ◌<◌, ◌≤◌, ◌==◌, ◌&&◌, ◌/◌, ◌%◌, ◌++◌, leb, Bool, true, false, cond, List, [], ◌∷◌, length, Option, Some, None, IsSome, refl, sym, ap, subst, ◌∙◌, inl, inr, arith}
 use Rattle.std.specs.Prelude.{is_some}
-use Rattle.std.specs.List.{AllByRecursion, Contains}
-use Rattle.std.proofs.lemmas.Bool.{cases_Bool, cond-true, cond-false, and_right, eqb-true, eqb-false, eq-eqb, ne_eqb, le-leb, false≢true}
+use Rattle.std.specs.List.{AllByRecursion}
+use Rattle.std.proofs.lemmas.Bool.{cases_Bool, cond-true, cond-false, and_right, eqb-true, eq-eqb, ne_eqb, false≢true}
 use Rattle.std.proofs.lemmas.List.Elements.{All-nil}
 use Rattle.std.proofs.lemmas.Option.{none-some, same_Some}
 use Rattle.s4_types.specs.Pointer.{Place}
+use Rattle.s4_types.specs.declared.limits.TheConstants.{SIDES}
 use Rattle.s4_types.specs.declared.versions.Version.{Version}
 use Rattle.s4_types.specs.declared.versions.Version.TheVariants.{Absent}
 use Rattle.block_log.specs.Taken.{TakesPlaces}
-use Rattle.block_log.specs.Log.{Log, Stored, of_kind, same_kind}
+use Rattle.block_log.specs.Log.{Log, Stored, same_kind}
 use Rattle.block_log.specs.declared.kinds.BlockKind.TheVariants.{Journal, Checkpoint, Data}
 use Rattle.codec.specs.declared.inodes.Inode.{Inode}
-use Rattle.codec.specs.Checkpoint.{pointer_at}
 use Rattle.codec.specs.Entry.{EntryFields}
 use Rattle.undo_redo.specs.Runs.{blank, AllAt}
 use Rattle.journal_chain.specs.Chain.{OnlyJournalChanged}
@@ -25,16 +25,19 @@ use Rattle.object_map.specs.declared.sides.Side.{Side}
 use Rattle.object_map.specs.Rows.{row_of, with_row, fresh_row}
 use Rattle.time_read.specs.Rows.{IsRow, IsSide, inode_of}
 use Rattle.version_store.proofs.Spending.{sum_stays}
-use Rattle.version_store.specs.Store.{StoreFields, IsStore, IsObject, HasNothing, DataIsNamed, pointers_of, sides_told, IsLed}
+use Rattle.version_store.specs.Store.{StoreFields, IsStore, IsObject, IsNamedBy, HasNothing, named_of, pointers_aside, pointers_named, pointers_of, sides_told, times_led, IsLed}
 use Rattle.time_read.specs.Orderly.{IsOrderly}
 use Rattle.row_changes.specs.Recent.{IsBy}
-use Rattle.version_store.specs.Versions.{Stays, inode_by, version_by, version_in}
+use Rattle.version_store.specs.Versions.{inode_by, version_by, version_in}
 use Rattle.version_store.specs.Taking.{RowChanges, IsAboveAll}
-use Rattle.version_store.specs.private.Turning.{LeadsTo, IsOpenFor, Turns}
-use Rattle.version_store.specs.private.Below.{OrderlyStays, RowStays, RowInodeStays, IsByStays, IsByLater, LastInodeStays, FreshRowStands, FreshRowIsBy, FreshInode, BlankCount, BlankHoles}
+use Rattle.version_store.specs.private.Turning.{IsOpenFor, Turns, times_given}
+use Rattle.version_store.specs.private.Recounting.{Counts}
+use Rattle.version_store.specs.private.Below.{OnePlace, OrderlyStays, RowStays, RowInodeStays, IsByStays, IsByLater, LastInodeStays, FreshRowStands, FreshRowIsBy, FreshInode, BlankCount, BlankHoles}
 use Rattle.version_store.proofs.Frames.{DataStays, data_there, data_agree, data_pointers, stays_object, growth_stays, journal_stays, version_by_stays}
-use Rattle.version_store.proofs.Telling.{Leads, Grows, inode_told, leads_later, same_pointers, same_entries, grown_leads_to, grown_leads, fresh_pointers}
-use Rattle.version_store.proofs.Naming.{NamesNew}
+use Rattle.version_store.proofs.Telling.{Leads, Grows, leads_later, same_entries, grown_leads, fresh_pointers}
+use Rattle.version_store.proofs.Named.{named_none}
+use Rattle.version_store.proofs.Recounted.{counted_beside}
+use Rattle.version_store.proofs.Handed.{IsInHand, grown_counted, none_contained}
 use Rattle.version_store.proofs.Across.{IsAcross, kept_across, changed_across, added_across, above_has_none}
 
 -- ---- rows
@@ -51,30 +54,9 @@ other_object rows o q there none = ne_eqb o q (λ (e : o ≡ q). false≢true (s
 
 -- ---- data is appended
 
--- a row leads where it led while its object's blocks stay
-stays_naming : (o : ℕ) (held later : Place → Option Stored) (row : Row) (p : Place) → Stays o held later → Contains (pointers_of held o row) (Some p) → Contains (pointers_of later o row) (Some p)
-stays_naming o held later row p stays there = subst (λ (slots : List (Option Place)). Contains slots (Some p)) (sym (same_pointers held later o row stays.journal stays.checkpoints)) there
-
--- each data block that is held is named as before, or the next inode leads to it
-grown_named : (s : StoreFields) (log : Log) (object : ℕ) (blocks : List (List ℕ)) (j : Inode) → GrowsBy object blocks s.log log → NamesNew object s.log j log → IsStore s
-    → (o : ℕ) (row : Row) → row_of s.rows o ≡ Some row → (p : Place) → IsSome (of_kind Data o log.held p) → Contains (pointers_of log.held o row) (Some p) ⊎ ((object ≡ o) × LeadsTo j p)
-grown_named s log object blocks j grows new store o row e p there =
-    let stays = growth_stays object blocks s.log log o grows in
-    let before : IsSome (of_kind Data o s.log.held p) → Contains (pointers_of log.held o row) (Some p) = λ was. stays_naming o s.log.held log.held row p stays (store.named o row e p was) in
-    elim (cases_Bool (object == o)) [
-      | inl is ↦
-          let here : object ≡ o = eqb-true object o is in
-          let cases : IsSome (of_kind Data o s.log.held p) ⊎ LeadsTo j p = subst (λ (n : ℕ). IsSome (of_kind Data n log.held p) → IsSome (of_kind Data n s.log.held p) ⊎ LeadsTo j p) here (new p) there in
-          elim cases [
-            | inl was ↦ inl (before was)
-            | inr leads ↦ inr (here, leads)
-          ]
-      | inr other ↦ inl (before (subst (λ (seen : Option (List ℕ)). IsSome seen) (grows.others Data o p other) there))
-    ]
-
-pub grown_store : OrderlyStays → RowStays → RowInodeStays → IsByStays → OnlyItsBlocksMatter → (s : StoreFields) (log : Log) (object : ℕ) (blocks : List (List ℕ)) (j : Inode)
-    → GrowsBy object blocks s.log log → NamesNew object s.log j log → IsSome (row_of s.rows object) → IsStore s → IsOpenFor object j (record s { log = log })
-grown_store orderly stands same by matter s log object blocks j grows new there store =
+pub grown_store : OnePlace → OrderlyStays → RowStays → RowInodeStays → IsByStays → OnlyItsBlocksMatter → (s : StoreFields) (log : Log) (object : ℕ) (blocks : List (List ℕ)) (j : Inode) (hand : List (Option Place))
+    → GrowsBy object blocks s.log log → IsInHand s.log log j hand → PointersHeld log.held object j → IsSome (row_of s.rows object) → IsStore s → IsOpenFor object j hand (record s { log = log })
+grown_store one orderly stands same by matter s log object blocks j hand grows in_hand pointers there store =
     let sum = sum_stays (length blocks) s.log log grows.takes grows.room in
     let more : log.spent ≡ length blocks + s.log.spent = grows.takes.spent in
     let across : IsAcross log.held s.rows = kept_across s.rows s.log.held log.held (λ q r e. same_entries s.log.held log.held q r (growth_stays object blocks s.log log q grows).journal) (record { ascending = store.ascending; apart = store.apart }) in
@@ -83,7 +65,11 @@ grown_store orderly stands same by matter s log object blocks j grows new there 
       orderly = λ o row other e.
           let stays = growth_stays object blocks s.log log o grows in
           orderly.blocks s.log.held log.held o s.latest row stays.journal stays.checkpoints (store.orderly o row e);
-      named = grown_named s log object blocks j grows new store;
+      names = in_hand.names;
+      counted = grown_counted one s log object blocks j hand grows in_hand pointers store;
+      few = store.few;
+      led = in_hand.led;
+      short = in_hand.short;
       nothing = λ o none kind p. grows.others kind o p (and_right (same_kind kind Data) (object == o) (other_object (row_of s.rows) object o there none)) ∙ store.nothing o none kind p;
       stamps = λ o row e. let bound = store.stamps o row e in omega (arith, more, bound);
       bounded = let bound = store.bounded in omega (arith, sum, bound);
@@ -146,8 +132,22 @@ none_cases rows after o row put q none = elim (cases_Bool (o == q)) [
   | inr other ↦ (other, sym (row_beside rows o q row other) ∙ sym (put q) ∙ none)
 ]
 
+-- the row of an object that was just made names nothing
+fresh_named : (held : Place → Option Stored) (o m : ℕ) → pointers_named held o (fresh_row m) ≡ []
+fresh_named held o m = ap (λ (slots : List (Option Place)). slots ++ pointers_aside held o (fresh_row m)) (fresh_pointers held o m)
+
+none_given : (o q : ℕ) (p : Place) → times_given o q [] p ≡ 0
+none_given o q p = either_none (o == q)
+  where
+    either_none : (b : Bool) → cond b (times_led p []) 0 ≡ 0
+    either_none true = refl
+    either_none false = refl
+
+none_besides : (n m : ℕ) → m ≡ 0 → n ≡ n + m
+none_besides n m none = omega (arith, none)
+
 pub added_store : FreshRowStands → FreshRowIsBy → FreshInode → IsByLater → BlankCount → BlankHoles → (s : StoreFields) (rows : List (ℕ × Row)) (object m : ℕ) (j : Inode)
-    → ((q : ℕ) → row_of rows q ≡ with_row (row_of s.rows) object (fresh_row m) q) → 1 ≤ object → IsAboveAll s object → s.latest < m → IsStore s → IsOpenFor object j (record s { rows = rows })
+    → ((q : ℕ) → row_of rows q ≡ with_row (row_of s.rows) object (fresh_row m) q) → 1 ≤ object → IsAboveAll s object → s.latest < m → IsStore s → IsOpenFor object j [] (record s { rows = rows })
 added_store stands by fresh later count holes s rows object m j put numbered above after store =
     let none : row_of s.rows object ≡ None = above_has_none s object above in
     let across = added_across s rows object m above put (λ q r e. let made = (store.orderly q r e).made.1 in omega (arith, made, after)) (record { ascending = store.ascending; apart = store.apart }) in
@@ -156,9 +156,15 @@ added_store stands by fresh later count holes s rows object m j put numbered abo
           (fresh_object stands by fresh later count holes s.log.held object m s.latest numbered (store.nothing object none))
           (λ q r other e. store.objects q r e);
       orderly = λ q r other e. store.orderly q r (sym (row_beside (row_of s.rows) object q (fresh_row m) other) ∙ sym (put q) ∙ e);
-      named = row_cases (row_of s.rows) (row_of rows) object (fresh_row m) put (λ q r. (p : Place) → IsSome (of_kind Data q s.log.held p) → Contains (pointers_of s.log.held q r) (Some p) ⊎ ((object ≡ q) × LeadsTo j p))
-          (λ p there. absurd (false≢true (sym (ap is_some (store.nothing object none Data p)) ∙ there)))
-          (λ q r other e p there. inl (store.named q r e p there));
+      names = store.names;
+      counted = λ q r e p. row_cases (row_of s.rows) (row_of rows) object (fresh_row m) put (λ q r. (p : Place) → named_of q s.log p ≡ times_led p (pointers_named s.log.held q r))
+          (λ p. named_none object s.log p (ap is_some (store.nothing object none Data p)) ∙ sym (ap (times_led p) (fresh_named s.log.held object m)))
+          (λ q r other e p. store.counted q r e p)
+          q r e p
+          ∙ none_besides (times_led p (pointers_named s.log.held q r)) (times_given object q [] p) (none_given object q p);
+      few = row_cases (row_of s.rows) (row_of rows) object (fresh_row m) put (λ q r. length r.sides ≤ SIDES) (omega arith) (λ q r other e. store.few q r e);
+      led = λ p there. absurd (none_contained p there);
+      short = omega arith;
       nothing = λ o gone. store.nothing o (none_cases (row_of s.rows) (row_of rows) object (fresh_row m) put o gone).1;
       stamps = row_cases (row_of s.rows) (row_of rows) object (fresh_row m) put (λ q r. r.stamp ≤ s.log.spent)
           (omega arith)
@@ -247,47 +253,33 @@ recorded_object matter held later o row next i m latest n records object tidy po
       pointers = λ t. subst (PointersHeld later o) (sym (is t)) (either (PointersHeld later o) m t i (inode_of held o row t) (data_pointers o held later i stays pointers) (data_pointers o held later (inode_of held o row t) stays (object.pointers t)));
     }
 
--- each data block of the object is named: by the row as before, or since the next inode leads to it
-recorded_here : (s : StoreFields) (later : Place → Option Stored) (o : ℕ) (row next : Row) (i : Inode) (m n : ℕ) → Records s.log.held later o row next i m → row_of s.rows o ≡ Some row → IsOpenFor o i s
-    → DataIsNamed later o (record next { stamp = n })
-recorded_here s later o row next i m n records there store p held =
-    let was : IsSome (of_kind Data o s.log.held p) = subst (λ (view : Place → Option (List ℕ)). IsSome (view p)) (records.others Data o refl) held in
-    elim (store.named o row there p was) [
-      | inl names ↦ grown_leads_to s.log.held later o row next records.new (Some p) records.grows names
-      | inr (is, leads) ↦ inode_told later o next m leads.0 p
-          (ap (λ (k : Inode). pointer_at k leads.0) (records.inode m ∙ cond-true (leb m m) i (inode_of s.log.held o row m) (le-leb m m (omega arith))) ∙ leads.1)
-    ]
-
--- and each of another object
-recorded_beside : (s : StoreFields) (later : Place → Option Stored) (o : ℕ) (i : Inode) → OnlyJournalChanged o s.log.held later → IsOpenFor o i s
-    → (q : ℕ) (r : Row) → (o == q) ≡ false → row_of s.rows q ≡ Some r → DataIsNamed later q r
-recorded_beside s later o i only store q r other e p held =
-    let was : IsSome (of_kind Data q s.log.held p) = subst (λ (view : Place → Option (List ℕ)). IsSome (view p)) (only Data q refl) held in
-    elim (store.named q r e p was) [
-      | inl names ↦ stays_naming q s.log.held later r p (journal_stays o q s.log.held later only other) names
-      | inr (is, leads) ↦ absurd (eqb-false o q other is)
-    ]
-
 by_later : IsByLater → (held : Place → Option Stored) (o : ℕ) (row : Row) (latest m : ℕ) → latest ≤ m → IsObject held o row latest → IsObject held o row m
 by_later later held o row latest m le object = record { stands = object.stands; by = later held o row latest m le object.by; led = object.led; tidy = object.tidy; pointers = object.pointers }
 
+-- what is in hand is of one object
+alone_counted : (s : StoreFields) (o : ℕ) (i : Inode) (hand : List (Option Place)) (q : ℕ) (r : Row) → (o == q) ≡ false → row_of s.rows q ≡ Some r → IsOpenFor o i hand s → IsNamedBy q s.log (pointers_named s.log.held q r)
+alone_counted s o i hand q r other e store p =
+    let is = store.counted q r e p in
+    let none : times_given o q hand p ≡ 0 = cond-false (o == q) (times_led p hand) 0 other in
+    omega (arith, is, none)
+
 -- what holds across rows is kept: the object's chain has entries of the moment besides, and no other chain is changed
-recorded_across : (s later : StoreFields) (o : ℕ) (row next : Row) (i : Inode) (m n : ℕ) → Records s.log.held later.log.held o row next i m → row_of s.rows o ≡ Some row → IsOpenFor o i s → s.latest < m
+recorded_across : (s later : StoreFields) (o : ℕ) (row next : Row) (i : Inode) (hand : List (Option Place)) (m n : ℕ) → Records s.log.held later.log.held o row next i m → row_of s.rows o ≡ Some row → IsOpenFor o i hand s → s.latest < m
     → ((q : ℕ) → row_of later.rows q ≡ with_row (row_of s.rows) o (record next { stamp = n }) q) → IsAcross later.log.held later.rows
-recorded_across s later o row next i m n records there store before put =
+recorded_across s later o row next i hand m n records there store before put =
     changed_across s.rows later.rows s.log.held later.log.held o row (record next { stamp = n }) m s.latest records.new there put records.made records.grows.entries records.moments before
     (λ q r e. (store.objects q r e).by.entries) (λ q r other e. same_entries s.log.held later.log.held q r (journal_stays o q s.log.held later.log.held records.others other).journal)
     (record { ascending = store.ascending; apart = store.apart })
 
-recorded_store : OrderlyStays → RowStays → RowInodeStays → IsByStays → IsByLater → LastInodeStays → OnlyItsBlocksMatter → (s later : StoreFields) (o m n count : ℕ) (row next : Row) (i : Inode)
-    → IsOpenFor o i s → row_of s.rows o ≡ Some row → s.latest < m → later.latest ≡ m → Records s.log.held later.log.held o row next i m → Tidy (contents_of s.log.held) i → PointersHeld s.log.held o i
+recorded_store : OrderlyStays → RowStays → RowInodeStays → IsByStays → IsByLater → LastInodeStays → OnlyItsBlocksMatter → (s later : StoreFields) (o m n count : ℕ) (row next : Row) (i : Inode) (hand : List (Option Place))
+    → IsOpenFor o i hand s → row_of s.rows o ≡ Some row → s.latest < m → later.latest ≡ m → Records s.log.held later.log.held o row next i m → Tidy (contents_of s.log.held) i → PointersHeld s.log.held o i
     → ((q : ℕ) → row_of later.rows q ≡ with_row (row_of s.rows) o (record next { stamp = n }) q) → n ≡ row.stamp + 1
-    → TakesPlaces count s.log later.log → 1 ≤ count → count ≤ length s.log.ahead → IsStore later
-recorded_store orderly stands same by later_by last matter s later o m n count row next i store there before latest records tidy pointers put stamp takes some room =
+    → TakesPlaces count s.log later.log → 1 ≤ count → count ≤ length s.log.ahead → Counts s.log later.log o next → IsStore later
+recorded_store orderly stands same by later_by last matter s later o m n count row next i hand store there before latest records tidy pointers put stamp takes some room counts =
     let le : s.latest ≤ m = omega (arith, before) in
     let sum = sum_stays count s.log later.log takes room in
     let more : later.log.spent ≡ count + s.log.spent = takes.spent in
-    let across = recorded_across s later o row next i m n records there store before put in
+    let across = recorded_across s later o row next i hand m n records there store before put in
     record {
       objects = subst (λ (k : ℕ). (q : ℕ) (r : Row) → row_of later.rows q ≡ Some r → IsObject later.log.held q r k) (sym latest)
           (row_cases (row_of s.rows) (row_of later.rows) o (record next { stamp = n }) put (λ q r. IsObject later.log.held q r m)
@@ -299,9 +291,13 @@ recorded_store orderly stands same by later_by last matter s later o m n count r
           (λ q r other e.
           let stays = journal_stays o q s.log.held later.log.held records.others other in
           orderly.later later.log.held q r s.latest m le (orderly.blocks s.log.held later.log.held q s.latest r stays.journal stays.checkpoints (store.orderly q r other e))));
-      named = row_cases (row_of s.rows) (row_of later.rows) o (record next { stamp = n }) put (λ q r. DataIsNamed later.log.held q r)
-          (recorded_here s later.log.held o row next i m n records there store)
-          (recorded_beside s later.log.held o i records.others store);
+      names = counts.names;
+      counted = row_cases (row_of s.rows) (row_of later.rows) o (record next { stamp = n }) put (λ q r. IsNamedBy q later.log (pointers_named later.log.held q r))
+          counts.here
+          (λ q r other e.
+          let stays = journal_stays o q s.log.held later.log.held records.others other in
+          counted_beside s.log later.log q r stays.journal stays.checkpoints (λ p. counts.beside q p other) (alone_counted s o i hand q r other e store));
+      few = row_cases (row_of s.rows) (row_of later.rows) o (record next { stamp = n }) put (λ q r. length r.sides ≤ SIDES) counts.few (λ q r other e. store.few q r e);
       nothing = λ q none kind p.
           let gone = none_cases (row_of s.rows) (row_of later.rows) o (record next { stamp = n }) put q none in
           ap (λ (view : Place → Option (List ℕ)). view p) (records.others kind q (and_right (same_kind Journal kind) (o == q) gone.0)) ∙ store.nothing q gone.1 kind p;
@@ -324,23 +320,23 @@ version_of_inode held later m t i j matter o stays i_leads j_leads = elim (cases
       ∙ sym (cond-false (leb m t) (meaning (contents_of held) i) (meaning (contents_of held) j) less)
 ]
 
-recorded_version : OnlyItsBlocksMatter → (s later : StoreFields) (o m n : ℕ) (row next : Row) (i : Inode) (t : ℕ) → IsOpenFor o i s → row_of s.rows o ≡ Some row
+recorded_version : OnlyItsBlocksMatter → (s later : StoreFields) (o m n : ℕ) (row next : Row) (i : Inode) (hand : List (Option Place)) (t : ℕ) → IsOpenFor o i hand s → row_of s.rows o ≡ Some row
     → Records s.log.held later.log.held o row next i m → PointersHeld s.log.held o i → row_of later.rows o ≡ Some (record next { stamp = n })
     → version_in later o t ≡ cond (leb m t) (meaning (contents_of s.log.held) i) (version_in s o t)
-recorded_version matter s later o m n row next i t store there records pointers found =
+recorded_version matter s later o m n row next i hand t store there records pointers found =
     ap (λ (r : Option Row). version_by later.log.held (inode_by later.log.held o t r)) found
     ∙ ap (meaning (contents_of later.log.held)) (stamped_inode later.log.held o next n t ∙ records.inode t)
     ∙ version_of_inode s.log.held later.log.held m t i (inode_of s.log.held o row t) matter o (journal_data o s.log.held later.log.held records.others) pointers ((store.objects o row there).pointers t)
     ∙ sym (ap (λ (r : Option Row). cond (leb m t) (meaning (contents_of s.log.held) i) (version_by s.log.held (inode_by s.log.held o t r))) there)
 
-recorded_versions : RowInodeStays → OnlyItsBlocksMatter → (s later : StoreFields) (o m n : ℕ) (row next : Row) (i : Inode) → IsOpenFor o i s → row_of s.rows o ≡ Some row
+recorded_versions : RowInodeStays → OnlyItsBlocksMatter → (s later : StoreFields) (o m n : ℕ) (row next : Row) (i : Inode) (hand : List (Option Place)) → IsOpenFor o i hand s → row_of s.rows o ≡ Some row
     → Records s.log.held later.log.held o row next i m → PointersHeld s.log.held o i → ((q : ℕ) → row_of later.rows q ≡ with_row (row_of s.rows) o (record next { stamp = n }) q)
     → (q t : ℕ) → version_in later q t ≡ cond (o == q && leb m t) (meaning (contents_of s.log.held) i) (version_in s q t)
-recorded_versions same matter s later o m n row next i store there records pointers put q t = elim (cases_Bool (o == q)) [
+recorded_versions same matter s later o m n row next i hand store there records pointers put q t = elim (cases_Bool (o == q)) [
   | inl is ↦
       let here : o ≡ q = eqb-true o q is in
       subst (λ (k : ℕ). version_in later k t ≡ cond (leb m t) (meaning (contents_of s.log.held) i) (version_in s k t)) here
-      (recorded_version matter s later o m n row next i t store there records pointers (put o ∙ row_here (row_of s.rows) o (record next { stamp = n })))
+      (recorded_version matter s later o m n row next i hand t store there records pointers (put o ∙ row_here (row_of s.rows) o (record next { stamp = n })))
       ∙ ap (λ (b : Bool). cond (b && leb m t) (meaning (contents_of s.log.held) i) (version_in s q t)) (sym is)
   | inr other ↦
       ap (λ (r : Option Row). version_by later.log.held (inode_by later.log.held q t r)) (put q ∙ row_beside (row_of s.rows) o q (record next { stamp = n }) other)
@@ -349,13 +345,13 @@ recorded_versions same matter s later o m n row next i store there records point
 ]
 
 -- the whole step
-pub recorded : OrderlyStays → RowStays → RowInodeStays → IsByStays → IsByLater → LastInodeStays → OnlyItsBlocksMatter → (s later : StoreFields) (o m n count : ℕ) (row next : Row) (i : Inode)
-    → IsOpenFor o i s → row_of s.rows o ≡ Some row → s.latest < m → later.latest ≡ m → Records s.log.held later.log.held o row next i m → Tidy (contents_of s.log.held) i → PointersHeld s.log.held o i
+pub recorded : OrderlyStays → RowStays → RowInodeStays → IsByStays → IsByLater → LastInodeStays → OnlyItsBlocksMatter → (s later : StoreFields) (o m n count : ℕ) (row next : Row) (i : Inode) (hand : List (Option Place))
+    → IsOpenFor o i hand s → row_of s.rows o ≡ Some row → s.latest < m → later.latest ≡ m → Records s.log.held later.log.held o row next i m → Tidy (contents_of s.log.held) i → PointersHeld s.log.held o i
     → ((q : ℕ) → row_of later.rows q ≡ with_row (row_of s.rows) o (record next { stamp = n }) q) → n ≡ row.stamp + 1
-    → TakesPlaces count s.log later.log → 1 ≤ count → count ≤ length s.log.ahead → RowChanges s o m later.rows → Turns s o m i count later
-recorded orderly stands same by later_by last matter s later o m n count row next i store there before latest records tidy pointers put stamp takes some room changes = record {
-  store = recorded_store orderly stands same by later_by last matter s later o m n count row next i store there before latest records tidy pointers put stamp takes some room;
-  versions = recorded_versions same matter s later o m n row next i store there records pointers put;
+    → TakesPlaces count s.log later.log → 1 ≤ count → count ≤ length s.log.ahead → Counts s.log later.log o next → RowChanges s o m later.rows → Turns s o m i count later
+recorded orderly stands same by later_by last matter s later o m n count row next i hand store there before latest records tidy pointers put stamp takes some room counts changes = record {
+  store = recorded_store orderly stands same by later_by last matter s later o m n count row next i hand store there before latest records tidy pointers put stamp takes some room counts;
+  versions = recorded_versions same matter s later o m n row next i hand store there records pointers put;
   latest = latest;
   row = changes;
   others = records.others;

@@ -138,7 +138,7 @@ kept_cases : (N : Type 0) (place : Option Place) (read : Place → Option Checkp
 kept_cases N None read c told = inl refl
 kept_cases N (Some p) read c told = inr told
 
-row_kept : (held : Place → Option Stored) (o : ℕ) (row : Row) → IsRow held o row → (checkpoint_of held o row ≡ None) ⊎ (checkpoint_of held o row ≡ Some (checkpoint_told held o row))
+pub row_kept : (held : Place → Option Stored) (o : ℕ) (row : Row) → IsRow held o row → (checkpoint_of held o row ≡ None) ⊎ (checkpoint_of held o row ≡ Some (checkpoint_told held o row))
 row_kept held o row stands = kept_cases (row.checkpoint_moment ≡ 0) row.checkpoint (checkpoint_held held o) (checkpoint_told held o row) stands.checkpoint
 
 -- its pointers are those of the inode at its moment
@@ -160,7 +160,7 @@ led_by : (held : Place → Option Stored) (o : ℕ) (slot : Option Place) → ((
 led_by held o None leads = tt
 led_by held o (Some p) leads = leads p refl
 
-inode_led : (held : Place → Option Stored) (o : ℕ) (i : Inode) (n : ℕ) → PointersHeld held o i → IsLed held o (pointer_at i n)
+pub inode_led : (held : Place → Option Stored) (o : ℕ) (i : Inode) (n : ℕ) → PointersHeld held o i → IsLed held o (pointer_at i n)
 inode_led held o i n leads = led_by held o (pointer_at i n) (leads n)
 
 -- where an object's data blocks stay
@@ -205,7 +205,7 @@ pub record Grows (held later : Place → Option Stored) (o : ℕ) (row next : Ro
 pub same_checkpoint : (held later : Place → Option Stored) (o : ℕ) (place : Option Place) → of_kind Checkpoint o later ≡ of_kind Checkpoint o held → (place >>= checkpoint_held later o) ≡ (place >>= checkpoint_held held o)
 same_checkpoint held later o place same = ap (λ (v : BlockView). place >>= λ p. checkpoint_in v p) same
 
-grown_sides : (held later : Place → Option Stored) (o : ℕ) (row next : Row) (new : List EntryFields) → Grows held later o row next new → sides_told (entries_of later o next) ≡ sides_told (entries_of held o row) ++ sides_told new
+pub grown_sides : (held later : Place → Option Stored) (o : ℕ) (row next : Row) (new : List EntryFields) → Grows held later o row next new → sides_told (entries_of later o next) ≡ sides_told (entries_of held o row) ++ sides_told new
 grown_sides held later o row next new grows = ap sides_told grows.entries ∙ flat_map-append (λ (e : EntryFields). sides_of e.triples) (entries_of held o row) new
 
 -- the row leads to all that it led to

@@ -1,6 +1,7 @@
 -- What the definitions come to: each of these holds of all stores, and is the contract of a function with an empty body.
-use Rattle.std.specs.Prelude.{◌≡◌, ℕ, ◌≤◌, ◌↔◌, true, Option, Some, None, IsSome}
+use Rattle.std.specs.Prelude.{◌≡◌, ℕ, ◌≤◌, ◌↔◌, true, length, Option, Some, None, IsSome}
 use Rattle.s4_types.specs.Pointer.{Place}
+use Rattle.s4_types.specs.declared.limits.TheConstants.{SIDES}
 use Rattle.block_log.specs.declared.kinds.BlockKind.{BlockKind}
 use Rattle.block_log.specs.declared.kinds.BlockKind.TheVariants.{Data}
 use Rattle.codec.specs.Checkpoint.{pointer_at}
@@ -11,7 +12,7 @@ use Rattle.inode.specs.Contents.{contents_of, meaning}
 use Rattle.object_map.specs.declared.map.Row.{Row}
 use Rattle.object_map.specs.Rows.{row_of}
 use Rattle.time_read.specs.Rows.{inode_of}
-use Rattle.version_store.specs.Store.{StoreFields, IsStore, IsObject, IsNamed}
+use Rattle.version_store.specs.Store.{StoreFields, IsStore, IsObject, IsNamed, pointers_named}
 use Rattle.version_store.specs.Versions.{Stays, inode_in, version_in}
 use Rattle.version_store.specs.Costs.{subject_inode}
 use Rattle.version_store.specs.Taking.{IsThere}
@@ -62,3 +63,12 @@ EachHeldBlockIsNamed = (s : StoreFields) (p : Place) (block : Stored) → IsStor
 -- Each place that an inode of an object points to, at whatever moment, is one that the object's row names.
 abbrev pub InodesPointToWhatRowsName : Type 0
 InodesPointToWhatRowsName = (s : StoreFields) (o t n : ℕ) (i : Inode) (p : Place) → inode_in s o t ≡ Some i → pointer_at i n ≡ Some p → IsNamed s o Data p
+
+-- A row has so many pointers at most: OBJECT_BLOCKS in each of its checkpoints, of which it has SIDES and one more, and fewer in its
+-- journal than its entries have bytes, CHAIN_ENTRY_BYTES at most.
+abbrev pub RowsHaveFewPointers : Type 0
+RowsHaveFewPointers = (held : Place → Option Stored) (o : ℕ) (row : Row) (latest : ℕ) → IsObject held o row latest → length row.sides ≤ SIDES → length (pointers_named held o row) ≤ 12144
+
+-- no place has more names than a row has pointers at most
+abbrev pub PlacesHaveFewNames : Type 0
+PlacesHaveFewNames = (s : StoreFields) (p : Place) → IsStore s → s.log.named p ≤ 12144

@@ -1,6 +1,7 @@
 pub mod Planning
 pub mod Across
 pub mod Store
+pub mod Tallies
 pub mod Versions
 pub mod Costs
 pub mod Taking

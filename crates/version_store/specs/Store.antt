@@ -1,17 +1,19 @@
 -- What contracts see of a store of objects, and what holds of each store.
-use Rattle.std.specs.Prelude.{◌≡◌, ℕ, ◌+◌, ◌^◌, ◌<◌, ◌≤◌, true, List, [], ◌∷◌, ◌++◌, length, Option, Some, None, IsSome, IfSome}
-use Rattle.std.specs.List.{All, Contains, flat_map}
+use Rattle.std.specs.Prelude.{◌≡◌, ℕ, ◌+◌, ◌^◌, ◌<◌, ◌≤◌, Bool, true, false, if◌then◌else◌, List, [], ◌∷◌, ◌++◌, length, Option, Some, None, is_some, IsSome, IfSome}
+use Rattle.std.specs.List.{All, Contains, count_by, flat_map}
 use Rattle.s4_types.specs.Pointer.{Place}
+use Rattle.s4_types.specs.declared.limits.TheConstants.{SIDES}
 use Rattle.block_log.specs.declared.kinds.BlockKind.{BlockKind}
 use Rattle.block_log.specs.declared.kinds.BlockKind.TheVariants.{Journal, Checkpoint, Data}
-use Rattle.block_log.specs.Log.{Log, Stored, of_kind}
+use Rattle.block_log.specs.Log.{Log, Stored, NamesAreOfData, of_kind, same_place}
 use Rattle.codec.specs.Checkpoint.{CheckpointFields}
 use Rattle.codec.specs.Entry.{EntryFields}
 use Rattle.codec.specs.declared.entries.Triple.{Triple}
 use Rattle.journal_chain.specs.Chain.{times, chain_places}
 use Rattle.object_map.specs.declared.map.Row.{Row}
 use Rattle.object_map.specs.Rows.{row_of}
-use Rattle.checkpoint.specs.Held.{is_one_of}
+use Rattle.object_map.specs.declared.sides.Side.{Side}
+use Rattle.checkpoint.specs.Held.{checkpoint_held, is_one_of}
 use Rattle.time_read.specs.Rows.{IsRow, inode_of, entries_of, checkpoint_of, all_places_of}
 use Rattle.time_read.specs.Orderly.{IsOrderly}
 use Rattle.row_changes.specs.Recent.{IsBy}
@@ -53,6 +55,36 @@ pointers_kept (Some c) = c.inode.pointers
 abbrev pub pointers_of : (Place → Option Stored) → ℕ → Row → List (Option Place)
 pointers_of held o row = pointers_kept (checkpoint_of held o row) ++ sides_told (entries_of held o row)
 
+-- the pointers of older checkpoints, those of the oldest first
+abbrev pub pointers_of_sides : (Place → Option Stored) → ℕ → List Side → List (Option Place)
+pointers_of_sides held o sides = flat_map (λ side. pointers_kept (checkpoint_held held o side.place)) sides
+
+-- the pointers of the older checkpoints that an object's row names
+abbrev pub pointers_aside : (Place → Option Stored) → ℕ → Row → List (Option Place)
+pointers_aside held o row = pointers_of_sides held o row.sides
+
+-- Every pointer by which an object's row names data, as often as it does, holes among them: all that it leads to, and behind
+-- them those of its older checkpoints.
+abbrev pub pointers_named : (Place → Option Stored) → ℕ → Row → List (Option Place)
+pointers_named held o row = pointers_of held o row ++ pointers_aside held o row
+
+-- whether a pointer leads to this place
+abbrev pub is_at : Option Place → Place → Bool
+is_at None q = false
+is_at (Some p) q = same_place p q
+
+-- how many of the pointers lead to a place
+abbrev pub times_led : Place → List (Option Place) → ℕ
+times_led q pointers = count_by (λ pointer. is_at pointer q) pointers
+
+-- how many names an object's data block at a place has; 0 where none is held
+abbrev pub named_of : ℕ → Log → Place → ℕ
+named_of o log p = if is_some (of_kind Data o log.held p) then log.named p else 0
+
+-- each data block of an object has just as many names as these pointers that lead to it
+abbrev pub IsNamedBy : ℕ → Log → List (Option Place) → Type 0
+IsNamedBy o log pointers = (p : Place) → named_of o log p ≡ times_led p pointers
+
 -- a pointer is a hole, or leads to a data block of the object
 abbrev pub IsLed : (Place → Option Stored) → ℕ → Option Place → Type 0
 IsLed held o pointer = IfSome pointer (λ p. IsSome (of_kind Data o held p))
@@ -67,10 +99,6 @@ pub record IsObject (held : Place → Option Stored) (o : ℕ) (row : Row) (late
   pub tidy : (t : ℕ) → Tidy (contents_of held) (inode_of held o row t)
   pub pointers : (t : ℕ) → PointersHeld held o (inode_of held o row t)
 
--- no data block has more than one name
-abbrev pub NamesNoneTwice : Log → Type 0
-NamesNoneTwice log = (p : Place) → log.named p ≤ 1
-
 -- each data block of an object of this row that is held is one that a pointer of the row leads to
 abbrev pub DataIsNamed : (Place → Option Stored) → ℕ → Row → Type 0
 DataIsNamed held o row = (p : Place) → IsSome (of_kind Data o held p) → Contains (pointers_of held o row) (Some p)
@@ -79,14 +107,17 @@ DataIsNamed held o row = (p : Place) → IsSome (of_kind Data o held p) → Cont
 abbrev pub HasNothing : (Place → Option Stored) → ℕ → Type 0
 HasNothing held o = (kind : BlockKind) (p : Place) → of_kind kind o held p ≡ None
 
--- Each object that has a row is held, and its row is in order up to the last change; of its data no block is held but
--- those that pointers of the row lead to, and of an object without a row no block at all. A row was changed no more often
--- than places were ever taken: each change takes one. The places that were ever taken and those ahead are fewer than 2^46.
+-- Each object that has a row is held, and its row is in order up to the last change; of its data each block has as many names
+-- as pointers of the row that lead to it, so that none is held but those, and of an object without a row no block at all is.
+-- A row has at most SIDES older checkpoints, and was changed no more often than places were ever taken: each change takes one. The places that were ever taken and
+-- those ahead are fewer than 2^46.
 -- Across rows: of two objects the one with the greater number was made later, and no moment stands in the chains of both.
 pub record IsStore (s : StoreFields) : Type 0 where
   pub objects : (o : ℕ) (row : Row) → row_of s.rows o ≡ Some row → IsObject s.log.held o row s.latest
   pub orderly : (o : ℕ) (row : Row) → row_of s.rows o ≡ Some row → IsOrderly s.log.held o row s.latest
-  pub named : (o : ℕ) (row : Row) → row_of s.rows o ≡ Some row → DataIsNamed s.log.held o row
+  pub names : NamesAreOfData s.log
+  pub counted : (o : ℕ) (row : Row) → row_of s.rows o ≡ Some row → IsNamedBy o s.log (pointers_named s.log.held o row)
+  pub few : (o : ℕ) (row : Row) → row_of s.rows o ≡ Some row → length row.sides ≤ SIDES
   pub nothing : (o : ℕ) → row_of s.rows o ≡ None → HasNothing s.log.held o
   pub stamps : (o : ℕ) (row : Row) → row_of s.rows o ≡ Some row → row.stamp ≤ s.log.spent
   pub bounded : s.log.spent + length s.log.ahead < 2 ^ 46

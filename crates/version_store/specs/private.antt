@@ -1,8 +1,10 @@
 pub mod Turning
 pub mod CheckpointSteps
 pub mod Below
-pub mod Dropping
 pub mod Replacing
 pub mod Beside
 pub mod Relocating
 pub mod Opening
+pub mod Names
+pub mod Recounting
+pub mod Tallying

@@ -1,17 +1,14 @@
-//! Copies of data blocks: appended to new places, and what was copied dropped.
-ghost use Rattle.std.specs.Prelude.{◌≡◌, ℕ, ◌+◌, ◌<◌, ◌≤◌, [], ◌∷◌, length, if◌then◌else◌, List, None};
+//! Copies of data blocks, appended to new places.
+ghost use Rattle.std.specs.Prelude.{◌≡◌, ℕ, ◌+◌, ◌<◌, ◌≤◌, [], ◌∷◌, length, List};
 ghost use Rattle.std.specs.List.{Contains};
 ghost use Rattle.s4_types.specs.Pointer.{Place};
 ghost use Rattle.block_log.specs.Log.{Log};
-ghost use Rattle.block_log.specs.Taken.{TakesPlaces};
-ghost use Rattle.version_store.specs.Store.{NamesNoneTwice};
 ghost use Rattle.version_store.specs.Relocating.{AreCopies, frame_of_copies};
-ghost use Rattle.version_store.specs.private.Relocating.{Appending, stood_at};
+ghost use Rattle.version_store.specs.private.Relocating.{Appending};
 
-use crate::data_blocks::let_go;
 use block_log::laws::{
     an_append_puts_one_block, an_append_takes_one_place, no_change_takes_no_place,
-    one_place_has_one_name, places_taken_add_up, what_is_not_held_has_no_name,
+    one_place_has_one_name, places_taken_add_up,
 };
 use block_log::{Block, BlockKind, Blocks};
 use chain_rewriting::Renaming;
@@ -44,8 +41,6 @@ fn append_copy<B: Blocks>(
 )
     requires object { 1 ≤ object }
     requires room { 0 < length (B.log table.old).ahead }
-    requires once { NamesNoneTwice (B.log table.old) }
-    ensures once { NamesNoneTwice (B.log table.new) }
     ensures appending { (copies rest : List _) (count : ℕ) (before : Log) → Contains copies copy.now
         → Appending object copies before (B.log table.old) renaming.old (copy.now ∷ rest) count
         → Appending object copies before (B.log table.new) renaming.new rest (count + 1) }
@@ -55,8 +50,6 @@ fn append_copy<B: Blocks>(
     an_append_takes_one_place();
     places_taken_add_up();
     moves_are_put_in_one_by_one();
-    what_is_not_held_has_no_name();
-    table.names();
     let Ok(place) = table.append(BlockKind::Data, object, &copy.bytes) else {
         unreachable!()
     };
@@ -72,8 +65,6 @@ pub(crate) fn append_copies<B: Blocks>(
     requires object { 1 ≤ object }
     requires copies { AreCopies (B.log table.old).held object copies.now }
     requires room { length copies.now ≤ length (B.log table.old).ahead }
-    requires once { NamesNoneTwice (B.log table.old) }
-    ensures once { NamesNoneTwice (B.log table.new) }
     ensures appending { Appending object copies.now (B.log table.old) (B.log table.new) result [] (length copies.now) }
 {
     no_change_takes_no_place();
@@ -83,28 +74,4 @@ pub(crate) fn append_copies<B: Blocks>(
         append_copy(table, object, &mut renaming, copy);
     }
     renaming
-}
-
-/// Drops the block that was copied.
-fn drop_copied<B: Blocks>(table: &mut B, copy: &CopiedBlock)
-    requires { NamesNoneTwice (B.log table.old) }
-    ensures once { NamesNoneTwice (B.log table.new) }
-    ensures held { (q : Place) → (B.log table.new).held q ≡ (if stood_at q (copy.now ∷ []) then None else (B.log table.old).held q) }
-    ensures takes { TakesPlaces 0 (B.log table.old) (B.log table.new) }
-{
-    let_go(table, copy.place);
-}
-
-/// Drops each block that was copied.
-pub(crate) fn drop_copies<B: Blocks>(table: &mut B, copies: &[CopiedBlock])
-    requires { NamesNoneTwice (B.log table.old) }
-    ensures once { NamesNoneTwice (B.log table.new) }
-    ensures held { (q : Place) → (B.log table.new).held q ≡ (if stood_at q copies.now then None else (B.log table.old).held q) }
-    ensures takes { TakesPlaces 0 (B.log table.old) (B.log table.new) }
-{
-    no_change_takes_no_place();
-    places_taken_add_up();
-    for copy in copies {
-        drop_copied(table, copy);
-    }
 }

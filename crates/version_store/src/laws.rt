@@ -1,12 +1,16 @@
 //! Laws of stores, for the layers above: each function does nothing, and its contract is the law.
 
-ghost use Rattle.version_store.specs.Laws.{ObjectsStay, InodesStay, VersionsStay, ThePresentStays, AnInodeAtAllMomentsOrNone, ChangesBeginWithThePresent, ChangesBeginWithThePresentVersion, TheAliveAreThere, HeldIsWhatRowsName, EachHeldBlockIsNamed, InodesPointToWhatRowsName};
+ghost use Rattle.version_store.specs.Laws.{ObjectsStay, InodesStay, VersionsStay, ThePresentStays, AnInodeAtAllMomentsOrNone, ChangesBeginWithThePresent, ChangesBeginWithThePresentVersion, TheAliveAreThere, HeldIsWhatRowsName, EachHeldBlockIsNamed, InodesPointToWhatRowsName, RowsHaveFewPointers, PlacesHaveFewNames};
 ghost use Rattle.version_store.specs.Replacing.{AJournalCanBeCut, ACutJournalShowsTheSame};
 ghost use Rattle.version_store.specs.Stamps.{EachStepTells};
+ghost use Rattle.version_store.specs.Tallies.{CountsAreOfRows};
 ghost use Rattle.version_store.specs.private.Below.{ChangesStand};
 
 use block_log::laws::{one_place_has_one_name, places_taken_add_up};
-use checkpoint::laws::{a_checkpoint_has_its_blocks, a_checkpoint_takes_its_blocks};
+use checkpoint::laws::{
+    a_checkpoint_has_its_blocks, a_checkpoint_takes_its_blocks,
+    checkpoints_of_two_moments_share_no_block,
+};
 use inode::laws::{held_pointers_lead, only_its_blocks_matter};
 use journal_chain::packing::laws::{bytes_add_up, few_blocks_are_needed};
 use row_changes::laws::{
@@ -67,6 +71,7 @@ pub fn what_is_held_is_what_rows_name()
     ensures exact { HeldIsWhatRowsName }
     ensures block { EachHeldBlockIsNamed }
 {
+    one_place_has_one_name();
     a_checkpoint_has_its_blocks();
 }
 
@@ -75,6 +80,24 @@ pub fn what_is_held_is_what_rows_name()
 pub fn inodes_point_to_what_rows_name()
     ensures { InodesPointToWhatRowsName }
 {}
+
+/// No row has more than 12,144 pointers that name data, and no data block more names, and what is not data has none: so a count of
+/// names fits 32 bits, and one more does.
+pub fn places_have_few_names()
+    ensures places { PlacesHaveFewNames }
+    ensures rows { RowsHaveFewPointers }
+{}
+
+/// What a table counts for a place is how often the rows of all objects name it: a block of a journal or of a checkpoint once, a
+/// data block once for each pointer of a checkpoint and each side of a triple that leads to it. What is held nowhere is named by
+/// no row.
+pub fn counts_are_of_rows()
+    ensures { CountsAreOfRows }
+{
+    one_place_has_one_name();
+    a_checkpoint_has_its_blocks();
+    checkpoints_of_two_moments_share_no_block();
+}
 
 /// A step of a store lowers no stamp, and where it leaves an object's stamp, it leaves all of the object's blocks. So while
 /// a row has its stamp, its object holds what it held.

@@ -1,5 +1,5 @@
 //! An object's inode at a moment, from what is kept of the object.
-ghost use Rattle.std.specs.Prelude.{◌≡◌, IfSome};
+ghost use Rattle.std.specs.Prelude.{◌≡◌, IsTrue, IsFalse};
 ghost use Rattle.time_read.specs.Caches.{IsTrueOf, AddsTrue};
 ghost use Rattle.time_read.specs.Presents.{IsIndexOf};
 ghost use Rattle.time_read.specs.Rows.{IsRow, entries_of, inode_of, last_inode};
@@ -7,31 +7,36 @@ ghost use Rattle.time_read.specs.Rows.{IsRow, entries_of, inode_of, last_inode};
 use block_log::Blocks;
 use checkpoint::InodeCache;
 use codec::Inode;
-use object_map::Kept;
+use object_map::{Kept, Row};
 use s4_types::{Moment, ObjectId};
 use std::alloc::Global;
 use time_read::{Present, inode_at};
 
-/// The inode of an object at a moment, led to from the nearest checkpoint: none where there is an index, which takes less, or where
-/// the memory for the entries is refused.
-fn inode_unindexed<B: Blocks>(
+/// Makes of an inode the object's at a moment, led to from the nearest checkpoint. False where the memory for the entries is refused;
+/// then the inode is as it was.
+fn lead_from_nearest<B: Blocks>(
     alloc: Global,
     table: &mut B,
     cache: &mut InodeCache,
     object: ObjectId,
-    kept: &Kept<Present>,
+    row: &Row,
     at: Moment,
-) -> Option<Inode>
-    requires row { IsRow (B.log table.old).held object kept.now.row }
-    requires cached { IsTrueOf cache.old.pairs (B.log table.old).held object kept.now.row }
-    ensures inode { IfSome result (λ inode. inode ≡ inode_of (B.log table.old).held object kept.now.row at) }
-    ensures added { AddsTrue (B.log table.old).held object kept.now.row cache.old.pairs cache.new.pairs }
+    inode: &mut Inode,
+) -> bool
+    requires row { IsRow (B.log table.old).held object row.now }
+    requires cached { IsTrueOf cache.old.pairs (B.log table.old).held object row.now }
+    ensures inode { IsTrue result → inode.new ≡ inode_of (B.log table.old).held object row.now at }
+    ensures refused { IsFalse result → inode.new ≡ inode.old }
+    ensures added { AddsTrue (B.log table.old).held object row.now cache.old.pairs cache.new.pairs }
     ensures same { B.log table.new ≡ B.log table.old }
 {
-    if kept.value.index.is_some() {
-        return None;
+    match inode_at(alloc, table, cache, object, row, at) {
+        Ok(found) => {
+            *inode = found;
+            true
+        }
+        Err(_) => false,
     }
-    inode_at(alloc, table, cache, object, &kept.row, at).ok()
 }
 
 /// Makes of an object's inode behind all its entries the one at a moment, in its place: by the index of its entries; or where there
@@ -53,8 +58,12 @@ pub(crate) fn lead_back<B: Blocks>(
     ensures added { AddsTrue (B.log table.old).held object kept.now.row cache.old.pairs cache.new.pairs }
     ensures same { B.log table.new ≡ B.log table.old }
 {
-    if let Some(found) = inode_unindexed(alloc, table, cache, object, kept, at) {
-        *inode = found;
+    // With an index no inode is made beside the one that is led back.
+    if kept.value.index.is_some() {
+        kept.value.lead_back(table, object, &kept.row, at, inode);
+        return;
+    }
+    if lead_from_nearest(alloc, table, cache, object, &kept.row, at, inode) {
         return;
     }
     kept.value.lead_back(table, object, &kept.row, at, inode);

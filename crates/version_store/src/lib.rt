@@ -17,8 +17,11 @@ mod data_blocks;
 pub mod laws;
 mod leading;
 mod named_table;
+mod names;
 mod opened;
+mod recounts;
 mod relocated_blocks;
+mod row_places;
 mod store;
 mod written_anew;
 

@@ -1,17 +1,20 @@
 //! An object's journal and checkpoint, renamed and written at other places together with copies of its data.
 ghost use Rattle.std.specs.Prelude.{◌≡◌, ℕ, ◌≤◌, length, option_map};
 ghost use Rattle.std.specs.List.{All, AllByRecursion};
+ghost use Rattle.s4_types.specs.Pointer.{Place};
 ghost use Rattle.time_read.specs.Journals.{IsJournalOf};
 ghost use Rattle.time_read.specs.Rows.{IsRow, entries_of};
 ghost use Rattle.time_read.specs.Orderly.{IsOrderly};
 ghost use Rattle.chain_rewriting.specs.CleaningLaws.{TellsWithin};
 ghost use Rattle.chain_rewriting.specs.Renaming.{renamed_entries, renamed_inode};
 ghost use Rattle.chain_rewriting.specs.Apart.{HasDistinctPlaces, IsNotNew};
-ghost use Rattle.version_store.specs.Store.{IsLed, NamesNoneTwice, pointers_of};
+ghost use Rattle.version_store.specs.Store.{IsLed, IsNamedBy, pointers_named, pointers_of};
 ghost use Rattle.version_store.specs.Relocating.{AreCopies, blocks_relocated};
-ghost use Rattle.version_store.specs.private.Relocating.{Relocates};
+ghost use Rattle.version_store.specs.private.Relocating.{NamesMove, Relocates};
 
-use crate::copies::{CopiedBlock, append_copies, drop_copies};
+use crate::copies::{CopiedBlock, append_copies};
+use crate::names::drop_copied;
+use crate::recounts::count_renaming;
 use crate::written_anew::move_blocks;
 use block_log::Blocks;
 use block_log::laws::{one_place_has_one_name, places_taken_add_up};
@@ -71,9 +74,11 @@ pub(crate) fn relocate_blocks<B: Blocks>(
     requires journal { IsJournalOf (B.log table.old).held object row.now journal.old }
     requires copies { AreCopies (B.log table.old).held object copies.now }
     requires room { blocks_relocated (B.log table.old).held object row.now copies.now ≤ length (B.log table.old).ahead }
-    requires once { NamesNoneTwice (B.log table.old) }
-    ensures once { NamesNoneTwice (B.log table.new) }
+    requires counted { IsNamedBy object (B.log table.old) (pointers_named (B.log table.old).held object row.now) }
+    requires names { (p : Place) → (B.log table.old).named p ≤ 12144 }
+    requires few { length (pointers_named (B.log table.old).held object row.now) ≤ 12144 }
     ensures moved { Relocates (B.log table.old) object row.now copies.now result.row (B.log table.new) result.renaming }
+    ensures named { NamesMove (B.log table.old) object row.now result.renaming (B.log table.new) }
     ensures entries { journal.new.entries.items ≡ renamed_entries result.renaming (entries_of (B.log table.old).held object row.now) }
 {
     one_place_has_one_name();
@@ -89,10 +94,14 @@ pub(crate) fn relocate_blocks<B: Blocks>(
     a_renamed_chain_takes_as_many_bytes();
     a_renamed_checkpoint_keeps_the_rules();
     renamed_entries_stay_in_order();
+    table.names();
     let renaming = append_copies(table, object, copies);
+    count_renaming(table, object, row, &renaming, journal, copies);
     rename(journal, &renaming);
     let checkpoint = journal.checkpoint.as_ref();
     let row = move_blocks(table, object, row, checkpoint, journal.entries.as_slice());
-    drop_copies(table, copies);
+    table.names();
+    drop_copied(table, copies);
+    table.names();
     Relocated { row, renaming }
 }

@@ -16,12 +16,12 @@ mod frames;
 mod opening;
 mod relocations;
 mod replacements;
+mod tallying;
 mod upkeep;
 
 use crate::laws::{an_object_has_an_inode_at_all_moments_or_at_none, the_present_stays};
 use crate::leading::lead_back;
 use block_log::Blocks;
-use block_log::laws::what_is_not_held_has_no_name;
 use checkpoint::InodeCache;
 use codec::{Entry, Inode};
 use inode::laws::held_pointers_lead;
@@ -39,7 +39,7 @@ pub struct Store<B: Blocks> {
     alloc: Global,
     // The present inode and an index of the journal are kept beside each row, so that neither a change nor a read goes through a journal,
     // unless memory for the index was refused.
-    // An inode takes 672 bytes, its row some 60, the index's own part some 80; with the gaps of the tree these take up to 1,800.
+    // An inode takes 672 bytes, its row some 200, the index's own part some 80; with the gaps of the tree these take up to 1,940.
     // At most 15,300 objects can have a row, each with at least one block of 512 bytes in the table: so at worst this takes
     // four times the memory of the table's blocks, and the indexes' lists as much as the journals at most, but for growth and
     // attributes.
@@ -68,7 +68,7 @@ impl<B: Blocks> Store<B> {
     /// It keeps the inodes of at most `inodes` checkpoints in memory, 1 to `CACHED_INODES`.
     ///
     /// NoMemory alone, where the memory for these is refused; the table is let go then.
-    #[tactic(auto, using(crate::proofs::Once::once_none, crate::proofs::Cached::none_true))]
+    #[tactic(auto, using(crate::proofs::Cached::none_true))]
     pub fn new(alloc: Global, table: B, inodes: usize) -> Result<Self, Refusal>
     where
         B: Drop,
@@ -82,7 +82,6 @@ impl<B: Blocks> Store<B> {
         ensures latest { IfOk result (λ s. s.latest ≡ 0) }
         ensures refusal { IfErr result (λ e. e ≡ NoMemory) }
     {
-        what_is_not_held_has_no_name();
         table.names();
         let cache = InodeCache::new(alloc, inodes)?;
         Ok(Store {

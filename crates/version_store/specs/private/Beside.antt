@@ -11,7 +11,7 @@ use Rattle.object_map.specs.Rows.{row_of}
 use Rattle.time_read.specs.Caches.{HasInode}
 use Rattle.time_read.specs.declared.presents.Present.{Present}
 use Rattle.time_read.specs.Presents.{KeepsIndexOf}
-use Rattle.version_store.specs.Store.{StoreFields, NamesNoneTwice}
+use Rattle.version_store.specs.Store.{StoreFields}
 use Rattle.version_store.specs.Versions.{inode_in, entries_of_object}
 
 -- the inode beside an object's row
@@ -30,10 +30,9 @@ pub record IsTruePair (held : Place → Option Stored) (rows : List (ℕ × Row)
 abbrev pub IsTrueCache : (Place → Option Stored) → List (ℕ × Row) → List (CacheKey × Inode) → Type 0
 IsTrueCache held rows pairs = (e : CacheKey × Inode) → Contains pairs e → IsTruePair held rows e
 
--- Beside the row of each object stands its present inode, and an index, if there is one, of the entries of its journal. Each data
--- block has one name in the table at most, so that a drop lets it go. What is kept of inodes of checkpoints is true of the rows.
+-- Beside the row of each object stands its present inode, and an index, if there is one, of the entries of its journal.
+-- What is kept of inodes of checkpoints is true of the rows.
 pub record IsBeside (values : List (ℕ × Present)) (pairs : List (CacheKey × Inode)) (s : StoreFields) : Type 0 where
   pub inodes : (o : ℕ) → inode_beside values o ≡ inode_in s o s.latest
   pub indexes : (o : ℕ) → KeepsIndexOf (value_of values o) (entries_of_object s o)
-  pub once : NamesNoneTwice s.log
   pub cached : IsTrueCache s.log.held s.rows pairs

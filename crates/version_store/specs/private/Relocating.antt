@@ -1,10 +1,10 @@
 -- What is appended for copies, and what becomes of an object's blocks. No public clause cites this file.
-use Rattle.std.specs.Prelude.{◌≡◌, ◌⊎◌, ◌↔◌, ◌==◌, if◌then◌else◌, ℕ, suc, Bool, true, List, [], length, take, Option, Some, None, IsSome, MatchOption, option_map}
+use Rattle.std.specs.Prelude.{◌≡◌, ◌⊎◌, ◌↔◌, ◌==◌, if◌then◌else◌, ℕ, suc, Bool, true, false, ◌+◌, List, [], length, map, take, Option, Some, None, IsSome, MatchOption, option_map}
 use Rattle.std.specs.List.{Contains, list_any}
 use Rattle.s4_types.specs.Pointer.{Place}
 use Rattle.s4_types.specs.declared.limits.TheConstants.{PAYLOAD_BLOCKS}
 use Rattle.block_log.specs.declared.kinds.BlockKind.TheVariants.{Journal, Checkpoint, Data}
-use Rattle.block_log.specs.Log.{Log, Stored, of_kind, same_place}
+use Rattle.block_log.specs.Log.{Log, NamesAreOfData, Stored, of_kind, same_place}
 use Rattle.block_log.specs.Taken.{TakesPlaces}
 use Rattle.checkpoint.specs.Held.{of_checkpoints}
 use Rattle.codec.specs.Entry.{EntryFields, entries_length}
@@ -16,10 +16,10 @@ use Rattle.time_read.specs.Orderly.{BeginsDead, IsFromTo, IsOrderlyChain, IsOrde
 use Rattle.row_changes.specs.Moving.{checkpoint_with, first_with, moved_blocks}
 use Rattle.row_changes.specs.Rewritten.{OnlyMetadataChanged}
 use Rattle.inode.specs.Growth.{data_block}
-use Rattle.chain_rewriting.specs.Renaming.{RenamingFields, move_of, new_place, renamed_entries, renamed_inode}
+use Rattle.chain_rewriting.specs.Renaming.{RenamingFields, move_of, new_place, renamed_slot, renamed_entries, renamed_inode}
 use Rattle.chain_rewriting.specs.Apart.{HasDistinctPlaces}
 use Rattle.version_store.specs.declared.copies.CopiedBlock.{CopiedBlock}
-use Rattle.version_store.specs.Store.{StoreFields, IsStore}
+use Rattle.version_store.specs.Store.{IsNamedBy, StoreFields, IsStore, named_of, pointers_of, times_led}
 use Rattle.version_store.specs.Versions.{inode_in, version_in}
 use Rattle.version_store.specs.Replacing.{OnlyDataChanged, OtherObjectsStay}
 use Rattle.version_store.specs.Relocating.{IsCopied, IsRelocated, blocks_relocated, frame_of_copies, with_moves, renaming_by, renamed_checkpoint, blocks_ascend_from}
@@ -61,6 +61,7 @@ pub record Appending (o : ℕ) (copies : List CopiedBlock) (before now : Log) (r
   pub generation : r.generation ≡ (frame_of_copies copies).generation
   pub size : length r.moves ≡ PAYLOAD_BLOCKS
   pub distinct : HasDistinctPlaces r
+  pub named : (q : Place) → now.named q ≡ times_led q r.moves + before.named q
   pub fresh : (n : ℕ) (q : Place) → move_of r n ≡ Some q → before.held q ≡ None
   pub there : (n : ℕ) (q : Place) → move_of r n ≡ Some q → IsCopyAt o copies now n q
   pub each : (c : CopiedBlock) → Contains copies c → IsSome (move_of r c.place.block) ⊎ Contains rest c
@@ -68,6 +69,12 @@ pub record Appending (o : ℕ) (copies : List CopiedBlock) (before now : Log) (r
   pub below : (n : ℕ) (q : Place) → move_of r n ≡ Some q → blocks_ascend_from (suc n) rest ≡ true
   pub low : ℕ
   pub ascending : blocks_ascend_from low rest ≡ true
+
+-- An object's data has the names that its row's pointers give once they are renamed; that of all other objects those that it had.
+pub record NamesMove (before : Log) (o : ℕ) (row : Row) (r : RenamingFields) (later : Log) : Type 0 where
+  pub names : NamesAreOfData later
+  pub here : IsNamedBy o later (map (renamed_slot r) (pointers_of before.held o row))
+  pub beside : (q : ℕ) (p : Place) → (o == q) ≡ false → named_of q later p ≡ named_of q before p
 
 -- whether one of these blocks stood at the place
 abbrev pub stood_at : Place → List CopiedBlock → Bool

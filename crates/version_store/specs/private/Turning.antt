@@ -1,11 +1,10 @@
 -- What one change leaves of a whole store. No public clause cites this file.
-use Rattle.std.specs.Prelude.{◌≡◌, ◌⊎◌, ℕ, ◌+◌, ◌^◌, ◌<◌, ◌≤◌, ◌==◌, ◌&&◌, ◌||◌, true, false, nat_le, if◌then◌else◌, length, Some, None, IsSome, is_some}
+use Rattle.std.specs.Prelude.{◌≡◌, ◌⊎◌, ℕ, ◌+◌, ◌^◌, ◌<◌, ◌≤◌, ◌==◌, ◌&&◌, ◌||◌, true, false, nat_le, if◌then◌else◌, List, length, Option, Some, None, is_some}
 use Rattle.std.specs.List.{Contains, AllByRecursion}
 use Rattle.s4_types.specs.Pointer.{Place}
-use Rattle.s4_types.specs.declared.limits.TheConstants.{JOURNAL_ENTRY_BYTES}
+use Rattle.s4_types.specs.declared.limits.TheConstants.{JOURNAL_ENTRY_BYTES, OBJECT_BLOCKS, SIDES}
 use Rattle.s4_types.specs.declared.changes.Change.{Change}
-use Rattle.block_log.specs.declared.kinds.BlockKind.TheVariants.{Data}
-use Rattle.block_log.specs.Log.{of_kind}
+use Rattle.block_log.specs.Log.{NamesAreOfData}
 use Rattle.block_log.specs.Taken.{TakesPlaces}
 use Rattle.codec.specs.Checkpoint.{pointer_at}
 use Rattle.codec.specs.declared.inodes.Inode.{Inode}
@@ -18,7 +17,7 @@ use Rattle.time_read.specs.Rows.{chain_of, inode_of}
 use Rattle.time_read.specs.Orderly.{IsOrderly}
 use Rattle.inode.specs.Contents.{contents_of, meaning}
 use Rattle.inode.specs.Tidiness.{Tidy, PointersHeld}
-use Rattle.version_store.specs.Store.{StoreFields, IsStore, IsObject, HasNothing, pointers_of}
+use Rattle.version_store.specs.Store.{StoreFields, IsStore, IsObject, HasNothing, pointers_named, times_led, named_of}
 use Rattle.version_store.specs.Across.{MakingsAscend, ChainsShareNoMoment}
 use Rattle.version_store.specs.Versions.{version_in, version_taken}
 use Rattle.version_store.specs.Costs.{subject_row, subject_inode, sizes_by, blocks_taken, change_refusal}
@@ -38,12 +37,20 @@ pub record CanTake (s : StoreFields) (change : Change) (m : ℕ) (present : Inod
 abbrev pub LeadsTo : Inode → Place → Type 0
 LeadsTo i p = (k : ℕ) × (pointer_at i k ≡ Some p)
 
--- A store, but that the row of one object may not be in order yet, and that data of it may be held which nothing names yet:
--- this inode, its next one, leads there.
-pub record IsOpenFor (o : ℕ) (i : Inode) (s : StoreFields) : Type 0 where
+-- the names that pointers beside the rows give to a place in the data of their object, and none in that of another
+abbrev pub times_given : ℕ → ℕ → List (Option Place) → Place → ℕ
+times_given o q hand p = if o == q then times_led p hand else 0
+
+-- A store, but that the row of one object may not be in order yet, and that data of it may have names that no row gives it yet:
+-- these pointers do, to which this inode, its next one, leads.
+pub record IsOpenFor (o : ℕ) (i : Inode) (hand : List (Option Place)) (s : StoreFields) : Type 0 where
   pub objects : (q : ℕ) (row : Row) → row_of s.rows q ≡ Some row → IsObject s.log.held q row s.latest
   pub orderly : (q : ℕ) (row : Row) → (o == q) ≡ false → row_of s.rows q ≡ Some row → IsOrderly s.log.held q row s.latest
-  pub named : (q : ℕ) (row : Row) → row_of s.rows q ≡ Some row → (p : Place) → IsSome (of_kind Data q s.log.held p) → Contains (pointers_of s.log.held q row) (Some p) ⊎ ((o ≡ q) × LeadsTo i p)
+  pub names : NamesAreOfData s.log
+  pub counted : (q : ℕ) (row : Row) → row_of s.rows q ≡ Some row → (p : Place) → named_of q s.log p ≡ times_led p (pointers_named s.log.held q row) + times_given o q hand p
+  pub few : (q : ℕ) (row : Row) → row_of s.rows q ≡ Some row → length row.sides ≤ SIDES
+  pub led : (p : Place) → Contains hand (Some p) → LeadsTo i p
+  pub short : length hand ≤ OBJECT_BLOCKS
   pub nothing : (q : ℕ) → row_of s.rows q ≡ None → HasNothing s.log.held q
   pub stamps : (q : ℕ) (row : Row) → row_of s.rows q ≡ Some row → row.stamp ≤ s.log.spent
   pub bounded : s.log.spent + length s.log.ahead < 2 ^ 46
@@ -53,8 +60,8 @@ pub record IsOpenFor (o : ℕ) (i : Inode) (s : StoreFields) : Type 0 where
 -- An object can have another inode from a moment on: it has a row, the first inode is its present one, entries of the
 -- moment lead from it to the next one, which is tidy, and there is room for them. Either the row is that of an object made
 -- at the moment, or it is in order and the first inode is live.
-pub record CanTurn (s : StoreFields) (o : ℕ) (i j : Inode) (m : ℕ) : Type 0 where
-  pub store : IsOpenFor o j s
+pub record CanTurn (s : StoreFields) (o : ℕ) (i j : Inode) (hand : List (Option Place)) (m : ℕ) : Type 0 where
+  pub store : IsOpenFor o j hand s
   pub later : s.latest < m
   pub row : Row
   pub there : row_of s.rows o ≡ Some row

@@ -1,5 +1,5 @@
 //! A change of an object, from the count of what it takes to its row.
-ghost use Rattle.std.specs.Prelude.{◌≡◌, ◌⊎◌, ℕ, ◌<◌, ◌≤◌, ◌==◌, ◌||◌, Some, None, IfOk, IfErr, OnOk, OnErr, MatchResult, is_some, length, sum};
+ghost use Rattle.std.specs.Prelude.{◌≡◌, ◌⊎◌, ℕ, ◌+◌, ◌<◌, ◌≤◌, ◌==◌, ◌||◌, Some, None, IfOk, IfErr, OnOk, OnErr, MatchResult, is_some, length, take, drop, sum};
 ghost use Rattle.s4_types.specs.declared.changes.Change.TheVariants.{Create, Delete, Write, Truncate, SetAttr};
 ghost use Rattle.s4_types.specs.declared.refusals.Refusal.TheVariants.{NoMemory};
 ghost use Rattle.undo_redo.specs.Runs.{blank};
@@ -17,15 +17,18 @@ ghost use Rattle.version_store.specs.private.Turning.{CanTake, CanTurn, Turns, I
 
 use crate::costs::{bytes_of_entries, object_of};
 use crate::laws::{changes_begin_with_the_present, what_changes_rest_on};
+use crate::recounts::count_change;
 use crate::store::Store;
 use block_log::Blocks;
-use block_log::laws::what_is_not_held_has_no_name;
 use codec::{Attribute, Inode};
-use inode::{created, deleted, truncate, with_attribute, write};
+use inode::{
+    blocks_of_truncate, blocks_of_write, created, deleted, truncate, with_attribute, write,
+};
 use object_map::Row;
 use row_changes::laws::a_fresh_row_stands;
 use row_changes::record_change;
-use s4_types::{Change, Moment, ObjectId, Refusal};
+use s4_types::limits::BLOCK_BYTES;
+use s4_types::{Change, Moment, ObjectId, Ptr, Refusal};
 use time_read::{Present, UndoIndex, turn_beside};
 use undo_redo::laws::a_blank_inode_has_holes_alone;
 use undo_redo::{EntriesBetween, blank};
@@ -36,6 +39,15 @@ fn attribute_of(bytes: &[u8]) -> Attribute
     ensures { result ≡ bytes.now }
 {
     Attribute::new(bytes).unwrap()
+}
+
+/// The pointers of an inode to the blocks that were appended for it: so many from an index on.
+fn appended(inode: &Inode, first: usize, count: usize) -> &[Option<Ptr>]
+    requires { first + count ≤ length inode.now.pointers }
+    ensures { result.now ≡ take count (drop first inode.now.pointers) }
+{
+    let pointers = &inode.pointers[..];
+    &pointers[first..first + count]
 }
 
 /// What a change of an object begins with: its present row and inode, and a fresh row and the blank inode of the change's moment where
@@ -111,9 +123,16 @@ impl<B: Blocks> Store<B> {
     }
 
     /// From a moment on an object has another inode: the entries that lead there are appended to its journal, and its row is
-    /// changed.
-    fn turn(&mut self, object: ObjectId, plan: &PlannedChange, after: &Inode, moment: Moment)
-        requires can { CanTurn (fields_of B.log self.old) object plan.now.inode after.now moment }
+    /// changed. Data blocks that were appended for it have the names of these pointers, which go once the journal gives them names.
+    fn turn(
+        &mut self,
+        object: ObjectId,
+        plan: &PlannedChange,
+        after: &Inode,
+        hand: &[Option<Ptr>],
+        moment: Moment,
+    )
+        requires can { CanTurn (fields_of B.log self.old) object plan.now.inode after.now hand.now moment }
         requires row { row_of self.old.rows object ≡ Some plan.now.row }
         requires bytes { plan.now.bytes ≡ entries_length (entries_between plan.now.inode after.now moment) }
         ensures { Turns (fields_of B.log self.old) object moment after.now (blocks_turned (fields_of B.log self.old) object plan.now.inode after.now moment) (fields_of B.log self.new) }
@@ -130,6 +149,7 @@ impl<B: Blocks> Store<B> {
             &entries,
             plan.bytes,
         );
+        count_change(&mut self.table, object, &entries, hand);
         turn_beside(&mut self.objects, object, &next, after, &entries);
         self.latest = moment;
     }
@@ -143,7 +163,7 @@ impl<B: Blocks> Store<B> {
     {
         what_changes_rest_on();
         let after = deleted(&plan.inode);
-        self.turn(object, plan, &after, moment);
+        self.turn(object, plan, &after, &[], moment);
     }
 
     /// Takes a change of the attribute.
@@ -162,7 +182,7 @@ impl<B: Blocks> Store<B> {
         what_changes_rest_on();
         let attribute = attribute_of(attribute);
         let after = with_attribute(&plan.inode, attribute, moment);
-        self.turn(object, plan, &after, moment);
+        self.turn(object, plan, &after, &[], moment);
     }
 
     /// Takes a write.
@@ -180,10 +200,11 @@ impl<B: Blocks> Store<B> {
         ensures { IsTaken (fields_of B.log self.old) (Write object offset bytes.now) moment plan.now.inode (fields_of B.log self.new) }
     {
         what_changes_rest_on();
-        what_is_not_held_has_no_name();
-        self.table.names();
         let after = write(&mut self.table, object, &plan.inode, moment, offset, bytes);
-        self.turn(object, plan, &after, moment);
+        self.table.names();
+        let first = offset as usize / BLOCK_BYTES;
+        let hand = appended(&after, first, blocks_of_write(offset, bytes.len()));
+        self.turn(object, plan, &after, hand, moment);
     }
 
     /// Takes a truncation.
@@ -194,10 +215,11 @@ impl<B: Blocks> Store<B> {
         ensures { IsTaken (fields_of B.log self.old) (Truncate object size) moment plan.now.inode (fields_of B.log self.new) }
     {
         what_changes_rest_on();
-        what_is_not_held_has_no_name();
-        self.table.names();
         let after = truncate(&mut self.table, object, &plan.inode, moment, size as u32);
-        self.turn(object, plan, &after, moment);
+        self.table.names();
+        let first = size as usize / BLOCK_BYTES;
+        let hand = appended(&after, first, blocks_of_truncate(&plan.inode, size as u32));
+        self.turn(object, plan, &after, hand, moment);
     }
 
     /// Gives an object its first row, and its inode beside it. NoMemory where they couldn't be stored; then nothing has changed.
@@ -238,7 +260,7 @@ impl<B: Blocks> Store<B> {
         let attribute = attribute_of(attribute);
         self.add_object(object, &plan.inode, moment)?;
         let after = created(attribute, moment);
-        self.turn(object, plan, &after, moment);
+        self.turn(object, plan, &after, &[], moment);
         Ok(())
     }
 

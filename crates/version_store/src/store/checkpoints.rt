@@ -9,6 +9,7 @@ ghost use Rattle.version_store.specs.Checkpointing.{last_entry, is_behind, check
 ghost use Rattle.version_store.specs.private.CheckpointSteps.{CanCheckpoint, Checkpointed};
 
 use crate::laws::what_changes_rest_on;
+use crate::recounts::{count_checkpoint, inode_gone};
 use crate::store::Store;
 use block_log::Blocks;
 use checkpoint::checkpoint_blocks;
@@ -60,9 +61,11 @@ impl<B: Blocks> Store<B> {
         ensures { Checkpointed (fields_of B.log self.old) object row.now (fields_of B.log self.new) }
     {
         what_changes_rest_on();
+        let gone = inode_gone(&mut self.table, object, row);
         let Ok(next) = record_checkpoint(&mut self.table, object, row, inode, moment) else {
             unreachable!()
         };
+        count_checkpoint(&mut self.table, object, inode, gone.as_ref());
         self.objects.change_row(object, &next);
     }
 

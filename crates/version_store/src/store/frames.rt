@@ -123,6 +123,14 @@ impl<J: Naming> OverFrames for Store<NamedTable<J>> {
         self.table.table.generation(frame)
     }
 
+    fn name_count(&self, frame: u16, block: u8) -> u32 {
+        self.table.table.name_count(frame, block)
+    }
+
+    fn held_count(&self, frame: u16) -> u8 {
+        self.table.table.held_count(frame)
+    }
+
     fn state_word(&mut self, frame: u16) -> u64 {
         self.table.table.state_word(frame)
     }

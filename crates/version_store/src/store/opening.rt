@@ -3,7 +3,7 @@ ghost use Rattle.std.specs.Prelude.{◌≡◌, IfOk, IfErr};
 ghost use Rattle.std.specs.List.{All};
 ghost use Rattle.s4_types.specs.declared.refusals.Refusal.TheVariants.{NoMemory};
 ghost use Rattle.version_store.specs.Opening.{numbers_opened, rows_opened, NumbersAscend, FitsItsRow};
-ghost use Rattle.version_store.specs.Store.{fields_of, IsStore, NamesNoneTwice};
+ghost use Rattle.version_store.specs.Store.{fields_of, IsStore};
 
 use crate::opened::{OpenedObject, map_of};
 use crate::store::Store;
@@ -13,8 +13,8 @@ use s4_types::{Moment, Refusal};
 use std::alloc::Global;
 
 impl<B: Blocks> Store<B> {
-    /// A store of the objects whose blocks a table holds, as they were up to the moment of the last change. No data block has more
-    /// than one name in the table, since the store gives none a second one.
+    /// A store of the objects whose blocks a table holds, as they were up to the moment of the last change. In the table each data
+    /// block has as many names as the rows give it.
     ///
     /// NoMemory alone, where memory for the rows, or for the inodes that are kept of checkpoints, is refused; the table is let go then.
     pub fn from_parts(
@@ -28,7 +28,6 @@ impl<B: Blocks> Store<B> {
         requires ascending { NumbersAscend (numbers_opened objects.items) }
         requires beside { All (FitsItsRow (B.log table).held latest) objects.items }
         requires store { IsStore (record { rows = rows_opened objects.items; log = B.log table; latest = latest }) }
-        requires once { NamesNoneTwice (B.log table) }
         ensures rows { IfOk result (λ s. s.rows ≡ rows_opened objects.items) }
         ensures table { IfOk result (λ s. s.table ≡ table) }
         ensures latest { IfOk result (λ s. s.latest ≡ latest) }

@@ -1,20 +1,19 @@
 //! The removal of an object's row, and its replacement by one with another journal.
 ghost use Rattle.std.specs.Prelude.{◌≡◌, ◌⊎◌, ℕ, ◌<◌, ◌≤◌, ◌==◌, if◌then◌else◌, None, Some, IsSome, IfSome, IfOk, IfErr, OnOk, OnErr, MatchResult, length};
-ghost use Rattle.s4_types.specs.Pointer.{Place};
 ghost use Rattle.s4_types.specs.declared.refusals.Refusal.TheVariants.{NoMemory, NoRoom};
 ghost use Rattle.s4_types.specs.declared.versions.Version.TheVariants.{Absent};
 ghost use Rattle.inode.specs.Contents.{contents_of, meaning};
 ghost use Rattle.object_map.specs.Rows.{row_of};
-ghost use Rattle.time_read.specs.Rows.{IsRow};
+ghost use Rattle.time_read.specs.Rows.{IsRow, entries_of};
 ghost use Rattle.version_store.specs.Store.{fields_of, IsStore, pointers_of};
-ghost use Rattle.version_store.specs.Versions.{inode_in, version_in};
-ghost use Rattle.version_store.specs.Replacing.{CanReplace, IsRemoved, IsReplaced, inode_led, pointers_told};
+ghost use Rattle.version_store.specs.Versions.{entries_of_object, inode_in, version_in};
+ghost use Rattle.version_store.specs.Replacing.{CanReplace, IsRemoved, IsReplaced, inode_led};
 ghost use Rattle.row_changes.specs.Rewritten.{rewritten_blocks};
-ghost use Rattle.version_store.specs.private.Dropping.{leads_to, is_among};
 ghost use Rattle.version_store.specs.private.Replacing.{Removes, Replaces};
 
-use crate::data_blocks::{drop_all, drop_data, places_told, pointers_of};
+use crate::data_blocks::{drop_all, pointers_by};
 use crate::laws::what_changes_rest_on;
+use crate::recounts::count_replacement;
 use crate::store::Store;
 use crate::store::checkpoints::last_entry;
 use crate::written_anew::rewrite_blocks;
@@ -23,31 +22,26 @@ use codec::{Entry, Inode};
 use object_map::Row;
 use row_changes::rewritten_blocks;
 use s4_types::{ObjectId, Ptr, Refusal};
-use std::collections::HashSet;
 use time_read::{Present, index_of};
 use undo_redo::laws::{a_run_has_one_end_and_one_beginning, the_inode_at_a_moment};
 
 impl<B: Blocks> Store<B> {
-    /// All pointers to data that an object's row leads to.
+    /// All pointers to data that an object's row leads to, by these entries, which are those of its journal.
     ///
-    /// NoMemory alone, where the memory for them or for the entries of its journal is refused.
-    fn pointers(&mut self, object: ObjectId, row: &Row) -> Result<Vec<Option<Ptr>>, Refusal>
-        requires { IsRow (B.log self.old.table).held object row.now }
+    /// NoMemory alone, where the memory for them is refused.
+    fn pointers(
+        &mut self,
+        object: ObjectId,
+        row: &Row,
+        entries: &[Entry],
+    ) -> Result<Vec<Option<Ptr>>, Refusal>
+        requires row { IsRow (B.log self.old.table).held object row.now }
+        requires entries { entries.now ≡ entries_of (B.log self.old.table).held object row.now }
         ensures pointers { IfOk result (λ pointers. pointers.items ≡ pointers_of (B.log self.old.table).held object row.now) }
         ensures refusal { IfErr result (λ e. e ≡ NoMemory) }
         ensures same { fields_of B.log self.new ≡ fields_of B.log self.old }
     {
-        pointers_of(self.alloc, &mut self.table, object, row)
-    }
-
-    /// The set of places that an inode leads to, or either pointer of a triple of entries.
-    ///
-    /// NoMemory alone, where the memory for the pointers or for the set is refused.
-    fn places(&self, inode: &Inode, entries: &[Entry]) -> Result<HashSet<Ptr>, Refusal>
-        ensures places { IfOk result (λ places. (p : Place) → is_among p places.keys ≡ leads_to p (pointers_told inode.now entries.now)) }
-        ensures refusal { IfErr result (λ e. e ≡ NoMemory) }
-    {
-        places_told(self.alloc, &inode.pointers, entries)
+        pointers_by(self.alloc, &mut self.table, object, row, entries)
     }
 
     /// An object that has this row, which leads to its data by these pointers, has neither row nor block any more.
@@ -58,17 +52,19 @@ impl<B: Blocks> Store<B> {
         ensures { Removes (fields_of B.log self.old) object (fields_of B.log self.new) }
     {
         what_changes_rest_on();
-        drop_all(self.alloc, &mut self.table, object, row, pointers);
+        drop_all(&mut self.table, object, row, pointers);
         self.objects.remove(object);
         self.cache.clear();
     }
 
     /// An object's row goes, if it has one, and with it its journal, its checkpoints and its data: no block of the object is held
-    /// any more. All other objects are as they were, and no place is taken.
+    /// any more. All other objects are as they were, and no place is taken. Its entries are those of [`Store::entries`]: they tell
+    /// which data goes, so that the journal isn't read again.
     ///
     /// NoMemory alone, where the memory for the list of its data blocks is refused; then nothing has changed.
-    pub fn remove(&mut self, object: ObjectId) -> Result<(), Refusal>
-        requires { IsStore (fields_of B.log self.old) }
+    pub fn remove(&mut self, object: ObjectId, entries: &[Entry]) -> Result<(), Refusal>
+        requires store { IsStore (fields_of B.log self.old) }
+        requires entries { entries.now ≡ entries_of_object (fields_of B.log self.old) object }
         ensures store { IsStore (fields_of B.log self.new) }
         ensures removed { OnOk result (IsRemoved (fields_of B.log self.old) object (fields_of B.log self.new)) }
         ensures inodes { OnOk result ((q t : ℕ) → inode_in (fields_of B.log self.new) q t ≡ (if object == q then None else inode_in (fields_of B.log self.old) q t)) }
@@ -79,13 +75,13 @@ impl<B: Blocks> Store<B> {
         let Some(row) = self.row(object) else {
             return Ok(());
         };
-        let pointers = self.pointers(object, &row)?;
+        let pointers = self.pointers(object, &row, entries)?;
         self.forget(object, &row, pointers.as_slice());
         Ok(())
     }
 
-    /// An object's data blocks that these pointers lead to are dropped, but for those that are kept, and its journal and its
-    /// checkpoint are written afresh, where there is room for them.
+    /// An object's data has the names of this inode and these entries, and no more those of its row, which leads to it by these
+    /// pointers; and its journal and its checkpoint are written afresh, where there is room for them.
     fn put_replacement(
         &mut self,
         object: ObjectId,
@@ -93,13 +89,11 @@ impl<B: Blocks> Store<B> {
         present: &Inode,
         entries: &[Entry],
         pointers: &[Option<Ptr>],
-        kept: &HashSet<Ptr>,
     )
         requires store { IsStore (fields_of B.log self.old) }
         requires row { row_of self.old.rows object ≡ Some row.now }
         requires can { CanReplace (fields_of B.log self.old) object row.now present.now entries.now }
         requires pointers { pointers.now ≡ pointers_of (B.log self.old.table).held object row.now }
-        requires kept { (p : Place) → is_among p kept.now.keys ≡ leads_to p (pointers_told present.now entries.now) }
         requires room { rewritten_blocks present.now entries.now ≤ length (B.log self.old.table).ahead }
         ensures { Replaces (fields_of B.log self.old) object row.now present.now entries.now (fields_of B.log self.new) }
     {
@@ -107,8 +101,9 @@ impl<B: Blocks> Store<B> {
         the_inode_at_a_moment();
         a_run_has_one_end_and_one_beginning();
         let moment = last_entry(&mut self.table, object, row);
-        drop_data(&mut self.table, object, pointers, kept);
+        count_replacement(&mut self.table, object, row, pointers, present, entries);
         let next = rewrite_blocks(&mut self.table, object, row, present, moment, entries);
+        self.table.names();
         let beside = Present {
             inode: *present,
             index: index_of(self.alloc, entries),
@@ -121,39 +116,42 @@ impl<B: Blocks> Store<B> {
         &mut self,
         object: ObjectId,
         row: &Row,
+        before: &[Entry],
         present: &Inode,
         entries: &[Entry],
     ) -> Result<(), Refusal>
         requires store { IsStore (fields_of B.log self.old) }
         requires row { row_of self.old.rows object ≡ Some row.now }
+        requires before { before.now ≡ entries_of (B.log self.old.table).held object row.now }
         requires can { CanReplace (fields_of B.log self.old) object row.now present.now entries.now }
         requires room { rewritten_blocks present.now entries.now ≤ length (B.log self.old.table).ahead }
         ensures replaced { OnOk result (Replaces (fields_of B.log self.old) object row.now present.now entries.now (fields_of B.log self.new)) }
         ensures refusal { IfErr result (λ e. e ≡ NoMemory) }
         ensures unchanged { OnErr result (fields_of B.log self.new ≡ fields_of B.log self.old) }
     {
-        let pointers = self.pointers(object, row)?;
-        let kept = self.places(present, entries)?;
-        self.put_replacement(object, row, present, entries, pointers.as_slice(), &kept);
+        let pointers = self.pointers(object, row, before)?;
+        self.put_replacement(object, row, present, entries, pointers.as_slice());
         Ok(())
     }
 
-    /// An object's journal becomes these entries, the oldest first, and its present inode this one, which is written as its
-    /// checkpoint with the moment of the last entry that stood. Its older checkpoints, and its data blocks that nothing of the new row
-    /// leads to, are dropped. So at each moment the object's inode is the one that the entries lead to, with the bytes that its blocks had.
-    /// All other objects are as they were, and the moment of the last change stays.
+    /// An object's journal, which has the entries `before`, becomes these entries, the oldest first, and its present inode this
+    /// one, which is written as its checkpoint with the moment of the last entry that stood. Its older checkpoints, and its data
+    /// blocks that nothing of the new row leads to, are dropped. So at each moment the object's inode is the one that the entries
+    /// lead to, with the bytes that its blocks had. All other objects are as they were, and the moment of the last change stays.
     ///
     /// NoRoom exactly where fewer places are ahead than the checkpoint and the entries take; else NoMemory alone, where the
-    /// memory for the lists of data blocks is refused. Then nothing has changed. It takes time in proportion to the old
-    /// entries and the new ones.
+    /// memory for the list of data blocks is refused. Then nothing has changed. It takes time in proportion to the old
+    /// entries and the new ones, and doesn't read the old ones again: `before` is what [`Store::entries`] gives.
     pub fn replace(
         &mut self,
         object: ObjectId,
+        before: &[Entry],
         present: &Inode,
         entries: &[Entry],
     ) -> Result<(), Refusal>
         requires store { IsStore (fields_of B.log self.old) }
         requires some { IsSome (row_of self.old.rows object) }
+        requires before { before.now ≡ entries_of_object (fields_of B.log self.old) object }
         requires can { IfSome (row_of self.old.rows object) (λ row. CanReplace (fields_of B.log self.old) object row present.now entries.now) }
         ensures store { IsStore (fields_of B.log self.new) }
         ensures replaced { OnOk result (IfSome (row_of self.old.rows object) (λ row. IsReplaced (fields_of B.log self.old) object row present.now entries.now (fields_of B.log self.new))) }
@@ -171,6 +169,6 @@ impl<B: Blocks> Store<B> {
         let Some(row) = self.row(object) else {
             unreachable!()
         };
-        self.replace_row(object, &row, present, entries)
+        self.replace_row(object, &row, before, present, entries)
     }
 }

@@ -3,27 +3,19 @@ use Rattle.inode.specs.Growth.{data_block}
 use Rattle.chain_rewriting.specs.Renaming.{RenamingFields, with_move}
 use Rattle.version_store.specs.private.Relocating.{Appending}
 use Rattle.version_store.proofs.Appending.{one_copied}
-use Rattle.version_store.proofs.Once.{once_put}
 use Rattle.version_store.proofs.copies.append_copy.Goals as goal
 
-pub returns-clause-once : goal.returns-clause-once
-returns-clause-once g c =
-    let log = g.B.Blocks.log in
-    let now = log c.args.table.now in
-    let after = log c.append.new.self in
-    let block = data_block c.args.object c.args.copy.now.bytes in
-    once_put c.what_is_not_held_has_no_name.ensures c.one_place_has_one_name.ensures now after c.args.object c.args.copy.now.bytes c.in-Ok.place
-    (c.an_append_puts_one_block.ensures now after block c.in-Ok.place c.in-Ok.ensures.appended c.in-Ok.ensures.fresh) c.names.ensures c.requires.once
-
-pub returns-clause-appending : goal.returns-clause-appending
-returns-clause-appending g c = λ copies rest count before among a.
-    let log = g.B.Blocks.log in
-    let o = c.args.object in
-    let copy = c.args.copy.now in
-    let now = log c.args.table.now in
-    let after = log c.append.new.self in
-    let block = data_block o copy.bytes in
-    subst (λ (r : RenamingFields). Appending o copies before after r rest (count + 1)) (sym c.insert.ensures.exact)
-    (subst (λ (b : ℕ). Appending o copies before after (with_move c.args.renaming.now b c.in-Ok.place) rest (count + 1)) (sym c.block.ensures.block)
-    (one_copied c.one_place_has_one_name.ensures c.places_taken_add_up.ensures c.moves_are_put_in_one_by_one.ensures.more c.moves_are_put_in_one_by_one.ensures.distinct o copies before now after c.args.renaming.now copy rest count c.in-Ok.place
-    c.block.ensures.range (c.an_append_puts_one_block.ensures now after block c.in-Ok.place c.in-Ok.ensures.appended c.in-Ok.ensures.fresh) (c.an_append_takes_one_place.ensures now after block c.in-Ok.place c.in-Ok.ensures.appended) among a))
+pub returns : goal.returns
+returns g c = record {
+  appending = λ copies rest count before among a.
+      let log = g.B.Blocks.log in
+      let o = c.args.object in
+      let copy = c.args.copy.now in
+      let now = log c.args.table.now in
+      let after = log c.append.new.self in
+      let block = data_block o copy.bytes in
+      subst (λ (r : RenamingFields). Appending o copies before after r rest (count + 1)) (sym c.insert.ensures.exact)
+      (subst (λ (b : ℕ). Appending o copies before after (with_move c.args.renaming.now b c.in-Ok.place) rest (count + 1)) (sym c.block.ensures.block)
+      (one_copied c.one_place_has_one_name.ensures c.places_taken_add_up.ensures c.moves_are_put_in_one_by_one.ensures.more c.moves_are_put_in_one_by_one.ensures.distinct o copies before now after c.args.renaming.now copy rest count c.in-Ok.place
+      c.block.ensures.range (c.an_append_puts_one_block.ensures now after block c.in-Ok.place c.in-Ok.ensures.appended c.in-Ok.ensures.fresh) (c.an_append_takes_one_place.ensures now after block c.in-Ok.place c.in-Ok.ensures.appended) among a));
+}

@@ -1,40 +1,48 @@
-use Rattle.std.proofs.Common.{ap, ◌∙◌}
+use Rattle.std.proofs.Common.{ap, refl, ◌++◌, ◌∙◌, []}
+use Rattle.block_log.specs.declared.kinds.BlockKind.TheVariants.{Journal, Checkpoint}
 use Rattle.object_map.specs.declared.map.Row.{Row}
-use Rattle.version_store.proofs.Dropping.{checkpoint_stands, checkpoint_gone, data_leads, nothing_left, others_left, led_still, named_still, others_still}
-use Rattle.version_store.proofs.Once.{once_stays}
+use Rattle.version_store.specs.Store.{pointers_aside}
+use Rattle.version_store.proofs.Dropping.{checkpoint_stands, checkpoint_gone, data_gone, nothing_left, others_left, uncounted_all}
+use Rattle.version_store.proofs.Named.{recounts_data}
 use Rattle.version_store.proofs.data_blocks.drop_all.Goals as goal
+
+pub drop_sides-bare-requires : goal.drop_sides-bare-requires
+drop_sides-bare-requires g c =
+    let before = g.B.Blocks.log c.args.table.now in
+    let counted = g.B.Blocks.log c.count_removal.new.table in
+    let o = c.args.object in
+    let only = recounts_data o before counted [] (pointers_aside before.held o c.args.row.now ++ c.args.pointers.now) c.count_removal.ensures in
+    record { row = c.a_row_is_its_own_blocks.ensures.row before.held counted.held o c.args.row.now (only Journal o refl) (only Checkpoint o refl) c.requires.row }
 
 pub drop_checkpoint-requires : goal.drop_checkpoint-requires
 drop_checkpoint-requires g c = record {
   held = checkpoint_stands c.a_checkpoint_has_its_blocks.ensures.held (g.B.Blocks.log c.drop_sides-bare.new.table).held (g.B.Blocks.log c.drop_journal.new.table).held c.args.object c.drop_sides-bare.result c.drop_sides-bare.ensures.row c.drop_journal.ensures.others;
 }
 
-pub drop_data-requires : goal.drop_data-requires
-drop_data-requires g c =
-    let held = (g.B.Blocks.log c.args.table.now).held in
-    let bared = (g.B.Blocks.log c.drop_sides-bare.new.table).held in
-    record {
-      led = data_leads c.args.object bared (g.B.Blocks.log c.drop_journal.new.table).held (g.B.Blocks.log c.drop_checkpoint.new.table).held c.args.pointers.now
-          c.drop_journal.ensures.others c.drop_checkpoint.ensures.dropped.others (led_still c.args.object held bared c.args.pointers.now c.drop_sides-bare.ensures.dropped.others c.requires.led);
-      once = once_stays (g.B.Blocks.log c.args.table.now) (g.B.Blocks.log c.drop_checkpoint.new.table) (c.drop_checkpoint.ensures.named ∙ c.drop_journal.ensures.named ∙ c.drop_sides-bare.ensures.named) c.requires.once;
-    }
-
 pub returns-clause-nothing : goal.returns-clause-nothing
 returns-clause-nothing g c =
-    let held = (g.B.Blocks.log c.args.table.now).held in
+    let before = g.B.Blocks.log c.args.table.now in
+    let counted = g.B.Blocks.log c.count_removal.new.table in
     let bared = (g.B.Blocks.log c.drop_sides-bare.new.table).held in
     let first = (g.B.Blocks.log c.drop_journal.new.table).held in
     let second = (g.B.Blocks.log c.drop_checkpoint.new.table).held in
     let dropped = c.drop_checkpoint.ensures.dropped in
-    nothing_left c.args.object bared first second (g.B.Blocks.log c.drop_data.new.table).held
-    c.args.pointers.now c.new.result.keys c.new.ensures.empty (named_still c.args.object held bared c.args.pointers.now c.drop_sides-bare.ensures.dropped.others c.requires.named) c.drop_journal.ensures.gone c.drop_journal.ensures.others
+    nothing_left c.args.object counted.held bared first second (data_gone before counted c.args.object c.args.pointers.now (pointers_aside before.held c.args.object c.args.row.now) c.requires.named c.count_removal.ensures)
+    c.drop_sides-bare.ensures.dropped.others c.drop_journal.ensures.gone c.drop_journal.ensures.others
     (checkpoint_gone bared first second c.args.object c.drop_sides-bare.result c.drop_sides-bare.ensures.row (ap (λ (r : Row). r.sides) c.drop_sides-bare.ensures.fields) c.drop_journal.ensures.others dropped) dropped.others
-    c.drop_data.ensures.«data» c.drop_data.ensures.others
 
 pub returns-clause-others : goal.returns-clause-others
 returns-clause-others g c =
-    let bared = (g.B.Blocks.log c.drop_sides-bare.new.table).held in
-    let later = (g.B.Blocks.log c.drop_data.new.table).held in
-    others_still c.args.object (g.B.Blocks.log c.args.table.now).held bared later c.drop_sides-bare.ensures.dropped.others
-    (others_left c.args.object bared (g.B.Blocks.log c.drop_journal.new.table).held (g.B.Blocks.log c.drop_checkpoint.new.table).held later
-    c.drop_journal.ensures.others c.drop_checkpoint.ensures.dropped.others c.drop_data.ensures.others)
+    let before = g.B.Blocks.log c.args.table.now in
+    let counted = g.B.Blocks.log c.count_removal.new.table in
+    let o = c.args.object in
+    others_left o before.held counted.held (g.B.Blocks.log c.drop_sides-bare.new.table).held (g.B.Blocks.log c.drop_journal.new.table).held (g.B.Blocks.log c.drop_checkpoint.new.table).held
+    (recounts_data o before counted [] (pointers_aside before.held o c.args.row.now ++ c.args.pointers.now) c.count_removal.ensures)
+    c.drop_sides-bare.ensures.dropped.others c.drop_journal.ensures.others c.drop_checkpoint.ensures.dropped.others
+
+pub returns-clause-names : goal.returns-clause-names
+returns-clause-names g c =
+    let before = g.B.Blocks.log c.args.table.now in
+    uncounted_all before (g.B.Blocks.log c.count_removal.new.table) (g.B.Blocks.log c.drop_sides-bare.new.table) (g.B.Blocks.log c.drop_journal.new.table) (g.B.Blocks.log c.drop_checkpoint.new.table) c.args.object c.args.pointers.now (pointers_aside before.held c.args.object c.args.row.now)
+    c.count_removal.ensures c.drop_sides-bare.ensures.dropped.others c.drop_journal.ensures.others c.drop_checkpoint.ensures.dropped.others
+    (c.drop_checkpoint.ensures.named ∙ c.drop_journal.ensures.named ∙ c.drop_sides-bare.ensures.named) c.names.ensures

@@ -1,16 +1,18 @@
-use Rattle.std.proofs.Common.{◌++◌, List, Option, ap, ◌∙◌}
-use Rattle.s4_types.specs.Pointer.{Place}
+use Rattle.std.proofs.Common.{◌≡◌, IfOk, sym, ap, subst, ◌∙◌}
 use Rattle.block_log.specs.Log.{Log}
-use Rattle.codec.specs.Entry.{EntryFields}
-use Rattle.time_read.specs.Rows.{entries_of, checkpoint_of}
-use Rattle.version_store.specs.Store.{pointers_kept, sides_told}
+use Rattle.time_read.specs.Rows.{IsRow, entries_of}
+use Rattle.version_store.specs.Store.{pointers_of}
 use Rattle.version_store.proofs.data_blocks.pointers_of.Goals as goal
 
-pub returns-clause-pointers : goal.returns-clause-pointers
-returns-clause-pointers g c =
-    let log = g.B.Blocks.log in
+pub pointers_by-requires : goal.pointers_by-requires
+pointers_by-requires g c =
     let o = c.args.object in
     let row = c.args.row.now in
-    c.in_ok-add_told.ensures.added
-    ∙ ap (λ (front : List (Option Place)). front ++ sides_told c.as_slice.result.now) c.in_ok-pointers.ensures.kept
-    ∙ ap (λ (entries : List EntryFields). pointers_kept (checkpoint_of (log c.args.table.now).held o row) ++ sides_told entries) (c.as_slice.ensures.value ∙ c.in_ok-entries.ensures.entries ∙ ap (λ (l : Log). entries_of l.held o row) c.in_ok-pointers.ensures.same)
+    let same = sym c.entries.ensures.same in
+    record {
+      row = subst (λ (l : Log). IsRow l.held o row) same c.requires;
+      entries = c.as_slice.ensures.value ∙ c.in_ok-entries.ensures.entries ∙ ap (λ (l : Log). entries_of l.held o row) same;
+    }
+
+pub returns-clause-pointers : goal.returns-clause-pointers
+returns-clause-pointers g c = subst (λ (l : Log). IfOk c.pointers_by.result (λ pointers. pointers.items ≡ pointers_of l.held c.args.object c.args.row.now)) c.entries.ensures.same c.pointers_by.ensures.pointers

@@ -1,19 +1,25 @@
 use Rattle.version_store.specs.private.Relocating.{Moved}
-use Rattle.version_store.proofs.Relocated.{relocates}
+use Rattle.version_store.proofs.Relocated.{moved_over, relocates}
 use Rattle.version_store.proofs.RelocatedBlocks.{Dropped, same_blocks}
 use Rattle.version_store.proofs.Spending.{sum_stays}
-use Rattle.version_store.proofs.Once.{once_stays}
-use Rattle.std.proofs.Common.{List, Option, ◌≡◌, ◌+◌, ◌≤◌, length, option_map, option_copied, refl, sym, subst, ap, ◌∙◌, arith}
+use Rattle.version_store.specs.Store.{IsLed, pointers_aside, pointers_of}
+use Rattle.version_store.specs.private.Names.{places_copied}
+use Rattle.version_store.specs.private.Recounting.{Recounts}
+use Rattle.version_store.proofs.Named.{all_or_nothing}
+use Rattle.version_store.proofs.Renamings.{Copied, asides_led, copied_led, counted_held, journaled_are, last_held, moved_led, moves_led, names_move, pointers_led, renamed_led, renaming_room}
+use Rattle.std.proofs.Common.{List, Option, ◌≡◌, ◌+◌, ◌++◌, ◌<◌, ◌≤◌, ◌^◌, length, map, option_map, option_copied, refl, sym, subst, ap, ◌∙◌, arith}
 use Rattle.block_log.specs.Taken.{TakesPlaces}
 use Rattle.block_log.specs.declared.kinds.BlockKind.TheVariants.{Journal, Checkpoint}
 use Rattle.codec.specs.Entry.{EntryFields}
 use Rattle.codec.specs.declared.inodes.Inode.{Inode}
 use Rattle.chain_rewriting.specs.CleaningLaws.{TellsWithin}
-use Rattle.chain_rewriting.specs.Renaming.{renamed_entries, renamed_inode}
+use Rattle.chain_rewriting.specs.Renaming.{renamed_entries, renamed_inode, renamed_slot}
 use Rattle.chain_rewriting.specs.Apart.{IsNotNew}
 use Rattle.row_changes.specs.Moving.{CanTell, moved_blocks, row_blocks}
-use Rattle.std.specs.List.{AllByRecursion}
-use Rattle.time_read.specs.Rows.{entries_of, checkpoint_of}
+use Rattle.std.specs.List.{All, AllByRecursion}
+use Rattle.s4_types.specs.Pointer.{Place}
+use Rattle.block_log.specs.Log.{Stored}
+use Rattle.time_read.specs.Rows.{IsRow, entries_of, checkpoint_of}
 use Rattle.version_store.proofs.RenamedJournal.{RenamingStands, kept_renamed, told_apart, can_tell}
 use Rattle.version_store.proofs.relocated_blocks.relocate_blocks.Goals as goal
 
@@ -27,8 +33,25 @@ rename-requires-clause-apart g c =
 
 pub move_blocks-row-requires-clause-row : goal.move_blocks-row-requires-clause-row
 move_blocks-row-requires-clause-row g c =
+    let before = g.B.Blocks.log c.args.table.now in
     let a = c.append_copies-renaming.ensures.appending in
-    c.a_row_is_its_own_blocks.ensures.row (g.B.Blocks.log c.args.table.now).held (g.B.Blocks.log c.append_copies-renaming.new.table).held c.args.object c.args.row.now (a.others Journal c.args.object refl) (a.others Checkpoint c.args.object refl) c.requires.row
+    let between = g.B.Blocks.log c.append_copies-renaming.new.table in
+    let counted = g.B.Blocks.log c.count_renaming.new.table in
+    let copied : Copied before between c.args.object c.args.row.now c.args.copies.now c.append_copies-renaming.result = record {
+      one = c.one_place_has_one_name.ensures;
+      are = c.requires.copies;
+      appended = c.append_copies-renaming.ensures.appending;
+      names = c.names.ensures;
+      stands = c.requires.row;
+      led = c.requires.led;
+      counted = c.requires.counted;
+    } in
+    let are = journaled_are before.held c.args.object c.args.row.now c.args.journal.now c.requires.journal in
+    let counts : Recounts c.args.object between (places_copied c.args.copies.now ++ map (renamed_slot c.append_copies-renaming.result) (pointers_of before.held c.args.object c.args.row.now)) (pointers_aside between.held c.args.object c.args.row.now ++ (pointers_of before.held c.args.object c.args.row.now ++ c.append_copies-renaming.result.moves)) counted =
+    subst (λ (xs : List (Option Place)). Recounts c.args.object between (places_copied c.args.copies.now ++ map (renamed_slot c.append_copies-renaming.result) xs) (pointers_aside between.held c.args.object c.args.row.now ++ (xs ++ c.append_copies-renaming.result.moves)) counted) are c.count_renaming.ensures in
+    let held = counted_held before between c.args.object c.args.row.now c.args.copies.now c.append_copies-renaming.result copied counted counts in
+    subst (λ (view : Place → Option Stored). IsRow view c.args.object c.args.row.now) (sym held)
+    (c.a_row_is_its_own_blocks.ensures.row before.held between.held c.args.object c.args.row.now (a.others Journal c.args.object refl) (a.others Checkpoint c.args.object refl) c.requires.row)
 
 pub move_blocks-row-requires-clause-tell : goal.move_blocks-row-requires-clause-tell
 move_blocks-row-requires-clause-tell g c =
@@ -58,7 +81,21 @@ returns-clause-moved g c =
     let before = g.B.Blocks.log c.args.table.now in
     let between = g.B.Blocks.log c.append_copies-renaming.new.table in
     let moved = g.B.Blocks.log c.move_blocks-row.new.table in
-    let later = g.B.Blocks.log c.drop_copies.new.table in
+    let later = g.B.Blocks.log c.drop_copied.new.table in
+    let counted = g.B.Blocks.log c.count_renaming.new.table in
+    let copied : Copied before between c.args.object c.args.row.now c.args.copies.now c.append_copies-renaming.result = record {
+      one = c.one_place_has_one_name.ensures;
+      are = c.requires.copies;
+      appended = c.append_copies-renaming.ensures.appending;
+      names = c.names.ensures;
+      stands = c.requires.row;
+      led = c.requires.led;
+      counted = c.requires.counted;
+    } in
+    let are = journaled_are before.held c.args.object c.args.row.now c.args.journal.now c.requires.journal in
+    let counts : Recounts c.args.object between (places_copied c.args.copies.now ++ map (renamed_slot c.append_copies-renaming.result) (pointers_of before.held c.args.object c.args.row.now)) (pointers_aside between.held c.args.object c.args.row.now ++ (pointers_of before.held c.args.object c.args.row.now ++ c.append_copies-renaming.result.moves)) counted =
+    subst (λ (xs : List (Option Place)). Recounts c.args.object between (places_copied c.args.copies.now ++ map (renamed_slot c.append_copies-renaming.result) xs) (pointers_aside between.held c.args.object c.args.row.now ++ (xs ++ c.append_copies-renaming.result.moves)) counted) are c.count_renaming.ensures in
+    let held = counted_held before between c.args.object c.args.row.now c.args.copies.now c.append_copies-renaming.result copied counted counts in
     let o = c.args.object in
     let row = c.args.row.now in
     let next = c.move_blocks-row.result in
@@ -78,21 +115,90 @@ returns-clause-moved g c =
     } in
     let kept : option_copied c.as_ref-checkpoint.result ≡ kept_renamed r (checkpoint_of before.held o row) = c.as_ref-checkpoint.ensures.value ∙ c.rename.ensures.checkpoint ∙ ap (option_map (renamed_inode r)) c.requires.journal.inode in
     let entries : c.as_slice.result.now ≡ renamed_entries r (entries_of before.held o row) = c.as_slice.ensures.value ∙ c.rename.ensures.entries ∙ ap (renamed_entries r) c.requires.journal.entries in
-    let m : Moved between moved o row next (kept_renamed r (checkpoint_of before.held o row)) (renamed_entries r (entries_of before.held o row)) =
-    subst (λ (es : List EntryFields). Moved between moved o row next (kept_renamed r (checkpoint_of before.held o row)) es) entries (subst (λ (i : Option Inode). Moved between moved o row next i c.as_slice.result.now) kept c.move_blocks-row.ensures.moved) in
+    let n : Moved counted moved o row next (kept_renamed r (checkpoint_of before.held o row)) (renamed_entries r (entries_of before.held o row)) =
+    subst (λ (es : List EntryFields). Moved counted moved o row next (kept_renamed r (checkpoint_of before.held o row)) es) entries (subst (λ (i : Option Inode). Moved counted moved o row next i c.as_slice.result.now) kept c.move_blocks-row.ensures.moved) in
+    let m : Moved between moved o row next (kept_renamed r (checkpoint_of before.held o row)) (renamed_entries r (entries_of before.held o row)) = moved_over c.places_taken_add_up.ensures between counted moved o row next (kept_renamed r (checkpoint_of before.held o row)) (renamed_entries r (entries_of before.held o row)) held counts.takes n in
     let d : Dropped before between moved later o copies r = record {
       one = c.one_place_has_one_name.ensures;
       are = c.requires.copies;
       appended = c.append_copies-renaming.ensures.appending;
-      metadata = c.move_blocks-row.ensures.moved.metadata;
-      dropped = c.drop_copies.ensures.held;
+      metadata = m.metadata;
+      dropped = last_held before between o row copies r copied counted counts moved c.move_blocks-row.ensures.moved.metadata c.move_blocks-row.ensures.named c.names-2.ensures later c.drop_copied.ensures;
     } in
     relocates laws c.renamed_entries_stay_in_order.ensures.order c.a_renamed_chain_takes_as_many_bytes.ensures.each c.a_checkpoint_takes_its_blocks.ensures.holes c.a_row_is_its_own_blocks.ensures.row c.a_row_is_its_own_blocks.ensures.inode c.an_orderly_row_stays.ensures.blocks c.places_taken_add_up.ensures
-    before between moved later o row next copies r c.requires.row m d c.drop_copies.ensures.takes
+    before between moved later o row next copies r c.requires.row m d c.drop_copied.ensures.takes
 
-pub drop_copies-requires : goal.drop_copies-requires
-drop_copies-requires g c =
-    once_stays (g.B.Blocks.log c.append_copies-renaming.new.table) (g.B.Blocks.log c.move_blocks-row.new.table) c.move_blocks-row.ensures.named c.append_copies-renaming.ensures.once
+pub count_renaming-requires : goal.count_renaming-requires
+count_renaming-requires g c =
+    let before = g.B.Blocks.log c.args.table.now in
+    let between = g.B.Blocks.log c.append_copies-renaming.new.table in
+    let o = c.args.object in
+    let row = c.args.row.now in
+    let copies = c.args.copies.now in
+    let r = c.append_copies-renaming.result in
+    let a = c.append_copies-renaming.ensures.appending in
+    let copied : Copied before between c.args.object c.args.row.now c.args.copies.now c.append_copies-renaming.result = record {
+      one = c.one_place_has_one_name.ensures;
+      are = c.requires.copies;
+      appended = c.append_copies-renaming.ensures.appending;
+      names = c.names.ensures;
+      stands = c.requires.row;
+      led = c.requires.led;
+      counted = c.requires.counted;
+    } in
+    let are = journaled_are before.held o row c.args.journal.now c.requires.journal in
+    record {
+      row = c.a_row_is_its_own_blocks.ensures.row before.held between.held o row (a.others Journal o refl) (a.others Checkpoint o refl) c.requires.row;
+      aside = asides_led before between o row copies r copied;
+      copied = copied_led before between o row copies r copied;
+      new = moves_led before between o row copies r copied;
+      led = subst (All (IsLed between.held o)) (sym are) (pointers_led before between o row copies r copied);
+      renamed = subst (λ (xs : List (Option Place)). All (IsLed between.held o) (map (renamed_slot r) xs)) (sym are) (renamed_led before between o row copies r copied);
+      room = subst (λ (xs : List (Option Place)). (p : Place) → between.named p + (length copies + length xs) < 2 ^ 32) (sym are)
+          (λ p. let few = renaming_room before between o row copies r copied c.requires.names c.requires.few p in omega (arith, few));
+    }
+
+pub drop_copied-requires : goal.drop_copied-requires
+drop_copied-requires g c =
+    let before = g.B.Blocks.log c.args.table.now in
+    let between = g.B.Blocks.log c.append_copies-renaming.new.table in
+    let counted = g.B.Blocks.log c.count_renaming.new.table in
+    let moved = g.B.Blocks.log c.move_blocks-row.new.table in
+    let copied : Copied before between c.args.object c.args.row.now c.args.copies.now c.append_copies-renaming.result = record {
+      one = c.one_place_has_one_name.ensures;
+      are = c.requires.copies;
+      appended = c.append_copies-renaming.ensures.appending;
+      names = c.names.ensures;
+      stands = c.requires.row;
+      led = c.requires.led;
+      counted = c.requires.counted;
+    } in
+    let are = journaled_are before.held c.args.object c.args.row.now c.args.journal.now c.requires.journal in
+    let counts : Recounts c.args.object between (places_copied c.args.copies.now ++ map (renamed_slot c.append_copies-renaming.result) (pointers_of before.held c.args.object c.args.row.now)) (pointers_aside between.held c.args.object c.args.row.now ++ (pointers_of before.held c.args.object c.args.row.now ++ c.append_copies-renaming.result.moves)) counted =
+    subst (λ (xs : List (Option Place)). Recounts c.args.object between (places_copied c.args.copies.now ++ map (renamed_slot c.append_copies-renaming.result) xs) (pointers_aside between.held c.args.object c.args.row.now ++ (xs ++ c.append_copies-renaming.result.moves)) counted) are c.count_renaming.ensures in
+    let held = counted_held before between c.args.object c.args.row.now c.args.copies.now c.append_copies-renaming.result copied counted counts in
+    all_or_nothing c.args.object moved.held (places_copied c.args.copies.now) (moved_led before between c.args.object c.args.row.now c.args.copies.now c.append_copies-renaming.result copied counted counts moved c.move_blocks-row.ensures.moved.metadata c.move_blocks-row.ensures.named c.names-2.ensures)
+
+pub returns-clause-named : goal.returns-clause-named
+returns-clause-named g c =
+    let before = g.B.Blocks.log c.args.table.now in
+    let between = g.B.Blocks.log c.append_copies-renaming.new.table in
+    let counted = g.B.Blocks.log c.count_renaming.new.table in
+    let moved = g.B.Blocks.log c.move_blocks-row.new.table in
+    let copied : Copied before between c.args.object c.args.row.now c.args.copies.now c.append_copies-renaming.result = record {
+      one = c.one_place_has_one_name.ensures;
+      are = c.requires.copies;
+      appended = c.append_copies-renaming.ensures.appending;
+      names = c.names.ensures;
+      stands = c.requires.row;
+      led = c.requires.led;
+      counted = c.requires.counted;
+    } in
+    let are = journaled_are before.held c.args.object c.args.row.now c.args.journal.now c.requires.journal in
+    let counts : Recounts c.args.object between (places_copied c.args.copies.now ++ map (renamed_slot c.append_copies-renaming.result) (pointers_of before.held c.args.object c.args.row.now)) (pointers_aside between.held c.args.object c.args.row.now ++ (pointers_of before.held c.args.object c.args.row.now ++ c.append_copies-renaming.result.moves)) counted =
+    subst (λ (xs : List (Option Place)). Recounts c.args.object between (places_copied c.args.copies.now ++ map (renamed_slot c.append_copies-renaming.result) xs) (pointers_aside between.held c.args.object c.args.row.now ++ (xs ++ c.append_copies-renaming.result.moves)) counted) are c.count_renaming.ensures in
+    let held = counted_held before between c.args.object c.args.row.now c.args.copies.now c.append_copies-renaming.result copied counted counts in
+    names_move before between c.args.object c.args.row.now c.args.copies.now c.append_copies-renaming.result copied counted counts moved c.move_blocks-row.ensures.moved.metadata c.move_blocks-row.ensures.named c.names-2.ensures (g.B.Blocks.log c.drop_copied.new.table) c.drop_copied.ensures c.names-3.ensures
 
 -- there is room, so the checkpoint and the journal are written
 pub move_blocks-row-requires-clause-room : goal.move_blocks-row-requires-clause-room
@@ -113,4 +219,5 @@ move_blocks-row-requires-clause-room g c =
     let room : count + row_blocks before.held o row ≤ length before.ahead = c.requires.room in
     let sum = sum_stays count before between takes (omega (arith, room)) in
     let spent : between.spent ≡ count + before.spent = takes.spent in
-    omega (arith, same, room, sum, spent)
+    let ahead : length (g.B.Blocks.log c.count_renaming.new.table).ahead ≡ length between.ahead = ap length c.count_renaming.ensures.takes.ahead in
+    omega (arith, same, room, sum, spent, ahead)

@@ -27,6 +27,5 @@ invariant_of-self-2 g c =
       inodes = added_keeps c.a_fresh_row_stands.ensures.inode s c.add.new.self.rows o m c.args.first.now (inode_beside c.self.inside.objects.values) (inode_beside c.add.new.self.values) c.requires.first
           put.rows (inode_put c.self.inside.objects.values c.add.new.self.values o beside put.values) c.self.invariant.inodes;
       indexes = added_indexed s c.add.new.self.rows o m beside c.self.inside.objects.values c.add.new.self.values (ap (λ (us : List Undoing). Some us) c.new.ensures) put.rows put.values c.self.invariant.indexes;
-      once = c.self.invariant.once;
       cached = put_true s.log.held s.log.held s.rows c.add.new.self.rows o (fresh_row m) c.self.inside.cache.pairs (λ old there. absurd (none-some old (sym none ∙ there))) put.rows (λ q other. refl) c.self.invariant.cached;
     }

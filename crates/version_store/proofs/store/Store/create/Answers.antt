@@ -1,4 +1,4 @@
-use Rattle.std.proofs.Common.{ℕ, List, refl, sym, ap, subst, ◌∙◌}
+use Rattle.std.proofs.Common.{ℕ, List, [], refl, sym, ap, subst, ◌∙◌}
 use Rattle.s4_types.specs.declared.changes.Change.TheVariants.{Create}
 use Rattle.s4_model.specs.Effect.{effect}
 use Rattle.inode.specs.Contents.{contents_of, meaning}
@@ -16,7 +16,7 @@ turn-requires g c =
     (c.created-after.ensures.meaning (contents_of s.log.held) c.args.object (meaning (contents_of s.log.held) c.args.plan.now.inode) ∙ ap (λ (a : List ℕ). effect (Create c.args.object a) c.args.moment (meaning (contents_of s.log.held) c.args.plan.now.inode)) c.attribute_of-attribute.ensures)
     (c.created-after.ensures.tidy (contents_of s.log.held)) in
     record {
-      can = subst (λ (v : StoreFields). CanTurn v c.args.object c.args.plan.now.inode c.created-after.result c.args.moment) (sym c.in_ok-add_object.ensures.same)
+      can = subst (λ (v : StoreFields). CanTurn v c.args.object c.args.plan.now.inode c.created-after.result [] c.args.moment) (sym c.in_ok-add_object.ensures.same)
           (can_create c.what_changes_rest_on.ensures.fresh_row c.what_changes_rest_on.ensures.fresh_latest c.what_changes_rest_on.ensures.fresh_inode c.what_changes_rest_on.ensures.later c.what_changes_rest_on.ensures.blank_count c.what_changes_rest_on.ensures.blank_holes c.what_changes_rest_on.ensures.entry_sizes c.what_changes_rest_on.ensures.sizes_add_up
           s (Create c.args.object c.args.attribute.now) c.args.moment c.add_object.new.self.rows c.args.plan.now.inode c.created-after.result c.requires.can c.requires.can.takes.ready makes refl c.in_ok-add_object.ensures.added);
       row = subject_made s c.add_object.new.self.rows c.args.object c.args.moment c.args.plan.now.row c.requires.can.takes.ready c.in_ok-add_object.ensures.added c.requires.row;

@@ -18,4 +18,4 @@ invariant_of-result g c =
     subst (λ (pairs : List (CacheKey × Inode)). IsBeside kept.values pairs (fields_of g.B.Blocks.log (record { rows = kept.rows; table = c.args.table; latest = c.args.latest }))) (sym none)
     (subst (λ (values : List (ℕ × Present)). IsBeside values [] (fields_of g.B.Blocks.log (record { rows = kept.rows; table = c.args.table; latest = c.args.latest }))) (sym c.in_ok-objects.ensures.values)
     (subst (λ (rows : List (ℕ × Row)). IsBeside (presents_opened c.args.objects.items) [] (fields_of g.B.Blocks.log (record { rows = rows; table = c.args.table; latest = c.args.latest }))) (sym c.in_ok-objects.ensures.rows)
-    (opened_beside log c.args.latest c.args.objects.items c.requires.beside c.requires.once)))
+    (opened_beside log c.args.latest c.args.objects.items c.requires.beside)))

@@ -1,9 +1,7 @@
 -- The row's facts are those of the store as it was passed; the table and what is kept are those of the opened store.
-use Rattle.std.proofs.Common.{◌≡◌, Some, sym, ap, subst, ◌∙◌}
-use Rattle.codec.specs.declared.inodes.Inode.{Inode}
+use Rattle.std.proofs.Common.{◌≡◌, Some, sym, subst}
 use Rattle.object_map.specs.Rows.{row_of}
 use Rattle.version_store.specs.Store.{StoreOf, StoreFields, IsStore, fields_of}
-use Rattle.version_store.specs.Versions.{inode_by, distance_by}
 use Rattle.version_store.proofs.Beside.{beside_added}
 use Rattle.version_store.proofs.Cached.{true_of}
 use Rattle.version_store.proofs.store.Store.inode_at_counted.Goals as goal

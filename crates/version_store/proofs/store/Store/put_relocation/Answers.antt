@@ -15,13 +15,30 @@ use Rattle.time_read.specs.Presents.{IsIndexOf}
 use Rattle.version_store.specs.private.Beside.{inode_beside}
 use Rattle.version_store.specs.private.Relocating.{RelocatesIn}
 use Rattle.version_store.proofs.Beside.{inode_put, replaced_indexed}
+use Rattle.version_store.proofs.Asides.{store_few}
+use Rattle.version_store.proofs.Recounted.{pointers_few}
 use Rattle.version_store.proofs.CheckpointSteps.{next_store}
 use Rattle.version_store.proofs.RelocatedStore.{Laws, relocated, renamed_beside}
 use Rattle.version_store.proofs.Cached.{put_true}
 use Rattle.version_store.proofs.store.Store.put_relocation.Goals as goal
 
-pub relocate_blocks-moved-requires-clause-once : goal.relocate_blocks-moved-requires-clause-once
-relocate_blocks-moved-requires-clause-once g c = c.self.invariant.once
+pub relocate_blocks-moved-requires-clause-counted : goal.relocate_blocks-moved-requires-clause-counted
+relocate_blocks-moved-requires-clause-counted g c =
+    let s : StoreFields = record { rows = c.self.inside.objects.rows; log = g.B.Blocks.log c.self.inside.table; latest = c.self.inside.latest } in
+    let store = subst (λ (v : StoreOf _). IsStore (fields_of g.B.Blocks.log v)) (sym c.self.view_is) c.requires.store in
+    store.counted c.args.object c.args.row.now (subst (λ (v : StoreOf _). row_of v.rows c.args.object ≡ Some c.args.row.now) (sym c.self.view_is) c.requires.row)
+
+pub relocate_blocks-moved-requires-clause-names : goal.relocate_blocks-moved-requires-clause-names
+relocate_blocks-moved-requires-clause-names g c =
+    let s : StoreFields = record { rows = c.self.inside.objects.rows; log = g.B.Blocks.log c.self.inside.table; latest = c.self.inside.latest } in
+    store_few s (subst (λ (v : StoreOf _). IsStore (fields_of g.B.Blocks.log v)) (sym c.self.view_is) c.requires.store)
+
+pub relocate_blocks-moved-requires-clause-few : goal.relocate_blocks-moved-requires-clause-few
+relocate_blocks-moved-requires-clause-few g c =
+    let s : StoreFields = record { rows = c.self.inside.objects.rows; log = g.B.Blocks.log c.self.inside.table; latest = c.self.inside.latest } in
+    let store = subst (λ (v : StoreOf _). IsStore (fields_of g.B.Blocks.log v)) (sym c.self.view_is) c.requires.store in
+    let there = subst (λ (v : StoreOf _). row_of v.rows c.args.object ≡ Some c.args.row.now) (sym c.self.view_is) c.requires.row in
+    pointers_few s.log.held c.args.object c.args.row.now s.latest (store.objects c.args.object c.args.row.now there) (store.few c.args.object c.args.row.now there)
 
 pub returns : goal.returns
 returns g c =
@@ -52,7 +69,7 @@ returns g c =
       needed = rest.blocks_are_needed;
       takes = rest.checkpoint_blocks;
     } in
-    let made = relocated laws s c.change.new.self.rows log o row next copies r store there c.relocate_blocks-moved.ensures.moved room put.rows in
+    let made = relocated laws s c.change.new.self.rows log o row next copies r store there c.relocate_blocks-moved.ensures.moved room put.rows c.relocate_blocks-moved.ensures.named in
     subst (λ (v : StoreOf _). RelocatesIn (fields_of g.B.Blocks.log v) o row copies (next_store s c.change.new.self.rows log)) c.self.view_is made
 
 pub invariant_of-self : goal.invariant_of-self
@@ -84,7 +101,7 @@ invariant_of-self g c =
       needed = rest.blocks_are_needed;
       takes = rest.checkpoint_blocks;
     } in
-    let made = relocated laws s c.change.new.self.rows log o row next copies r store there c.relocate_blocks-moved.ensures.moved room put.rows in
+    let made = relocated laws s c.change.new.self.rows log o row next copies r store there c.relocate_blocks-moved.ensures.moved room put.rows c.relocate_blocks-moved.ensures.named in
     let by = renaming_by copies s.log.ahead in
     let exact : r ≡ by = c.relocate_blocks-moved.ensures.moved.exact in
     let present = c.in-Some.inode in
@@ -95,7 +112,6 @@ invariant_of-self g c =
       inodes = renamed_beside o s.latest by present (inode_beside c.self.inside.objects.values) (inode_beside c.change.new.self.values) s (next_store s c.change.new.self.rows log) is after c.self.invariant.inodes made.inodes;
       indexes = replaced_indexed s (next_store s c.change.new.self.rows log) o (record next { stamp = row.stamp + 1 }) (renamed_entries r (entries_of s.log.held o row)) beside c.self.inside.objects.values c.change.new.self.values
           put.rows made.relocated.others c.relocate_blocks-moved.ensures.moved.journal (subst (λ (es : List _). IsIndexOf c.index_of.result es) (c.as_slice.ensures.value ∙ c.relocate_blocks-moved.ensures.entries) c.index_of.ensures) put.values c.self.invariant.indexes;
-      once = c.relocate_blocks-moved.ensures.once;
       cached = put_true s.log.held log.held s.rows c.change.new.self.rows o (record next { stamp = row.stamp + 1 }) c.self.inside.cache.pairs (λ old same. let is : old.stamp ≡ row.stamp = ap (λ (x : Row). x.stamp) (same_Some old row (sym same ∙ there)) in omega (arith, is))
           put.rows (λ q other. made.relocated.others Checkpoint q other) c.self.invariant.cached;
     }

@@ -18,7 +18,6 @@ put_replacement-requires g c =
       row = subst (λ (s : StoreFields). row_of s.rows o ≡ Some row) same c.requires.row;
       can = subst (λ (s : StoreFields). CanReplace s o row present entries) same c.requires.can;
       pointers = c.as_slice.ensures.value ∙ c.in_ok-pointers.ensures.pointers ∙ ap (λ (s : StoreFields). pointers_of s.log.held o row) same;
-      kept = c.in_ok-kept.ensures.places;
       room = subst (λ (s : StoreFields). rewritten_blocks present entries ≤ length s.log.ahead) same c.requires.room;
     }
 

@@ -1,4 +1,4 @@
-use Rattle.std.proofs.Common.{◌≡◌, sym, subst}
+use Rattle.std.proofs.Common.{◌≡◌, ℕ, ◌/◌, take, drop, sym, ap, subst, ◌∙◌}
 use Rattle.s4_types.specs.declared.changes.Change.TheVariants.{Truncate}
 use Rattle.version_store.specs.Store.{StoreOf, StoreFields, fields_of}
 use Rattle.version_store.specs.Costs.{subject_row}
@@ -11,8 +11,7 @@ use Rattle.version_store.proofs.Cached.{stays_true}
 use Rattle.version_store.proofs.Frames.{growth_stays}
 use Rattle.version_store.proofs.Present.{grown_keeps}
 use Rattle.version_store.proofs.Kind.{can_turn, bytes_made, taken_of}
-use Rattle.version_store.proofs.Making.{can_subject, subject_is, truncated_makes}
-use Rattle.version_store.proofs.Once.{once_grown}
+use Rattle.version_store.proofs.Making.{can_subject, subject_is, truncated_makes, truncated_hand}
 use Rattle.version_store.proofs.store.Store.truncate.Goals as goal
 
 pub truncate-after-requires-clause-tidy : goal.truncate-after-requires-clause-tidy
@@ -35,8 +34,10 @@ turn-requires g c =
     let makes = truncated_makes c.what_changes_rest_on.ensures.one_place c.what_changes_rest_on.ensures.pointers_lead s c.args.object c.args.moment c.args.size (g.B.Blocks.log c.truncate-after.new.table) c.args.plan.now.inode c.truncate-after.result can subject c.truncate-after.ensures.growth c.truncate-after.ensures.log c.truncate-after.ensures.inode c.truncate-after.ensures.tidy c.truncate-after.ensures.pointers c.truncate-after.ensures.meaning in
     let row = subst (λ (v : StoreOf _). c.args.plan.now.row ≡ subject_row (fields_of g.B.Blocks.log v) c.args.object c.args.moment) (sym c.self.view_is) c.requires.row in
     record {
-      can = can_turn c.what_changes_rest_on.ensures.orderly c.what_changes_rest_on.ensures.row c.what_changes_rest_on.ensures.inode c.what_changes_rest_on.ensures.journal c.what_changes_rest_on.ensures.meaning c.what_changes_rest_on.ensures.entry_sizes c.what_changes_rest_on.ensures.sizes_add_up
-          s (Truncate c.args.object c.args.size) c.args.moment (g.B.Blocks.log c.truncate-after.new.table) c.args.plan.now.inode c.truncate-after.result can subject makes;
+      can = can_turn c.what_changes_rest_on.ensures.one_place c.what_changes_rest_on.ensures.orderly c.what_changes_rest_on.ensures.row c.what_changes_rest_on.ensures.inode c.what_changes_rest_on.ensures.journal c.what_changes_rest_on.ensures.meaning c.what_changes_rest_on.ensures.entry_sizes c.what_changes_rest_on.ensures.sizes_add_up
+          s (Truncate c.args.object c.args.size) c.args.moment (g.B.Blocks.log c.truncate-after.new.table) c.args.plan.now.inode c.truncate-after.result c.appended-hand.result.now can subject makes
+          (truncated_hand s c.args.object c.args.moment c.args.size (g.B.Blocks.log c.truncate-after.new.table) c.args.plan.now.inode c.truncate-after.result c.appended-hand.result.now can subject c.truncate-after.ensures.growth c.truncate-after.ensures.log c.truncate-after.ensures.inode c.truncate-after.ensures.tidy
+          (c.appended-hand.ensures ∙ ap (λ (n : ℕ). take n (drop (c.args.size / 512) c.truncate-after.result.pointers)) c.blocks_of_truncate.ensures) c.names.ensures);
       row = subject_is s c.args.object c.args.moment c.args.plan.now.inode c.args.plan.now.row subject row;
       bytes = bytes_made c.what_changes_rest_on.ensures.entry_sizes c.what_changes_rest_on.ensures.sizes_add_up s (Truncate c.args.object c.args.size) c.args.moment c.args.plan.now.inode (g.B.Blocks.log c.truncate-after.new.table) c.truncate-after.result c.args.plan.now.bytes makes c.requires.bytes;
     }
@@ -60,6 +61,5 @@ invariant_of-self g c =
     record {
       inodes = grown_keeps c.what_changes_rest_on.ensures.inode s log c.args.object blocks (inode_beside c.self.inside.objects.values) c.truncate-after.ensures.growth c.self.invariant.inodes;
       indexes = grown_indexed s log c.args.object blocks c.self.inside.objects.values c.truncate-after.ensures.growth c.self.invariant.indexes;
-      once = once_grown c.what_is_not_held_has_no_name.ensures c.args.object blocks s.log log c.truncate-after.ensures.growth c.names.ensures c.self.invariant.once;
       cached = stays_true s.log.held log.held s.rows c.self.inside.cache.pairs (λ q. (growth_stays c.args.object blocks s.log log q c.truncate-after.ensures.growth).checkpoints) c.self.invariant.cached;
     }

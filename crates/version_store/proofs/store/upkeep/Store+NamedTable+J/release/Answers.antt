@@ -15,7 +15,7 @@ returns-clause-store g c =
     let s : StoreFields = fields_of log_of old in
     let store : IsStore s = subst (λ (v : StoreOf Table). IsStore (fields_of log_of v)) (sym is) c.requires in
     let later = c.release-answer.new.self in
-    store_over s (log_of later) c.release-answer.ensures.held (no_fewer_spent c.release-answer.result s.log (log_of later) c.release-answer.ensures.spent c.release-answer.ensures.log) c.frame_rules.ensures.bounded store
+    store_over s (log_of later) c.release-answer.ensures.held c.release-answer.ensures.named (no_fewer_spent c.release-answer.result s.log (log_of later) c.release-answer.ensures.spent c.release-answer.ensures.log) c.frame_rules.ensures.bounded store
 
 pub returns-clause-objects : goal.returns-clause-objects
 returns-clause-objects g c =

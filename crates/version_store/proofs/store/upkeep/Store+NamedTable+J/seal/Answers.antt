@@ -17,7 +17,7 @@ invariant_of-self g c =
     let old : StoreOf Table = record { rows = c.self-inside.inside.0.1.0.rows; table = c.self-inside.inside.0.1.1.0.table; latest = c.self-inside.inside.0.1.1.1.0 } in
     let beside : IsBeside c.self-inside.inside.0.1.0.values c.self-inside.inside.0.1.1.1.1.0.pairs (fields_of log_of old) =
     across c.self-inside.view_is (λ i. IsBeside i.objects.values i.cache.pairs (fields_of log_of (record { rows = i.objects.rows; table = i.table; latest = i.latest }))) c.self.invariant in
-    beside_over c.self-inside.inside.0.1.0.values c.self-inside.inside.0.1.1.1.1.0.pairs (fields_of log_of old) (log_of c.seal_open.new.self) c.seal_open.ensures.held c.seal_open.ensures.named beside
+    beside_over c.self-inside.inside.0.1.0.values c.self-inside.inside.0.1.1.1.1.0.pairs (fields_of log_of old) (log_of c.seal_open.new.self) c.seal_open.ensures.held beside
 
 pub returns-clause-store : goal.returns-clause-store
 returns-clause-store g c =
@@ -26,7 +26,7 @@ returns-clause-store g c =
     let s : StoreFields = fields_of log_of old in
     let store : IsStore s = subst (λ (v : StoreOf Table). IsStore (fields_of log_of v)) (sym is) c.requires in
     let later = c.seal_open.new.self in
-    shrunk_store s (log_of later) c.seal_open.ensures.held (fewer_ahead old.table later c.frame_rules.ensures.one_open c.seal_open.ensures.idle c.seal_open.ensures.ahead) c.seal_open.ensures.spent store
+    shrunk_store s (log_of later) c.seal_open.ensures.held c.seal_open.ensures.named (fewer_ahead old.table later c.frame_rules.ensures.one_open c.seal_open.ensures.idle c.seal_open.ensures.ahead) c.seal_open.ensures.spent store
 
 pub returns-clause-objects : goal.returns-clause-objects
 returns-clause-objects g c =

@@ -1,0 +1,272 @@
+//! The names that pointers give to data blocks: given, and taken away.
+ghost use Rattle.std.specs.Prelude.{◌≡◌, ◌⊎◌, ℕ, ◌+◌, ◌-◌, ◌^◌, ◌<◌, ◌==◌, ◌&&◌, ◌∷◌, [], true, if◌then◌else◌, length, map, Some, None, IfSome, option_copied};
+ghost use Rattle.std.specs.List.{All};
+ghost use Rattle.s4_types.specs.Pointer.{Place};
+ghost use Rattle.block_log.specs.Taken.{TakesPlaces};
+ghost use Rattle.checkpoint.specs.Held.{checkpoint_held, HasItsBlocks};
+ghost use Rattle.time_read.specs.Rows.{IsRow};
+ghost use Rattle.chain_rewriting.specs.Renaming.{renamed_slot};
+ghost use Rattle.version_store.specs.Store.{times_led, sides_of, sides_told, pointers_kept, pointers_aside};
+ghost use Rattle.version_store.specs.private.Names.{IsOfData, IsOfDataOrNothing, Gives, TakesAway, held_named, places_copied, pointers_in};
+
+use crate::copies::CopiedBlock;
+use block_log::Blocks;
+use block_log::laws::{
+    a_drop_takes_no_place, no_change_takes_no_place, one_place_has_one_name, places_taken_add_up,
+};
+use chain_rewriting::Renaming;
+use checkpoint::laws::a_checkpoint_has_its_blocks;
+use checkpoint::read_checkpoint;
+use codec::{Entry, Inode, Triple};
+use object_map::{Row, Side};
+use s4_types::{ObjectId, Ptr};
+use undo_redo::EntriesBetween;
+
+/// The block that a pointer leads to, if it leads to one, is named once more.
+fn hold_name<B: Blocks>(table: &mut B, pointer: Option<Ptr>)
+    requires of_data { IsOfData (B.log table.old).held pointer }
+    requires room { (p : Place) → (B.log table.old).named p + 1 < 2 ^ 32 }
+    ensures named { (q : Place) → (B.log table.new).named q ≡ times_led q (pointer ∷ []) + (B.log table.old).named q }
+    ensures held { (B.log table.new).held ≡ (B.log table.old).held }
+    ensures takes { TakesPlaces 0 (B.log table.old) (B.log table.new) }
+{
+    no_change_takes_no_place();
+    if let Some(place) = pointer {
+        table.hold(place);
+    }
+}
+
+/// Each block that one of these pointers leads to is named once more for it.
+pub(crate) fn hold_names<B: Blocks>(table: &mut B, pointers: &[Option<Ptr>])
+    requires of_data { All (IsOfData (B.log table.old).held) pointers.now }
+    requires room { (p : Place) → (B.log table.old).named p + length pointers.now < 2 ^ 32 }
+    ensures named { (q : Place) → (B.log table.new).named q ≡ times_led q pointers.now + (B.log table.old).named q }
+    ensures held { (B.log table.new).held ≡ (B.log table.old).held }
+    ensures takes { TakesPlaces 0 (B.log table.old) (B.log table.new) }
+{
+    no_change_takes_no_place();
+    places_taken_add_up();
+    for pointer in pointers {
+        hold_name(table, *pointer);
+    }
+}
+
+/// Each block that either side of one of these triples leads to is named once more for it.
+fn hold_sides<B: Blocks>(table: &mut B, triples: &[Triple])
+    requires of_data { All (IsOfData (B.log table.old).held) (sides_of triples.now) }
+    requires room { (p : Place) → (B.log table.old).named p + length (sides_of triples.now) < 2 ^ 32 }
+    ensures { Gives (B.log table.old) (sides_of triples.now) (B.log table.new) }
+{
+    no_change_takes_no_place();
+    places_taken_add_up();
+    for triple in triples {
+        hold_names(table, &[triple.before, triple.after]);
+    }
+}
+
+/// Each block that either side of a triple of these entries leads to is named once more for it.
+pub(crate) fn hold_told<B: Blocks>(table: &mut B, entries: &[Entry])
+    requires of_data { All (IsOfData (B.log table.old).held) (sides_told entries.now) }
+    requires room { (p : Place) → (B.log table.old).named p + length (sides_told entries.now) < 2 ^ 32 }
+    ensures { Gives (B.log table.old) (sides_told entries.now) (B.log table.new) }
+{
+    no_change_takes_no_place();
+    places_taken_add_up();
+    for entry in entries {
+        hold_sides(table, entry.triples());
+    }
+}
+
+/// Each block that either side of a triple of these entries leads to is named once more for it.
+pub(crate) fn hold_between<B: Blocks>(table: &mut B, entries: &EntriesBetween<'_>)
+    requires of_data { All (IsOfData (B.log table.old).held) (sides_told entries.now) }
+    requires room { (p : Place) → (B.log table.old).named p + length (sides_told entries.now) < 2 ^ 32 }
+    ensures { Gives (B.log table.old) (sides_told entries.now) (B.log table.new) }
+{
+    no_change_takes_no_place();
+    places_taken_add_up();
+    let (first, others) = entries.split_first();
+    hold_sides(table, first.triples());
+    for entry in others {
+        hold_sides(table, entry.triples());
+    }
+}
+
+/// The block at the new place of each of these copies' old places is named once more for the place that was copied.
+pub(crate) fn hold_copied<B: Blocks>(table: &mut B, copies: &[CopiedBlock])
+    requires of_data { All (IsOfData (B.log table.old).held) (places_copied copies.now) }
+    requires room { (p : Place) → (B.log table.old).named p + length copies.now < 2 ^ 32 }
+    ensures { Gives (B.log table.old) (places_copied copies.now) (B.log table.new) }
+{
+    no_change_takes_no_place();
+    places_taken_add_up();
+    for copy in copies {
+        hold_name(table, Some(copy.place));
+    }
+}
+
+/// Each block that one of these pointers leads to, once it is renamed, is named once more for it.
+fn hold_renamed<B: Blocks>(table: &mut B, renaming: &Renaming, pointers: &[Option<Ptr>])
+    requires of_data { All (IsOfData (B.log table.old).held) (map (renamed_slot renaming.now) pointers.now) }
+    requires room { (p : Place) → (B.log table.old).named p + length pointers.now < 2 ^ 32 }
+    ensures { Gives (B.log table.old) (map (renamed_slot renaming.now) pointers.now) (B.log table.new) }
+{
+    no_change_takes_no_place();
+    places_taken_add_up();
+    for pointer in pointers {
+        hold_name(table, renaming.rename(*pointer));
+    }
+}
+
+/// Each block that a pointer of an inode leads to, once it is renamed, is named once more for it, if there is an inode.
+pub(crate) fn hold_kept_renamed<B: Blocks>(
+    table: &mut B,
+    renaming: &Renaming,
+    inode: Option<&Inode>,
+)
+    requires of_data { All (IsOfData (B.log table.old).held) (map (renamed_slot renaming.now) (pointers_in (option_copied inode))) }
+    requires room { (p : Place) → (B.log table.old).named p + length (pointers_in (option_copied inode)) < 2 ^ 32 }
+    ensures { Gives (B.log table.old) (map (renamed_slot renaming.now) (pointers_in (option_copied inode.entry))) (B.log table.new) }
+{
+    no_change_takes_no_place();
+    if let Some(inode) = inode {
+        hold_renamed(table, renaming, &inode.pointers);
+    }
+}
+
+/// Each block that either side of one of these triples leads to, once it is renamed, is named once more for it.
+fn hold_renamed_sides<B: Blocks>(table: &mut B, renaming: &Renaming, triples: &[Triple])
+    requires of_data { All (IsOfData (B.log table.old).held) (map (renamed_slot renaming.now) (sides_of triples.now)) }
+    requires room { (p : Place) → (B.log table.old).named p + length (sides_of triples.now) < 2 ^ 32 }
+    ensures { Gives (B.log table.old) (map (renamed_slot renaming.now) (sides_of triples.now)) (B.log table.new) }
+{
+    no_change_takes_no_place();
+    places_taken_add_up();
+    for triple in triples {
+        hold_renamed(table, renaming, &[triple.before, triple.after]);
+    }
+}
+
+/// Each block that either side of a triple of these entries leads to, once it is renamed, is named once more for it.
+pub(crate) fn hold_renamed_told<B: Blocks>(table: &mut B, renaming: &Renaming, entries: &[Entry])
+    requires of_data { All (IsOfData (B.log table.old).held) (map (renamed_slot renaming.now) (sides_told entries.now)) }
+    requires room { (p : Place) → (B.log table.old).named p + length (sides_told entries.now) < 2 ^ 32 }
+    ensures { Gives (B.log table.old) (map (renamed_slot renaming.now) (sides_told entries.now)) (B.log table.new) }
+{
+    no_change_takes_no_place();
+    places_taken_add_up();
+    for entry in entries {
+        hold_renamed_sides(table, renaming, entry.triples());
+    }
+}
+
+/// The block that a pointer leads to, if it leads to one, is named once less.
+fn drop_name<B: Blocks>(table: &mut B, pointer: Option<Ptr>)
+    requires of_data { IsOfDataOrNothing (B.log table.old).held pointer }
+    ensures named { (q : Place) → (B.log table.new).named q ≡ (B.log table.old).named q - times_led q (pointer ∷ []) }
+    ensures held { (q : Place) → (B.log table.new).held q ≡ held_named (B.log table.old).held (B.log table.new).named q }
+    ensures takes { TakesPlaces 0 (B.log table.old) (B.log table.new) }
+{
+    one_place_has_one_name();
+    a_drop_takes_no_place();
+    no_change_takes_no_place();
+    table.names();
+    if let Some(place) = pointer {
+        table.drop_block(place);
+    }
+}
+
+/// Each block that one of these pointers leads to is named once less for it. Data that has no name left is held no longer.
+pub(crate) fn drop_names<B: Blocks>(table: &mut B, pointers: &[Option<Ptr>])
+    requires of_data { All (IsOfDataOrNothing (B.log table.old).held) pointers.now }
+    ensures named { (q : Place) → (B.log table.new).named q ≡ (B.log table.old).named q - times_led q pointers.now }
+    ensures held { (q : Place) → (B.log table.new).held q ≡ held_named (B.log table.old).held (B.log table.new).named q }
+    ensures takes { TakesPlaces 0 (B.log table.old) (B.log table.new) }
+{
+    no_change_takes_no_place();
+    places_taken_add_up();
+    table.names();
+    for pointer in pointers {
+        drop_name(table, *pointer);
+    }
+}
+
+/// Each block that either side of one of these triples leads to is named once less for it.
+fn drop_sides_of<B: Blocks>(table: &mut B, triples: &[Triple])
+    requires { All (IsOfDataOrNothing (B.log table.old).held) (sides_of triples.now) }
+    ensures { TakesAway (B.log table.old) (sides_of triples.now) (B.log table.new) }
+{
+    no_change_takes_no_place();
+    places_taken_add_up();
+    table.names();
+    for triple in triples {
+        drop_names(table, &[triple.before, triple.after]);
+    }
+}
+
+/// Each block that either side of a triple of these entries leads to is named once less for it.
+pub(crate) fn drop_told<B: Blocks>(table: &mut B, entries: &[Entry])
+    requires { All (IsOfDataOrNothing (B.log table.old).held) (sides_told entries.now) }
+    ensures { TakesAway (B.log table.old) (sides_told entries.now) (B.log table.new) }
+{
+    no_change_takes_no_place();
+    places_taken_add_up();
+    table.names();
+    for entry in entries {
+        drop_sides_of(table, entry.triples());
+    }
+}
+
+/// The block at each of these places is named once less.
+pub(crate) fn drop_copied<B: Blocks>(table: &mut B, copies: &[CopiedBlock])
+    requires { All (IsOfDataOrNothing (B.log table.old).held) (places_copied copies.now) }
+    ensures { TakesAway (B.log table.old) (places_copied copies.now) (B.log table.new) }
+{
+    no_change_takes_no_place();
+    places_taken_add_up();
+    table.names();
+    for copy in copies {
+        drop_name(table, Some(copy.place));
+    }
+}
+
+/// Each block that a pointer of an inode leads to, if there is an inode, is named once less for it.
+pub(crate) fn drop_kept<B: Blocks>(table: &mut B, inode: Option<&Inode>)
+    requires { All (IsOfDataOrNothing (B.log table.old).held) (pointers_in (option_copied inode)) }
+    ensures { TakesAway (B.log table.old) (pointers_in (option_copied inode.entry)) (B.log table.new) }
+{
+    no_change_takes_no_place();
+    table.names();
+    if let Some(inode) = inode {
+        drop_names(table, &inode.pointers);
+    }
+}
+
+/// Each block that a pointer of an older checkpoint leads to is named once less for it.
+fn drop_side<B: Blocks>(table: &mut B, object: ObjectId, side: &Side)
+    requires held { HasItsBlocks (B.log table.old).held object (Some side.now.place) }
+    requires of_data { All (IsOfDataOrNothing (B.log table.old).held) (pointers_kept (checkpoint_held (B.log table.old).held object side.now.place)) }
+    ensures { TakesAway (B.log table.old) (pointers_kept (checkpoint_held (B.log table.old).held object side.now.place)) (B.log table.new) }
+{
+    no_change_takes_no_place();
+    table.names();
+    if let Some(checkpoint) = read_checkpoint(table, object, side.place) {
+        drop_names(table, &checkpoint.inode().pointers);
+    }
+}
+
+/// Each block that a pointer of one of a row's older checkpoints leads to is named once less for it.
+pub(crate) fn drop_aside<B: Blocks>(table: &mut B, object: ObjectId, row: &Row)
+    requires row { IsRow (B.log table.old).held object row.now }
+    requires of_data { All (IsOfDataOrNothing (B.log table.old).held) (pointers_aside (B.log table.old).held object row.now) }
+    ensures { TakesAway (B.log table.old) (pointers_aside (B.log table.old).held object row.now) (B.log table.new) }
+{
+    a_checkpoint_has_its_blocks();
+    no_change_takes_no_place();
+    places_taken_add_up();
+    table.names();
+    let sides = row.sides.as_slice();
+    for side in sides {
+        drop_side(table, object, side);
+    }
+}
