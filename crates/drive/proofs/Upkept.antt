@@ -5,7 +5,6 @@ use Rattle.s4_types.specs.declared.refusals.Refusal.{Refusal}
 use Rattle.block_log.specs.Log.{Log}
 use Rattle.segment_word.specs.AcceptViews.{Ledger}
 use Rattle.segment_table.specs.Changes.{MarksFrame, ReleasesFrame}
-use Rattle.segment_table.specs.Room.{log_of}
 use Rattle.segment_table.specs.Table.{Table}
 use Rattle.object_map.specs.declared.map.Row.{Row}
 use Rattle.version_store.specs.Store.{StoreOf, StoreFields}

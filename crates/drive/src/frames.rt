@@ -28,6 +28,14 @@ impl<J: Naming> OverFrames for Drive<J> {
         self.store.generation(frame)
     }
 
+    fn name_count(&self, frame: u16, block: u8) -> u32 {
+        self.store.name_count(frame, block)
+    }
+
+    fn held_count(&self, frame: u16) -> u8 {
+        self.store.held_count(frame)
+    }
+
     fn state_word(&mut self, frame: u16) -> u64 {
         self.store.state_word(frame)
     }

@@ -10,9 +10,11 @@ ghost use Rattle.window.specs.Runs.{Ascend, AllBeginFrom, AllEndBefore, AreFewIn
 ghost use Rattle.window.specs.Timeline.{CoverAlike};
 ghost use Rattle.object_map.specs.Objects.{IsNextAbove};
 ghost use Rattle.object_map.specs.Rows.{row_of};
+ghost use Rattle.segment_table.specs.Counts.{place_at};
 ghost use Rattle.segment_table.specs.Rules.{HasFramesInOrder};
 ghost use Rattle.version_store.specs.Store.{IsStore};
 ghost use Rattle.version_store.specs.Costs.{room};
+ghost use Rattle.version_store.specs.Tallies.{named_below, AreTallies};
 ghost use Rattle.version_store.specs.Versions.{entries_of_object, inode_in, distance_in};
 ghost use Rattle.drive.specs.Fields.{history_of, state_in, store_of};
 ghost use Rattle.drive.specs.Keeping.{DecodesWhereVisible};
@@ -24,6 +26,7 @@ use object_map::Row;
 use s4_types::{Moment, ObjectId, Refusal, Span};
 use segment_table::OverFrames;
 use segment_word::Naming;
+use version_store::laws::counts_are_of_rows;
 
 impl<J: Naming> Drive<J> {
     /// Shows what always holds of a drive: at each moment that can be read, the blocks of each object decode to exactly the
@@ -147,6 +150,33 @@ impl<J: Naming> Drive<J> {
         ensures store { store_of self.new ≡ store_of self.old }
     {
         self.store.inode_at_counted(object, at)
+    }
+
+    /// How many places name a block of a frame, at the generation that the frame has: of a journal or a checkpoint one, of data
+    /// as many as pointers of checkpoints and sides of triples lead to it. 0 where no row names it, and where there is no such
+    /// frame or payload block. `OverFrames::held_count` tells how many blocks of a frame are held.
+    ///
+    /// It is a count that the table keeps: no block is read.
+    pub fn places(&self, frame: u16, block: u8) -> u32
+        ensures { result ≡ named_below (store_of self.now) (state_in self.now).next (place_at self.now.store.table frame block) }
+    {
+        counts_are_of_rows();
+        self.rules();
+        self.name_count(frame, block)
+    }
+
+    /// The same of all blocks, counted anew: 15 numbers for each frame, those of frame 0 first, and of each frame block 1 first. All
+    /// journals and checkpoints are read, and nothing that the table counts: so it is a check of what [`Drive::places`] answers.
+    ///
+    /// NoMemory alone, where the memory for the numbers is refused, or that for what an object's row names.
+    pub fn recount(&mut self) -> Result<Vec<u32>, Refusal>
+        ensures tallies { IfOk result (λ tallies. AreTallies self.old.store.table (store_of self.old) (state_in self.old).next tallies.items) }
+        ensures refusal { IfErr result (λ e. e ≡ NoMemory) }
+        ensures ledger { self.new.ledger ≡ self.old.ledger }
+        ensures store { store_of self.new ≡ store_of self.old }
+    {
+        self.rules();
+        self.store.recount()
     }
 
     /// The journal entries of an object, the oldest first, and none where it has no row.

@@ -7,7 +7,7 @@ ghost use Rattle.inode.specs.Contents.{contents_of, meaning};
 ghost use Rattle.object_map.specs.Rows.{row_of};
 ghost use Rattle.row_changes.specs.Rewritten.{rewritten_blocks};
 ghost use Rattle.version_store.specs.Replacing.{CanReplace, IsRemoved, IsReplaced, inode_led};
-ghost use Rattle.version_store.specs.Versions.{inode_in, version_in};
+ghost use Rattle.version_store.specs.Versions.{entries_of_object, inode_in, version_in};
 ghost use Rattle.drive.specs.Fields.{state_in, store_of};
 ghost use Rattle.drive.specs.Keeping.{IsNeeded, KeepsVersions};
 
@@ -19,10 +19,12 @@ use segment_word::Naming;
 impl<J: Naming> Drive<J> {
     /// An object's row goes, if it has one, and with it its journal, its checkpoint and its data: no block of the object is held
     /// any more. The object is absent at each moment that can be read, and at the clock: so every version that can be read is
-    /// as it was. All other objects are as they were at every moment, and no place is taken.
+    /// as it was. All other objects are as they were at every moment, and no place is taken. Its entries are those of
+    /// [`Drive::entries`]: they tell which data goes, so that the journal isn't read again.
     ///
     /// NoMemory alone, where the memory for the list of its data blocks is refused; then nothing has changed.
-    pub fn remove(&mut self, object: ObjectId) -> Result<(), Refusal>
+    pub fn remove(&mut self, object: ObjectId, entries: &[Entry]) -> Result<(), Refusal>
+        requires entries { entries.now ≡ entries_of_object (store_of self.old) object }
         requires gone { (t : ℕ) → IsNeeded (state_in self.old) object t → version_in (store_of self.old) object t ≡ Absent }
         ensures removed { OnOk result (IsRemoved (store_of self.old) object (store_of self.new)) }
         ensures inodes { OnOk result ((q t : ℕ) → inode_in (store_of self.new) q t ≡ (if object == q then None else inode_in (store_of self.old) q t)) }
@@ -32,25 +34,27 @@ impl<J: Naming> Drive<J> {
         ensures ledger { self.new.ledger ≡ self.old.ledger }
         ensures needed { KeepsVersions (state_in self.old) (store_of self.old) (store_of self.new) }
     {
-        self.store.remove(object)
+        self.store.remove(object, entries)
     }
 
-    /// An object's journal becomes these entries, the oldest first, and its present inode this one, which is written as its
-    /// checkpoint with the moment of the last entry that stood. Its data blocks that nothing of the new row leads to are
-    /// dropped. At each moment that can be read, and at the clock, the entries lead to the version that the object has: so every
-    /// version that can be read is as it was. All other objects are as they were at every moment, and the moment of the last
-    /// change stays.
+    /// An object's journal, which has the entries `before`, becomes these entries, the oldest first, and its present inode this
+    /// one, which is written as its checkpoint with the moment of the last entry that stood. Its data blocks that nothing of the
+    /// new row leads to are dropped. At each moment that can be read, and at the clock, the entries lead to the version that the
+    /// object has: so every version that can be read is as it was. All other objects are as they were at every moment, and the
+    /// moment of the last change stays.
     ///
     /// NoRoom exactly where fewer places are ahead than the checkpoint and the entries take; else NoMemory alone, where the
     /// memory for the lists of data blocks is refused. Then nothing has changed. It takes time in proportion to the old
-    /// entries and the new ones.
+    /// entries and the new ones, and doesn't read the old ones again: `before` is what [`Drive::entries`] gives.
     pub fn replace(
         &mut self,
         object: ObjectId,
+        before: &[Entry],
         present: &Inode,
         entries: &[Entry],
     ) -> Result<(), Refusal>
         requires some { IsSome (row_of self.old.store.rows object) }
+        requires before { before.now ≡ entries_of_object (store_of self.old) object }
         requires can { IfSome (row_of self.old.store.rows object) (λ row. CanReplace (store_of self.old) object row present.now entries.now) }
         requires stays { (t : ℕ) → IsNeeded (state_in self.old) object t → meaning (contents_of (store_of self.old).log.held) (inode_led present.now entries.now t) ≡ version_in (store_of self.old) object t }
         ensures replaced { OnOk result (IfSome (row_of self.old.store.rows object) (λ row. IsReplaced (store_of self.old) object row present.now entries.now (store_of self.new))) }
@@ -64,6 +68,6 @@ impl<J: Naming> Drive<J> {
         ensures ledger { self.new.ledger ≡ self.old.ledger }
         ensures needed { KeepsVersions (state_in self.old) (store_of self.old) (store_of self.new) }
     {
-        self.store.replace(object, present, entries)
+        self.store.replace(object, before, present, entries)
     }
 }
