@@ -20,7 +20,7 @@ use Rattle.image_objects.proofs.Listed.{one_row}
 
 -- ---- a block that is seen as one of a kind and of an object
 
-one_kind : (k l : BlockKind) → same_kind k l ≡ true → l ≡ k
+pub one_kind : (k l : BlockKind) → same_kind k l ≡ true → l ≡ k
 one_kind Journal Journal h = refl
 one_kind Journal Checkpoint h = absurd (false≢true h)
 one_kind Journal Data h = absurd (false≢true h)

@@ -17,6 +17,7 @@ mod Sorted
 mod Standing
 mod Storing
 mod Telling
+mod Told
 mod Using
 pub mod Bytes
 pub mod Firsts

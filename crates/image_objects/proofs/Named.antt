@@ -1,13 +1,14 @@
 -- The places that a row names, and what is at them.
-use Rattle.std.proofs.Common.{◌≡◌, ℕ, zero, suc, ◌+◌, ◌<◌, ◌==◌, ◌&&◌, ◌||◌, true, inl, inr, List, [], ◌∷◌, ◌++◌, length, get_or, Option, Some, None, IsSome, MatchOption, is_some, refl, sym, ap, ◌∙◌, subst, arith}
+use Rattle.std.proofs.Common.{◌≡◌, ℕ, zero, suc, ◌+◌, ◌<◌, ◌==◌, ◌&&◌, ◌||◌, true, false, cond, inl, inr, List, [], ◌∷◌, ◌++◌, length, get_or, Option, Some, None, IsSome, MatchOption, is_some, refl, sym, ap, ◌∙◌, subst, arith}
 use Rattle.std.specs.Prelude.{◌⊎◌}
 use Rattle.std.specs.List.{Contains}
 use Rattle.std.specs.Option.{option_to_list}
-use Rattle.std.proofs.lemmas.Bool.{cases_Bool, false≢true, and_from, eq-eqb}
+use Rattle.std.proofs.lemmas.Bool.{cases_Bool, cases_lt, cond-false, false≢true, and_from, and_parts, eq-eqb, eqb-true}
 use Rattle.std.proofs.lemmas.List.Elements.{Contains-append_left, Contains-append_right, Contains-append_cases, Contains-push_cases, All-contains}
 use Rattle.std.proofs.lemmas.List.Folds.{list_any_at}
+use Rattle.std.proofs.lemmas.List.Sums.{sum_by-cons}
 use Rattle.s4_types.specs.Pointer.{Place}
-use Rattle.block_log.specs.Log.{Stored, of_kind, seen_as, same_place}
+use Rattle.block_log.specs.Log.{Stored, of_kind, seen_as, same_kind, same_place, is_data}
 use Rattle.block_log.specs.declared.kinds.BlockKind.{BlockKind}
 use Rattle.block_log.specs.declared.kinds.BlockKind.TheVariants.{Journal, Checkpoint, Data}
 use Rattle.codec.specs.Fields.{bit}
@@ -15,7 +16,7 @@ use Rattle.codec.specs.Entry.{EntryFields}
 use Rattle.journal_chain.specs.Chain.{times}
 use Rattle.checkpoint.specs.Held.{checkpoint_held, is_one_of, HasItsBlocks}
 use Rattle.time_read.specs.Orderly.{BeginsDead}
-use Rattle.version_store.specs.Store.{IsLed}
+use Rattle.version_store.specs.Store.{IsLed, is_at, times_led}
 use Rattle.image_objects.specs.declared.rows.ImageRow.{ImageRow}
 use Rattle.image_objects.specs.Chains.{entries_used}
 use Rattle.image_objects.specs.Inodes.{CheckpointStands, checkpoint_places_used}
@@ -23,6 +24,7 @@ use Rattle.image_objects.specs.Objects.{ObjectStands, pointers_used}
 use Rattle.image_objects.specs.Naming.{NamesUsed}
 use Rattle.image_objects.specs.private.Places.{places_in, places_of_chain, places_named}
 use Rattle.image_objects.proofs.RowWalk.{in_none, place_there}
+use Rattle.image_objects.proofs.HeldByName.{one_kind}
 
 -- ---- what is listed
 
@@ -139,6 +141,81 @@ pub is_used : (kind : BlockKind) (o : ℕ) (block : Option Stored) → IsSome (s
 is_used kind o None h = absurd (false≢true h)
 is_used kind o (Some block) h = refl
 
+-- ---- how often a row names data
+
+times_joined : (p : Place) (front back : List Place) → times p (front ++ back) ≡ times p front + times p back
+times_joined p [] back = let none = counted_none p in omega (arith, none)
+times_joined p (q ∷ front) back =
+    let whole : times p (q ∷ (front ++ back)) ≡ bit (same_place p q) + times p (front ++ back) = counted p q (front ++ back) in
+    let first : times p (q ∷ front) ≡ bit (same_place p q) + times p front = counted p q front in
+    let rest = times_joined p front back in
+    omega (arith, whole, first, rest)
+
+same_back : OneName → (p q : Place) → same_place p q ≡ same_place q p
+same_back names p q = elim (cases_Bool (same_place p q)) [
+  | inl is ↦ let e = names p q is in ap (λ (r : Place). same_place p r) (sym e) ∙ ap (λ (r : Place). same_place r p) e
+  | inr isnt ↦ elim (cases_Bool (same_place q p)) [
+    | inl back ↦ let e = names q p back in ap (λ (r : Place). same_place p r) e ∙ ap (λ (r : Place). same_place r p) (sym e)
+    | inr neither ↦ isnt ∙ sym neither
+  ]
+]
+
+-- as often as slots lead to a place, it is listed among the places that they lead to
+slots_counted : OneName → (p : Place) (slots : List (Option Place)) → times p (places_in slots) ≡ times_led p slots
+slots_counted names p [] = counted_none p
+slots_counted names p (None ∷ slots) =
+    let first : times_led p (None ∷ slots) ≡ 0 + times_led p slots = sum_by-cons (λ (x : Option Place). cond (is_at x p) 1 0) None slots in
+    slots_counted names p slots ∙ omega (arith, first)
+slots_counted names p (Some q ∷ slots) =
+    let first : times_led p (Some q ∷ slots) ≡ bit (same_place q p) + times_led p slots = sum_by-cons (λ (x : Option Place). cond (is_at x p) 1 0) (Some q) slots in
+    let listed : times p (q ∷ places_in slots) ≡ bit (same_place p q) + times p (places_in slots) = counted p q (places_in slots) in
+    let same : bit (same_place p q) ≡ bit (same_place q p) = ap bit (same_back names p q) in
+    let rest = slots_counted names p slots in
+    omega (arith, first, listed, same, rest)
+
+-- a place that slots lead to is one of them
+pub led_there : OneName → (slots : List (Option Place)) (p : Place) → 0 < times_led p slots → Contains slots (Some p)
+led_there names slots p some =
+    let same = slots_counted names p slots in
+    listed_slot slots p (there_once names (places_in slots) p (omega (arith, same, some)))
+
+-- what is seen of a kind and of an object is of both
+pub seen_parts : (k : BlockKind) (o : ℕ) (block : Stored) → IsSome (seen_as k o (Some block)) → (same_kind k block.kind ≡ true) × (block.object ≡ o)
+seen_parts k o block some =
+    let test = same_kind k block.kind && block.object == o in
+    elim (cases_Bool test) [
+      | inl is ↦ (let parts = and_parts (same_kind k block.kind) (block.object == o) is in (parts.0, eqb-true block.object o parts.1))
+      | inr ne ↦ absurd (false≢true (sym (ap is_some (cond-false test (Some block.bytes) None ne)) ∙ some))
+    ]
+
+-- a block of data is seen as data alone
+seen_of_data : (k : BlockKind) (o : ℕ) (found : Option Stored) → IsSome (seen_as k o found) → is_data found ≡ true → same_kind k Data ≡ true
+seen_of_data k o None some is = absurd (false≢true some)
+seen_of_data k o (Some block) some is = let parts = seen_parts k o block some in ap (same_kind k) (one_kind block.kind Data is) ∙ parts.0
+
+never_listed : OneName → (places : List Place) (p : Place) → (Contains places p → ⊥) → times p places ≡ 0
+never_listed names places p never = elim (cases_lt 0 (times p places)) [
+  | inl some ↦ absurd (never (there_once names places p some))
+  | inr few ↦ omega (arith, few)
+]
+
+named_other : OneName → HasBlocks → (used : Place → Option Stored) (row : ImageRow) (clock : ℕ) (kind : BlockKind) (p : Place) → ObjectStands used row clock → is_data (used p) ≡ true → same_kind kind Data ≡ false → NamesUsed used row kind p → ⊥
+named_other names has used row clock kind p stands is other named =
+    false≢true (sym other ∙ seen_of_data kind row.object (used p) (named_is_used names has used row clock kind p stands named) is)
+
+-- so a used block of data is listed as often as the row's pointers lead to it
+times_named : OneName → HasBlocks → (used : Place → Option Stored) (row : ImageRow) (clock : ℕ) (p : Place) → ObjectStands used row clock → is_data (used p) ≡ true → times p (places_named used row) ≡ times_led p (pointers_used used row)
+times_named names has used row clock p stands is =
+    let chain = places_of_chain used row in
+    let checkpoint = checkpoint_places_used used row in
+    let slots = pointers_used used row in
+    let no_chain : times p chain ≡ 0 = never_listed names chain p (λ there. named_other names has used row clock Journal p stands is refl (once_there chain there.0 p there.1 there.2)) in
+    let no_checkpoint : times p checkpoint ≡ 0 = never_listed names checkpoint p (λ there. named_other names has used row clock Checkpoint p stands is refl (listed_one checkpoint p there)) in
+    let whole : times p ((chain ++ checkpoint) ++ places_in slots) ≡ times p (chain ++ checkpoint) + times p (places_in slots) = times_joined p (chain ++ checkpoint) (places_in slots) in
+    let front = times_joined p chain checkpoint in
+    let led = slots_counted names p slots in
+    omega (arith, no_chain, no_checkpoint, whole, front, led)
+
 -- ---- what adding them makes of a list
 
 pub only_named : (used : Place → Option Stored) (row : ImageRow) (before items : List Place) → items ≡ before ++ places_named used row → (p : Place) → Contains items p → Contains before p ⊎ ((kind : BlockKind) × NamesUsed used row kind p)
@@ -158,3 +235,11 @@ only_used names has used row clock before items stands is p listed = elim (only_
   | inl old ↦ inl old
   | inr new ↦ inr (is_used new.0 row.object (used p) (named_is_used names has used row clock new.0 p stands new.1))
 ]
+
+pub data_counted : OneName → HasBlocks → (used : Place → Option Stored) (row : ImageRow) (clock : ℕ) (before items : List Place) → ObjectStands used row clock → items ≡ before ++ places_named used row → (p : Place) → is_data (used p) ≡ true
+    → times p items ≡ times p before + times_led p (pointers_used used row)
+data_counted names has used row clock before items stands is p of_data =
+    let same : times p items ≡ times p (before ++ places_named used row) = ap (times p) is in
+    let joined = times_joined p before (places_named used row) in
+    let led = times_named names has used row clock p stands of_data in
+    omega (arith, same, joined, led)

@@ -1,5 +1,5 @@
 -- An object that stands in an image is held as it stands, where just what rows name is held.
-use Rattle.std.proofs.Common.{◌≡◌, ℕ, ◌≤◌, true, List, ◌++◌, get_or, Option, Some, None, IsSome, is_some, refl, sym, ap, ◌∙◌, subst}
+use Rattle.std.proofs.Common.{◌≡◌, ℕ, ◌≤◌, true, List, ◌++◌, get_or, Option, Some, None, IsSome, is_some, refl, sym, ap, ◌∙◌, subst, append-nil}
 use Rattle.std.specs.List.{All, Contains}
 use Rattle.std.proofs.lemmas.Bool.{false≢true, cond-true}
 use Rattle.std.proofs.lemmas.List.Elements.{All-contains, All-from_recursion, Contains-get_or}
@@ -20,7 +20,7 @@ use Rattle.object_map.specs.declared.map.Row.{Row}
 use Rattle.time_read.specs.Rows.{IsRow, inode_before, entries_of, checkpoint_of, first_of, inode_of, last_inode}
 use Rattle.time_read.specs.Orderly.{IsFromTo, IsOrderly}
 use Rattle.row_changes.specs.Recent.{IsBy}
-use Rattle.version_store.specs.Store.{IsLed, pointers_kept, sides_told, pointers_of}
+use Rattle.version_store.specs.Store.{IsLed, pointers_kept, sides_told, pointers_of, pointers_named}
 use Rattle.image_objects.specs.declared.rows.ImageRow.{ImageRow}
 use Rattle.image_objects.specs.Chains.{ChainStands, entries_used, chain_fields, chain_view}
 use Rattle.image_objects.specs.Inodes.{checkpoint_used, first_used}
@@ -41,9 +41,13 @@ JournalIsHeld used held row = (p : Place) → of_kind Journal row.object held p 
 abbrev pub CheckpointIsHeld : (Place → Option Stored) → (Place → Option Stored) → ImageRow → Type 0
 CheckpointIsHeld used held row = (p : Place) → of_kind Checkpoint row.object held p ≡ checkpoint_view used row p
 
+-- a checkpoint rests on its blocks
+abbrev pub CheckpointIsTold : Type 0
+CheckpointIsTold = (held later : Place → Option Stored) (o : ℕ) (p : Place) → ((q : Place) → is_one_of (checkpoint_places held o p) q ≡ true → of_checkpoints o later q ≡ of_checkpoints o held q) → checkpoint_held later o p ≡ checkpoint_held held o p
+
 -- what the crates below say of rows, chains and inodes
 pub record Laws : Type 0 where
-  pub told : (held later : Place → Option Stored) (o : ℕ) (p : Place) → ((q : Place) → is_one_of (checkpoint_places held o p) q ≡ true → of_checkpoints o later q ≡ of_checkpoints o held q) → checkpoint_held later o p ≡ checkpoint_held held o p
+  pub told : CheckpointIsTold
   pub chain : (used held : Place → Option Stored) (row : ImageRow) (clock : ℕ) → ChainStands used row clock → JournalIsHeld used held row → Holds held (chain_fields used row) (entries_used used row)
   pub entries : (held : Place → Option Stored) (chain : ChainFields) (entries : List EntryFields) → Holds held chain entries → entries_held held chain ≡ entries
   pub row : (used held : Place → Option Stored) (row : ImageRow) (clock stamp : ℕ) → 1 ≤ row.object → VersionChainStands used row clock → JournalIsHeld used held row → CheckpointIsHeld used held row
@@ -57,9 +61,9 @@ pub record Laws : Type 0 where
 
 -- ---- what a row tells over the held blocks is what it tells over the used ones
 
-same_checkpoint : Laws → (used held : Place → Option Stored) (o : ℕ) (c : Option Place) → ((p : Place) → of_checkpoints o held p ≡ named_at (places_named (of_checkpoints o used) c) (of_checkpoints o used) p) → (c >>= checkpoint_held held o) ≡ (c >>= checkpoint_held used o)
-same_checkpoint laws used held o None only = refl
-same_checkpoint laws used held o (Some p) only = laws.told used held o p (λ q is. only q ∙ cond-true (is_one_of (checkpoint_places used o p) q) (of_checkpoints o used q) None is)
+same_checkpoint : CheckpointIsTold → (used held : Place → Option Stored) (o : ℕ) (c : Option Place) → ((p : Place) → of_checkpoints o held p ≡ named_at (places_named (of_checkpoints o used) c) (of_checkpoints o used) p) → (c >>= checkpoint_held held o) ≡ (c >>= checkpoint_held used o)
+same_checkpoint told used held o None only = refl
+same_checkpoint told used held o (Some p) only = told used held o p (λ q is. only q ∙ cond-true (is_one_of (checkpoint_places used o p) q) (of_checkpoints o used q) None is)
 
 -- an object's row, and what it tells of journal and checkpoint
 record Same (used held : Place → Option Stored) (row : ImageRow) (clock stamp : ℕ) : Type 0 where
@@ -76,7 +80,7 @@ same laws used held rows row clock stamp ascend holds there h =
     let by : row.created ≤ clock = made_by clock 0 0 rows row ascend there in
     record {
       entries = laws.entries held (chain_fields used row) (entries_used used row) (laws.chain used held row clock h.chain journal);
-      checkpoint = same_checkpoint laws used held row.object row.checkpoint checkpoint;
+      checkpoint = same_checkpoint laws.told used held row.object row.checkpoint checkpoint;
       stands = laws.row used held row clock stamp object h journal checkpoint;
       orderly = laws.orderly used held row clock stamp (created, by) h journal checkpoint;
     }
@@ -92,10 +96,11 @@ same_inode used held row clock stamp t s =
     ap (λ (i : Inode). inode_after i (entries_of held row.object (kept_row used row stamp)) t) (same_first used held row clock stamp s)
     ∙ ap (λ (es : List EntryFields). inode_after (first_used used row) es t) s.entries
 
-same_pointers : (used held : Place → Option Stored) (row : ImageRow) (clock stamp : ℕ) → Same used held row clock stamp → pointers_of held row.object (kept_row used row stamp) ≡ pointers_used used row
-same_pointers used held row clock stamp s =
-    ap (λ (c : Option CheckpointFields). pointers_kept c ++ sides_told (entries_of held row.object (kept_row used row stamp))) s.checkpoint
-    ∙ ap (λ (es : List EntryFields). pointers_kept (checkpoint_used used row) ++ sides_told es) s.entries
+same_pointers : (used held : Place → Option Stored) (row : ImageRow) (stamp : ℕ) → checkpoint_of held row.object (kept_row used row stamp) ≡ checkpoint_used used row → entries_of held row.object (kept_row used row stamp) ≡ entries_used used row
+    → pointers_of held row.object (kept_row used row stamp) ≡ pointers_used used row
+same_pointers used held row stamp checkpoint entries =
+    ap (λ (c : Option CheckpointFields). pointers_kept c ++ sides_told (entries_of held row.object (kept_row used row stamp))) checkpoint
+    ∙ ap (λ (es : List EntryFields). pointers_kept (checkpoint_used used row) ++ sides_told es) entries
 
 same_present : Laws → (used held : Place → Option Stored) (row : ImageRow) (clock stamp : ℕ) → Same used held row clock stamp → inode_of held row.object (kept_row used row stamp) clock ≡ present_used used row
 same_present laws used held row clock stamp s =
@@ -106,7 +111,7 @@ same_present laws used held row clock stamp s =
 
 -- ---- the data that the row leads to
 
-some_there : {X : Type 0} (found : Option X) → IsSome found → (x : X) × (found ≡ Some x)
+pub some_there : {X : Type 0} (found : Option X) → IsSome found → (x : X) × (found ≡ Some x)
 some_there None some = absurd (false≢true some)
 some_there (Some x) some = (x, refl)
 
@@ -155,7 +160,7 @@ held_as_used laws used held rows row clock stamp ascend stand holds there =
     let s : Same used held row clock stamp = same laws used held rows row clock stamp ascend holds there object.versions in
     let leads : (p : Place) → Contains (pointers_used used row) (Some p) → LeadsTo used held o p = leads_to used held rows row clock holds there object in
     let inodes : (t : ℕ) → inode_of held o kept t ≡ inode_used used row t = λ t. same_inode used held row clock stamp t s in
-    let pointers : pointers_of held o kept ≡ pointers_used used row = same_pointers used held row clock stamp s in
+    let pointers : pointers_of held o kept ≡ pointers_used used row = same_pointers used held row stamp s.checkpoint s.entries in
     let agree : (t : ℕ) → AgreeAt (contents_of used) (contents_of held) (inode_used used row t) = λ t n p at. (leads p (laws.points used row t n p at)).contents in
     let lead : (t : ℕ) → PointersHeld held o (inode_used used row t) = λ t n p at. (leads p (laws.points used row t n p at)).there in
     let matter = λ (t : ℕ). laws.matter (contents_of used) (contents_of held) (inode_used used row t) (agree t) in
@@ -176,3 +181,10 @@ held_as_used laws used held rows row clock stamp ascend stand holds there =
       };
       named = λ p some. subst (λ (slots : List (Option Place)). Contains slots (Some p)) (sym pointers) (data_named used held rows row clock ascend holds there p some);
     }
+
+-- the row that is kept names no older checkpoints, so it names data by the pointers alone that the row leads to
+pub named_as_used : CheckpointIsTold → (used held : Place → Option Stored) (rows : List ImageRow) (row : ImageRow) (clock stamp : ℕ) → RowsAscend clock 0 0 rows → HoldsWhatIsNamed used held rows → Contains rows row → IsHeldAsUsed used held row clock stamp
+    → pointers_named held row.object (kept_row used row stamp) ≡ pointers_used used row
+named_as_used told used held rows row clock stamp ascend holds there as_used =
+    append-nil (pointers_of held row.object (kept_row used row stamp))
+    ∙ same_pointers used held row stamp (same_checkpoint told used held row.object row.checkpoint (checkpoints_held used held rows clock row ascend holds there)) as_used.entries

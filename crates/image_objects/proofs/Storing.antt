@@ -3,7 +3,7 @@ use Rattle.std.proofs.Common.{◌≡◌, ℕ, ◌+◌, ◌^◌, ◌<◌, List, l
 use Rattle.std.specs.List.{Contains}
 use Rattle.std.proofs.lemmas.Option.{none-some}
 use Rattle.s4_types.specs.Pointer.{Place}
-use Rattle.block_log.specs.Log.{Log, Stored, of_kind}
+use Rattle.block_log.specs.Log.{Log, Stored, NamesAreOfData, of_kind}
 use Rattle.block_log.specs.declared.kinds.BlockKind.{BlockKind}
 use Rattle.codec.specs.Entry.{EntryFields}
 use Rattle.object_map.specs.declared.map.Row.{Row}
@@ -11,16 +11,19 @@ use Rattle.object_map.specs.Rows.{row_of}
 use Rattle.time_read.specs.Rows.{entries_of}
 use Rattle.time_read.specs.Orderly.{IsOrderly}
 use Rattle.version_store.specs.Across.{MakingsAscend, ShareNoMoment, ChainsShareNoMoment}
-use Rattle.version_store.specs.Store.{IsObject, DataIsNamed, IsStore}
+use Rattle.version_store.specs.Store.{IsObject, IsStore}
 use Rattle.image_objects.specs.declared.rows.ImageRow.{ImageRow}
 use Rattle.image_objects.specs.Chains.{entries_used}
 use Rattle.image_objects.specs.VersionChain.{kept_row}
-use Rattle.image_objects.specs.Naming.{IsNamedBy, HoldsWhatIsNamed}
+use Rattle.image_objects.specs.Naming.{IsNamedBy, HoldsWhatIsNamed, NamesAreCounted}
 use Rattle.image_objects.specs.Rows.{RowsAscend, RowsStand, kept_rows}
 use Rattle.image_objects.specs.Laws.{IsHeldAsUsed}
 use Rattle.image_objects.proofs.Listed.{made_later, apart_rows}
 use Rattle.image_objects.proofs.HeldByName.{Seen, seen}
 use Rattle.image_objects.proofs.Kept.{row_found, row_there}
+use Rattle.image_objects.proofs.Named.{OneName}
+use Rattle.image_objects.proofs.Standing.{CheckpointIsTold}
+use Rattle.image_objects.proofs.Told.{IsCounted, row_counted}
 
 -- each object is held as it stands: the law of one object
 abbrev pub AreHeldAsUsed : Type 0
@@ -74,14 +77,16 @@ chains one used held rows clock ascend stand holds o q first second less at ther
     let late : entries_of held q second ≡ entries_used used b.row = of_found Q used held rows clock q second b b.as_used.entries in
     subst (λ (es : List EntryFields). ShareNoMoment es (entries_of held q second)) (sym early) (subst (λ (es : List EntryFields). ShareNoMoment (entries_used used a.row) es) (sym late) apart)
 
-held_store : AreHeldAsUsed → (used : Place → Option Stored) (rows : List ImageRow) (clock : ℕ) (log : Log) → RowsAscend clock 0 0 rows → RowsStand used rows clock → HoldsWhatIsNamed used log.held rows → log.spent + length log.ahead < 2 ^ 46
-    → IsStore (record { rows = kept_rows used rows; log = log; latest = clock })
-held_store one used rows clock log ascend stand holds bounded =
+held_store : OneName → CheckpointIsTold → AreHeldAsUsed → (used : Place → Option Stored) (rows : List ImageRow) (clock : ℕ) (log : Log) → RowsAscend clock 0 0 rows → RowsStand used rows clock → HoldsWhatIsNamed used log.held rows → NamesAreOfData log
+    → NamesAreCounted used log.named rows → log.spent + length log.ahead < 2 ^ 46 → IsStore (record { rows = kept_rows used rows; log = log; latest = clock })
+held_store names told one used rows clock log ascend stand holds of_data counted bounded =
     let found : (o : ℕ) (row : Row) → row_of (kept_rows used rows) o ≡ Some row → Found used log.held rows clock o row = λ o row at. found_row one used log.held rows clock o row ascend stand holds at in
     record {
       objects = λ o row at. let f = found o row at in of_found (λ n r. IsObject log.held n r clock) used log.held rows clock o row f f.as_used.object;
       orderly = λ o row at. let f = found o row at in of_found (λ n r. IsOrderly log.held n r clock) used log.held rows clock o row f f.as_used.orderly;
-      named = λ o row at. let f = found o row at in of_found (λ n r. DataIsNamed log.held n r) used log.held rows clock o row f f.as_used.named;
+      names = of_data;
+      counted = λ o row at. let f = found o row at in of_found (IsCounted log) used log.held rows clock o row f (row_counted names told used rows clock log f.row ascend stand holds counted f.listed f.as_used);
+      few = λ o row at. let no_sides : 0 ≡ length row.sides = ap (λ (r : Row). length r.sides) (found o row at).kept in omega (arith, no_sides);
       nothing = λ o none kind p. none_held used log.held rows clock o kind p (of_kind kind o log.held p) ascend holds none refl;
       stamps = λ o row at. let zero_stamp : 0 ≡ row.stamp = ap (λ (r : Row). r.stamp) (found o row at).kept in omega (arith, zero_stamp);
       bounded = bounded;
@@ -89,7 +94,7 @@ held_store one used rows clock log ascend stand holds bounded =
       apart = chains one used log.held rows clock ascend stand holds;
     }
 
-pub make_a_store : AreHeldAsUsed → (used held : Place → Option Stored) (rows : List ImageRow) (clock : ℕ) (log : Log) → RowsAscend clock 0 0 rows → RowsStand used rows clock → HoldsWhatIsNamed used held rows → log.held ≡ held
-    → log.spent + length log.ahead < 2 ^ 46 → IsStore (record { rows = kept_rows used rows; log = log; latest = clock })
-make_a_store one used held rows clock log ascend stand holds is bounded =
-    held_store one used rows clock log ascend stand (subst (λ (view : Place → Option Stored). HoldsWhatIsNamed used view rows) (sym is) holds) bounded
+pub make_a_store : OneName → CheckpointIsTold → AreHeldAsUsed → (used held : Place → Option Stored) (rows : List ImageRow) (clock : ℕ) (log : Log) → RowsAscend clock 0 0 rows → RowsStand used rows clock → HoldsWhatIsNamed used held rows → log.held ≡ held
+    → NamesAreOfData log → NamesAreCounted used log.named rows → log.spent + length log.ahead < 2 ^ 46 → IsStore (record { rows = kept_rows used rows; log = log; latest = clock })
+make_a_store names told one used held rows clock log ascend stand holds is of_data counted bounded =
+    held_store names told one used rows clock log ascend stand (subst (λ (view : Place → Option Stored). HoldsWhatIsNamed used view rows) (sym is) holds) of_data counted bounded

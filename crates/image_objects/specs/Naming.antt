@@ -1,13 +1,14 @@
 -- Which used blocks of an image its rows name, and what is held of it where just these are.
-use Rattle.std.specs.Prelude.{◌≡◌, ◌<◌, true, List, Option, Some}
+use Rattle.std.specs.Prelude.{◌≡◌, ℕ, ◌+◌, ◌<◌, true, List, [], ◌∷◌, Option, Some}
 use Rattle.std.specs.List.{Contains}
 use Rattle.s4_types.specs.Pointer.{Place}
-use Rattle.block_log.specs.Log.{Stored, of_kind}
+use Rattle.block_log.specs.Log.{Stored, of_kind, is_data}
 use Rattle.block_log.specs.declared.kinds.BlockKind.{BlockKind}
 use Rattle.block_log.specs.declared.kinds.BlockKind.TheVariants.{Journal, Checkpoint, Data}
 use Rattle.journal_chain.specs.Chain.{times, chain_places}
 use Rattle.image_objects.specs.declared.rows.ImageRow.{ImageRow}
 use Rattle.checkpoint.specs.Held.{is_one_of}
+use Rattle.version_store.specs.Store.{times_led}
 use Rattle.image_objects.specs.Inodes.{checkpoint_places_used}
 use Rattle.image_objects.specs.Objects.{pointers_used}
 
@@ -30,3 +31,12 @@ pub record HoldsWhatIsNamed (used held : Place → Option Stored) (rows : List I
   pub kept : (p : Place) (block : Stored) → held p ≡ Some block → used p ≡ Some block
   pub named : (p : Place) (block : Stored) → held p ≡ Some block → IsNamedBy used rows p block
   pub all : (p : Place) (block : Stored) → used p ≡ Some block → IsNamedBy used rows p block → held p ≡ Some block
+
+-- how often the pointers of rows lead to a place, all rows taken together
+abbrev pub times_told : (Place → Option Stored) → List ImageRow → Place → ℕ
+times_told used [] p = 0
+times_told used (row ∷ rows) p = times_led p (pointers_used used row) + times_told used rows p
+
+-- each used data block has as many names as the rows' pointers lead to it
+abbrev pub NamesAreCounted : (Place → Option Stored) → (Place → ℕ) → List ImageRow → Type 0
+NamesAreCounted used named rows = (p : Place) → is_data (used p) ≡ true → named p ≡ times_told used rows p

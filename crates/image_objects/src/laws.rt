@@ -4,7 +4,7 @@ ghost use Rattle.std.specs.List.{AllByRecursion, Contains};
 ghost use Rattle.std.specs.List.Sorted.{IsPermutation, IsSorted};
 ghost use Rattle.std.specs.Ordering.{nat_cmp};
 ghost use Rattle.s4_types.specs.Pointer.{Place};
-ghost use Rattle.block_log.specs.Log.{Log, Stored, of_kind};
+ghost use Rattle.block_log.specs.Log.{Log, Stored, of_kind, NamesAreOfData};
 ghost use Rattle.block_log.specs.declared.kinds.BlockKind.TheVariants.{Journal, Data};
 ghost use Rattle.checkpoint.specs.Held.{of_checkpoints};
 ghost use Rattle.codec.specs.Entry.{EntryFields};
@@ -17,7 +17,7 @@ ghost use Rattle.image_objects.specs.declared.rows.ImageRow.{ImageRow};
 ghost use Rattle.image_objects.specs.Chains.{chain_view, entries_used};
 ghost use Rattle.image_objects.specs.VersionChain.{checkpoint_view, kept_row};
 ghost use Rattle.image_objects.specs.Objects.{pointers_used};
-ghost use Rattle.image_objects.specs.Naming.{HoldsWhatIsNamed};
+ghost use Rattle.image_objects.specs.Naming.{HoldsWhatIsNamed, NamesAreCounted, times_told};
 ghost use Rattle.image_objects.specs.Rows.{RowsAscend, RowsShareNoMoment, RowsStand, kept_rows};
 ghost use Rattle.image_objects.specs.Moments.{moments_of_chain, moments_used, StandOnce};
 ghost use Rattle.image_objects.specs.Laws.{IsHeldAsUsed, InodesUsedPointToWhatRowsLeadTo};
@@ -25,13 +25,14 @@ ghost use Rattle.image_objects.specs.Laws.{IsHeldAsUsed, InodesUsedPointToWhatRo
 use crate::version_chain_laws::{
     a_chain_that_stands_is_held, a_version_chain_that_stands_is_a_row,
 };
+use block_log::laws::one_place_has_one_name;
 use checkpoint::laws::a_checkpoint_rests_on_its_blocks;
 use inode::laws::only_its_blocks_matter;
 use journal_chain::laws::a_chain_has_its_entries;
 use row_changes::laws::an_orderly_row_is_by_its_moment;
 use time_read::laws::the_last_inode_is_current;
 use undo_redo::laws::groups_join_and_part;
-use version_store::laws::inodes_point_to_what_rows_name;
+use version_store::laws::{inodes_point_to_what_rows_name, places_have_few_names};
 
 /// Where just what rows name is held, these blocks are held of an object that has one of the rows, each as it is used: of its
 /// journal those of the row's chain, of its checkpoints those of the one that the row names, and of its data those that the row leads to.
@@ -76,12 +77,26 @@ pub fn an_object_that_stands_is_held()
     inodes_used_point_to_what_rows_lead_to();
 }
 
-/// Where all rows of an image stand and just what they name is held, they make a store of a drive, whose last change was at the
-/// clock: of places that are fewer than 2^46, counted with those ahead.
+/// Where all rows of an image stand and just what they name is held, no place is told by their pointers more than 12,144 times.
+pub fn rows_that_stand_tell_few()
+    ensures { (used held : Place → Option Stored) (rows : List ImageRow) (clock : ℕ) (p : Place) → RowsAscend clock 0 0 rows → RowsStand used rows clock → HoldsWhatIsNamed used held rows
+        → times_told used rows p ≤ 12144 }
+{
+    one_place_has_one_name();
+    a_checkpoint_rests_on_its_blocks();
+    an_object_that_stands_is_held();
+    places_have_few_names();
+}
+
+/// Where all rows of an image stand and just what they name is held, and each data block has as many names as their pointers lead
+/// to it, they make a store of a drive, whose last change was at the clock: of places that are fewer than 2^46, counted with those
+/// ahead.
 pub fn rows_that_stand_make_a_store()
     ensures { (used held : Place → Option Stored) (rows : List ImageRow) (clock : ℕ) (log : Log) → RowsAscend clock 0 0 rows → RowsStand used rows clock → HoldsWhatIsNamed used held rows
-        → log.held ≡ held → log.spent + length log.ahead < 2 ^ 46 → IsStore (record { rows = kept_rows used rows; log = log; latest = clock }) }
+        → log.held ≡ held → NamesAreOfData log → NamesAreCounted used log.named rows → log.spent + length log.ahead < 2 ^ 46 → IsStore (record { rows = kept_rows used rows; log = log; latest = clock }) }
 {
+    one_place_has_one_name();
+    a_checkpoint_rests_on_its_blocks();
     an_object_that_stands_is_held();
 }
 

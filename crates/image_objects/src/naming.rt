@@ -1,16 +1,17 @@
 //! The places that a row of an image names.
-ghost use Rattle.std.specs.Prelude.{◌≡◌, ℕ, ◌⊎◌, ◌++◌, Option, IsSome, IfOk, IfErr};
+ghost use Rattle.std.specs.Prelude.{◌≡◌, ℕ, ◌+◌, ◌⊎◌, true, ◌++◌, Option, IsSome, IfOk, IfErr};
 ghost use Rattle.std.specs.List.{Contains};
 ghost use Rattle.std.specs.Option.{option_to_list};
 ghost use Rattle.s4_types.specs.Pointer.{Place};
 ghost use Rattle.s4_types.specs.declared.refusals.Refusal.TheVariants.{NoMemory};
-ghost use Rattle.block_log.specs.Log.{Stored, of_kind};
+ghost use Rattle.block_log.specs.Log.{Stored, of_kind, is_data};
 ghost use Rattle.block_log.specs.declared.kinds.BlockKind.{BlockKind};
-ghost use Rattle.version_store.specs.Store.{sides_of, sides_told, pointers_kept};
+ghost use Rattle.journal_chain.specs.Chain.{times};
+ghost use Rattle.version_store.specs.Store.{sides_of, sides_told, pointers_kept, times_led};
 ghost use Rattle.image_objects.specs.declared.rows.ImageRow.{ImageRow as RowFields};
 ghost use Rattle.image_objects.specs.Chains.{ChainStands, entries_used};
 ghost use Rattle.image_objects.specs.Inodes.{checkpoint_used, checkpoint_places_used};
-ghost use Rattle.image_objects.specs.Objects.{ObjectStands};
+ghost use Rattle.image_objects.specs.Objects.{ObjectStands, pointers_used};
 ghost use Rattle.image_objects.specs.Naming.{NamesUsed};
 ghost use Rattle.image_objects.specs.private.Places.{places_in, places_of_chain, places_named};
 
@@ -128,8 +129,8 @@ fn push_all<U: UsedBlocks>(
     push_entries(entries, places)
 }
 
-/// Adds the places of all used blocks that a row of an image names: its chain's, its checkpoint's, and those of its data. A
-/// place that is named twice may stand there twice.
+/// Adds the places of all used blocks that a row of an image names: its chain's, its checkpoint's, and those of its data. The
+/// place of a data block is added as often as the row's pointers lead to it.
 ///
 /// NoMemory alone, after which some of them may have been added. Linear in the chain's blocks.
 pub fn push_named<U: UsedBlocks>(
@@ -145,6 +146,8 @@ pub fn push_named<U: UsedBlocks>(
     ensures all { IfOk result (λ _. (kind : BlockKind) (p : Place) → NamesUsed (U.used used.now) row.now kind p → Contains places.new.items p) }
     ensures kept { IfOk result (λ _. (p : Place) → Contains places.old.items p → Contains places.new.items p) }
     ensures used { IfOk result (λ _. (p : Place) → Contains places.new.items p → Contains places.old.items p ⊎ IsSome (U.used used.now p)) }
+    ensures counted { IfOk result (λ _. (p : Place) → is_data (U.used used.now p) ≡ true
+        → times p places.new.items ≡ times p places.old.items + times_led p (pointers_used (U.used used.now) row.now)) }
     ensures refusal { IfErr result (λ e. e ≡ NoMemory) }
 {
     one_place_has_one_name();

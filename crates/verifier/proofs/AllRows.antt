@@ -5,7 +5,7 @@ use Rattle.std.proofs.lemmas.List.{append-nil}
 use Rattle.std.proofs.lemmas.List.Elements.{All-contains, All-from_recursion, recursion_from_All, All-push, Contains-append_left, Contains-push}
 use Rattle.std.proofs.lemmas.Grind.{flat_map-append}
 use Rattle.s4_types.specs.Pointer.{Place}
-use Rattle.block_log.specs.Log.{Stored}
+use Rattle.block_log.specs.Log.{Stored, NamesAreOfData}
 use Rattle.image_parts.specs.declared.rows.RowPart.{RowPart}
 use Rattle.image_objects.specs.declared.rows.ImageRow.{ImageRow}
 use Rattle.image_objects.specs.Chains.{entries_used}
@@ -13,15 +13,17 @@ use Rattle.image_objects.specs.Objects.{ObjectStands}
 use Rattle.image_objects.specs.Naming.{HoldsWhatIsNamed}
 use Rattle.image_objects.specs.Rows.{RowsStand, RowsShareNoMoment}
 use Rattle.image_objects.specs.Moments.{moments_of_chain, moments_used, StandOnce}
-use Rattle.segment_table.specs.Table.{Table, held_at}
+use Rattle.segment_table.specs.Table.{Table, held_at, named_at}
 use Rattle.segment_table.specs.Used.{used_at}
+use Rattle.segment_table.specs.Room.{log_of}
 use Rattle.version_store.specs.Opening.{OpenedFields}
 use Rattle.verifier.specs.declared.objects.ReadRows.{ReadRows}
 use Rattle.verifier.specs.Rows.{SpellsRow, SpellRows}
-use Rattle.verifier.specs.Reading.{IsKept, AreKept, AreRead}
+use Rattle.verifier.specs.Reading.{IsKept, AreKept, NamesAreCapped, AreRead}
 use Rattle.verifier.specs.private.Holding.{IsUsedAlike}
 use Rattle.verifier.specs.private.OneRow.{IsRowRead, PartStands}
 use Rattle.verifier.proofs.Holding.{alike_itself, alike_on, same_used, holds_none}
+use Rattle.verifier.proofs.Counting.{names_none}
 
 -- ---- one row more
 
@@ -87,17 +89,19 @@ pub record HaveRead (start : Table) (clock : ℕ) (done : List RowPart) (now : R
   pub stand : AllByRecursion (λ row. ObjectStands (used_at start) row clock) rows
   pub kept : AreKept (used_at start) rows now.objects.items
   pub held : HoldsWhatIsNamed (used_at start) (held_at now.table) rows
+  pub named : NamesAreCapped (used_at start) (named_at now.table) rows
   pub moments : now.moments.items ≡ moments_used (used_at start) rows
   pub alike : IsUsedAlike start now.table
 
-pub none_read : (start : Table) (clock : ℕ) (now : ReadRows) → ((p : Place) → held_at start p ≡ None) → now.table ≡ start → now.objects.items ≡ [] → now.moments.items ≡ [] → HaveRead start clock [] now
-none_read start clock now nothing table objects moments = record {
+pub none_read : (start : Table) (clock : ℕ) (now : ReadRows) → ((p : Place) → held_at start p ≡ None) → NamesAreOfData (log_of start) → now.table ≡ start → now.objects.items ≡ [] → now.moments.items ≡ [] → HaveRead start clock [] now
+none_read start clock now nothing names table objects moments = record {
   rows = [];
   spelled = tt;
   only = none_spelled;
   stand = tt;
   kept = subst (λ (l : List OpenedFields). AreKept (used_at start) [] l) (sym objects) tt;
   held = subst (λ (t : Table). HoldsWhatIsNamed (used_at start) (held_at t) []) (sym table) (holds_none (used_at start) (held_at start) nothing);
+  named = subst (λ (t : Table). NamesAreCapped (used_at start) (named_at t) []) (sym table) (names_none (used_at start) (log_of start) nothing names);
   moments = moments;
   alike = subst (λ (t : Table). IsUsedAlike start t) (sym table) (alike_itself start);
 }
@@ -113,6 +117,7 @@ one_read start clock done part old new h read =
       stand = objects_more used clock h.rows r.row h.stand r.stands;
       kept = subst (λ (l : List OpenedFields). AreKept used (h.rows ++ r.row ∷ []) l) (sym r.objects) (kept_more used h.rows old.objects.items r.row r.opened h.kept r.kept);
       held = r.held h.rows h.held;
+      named = r.named h.rows h.named;
       moments = r.moments ∙ ap (λ (l : List ℕ). l ++ moments_of_chain (entries_used used r.row)) h.moments ∙ sym (moments_more used h.rows r.row);
       alike = alike_on start old.table new.table h.alike r.alike;
     }
@@ -140,6 +145,7 @@ all_read start clock all now after objects h apart found = record {
   stand = record { objects = h.stand; apart = apart (used_at start) h.rows (subst StandOnce h.moments found.2) };
   kept = subst (λ (l : List OpenedFields). AreKept (used_at start) h.rows l) (sym found.1) h.kept;
   held = subst (λ (t : Table). HoldsWhatIsNamed (used_at start) (held_at t) h.rows) (sym found.0) h.held;
+  named = subst (λ (t : Table). NamesAreCapped (used_at start) (named_at t) h.rows) (sym found.0) h.named;
 }
 
 -- all rows, where two chains share one

@@ -19,7 +19,7 @@ use Rattle.verifier.specs.private.Holding.{HoldsAlso, IsUsedAlike}
 abbrev pub OneName : Type 0
 OneName = (p q : Place) → same_place p q ≡ true → p ≡ q
 
-place_itself : (p : Place) → same_place p p ≡ true
+pub place_itself : (p : Place) → same_place p p ≡ true
 place_itself p =
     and_from (p.frame == p.frame) (p.block == p.block && p.generation == p.generation) (eq-eqb p.frame p.frame refl)
     (and_from (p.block == p.block) (p.generation == p.generation) (eq-eqb p.block p.block refl) (eq-eqb p.generation p.generation refl))

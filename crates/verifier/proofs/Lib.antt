@@ -1,5 +1,6 @@
 mod AllRows
 mod Holding
+mod Counting
 mod Telling
 mod Frames
 mod Ends

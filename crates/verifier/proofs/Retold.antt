@@ -14,7 +14,7 @@ use Rattle.image_parts.specs.declared.rows.RowPart.{RowPart}
 use Rattle.segment_word.specs.Frames.{Phase, Free, Open, Sealed, Draining, Frame, no_frame, is_open, is_sealed}
 use Rattle.segment_word.specs.Layout.{frame_at, block_bytes}
 use Rattle.segment_table.specs.declared.slots.Slot.{Slot}
-use Rattle.segment_table.specs.Table.{Table, slots_at, held_at}
+use Rattle.segment_table.specs.Table.{Table, slots_at, held_at, named_at}
 use Rattle.segment_table.specs.Used.{used_slot, with_bytes, used_block, used_at}
 use Rattle.segment_table.specs.Sealing.{summary_of}
 use Rattle.version_store.specs.Opening.{OpenedFields}
@@ -23,7 +23,7 @@ use Rattle.image_objects.specs.Naming.{HoldsWhatIsNamed}
 use Rattle.image_objects.specs.Rows.{RowsStand}
 use Rattle.verifier.specs.Tables.{no_part, IsFrameOf, IsTableOf}
 use Rattle.verifier.specs.Rows.{SpellRows, ChainsStand}
-use Rattle.verifier.specs.Reading.{AreKept, AreRead}
+use Rattle.verifier.specs.Reading.{AreKept, NamesAreCapped, AreRead}
 use Rattle.verifier.proofs.Frames.{OneSummaryASpelling}
 
 -- ---- what a block is named for
@@ -134,7 +134,8 @@ read_over t u parts clock objects are same =
     let R : (Place → Option Stored) → Type 0 = λ used. RowsStand used are.rows clock in
     let K : (Place → Option Stored) → Type 0 = λ used. AreKept used are.rows objects in
     let H : (Place → Option Stored) → Type 0 = λ used. HoldsWhatIsNamed used (held_at u) are.rows in
-    record { rows = are.rows; spelled = are.spelled; stand = subst R e are.stand; kept = subst K e are.kept; held = subst H e are.held }
+    let N : (Place → Option Stored) → Type 0 = λ used. NamesAreCapped used (named_at u) are.rows in
+    record { rows = are.rows; spelled = are.spelled; stand = subst R e are.stand; kept = subst K e are.kept; held = subst H e are.held; named = subst N e are.named }
 
 pub chains_stand : (parts : Image) (t : Table) (objects : List OpenedFields) → IsTableOf parts.frames t → AreRead t parts.rows parts.clock t objects → ChainsStand parts
 chains_stand parts t objects is are = record { table = t; frames = is; rows = are.rows; spelled = are.spelled; stand = are.stand }

@@ -61,7 +61,9 @@ listed_store : (s : StoreFields) (rows : List (ℕ × Row)) → IsStore s → ((
 listed_store s rows store listed = record {
   objects = λ o row there. store.objects o row (sym (listed o) ∙ there);
   orderly = λ o row there. store.orderly o row (sym (listed o) ∙ there);
-  named = λ o row there. store.named o row (sym (listed o) ∙ there);
+  names = store.names;
+  counted = λ o row there. store.counted o row (sym (listed o) ∙ there);
+  few = λ o row there. store.few o row (sym (listed o) ∙ there);
   nothing = λ o none. store.nothing o (sym (listed o) ∙ none);
   stamps = λ o row there. store.stamps o row (sym (listed o) ∙ there);
   bounded = store.bounded;

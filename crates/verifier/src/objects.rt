@@ -143,6 +143,7 @@ pub(crate) fn read_objects(
     ensures refusal { IfErr result (λ e. e ≡ NoMemory) }
 {
     moments_told_once_are_not_shared();
+    table.rules();
     let mut reading = ReadRows::new(alloc, table);
     for part in parts.rows() {
         if !reading.read_row(alloc, &part, clock)? {

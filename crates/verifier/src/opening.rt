@@ -38,7 +38,6 @@ pub fn open(alloc: Global, image: Image) -> Result<OpenedDrive, Refusal>
         objects,
         spans,
     } = image;
-    table.rules();
     let table = SegmentTable::from_parts(alloc, table)?;
     let store = Store::from_parts(alloc, table, objects, clock)?;
     let window = Window::from_parts(alloc, clock, window, floor, spans.as_slice())?;

@@ -20,6 +20,7 @@ use crate::tables::read_frames;
 use codec::laws::one_summary_a_spelling;
 use image_objects::laws::{
     an_object_that_stands_is_held, kept_rows_are_listed, rows_that_stand_make_a_store,
+    rows_that_stand_tell_few,
 };
 use image_parts::laws::{a_list_has_few_spans, what_no_test_refuses_is_an_image};
 use image_parts::{ImageParts, has_digest, rows_keep_rules, spans_keep_rules, split_parts};
@@ -71,6 +72,7 @@ fn image_of(parts: &ImageParts<'_>, read: Read, spans: Vec<Span>) -> Image
     ensures { IsImageOf parts.now result }
 {
     rows_that_stand_make_a_store();
+    rows_that_stand_tell_few();
     an_object_that_stands_is_held();
     kept_rows_are_listed();
     a_list_has_few_spans();

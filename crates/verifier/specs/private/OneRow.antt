@@ -4,7 +4,7 @@ use Rattle.s4_types.specs.Pointer.{Place}
 use Rattle.block_log.specs.Log.{Stored}
 use Rattle.codec.specs.Entry.{entries_length}
 use Rattle.journal_chain.specs.Packing.{packed, filled_bytes}
-use Rattle.segment_table.specs.Table.{held_at}
+use Rattle.segment_table.specs.Table.{held_at, named_at}
 use Rattle.version_store.specs.Opening.{OpenedFields}
 use Rattle.image_parts.specs.declared.rows.RowPart.{RowPart}
 use Rattle.image_objects.specs.declared.rows.ImageRow.{ImageRow}
@@ -16,7 +16,7 @@ use Rattle.image_objects.specs.Naming.{HoldsWhatIsNamed}
 use Rattle.image_objects.specs.Moments.{moments_of_chain}
 use Rattle.verifier.specs.declared.objects.ReadRows.{ReadRows}
 use Rattle.verifier.specs.Rows.{SpellsRow}
-use Rattle.verifier.specs.Reading.{IsKept}
+use Rattle.verifier.specs.Reading.{IsKept, NamesAreCapped}
 use Rattle.verifier.specs.private.Holding.{IsUsedAlike}
 
 -- a version chain has what is kept of a row: its entries, the two counts of their bytes, and the inode behind them all
@@ -27,7 +27,8 @@ pub record TellsOfRow (used : Place → Option Stored) (row : ImageRow) (version
   pub present : versions.present ≡ present_used used row
 
 -- The row of this part of an image was read: its bytes spell one row alone, its object stands, it is kept behind the objects
--- that were read before, its moments stand behind theirs, and what it names is held beside what they name.
+-- that were read before, its moments stand behind theirs, and what it names is held beside what they name, data by one name more for
+-- each of its pointers.
 pub record IsRowRead (used : Place → Option Stored) (part : RowPart) (clock : ℕ) (old new : ReadRows) : Type 0 where
   pub row : ImageRow
   pub spelled : SpellsRow part row
@@ -38,6 +39,7 @@ pub record IsRowRead (used : Place → Option Stored) (part : RowPart) (clock : 
   pub objects : new.objects.items ≡ old.objects.items ++ opened ∷ []
   pub moments : new.moments.items ≡ old.moments.items ++ moments_of_chain (entries_used used row)
   pub held : (rows : List ImageRow) → HoldsWhatIsNamed used (held_at old.table) rows → HoldsWhatIsNamed used (held_at new.table) (rows ++ row ∷ [])
+  pub named : (rows : List ImageRow) → NamesAreCapped used (named_at old.table) rows → NamesAreCapped used (named_at new.table) (rows ++ row ∷ [])
   pub alike : IsUsedAlike old.table new.table
 
 -- a row of an image stands: its bytes spell one of which the object stands

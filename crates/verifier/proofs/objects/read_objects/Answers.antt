@@ -10,7 +10,7 @@ use Rattle.verifier.proofs.objects.read_objects.Goals as goal
 
 pub loop-part-init : goal.loop-part-init
 loop-part-init c = record {
-  read = none_read c.args.table c.args.clock c.new-reading.result c.requires c.new-reading.ensures.table c.new-reading.ensures.objects c.new-reading.ensures.moments;
+  read = none_read c.args.table c.args.clock c.new-reading.result c.requires c.rules.ensures.names c.new-reading.ensures.table c.new-reading.ensures.objects c.new-reading.ensures.moments;
   whole = sym (c.into_iter-part-iterator.ensures.into_iter_gives ∙ c.rows-part-items.ensures);
 }
 

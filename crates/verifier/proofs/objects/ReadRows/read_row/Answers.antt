@@ -1,17 +1,22 @@
-use Rattle.std.proofs.Common.{◌≡◌, ◌++◌, List, sym, ap, ◌∙◌, subst}
+use Rattle.std.proofs.Common.{◌≡◌, ℕ, ◌+◌, true, ◌++◌, List, sym, ap, ◌∙◌, subst}
 use Rattle.std.proofs.lemmas.Option.{same_Some}
 use Rattle.s4_types.specs.Pointer.{Place}
+use Rattle.block_log.specs.Log.{is_data}
 use Rattle.codec.specs.Entry.{EntryFields, entries_length}
+use Rattle.journal_chain.specs.Chain.{times}
 use Rattle.journal_chain.specs.Packing.{packed, filled_bytes}
-use Rattle.segment_table.specs.Table.{held_at}
+use Rattle.segment_table.specs.Slots.{capped}
+use Rattle.segment_table.specs.Table.{held_at, named_at}
 use Rattle.segment_table.specs.Used.{used_at}
+use Rattle.version_store.specs.Store.{times_led}
 use Rattle.image_objects.specs.declared.version_chains.VersionChain.{VersionChain}
 use Rattle.image_objects.specs.Chains.{entries_used}
 use Rattle.image_objects.specs.VersionChain.{present_used}
-use Rattle.image_objects.specs.Objects.{ObjectStands}
+use Rattle.image_objects.specs.Objects.{ObjectStands, pointers_used}
 use Rattle.image_objects.specs.Moments.{moments_of_chain}
 use Rattle.verifier.specs.private.Holding.{HoldsAlso}
 use Rattle.verifier.proofs.Holding.{AreNamed, at_some, holds_more, only_named}
+use Rattle.verifier.proofs.Counting.{counted_alone, names_more}
 use Rattle.verifier.proofs.objects.ReadRows.read_row.Goals as goal
 
 pub returns-clause-read : goal.returns-clause-read
@@ -33,6 +38,12 @@ returns-clause-read c =
     let old = held_at c.args.self.now.table in
     let new = held_at c.hold_all.new.table in
     let also : HoldsAlso used old new places = subst (λ (l : List Place). HoldsAlso used old new l) c.as_slice-2.ensures.value c.hold_all.ensures.also in
+    let names = named_at c.args.self.now.table in
+    let after = named_at c.hold_all.new.table in
+    let N : List Place → Type 0 = λ l. (p : Place) (n : ℕ) → is_data (used p) ≡ true → names p ≡ capped n → after p ≡ capped (n + times p l) in
+    let given : N places = subst N c.as_slice-2.ensures.value c.hold_all.ensures.named in
+    let counted : (p : Place) → is_data (used p) ≡ true → times p places ≡ times_led p (pointers_used used row) =
+    λ p of_data. counted_alone p c.clear.new.self.items places (times_led p (pointers_used used row)) c.clear.ensures.items (c.in_ok-push_named.ensures.counted p of_data) in
     record {
       row = row;
       spelled = c.in-Some.ensures.found;
@@ -48,5 +59,6 @@ returns-clause-read c =
       objects = c.in_ok-push.ensures.items;
       moments = c.in_ok-push_moments.ensures.moments ∙ ap (λ (es : List EntryFields). c.args.self.now.moments.items ++ moments_of_chain es) (c.as_slice.ensures.value ∙ entries);
       held = λ rows h. holds_more used old new rows row places named also h;
+      named = λ rows h. names_more used names after rows row places given counted h;
       alike = c.hold_all.ensures.alike;
     }
