@@ -21,7 +21,7 @@ use Rattle.drive.specs.Fields.{DriveFields, store_of}
 use Rattle.drive.specs.Upkeep.{Marks}
 use Rattle.version_store.specs.Upkeep.{KeepsObjects}
 use Rattle.history_cleaner.specs.Emptying.{AllVacated, HasFoundReader, MarkedBelow}
-use Rattle.history_cleaner.specs.private.Emptying.{ReleasedBelow}
+use Rattle.history_cleaner.specs.private.Emptying.{ReleasedFrom, ReleasedBelow}
 
 -- ---- frames
 
@@ -170,18 +170,22 @@ count_more p q n alike =
 
 -- ---- releasing
 
--- how far releasing has come in a drive
-pub record ReleasesSoFar (f : ℕ) (old new : DriveFields) : Type 0 where
-  pub table : ReleasedBelow f old.store.table new.store.table
+-- how far releasing has come in a drive: down to frame first
+pub record ReleasesSoFar (first f : ℕ) (old new : DriveFields) : Type 0 where
+  pub table : ReleasedFrom first f old.store.table new.store.table
   pub objects : KeepsObjects (store_of old) (store_of new)
   pub ledger : new.ledger ≡ old.ledger
 
-pub none_released : (d : DriveFields) → ReleasesSoFar 0 d d
-none_released d = record {
-  table = record { count = refl; below = λ k below. absurd (omega arith); sealed = λ k is. is; tried = omega arith };
+pub none_released : (f : ℕ) (d : DriveFields) → ReleasesSoFar f f d d
+none_released f d = record {
+  table = record { count = refl; between = λ k from below. absurd (omega arith); sealed = λ k is. is; tried = omega arith };
   objects = kept_all (store_of d);
   ledger = refl;
 }
+
+-- at its end
+pub all_released : (first f : ℕ) (old new : DriveFields) → first ≡ 0 → ReleasesSoFar first f old new → ReleasedBelow f old.store.table new.store.table
+all_released first f old new end sofar = subst (λ (n : ℕ). ReleasedFrom n f old.store.table new.store.table) end sofar.table
 
 released_frame : (old new : Table) (f k : ℕ) → IsReleased f old new → (k ≡ f → ⊥) → frame_at new.seat.frames k ≡ frame_at old.seat.frames k
 released_frame old new f k done other = ap (λ (d : Drive). frame_at d.frames k) done.seat ∙ changed_else old.seat.frames f k (released (frame_at old.seat.frames f)) other
@@ -189,51 +193,54 @@ released_frame old new f k done other = ap (λ (d : Drive). frame_at d.frames k)
 released_here : (old new : Table) (f : ℕ) → IsReleased f old new → frame_at new.seat.frames f ≡ released (frame_at old.seat.frames f)
 released_here old new f done = ap (λ (d : Drive). frame_at d.frames f) done.seat ∙ changed_here old.seat.frames f (released (frame_at old.seat.frames f)) done.inside
 
--- frame f was released
-released_more : (f : ℕ) (old d new : Table) → ReleasedBelow f old d → IsReleased f d new → ReleasedBelow (f + 1) old new
-released_more f old d new sofar done =
+-- frame n was released, the one before those that are done
+released_more : (n f : ℕ) (old d new : Table) → ReleasedFrom (n + 1) f old d → IsReleased n d new → ReleasedFrom n f old new
+released_more n f old d new sofar done =
     let low : old.seat.releases.tried ≤ d.seat.releases.tried = sofar.tried in
     let tries : new.seat.releases.tried ≡ d.seat.releases.tried + 1 = ap (λ (x : Drive). x.releases.tried) done.seat in
     record {
-      count = ap (λ (x : Drive). length x.frames) done.seat ∙ changed_count d.seat.frames f (released (frame_at d.seat.frames f)) ∙ sofar.count;
-      below = λ k lt here. elim (cases_eq k f) [
-        | inl at ↦ free_not_draining (sym (ap (λ (m : ℕ). (frame_at new.seat.frames m).phase) at ∙ ap (λ (x : Frame). x.phase) (released_here d new f done)) ∙ here)
-        | inr other ↦ sofar.below k (omega arith) (sym (ap (λ (x : Frame). x.phase) (released_frame d new f k done other)) ∙ here)
+      count = ap (λ (x : Drive). length x.frames) done.seat ∙ changed_count d.seat.frames n (released (frame_at d.seat.frames n)) ∙ sofar.count;
+      between = λ k from lt here. elim (cases_eq k n) [
+        | inl at ↦ free_not_draining (sym (ap (λ (m : ℕ). (frame_at new.seat.frames m).phase) at ∙ ap (λ (x : Frame). x.phase) (released_here d new n done)) ∙ here)
+        | inr other ↦ sofar.between k (omega arith) lt (sym (ap (λ (x : Frame). x.phase) (released_frame d new n k done other)) ∙ here)
       ];
-      sealed = λ k here. elim (cases_eq k f) [
-        | inl at ↦ absurd (not_free (sym (ap (λ (m : ℕ). (frame_at new.seat.frames m).phase) at ∙ ap (λ (x : Frame). x.phase) (released_here d new f done)) ∙ here))
-        | inr other ↦ sofar.sealed k (sym (ap (λ (x : Frame). x.phase) (released_frame d new f k done other)) ∙ here)
+      sealed = λ k here. elim (cases_eq k n) [
+        | inl at ↦ absurd (not_free (sym (ap (λ (m : ℕ). (frame_at new.seat.frames m).phase) at ∙ ap (λ (x : Frame). x.phase) (released_here d new n done)) ∙ here))
+        | inr other ↦ sofar.sealed k (sym (ap (λ (x : Frame). x.phase) (released_frame d new n k done other)) ∙ here)
       ];
       tried = omega (arith, low, tries);
     }
 
--- frame f isn't being emptied
-released_not : (f : ℕ) (old d : Table) → ReleasedBelow f old d → is_draining (frame_at d.seat.frames f).phase ≡ false → ReleasedBelow (f + 1) old d
-released_not f old d sofar not = record {
+-- frame n isn't being emptied
+released_not : (n f : ℕ) (old d : Table) → ReleasedFrom (n + 1) f old d → is_draining (frame_at d.seat.frames n).phase ≡ false → ReleasedFrom n f old d
+released_not n f old d sofar not = record {
   count = sofar.count;
-  below = λ k lt here. elim (cases_eq k f) [
+  between = λ k from lt here. elim (cases_eq k n) [
     | inl at ↦ false≢true (sym not ∙ ap is_draining (ap (λ (m : ℕ). (frame_at d.seat.frames m).phase) (sym at) ∙ here))
-    | inr other ↦ sofar.below k (omega arith) here
+    | inr other ↦ sofar.between k (omega arith) lt here
   ];
   sealed = sofar.sealed;
   tried = sofar.tried;
 }
 
-pub release_step : (f : ℕ) (old d e new last : DriveFields) → ReleasesSoFar f old d → e ≡ d → IsReleased f e.store.table new.store.table → KeepsObjects (store_of e) (store_of new) → new.ledger ≡ e.ledger → last ≡ new → ReleasesSoFar (f + 1) old last
-release_step f old d e new last sofar same done objects ledger is =
-    let before : ReleasesSoFar f old e = subst (ReleasesSoFar f old) (sym same) sofar in
-    subst (ReleasesSoFar (f + 1) old) (sym is) (record {
-      table = released_more f old.store.table e.store.table new.store.table before.table done;
+pub release_step : (first n f : ℕ) (old d e new last : DriveFields) → first ≡ n + 1 → ReleasesSoFar first f old d → e ≡ d → IsReleased n e.store.table new.store.table → KeepsObjects (store_of e) (store_of new) → new.ledger ≡ e.ledger → last ≡ new → ReleasesSoFar n f old last
+release_step first n f old d e new last next sofar same done objects ledger is =
+    let moved : ReleasesSoFar (n + 1) f old d = subst (λ (m : ℕ). ReleasesSoFar m f old d) next sofar in
+    let before : ReleasesSoFar (n + 1) f old e = subst (ReleasesSoFar (n + 1) f old) (sym same) moved in
+    subst (ReleasesSoFar n f old) (sym is) (record {
+      table = released_more n f old.store.table e.store.table new.store.table before.table done;
       objects = kept_on (store_of old) (store_of e) (store_of new) before.objects objects;
       ledger = ledger ∙ before.ledger;
     })
 
-pub skip_step : (f : ℕ) (old d e last : DriveFields) → ReleasesSoFar f old d → e ≡ d → is_draining (frame_at d.store.table.seat.frames f).phase ≡ false → last ≡ e → ReleasesSoFar (f + 1) old last
-skip_step f old d e last sofar same not is = subst (ReleasesSoFar (f + 1) old) (sym (is ∙ same)) (record {
-  table = released_not f old.store.table d.store.table sofar.table not;
-  objects = sofar.objects;
-  ledger = sofar.ledger;
-})
+pub skip_step : (first n f : ℕ) (old d e last : DriveFields) → first ≡ n + 1 → ReleasesSoFar first f old d → e ≡ d → is_draining (frame_at d.store.table.seat.frames n).phase ≡ false → last ≡ e → ReleasesSoFar n f old last
+skip_step first n f old d e last next sofar same not is =
+    let before : ReleasesSoFar (n + 1) f old d = subst (λ (m : ℕ). ReleasesSoFar m f old d) next sofar in
+    subst (ReleasesSoFar n f old) (sym (is ∙ same)) (record {
+      table = released_not n f old.store.table d.store.table before.table not;
+      objects = before.objects;
+      ledger = before.ledger;
+    })
 
 -- ---- where a frame had a reader
 
@@ -243,16 +250,16 @@ draining_is Open is = absurd (false≢true is)
 draining_is Sealed is = absurd (false≢true is)
 draining_is Draining is = refl
 
-missed_from : (f : ℕ) (old d new : DriveFields) → ReleasesSoFar f old d → is_draining (frame_at d.store.table.seat.frames f).phase ≡ true
-    → ((frame_at d.store.table.seat.frames f).phase ≡ Draining → HasMissed f d.store.table.seat new.store.table.seat) → HasFoundReader old.store.table.seat new.store.table.seat
-missed_from f old d new sofar is misses =
-    let draining : (frame_at d.store.table.seat.frames f).phase ≡ Draining = draining_is (frame_at d.store.table.seat.frames f).phase is in
-    let miss : HasMissed f d.store.table.seat new.store.table.seat = misses draining in
-    let last : new.store.table.seat.releases.last ≡ f = ap (λ (x : Drive). x.releases.last) miss.else_same in
+missed_from : (first f n : ℕ) (old d new : DriveFields) → ReleasesSoFar first f old d → is_draining (frame_at d.store.table.seat.frames n).phase ≡ true
+    → ((frame_at d.store.table.seat.frames n).phase ≡ Draining → HasMissed n d.store.table.seat new.store.table.seat) → HasFoundReader old.store.table.seat new.store.table.seat
+missed_from first f n old d new sofar is misses =
+    let draining : (frame_at d.store.table.seat.frames n).phase ≡ Draining = draining_is (frame_at d.store.table.seat.frames n).phase is in
+    let miss : HasMissed n d.store.table.seat new.store.table.seat = misses draining in
+    let last : new.store.table.seat.releases.last ≡ n = ap (λ (x : Drive). x.releases.last) miss.else_same in
     let tries : new.store.table.seat.releases.tried ≡ d.store.table.seat.releases.tried + 1 = ap (λ (x : Drive). x.releases.tried) miss.else_same in
     let low : old.store.table.seat.releases.tried ≤ d.store.table.seat.releases.tried = sofar.table.tried in
-    let frame : frame_at new.store.table.seat.frames new.store.table.seat.releases.last ≡ frame_at d.store.table.seat.frames f =
-    ap (frame_at new.store.table.seat.frames) last ∙ ap (λ (x : Drive). frame_at x.frames f) miss.else_same in
+    let frame : frame_at new.store.table.seat.frames new.store.table.seat.releases.last ≡ frame_at d.store.table.seat.frames n =
+    ap (frame_at new.store.table.seat.frames) last ∙ ap (λ (x : Drive). frame_at x.frames n) miss.else_same in
     record {
       since = omega (arith, tries, low);
       draining = ap (λ (k : Frame). k.phase) frame ∙ draining;
@@ -261,17 +268,17 @@ missed_from f old d new sofar is misses =
       found = miss.found ∙ ap (λ (k : Frame). word_of k miss.readers) (sym frame);
     }
 
-pub missed : (f : ℕ) (old d e new : DriveFields) → ReleasesSoFar f old d → e ≡ d → is_draining (frame_at d.store.table.seat.frames f).phase ≡ true
-    → ((frame_at e.store.table.seat.frames f).phase ≡ Draining → HasMissed f e.store.table.seat new.store.table.seat) → HasFoundReader old.store.table.seat new.store.table.seat
-missed f old d e new sofar same is misses =
-    missed_from f old d new sofar is (subst (λ (x : DriveFields). (frame_at x.store.table.seat.frames f).phase ≡ Draining → HasMissed f x.store.table.seat new.store.table.seat) same misses)
+pub missed : (first f n : ℕ) (old d e new : DriveFields) → ReleasesSoFar first f old d → e ≡ d → is_draining (frame_at d.store.table.seat.frames n).phase ≡ true
+    → ((frame_at e.store.table.seat.frames n).phase ≡ Draining → HasMissed n e.store.table.seat new.store.table.seat) → HasFoundReader old.store.table.seat new.store.table.seat
+missed first f n old d e new sofar same is misses =
+    missed_from first f n old d new sofar is (subst (λ (x : DriveFields). (frame_at x.store.table.seat.frames n).phase ≡ Draining → HasMissed n x.store.table.seat new.store.table.seat) same misses)
 
 -- the objects are as they were also then
-pub missed_keeps : (f : ℕ) (old d e new : DriveFields) → ReleasesSoFar f old d → e ≡ d → KeepsObjects (store_of e) (store_of new) → KeepsObjects (store_of old) (store_of new)
-missed_keeps f old d e new sofar same objects = kept_on (store_of old) (store_of d) (store_of new) sofar.objects (subst (λ (x : DriveFields). KeepsObjects (store_of x) (store_of new)) same objects)
+pub missed_keeps : (first f : ℕ) (old d e new : DriveFields) → ReleasesSoFar first f old d → e ≡ d → KeepsObjects (store_of e) (store_of new) → KeepsObjects (store_of old) (store_of new)
+missed_keeps first f old d e new sofar same objects = kept_on (store_of old) (store_of d) (store_of new) sofar.objects (subst (λ (x : DriveFields). KeepsObjects (store_of x) (store_of new)) same objects)
 
-pub missed_count : (f : ℕ) (old d e new : DriveFields) → ReleasesSoFar f old d → e ≡ d → new.store.table.seat.frames ≡ e.store.table.seat.frames → length new.store.table.seat.frames ≡ length old.store.table.seat.frames
-missed_count f old d e new sofar same stays = ap (λ (ks : List Frame). length ks) stays ∙ ap (λ (x : DriveFields). length x.store.table.seat.frames) same ∙ sofar.table.count
+pub missed_count : (first f : ℕ) (old d e new : DriveFields) → ReleasesSoFar first f old d → e ≡ d → new.store.table.seat.frames ≡ e.store.table.seat.frames → length new.store.table.seat.frames ≡ length old.store.table.seat.frames
+missed_count first f old d e new sofar same stays = ap (λ (ks : List Frame). length ks) stays ∙ ap (λ (x : DriveFields). length x.store.table.seat.frames) same ∙ sofar.table.count
 
 -- ---- at the end
 
@@ -287,7 +294,7 @@ all_vacated count old d new whole marked released same f within none =
     let low : f < length new.seat.frames = within in
     let lengths : length new.seat.frames ≡ length old.seat.frames = released.count ∙ marked.count in
     let below : f < count = omega (arith, low, lengths, whole) in
-    vacated_at (frame_at new.seat.frames f).phase (λ sealed. marked.marked f below (released.sealed f sealed, none_again f new d (sym same) none)) (released.below f below)
+    vacated_at (frame_at new.seat.frames f).phase (λ sealed. marked.marked f below (released.sealed f sealed, none_again f new d (sym same) none)) (released.between f (omega arith) below)
 
 found_since : (old d new : Drive) → d.releases ≡ old.releases → HasFoundReader d new → HasFoundReader old new
 found_since old d new same found = record {

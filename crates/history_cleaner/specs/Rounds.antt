@@ -24,10 +24,10 @@ pub record TriesFrame (f : ℕ) (old new : Drive) : Type 0 where
   pub tried : (frame_at old.frames f).phase ≡ Draining → (new ≡ with_released old f) ⊎ HasMissed f old new
   pub idle : (frame_at old.frames f).phase ≢ Draining → new ≡ old
 
--- The release of each frame below f was tried that was being emptied, one after the other and of each once.
+-- The release of each frame below f was tried that was being emptied, one after the other from the highest on and of each once.
 abbrev pub TriedBelow : ℕ → Drive → Drive → Type 0
 TriedBelow zero old new = new ≡ old
-TriedBelow (suc f) old new = (between : Drive) × TriedBelow f old between × TriesFrame f between new
+TriedBelow (suc f) old new = (between : Drive) × TriesFrame f old between × TriedBelow f between new
 
 -- All frames of a table were marked that could be, and then the release of each was tried that was being emptied.
 pub record IsSwept (old new : Table) : Type 0 where

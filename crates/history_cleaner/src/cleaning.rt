@@ -54,6 +54,7 @@ fn put<J: Naming>(
     entries: &[Entry],
     left: Option<Cleaned>,
 ) -> Result<(), Refusal>
+    requires entries { entries.now ≡ entries_of_object (store_of drive.old) object }
     requires left { IsLeft (store_of drive.old) (state_in drive.old) object entries.now left }
     ensures cleaned { OnOk result (Cleans (store_of drive.old) (state_in drive.old) object (store_of drive.new)) }
     ensures clean { OnOk result (IsClean (store_of drive.new) (state_in drive.old) object) }
@@ -75,13 +76,13 @@ fn put<J: Naming>(
     clock_and_floor_never_fall();
     drive.rules();
     let Some(chain) = left else {
-        return drive.remove(object);
+        return drive.remove(object, entries);
     };
     let kept = chain.entries.as_slice();
     if are_same(kept, entries) {
         return Ok(());
     }
-    drive.replace(object, &chain.last, kept)
+    drive.replace(object, entries, &chain.last, kept)
 }
 
 /// Cleans an object: of its chain those inodes stay that are current at some moment that can be read, with the entries between

@@ -30,7 +30,7 @@ pub(crate) fn mark_all<J: Naming>(drive: &mut Drive<J>, count: u16)
     }
 }
 
-/// Releases each of so many frames that is being emptied. At the first that has a reader it stops.
+/// Releases each of so many frames that is being emptied, the highest first. At the first that has a reader it stops.
 fn release_all<J: Naming>(drive: &mut Drive<J>, count: u16) -> Result<(), Refusal>
     ensures released { OnOk result (ReleasedBelow count drive.old.store.table drive.new.store.table) }
     ensures refusal { IfErr result (λ e. (e ≡ InUse) × HasFoundReader drive.old.store.table.seat drive.new.store.table.seat) }
@@ -38,7 +38,10 @@ fn release_all<J: Naming>(drive: &mut Drive<J>, count: u16) -> Result<(), Refusa
     ensures objects { KeepsObjects (store_of drive.old) (store_of drive.new) }
     ensures ledger { drive.new.ledger ≡ drive.old.ledger }
 {
-    for frame in 0..count {
+    for index in 0..count {
+        // Frames are taken from the lowest on, so that the free ones are kept with the lowest last: one that is lower than all of
+        // them goes to the end, and none has to make room for it.
+        let frame = count - 1 - index;
         if drive.is_draining(frame) {
             drive.release(frame)?;
         }
@@ -46,8 +49,8 @@ fn release_all<J: Naming>(drive: &mut Drive<J>, count: u16) -> Result<(), Refusa
     Ok(())
 }
 
-/// Marks each frame that is sealed and holds nothing, and then releases each that is being emptied. At the first that has a reader
-/// it stops.
+/// Marks each frame that is sealed and holds nothing, and then releases each that is being emptied, the highest first. At the first
+/// that has a reader it stops.
 pub(crate) fn vacate<J: Naming>(drive: &mut Drive<J>) -> Result<(), Refusal>
     ensures vacated { OnOk result (AllVacated drive.new.store.table) }
     ensures refusal { IfErr result (λ e. (e ≡ InUse) × HasFoundReader drive.old.store.table.seat drive.new.store.table.seat) }
@@ -105,11 +108,11 @@ pub(crate) fn count_risen<J: Naming>(drive: &mut Drive<J>, noted: &[u32]) -> u32
 }
 
 /// Empties the frames of a drive: first each that is sealed and holds nothing is marked, then each that is being emptied is
-/// released, also one that was being emptied before, both by ascending number. Ok tells how many frames are in their next life;
+/// released, also one that was being emptied before, by descending number. Ok tells how many frames are in their next life;
 /// then each frame that holds nothing is free, a retired one among them, or it is the open one. All objects stay as they are,
 /// whatever is answered. Takes no memory.
 ///
-/// InUse where a frame that is being emptied has a reader. It stops there: frames with lower numbers were released.
+/// InUse where a frame that is being emptied has a reader. It stops there: frames with greater numbers were released.
 pub fn empty_frames<J: Naming>(drive: &mut Drive<J>) -> Result<u32, Refusal>
     ensures vacated { OnOk result (AllVacated drive.new.store.table) }
     ensures released { IfOk result (λ n. n ≡ frames_risen drive.old.store.table.seat drive.new.store.table.seat) }

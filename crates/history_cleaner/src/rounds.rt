@@ -35,19 +35,23 @@ pub struct Rounds {
     pub passed: ObjectId,
 }
 
-/// Tries the release of each of so many frames: those that are being emptied and have no reader are free afterwards.
+/// Tries the release of each of so many frames, the highest first: those that are being emptied and have no reader are free
+/// afterwards.
 fn try_releases<J: Naming>(drive: &mut Drive<J>, count: u16)
     ensures tried { TriedBelow count drive.old.store.table.seat drive.new.store.table.seat }
     ensures objects { KeepsObjects (store_of drive.old) (store_of drive.new) }
     ensures ledger { drive.new.ledger ≡ drive.old.ledger }
 {
-    for frame in 0..count {
+    for index in 0..count {
+        // the free frames are kept with the lowest last, so that one that is lower than all of them goes to the end
+        let frame = count - 1 - index;
         let _ = drive.release(frame);
     }
 }
 
-/// Marks each frame that is sealed and holds nothing, and then tries to release each that is being emptied. One that has a reader
-/// is left for a later time, and those behind it are tried all the same. All objects stay as they are. Takes no memory.
+/// Marks each frame that is sealed and holds nothing, and then tries to release each that is being emptied, the highest first. One
+/// that has a reader is left for a later time, and those below it are tried all the same. All objects stay as they are. Takes no
+/// memory.
 pub fn sweep<J: Naming>(drive: &mut Drive<J>)
     ensures swept { IsSwept drive.old.store.table drive.new.store.table }
     ensures objects { KeepsObjects (store_of drive.old) (store_of drive.new) }

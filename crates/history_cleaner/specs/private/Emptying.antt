@@ -6,13 +6,17 @@ use Rattle.segment_word.specs.Handles.{Drive}
 use Rattle.segment_word.specs.Layout.{frame_at}
 use Rattle.segment_table.specs.Table.{Table}
 
--- No frame below f is being emptied. There are as many frames as there were, and each that is sealed was sealed. No fewer releases
--- were tried.
-pub record ReleasedBelow (f : ℕ) (old new : Table) : Type 0 where
+-- No frame from first on and below f is being emptied. There are as many frames as there were, and each that is sealed was sealed.
+-- No fewer releases were tried.
+pub record ReleasedFrom (first f : ℕ) (old new : Table) : Type 0 where
   pub count : length new.seat.frames ≡ length old.seat.frames
-  pub below : (k : ℕ) → k < f → (frame_at new.seat.frames k).phase ≡ Draining → ⊥
+  pub between : (k : ℕ) → first ≤ k → k < f → (frame_at new.seat.frames k).phase ≡ Draining → ⊥
   pub sealed : (k : ℕ) → (frame_at new.seat.frames k).phase ≡ Sealed → (frame_at old.seat.frames k).phase ≡ Sealed
   pub tried : old.seat.releases.tried ≤ new.seat.releases.tried
+
+-- no frame below f is
+abbrev pub ReleasedBelow : ℕ → Table → Table → Type 0
+ReleasedBelow = ReleasedFrom 0
 
 -- the generations of a drive's frames, the first one's first
 abbrev pub generations_in : Drive → List ℕ

@@ -10,7 +10,7 @@ pub remove-requires : goal.remove-requires
 remove-requires g c =
     let d = c.args.drive.now in
     let now : IsVisible (state_in d) c.args.object (state_in d).clock = c.clock_and_floor_never_fall.ensures.present d.ledger.history c.args.object c.rules.ensures.sound in
-    record { gone = may_go c.what_is_left_shows_the_same.ensures.none (store_of d) (state_in d) c.args.object c.args.entries.now c.args.left c.in_default.is now c.requires.left }
+    record { entries = c.requires.entries; gone = may_go c.what_is_left_shows_the_same.ensures.none (store_of d) (state_in d) c.args.object c.args.entries.now c.args.left c.in_default.is now c.requires.left }
 
 pub returns-then-are_same-clause-clean : goal.returns-then-are_same-clause-clean
 returns-then-are_same-clause-clean g c =
