@@ -8,7 +8,7 @@ ghost use Rattle.version_store.specs.Costs.{room};
 ghost use Rattle.drive.specs.Fields.{store_of};
 ghost use Rattle.segment_copier.specs.declared.choices.TheConstants.{MOST_HELD};
 ghost use Rattle.segment_copier.specs.Choosing.{HasRoom, IsSparse, IsFirstFrame, IsLowestObject, NoneIsSparse};
-ghost use Rattle.segment_copier.specs.private.Surveying.{IsSurvey, IsBestBelow};
+ghost use Rattle.segment_copier.specs.private.Surveying.{IsLowestIn, IsBestBelow};
 
 use crate::candidates::Candidate;
 use drive::Drive;
@@ -21,7 +21,7 @@ use segment_word::Naming;
 /// Held blocks of a frame that a move is made out of, at most: fewer than half of its payload blocks. Chosen.
 pub const MOST_HELD: usize = 7;
 
-/// How many blocks of a frame are held, at least one, and the least object that one of them is of.
+/// A frame, how many blocks of it are held, at least one, and the least object that one of them is of.
 #[derive(Clone, Copy)]
 pub(crate) struct Survey {
     frame: u16,
@@ -29,67 +29,65 @@ pub(crate) struct Survey {
     lowest: ObjectId,
 }
 
-// With one block more of the frame, which is of this object.
-fn with_block(found: Option<Survey>, frame: u16, object: ObjectId) -> Survey
-    requires few { IfSome found (λ s. s.count < 15) }
-    ensures first { IfNone found (result ≡ record { frame = frame; count = 1; lowest = object }) }
-    ensures more { IfSome found (λ s. result ≡ record { frame = frame; count = s.count + 1; lowest = min s.lowest object }) }
+// The least object so far, with one block more, which is of this object.
+fn with_block(lowest: Option<ObjectId>, object: ObjectId) -> ObjectId
+    ensures first { IfNone lowest (result ≡ object) }
+    ensures more { IfSome lowest (λ least. result ≡ min least object) }
 {
-    match found {
-        Some(survey) => Survey {
-            frame,
-            count: survey.count + 1,
-            lowest: survey.lowest.min(object),
-        },
-        None => Survey {
-            frame,
-            count: 1,
-            lowest: object,
-        },
+    match lowest {
+        Some(least) => least.min(object),
+        None => object,
     }
 }
 
-// What is held in a frame, whatever its phase. None where nothing is, or the frame isn't there or is used no more.
-fn survey_of<J: Naming>(drive: &mut Drive<J>, frame: u16) -> Option<Survey>
-    ensures some { IfSome result (IsSurvey drive.old.store.table frame) }
+// The least object that a held block of a frame is of, whatever its phase. None where nothing is held, or the frame isn't there or is
+// used no more.
+fn lowest_in<J: Naming>(drive: &mut Drive<J>, frame: u16) -> Option<ObjectId>
+    ensures some { IfSome result (IsLowestIn drive.old.store.table frame) }
     ensures none { IfNone result (IsSparse drive.old.store.table frame → ⊥) }
     ensures same { drive.new ≡ drive.old }
 {
     let generation = drive.generation(frame)?;
-    let mut found = None;
+    let mut lowest = None;
     for index in 0..PAYLOAD_BLOCKS {
         let place = Ptr::new(frame, index as u8 + 1, generation)?;
         if let Some(role) = drive.role(place) {
-            found = Some(with_block(found, frame, role.object));
+            lowest = Some(with_block(lowest, role.object));
         }
     }
-    found
+    lowest
 }
 
-// Whether the frame of a survey comes before the best of the frames with lower numbers, if it is sealed.
-fn is_better(survey: &Survey, best: &Option<Survey>) -> bool
-    ensures first { IfNone best.now (result ≡ nat_le survey.now.count MOST_HELD) }
-    ensures fewer { IfSome best.now (λ b. result ≡ nat_lt survey.now.count b.count) }
+// Whether a frame of which so many blocks are held, at least one, comes before the best of the frames with lower numbers, if it is
+// sealed.
+fn is_better(count: usize, best: &Option<Survey>) -> bool
+    ensures first { IfNone best.now (result ≡ nat_le count MOST_HELD) }
+    ensures fewer { IfSome best.now (λ b. result ≡ nat_lt count b.count) }
 {
     match best {
-        Some(best) => survey.count < best.count,
-        None => survey.count <= MOST_HELD,
+        Some(best) => count < best.count,
+        None => count <= MOST_HELD,
     }
 }
 
-// Whether the frame of a survey is sealed.
-fn is_of_sealed<J: Naming>(drive: &mut Drive<J>, survey: &Survey) -> Result<bool, Refusal>
-    requires { IsSurvey drive.old.store.table survey.now.frame survey.now }
-    ensures sealed { IfOk result (λ sealed. sealed ≡ is_sealed (frame_at drive.old.store.table.seat.frames survey.now.frame).phase) }
+// Whether a frame is sealed, where this is the least object that a held block of it is of.
+fn is_sealed_with<J: Naming>(
+    drive: &mut Drive<J>,
+    frame: u16,
+    lowest: ObjectId,
+) -> Result<bool, Refusal>
+    requires { IsLowestIn drive.old.store.table frame lowest }
+    ensures sealed { IfOk result (λ sealed. sealed ≡ is_sealed (frame_at drive.old.store.table.seat.frames frame).phase) }
     ensures refusal { IfErr result (λ e. e ≡ NoMemory) }
     ensures same { drive.new ≡ drive.old }
 {
     drive.listings();
-    let held = drive.held_in(survey.lowest, survey.frame)?;
+    let held = drive.held_in(lowest, frame)?;
     Ok(!held.is_empty())
 }
 
-// The best of the frames up to this one, where the best below it is known.
+// The best of the frames up to this one, where the best below it is known. By the count that is kept of a frame most are passed over,
+// and none of their blocks is looked at.
 fn best_with<J: Naming>(
     drive: &mut Drive<J>,
     best: Option<Survey>,
@@ -100,19 +98,27 @@ fn best_with<J: Naming>(
     ensures refusal { IfErr result (λ e. e ≡ NoMemory) }
     ensures same { drive.new ≡ drive.old }
 {
-    let Some(survey) = survey_of(drive, frame) else {
+    let count = drive.held_count(frame) as usize;
+    if count == 0 || !is_better(count, &best) {
+        return Ok(best);
+    }
+    let Some(lowest) = lowest_in(drive, frame) else {
         return Ok(best);
     };
-    if is_better(&survey, &best) && is_of_sealed(drive, &survey)? {
-        return Ok(Some(survey));
+    if is_sealed_with(drive, frame, lowest)? {
+        return Ok(Some(Survey {
+            frame,
+            count,
+            lowest,
+        }));
     }
     Ok(best)
 }
 
 /// Whatever room there is: out of the sealed frame with the fewest held blocks, from 1 to 7, and with the lowest number on a tie,
 /// goes the least object that holds a block there. None exactly where there is no such frame. The drive is as before, whatever is
-/// answered. It looks at the blocks of each frame once, and of one that is better than the best so far twice, and keeps no list of
-/// objects.
+/// answered. It looks at the count of held blocks that is kept of each frame, and at the blocks only of a frame that is better than
+/// the best so far, at these twice. It keeps no list of objects.
 ///
 /// NoMemory alone, where the memory for the pointers into one frame is refused.
 pub(crate) fn sparsest<J: Naming>(drive: &mut Drive<J>) -> Result<Option<Candidate>, Refusal>

@@ -10,5 +10,5 @@ pub returns-clause-object : goal.returns-clause-object
 returns-clause-object g c =
     let t : Table = c.args.drive.now.store.table in
     let goes : GoesFirst t c.loop-frame.frame c.in-Some.survey = subst (IsBestBelow t c.loop-frame.frame) c.in-Some.is c.loop-frame.invariant.best in
-    lowest_object c.what_is_listed_is_held.ensures t c.in-Some.survey.frame c.in-Some.survey (subst (λ (d : DriveFields). ListsAllHeld d.store.table) c.loop-frame.invariant.same c.listings.ensures)
-    goes.survey goes.sparse.sealed
+    lowest_object c.what_is_listed_is_held.ensures t c.in-Some.survey.frame c.in-Some.survey.lowest (subst (λ (d : DriveFields). ListsAllHeld d.store.table) c.loop-frame.invariant.same c.listings.ensures)
+    goes.lowest goes.sparse.sealed

@@ -6,8 +6,8 @@ use Rattle.drive.specs.Fields.{DriveFields}
 use Rattle.segment_copier.specs.Choosing.{IsSparse}
 use Rattle.segment_copier.specs.private.Surveying.{IsFound}
 use Rattle.segment_copier.proofs.Surveyed.{step_with, step_without, none_sparse}
-use Rattle.segment_copier.proofs.choices.survey_of.Goals as goal
-use Rattle.segment_copier.proofs.choices.survey_of.Goals.{in-Some, in_default}
+use Rattle.segment_copier.proofs.choices.lowest_in.Goals as goal
+use Rattle.segment_copier.proofs.choices.lowest_in.Goals.{in-Some, in_default}
 
 pub loop-index-preserved : goal.loop-index-preserved
 loop-index-preserved g c =
@@ -20,16 +20,16 @@ loop-index-preserved g c =
       same = c.role.ensures.same ∙ c.loop-index.invariant.same;
       life = λ _. (let place = c.in_ok-place.ensures.place.0 refl in (place.lowest_generation, place.highest_generation));
       found = elim c.match-role.branch [
-        | in-Some w ↦ subst (IsFound t c.args.frame (c.loop-index.index + 1)) (sym w.found-is)
-            (step_with t c.args.frame c.loop-index.index (c.loop-index.index + 1) c.in_ok-generation.generation c.loop-index.found c.in_ok-place.place w.in-Some.role w.with_block.result
-            c.loop-index-test.true c.in_ok-place.ensures.value refl generation (sym w.in-Some.is ∙ role) c.loop-index.invariant.found w.with_block.ensures.first w.with_block.ensures.more)
-        | in_default w ↦ subst (IsFound t c.args.frame (c.loop-index.index + 1)) (sym w.found-is)
-            (step_without t c.args.frame c.loop-index.index (c.loop-index.index + 1) c.in_ok-generation.generation c.loop-index.found c.in_ok-place.place
+        | in-Some w ↦ subst (IsFound t c.args.frame (c.loop-index.index + 1)) (sym w.lowest-is)
+            (step_with t c.args.frame c.loop-index.index (c.loop-index.index + 1) c.in_ok-generation.generation c.loop-index.lowest c.in_ok-place.place w.in-Some.role w.with_block.result
+            c.in_ok-place.ensures.value refl generation (sym w.in-Some.is ∙ role) c.loop-index.invariant.found w.with_block.ensures.first w.with_block.ensures.more)
+        | in_default w ↦ subst (IsFound t c.args.frame (c.loop-index.index + 1)) (sym w.lowest-is)
+            (step_without t c.args.frame c.loop-index.index (c.loop-index.index + 1) c.in_ok-generation.generation c.loop-index.lowest c.in_ok-place.place
             c.loop-index-test.true c.in_ok-place.ensures.value refl generation (sym w.in_default.is ∙ role) c.loop-index.invariant.found)
       ];
     }
 
 pub returns-clause-none : goal.returns-clause-none
 returns-clause-none g c =
-    subst (λ (d : DriveFields). IfNone c.loop-index.found (IsSparse d.store.table c.args.frame → ⊥)) c.generation.ensures.same
-    (none_sparse c.generation.new.self.store.table c.args.frame c.loop-index.index c.loop-index.found (omega arith) c.loop-index.invariant.found)
+    subst (λ (d : DriveFields). IfNone c.loop-index.lowest (IsSparse d.store.table c.args.frame → ⊥)) c.generation.ensures.same
+    (none_sparse c.generation.new.self.store.table c.args.frame c.loop-index.index c.loop-index.lowest (omega arith) c.loop-index.invariant.found)
