@@ -3,7 +3,7 @@
 
     refused.py SCRIPT..       scripts of tests/drive, played by `replay`. It asks each step that is refused NoMemory once more, so that a
                               script has the answers that it expects, whichever allocation is refused, and from there on it compares
-                              each version with the plain drive after each step. Status 2 says that it had no memory for its own
+                              each version with the plain drive after each step, and the counts with a count anew. Status 2 says that it had no memory for its own
                               work, and isn't a fault
     refused.py session        a session of `s4d pipe`, whose output is judged as examples/limits.py does
     refused.py CRATE TEST     TEST: a test's name, or its end; first (cd crates/CRATE && rt test) builds it

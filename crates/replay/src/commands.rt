@@ -71,6 +71,9 @@ pub(crate) enum Look {
     Inode,
     Distance,
     Held,
+    Places,
+    HeldCount,
+    Recount,
     Frame,
     Word,
     Chosen,
@@ -138,7 +141,7 @@ pub(crate) enum Verb {
 
 /// How commands are spelled: `$` stands for a name, `#` for a number, `%` for bytes, `[at]` and `[now]` for such a word and a
 /// number, or for none.
-static COMMANDS: [(&str, Verb); 76] = [
+static COMMANDS: [(&str, Verb); 79] = [
     ("drive # window #", Verb::Begin(Beginning::Drive)),
     ("drive # window # alone", Verb::Begin(Beginning::Alone)),
     ("drive # window # inodes #", Verb::Begin(Beginning::Caching)),
@@ -182,6 +185,9 @@ static COMMANDS: [(&str, Verb); 76] = [
     ("inode # #", Verb::Look(Look::Inode)),
     ("entries_to # #", Verb::Look(Look::Distance)),
     ("held # #", Verb::Look(Look::Held)),
+    ("places # #", Verb::Look(Look::Places)),
+    ("held_count #", Verb::Look(Look::HeldCount)),
+    ("recount", Verb::Look(Look::Recount)),
     ("frame #", Verb::Look(Look::Frame)),
     ("word #", Verb::Look(Look::Word)),
     ("chosen", Verb::Look(Look::Chosen)),

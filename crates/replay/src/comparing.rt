@@ -1,5 +1,6 @@
-//! All that can be read, compared with what the plain drive tells.
+//! All that can be read, compared with what the plain drive tells, and what the drive counts with a count anew.
 use crate::commands::Beside;
+use crate::counting::find_miscount;
 use crate::party::Played;
 use crate::stage::Stage;
 use crate::text::Text;
@@ -116,10 +117,13 @@ fn tell_alike<D: Played>(stage: &mut Stage, drive: &mut D, text: &mut Text) -> R
     Ok(())
 }
 
-/// Compares all behind a step, where that is to be done.
+/// Compares behind a step what is to be compared there.
 pub(crate) fn watch<D: Played>(stage: &mut Stage, drive: &mut D) -> Result<(), Refusal> {
     if stage.is_watched {
-        compare_all(stage, drive)?;
+        return compare_all(stage, drive);
+    }
+    if stage.is_counted {
+        compare_counts(stage, drive)?;
     }
     Ok(())
 }
@@ -132,12 +136,22 @@ pub(crate) fn watch_line<D: Played>(stage: &mut Stage, drive: &mut D) -> Result<
     Ok(())
 }
 
-/// Compares all, where there is a plain drive, and remarks what is unlike.
+/// Compares what the drive counts with a count anew, and remarks the first number that differs.
+fn compare_counts<D: Played>(stage: &mut Stage, drive: &mut D) -> Result<(), Refusal> {
+    stage.is_spent = true;
+    if let Some(miscount) = find_miscount(drive)? {
+        stage.remark.word("counted anew");
+        miscount.tell(&mut stage.remark);
+    }
+    Ok(())
+}
+
+/// Compares all: the counts, and what can be read, where there is a plain drive.
 fn compare_all<D: Played>(stage: &mut Stage, drive: &mut D) -> Result<(), Refusal> {
+    compare_counts(stage, drive)?;
     if stage.plain.is_none() {
         return Ok(());
     }
-    stage.is_spent = true;
     if let Some((object, at)) = find_unlike(stage, drive)? {
         stage.remark.word("unlike");
         stage.remark.number(object);

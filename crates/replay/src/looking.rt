@@ -1,6 +1,7 @@
 //! What is looked at.
 use crate::acting::frame_of;
 use crate::commands::{Asked, Look};
+use crate::counting::tell_recount;
 use crate::party::Played;
 use crate::text::Text;
 use codec::{Entry, Pair, Status, Triple};
@@ -46,7 +47,7 @@ fn tell_moments(text: &mut Text, entries: &[Entry]) {
 }
 
 /// Tells what was and what is, with `>` between them.
-fn tell_change(text: &mut Text, before: u64, after: u64) {
+pub(crate) fn tell_change(text: &mut Text, before: u64, after: u64) {
     text.number(before);
     text.mark(">");
     text.digits(after);
@@ -183,6 +184,11 @@ fn tell_held<D: Played>(
     Ok(())
 }
 
+/// The number of a block; one that is too great is that of no payload block.
+pub(crate) fn block_of(block: u64) -> u8 {
+    u8::try_from(block).unwrap_or(u8::MAX)
+}
+
 fn tell_frame<D: Played>(text: &mut Text, drive: &mut D, frame: u64) {
     let Some(generation) = drive.generation(frame_of(frame)) else {
         text.word("none");
@@ -224,6 +230,17 @@ fn look_at_drive<D: Played>(drive: &mut D, look: Look) -> u64 {
     }
 }
 
+/// Looks at a frame, or at one of its blocks.
+fn look_at_frame<D: Played>(text: &mut Text, drive: &mut D, look: Look, numbers: [u64; 3]) {
+    let [frame, block, _] = numbers;
+    match look {
+        Look::Frame => tell_frame(text, drive, frame),
+        Look::Word => tell_word(text, drive, frame),
+        Look::Places => text.number(drive.places(frame_of(frame), block_of(block)) as u64),
+        _ => text.number(drive.held_count(frame_of(frame)) as u64),
+    }
+}
+
 /// Looks at an object.
 fn look_at_object<D: Played>(
     drive: &mut D,
@@ -259,14 +276,11 @@ pub(crate) fn perform_look<D: Played>(
             text.number(look_at_drive(drive, look));
             Ok(())
         }
-        Look::Frame => {
-            tell_frame(text, drive, asked.numbers[0]);
+        Look::Frame | Look::Word | Look::Places | Look::HeldCount => {
+            look_at_frame(text, drive, look, asked.numbers);
             Ok(())
         }
-        Look::Word => {
-            tell_word(text, drive, asked.numbers[0]);
-            Ok(())
-        }
+        Look::Recount => tell_recount(text, drive),
         Look::Chosen => tell_chosen(text, drive),
         Look::Rules => {
             drive.rules();

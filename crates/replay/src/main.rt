@@ -1,5 +1,6 @@
 //! Plays scripts of plain text over the proved drive, with the history cleaner and the segment copier, and the plain drive beside it:
-//! `replay [--print] [FILE..]`.
+//! `replay [--print] [--recount] [--inodes N] [FILE..]`. With `--recount` what the drive counts is compared with a count anew behind
+//! each step; with `--inodes N` a drive keeps the inodes of so many checkpoints at most, where its line doesn't say how many.
 //!
 //! Each step of a script is taken by `interleaving::run`, which is proved to keep every version; each line says what must be
 //! answered. What differs is printed, and then how many lines were played and how many of them differ. The status is 0 where none
@@ -9,6 +10,7 @@
 mod acting;
 mod commands;
 mod comparing;
+mod counting;
 mod imaging;
 mod looking;
 mod party;
@@ -18,17 +20,21 @@ mod stage;
 mod text;
 mod words;
 
-use player::{Report, play_script};
+use checkpoint::CACHED_INODES;
+use player::{Manner, Report, play_script};
 use s4_types::Refusal;
 use std::process::ExitCode;
 use std::thread::Threads;
 use std::{fs, io};
+use words::count_of;
 
 /// Why scripts couldn't be played to their end.
 #[derive(Clone, Copy)]
 enum Fault {
     NoMemory,
     NoOutput,
+    /// So many inodes can't be kept.
+    NoInodes,
     /// The script of this number among the words can't be read.
     NoScript(usize),
 }
@@ -63,13 +69,13 @@ fn play<T: Threads>(
     name: &str,
     script: io::Result<String>,
     number: usize,
-    is_printed: bool,
+    manner: Manner,
 ) -> Result<(), Fault> {
     let script = match script {
         Ok(script) => script,
         Err(_) => return Err(Fault::NoScript(number)),
     };
-    match play_script(threads, rt.alloc(), name, script.as_str(), is_printed) {
+    match play_script(threads, rt.alloc(), name, script.as_str(), manner) {
         Ok(report) => count(rt, sum, report),
         Err(_) => Err(Fault::NoMemory),
     }
@@ -81,15 +87,15 @@ fn play_all<T: Threads>(
     rt: &HostRuntime,
     sum: &mut Sum,
     files: &[String],
-    is_printed: bool,
+    manner: Manner,
 ) -> Result<(), Fault> {
     if files.is_empty() {
         let script = io::read_to_string(rt.alloc(), rt.stdin());
-        return play(threads, rt, sum, "-", script, 0, is_printed);
+        return play(threads, rt, sum, "-", script, 0, manner);
     }
     for (number, file) in files.iter().enumerate() {
         let script = fs::read_to_string(rt, file.as_str());
-        play(threads, rt, sum, file.as_str(), script, number, is_printed)?;
+        play(threads, rt, sum, file.as_str(), script, number, manner)?;
     }
     Ok(())
 }
@@ -105,25 +111,54 @@ fn status_of(sum: &Sum) -> u8 {
     }
 }
 
+/// Whether a word comes first, and the words behind it.
+fn take_word<'a>(words: &'a [String], name: &str) -> (bool, &'a [String]) {
+    match words {
+        [first, behind @ ..] if first.as_str() == name => (true, behind),
+        _ => (false, words),
+    }
+}
+
+/// How many inodes a drive keeps by the words, and those behind them.
+fn take_inodes(words: &[String]) -> Result<(usize, &[String]), Fault> {
+    let (is_given, words) = take_word(words, "--inodes");
+    if !is_given {
+        return Ok((CACHED_INODES, words));
+    }
+    let [number, behind @ ..] = words else {
+        return Err(Fault::NoInodes);
+    };
+    match count_of(number.as_bytes()) {
+        Some(number) if (1..=CACHED_INODES as u64).contains(&number) => {
+            Ok((number as usize, behind))
+        }
+        _ => Err(Fault::NoInodes),
+    }
+}
+
+/// How scripts are played by the words, and the files that they name.
+fn manner_of(words: &[String]) -> Result<(Manner, &[String]), Fault> {
+    let (is_printed, words) = take_word(words, "--print");
+    let (is_counted, words) = take_word(words, "--recount");
+    let (inodes, files) = take_inodes(words)?;
+    let manner = Manner {
+        is_printed,
+        is_counted,
+        inodes,
+    };
+    Ok((manner, files))
+}
+
 /// Plays the scripts that the words name, and prints what they came to.
 fn perform<T: Threads>(threads: &T, rt: &HostRuntime, words: &[String]) -> Result<u8, Fault> {
-    let files = words.get(1..).unwrap_or(&[]);
-    let is_printed = match files.first() {
-        Some(word) => word.as_str() == "--print",
-        None => false,
-    };
-    let files = if is_printed {
-        files.get(1..).unwrap_or(&[])
-    } else {
-        files
-    };
+    let (manner, files) = manner_of(words.get(1..).unwrap_or(&[]))?;
     let mut sum = Sum {
         lines: 0,
         differing: 0,
         is_broken: false,
     };
-    play_all(threads, rt, &mut sum, files, is_printed)?;
-    let mark = if is_printed { "# " } else { "" };
+    play_all(threads, rt, &mut sum, files, manner)?;
+    let mark = if manner.is_printed { "# " } else { "" };
     match println!(rt; "{mark}{} lines, {} differ", sum.lines, sum.differing) {
         Ok(()) => Ok(status_of(&sum)),
         Err(_) => Err(Fault::NoOutput),
@@ -135,6 +170,9 @@ fn tell_fault(rt: &HostRuntime, words: &[String], fault: Fault) {
     let _ = match fault {
         Fault::NoMemory => eprintln!(rt; "replay: out of memory"),
         Fault::NoOutput => eprintln!(rt; "replay: cannot write"),
+        Fault::NoInodes => eprintln!(rt;
+            "replay: --inodes takes a number from 1 to {CACHED_INODES}"
+        ),
         Fault::NoScript(number) => eprintln!(rt;
             "replay: cannot read file {}",
             number.saturating_add(1)

@@ -90,6 +90,13 @@ pub(crate) trait Played {
 
     fn held(&mut self, object: u64, frame: u16) -> Result<Vec<Ptr>, Refusal>;
 
+    fn places(&self, frame: u16, block: u8) -> u32;
+
+    fn held_count(&self, frame: u16) -> u8;
+
+    /// How often each block is named, counted anew: 15 numbers for each frame.
+    fn recount(&mut self) -> Result<Vec<u32>, Refusal>;
+
     fn generation(&mut self, frame: u16) -> Option<u32>;
 
     fn is_draining(&mut self, frame: u16) -> bool;
@@ -253,6 +260,18 @@ impl<J: Naming> Played for Party<J> {
 
     fn held(&mut self, object: u64, frame: u16) -> Result<Vec<Ptr>, Refusal> {
         self.drive.held_in(ObjectId::new(object), frame)
+    }
+
+    fn places(&self, frame: u16, block: u8) -> u32 {
+        self.drive.places(frame, block)
+    }
+
+    fn held_count(&self, frame: u16) -> u8 {
+        self.drive.held_count(frame)
+    }
+
+    fn recount(&mut self) -> Result<Vec<u32>, Refusal> {
+        self.drive.recount()
     }
 
     fn generation(&mut self, frame: u16) -> Option<u32> {

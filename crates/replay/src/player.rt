@@ -36,6 +36,17 @@ pub(crate) enum Start {
     Image,
 }
 
+/// How scripts are played.
+#[derive(Clone, Copy)]
+pub(crate) struct Manner {
+    /// Whether each command is printed with its answer.
+    pub(crate) is_printed: bool,
+    /// Whether the drive's counts are compared with a count anew behind each step.
+    pub(crate) is_counted: bool,
+    /// How many inodes of checkpoints a new drive keeps, where its line doesn't say so.
+    pub(crate) inodes: usize,
+}
+
 /// What came of a script.
 #[derive(Drop)]
 pub(crate) struct Report {
@@ -52,7 +63,7 @@ pub(crate) struct Player<'a> {
     name: &'a str,
     lines: &'a [&'a [u8]],
     next: usize,
-    is_printed: bool,
+    manner: Manner,
     stage: Stage,
     report: Report,
 }
@@ -78,18 +89,25 @@ fn perform<D: Played, R: Threads>(
     match command.verb {
         Verb::Begin(_) => {
             text.word("Idle");
-            return Ok(());
+            Ok(())
         }
-        Verb::Look(look) => return perform_look(drive, look, &asked, text),
-        Verb::Compare(beside) => return perform_comparing(stage, drive, beside, text),
-        Verb::Hold(imaging) => return perform_imaging(rt, stage, drive, imaging, &asked, text),
-        Verb::Sit(sitting) => perform_sitting(stage, drive, sitting, &asked, text)?,
-        Verb::Ask(asking) => perform_asking(stage, drive, asking, &asked, text)?,
-        Verb::Act(acting) => perform_acting(stage, drive, acting, &asked, text)?,
-        Verb::Step(upkeep) => perform_upkeep(stage, drive, upkeep, &asked, text)?,
-        Verb::Tidy(tidying) => perform_tidying(stage, drive, tidying, &asked, text)?,
+        Verb::Look(look) => perform_look(drive, look, &asked, text),
+        Verb::Compare(beside) => perform_comparing(stage, drive, beside, text),
+        Verb::Hold(imaging) => perform_imaging(rt, stage, drive, imaging, &asked, text),
+        Verb::Sit(sitting) => perform_sitting(stage, drive, sitting, &asked, text),
+        Verb::Ask(asking) => perform_asking(stage, drive, asking, &asked, text),
+        Verb::Act(acting) => perform_acting(stage, drive, acting, &asked, text),
+        Verb::Step(upkeep) => perform_upkeep(stage, drive, upkeep, &asked, text),
+        Verb::Tidy(tidying) => perform_tidying(stage, drive, tidying, &asked, text),
     }
-    watch(stage, drive)
+}
+
+/// Whether a command may change the drive.
+fn is_step(verb: Verb) -> bool {
+    matches!(
+        verb,
+        Verb::Sit(_) | Verb::Ask(_) | Verb::Act(_) | Verb::Step(_) | Verb::Tidy(_)
+    )
 }
 
 /// What a command is answered; NoMemory is refused where it is told.
@@ -104,6 +122,9 @@ fn try_command<D: Played, R: Threads>(
         Ok(()) => {}
         Err(Refusal::NoMemory) => return Err(Refusal::NoMemory),
         Err(refusal) => text.refusal(refusal),
+    }
+    if is_step(command.verb) {
+        watch(stage, drive)?;
     }
     text.finish()
 }
@@ -263,7 +284,7 @@ impl<'a> Player<'a> {
     /// Judges what a line was answered.
     fn judge(&mut self, line: &Line<'_>, outcome: &Outcome<'_>) -> Result<(), Refusal> {
         self.report.lines = self.report.lines.saturating_add(1);
-        if self.is_printed {
+        if self.manner.is_printed {
             self.print(line.text);
             self.report.text.mark(" -> ");
             self.report.text.mark(outcome.told.as_str());
@@ -291,7 +312,7 @@ impl<'a> Player<'a> {
         let frames = usize::try_from(frames).unwrap_or(0);
         let inodes = match beginning {
             Beginning::Caching => usize::try_from(inodes).unwrap_or(0),
-            _ => CACHED_INODES,
+            _ => self.manner.inodes,
         };
         if !can_be_made(frames, inodes) {
             return Ok(None);
@@ -354,7 +375,7 @@ impl<'a> Player<'a> {
         text: &[u8],
     ) -> Result<Option<Start>, Refusal> {
         if text.is_empty() || text.starts_with(b"#") {
-            if self.is_printed {
+            if self.manner.is_printed {
                 self.print(text);
                 self.report.text.mark("\n");
             }
@@ -410,6 +431,7 @@ impl<'a> Player<'a> {
     ) -> Result<Start, Refusal> {
         welcome(&mut self.stage, drive, b"client", Role::Client)?;
         welcome(&mut self.stage, drive, b"admin", Role::Admin)?;
+        watch(&mut self.stage, drive)?;
         let lines = self.lines;
         for place in self.next..lines.len() {
             self.next = place + 1;
@@ -457,7 +479,7 @@ pub(crate) fn play_script<R: Threads>(
     alloc: Global,
     name: &str,
     script: &str,
-    is_printed: bool,
+    manner: Manner,
 ) -> Result<Report, Refusal> {
     let lines = lines_of(alloc, script)?;
     let report = Report {
@@ -471,14 +493,14 @@ pub(crate) fn play_script<R: Threads>(
         name,
         lines: lines.as_slice(),
         next: 0,
-        is_printed,
-        stage: Stage::new(alloc),
+        manner,
+        stage: Stage::new(alloc, manner.is_counted),
         report,
     };
     let mut start = Start::New {
         frames: FEWEST_FRAMES,
         window: 100,
-        inodes: CACHED_INODES,
+        inodes: manner.inodes,
         is_alone: false,
     };
     for _ in 0..=lines.len() {

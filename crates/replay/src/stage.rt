@@ -24,6 +24,8 @@ pub(crate) struct Stage {
     pub(crate) pile: Vec<Option<Reply>>,
     /// Whether all is compared behind each step.
     pub(crate) is_watched: bool,
+    /// Whether the drive's counts are compared behind each step, of all drives of the script.
+    pub(crate) is_counted: bool,
     /// Whether memory was refused since the drive began: all is compared behind each line then.
     pub(crate) has_lacked: bool,
     /// Whether a command that is refused memory can't be done once more.
@@ -41,13 +43,14 @@ pub(crate) struct Stage {
 }
 
 impl Stage {
-    pub(crate) fn new(alloc: Global) -> Self {
+    pub(crate) fn new(alloc: Global, is_counted: bool) -> Self {
         Stage {
             alloc,
             seats: Vec::new(alloc),
             plain: None,
             pile: Vec::new(alloc),
             is_watched: false,
+            is_counted,
             has_lacked: false,
             is_spent: false,
             is_excused: false,
