@@ -15,14 +15,14 @@ use version_store::CopiedBlock;
 
 impl<J: Naming> Drive<J> {
     /// An object's blocks go to new places: these copies of its data blocks in one frame, in their order, then its checkpoint,
-    /// if it has one, and its whole journal, with each pointer to a copied block leading to the copy. The blocks that were
-    /// copied are dropped. With no copies the checkpoint and the journal alone go. Checkpoint and entries keep their moments;
-    /// the row is changed once more. Each version of each object is as it was, at every moment, and the moment of the last
-    /// change stays.
+    /// if it has one, and its whole journal, with each pointer to a copied block pointing to the copy. The blocks that were
+    /// copied are dropped, and its older checkpoints go. With no copies the checkpoint and the journal alone are written anew.
+    /// Checkpoint and entries keep their moments; the row is changed once more. Each version of each object is as it was, at
+    /// every moment, and the moment of the last change stays.
     ///
     /// NoRoom exactly where fewer places are ahead than the copies, the checkpoint and the journal take; else NoMemory alone,
-    /// where the memory for the entries is refused. Then nothing has changed. It takes time in proportion to the copies and
-    /// the entries.
+    /// where the memory for the entries or for the lists of their pointers is refused. Then nothing has changed. It takes time
+    /// in proportion to the copies and the entries.
     pub fn relocate(&mut self, object: ObjectId, copies: &[CopiedBlock]) -> Result<(), Refusal>
         requires some { IsSome (row_of self.old.store.rows object) }
         requires copies { AreCopies (store_of self.old).log.held object copies.now }

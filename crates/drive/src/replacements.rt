@@ -38,10 +38,10 @@ impl<J: Naming> Drive<J> {
     }
 
     /// An object's journal, which has the entries `before`, becomes these entries, the oldest first, and its present inode this
-    /// one, which is written as its checkpoint with the moment of the last entry that stood. Its data blocks that nothing of the
-    /// new row leads to are dropped. At each moment that can be read, and at the clock, the entries lead to the version that the
-    /// object has: so every version that can be read is as it was. All other objects are as they were at every moment, and the
-    /// moment of the last change stays.
+    /// one, which is written as its checkpoint with the moment of the last entry that stood. Its older checkpoints go. Its data
+    /// blocks that nothing of the new row points to are dropped. At each moment that can be read, and at the clock, the entries
+    /// lead to the version that the object has: so every version that can be read is as it was. All other objects are as they
+    /// were at every moment, and the moment of the last change stays.
     ///
     /// NoRoom exactly where fewer places are ahead than the checkpoint and the entries take; else NoMemory alone, where the
     /// memory for the lists of data blocks is refused. Then nothing has changed. It takes time in proportion to the old

@@ -117,7 +117,7 @@ fn tell_alike<D: Played>(stage: &mut Stage, drive: &mut D, text: &mut Text) -> R
     Ok(())
 }
 
-/// Compares behind a step what is to be compared there.
+/// Compares after a step what is to be compared there.
 pub(crate) fn watch<D: Played>(stage: &mut Stage, drive: &mut D) -> Result<(), Refusal> {
     if stage.is_watched {
         return compare_all(stage, drive);
@@ -128,7 +128,7 @@ pub(crate) fn watch<D: Played>(stage: &mut Stage, drive: &mut D) -> Result<(), R
     Ok(())
 }
 
-/// Compares all behind a line, where memory was refused.
+/// Compares all after a line, where memory was refused.
 pub(crate) fn watch_line<D: Played>(stage: &mut Stage, drive: &mut D) -> Result<(), Refusal> {
     if stage.has_lacked {
         compare_all(stage, drive)?;

@@ -1,5 +1,5 @@
 //! Plays scripts of plain text over the proved drive, with the history cleaner and the segment copier, and the plain drive beside it:
-//! `replay [--print] [--recount] [--inodes N] [FILE..]`. With `--recount` what the drive counts is compared with a count anew behind
+//! `replay [--print] [--recount] [--inodes N] [FILE..]`. With `--recount` what the drive counts is compared with a count anew after
 //! each step; with `--inodes N` a drive keeps the inodes of so many checkpoints at most, where its line doesn't say how many.
 //!
 //! Each step of a script is taken by `interleaving::run`, which is proved to keep every version; each line says what must be
@@ -111,26 +111,26 @@ fn status_of(sum: &Sum) -> u8 {
     }
 }
 
-/// Whether a word comes first, and the words behind it.
+/// Whether a word comes first, and the words after it.
 fn take_word<'a>(words: &'a [String], name: &str) -> (bool, &'a [String]) {
     match words {
-        [first, behind @ ..] if first.as_str() == name => (true, behind),
+        [first, others @ ..] if first.as_str() == name => (true, others),
         _ => (false, words),
     }
 }
 
-/// How many inodes a drive keeps by the words, and those behind them.
+/// How many inodes a drive keeps by the words, and those after them.
 fn take_inodes(words: &[String]) -> Result<(usize, &[String]), Fault> {
     let (is_given, words) = take_word(words, "--inodes");
     if !is_given {
         return Ok((CACHED_INODES, words));
     }
-    let [number, behind @ ..] = words else {
+    let [number, others @ ..] = words else {
         return Err(Fault::NoInodes);
     };
     match count_of(number.as_bytes()) {
         Some(number) if (1..=CACHED_INODES as u64).contains(&number) => {
-            Ok((number as usize, behind))
+            Ok((number as usize, others))
         }
         _ => Err(Fault::NoInodes),
     }

@@ -41,7 +41,7 @@ pub(crate) enum Start {
 pub(crate) struct Manner {
     /// Whether each command is printed with its answer.
     pub(crate) is_printed: bool,
-    /// Whether the drive's counts are compared with a count anew behind each step.
+    /// Whether the drive's counts are compared with a count anew after each step.
     pub(crate) is_counted: bool,
     /// How many inodes of checkpoints a new drive keeps, where its line doesn't say so.
     pub(crate) inodes: usize,

@@ -22,11 +22,11 @@ pub(crate) struct Stage {
     pub(crate) plain: Option<PlainDrive>,
     /// What the plans of the pile are to give.
     pub(crate) pile: Vec<Option<Reply>>,
-    /// Whether all is compared behind each step.
+    /// Whether all is compared after each step.
     pub(crate) is_watched: bool,
-    /// Whether the drive's counts are compared behind each step, of all drives of the script.
+    /// Whether the drive's counts are compared after each step, of all drives of the script.
     pub(crate) is_counted: bool,
-    /// Whether memory was refused since the drive began: all is compared behind each line then.
+    /// Whether memory was refused since the drive began: all is compared after each line then.
     pub(crate) has_lacked: bool,
     /// Whether a command that is refused memory can't be done once more.
     pub(crate) is_spent: bool,

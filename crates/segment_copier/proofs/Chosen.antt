@@ -19,9 +19,6 @@ use Rattle.segment_copier.proofs.Listed.{sealed_phase}
 phase_sealed : (p : Phase) → p ≡ Sealed → is_sealed p ≡ true
 phase_sealed p e = ap is_sealed e
 
-not_sealed : (p : Phase) → is_sealed p ≡ false → p ≡ Sealed → ⊥
-not_sealed p e is = absurd (let sealed = phase_sealed p is in cc)
-
 -- a list that has something isn't empty
 some_there : (places : List Place) (p : Place) → Contains places p → places ≡ [] → ⊥
 some_there [] p (k, h, e) none = absurd (omega arith)
@@ -78,14 +75,6 @@ best_without t f (Some b) before none = record {
     | inr other ↦ before.first g (omega (arith, low, other)) sparse
   ];
 }
-
--- so does one that isn't sealed
-pub best_unsealed : (t : Table) (f : ℕ) (best : Option Survey) → IsBestBelow t f best → is_sealed (frame_at t.seat.frames f).phase ≡ false → IsBestBelow t (f + 1) best
-best_unsealed t f best before other = best_without t f best before (λ sparse. not_sealed (frame_at t.seat.frames f).phase other sparse.sealed)
-
--- so does one that holds nothing
-pub best_of_empty : (t : Table) (f n : ℕ) (best : Option Survey) → IsBestBelow t f best → n ≡ held_count t f → n ≡ 0 → IsBestBelow t (f + 1) best
-best_of_empty t f n best before its none = best_without t f best before (λ sparse. let some : 1 ≤ held_count t f = sparse.some in absurd (omega (arith, some, its, none)))
 
 -- so does one of which so many blocks are held that it doesn't come before the best
 pub best_stays : (t : Table) (f n : ℕ) (best : Option Survey) → IsBestBelow t f best → n ≡ held_count t f

@@ -1,11 +1,12 @@
 -- What a checkpoint that is written leaves of a store.
-use Rattle.std.proofs.Common.{◌≡◌, ℕ, suc, ◌+◌, ◌*◌, ◌-◌, ◌^◌, ◌<◌, ◌≤◌, ◌==◌, ◌&&◌, ◌||◌, leb, ltb, true, false, List, [], ◌∷◌, length, slice_index_or, Option, Some, None, IsSome, IfSome, MatchOption, is_some, refl, sym, ap, subst, ◌∙◌, inl, inr, arith}
+use Rattle.std.proofs.Common.{cond, ◌≡◌, ℕ, suc, ◌+◌, ◌*◌, ◌-◌, ◌^◌, ◌<◌, ◌≤◌, ◌==◌, ◌&&◌, ◌||◌, leb, ltb, true, false, List, [], ◌∷◌, length, slice_index_or, Option, Some, None, IsSome, IfSome, MatchOption, is_some, refl, sym, ap, subst, ◌∙◌, inl, inr, arith}
 use Rattle.std.specs.Prelude.{is_none}
 use Rattle.std.proofs.lemmas.Bool.{cases_Bool, and_from, and_parts, and_right, or_left, or_right, eqb-true, ltb-true, ltb-false, leb-true, le-leb, false≢true}
 use Rattle.std.proofs.lemmas.List.{append-nil}
 use Rattle.s4_types.specs.Pointer.{Place}
 use Rattle.s4_types.specs.declared.limits.TheConstants.{OBJECT_BYTES, SIDES}
 use Rattle.block_log.specs.Taken.{TakesPlaces}
+use Rattle.s4_types.specs.declared.versions.Version.{Version}
 use Rattle.block_log.specs.Log.{Log, Stored, same_kind}
 use Rattle.block_log.specs.declared.kinds.BlockKind.TheVariants.{Journal, Checkpoint, Data}
 use Rattle.codec.specs.Checkpoint.{holes_past, checkpoint_rules}
@@ -23,15 +24,16 @@ use Rattle.time_read.specs.Rows.{IsRow, entries_of, inode_of, checkpoint_places_
 use Rattle.time_read.specs.Orderly.{IsOrderly}
 use Rattle.row_changes.specs.Recent.{IsBy}
 use Rattle.row_changes.specs.Moved.{IsMoved, places_gone}
-use Rattle.version_store.specs.Store.{IsNamedBy, StoreFields, IsStore, IsObject, pointers_named, pointers_of}
+use Rattle.version_store.specs.Store.{HasNothing, IsNamedBy, StoreFields, IsStore, IsObject, pointers_named, pointers_of}
 use Rattle.version_store.specs.Versions.{Stays, inode_by, inode_in, version_by, version_in}
 use Rattle.version_store.specs.Checkpointing.{last_entry, is_behind, IsCheckpointed}
 use Rattle.version_store.specs.private.CheckpointSteps.{CanCheckpoint, Checkpointed}
 use Rattle.version_store.specs.private.Recounting.{Counts}
-use Rattle.version_store.specs.private.Below.{OrderlyStays, RowStays, RowInodeStays, IsByStays, IsByLater, LastInodeStays, GroupsAscend, RowsKeepTheMaking, CheckpointsTakeBlocks}
+use Rattle.version_store.specs.private.Below.{ChangesStand, OrderlyStays, RowStays, RowInodeStays, IsByStays, IsByLater, LastInodeStays, GroupsAscend, RowsKeepTheMaking, CheckpointsTakeBlocks}
 use Rattle.version_store.proofs.Frames.{DataStays, data_there, data_agree, data_pointers, stays_object, inode_in_stays, version_in_stays}
 use Rattle.version_store.proofs.Telling.{Moves, same_entries, leads_later, moved_leads}
 use Rattle.version_store.proofs.Recounted.{counted_beside}
+use Rattle.version_store.proofs.Changed.{Changes, own_or_other, some_keeps, some_stays, checkpoint_others, changed_inodes, changed_store, changed_versions, store_others}
 use Rattle.version_store.proofs.Across.{IsAcross, changed_across}
 use Rattle.version_store.proofs.Spending.{sum_stays}
 use Rattle.version_store.proofs.Steps.{row_here, row_beside, row_cases, none_cases, stamped_row, stamped_inode}
@@ -210,67 +212,46 @@ rewritten_across s rows log o row next i m can know writes put =
     (λ q r other e. same_entries s.log.held log.held q r (checkpoint_stays o q s.log.held log.held writes.others other).journal)
     (record { ascending = can.store.ascending; apart = can.store.apart })
 
-rewritten_store : OrderlyStays → RowStays → RowInodeStays → IsByStays → IsByLater → OnlyItsBlocksMatter → (s : StoreFields) (rows : List (ℕ × Row)) (log : Log) (o : ℕ) (row next : Row) (i : Inode) (m : ℕ)
-    → CanCheckpoint s o row i m → Known s o row i m → Rewrites s log o row next m → IsPut s rows o row next → Counts s.log log o next → IsStore (next_store s rows log)
-rewritten_store orderly stands same by later_by matter s rows log o row next i m can know writes put counts =
-    let some = know.some in
-    let sum = sum_stays (checkpoint_blocks (inode_of s.log.held o row m)) s.log log writes.takes know.ahead in
-    let more : log.spent ≡ checkpoint_blocks (inode_of s.log.held o row m) + s.log.spent = writes.takes.spent in
-    let across = rewritten_across s rows log o row next i m can know writes put in
-    record {
-      objects = row_cases (row_of s.rows) (row_of rows) o (record next { stamp = row.stamp + 1 }) put (λ q r. IsObject log.held q r s.latest)
-          (rewritten_object later_by matter s log o row next m (row.stamp + 1) writes know.upto (can.store.objects o row can.there))
-          (λ q r other e. stays_object stands same by matter q s.log.held log.held r s.latest (checkpoint_stays o q s.log.held log.held writes.others other) (can.store.objects q r e));
-      orderly = row_cases (row_of s.rows) (row_of rows) o (record next { stamp = row.stamp + 1 }) put (λ q r. IsOrderly log.held q r s.latest)
-          (orderly.stamp log.held o s.latest (row.stamp + 1) next (writes.orderly s.latest know.upto (can.store.orderly o row can.there)))
-          (λ q r other e.
-          let stays = checkpoint_stays o q s.log.held log.held writes.others other in
-          orderly.blocks s.log.held log.held q s.latest r stays.journal stays.checkpoints (can.store.orderly q r e));
-      names = counts.names;
-      counted = row_cases (row_of s.rows) (row_of rows) o (record next { stamp = row.stamp + 1 }) put (λ q r. IsNamedBy q log (pointers_named log.held q r))
-          counts.here
-          (λ q r other e.
-          let stays = checkpoint_stays o q s.log.held log.held writes.others other in
-          counted_beside s.log log q r stays.journal stays.checkpoints (λ p. counts.beside q p other) (can.store.counted q r e));
-      few = row_cases (row_of s.rows) (row_of rows) o (record next { stamp = row.stamp + 1 }) put (λ q r. length r.sides ≤ SIDES) counts.few (λ q r other e. can.store.few q r e);
-      nothing = λ q none kind p.
-          let gone = none_cases (row_of s.rows) (row_of rows) o (record next { stamp = row.stamp + 1 }) put q none in
-          ap (λ (view : Place → Option (List ℕ)). view p) (writes.others kind q (and_right (same_kind Checkpoint kind) (o == q) gone.0)) ∙ can.store.nothing q gone.1 kind p;
-      stamps = row_cases (row_of s.rows) (row_of rows) o (record next { stamp = row.stamp + 1 }) put (λ q r. r.stamp ≤ log.spent)
-          (let bound = can.store.stamps o row can.there in omega (arith, bound, more, some))
-          (λ q r other e. let bound = can.store.stamps q r e in omega (arith, bound, more));
-      bounded = let bound = can.store.bounded in omega (arith, bound, sum);
-      ascending = across.ascending;
-      apart = across.apart;
-    }
+-- one object's row is changed by it
+rewritten_changes : ChangesStand → (s : StoreFields) (rows : List (ℕ × Row)) (log : Log) (o : ℕ) (row next : Row) (i : Inode) (m : ℕ)
+    → CanCheckpoint s o row i m → Known s o row i m → Rewrites s log o row next m → IsPut s rows o row next → Counts s.log log o next
+    → Changes s (next_store s rows log) o (checkpoint_blocks (inode_of s.log.held o row m)) (Some (record next { stamp = row.stamp + 1 }))
+rewritten_changes rest s rows log o row next i m can know writes put counts = record {
+  put = put;
+  here = some_keeps (next_store s rows log) o (record next { stamp = row.stamp + 1 }) (record {
+    object = rewritten_object rest.later rest.meaning s log o row next m (row.stamp + 1) writes know.upto (can.store.objects o row can.there);
+    orderly = rest.orderly.stamp log.held o s.latest (row.stamp + 1) next (writes.orderly s.latest know.upto (can.store.orderly o row can.there));
+    counted = counts.here;
+    few = counts.few;
+    stamp = let some = know.some in let bound = can.store.stamps o row can.there in let more : log.spent ≡ checkpoint_blocks (inode_of s.log.held o row m) + s.log.spent = writes.takes.spent in omega (arith, bound, more, some);
+  });
+  gone = some_stays (record next { stamp = row.stamp + 1 }) (HasNothing log.held o);
+  names = counts.names;
+  beside = counts.beside;
+  others = checkpoint_others o s.log.held log.held writes.others;
+  takes = writes.takes;
+  sum = sum_stays (checkpoint_blocks (inode_of s.log.held o row m)) s.log log writes.takes know.ahead;
+  latest = omega arith;
+  across = rewritten_across s rows log o row next i m can know writes put;
+}
 
-rewritten_inodes : RowInodeStays → (s : StoreFields) (rows : List (ℕ × Row)) (log : Log) (o : ℕ) (row next : Row) (m : ℕ) → row_of s.rows o ≡ Some row → Rewrites s log o row next m → IsPut s rows o row next
-    → (q t : ℕ) → inode_in (next_store s rows log) q t ≡ inode_in s q t
-rewritten_inodes same s rows log o row next m there writes put q t = elim (cases_Bool (o == q)) [
-  | inl is ↦
-      let here : o ≡ q = eqb-true o q is in
-      let found : row_of rows o ≡ Some (record next { stamp = row.stamp + 1 }) = put o ∙ row_here (row_of s.rows) o (record next { stamp = row.stamp + 1 }) in
-      subst (λ (k : ℕ). inode_in (next_store s rows log) k t ≡ inode_in s k t) here
-      (ap (inode_by log.held o t) found
-      ∙ ap (λ (i : Inode). Some i) (stamped_inode log.held o next (row.stamp + 1) t ∙ writes.inode t)
-      ∙ sym (ap (inode_by s.log.held o t) there))
-  | inr other ↦ inode_in_stays same s (next_store s rows log) q t (put q ∙ row_beside (row_of s.rows) o q (record next { stamp = row.stamp + 1 }) other) (checkpoint_stays o q s.log.held log.held writes.others other)
-]
+rewritten_inodes : ChangesStand → (s : StoreFields) (rows : List (ℕ × Row)) (log : Log) (o : ℕ) (row next : Row) (m count : ℕ) → row_of s.rows o ≡ Some row → Rewrites s log o row next m
+    → Changes s (next_store s rows log) o count (Some (record next { stamp = row.stamp + 1 })) → (q t : ℕ) → inode_in (next_store s rows log) q t ≡ inode_in s q t
+rewritten_inodes rest s rows log o row next m count there writes changes q t =
+    changed_inodes rest s (next_store s rows log) o count (Some (record next { stamp = row.stamp + 1 })) changes q t
+    ∙ ap (λ (i : Option Inode). cond (o == q) i (inode_in s q t)) (ap (λ (i : Inode). Some i) (stamped_inode log.held o next (row.stamp + 1) t ∙ writes.inode t) ∙ sym (ap (inode_by s.log.held o t) there))
+    ∙ own_or_other o q (λ n. inode_in s n t)
 
-rewritten_versions : RowInodeStays → OnlyItsBlocksMatter → (s : StoreFields) (rows : List (ℕ × Row)) (log : Log) (o : ℕ) (row next : Row) (m : ℕ) → IsStore s → row_of s.rows o ≡ Some row → Rewrites s log o row next m → IsPut s rows o row next
-    → (q t : ℕ) → version_in (next_store s rows log) q t ≡ version_in s q t
-rewritten_versions same matter s rows log o row next m store there writes put q t = elim (cases_Bool (o == q)) [
-  | inl is ↦
-      let here : o ≡ q = eqb-true o q is in
-      let found : row_of rows o ≡ Some (record next { stamp = row.stamp + 1 }) = put o ∙ row_here (row_of s.rows) o (record next { stamp = row.stamp + 1 }) in
-      let i : Inode = inode_of s.log.held o row t in
-      subst (λ (k : ℕ). version_in (next_store s rows log) k t ≡ version_in s k t) here
-      (ap (λ (r : Option Row). version_by log.held (inode_by log.held o t r)) found
-      ∙ ap (meaning (contents_of log.held)) (stamped_inode log.held o next (row.stamp + 1) t ∙ writes.inode t)
-      ∙ (matter (contents_of s.log.held) (contents_of log.held) i (data_agree o s.log.held log.held i (checkpoint_data o s.log.held log.held writes.others) ((store.objects o row there).pointers t))).0
-      ∙ sym (ap (λ (r : Option Row). version_by s.log.held (inode_by s.log.held o t r)) there))
-  | inr other ↦ version_in_stays same matter s (next_store s rows log) q t store (put q ∙ row_beside (row_of s.rows) o q (record next { stamp = row.stamp + 1 }) other) (checkpoint_stays o q s.log.held log.held writes.others other)
-]
+rewritten_versions : ChangesStand → (s : StoreFields) (rows : List (ℕ × Row)) (log : Log) (o : ℕ) (row next : Row) (m count : ℕ) → IsStore s → row_of s.rows o ≡ Some row → Rewrites s log o row next m
+    → Changes s (next_store s rows log) o count (Some (record next { stamp = row.stamp + 1 })) → (q t : ℕ) → version_in (next_store s rows log) q t ≡ version_in s q t
+rewritten_versions rest s rows log o row next m count store there writes changes q t =
+    let i : Inode = inode_of s.log.held o row t in
+    changed_versions rest s (next_store s rows log) o count (Some (record next { stamp = row.stamp + 1 })) (store_others s o store) changes q t
+    ∙ ap (λ (v : Version). cond (o == q) v (version_in s q t))
+    (ap (meaning (contents_of log.held)) (stamped_inode log.held o next (row.stamp + 1) t ∙ writes.inode t)
+    ∙ (rest.meaning (contents_of s.log.held) (contents_of log.held) i (data_agree o s.log.held log.held i (checkpoint_data o s.log.held log.held writes.others) ((store.objects o row there).pointers t))).0
+    ∙ sym (ap (λ (r : Option Row). version_by s.log.held (inode_by s.log.held o t r)) there))
+    ∙ own_or_other o q (λ n. version_in s n t)
 
 rewritten_rows : (s : StoreFields) (rows : List (ℕ × Row)) (o : ℕ) (row next : Row) → row_of s.rows o ≡ Some row → IsPut s rows o row next → (q : ℕ) → is_some (row_of rows q) ≡ is_some (row_of s.rows q)
 rewritten_rows s rows o row next there put q = elim (cases_Bool (o == q)) [
@@ -321,19 +302,22 @@ rewritten_current s rows log o row next m writes put =
     let by : AllBy next.checkpoint_moment (entries_of log.held o next) = subst (λ (k : ℕ). AllBy k (entries_of log.held o next)) (sym moment) writes.by.entries in
     subst (λ (r : Option Row). IfSome r (λ x. AllBy x.checkpoint_moment (entries_of log.held o x))) (sym found) by
 
-pub rewritten : OrderlyStays → RowStays → RowInodeStays → IsByStays → IsByLater → LastInodeStays → OnlyItsBlocksMatter → (s : StoreFields) (rows : List (ℕ × Row)) (log : Log) (o : ℕ) (row next : Row) (i : Inode) (m : ℕ)
+pub rewritten : ChangesStand → (s : StoreFields) (rows : List (ℕ × Row)) (log : Log) (o : ℕ) (row next : Row) (i : Inode) (m : ℕ)
     → CanCheckpoint s o row i m → Known s o row i m → Rewrites s log o row next m → IsPut s rows o row next → Counts s.log log o next → Checkpointed s o row (next_store s rows log)
-rewritten orderly stands same by later_by last matter s rows log o row next i m can know writes put counts = record {
-  stands = record {
-    store = rewritten_store orderly stands same by later_by matter s rows log o row next i m can know writes put counts;
-    versions = rewritten_versions same matter s rows log o row next m can.store can.there writes put;
-    inodes = rewritten_inodes same s rows log o row next m can.there writes put;
-    latest = refl;
-    rows = rewritten_rows s rows o row next can.there put;
-  };
-  made = rewritten_made last s rows log o row next i m can know writes put;
-  current = rewritten_current s rows log o row next m writes put;
-}
+rewritten rest s rows log o row next i m can know writes put counts =
+    let count = checkpoint_blocks (inode_of s.log.held o row m) in
+    let changes = rewritten_changes rest s rows log o row next i m can know writes put counts in
+    record {
+      stands = record {
+        store = changed_store rest s (next_store s rows log) o count (Some (record next { stamp = row.stamp + 1 })) (store_others s o can.store) changes;
+        versions = rewritten_versions rest s rows log o row next m count can.store can.there writes changes;
+        inodes = rewritten_inodes rest s rows log o row next m count can.there writes changes;
+        latest = refl;
+        rows = rewritten_rows s rows o row next can.there put;
+      };
+      made = rewritten_made rest.last s rows log o row next i m can know writes put;
+      current = rewritten_current s rows log o row next m writes put;
+    }
 
 -- ---- where nothing has to be written
 

@@ -101,20 +101,18 @@ others_left o held counted bared first second names sides journal checkpoint kin
     ∙ sides kind other (and_right (same_kind Checkpoint kind) (o == other) beside) ∙ names kind other (and_right (same_kind Data kind) (o == other) beside)
 
 -- no data is left once no name is
-pub data_gone : (before after : Log) (o : ℕ) (pointers aside : List (Option Place)) → IsNamedBy o before (pointers ++ aside) → Recounts o before [] (aside ++ pointers) after → (p : Place) → of_kind Data o after.held p ≡ None
-data_gone before after o pointers aside counted counts p = none_there (of_kind Data o after.held p) (λ some.
+pub data_gone : (before after : Log) (o : ℕ) (named : List (Option Place)) → IsNamedBy o before named → Recounts o before [] named after → (p : Place) → of_kind Data o after.held p ≡ None
+data_gone before after o names counted counts p = none_there (of_kind Data o after.held p) (λ some.
     let least = named_there o after p counts.names some in
     let now = counts.here p in
     let was = counted p in
-    let named = times_joined p pointers aside in
-    let fewer = times_joined p aside pointers in
     let none : times_led p [] ≡ 0 = refl in
-    omega (arith, least, now, was, named, fewer, none))
+    omega (arith, least, now, was, none))
 
 -- and the names of all other data are as they were
-pub uncounted_all : (before counted bared first second : Log) (o : ℕ) (pointers aside : List (Option Place)) → Recounts o before [] (aside ++ pointers) counted → OnlyCheckpointChanged o counted.held bared.held → OnlyJournalChanged o bared.held first.held
+pub uncounted_all : (before counted bared first second : Log) (o : ℕ) (named : List (Option Place)) → Recounts o before [] named counted → OnlyCheckpointChanged o counted.held bared.held → OnlyJournalChanged o bared.held first.held
     → OnlyCheckpointChanged o first.held second.held → second.named ≡ counted.named → NamesAreOfData second → Uncounts before second o
-uncounted_all before counted bared first second o pointers aside counts sides journal checkpoint named names = record {
+uncounted_all before counted bared first second o given counts sides journal checkpoint named names = record {
   names = names;
   beside = λ q p beside.
       named_alike q counted second p (ap (λ (view : Place → Option (List ℕ)). view p) (checkpoint Data q refl ∙ journal Data q refl ∙ sides Data q refl)) (ap (λ (n : Place → ℕ). n p) named)

@@ -15,6 +15,7 @@ pub mod Named
 pub mod Recounted
 pub mod Handed
 pub mod Gathering
+pub mod Changed
 pub mod Steps
 pub mod Subjects
 pub mod Kind

@@ -3,7 +3,7 @@ use Rattle.std.proofs.Common.{◌≡◌, inl, inr, ℕ, ◌+◌, ◌*◌, ◌≤
 use Rattle.std.specs.List.{All, AllByRecursion, Contains, flat_map}
 use Rattle.std.proofs.lemmas.Bool.{cases_Bool, cond-true, eq-eqb, ltb-false, false≢true}
 use Rattle.std.proofs.lemmas.List.{length-append, get_or_default}
-use Rattle.std.proofs.lemmas.List.Elements.{All-weaker, All-contains_itself, Contains-append_cases}
+use Rattle.std.proofs.lemmas.List.Elements.{All-append, All-weaker, All-contains_itself, Contains-append_cases}
 use Rattle.s4_types.specs.Pointer.{Place}
 use Rattle.s4_types.specs.declared.limits.TheConstants.{OBJECT_BLOCKS, SIDES}
 use Rattle.block_log.specs.Log.{Log, Stored, of_kind, seen_as, same_kind, is_data, NamesAreOfData}
@@ -72,6 +72,9 @@ told_led held o pointers leads = All-weaker (Contains pointers) (IsLed held o) (
 -- so they lead to data of the object
 pub aside_led : (held : Place → Option Stored) (o : ℕ) (row : Row) → IsRow held o row → All (IsLed held o) (pointers_of held o row) → All (IsLed held o) (pointers_aside held o row)
 aside_led held o row stands led = told_led held o (pointers_aside held o row) (λ p there. led_there held o (pointers_of held o row) p led (side_leads held o row row.sides stands.sides p there))
+
+pub all_led : (held : Place → Option Stored) (o : ℕ) (row : Row) → IsRow held o row → All (IsLed held o) (pointers_of held o row) → All (IsLed held o) (pointers_named held o row)
+all_led held o row stands led = All-append (IsLed held o) (pointers_of held o row) (pointers_aside held o row) led (aside_led held o row stands led)
 
 -- ---- each data block has a name
 

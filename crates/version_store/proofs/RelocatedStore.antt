@@ -6,6 +6,7 @@ use Rattle.std.proofs.lemmas.List.Elements.{All-map, All-weaker}
 use Rattle.std.proofs.lemmas.List.{append-nil}
 use Rattle.std.proofs.lemmas.Option.{none-some, same_Some}
 use Rattle.s4_types.specs.Pointer.{Place}
+use Rattle.s4_types.specs.declared.versions.Version.{Version}
 use Rattle.block_log.specs.Log.{Log, Stored, of_kind, seen_as}
 use Rattle.block_log.specs.Taken.{TakesPlaces}
 use Rattle.block_log.specs.declared.kinds.BlockKind.TheVariants.{Journal, Checkpoint, Data}
@@ -31,10 +32,10 @@ use Rattle.chain_rewriting.specs.Apart.{Passes, HasCopies}
 use Rattle.chain_rewriting.specs.Places.{ARenamedChainTellsInOrder}
 use Rattle.chain_rewriting.specs.RenamingLaws.{APointerIsRenamed, ARenamedInodeMeansTheSame, RenamedEntriesHaveOldMoments, TheMomentsOfRenamedEntriesAreOld}
 use Rattle.version_store.specs.declared.copies.CopiedBlock.{CopiedBlock}
-use Rattle.version_store.specs.Store.{StoreFields, IsStore, IsObject, IsNamedBy, IsLed, sides_told, pointers_aside, pointers_kept, pointers_named, pointers_of, pointers_of_sides, times_led}
+use Rattle.version_store.specs.Store.{HasNothing, StoreFields, IsStore, IsObject, IsNamedBy, IsLed, sides_told, pointers_aside, pointers_kept, pointers_named, pointers_of, pointers_of_sides, times_led}
 use Rattle.version_store.specs.Versions.{inode_by, inode_in, version_by, version_in}
 use Rattle.version_store.specs.Relocating.{IsRelocated, blocks_relocated, renaming_by, renamed_checkpoint}
-use Rattle.version_store.specs.private.Below.{OrderlyStays, RowStays, RowInodeStays, IsByStays, SomeBlocksAreNeeded, CheckpointsTakeBlocks}
+use Rattle.version_store.specs.private.Below.{ChangesStand, OrderlyStays, RowStays, RowInodeStays, IsByStays, SomeBlocksAreNeeded, CheckpointsTakeBlocks}
 use Rattle.version_store.specs.private.Relocating.{IsOldOrNew, NamesMove, Relocates, RelocatesIn}
 use Rattle.version_store.specs.private.Recounting.{Counts}
 use Rattle.version_store.proofs.Frames.{same_bytes, stays_object, inode_in_stays, version_in_stays}
@@ -44,23 +45,17 @@ use Rattle.version_store.proofs.Spending.{sum_stays}
 use Rattle.version_store.proofs.Across.{IsAcross, renewed_across}
 use Rattle.version_store.proofs.CheckpointSteps.{next_store}
 use Rattle.version_store.proofs.Replaced.{IsPut, put_row}
-use Rattle.version_store.proofs.Replacing.{other_stays, other_counted}
+use Rattle.version_store.proofs.Changed.{Changes, own_or_other, own_there, some_keeps, some_stays, changed_inodes, changed_store, changed_versions, store_others}
 use Rattle.version_store.proofs.RenamedJournal.{of_pointers}
 
 -- the laws that this rests on
 pub record Laws : Type 0 where
-  pub orderly : OrderlyStays
-  pub stands : RowStays
-  pub same : RowInodeStays
-  pub by : IsByStays
-  pub matter : OnlyItsBlocksMatter
+  pub rest : ChangesStand
   pub means : ARenamedInodeMeansTheSame
   pub points : APointerIsRenamed
   pub tells : ARenamedChainTellsInOrder
   pub within : RenamedEntriesHaveOldMoments
   pub old : TheMomentsOfRenamedEntriesAreOld
-  pub needed : SomeBlocksAreNeeded
-  pub takes : CheckpointsTakeBlocks
 
 -- ---- pointers
 
@@ -171,67 +166,55 @@ some_moved law takes (Some p) read c entries N A told h =
     let some = takes c.inode in
     omega (arith, is, some)
 
-relocated_store : Laws → (s : StoreFields) (rows : List (ℕ × Row)) (log : Log) (o : ℕ) (row next : Row) (copies : List CopiedBlock) (r : RenamingFields) → IsStore s → row_of s.rows o ≡ Some row
-    → Relocates s.log o row copies next log r → blocks_relocated s.log.held o row copies ≤ length s.log.ahead → IsPut s rows o row next → Counts s.log log o next → IsStore (next_store s rows log)
-relocated_store laws s rows log o row next copies r store there w room put counts =
-    let sum = sum_stays (blocks_relocated s.log.held o row copies) s.log log w.takes room in
-    let more : log.spent ≡ blocks_relocated s.log.held o row copies + s.log.spent = w.takes.spent in
+relocated_changes : Laws → (s : StoreFields) (rows : List (ℕ × Row)) (log : Log) (o : ℕ) (row next : Row) (copies : List CopiedBlock) (r : RenamingFields) → IsStore s → row_of s.rows o ≡ Some row
+    → Relocates s.log o row copies next log r → blocks_relocated s.log.held o row copies ≤ length s.log.ahead → IsPut s rows o row next → Counts s.log log o next
+    → Changes s (next_store s rows log) o (blocks_relocated s.log.held o row copies) (Some (put_row row next))
+relocated_changes laws s rows log o row next copies r store there w room put counts =
     let orderly = store.orderly o row there in
-    let across : IsAcross log.held rows = renewed_across s.rows rows s.log.held log.held o row (put_row row next) there put (ap (λ (x : Row). x.created) w.fields)
-    (λ e among. laws.old r (entries_of s.log.held o row) e (subst (λ (es : List EntryFields). Contains es e) w.journal among))
-    (λ q x beside e. same_entries s.log.held log.held q x (w.others Journal q beside))
-    (record { ascending = store.ascending; apart = store.apart }) in
     record {
-      objects = row_cases (row_of s.rows) (row_of rows) o (put_row row next) put (λ q x. IsObject log.held q x s.latest)
-          (relocated_object laws s.log log o s.latest row next copies r w (store.objects o row there))
-          (λ q x beside e. stays_object laws.stands laws.same laws.by laws.matter q s.log.held log.held x s.latest (other_stays o q s.log.held log.held w.others beside) (store.objects q x e));
-      orderly = row_cases (row_of s.rows) (row_of rows) o (put_row row next) put (λ q x. IsOrderly log.held q x s.latest)
-          (laws.orderly.stamp log.held o s.latest (row.stamp + 1) next (w.orderly s.latest orderly))
-          (λ q x beside e. laws.orderly.blocks s.log.held log.held q s.latest x (w.others Journal q beside) (w.others Checkpoint q beside) (store.orderly q x e));
+      put = put;
+      here = some_keeps (next_store s rows log) o (put_row row next) (record {
+        object = relocated_object laws s.log log o s.latest row next copies r w (store.objects o row there);
+        orderly = laws.rest.orderly.stamp log.held o s.latest (row.stamp + 1) next (w.orderly s.latest orderly);
+        counted = counts.here;
+        few = counts.few;
+        stamp =
+            let bound = store.stamps o row there in
+            let more : log.spent ≡ blocks_relocated s.log.held o row copies + s.log.spent = w.takes.spent in
+            let stands = (store.objects o row there).stands in
+            let some = some_moved laws.rest.blocks_are_needed laws.rest.checkpoint_blocks row.checkpoint (checkpoint_held s.log.held o) (record { object = o; moment = row.checkpoint_moment; inode = inode_of s.log.held o row row.checkpoint_moment }) (entries_of s.log.held o row)
+            (row.checkpoint_moment ≡ 0) (IsFromTo row.created s.latest row.checkpoint_moment) stands.checkpoint orderly.checkpoint in
+            omega (arith, bound, more, some);
+      });
+      gone = some_stays (put_row row next) (HasNothing log.held o);
       names = counts.names;
-      counted = row_cases (row_of s.rows) (row_of rows) o (put_row row next) put (λ q x. IsNamedBy q log (pointers_named log.held q x))
-          counts.here
-          (λ q x beside e. other_counted s.log log o q x w.others counts.beside beside (store.counted q x e));
-      few = row_cases (row_of s.rows) (row_of rows) o (put_row row next) put (λ q x. length x.sides ≤ SIDES) counts.few (λ q x beside e. store.few q x e);
-      nothing = λ q none kind p.
-          let gone = none_cases (row_of s.rows) (row_of rows) o (put_row row next) put q none in
-          ap (λ (view : Place → Option (List ℕ)). view p) (w.others kind q gone.0) ∙ store.nothing q gone.1 kind p;
-      stamps = row_cases (row_of s.rows) (row_of rows) o (put_row row next) put (λ q x. x.stamp ≤ log.spent)
-          (let bound = store.stamps o row there in
-          let stands = (store.objects o row there).stands in
-          let some = some_moved laws.needed laws.takes row.checkpoint (checkpoint_held s.log.held o) (record { object = o; moment = row.checkpoint_moment; inode = inode_of s.log.held o row row.checkpoint_moment }) (entries_of s.log.held o row)
-          (row.checkpoint_moment ≡ 0) (IsFromTo row.created s.latest row.checkpoint_moment) stands.checkpoint orderly.checkpoint in
-          omega (arith, bound, more, some))
-          (λ q x beside e. let bound = store.stamps q x e in omega (arith, bound, more));
-      bounded = let bound = store.bounded in omega (arith, bound, sum);
-      ascending = across.ascending;
-      apart = across.apart;
+      beside = counts.beside;
+      others = w.others;
+      takes = w.takes;
+      sum = sum_stays (blocks_relocated s.log.held o row copies) s.log log w.takes room;
+      latest = omega arith;
+      across = renewed_across s.rows rows s.log.held log.held o row (put_row row next) there put (ap (λ (x : Row). x.created) w.fields)
+          (λ e among. laws.old r (entries_of s.log.held o row) e (subst (λ (es : List EntryFields). Contains es e) w.journal among))
+          (λ q x beside e. same_entries s.log.held log.held q x (w.others Journal q beside))
+          (record { ascending = store.ascending; apart = store.apart });
     }
 
-relocated_inodes : Laws → (s : StoreFields) (rows : List (ℕ × Row)) (log : Log) (o : ℕ) (row next : Row) (copies : List CopiedBlock) (r : RenamingFields) → row_of s.rows o ≡ Some row → Relocates s.log o row copies next log r → IsPut s rows o row next
-    → (q t : ℕ) → inode_in (next_store s rows log) q t ≡ cond (o == q) (option_map (renamed_inode r) (inode_in s q t)) (inode_in s q t)
-relocated_inodes laws s rows log o row next copies r there w put q t = elim (cases_Bool (o == q)) [
-  | inl is ↦
-      let found : row_of rows o ≡ Some (put_row row next) = put o ∙ row_here (row_of s.rows) o (put_row row next) in
-      let here : inode_in (next_store s rows log) o t ≡ option_map (renamed_inode r) (inode_in s o t) =
-      ap (inode_by log.held o t) found ∙ ap (λ (i : Inode). Some i) (stamped_inode log.held o next (row.stamp + 1) t ∙ w.inode t) ∙ sym (ap (λ (x : Option Row). option_map (renamed_inode r) (inode_by s.log.held o t x)) there) in
-      subst (λ (k : ℕ). inode_in (next_store s rows log) k t ≡ option_map (renamed_inode r) (inode_in s k t)) (eqb-true o q is) here ∙ sym (cond-true (o == q) (option_map (renamed_inode r) (inode_in s q t)) (inode_in s q t) is)
-  | inr beside ↦ inode_in_stays laws.same s (next_store s rows log) q t (put q ∙ row_beside (row_of s.rows) o q (put_row row next) beside) (other_stays o q s.log.held log.held w.others beside)
-      ∙ sym (cond-false (o == q) (option_map (renamed_inode r) (inode_in s q t)) (inode_in s q t) beside)
-]
+relocated_inodes : Laws → (s : StoreFields) (rows : List (ℕ × Row)) (log : Log) (o count : ℕ) (row next : Row) (copies : List CopiedBlock) (r : RenamingFields) → row_of s.rows o ≡ Some row → Relocates s.log o row copies next log r
+    → Changes s (next_store s rows log) o count (Some (put_row row next)) → (q t : ℕ) → inode_in (next_store s rows log) q t ≡ cond (o == q) (option_map (renamed_inode r) (inode_in s q t)) (inode_in s q t)
+relocated_inodes laws s rows log o count row next copies r there w changes q t =
+    changed_inodes laws.rest s (next_store s rows log) o count (Some (put_row row next)) changes q t
+    ∙ ap (λ (i : Option Inode). cond (o == q) i (inode_in s q t)) (ap (λ (i : Inode). Some i) (stamped_inode log.held o next (row.stamp + 1) t ∙ w.inode t) ∙ sym (ap (λ (x : Option Row). option_map (renamed_inode r) (inode_by s.log.held o t x)) there))
+    ∙ own_there o q (λ n. option_map (renamed_inode r) (inode_in s n t)) (inode_in s q t)
 
-relocated_versions : Laws → (s : StoreFields) (rows : List (ℕ × Row)) (log : Log) (o : ℕ) (row next : Row) (copies : List CopiedBlock) (r : RenamingFields) → IsStore s → row_of s.rows o ≡ Some row → Relocates s.log o row copies next log r → IsPut s rows o row next
-    → (q t : ℕ) → version_in (next_store s rows log) q t ≡ version_in s q t
-relocated_versions laws s rows log o row next copies r store there w put q t = elim (cases_Bool (o == q)) [
-  | inl is ↦
-      let was : inode_in s o t ≡ Some (inode_of s.log.held o row t) = ap (inode_by s.log.held o t) there in
-      let now : inode_in (next_store s rows log) o t ≡ Some (renamed_inode r (inode_of s.log.held o row t)) =
-      ap (inode_by log.held o t) (put o ∙ row_here (row_of s.rows) o (put_row row next)) ∙ ap (λ (i : Inode). Some i) (stamped_inode log.held o next (row.stamp + 1) t ∙ w.inode t) in
-      let here : version_in (next_store s rows log) o t ≡ version_in s o t =
-      ap (version_by log.held) now ∙ (means_renamed laws s.log log o row next copies r w (inode_of s.log.held o row t) ((store.objects o row there).pointers t)).0 ∙ sym (ap (version_by s.log.held) was) in
-      subst (λ (k : ℕ). version_in (next_store s rows log) k t ≡ version_in s k t) (eqb-true o q is) here
-  | inr beside ↦ version_in_stays laws.same laws.matter s (next_store s rows log) q t store (put q ∙ row_beside (row_of s.rows) o q (put_row row next) beside) (other_stays o q s.log.held log.held w.others beside)
-]
+relocated_versions : Laws → (s : StoreFields) (rows : List (ℕ × Row)) (log : Log) (o count : ℕ) (row next : Row) (copies : List CopiedBlock) (r : RenamingFields) → IsStore s → row_of s.rows o ≡ Some row → Relocates s.log o row copies next log r
+    → Changes s (next_store s rows log) o count (Some (put_row row next)) → (q t : ℕ) → version_in (next_store s rows log) q t ≡ version_in s q t
+relocated_versions laws s rows log o count row next copies r store there w changes q t =
+    changed_versions laws.rest s (next_store s rows log) o count (Some (put_row row next)) (store_others s o store) changes q t
+    ∙ ap (λ (v : Version). cond (o == q) v (version_in s q t))
+    (ap (meaning (contents_of log.held)) (stamped_inode log.held o next (row.stamp + 1) t ∙ w.inode t)
+    ∙ (means_renamed laws s.log log o row next copies r w (inode_of s.log.held o row t) ((store.objects o row there).pointers t)).0
+    ∙ sym (ap (λ (x : Option Row). version_by s.log.held (inode_by s.log.held o t x)) there))
+    ∙ own_or_other o q (λ n. version_in s n t)
 
 -- a data block that is there stood there, or was put at a place that was taken
 data_taken : (before later : Log) (o n : ℕ) (r : RenamingFields) (p : Place) → TakesPlaces n before later → IsSome (of_kind Data o later.held p) → IsOldOrNew o r before.held later.held p
@@ -270,11 +253,13 @@ pub relocated : Laws → (s : StoreFields) (rows : List (ℕ × Row)) (log : Log
     → Relocates s.log o row copies next log r → blocks_relocated s.log.held o row copies ≤ length s.log.ahead → IsPut s rows o row next → NamesMove s.log o row r log → RelocatesIn s o row copies (next_store s rows log)
 relocated laws s rows log o row next copies r store there w room put names =
     let by : Relocates s.log o row copies next log (renaming_by copies s.log.ahead) = subst (λ (x : RenamingFields). Relocates s.log o row copies next log x) w.exact w in
+    let count = blocks_relocated s.log.held o row copies in
+    let changes = relocated_changes laws s rows log o row next copies r store there w room put (relocated_counts laws s.log log o row next copies r w names) in
     record {
-      store = relocated_store laws s rows log o row next copies r store there w room put (relocated_counts laws s.log log o row next copies r w names);
+      store = changed_store laws.rest s (next_store s rows log) o count (Some (put_row row next)) (store_others s o store) changes;
       relocated = relocated_made laws s rows log o row next copies by put;
-      inodes = relocated_inodes laws s rows log o row next copies (renaming_by copies s.log.ahead) there by put;
-      versions = relocated_versions laws s rows log o row next copies r store there w put;
+      inodes = relocated_inodes laws s rows log o count row next copies (renaming_by copies s.log.ahead) there by changes;
+      versions = relocated_versions laws s rows log o count row next copies r store there w changes;
     }
 
 -- ---- the inode beside the row

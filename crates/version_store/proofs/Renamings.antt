@@ -25,20 +25,9 @@ use Rattle.version_store.specs.private.Recounting.{Recounts}
 use Rattle.version_store.specs.private.Relocating.{Appending, NamesMove, stood_at}
 use Rattle.version_store.proofs.Telling.{led_there}
 use Rattle.version_store.proofs.Named.{contained_times, data_named, named_alike, named_none, named_some, none_led, others_data, recounts_all, seen_data, taken_beside, taken_here, taken_stays, times_contained, times_few, times_joined}
-use Rattle.version_store.proofs.Recounted.{data_is_named, same_aside, aside_led, told_led}
+use Rattle.version_store.proofs.Recounted.{all_led, data_is_named, told_led}
 use Rattle.version_store.proofs.Gathering.{contained_map, mapped_contains}
 use Rattle.version_store.proofs.RelocatedBlocks.{Dropped, block_seen, copied_held, copied_is, copied_stood, data_held, from_copy, moved_are, new_of, stood_copied}
-
--- ---- the pointers of a journal are its row's
-
-kept_in : (c : Option CheckpointFields) → pointers_in (option_map (λ k. k.inode) c) ≡ pointers_kept c
-kept_in None = refl
-kept_in (Some c) = refl
-
-pub journaled_are : (held : Place → Option Stored) (o : ℕ) (row : Row) (journal : ObjectJournal) → IsJournalOf held o row journal → pointers_journaled journal ≡ pointers_of held o row
-journaled_are held o row journal is =
-    ap (λ (slots : List (Option Place)). slots ++ sides_told journal.entries.items) (ap pointers_in is.inode ∙ kept_in (checkpoint_of held o row))
-    ∙ ap (λ es. pointers_kept (checkpoint_of held o row) ++ sides_told es) is.entries
 
 -- ---- copies are few
 
@@ -124,12 +113,8 @@ module _ (before between : Log) (o : ℕ) (row : Row) (copies : List CopiedBlock
       let (p, (among, leads)) = from_slot q there in
       subst (λ (x : Place). IsSome (of_kind Data o between.held x)) (sym leads) (renamed_there p (new_place r p) refl (led_there before.held o (pointers_of before.held o row) p is.led among)))
 
-  same_asides : pointers_aside between.held o row ≡ pointers_aside before.held o row
-  same_asides = same_aside before.held between.held o row (is.appended.others Checkpoint o refl)
-
-  pub asides_led : All (IsLed between.held o) (pointers_aside between.held o row)
-  asides_led = subst (All (IsLed between.held o)) (sym same_asides)
-      (told_led between.held o (pointers_aside before.held o row) (λ p there. stays p (led_there before.held o (pointers_aside before.held o row) p (aside_led before.held o row is.stands is.led) there)))
+  pub all_still : All (IsLed between.held o) (pointers_named before.held o row)
+  all_still = told_led between.held o (pointers_named before.held o row) (λ p there. stays p (led_there before.held o (pointers_named before.held o row) p (all_led before.held o row is.stands is.led) there))
 
   -- ---- names once copies were appended
 
@@ -218,28 +203,22 @@ module _ (before between : Log) (o : ℕ) (row : Row) (copies : List CopiedBlock
       is_none None h = refl
       is_none (Some block) h = absurd (false≢true (sym h))
 
-  module _ (counted : Log) (counts : Recounts o between (places_copied copies ++ map (renamed_slot r) (pointers_of before.held o row)) (pointers_aside between.held o row ++ (pointers_of before.held o row ++ r.moves)) counted) where
+  module _ (counted : Log) (counts : Recounts o between (places_copied copies ++ map (renamed_slot r) (pointers_of before.held o row)) (pointers_named before.held o row ++ r.moves) counted) where
     pub counted_here : (p : Place) → named_of o counted p ≡ times_led p (places_copied copies) + times_led p (map (renamed_slot r) (pointers_of before.held o row))
     counted_here p =
         let now = counts.here p in
         let given = times_joined p (places_copied copies) (map (renamed_slot r) (pointers_of before.held o row)) in
-        let first = times_joined p (pointers_aside between.held o row) (pointers_of before.held o row ++ r.moves) in
-        let second = times_joined p (pointers_of before.held o row) r.moves in
-        let aside : times_led p (pointers_aside between.held o row) ≡ times_led p (pointers_aside before.held o row) = ap (times_led p) same_asides in
+        let first = times_joined p (pointers_named before.held o row) r.moves in
         let was = appended_here p in
-        let named = times_joined p (pointers_of before.held o row) (pointers_aside before.held o row) in
-        omega (arith, now, given, first, second, aside, was, named)
+        omega (arith, now, given, first, was)
 
     pub counted_held : counted.held ≡ between.held
-    counted_held = recounts_all o between counted (places_copied copies ++ map (renamed_slot r) (pointers_of before.held o row)) (pointers_aside between.held o row ++ (pointers_of before.held o row ++ r.moves)) counts (λ p some.
+    counted_held = recounts_all o between counted (places_copied copies ++ map (renamed_slot r) (pointers_of before.held o row)) (pointers_named before.held o row ++ r.moves) counts (λ p some.
         let least = all_named p some in
         let given = times_joined p (places_copied copies) (map (renamed_slot r) (pointers_of before.held o row)) in
-        let first = times_joined p (pointers_aside between.held o row) (pointers_of before.held o row ++ r.moves) in
-        let second = times_joined p (pointers_of before.held o row) r.moves in
-        let aside : times_led p (pointers_aside between.held o row) ≡ times_led p (pointers_aside before.held o row) = ap (times_led p) same_asides in
+        let first = times_joined p (pointers_named before.held o row) r.moves in
         let was = appended_here p in
-        let named = times_joined p (pointers_of before.held o row) (pointers_aside before.held o row) in
-        omega (arith, least, given, first, second, aside, was, named))
+        omega (arith, least, given, first, was))
 
     -- ---- once the journal was written
 

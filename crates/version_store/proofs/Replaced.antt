@@ -5,6 +5,7 @@ use Rattle.std.proofs.lemmas.Bool.{cases_Bool, cond-true, cond-false, and_right,
 use Rattle.std.proofs.lemmas.List.{append-nil}
 use Rattle.std.proofs.lemmas.List.Elements.{All-weaker, All-contains_itself, Contains-append_left, Contains-append_right}
 use Rattle.s4_types.specs.Pointer.{Place}
+use Rattle.s4_types.specs.declared.versions.Version.{Version}
 use Rattle.s4_types.specs.declared.limits.TheConstants.{SIDES}
 use Rattle.block_log.specs.Taken.{TakesPlaces}
 use Rattle.block_log.specs.Log.{Log, NamesAreOfData, Stored, of_kind, same_kind, seen_as}
@@ -24,12 +25,12 @@ use Rattle.object_map.specs.Objects.{with_value}
 use Rattle.object_map.specs.Rows.{row_of, with_row}
 use Rattle.time_read.specs.Rows.{entries_of, checkpoint_of, inode_of}
 use Rattle.time_read.specs.Orderly.{IsOrderly, IsFromTo}
-use Rattle.version_store.specs.Store.{IsNamedBy, StoreFields, IsStore, IsObject, IsLed, named_of, pointers_aside, pointers_kept, pointers_named, pointers_of, pointers_of_sides, sides_told, times_led}
+use Rattle.version_store.specs.Store.{HasNothing, IsNamedBy, StoreFields, IsStore, IsObject, IsLed, named_of, pointers_aside, pointers_kept, pointers_named, pointers_of, pointers_of_sides, sides_told, times_led}
 use Rattle.version_store.specs.Versions.{inode_by, inode_in, version_by, version_in}
 use Rattle.version_store.specs.Checkpointing.{last_entry}
 use Rattle.version_store.specs.Replacing.{IsMomentOf, OtherObjectsStay, CanReplace, IsReplaced, inode_led, pointers_told}
 use Rattle.row_changes.specs.Rewritten.{OnlyMetadataChanged, rewritten_blocks}
-use Rattle.version_store.specs.private.Below.{OnePlace, OrderlyStays, RowStays, RowInodeStays, IsByStays, IsByLater, CheckpointsTakeBlocks}
+use Rattle.version_store.specs.private.Below.{ChangesStand, OnePlace, OrderlyStays, RowStays, RowInodeStays, IsByStays, IsByLater, CheckpointsTakeBlocks}
 use Rattle.version_store.specs.private.Recounting.{Counts, Recounts}
 use Rattle.version_store.specs.private.Replacing.{Rewrites, Replaces, AllAreDone, RunsEnd}
 use Rattle.version_store.proofs.Frames.{same_bytes, stays_object, inode_in_stays, version_in_stays}
@@ -39,7 +40,7 @@ use Rattle.version_store.proofs.Spending.{sum_stays}
 use Rattle.version_store.proofs.Across.{IsAcross, renewed_across}
 use Rattle.version_store.proofs.CheckpointSteps.{next_store, keeps_rules, holes_all, some_place}
 use Rattle.version_store.proofs.Named.{contained_times, named_alike, named_there, recounts_data, recounts_kept, there_named, times_contained, times_joined}
-use Rattle.version_store.proofs.Replacing.{other_stays, other_counted}
+use Rattle.version_store.proofs.Changed.{Changes, some_keeps, some_stays, changed_inodes, changed_store, changed_versions, store_others}
 
 -- ---- what is asked of the checkpoint
 
@@ -98,27 +99,25 @@ pub record Swaps (held later : Place → Option Stored) (o : ℕ) (present : Ino
 
 -- the names of the object's data are those that the new row gives it
 pub exchanged : (before between : Log) (o : ℕ) (row : Row) (present : Inode) (entries : List EntryFields) → IsNamedBy o before (pointers_named before.held o row)
-    → Recounts o before (pointers_told present entries) (pointers_aside before.held o row ++ pointers_of before.held o row) between → IsNamedBy o between (pointers_told present entries)
+    → Recounts o before (pointers_told present entries) (pointers_named before.held o row) between → IsNamedBy o between (pointers_told present entries)
 exchanged before between o row present entries counted counts p =
     let now = counts.here p in
     let was = counted p in
-    let named = times_joined p (pointers_of before.held o row) (pointers_aside before.held o row) in
-    let fewer = times_joined p (pointers_aside before.held o row) (pointers_of before.held o row) in
-    omega (arith, now, was, named, fewer)
+    omega (arith, now, was)
 
 pub swapped : OnePlace → (before between : Log) (later : Place → Option Stored) (o : ℕ) (row : Row) (present : Inode) (entries : List EntryFields) → IsNamedBy o before (pointers_named before.held o row)
-    → Recounts o before (pointers_told present entries) (pointers_aside before.held o row ++ pointers_of before.held o row) between → OnlyMetadataChanged o between.held later → Swaps before.held later o present entries
+    → Recounts o before (pointers_told present entries) (pointers_named before.held o row) between → OnlyMetadataChanged o between.held later → Swaps before.held later o present entries
 swapped one before between later o row present entries counted counts metadata =
     let same : of_kind Data o later ≡ of_kind Data o between.held = metadata Data o refl in
     let named = exchanged before between o row present entries counted counts in
-    let others = recounts_data o before between (pointers_told present entries) (pointers_aside before.held o row ++ pointers_of before.held o row) counts in
+    let others = recounts_data o before between (pointers_told present entries) (pointers_named before.held o row) counts in
     record {
       kept = λ p there.
           let told = contained_times p (pointers_told present entries) there in
           let is = named p in
           let some = there_named o between p (omega (arith, told, is)) in
           ap (λ (view : Place → Option (List ℕ)). view p) same
-          ∙ ap (seen_as Data o) (recounts_kept o before between (pointers_told present entries) (pointers_aside before.held o row ++ pointers_of before.held o row) counts p some);
+          ∙ ap (seen_as Data o) (recounts_kept o before between (pointers_told present entries) (pointers_named before.held o row) counts p some);
       named = λ p some.
           let some_between : IsSome (of_kind Data o between.held p) = subst (λ (view : Place → Option (List ℕ)). IsSome (view p)) same some in
           let least = named_there o between p counts.names some_between in
@@ -176,7 +175,7 @@ pointers_are later o row next present entries m writes last =
 
 -- and the names of its data are counted
 pub replaced_counts : (before between later : Log) (o : ℕ) (row next : Row) (present : Inode) (entries : List EntryFields) (m : ℕ) → IsNamedBy o before (pointers_named before.held o row)
-    → Recounts o before (pointers_told present entries) (pointers_aside before.held o row ++ pointers_of before.held o row) between → OnlyMetadataChanged o between.held later.held → later.named ≡ between.named → NamesAreOfData later
+    → Recounts o before (pointers_told present entries) (pointers_named before.held o row) between → OnlyMetadataChanged o between.held later.held → later.named ≡ between.named → NamesAreOfData later
     → Rewrites later o row next present entries m → inode_led present entries m ≡ present → Counts before later o next
 replaced_counts before between later o row next present entries m counted counts metadata named names writes last =
     let still : (q : ℕ) (p : Place) → named_of q later p ≡ named_of q between p = λ q p. named_alike q between later p (ap (λ (view : Place → Option (List ℕ)). view p) (metadata Data q refl)) (ap (λ (n : Place → ℕ). n p) named) in
@@ -216,63 +215,47 @@ replaced_object later_by matter s log o row next present entries m can know swap
 abbrev pub IsPut : StoreFields → List (ℕ × Row) → ℕ → Row → Row → Type 0
 IsPut s rows o row next = (q : ℕ) → row_of rows q ≡ with_row (row_of s.rows) o (put_row row next) q
 
-replaced_store : OrderlyStays → RowStays → RowInodeStays → IsByStays → IsByLater → OnlyItsBlocksMatter → CheckpointsTakeBlocks → (s : StoreFields) (rows : List (ℕ × Row)) (log : Log) (o : ℕ) (row next : Row) (present : Inode) (entries : List EntryFields) (m : ℕ)
+replaced_changes : ChangesStand → (s : StoreFields) (rows : List (ℕ × Row)) (log : Log) (o : ℕ) (row next : Row) (present : Inode) (entries : List EntryFields) (m : ℕ)
     → IsStore s → CanReplace s o row present entries → Known s o row present entries m → Swaps s.log.held log.held o present entries → Rewrites log o row next present entries m
-    → TakesPlaces (rewritten_blocks present entries) s.log log → rewritten_blocks present entries ≤ length s.log.ahead → IsPut s rows o row next → Counts s.log log o next → IsStore (next_store s rows log)
-replaced_store orderly stands same by later_by matter some s rows log o row next present entries m store can know swaps writes takes room put counts =
-    let sum = sum_stays (rewritten_blocks present entries) s.log log takes room in
-    let more : log.spent ≡ rewritten_blocks present entries + s.log.spent = takes.spent in
-    let across : IsAcross log.held rows = renewed_across s.rows rows s.log.held log.held o row (put_row row next) know.there put (ap (λ (r : Row). r.created) writes.fields)
-    (subst (λ (es : List EntryFields). (e : EntryFields) → Contains es e → IsMomentOf (entries_of s.log.held o row) e.moment) (sym writes.entries_are) can.moments)
-    (λ q r beside e. same_entries s.log.held log.held q r (swaps.others Journal q beside))
-    (record { ascending = store.ascending; apart = store.apart }) in
-    record {
-      objects = row_cases (row_of s.rows) (row_of rows) o (put_row row next) put (λ q r. IsObject log.held q r s.latest)
-          (replaced_object later_by matter s log o row next present entries m can know swaps writes)
-          (λ q r beside e. stays_object stands same by matter q s.log.held log.held r s.latest (other_stays o q s.log.held log.held swaps.others beside) (store.objects q r e));
-      orderly = row_cases (row_of s.rows) (row_of rows) o (put_row row next) put (λ q r. IsOrderly log.held q r s.latest)
-          (orderly.stamp log.held o s.latest (row.stamp + 1) next (writes.orderly s.latest can.order know.within know.orderly.made))
-          (λ q r beside e. orderly.blocks s.log.held log.held q s.latest r (swaps.others Journal q beside) (swaps.others Checkpoint q beside) (store.orderly q r e));
-      names = counts.names;
-      counted = row_cases (row_of s.rows) (row_of rows) o (put_row row next) put (λ q r. IsNamedBy q log (pointers_named log.held q r))
-          counts.here
-          (λ q r beside e. other_counted s.log log o q r swaps.others counts.beside beside (store.counted q r e));
-      few = row_cases (row_of s.rows) (row_of rows) o (put_row row next) put (λ q r. length r.sides ≤ SIDES) counts.few (λ q r beside e. store.few q r e);
-      nothing = λ q none kind p.
-          let gone = none_cases (row_of s.rows) (row_of rows) o (put_row row next) put q none in
-          ap (λ (view : Place → Option (List ℕ)). view p) (swaps.others kind q gone.0) ∙ store.nothing q gone.1 kind p;
-      stamps = row_cases (row_of s.rows) (row_of rows) o (put_row row next) put (λ q r. r.stamp ≤ log.spent)
-          (let bound = know.stamp in let least = some present in omega (arith, bound, more, least))
-          (λ q r beside e. let bound = store.stamps q r e in omega (arith, bound, more));
-      bounded = let bound = store.bounded in omega (arith, bound, sum);
-      ascending = across.ascending;
-      apart = across.apart;
-    }
+    → TakesPlaces (rewritten_blocks present entries) s.log log → rewritten_blocks present entries ≤ length s.log.ahead → IsPut s rows o row next → Counts s.log log o next
+    → Changes s (next_store s rows log) o (rewritten_blocks present entries) (Some (put_row row next))
+replaced_changes rest s rows log o row next present entries m store can know swaps writes takes room put counts = record {
+  put = put;
+  here = some_keeps (next_store s rows log) o (put_row row next) (record {
+    object = replaced_object rest.later rest.meaning s log o row next present entries m can know swaps writes;
+    orderly = rest.orderly.stamp log.held o s.latest (row.stamp + 1) next (writes.orderly s.latest can.order know.within know.orderly.made);
+    counted = counts.here;
+    few = counts.few;
+    stamp = let bound = know.stamp in let least = rest.checkpoint_blocks present in let more : log.spent ≡ rewritten_blocks present entries + s.log.spent = takes.spent in omega (arith, bound, more, least);
+  });
+  gone = some_stays (put_row row next) (HasNothing log.held o);
+  names = counts.names;
+  beside = counts.beside;
+  others = swaps.others;
+  takes = takes;
+  sum = sum_stays (rewritten_blocks present entries) s.log log takes room;
+  latest = omega arith;
+  across = renewed_across s.rows rows s.log.held log.held o row (put_row row next) know.there put (ap (λ (r : Row). r.created) writes.fields)
+      (subst (λ (es : List EntryFields). (e : EntryFields) → Contains es e → IsMomentOf (entries_of s.log.held o row) e.moment) (sym writes.entries_are) can.moments)
+      (λ q r beside e. same_entries s.log.held log.held q r (swaps.others Journal q beside))
+      (record { ascending = store.ascending; apart = store.apart });
+}
 
-replaced_inodes : RowInodeStays → (s : StoreFields) (rows : List (ℕ × Row)) (log : Log) (o : ℕ) (row next : Row) (present : Inode) (entries : List EntryFields) (m : ℕ)
-    → Swaps s.log.held log.held o present entries → Rewrites log o row next present entries m → IsPut s rows o row next
+replaced_inodes : ChangesStand → (s : StoreFields) (rows : List (ℕ × Row)) (log : Log) (o count : ℕ) (row next : Row) (present : Inode) (entries : List EntryFields) (m : ℕ)
+    → Rewrites log o row next present entries m → Changes s (next_store s rows log) o count (Some (put_row row next))
     → (q t : ℕ) → inode_in (next_store s rows log) q t ≡ cond (o == q) (Some (inode_led present entries t)) (inode_in s q t)
-replaced_inodes same s rows log o row next present entries m swaps writes put q t = elim (cases_Bool (o == q)) [
-  | inl is ↦
-      let found : row_of rows o ≡ Some (put_row row next) = put o ∙ row_here (row_of s.rows) o (put_row row next) in
-      let here : inode_in (next_store s rows log) o t ≡ Some (inode_led present entries t) =
-      ap (inode_by log.held o t) found ∙ ap (λ (i : Inode). Some i) (stamped_inode log.held o next (row.stamp + 1) t ∙ writes.inode t) in
-      subst (λ (k : ℕ). inode_in (next_store s rows log) k t ≡ Some (inode_led present entries t)) (eqb-true o q is) here ∙ sym (cond-true (o == q) (Some (inode_led present entries t)) (inode_in s q t) is)
-  | inr beside ↦ inode_in_stays same s (next_store s rows log) q t (put q ∙ row_beside (row_of s.rows) o q (put_row row next) beside) (other_stays o q s.log.held log.held swaps.others beside)
-      ∙ sym (cond-false (o == q) (Some (inode_led present entries t)) (inode_in s q t) beside)
-]
+replaced_inodes rest s rows log o count row next present entries m writes changes q t =
+    changed_inodes rest s (next_store s rows log) o count (Some (put_row row next)) changes q t
+    ∙ ap (λ (i : Inode). cond (o == q) (Some i) (inode_in s q t)) (stamped_inode log.held o next (row.stamp + 1) t ∙ writes.inode t)
 
-replaced_versions : RowInodeStays → OnlyItsBlocksMatter → (s : StoreFields) (rows : List (ℕ × Row)) (log : Log) (o : ℕ) (row next : Row) (present : Inode) (entries : List EntryFields) (m : ℕ)
-    → IsStore s → CanReplace s o row present entries → Known s o row present entries m → Swaps s.log.held log.held o present entries → Rewrites log o row next present entries m → IsPut s rows o row next
+replaced_versions : ChangesStand → (s : StoreFields) (rows : List (ℕ × Row)) (log : Log) (o count : ℕ) (row next : Row) (present : Inode) (entries : List EntryFields) (m : ℕ)
+    → IsStore s → CanReplace s o row present entries → Known s o row present entries m → Swaps s.log.held log.held o present entries → Rewrites log o row next present entries m → Changes s (next_store s rows log) o count (Some (put_row row next))
     → (q t : ℕ) → version_in (next_store s rows log) q t ≡ cond (o == q) (meaning (contents_of s.log.held) (inode_led present entries t)) (version_in s q t)
-replaced_versions same matter s rows log o row next present entries m store can know swaps writes put q t = elim (cases_Bool (o == q)) [
-  | inl is ↦
-      ap (version_by log.held) (replaced_inodes same s rows log o row next present entries m swaps writes put q t ∙ cond-true (o == q) (Some (inode_led present entries t)) (inode_in s q t) is)
-      ∙ (matter (contents_of s.log.held) (contents_of log.held) (inode_led present entries t) (told_agree s log.held o row present entries t know.object can swaps)).0
-      ∙ sym (cond-true (o == q) (meaning (contents_of s.log.held) (inode_led present entries t)) (version_in s q t) is)
-  | inr beside ↦ version_in_stays same matter s (next_store s rows log) q t store (put q ∙ row_beside (row_of s.rows) o q (put_row row next) beside) (other_stays o q s.log.held log.held swaps.others beside)
-      ∙ sym (cond-false (o == q) (meaning (contents_of s.log.held) (inode_led present entries t)) (version_in s q t) beside)
-]
+replaced_versions rest s rows log o count row next present entries m store can know swaps writes changes q t =
+    changed_versions rest s (next_store s rows log) o count (Some (put_row row next)) (store_others s o store) changes q t
+    ∙ ap (λ (v : Version). cond (o == q) v (version_in s q t))
+    (ap (meaning (contents_of log.held)) (stamped_inode log.held o next (row.stamp + 1) t ∙ writes.inode t)
+    ∙ (rest.meaning (contents_of s.log.held) (contents_of log.held) (inode_led present entries t) (told_agree s log.held o row present entries t know.object can swaps)).0)
 
 replaced_made : (s : StoreFields) (rows : List (ℕ × Row)) (log : Log) (o : ℕ) (row next : Row) (present : Inode) (entries : List EntryFields) (m : ℕ)
     → Known s o row present entries m → m ≡ last_entry s.log.held o row → Swaps s.log.held log.held o present entries → Rewrites log o row next present entries m
@@ -291,15 +274,18 @@ replaced_made s rows log o row next present entries m know is swaps writes takes
   latest = refl;
 }
 
-pub replaced : OrderlyStays → RowStays → RowInodeStays → IsByStays → IsByLater → OnlyItsBlocksMatter → CheckpointsTakeBlocks → (s : StoreFields) (rows : List (ℕ × Row)) (log : Log) (o : ℕ) (row next : Row) (present : Inode) (entries : List EntryFields) (m : ℕ)
+pub replaced : ChangesStand → (s : StoreFields) (rows : List (ℕ × Row)) (log : Log) (o : ℕ) (row next : Row) (present : Inode) (entries : List EntryFields) (m : ℕ)
     → IsStore s → CanReplace s o row present entries → Known s o row present entries m → m ≡ last_entry s.log.held o row → Swaps s.log.held log.held o present entries → Rewrites log o row next present entries m
     → TakesPlaces (rewritten_blocks present entries) s.log log → rewritten_blocks present entries ≤ length s.log.ahead → IsPut s rows o row next → Counts s.log log o next → Replaces s o row present entries (next_store s rows log)
-replaced orderly stands same by later_by matter some s rows log o row next present entries m store can know is swaps writes takes room put counts = record {
-  store = replaced_store orderly stands same by later_by matter some s rows log o row next present entries m store can know swaps writes takes room put counts;
-  replaced = replaced_made s rows log o row next present entries m know is swaps writes takes put;
-  inodes = replaced_inodes same s rows log o row next present entries m swaps writes put;
-  versions = replaced_versions same matter s rows log o row next present entries m store can know swaps writes put;
-}
+replaced rest s rows log o row next present entries m store can know is swaps writes takes room put counts =
+    let count = rewritten_blocks present entries in
+    let changes = replaced_changes rest s rows log o row next present entries m store can know swaps writes takes room put counts in
+    record {
+      store = changed_store rest s (next_store s rows log) o count (Some (put_row row next)) (store_others s o store) changes;
+      replaced = replaced_made s rows log o row next present entries m know is swaps writes takes put;
+      inodes = replaced_inodes rest s rows log o count row next present entries m writes changes;
+      versions = replaced_versions rest s rows log o count row next present entries m store can know swaps writes changes;
+    }
 
 -- ---- the inode beside the row
 

@@ -32,12 +32,13 @@ use Rattle.version_store.specs.Versions.{inode_by, version_by, version_in}
 use Rattle.version_store.specs.Taking.{RowChanges, IsAboveAll}
 use Rattle.version_store.specs.private.Turning.{IsOpenFor, Turns, times_given}
 use Rattle.version_store.specs.private.Recounting.{Counts}
-use Rattle.version_store.specs.private.Below.{OnePlace, OrderlyStays, RowStays, RowInodeStays, IsByStays, IsByLater, LastInodeStays, FreshRowStands, FreshRowIsBy, FreshInode, BlankCount, BlankHoles}
+use Rattle.version_store.specs.private.Below.{ChangesStand, OnePlace, OrderlyStays, RowStays, RowInodeStays, IsByStays, IsByLater, LastInodeStays, FreshRowStands, FreshRowIsBy, FreshInode, BlankCount, BlankHoles}
 use Rattle.version_store.proofs.Frames.{DataStays, data_there, data_agree, data_pointers, stays_object, growth_stays, journal_stays, version_by_stays}
 use Rattle.version_store.proofs.Telling.{Leads, Grows, leads_later, same_entries, grown_leads, fresh_pointers}
 use Rattle.version_store.proofs.Named.{named_none}
 use Rattle.version_store.proofs.Recounted.{counted_beside}
 use Rattle.version_store.proofs.Handed.{IsInHand, grown_counted, none_contained}
+use Rattle.version_store.proofs.Changed.{OthersKeep, Changes, own_within, some_keeps, some_stays, journal_others, changed_store, changed_versions}
 use Rattle.version_store.proofs.Across.{IsAcross, kept_across, changed_across, added_across, above_has_none}
 
 -- ---- rows
@@ -253,9 +254,6 @@ recorded_object matter held later o row next i m latest n records object tidy po
       pointers = λ t. subst (PointersHeld later o) (sym (is t)) (either (PointersHeld later o) m t i (inode_of held o row t) (data_pointers o held later i stays pointers) (data_pointers o held later (inode_of held o row t) stays (object.pointers t)));
     }
 
-by_later : IsByLater → (held : Place → Option Stored) (o : ℕ) (row : Row) (latest m : ℕ) → latest ≤ m → IsObject held o row latest → IsObject held o row m
-by_later later held o row latest m le object = record { stands = object.stands; by = later held o row latest m le object.by; led = object.led; tidy = object.tidy; pointers = object.pointers }
-
 -- what is in hand is of one object
 alone_counted : (s : StoreFields) (o : ℕ) (i : Inode) (hand : List (Option Place)) (q : ℕ) (r : Row) → (o == q) ≡ false → row_of s.rows q ≡ Some r → IsOpenFor o i hand s → IsNamedBy q s.log (pointers_named s.log.held q r)
 alone_counted s o i hand q r other e store p =
@@ -271,43 +269,35 @@ recorded_across s later o row next i hand m n records there store before put =
     (λ q r e. (store.objects q r e).by.entries) (λ q r other e. same_entries s.log.held later.log.held q r (journal_stays o q s.log.held later.log.held records.others other).journal)
     (record { ascending = store.ascending; apart = store.apart })
 
-recorded_store : OrderlyStays → RowStays → RowInodeStays → IsByStays → IsByLater → LastInodeStays → OnlyItsBlocksMatter → (s later : StoreFields) (o m n count : ℕ) (row next : Row) (i : Inode) (hand : List (Option Place))
+open_others : (s : StoreFields) (o : ℕ) (i : Inode) (hand : List (Option Place)) → IsOpenFor o i hand s → OthersKeep s o
+open_others s o i hand store = record {
+  each = λ q r other there. record { object = store.objects q r there; orderly = store.orderly q r other there; counted = alone_counted s o i hand q r other there store; few = store.few q r there; stamp = store.stamps q r there };
+  nothing = λ q other none. store.nothing q none;
+  bounded = store.bounded;
+}
+
+recorded_changes : ChangesStand → (s later : StoreFields) (o m n count : ℕ) (row next : Row) (i : Inode) (hand : List (Option Place))
     → IsOpenFor o i hand s → row_of s.rows o ≡ Some row → s.latest < m → later.latest ≡ m → Records s.log.held later.log.held o row next i m → Tidy (contents_of s.log.held) i → PointersHeld s.log.held o i
     → ((q : ℕ) → row_of later.rows q ≡ with_row (row_of s.rows) o (record next { stamp = n }) q) → n ≡ row.stamp + 1
-    → TakesPlaces count s.log later.log → 1 ≤ count → count ≤ length s.log.ahead → Counts s.log later.log o next → IsStore later
-recorded_store orderly stands same by later_by last matter s later o m n count row next i hand store there before latest records tidy pointers put stamp takes some room counts =
-    let le : s.latest ≤ m = omega (arith, before) in
-    let sum = sum_stays count s.log later.log takes room in
-    let more : later.log.spent ≡ count + s.log.spent = takes.spent in
-    let across = recorded_across s later o row next i hand m n records there store before put in
-    record {
-      objects = subst (λ (k : ℕ). (q : ℕ) (r : Row) → row_of later.rows q ≡ Some r → IsObject later.log.held q r k) (sym latest)
-          (row_cases (row_of s.rows) (row_of later.rows) o (record next { stamp = n }) put (λ q r. IsObject later.log.held q r m)
-          (recorded_object matter s.log.held later.log.held o row next i m s.latest n records (store.objects o row there) tidy pointers)
-          (λ q r other e. by_later later_by later.log.held q r s.latest m le (stays_object stands same by matter q s.log.held later.log.held r s.latest (journal_stays o q s.log.held later.log.held records.others other) (store.objects q r e))));
-      orderly = subst (λ (k : ℕ). (q : ℕ) (r : Row) → row_of later.rows q ≡ Some r → IsOrderly later.log.held q r k) (sym latest)
-          (row_cases (row_of s.rows) (row_of later.rows) o (record next { stamp = n }) put (λ q r. IsOrderly later.log.held q r m)
-          (orderly.stamp later.log.held o m n next records.orderly)
-          (λ q r other e.
-          let stays = journal_stays o q s.log.held later.log.held records.others other in
-          orderly.later later.log.held q r s.latest m le (orderly.blocks s.log.held later.log.held q s.latest r stays.journal stays.checkpoints (store.orderly q r other e))));
-      names = counts.names;
-      counted = row_cases (row_of s.rows) (row_of later.rows) o (record next { stamp = n }) put (λ q r. IsNamedBy q later.log (pointers_named later.log.held q r))
-          counts.here
-          (λ q r other e.
-          let stays = journal_stays o q s.log.held later.log.held records.others other in
-          counted_beside s.log later.log q r stays.journal stays.checkpoints (λ p. counts.beside q p other) (alone_counted s o i hand q r other e store));
-      few = row_cases (row_of s.rows) (row_of later.rows) o (record next { stamp = n }) put (λ q r. length r.sides ≤ SIDES) counts.few (λ q r other e. store.few q r e);
-      nothing = λ q none kind p.
-          let gone = none_cases (row_of s.rows) (row_of later.rows) o (record next { stamp = n }) put q none in
-          ap (λ (view : Place → Option (List ℕ)). view p) (records.others kind q (and_right (same_kind Journal kind) (o == q) gone.0)) ∙ store.nothing q gone.1 kind p;
-      stamps = row_cases (row_of s.rows) (row_of later.rows) o (record next { stamp = n }) put (λ q r. r.stamp ≤ later.log.spent)
-          (let bound = store.stamps o row there in omega (arith, bound, stamp, more, some))
-          (λ q r other e. let bound = store.stamps q r e in omega (arith, bound, more));
-      bounded = let bound = store.bounded in omega (arith, bound, sum);
-      ascending = across.ascending;
-      apart = across.apart;
-    }
+    → TakesPlaces count s.log later.log → 1 ≤ count → count ≤ length s.log.ahead → Counts s.log later.log o next → Changes s later o count (Some (record next { stamp = n }))
+recorded_changes rest s later o m n count row next i hand store there before latest records tidy pointers put stamp takes some room counts = record {
+  put = put;
+  here = some_keeps later o (record next { stamp = n }) (record {
+    object = subst (IsObject later.log.held o (record next { stamp = n })) (sym latest) (recorded_object rest.meaning s.log.held later.log.held o row next i m s.latest n records (store.objects o row there) tidy pointers);
+    orderly = subst (IsOrderly later.log.held o (record next { stamp = n })) (sym latest) (rest.orderly.stamp later.log.held o m n next records.orderly);
+    counted = counts.here;
+    few = counts.few;
+    stamp = let bound = store.stamps o row there in let more : later.log.spent ≡ count + s.log.spent = takes.spent in omega (arith, bound, stamp, more, some);
+  });
+  gone = some_stays (record next { stamp = n }) (HasNothing later.log.held o);
+  names = counts.names;
+  beside = counts.beside;
+  others = journal_others o s.log.held later.log.held records.others;
+  takes = takes;
+  sum = sum_stays count s.log later.log takes room;
+  latest = omega (arith, before, latest);
+  across = recorded_across s later o row next i hand m n records there store before put;
+}
 
 version_of_inode : (held later : Place → Option Stored) (m t : ℕ) (i j : Inode) → OnlyItsBlocksMatter → (o : ℕ) → DataStays o held later → PointersHeld held o i → PointersHeld held o j
     → meaning (contents_of later) (cond (leb m t) i j) ≡ cond (leb m t) (meaning (contents_of held) i) (meaning (contents_of held) j)
@@ -320,40 +310,29 @@ version_of_inode held later m t i j matter o stays i_leads j_leads = elim (cases
       ∙ sym (cond-false (leb m t) (meaning (contents_of held) i) (meaning (contents_of held) j) less)
 ]
 
-recorded_version : OnlyItsBlocksMatter → (s later : StoreFields) (o m n : ℕ) (row next : Row) (i : Inode) (hand : List (Option Place)) (t : ℕ) → IsOpenFor o i hand s → row_of s.rows o ≡ Some row
-    → Records s.log.held later.log.held o row next i m → PointersHeld s.log.held o i → row_of later.rows o ≡ Some (record next { stamp = n })
-    → version_in later o t ≡ cond (leb m t) (meaning (contents_of s.log.held) i) (version_in s o t)
-recorded_version matter s later o m n row next i hand t store there records pointers found =
-    ap (λ (r : Option Row). version_by later.log.held (inode_by later.log.held o t r)) found
-    ∙ ap (meaning (contents_of later.log.held)) (stamped_inode later.log.held o next n t ∙ records.inode t)
-    ∙ version_of_inode s.log.held later.log.held m t i (inode_of s.log.held o row t) matter o (journal_data o s.log.held later.log.held records.others) pointers ((store.objects o row there).pointers t)
-    ∙ sym (ap (λ (r : Option Row). cond (leb m t) (meaning (contents_of s.log.held) i) (version_by s.log.held (inode_by s.log.held o t r))) there)
-
-recorded_versions : RowInodeStays → OnlyItsBlocksMatter → (s later : StoreFields) (o m n : ℕ) (row next : Row) (i : Inode) (hand : List (Option Place)) → IsOpenFor o i hand s → row_of s.rows o ≡ Some row
-    → Records s.log.held later.log.held o row next i m → PointersHeld s.log.held o i → ((q : ℕ) → row_of later.rows q ≡ with_row (row_of s.rows) o (record next { stamp = n }) q)
+recorded_versions : ChangesStand → (s later : StoreFields) (o m n count : ℕ) (row next : Row) (i : Inode) (hand : List (Option Place)) → IsOpenFor o i hand s → row_of s.rows o ≡ Some row
+    → Records s.log.held later.log.held o row next i m → PointersHeld s.log.held o i → Changes s later o count (Some (record next { stamp = n }))
     → (q t : ℕ) → version_in later q t ≡ cond (o == q && leb m t) (meaning (contents_of s.log.held) i) (version_in s q t)
-recorded_versions same matter s later o m n row next i hand store there records pointers put q t = elim (cases_Bool (o == q)) [
-  | inl is ↦
-      let here : o ≡ q = eqb-true o q is in
-      subst (λ (k : ℕ). version_in later k t ≡ cond (leb m t) (meaning (contents_of s.log.held) i) (version_in s k t)) here
-      (recorded_version matter s later o m n row next i hand t store there records pointers (put o ∙ row_here (row_of s.rows) o (record next { stamp = n })))
-      ∙ ap (λ (b : Bool). cond (b && leb m t) (meaning (contents_of s.log.held) i) (version_in s q t)) (sym is)
-  | inr other ↦
-      ap (λ (r : Option Row). version_by later.log.held (inode_by later.log.held q t r)) (put q ∙ row_beside (row_of s.rows) o q (record next { stamp = n }) other)
-      ∙ version_by_stays same matter q t s.latest s.log.held later.log.held (row_of s.rows q) (journal_stays o q s.log.held later.log.held records.others other) (store.objects q)
-      ∙ ap (λ (b : Bool). cond (b && leb m t) (meaning (contents_of s.log.held) i) (version_in s q t)) (sym other)
-]
+recorded_versions rest s later o m n count row next i hand store there records pointers changes q t =
+    changed_versions rest s later o count (Some (record next { stamp = n })) (open_others s o i hand store) changes q t
+    ∙ ap (λ (v : Version). cond (o == q) v (version_in s q t))
+    (ap (meaning (contents_of later.log.held)) (stamped_inode later.log.held o next n t ∙ records.inode t)
+    ∙ version_of_inode s.log.held later.log.held m t i (inode_of s.log.held o row t) rest.meaning o (journal_data o s.log.held later.log.held records.others) pointers ((store.objects o row there).pointers t)
+    ∙ sym (ap (λ (r : Option Row). cond (leb m t) (meaning (contents_of s.log.held) i) (version_by s.log.held (inode_by s.log.held o t r))) there))
+    ∙ own_within o q (leb m t) (meaning (contents_of s.log.held) i) (λ k. version_in s k t)
 
 -- the whole step
-pub recorded : OrderlyStays → RowStays → RowInodeStays → IsByStays → IsByLater → LastInodeStays → OnlyItsBlocksMatter → (s later : StoreFields) (o m n count : ℕ) (row next : Row) (i : Inode) (hand : List (Option Place))
+pub recorded : ChangesStand → (s later : StoreFields) (o m n count : ℕ) (row next : Row) (i : Inode) (hand : List (Option Place))
     → IsOpenFor o i hand s → row_of s.rows o ≡ Some row → s.latest < m → later.latest ≡ m → Records s.log.held later.log.held o row next i m → Tidy (contents_of s.log.held) i → PointersHeld s.log.held o i
     → ((q : ℕ) → row_of later.rows q ≡ with_row (row_of s.rows) o (record next { stamp = n }) q) → n ≡ row.stamp + 1
     → TakesPlaces count s.log later.log → 1 ≤ count → count ≤ length s.log.ahead → Counts s.log later.log o next → RowChanges s o m later.rows → Turns s o m i count later
-recorded orderly stands same by later_by last matter s later o m n count row next i hand store there before latest records tidy pointers put stamp takes some room counts changes = record {
-  store = recorded_store orderly stands same by later_by last matter s later o m n count row next i hand store there before latest records tidy pointers put stamp takes some room counts;
-  versions = recorded_versions same matter s later o m n row next i hand store there records pointers put;
-  latest = latest;
-  row = changes;
-  others = records.others;
-  takes = takes;
-}
+recorded rest s later o m n count row next i hand store there before latest records tidy pointers put stamp takes some room counts changes =
+    let changed = recorded_changes rest s later o m n count row next i hand store there before latest records tidy pointers put stamp takes some room counts in
+    record {
+      store = changed_store rest s later o count (Some (record next { stamp = n })) (open_others s o i hand store) changed;
+      versions = recorded_versions rest s later o m n count row next i hand store there records pointers changed;
+      latest = latest;
+      row = changes;
+      others = records.others;
+      takes = takes;
+    }

@@ -29,7 +29,7 @@ use Rattle.version_store.specs.Costs.{row_or_fresh, subject_row}
 use Rattle.version_store.specs.Taking.{RowChanges}
 use Rattle.version_store.specs.private.Turning.{CanTurn, IsOpenFor, Turns, blocks_turned, times_given}
 use Rattle.version_store.specs.private.Recounting.{Counts, Recounts}
-use Rattle.version_store.specs.private.Below.{OnePlace, OrderlyStays, RowStays, RowInodeStays, IsByStays, IsByLater, LastInodeStays, EntriesAreAt, EntriesAreSome, SomeBlocksAreNeeded}
+use Rattle.version_store.specs.private.Below.{ChangesStand, OnePlace, OrderlyStays, RowStays, RowInodeStays, IsByStays, IsByLater, LastInodeStays, EntriesAreAt, EntriesAreSome, SomeBlocksAreNeeded}
 use Rattle.version_store.proofs.Telling.{Grows, between_led, grown_sides, inode_told, leads_later, same_checkpoint}
 use Rattle.version_store.proofs.Named.{contained_times, named_alike, named_there, recounts_all, there_named, times_contained, times_few, times_joined}
 use Rattle.version_store.proofs.Recounted.{names_few, pointers_few, same_aside, told_led}
@@ -104,18 +104,18 @@ changed s o m row next subject rows rest put = record {
   put = put;
 }
 
-pub turned : OrderlyStays → RowStays → RowInodeStays → IsByStays → IsByLater → OnlyItsBlocksMatter → EntriesAreSome → SomeBlocksAreNeeded → (s later : StoreFields) (o m : ℕ) (i j : Inode) (hand : List (Option Place)) (row next : Row)
+pub turned : ChangesStand → (s later : StoreFields) (o m : ℕ) (i j : Inode) (hand : List (Option Place)) (row next : Row)
     → CanTurn s o i j hand m → row_of s.rows o ≡ Some row → Known s o i j m row → later.latest ≡ m → Records s.log.held later.log.held o row next j m
     → next ≡ record row { head = next.head; journal_bytes = next.journal_bytes; head_bytes = next.head_bytes } → ((q : ℕ) → row_of later.rows q ≡ with_row (row_of s.rows) o (record next { stamp = row.stamp + 1 }) q)
     → TakesPlaces (pushed_blocks (chain_of o row) (entries_between i j m)) s.log later.log → Counts s.log later.log o next → Turns s o m j (blocks_turned s o i j m) later
-turned orderly stands same by later_by matter are_some needed s later o m i j hand row next can there know latest records rest put takes counts =
+turned laws s later o m i j hand row next can there know latest records rest put takes counts =
     let later_is = can.later in
     let few : pushed_blocks (chain_of o row) (entries_between i j m) ≤ length s.log.ahead = know.room.blocks in
-    let entries = (are_some i j m).0 in
+    let entries = (laws.entry_count i j m).0 in
     let count : length (map entry_length (entries_between i j m)) ≡ length (entries_between i j m) = length-map (entries_between i j m) entry_length in
-    let least : 0 < blocks_needed row.head_bytes (map entry_length (entries_between i j m)) = needed row.head_bytes (map entry_length (entries_between i j m)) (omega (arith, count, entries)) in
+    let least : 0 < blocks_needed row.head_bytes (map entry_length (entries_between i j m)) = laws.blocks_are_needed row.head_bytes (map entry_length (entries_between i j m)) (omega (arith, count, entries)) in
     subst (λ (r : Row). Turns s o m j (pushed_blocks (chain_of o r) (entries_between i j m)) later) (sym know.subject)
-    (recorded orderly stands same by later_by know.last matter s later o m (row.stamp + 1) (pushed_blocks (chain_of o row) (entries_between i j m)) row next j hand can.store there later_is latest records can.tidy can.pointers put refl takes (omega (arith, least)) few counts (changed s o m row next know.subject later.rows rest put))
+    (recorded laws s later o m (row.stamp + 1) (pushed_blocks (chain_of o row) (entries_between i j m)) row next j hand can.store there later_is latest records can.tidy can.pointers put refl takes (omega (arith, least)) few counts (changed s o m row next know.subject later.rows rest put))
 
 -- ---- the names
 

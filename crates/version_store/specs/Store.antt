@@ -81,7 +81,7 @@ times_led q pointers = count_by (λ pointer. is_at pointer q) pointers
 abbrev pub named_of : ℕ → Log → Place → ℕ
 named_of o log p = if is_some (of_kind Data o log.held p) then log.named p else 0
 
--- each data block of an object has just as many names as these pointers that lead to it
+-- each data block of an object has as many names as of these pointers lead to it
 abbrev pub IsNamedBy : ℕ → Log → List (Option Place) → Type 0
 IsNamedBy o log pointers = (p : Place) → named_of o log p ≡ times_led p pointers
 
@@ -107,10 +107,10 @@ DataIsNamed held o row = (p : Place) → IsSome (of_kind Data o held p) → Cont
 abbrev pub HasNothing : (Place → Option Stored) → ℕ → Type 0
 HasNothing held o = (kind : BlockKind) (p : Place) → of_kind kind o held p ≡ None
 
--- Each object that has a row is held, and its row is in order up to the last change; of its data each block has as many names
--- as pointers of the row that lead to it, so that none is held but those, and of an object without a row no block at all is.
--- A row has at most SIDES older checkpoints, and was changed no more often than places were ever taken: each change takes one. The places that were ever taken and
--- those ahead are fewer than 2^46.
+-- Each object that has a row is held, and its row is in order up to the last change. Of its data each block has one name for each
+-- pointer by which the row names it, older checkpoints' among them; nothing but held data has names; and of an object without a
+-- row no block is held. A row has at most SIDES older checkpoints, and was changed no more often than places were ever taken: each
+-- change takes one. The places that were ever taken and those ahead are fewer than 2^46.
 -- Across rows: of two objects the one with the greater number was made later, and no moment stands in the chains of both.
 pub record IsStore (s : StoreFields) : Type 0 where
   pub objects : (o : ℕ) (row : Row) → row_of s.rows o ≡ Some row → IsObject s.log.held o row s.latest

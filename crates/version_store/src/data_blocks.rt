@@ -1,5 +1,5 @@
 //! The data blocks that pointers lead to: listed, and dropped with all else of an object.
-ghost use Rattle.std.specs.Prelude.{◌≡◌, ◌++◌, None, IfOk, IfErr, OnOk};
+ghost use Rattle.std.specs.Prelude.{◌≡◌, ◌<◌, ◌^◌, ◌++◌, None, IfOk, IfErr, OnOk};
 ghost use Rattle.std.specs.List.{All};
 ghost use Rattle.s4_types.specs.Pointer.{Place};
 ghost use Rattle.s4_types.specs.declared.refusals.Refusal.TheVariants.{NoMemory};
@@ -8,16 +8,16 @@ ghost use Rattle.block_log.specs.Log.{of_kind};
 ghost use Rattle.block_log.specs.Taken.{TakesPlaces};
 ghost use Rattle.journal_chain.specs.Chain.{OnlyJournalChanged};
 ghost use Rattle.time_read.specs.Rows.{IsRow, checkpoint_of, entries_of};
-ghost use Rattle.version_store.specs.Store.{IsLed, IsNamedBy, HasNothing, sides_of, sides_told, pointers_aside, pointers_kept, pointers_of};
-ghost use Rattle.version_store.specs.Replacing.{OtherObjectsStay};
+ghost use Rattle.version_store.specs.Store.{IsLed, IsNamedBy, HasNothing, sides_of, sides_told, pointers_kept, pointers_of};
+ghost use Rattle.version_store.specs.Replacing.{OtherObjectsStay, pointers_told};
 ghost use Rattle.version_store.specs.private.Recounting.{Uncounts};
 
-use crate::recounts::count_removal;
+use crate::recounts::recount;
 use block_log::Blocks;
 use block_log::laws::places_taken_add_up;
 use checkpoint::laws::a_checkpoint_has_its_blocks;
 use checkpoint::{drop_checkpoint, read_checkpoint};
-use codec::Entry;
+use codec::{Entry, Inode};
 use journal_chain::Chain;
 use object_map::Row;
 use row_changes::drop_sides;
@@ -110,6 +110,23 @@ pub(crate) fn pointers_of<B: Blocks>(
     pointers_by(alloc, table, object, row, entries.as_slice())
 }
 
+/// All pointers of an inode, and behind them both sides of each triple of entries.
+///
+/// NoMemory alone, where the memory for them is refused.
+pub(crate) fn pointers_told(
+    alloc: Global,
+    present: &Inode,
+    entries: &[Entry],
+) -> Result<Vec<Option<Ptr>>, Refusal>
+    ensures told { IfOk result (λ told. told.items ≡ pointers_told present.now entries.now) }
+    ensures refusal { IfErr result (λ e. e ≡ NoMemory) }
+{
+    let mut told = Vec::new(alloc);
+    told.extend_from_slice(&present.pointers)?;
+    add_told(&mut told, entries)?;
+    Ok(told)
+}
+
 /// Drops the blocks of an object's journal.
 fn drop_journal<B: Blocks>(table: &mut B, object: ObjectId, row: &Row)
     requires { IsRow (B.log table.old).held object row.now }
@@ -125,7 +142,7 @@ fn drop_journal<B: Blocks>(table: &mut B, object: ObjectId, row: &Row)
     };
 }
 
-/// Drops all blocks of an object, whose row leads to each of its data blocks by these pointers.
+/// Drops all blocks of an object, whose row names each of its data blocks by these pointers.
 pub(crate) fn drop_all<B: Blocks>(
     table: &mut B,
     object: ObjectId,
@@ -134,8 +151,8 @@ pub(crate) fn drop_all<B: Blocks>(
 )
     requires row { IsRow (B.log table.old).held object row.now }
     requires led { All (IsLed (B.log table.old).held object) pointers.now }
-    requires aside { All (IsLed (B.log table.old).held object) (pointers_aside (B.log table.old).held object row.now) }
-    requires named { IsNamedBy object (B.log table.old) (pointers.now ++ pointers_aside (B.log table.old).held object row.now) }
+    requires named { IsNamedBy object (B.log table.old) pointers.now }
+    requires room { (p : Place) → (B.log table.old).named p < 2 ^ 32 }
     ensures nothing { HasNothing (B.log table.new).held object }
     ensures others { OtherObjectsStay object (B.log table.old).held (B.log table.new).held }
     ensures names { Uncounts (B.log table.old) (B.log table.new) object }
@@ -144,7 +161,7 @@ pub(crate) fn drop_all<B: Blocks>(
     a_row_is_its_own_blocks();
     a_checkpoint_has_its_blocks();
     places_taken_add_up();
-    count_removal(table, object, row, pointers);
+    recount(table, object, &[], pointers);
     let bare = drop_sides(table, object, row);
     drop_journal(table, object, &bare);
     drop_checkpoint(table, object, bare.checkpoint);

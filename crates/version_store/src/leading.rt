@@ -58,12 +58,11 @@ pub(crate) fn lead_back<B: Blocks>(
     ensures added { AddsTrue (B.log table.old).held object kept.now.row cache.old.pairs cache.new.pairs }
     ensures same { B.log table.new ≡ B.log table.old }
 {
-    // With an index no inode is made beside the one that is led back.
-    if kept.value.index.is_some() {
-        kept.value.lead_back(table, object, &kept.row, at, inode);
-        return;
-    }
-    if lead_from_nearest(alloc, table, cache, object, &kept.row, at, inode) {
+    // With an index no inode is made beside the one that is led back. It is led back in one place alone, so that the compiler puts
+    // that call in line.
+    if kept.value.index.is_none()
+        && lead_from_nearest(alloc, table, cache, object, &kept.row, at, inode)
+    {
         return;
     }
     kept.value.lead_back(table, object, &kept.row, at, inode);

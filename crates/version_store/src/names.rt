@@ -3,10 +3,8 @@ ghost use Rattle.std.specs.Prelude.{◌≡◌, ◌⊎◌, ℕ, ◌+◌, ◌-◌,
 ghost use Rattle.std.specs.List.{All};
 ghost use Rattle.s4_types.specs.Pointer.{Place};
 ghost use Rattle.block_log.specs.Taken.{TakesPlaces};
-ghost use Rattle.checkpoint.specs.Held.{checkpoint_held, HasItsBlocks};
-ghost use Rattle.time_read.specs.Rows.{IsRow};
 ghost use Rattle.chain_rewriting.specs.Renaming.{renamed_slot};
-ghost use Rattle.version_store.specs.Store.{times_led, sides_of, sides_told, pointers_kept, pointers_aside};
+ghost use Rattle.version_store.specs.Store.{times_led, sides_of, sides_told};
 ghost use Rattle.version_store.specs.private.Names.{IsOfData, IsOfDataOrNothing, Gives, TakesAway, held_named, places_copied, pointers_in};
 
 use crate::copies::CopiedBlock;
@@ -15,11 +13,8 @@ use block_log::laws::{
     a_drop_takes_no_place, no_change_takes_no_place, one_place_has_one_name, places_taken_add_up,
 };
 use chain_rewriting::Renaming;
-use checkpoint::laws::a_checkpoint_has_its_blocks;
-use checkpoint::read_checkpoint;
 use codec::{Entry, Inode, Triple};
-use object_map::{Row, Side};
-use s4_types::{ObjectId, Ptr};
+use s4_types::Ptr;
 use undo_redo::EntriesBetween;
 
 /// The block that a pointer leads to, if it leads to one, is named once more.
@@ -65,19 +60,6 @@ fn hold_sides<B: Blocks>(table: &mut B, triples: &[Triple])
 }
 
 /// Each block that either side of a triple of these entries leads to is named once more for it.
-pub(crate) fn hold_told<B: Blocks>(table: &mut B, entries: &[Entry])
-    requires of_data { All (IsOfData (B.log table.old).held) (sides_told entries.now) }
-    requires room { (p : Place) → (B.log table.old).named p + length (sides_told entries.now) < 2 ^ 32 }
-    ensures { Gives (B.log table.old) (sides_told entries.now) (B.log table.new) }
-{
-    no_change_takes_no_place();
-    places_taken_add_up();
-    for entry in entries {
-        hold_sides(table, entry.triples());
-    }
-}
-
-/// Each block that either side of a triple of these entries leads to is named once more for it.
 pub(crate) fn hold_between<B: Blocks>(table: &mut B, entries: &EntriesBetween<'_>)
     requires of_data { All (IsOfData (B.log table.old).held) (sides_told entries.now) }
     requires room { (p : Place) → (B.log table.old).named p + length (sides_told entries.now) < 2 ^ 32 }
@@ -106,7 +88,7 @@ pub(crate) fn hold_copied<B: Blocks>(table: &mut B, copies: &[CopiedBlock])
 }
 
 /// Each block that one of these pointers leads to, once it is renamed, is named once more for it.
-fn hold_renamed<B: Blocks>(table: &mut B, renaming: &Renaming, pointers: &[Option<Ptr>])
+pub(crate) fn hold_renamed<B: Blocks>(table: &mut B, renaming: &Renaming, pointers: &[Option<Ptr>])
     requires of_data { All (IsOfData (B.log table.old).held) (map (renamed_slot renaming.now) pointers.now) }
     requires room { (p : Place) → (B.log table.old).named p + length pointers.now < 2 ^ 32 }
     ensures { Gives (B.log table.old) (map (renamed_slot renaming.now) pointers.now) (B.log table.new) }
@@ -115,48 +97,6 @@ fn hold_renamed<B: Blocks>(table: &mut B, renaming: &Renaming, pointers: &[Optio
     places_taken_add_up();
     for pointer in pointers {
         hold_name(table, renaming.rename(*pointer));
-    }
-}
-
-/// Each block that a pointer of an inode leads to, once it is renamed, is named once more for it, if there is an inode.
-pub(crate) fn hold_kept_renamed<B: Blocks>(
-    table: &mut B,
-    renaming: &Renaming,
-    inode: Option<&Inode>,
-)
-    requires of_data { All (IsOfData (B.log table.old).held) (map (renamed_slot renaming.now) (pointers_in (option_copied inode))) }
-    requires room { (p : Place) → (B.log table.old).named p + length (pointers_in (option_copied inode)) < 2 ^ 32 }
-    ensures { Gives (B.log table.old) (map (renamed_slot renaming.now) (pointers_in (option_copied inode.entry))) (B.log table.new) }
-{
-    no_change_takes_no_place();
-    if let Some(inode) = inode {
-        hold_renamed(table, renaming, &inode.pointers);
-    }
-}
-
-/// Each block that either side of one of these triples leads to, once it is renamed, is named once more for it.
-fn hold_renamed_sides<B: Blocks>(table: &mut B, renaming: &Renaming, triples: &[Triple])
-    requires of_data { All (IsOfData (B.log table.old).held) (map (renamed_slot renaming.now) (sides_of triples.now)) }
-    requires room { (p : Place) → (B.log table.old).named p + length (sides_of triples.now) < 2 ^ 32 }
-    ensures { Gives (B.log table.old) (map (renamed_slot renaming.now) (sides_of triples.now)) (B.log table.new) }
-{
-    no_change_takes_no_place();
-    places_taken_add_up();
-    for triple in triples {
-        hold_renamed(table, renaming, &[triple.before, triple.after]);
-    }
-}
-
-/// Each block that either side of a triple of these entries leads to, once it is renamed, is named once more for it.
-pub(crate) fn hold_renamed_told<B: Blocks>(table: &mut B, renaming: &Renaming, entries: &[Entry])
-    requires of_data { All (IsOfData (B.log table.old).held) (map (renamed_slot renaming.now) (sides_told entries.now)) }
-    requires room { (p : Place) → (B.log table.old).named p + length (sides_told entries.now) < 2 ^ 32 }
-    ensures { Gives (B.log table.old) (map (renamed_slot renaming.now) (sides_told entries.now)) (B.log table.new) }
-{
-    no_change_takes_no_place();
-    places_taken_add_up();
-    for entry in entries {
-        hold_renamed_sides(table, renaming, entry.triples());
     }
 }
 
@@ -191,32 +131,6 @@ pub(crate) fn drop_names<B: Blocks>(table: &mut B, pointers: &[Option<Ptr>])
     }
 }
 
-/// Each block that either side of one of these triples leads to is named once less for it.
-fn drop_sides_of<B: Blocks>(table: &mut B, triples: &[Triple])
-    requires { All (IsOfDataOrNothing (B.log table.old).held) (sides_of triples.now) }
-    ensures { TakesAway (B.log table.old) (sides_of triples.now) (B.log table.new) }
-{
-    no_change_takes_no_place();
-    places_taken_add_up();
-    table.names();
-    for triple in triples {
-        drop_names(table, &[triple.before, triple.after]);
-    }
-}
-
-/// Each block that either side of a triple of these entries leads to is named once less for it.
-pub(crate) fn drop_told<B: Blocks>(table: &mut B, entries: &[Entry])
-    requires { All (IsOfDataOrNothing (B.log table.old).held) (sides_told entries.now) }
-    ensures { TakesAway (B.log table.old) (sides_told entries.now) (B.log table.new) }
-{
-    no_change_takes_no_place();
-    places_taken_add_up();
-    table.names();
-    for entry in entries {
-        drop_sides_of(table, entry.triples());
-    }
-}
-
 /// The block at each of these places is named once less.
 pub(crate) fn drop_copied<B: Blocks>(table: &mut B, copies: &[CopiedBlock])
     requires { All (IsOfDataOrNothing (B.log table.old).held) (places_copied copies.now) }
@@ -239,34 +153,5 @@ pub(crate) fn drop_kept<B: Blocks>(table: &mut B, inode: Option<&Inode>)
     table.names();
     if let Some(inode) = inode {
         drop_names(table, &inode.pointers);
-    }
-}
-
-/// Each block that a pointer of an older checkpoint leads to is named once less for it.
-fn drop_side<B: Blocks>(table: &mut B, object: ObjectId, side: &Side)
-    requires held { HasItsBlocks (B.log table.old).held object (Some side.now.place) }
-    requires of_data { All (IsOfDataOrNothing (B.log table.old).held) (pointers_kept (checkpoint_held (B.log table.old).held object side.now.place)) }
-    ensures { TakesAway (B.log table.old) (pointers_kept (checkpoint_held (B.log table.old).held object side.now.place)) (B.log table.new) }
-{
-    no_change_takes_no_place();
-    table.names();
-    if let Some(checkpoint) = read_checkpoint(table, object, side.place) {
-        drop_names(table, &checkpoint.inode().pointers);
-    }
-}
-
-/// Each block that a pointer of one of a row's older checkpoints leads to is named once less for it.
-pub(crate) fn drop_aside<B: Blocks>(table: &mut B, object: ObjectId, row: &Row)
-    requires row { IsRow (B.log table.old).held object row.now }
-    requires of_data { All (IsOfDataOrNothing (B.log table.old).held) (pointers_aside (B.log table.old).held object row.now) }
-    ensures { TakesAway (B.log table.old) (pointers_aside (B.log table.old).held object row.now) (B.log table.new) }
-{
-    a_checkpoint_has_its_blocks();
-    no_change_takes_no_place();
-    places_taken_add_up();
-    table.names();
-    let sides = row.sides.as_slice();
-    for side in sides {
-        drop_side(table, object, side);
     }
 }

@@ -1,31 +1,26 @@
 //! The names of an object's data blocks, counted anew where its row comes to lead elsewhere. New names are given before old ones
 //! are taken away, so that a block which has both stays held.
-ghost use Rattle.std.specs.Prelude.{◌≡◌, ℕ, ◌+◌, ◌^◌, ◌<◌, ◌++◌, [], length, map, option_copied};
+ghost use Rattle.std.specs.Prelude.{◌≡◌, ℕ, ◌+◌, ◌^◌, ◌<◌, ◌++◌, length, map, option_copied};
 ghost use Rattle.std.specs.List.{All};
 ghost use Rattle.std.specs.Option.{option_to_list};
 ghost use Rattle.s4_types.specs.Pointer.{Place};
 ghost use Rattle.object_map.specs.Sides.{side_gone, sides_after, sides_named};
 ghost use Rattle.chain_rewriting.specs.Renaming.{renamed_slot};
 ghost use Rattle.time_read.specs.Rows.{IsRow};
-ghost use Rattle.version_store.specs.Store.{IsLed, sides_told, pointers_of_sides, pointers_aside};
-ghost use Rattle.version_store.specs.Replacing.{pointers_told};
-ghost use Rattle.version_store.specs.private.Names.{IsOfData, IsOfDataOrNothing, Gives, TakesAway, places_copied, pointers_in, pointers_journaled};
+ghost use Rattle.version_store.specs.Store.{IsLed, sides_told, pointers_of_sides};
+ghost use Rattle.version_store.specs.private.Names.{places_copied, pointers_in};
 ghost use Rattle.version_store.specs.private.Recounting.{Recounts};
 
 use crate::copies::CopiedBlock;
-use crate::names::{
-    drop_aside, drop_kept, drop_names, drop_told, hold_between, hold_copied, hold_kept_renamed,
-    hold_names, hold_renamed_told, hold_told,
-};
+use crate::names::{drop_kept, drop_names, hold_between, hold_copied, hold_names, hold_renamed};
 use block_log::Blocks;
 use block_log::laws::{one_place_has_one_name, places_taken_add_up};
 use chain_rewriting::Renaming;
 use checkpoint::laws::a_checkpoint_has_its_blocks;
 use checkpoint::read_checkpoint;
-use codec::{Entry, Inode};
+use codec::Inode;
 use object_map::Row;
 use s4_types::{ObjectId, Ptr};
-use time_read::ObjectJournal;
 use undo_redo::EntriesBetween;
 
 /// An object's journal has these entries more: both sides of their triples give names, and those that the blocks of these
@@ -83,129 +78,50 @@ pub(crate) fn count_checkpoint<B: Blocks>(
     table.names();
 }
 
-/// The pointers of an object's older checkpoints, and these others, give no names any more.
-fn discount<B: Blocks>(table: &mut B, object: ObjectId, row: &Row, pointers: &[Option<Ptr>])
-    requires row { IsRow (B.log table.old).held object row.now }
-    requires aside { All (IsLed (B.log table.old).held object) (pointers_aside (B.log table.old).held object row.now) }
-    requires pointers { All (IsLed (B.log table.old).held object) pointers.now }
-    ensures { TakesAway (B.log table.old) (pointers_aside (B.log table.old).held object row.now ++ pointers.now) (B.log table.new) }
-{
-    places_taken_add_up();
-    drop_aside(table, object, row);
-    drop_names(table, pointers);
-}
-
-/// An object's data has no names any more by these pointers, which its row leads to, and by those of its older checkpoints.
-pub(crate) fn count_removal<B: Blocks>(
+/// Each block that one of the one pointers leads to is named once more for it, and each that one of the others leads to once less.
+pub(crate) fn recount<B: Blocks>(
     table: &mut B,
     object: ObjectId,
-    row: &Row,
-    pointers: &[Option<Ptr>],
+    more: &[Option<Ptr>],
+    fewer: &[Option<Ptr>],
 )
-    requires row { IsRow (B.log table.old).held object row.now }
-    requires aside { All (IsLed (B.log table.old).held object) (pointers_aside (B.log table.old).held object row.now) }
-    requires pointers { All (IsLed (B.log table.old).held object) pointers.now }
-    ensures { Recounts object (B.log table.old) [] (pointers_aside (B.log table.old).held object row.now ++ pointers.now) (B.log table.new) }
-{
-    one_place_has_one_name();
-    table.names();
-    discount(table, object, row, pointers);
-    table.names();
-}
-
-/// An object's data is named by this inode and these entries, and no more by these pointers, which its row led to, or by those
-/// of its older checkpoints.
-pub(crate) fn count_replacement<B: Blocks>(
-    table: &mut B,
-    object: ObjectId,
-    row: &Row,
-    pointers: &[Option<Ptr>],
-    present: &Inode,
-    entries: &[Entry],
-)
-    requires row { IsRow (B.log table.old).held object row.now }
-    requires aside { All (IsLed (B.log table.old).held object) (pointers_aside (B.log table.old).held object row.now) }
-    requires pointers { All (IsLed (B.log table.old).held object) pointers.now }
-    requires told { All (IsLed (B.log table.old).held object) (pointers_told present.now entries.now) }
-    requires room { (p : Place) → (B.log table.old).named p + length (pointers_told present.now entries.now) < 2 ^ 32 }
-    ensures { Recounts object (B.log table.old) (pointers_told present.now entries.now) (pointers_aside (B.log table.old).held object row.now ++ pointers.now) (B.log table.new) }
+    requires more { All (IsLed (B.log table.old).held object) more.now }
+    requires fewer { All (IsLed (B.log table.old).held object) fewer.now }
+    requires room { (p : Place) → (B.log table.old).named p + length more.now < 2 ^ 32 }
+    ensures { Recounts object (B.log table.old) more.now fewer.now (B.log table.new) }
 {
     one_place_has_one_name();
     places_taken_add_up();
-    hold_names(table, &present.pointers);
-    hold_told(table, entries);
+    hold_names(table, more);
     table.names();
-    discount(table, object, row, pointers);
+    drop_names(table, fewer);
     table.names();
 }
 
-/// Each pointer of a journal and its checkpoint gives the block that it will lead to, once it is renamed, a name; and so does each
-/// copy the block that was copied, which is held until all is written.
-fn give_renamed<B: Blocks>(
-    table: &mut B,
-    renaming: &Renaming,
-    journal: &ObjectJournal,
-    copies: &[CopiedBlock],
-)
-    requires copied { All (IsOfData (B.log table.old).held) (places_copied copies.now) }
-    requires kept { All (IsOfData (B.log table.old).held) (map (renamed_slot renaming.now) (pointers_in journal.now.checkpoint)) }
-    requires told { All (IsOfData (B.log table.old).held) (map (renamed_slot renaming.now) (sides_told journal.now.entries.items)) }
-    requires room { (p : Place) → (B.log table.old).named p + (length copies.now + (length (pointers_in journal.now.checkpoint) + length (sides_told journal.now.entries.items))) < 2 ^ 32 }
-    ensures { Gives (B.log table.old) (places_copied copies.now ++ (map (renamed_slot renaming.now) (pointers_in journal.now.checkpoint) ++ map (renamed_slot renaming.now) (sides_told journal.now.entries.items))) (B.log table.new) }
-{
-    places_taken_add_up();
-    hold_copied(table, copies);
-    hold_kept_renamed(table, renaming, journal.checkpoint.as_ref());
-    hold_renamed_told(table, renaming, journal.entries.as_slice());
-}
-
-/// The pointers of a journal and its checkpoint give no names any more, nor do those to new places and those of older checkpoints.
-fn take_old<B: Blocks>(
-    table: &mut B,
-    object: ObjectId,
-    row: &Row,
-    renaming: &Renaming,
-    journal: &ObjectJournal,
-)
-    requires row { IsRow (B.log table.old).held object row.now }
-    requires aside { All (IsOfDataOrNothing (B.log table.old).held) (pointers_aside (B.log table.old).held object row.now) }
-    requires kept { All (IsOfDataOrNothing (B.log table.old).held) (pointers_in journal.now.checkpoint) }
-    requires told { All (IsOfDataOrNothing (B.log table.old).held) (sides_told journal.now.entries.items) }
-    requires new { All (IsOfDataOrNothing (B.log table.old).held) renaming.now.moves }
-    ensures { TakesAway (B.log table.old) (pointers_aside (B.log table.old).held object row.now ++ (pointers_in journal.now.checkpoint ++ (sides_told journal.now.entries.items ++ renaming.now.moves))) (B.log table.new) }
-{
-    places_taken_add_up();
-    drop_aside(table, object, row);
-    drop_kept(table, journal.checkpoint.as_ref());
-    drop_told(table, journal.entries.as_slice());
-    drop_names(table, renaming.moves());
-}
-
-/// The pointers of an object's journal and its checkpoint give their names where they will lead once they are renamed, and no
-/// more where they lead. Blocks that were copied have one name more, by which they are still held, and their copies no other
-/// names; those of older checkpoints are gone.
+/// These pointers, by which a row leads to its data, give their names where they will lead once they are renamed, and all by which it
+/// names data give theirs no more. Blocks that were copied have one name more, by which they are still held, and their copies no
+/// other names.
 pub(crate) fn count_renaming<B: Blocks>(
     table: &mut B,
     object: ObjectId,
-    row: &Row,
     renaming: &Renaming,
-    journal: &ObjectJournal,
+    led: &[Option<Ptr>],
+    names: &[Option<Ptr>],
     copies: &[CopiedBlock],
 )
-    requires row { IsRow (B.log table.old).held object row.now }
-    requires aside { All (IsLed (B.log table.old).held object) (pointers_aside (B.log table.old).held object row.now) }
+    requires names { All (IsLed (B.log table.old).held object) names.now }
     requires copied { All (IsLed (B.log table.old).held object) (places_copied copies.now) }
     requires new { All (IsLed (B.log table.old).held object) renaming.now.moves }
-    requires led { All (IsLed (B.log table.old).held object) (pointers_journaled journal.now) }
-    requires renamed { All (IsLed (B.log table.old).held object) (map (renamed_slot renaming.now) (pointers_journaled journal.now)) }
-    requires room { (p : Place) → (B.log table.old).named p + (length copies.now + length (pointers_journaled journal.now)) < 2 ^ 32 }
-    ensures { Recounts object (B.log table.old) (places_copied copies.now ++ map (renamed_slot renaming.now) (pointers_journaled journal.now))
-        (pointers_aside (B.log table.old).held object row.now ++ (pointers_journaled journal.now ++ renaming.now.moves)) (B.log table.new) }
+    requires renamed { All (IsLed (B.log table.old).held object) (map (renamed_slot renaming.now) led.now) }
+    requires room { (p : Place) → (B.log table.old).named p + (length copies.now + length led.now) < 2 ^ 32 }
+    ensures { Recounts object (B.log table.old) (places_copied copies.now ++ map (renamed_slot renaming.now) led.now) (names.now ++ renaming.now.moves) (B.log table.new) }
 {
     one_place_has_one_name();
     places_taken_add_up();
-    give_renamed(table, renaming, journal, copies);
+    hold_copied(table, copies);
+    hold_renamed(table, renaming, led);
     table.names();
-    take_old(table, object, row, renaming, journal);
+    drop_names(table, names);
+    drop_names(table, renaming.moves());
     table.names();
 }

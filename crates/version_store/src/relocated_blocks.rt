@@ -27,7 +27,7 @@ use chain_rewriting::renaming_laws::{
 use checkpoint::laws::a_checkpoint_takes_its_blocks;
 use codec::Inode;
 use object_map::Row;
-use s4_types::ObjectId;
+use s4_types::{ObjectId, Ptr};
 use time_read::ObjectJournal;
 use time_read::laws::{a_row_is_its_own_blocks, an_orderly_row_stays};
 use undo_redo::laws::a_run_has_one_end_and_one_beginning;
@@ -66,16 +66,20 @@ pub(crate) fn relocate_blocks<B: Blocks>(
     object: ObjectId,
     row: &Row,
     journal: &mut ObjectJournal,
+    led: &[Option<Ptr>],
+    names: &[Option<Ptr>],
     copies: &[CopiedBlock],
 ) -> Relocated
     requires row { IsRow (B.log table.old).held object row.now }
     requires orderly { (latest : ℕ) × IsOrderly (B.log table.old).held object row.now latest }
     requires led { All (IsLed (B.log table.old).held object) (pointers_of (B.log table.old).held object row.now) }
+    requires pointers { led.now ≡ pointers_of (B.log table.old).held object row.now }
+    requires names { names.now ≡ pointers_named (B.log table.old).held object row.now }
     requires journal { IsJournalOf (B.log table.old).held object row.now journal.old }
     requires copies { AreCopies (B.log table.old).held object copies.now }
     requires room { blocks_relocated (B.log table.old).held object row.now copies.now ≤ length (B.log table.old).ahead }
     requires counted { IsNamedBy object (B.log table.old) (pointers_named (B.log table.old).held object row.now) }
-    requires names { (p : Place) → (B.log table.old).named p ≤ 12144 }
+    requires few_names { (p : Place) → (B.log table.old).named p ≤ 12144 }
     requires few { length (pointers_named (B.log table.old).held object row.now) ≤ 12144 }
     ensures moved { Relocates (B.log table.old) object row.now copies.now result.row (B.log table.new) result.renaming }
     ensures named { NamesMove (B.log table.old) object row.now result.renaming (B.log table.new) }
@@ -96,7 +100,7 @@ pub(crate) fn relocate_blocks<B: Blocks>(
     renamed_entries_stay_in_order();
     table.names();
     let renaming = append_copies(table, object, copies);
-    count_renaming(table, object, row, &renaming, journal, copies);
+    count_renaming(table, object, &renaming, led, names, copies);
     rename(journal, &renaming);
     let checkpoint = journal.checkpoint.as_ref();
     let row = move_blocks(table, object, row, checkpoint, journal.entries.as_slice());

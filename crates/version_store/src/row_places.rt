@@ -6,14 +6,15 @@ ghost use Rattle.block_log.specs.declared.kinds.BlockKind.TheVariants.{Journal};
 ghost use Rattle.block_log.specs.Log.{of_kind};
 ghost use Rattle.checkpoint.specs.Held.{checkpoint_held, of_checkpoints, HasItsBlocks};
 ghost use Rattle.journal_chain.specs.Chain.{chain_places};
-ghost use Rattle.time_read.specs.Rows.{IsRow, all_places_of, checkpoint_places_of, side_places};
+ghost use Rattle.time_read.specs.Rows.{entries_of, IsRow, all_places_of, checkpoint_places_of, side_places};
 ghost use Rattle.version_store.specs.Store.{pointers_kept, pointers_named, pointers_of_sides};
 ghost use Rattle.version_store.specs.private.Tallying.{pointers_to, number_of, times_on, IsWithin, Grows};
 
-use crate::data_blocks::pointers_of;
+use crate::data_blocks::{pointers_by, pointers_of};
 use block_log::Blocks;
 use checkpoint::laws::a_checkpoint_has_its_blocks;
 use checkpoint::{add_places, read_checkpoint};
+use codec::Entry;
 use journal_chain::Chain;
 use object_map::{Row, Side};
 use s4_types::limits::PAYLOAD_BLOCKS;
@@ -129,6 +130,28 @@ fn add_data<B: Blocks>(
     pointers.extend_from_slice(led.as_slice())?;
     add_aside(table, object, row.sides.as_slice(), pointers)?;
     Ok(())
+}
+
+/// All pointers by which an object's row names data, by these entries, which are those of its journal.
+///
+/// NoMemory alone, where the memory for them is refused.
+pub(crate) fn names_by<B: Blocks>(
+    alloc: Global,
+    table: &mut B,
+    object: ObjectId,
+    row: &Row,
+    entries: &[Entry],
+) -> Result<Vec<Option<Ptr>>, Refusal>
+    requires row { IsRow (B.log table.old).held object row.now }
+    requires entries { entries.now ≡ entries_of (B.log table.old).held object row.now }
+    ensures names { IfOk result (λ names. names.items ≡ pointers_named (B.log table.old).held object row.now) }
+    ensures refusal { IfErr result (λ e. e ≡ NoMemory) }
+    ensures same { B.log table.new ≡ B.log table.old }
+{
+    a_checkpoint_has_its_blocks();
+    let mut names = pointers_by(alloc, table, object, row, entries)?;
+    add_aside(table, object, row.sides.as_slice(), &mut names)?;
+    Ok(names)
 }
 
 /// Adds the places of the blocks of all checkpoints that an object's row names.

@@ -1,4 +1,5 @@
--- What becomes of an object's data where names are given to its blocks and others are taken away. No public clause cites this file.
+-- What becomes of an object's data where names are given to its blocks and others are taken away. No public clause cites this
+-- file.
 use Rattle.std.specs.Prelude.{◌≡◌, ◌⊎◌, ℕ, ◌+◌, ◌-◌, ◌≤◌, ◌==◌, false, List, length, Option, None, is_some}
 use Rattle.s4_types.specs.Pointer.{Place}
 use Rattle.s4_types.specs.declared.limits.TheConstants.{SIDES}
@@ -18,8 +19,8 @@ pub record Recounts (o : ℕ) (before : Log) (more fewer : List (Option Place)) 
   pub names : NamesAreOfData after
   pub takes : TakesPlaces 0 before after
 
--- From a log to a later one: the data of an object has the names that its next row gives, that of each other object those that it had. The row has at most SIDES
--- older checkpoints.
+-- From a log to a later one: the data of an object has the names that its next row gives, that of each other object those that
+-- it had. The row has at most SIDES older checkpoints.
 pub record Counts (before later : Log) (o : ℕ) (next : Row) : Type 0 where
   pub names : NamesAreOfData later
   pub here : IsNamedBy o later (pointers_named later.held o next)

@@ -4,14 +4,16 @@ ghost use Rattle.s4_types.specs.declared.refusals.Refusal.TheVariants.{NoMemory,
 ghost use Rattle.object_map.specs.Rows.{row_of};
 ghost use Rattle.chain_rewriting.specs.Renaming.{renamed_inode};
 ghost use Rattle.time_read.specs.Journals.{IsJournalOf};
-ghost use Rattle.version_store.specs.Store.{fields_of, IsStore};
+ghost use Rattle.version_store.specs.Store.{fields_of, IsStore, pointers_named, pointers_of};
 ghost use Rattle.version_store.specs.Versions.{inode_in, version_in};
 ghost use Rattle.version_store.specs.Relocating.{AreCopies, IsRelocated, blocks_relocated, renaming_by};
 ghost use Rattle.version_store.specs.private.Relocating.{RelocatesIn};
 
 use crate::copies::CopiedBlock;
+use crate::data_blocks::pointers_by;
 use crate::laws::what_changes_rest_on;
 use crate::relocated_blocks::relocate_blocks;
+use crate::row_places::names_by;
 use crate::store::Store;
 use block_log::Blocks;
 use chain_rewriting::renaming_laws::{
@@ -20,7 +22,7 @@ use chain_rewriting::renaming_laws::{
 };
 use object_map::Row;
 use row_changes::moved_blocks;
-use s4_types::{ObjectId, Refusal};
+use s4_types::{ObjectId, Ptr, Refusal};
 use time_read::{ObjectJournal, Present, index_of};
 
 impl<B: Blocks> Store<B> {
@@ -30,11 +32,15 @@ impl<B: Blocks> Store<B> {
         object: ObjectId,
         row: &Row,
         journal: &mut ObjectJournal,
+        led: &[Option<Ptr>],
+        names: &[Option<Ptr>],
         copies: &[CopiedBlock],
     )
         requires store { IsStore (fields_of B.log self.old) }
         requires row { row_of self.old.rows object ≡ Some row.now }
         requires journal { IsJournalOf (B.log self.old.table).held object row.now journal.old }
+        requires led { led.now ≡ pointers_of (B.log self.old.table).held object row.now }
+        requires names { names.now ≡ pointers_named (B.log self.old.table).held object row.now }
         requires copies { AreCopies (B.log self.old.table).held object copies.now }
         requires room { blocks_relocated (B.log self.old.table).held object row.now copies.now ≤ length (B.log self.old.table).ahead }
         ensures { RelocatesIn (fields_of B.log self.old) object row.now copies.now (fields_of B.log self.new) }
@@ -47,7 +53,7 @@ impl<B: Blocks> Store<B> {
         let Some(mut inode) = self.present(object).copied() else {
             unreachable!()
         };
-        let moved = relocate_blocks(&mut self.table, object, row, journal, copies);
+        let moved = relocate_blocks(&mut self.table, object, row, journal, led, names, copies);
         moved.renaming.rename_inode(&mut inode);
         let beside = Present {
             inode,
@@ -72,19 +78,29 @@ impl<B: Blocks> Store<B> {
         ensures unchanged { OnErr result (fields_of B.log self.new ≡ fields_of B.log self.old) }
     {
         let mut journal = ObjectJournal::read(self.alloc, &mut self.table, object, row)?;
-        self.put_relocation(object, row, &mut journal, copies);
+        let entries = journal.entries.as_slice();
+        let led = pointers_by(self.alloc, &mut self.table, object, row, entries)?;
+        let names = names_by(self.alloc, &mut self.table, object, row, entries)?;
+        self.put_relocation(
+            object,
+            row,
+            &mut journal,
+            led.as_slice(),
+            names.as_slice(),
+            copies,
+        );
         Ok(())
     }
 
     /// An object's blocks go to new places: these copies of its data blocks in one frame, in their order, then its checkpoint,
-    /// if it has one, and its whole journal, with each pointer to a copied block leading to the copy. The blocks that were
-    /// copied are dropped, and so are older checkpoints. With no copies the checkpoint and the journal alone go. Checkpoint and
-    /// entries keep their moments; the row is changed once more. Each version of each object is as it was, at every moment, and the
-    /// moment of the last change stays.
+    /// if it has one, and its whole journal, with each pointer to a copied block pointing to the copy. The blocks that were
+    /// copied are dropped, and so are older checkpoints. With no copies the checkpoint and the journal alone are written anew.
+    /// Checkpoint and entries keep their moments; the row is changed once more. Each version of each object is as it was, at
+    /// every moment, and the moment of the last change stays.
     ///
     /// NoRoom exactly where fewer places are ahead than the copies, the checkpoint and the journal take; else NoMemory alone,
-    /// where the memory for the entries is refused. Then nothing has changed. It takes time in proportion to the copies and
-    /// the entries.
+    /// where the memory for the entries or for the lists of their pointers is refused. Then nothing has changed. It takes time
+    /// in proportion to the copies and the entries.
     pub fn relocate(&mut self, object: ObjectId, copies: &[CopiedBlock]) -> Result<(), Refusal>
         requires store { IsStore (fields_of B.log self.old) }
         requires some { IsSome (row_of self.old.rows object) }

@@ -5,15 +5,16 @@ ghost use Rattle.s4_types.specs.declared.versions.Version.TheVariants.{Absent};
 ghost use Rattle.inode.specs.Contents.{contents_of, meaning};
 ghost use Rattle.object_map.specs.Rows.{row_of};
 ghost use Rattle.time_read.specs.Rows.{IsRow, entries_of};
-ghost use Rattle.version_store.specs.Store.{fields_of, IsStore, pointers_of};
+ghost use Rattle.version_store.specs.Store.{fields_of, IsStore, pointers_named};
 ghost use Rattle.version_store.specs.Versions.{entries_of_object, inode_in, version_in};
-ghost use Rattle.version_store.specs.Replacing.{CanReplace, IsRemoved, IsReplaced, inode_led};
+ghost use Rattle.version_store.specs.Replacing.{CanReplace, IsRemoved, IsReplaced, inode_led, pointers_told};
 ghost use Rattle.row_changes.specs.Rewritten.{rewritten_blocks};
 ghost use Rattle.version_store.specs.private.Replacing.{Removes, Replaces};
 
-use crate::data_blocks::{drop_all, pointers_by};
+use crate::data_blocks::{drop_all, pointers_told};
 use crate::laws::what_changes_rest_on;
-use crate::recounts::count_replacement;
+use crate::recounts::recount;
+use crate::row_places::names_by;
 use crate::store::Store;
 use crate::store::checkpoints::last_entry;
 use crate::written_anew::rewrite_blocks;
@@ -26,10 +27,10 @@ use time_read::{Present, index_of};
 use undo_redo::laws::{a_run_has_one_end_and_one_beginning, the_inode_at_a_moment};
 
 impl<B: Blocks> Store<B> {
-    /// All pointers to data that an object's row leads to, by these entries, which are those of its journal.
+    /// All pointers by which an object's row names data, by these entries, which are those of its journal.
     ///
     /// NoMemory alone, where the memory for them is refused.
-    fn pointers(
+    fn names(
         &mut self,
         object: ObjectId,
         row: &Row,
@@ -37,18 +38,18 @@ impl<B: Blocks> Store<B> {
     ) -> Result<Vec<Option<Ptr>>, Refusal>
         requires row { IsRow (B.log self.old.table).held object row.now }
         requires entries { entries.now ≡ entries_of (B.log self.old.table).held object row.now }
-        ensures pointers { IfOk result (λ pointers. pointers.items ≡ pointers_of (B.log self.old.table).held object row.now) }
+        ensures names { IfOk result (λ names. names.items ≡ pointers_named (B.log self.old.table).held object row.now) }
         ensures refusal { IfErr result (λ e. e ≡ NoMemory) }
         ensures same { fields_of B.log self.new ≡ fields_of B.log self.old }
     {
-        pointers_by(self.alloc, &mut self.table, object, row, entries)
+        names_by(self.alloc, &mut self.table, object, row, entries)
     }
 
-    /// An object that has this row, which leads to its data by these pointers, has neither row nor block any more.
+    /// An object that has this row, which names its data by these pointers, has neither row nor block any more.
     fn forget(&mut self, object: ObjectId, row: &Row, pointers: &[Option<Ptr>])
         requires store { IsStore (fields_of B.log self.old) }
         requires row { row_of self.old.rows object ≡ Some row.now }
-        requires pointers { pointers.now ≡ pointers_of (B.log self.old.table).held object row.now }
+        requires pointers { pointers.now ≡ pointers_named (B.log self.old.table).held object row.now }
         ensures { Removes (fields_of B.log self.old) object (fields_of B.log self.new) }
     {
         what_changes_rest_on();
@@ -75,7 +76,7 @@ impl<B: Blocks> Store<B> {
         let Some(row) = self.row(object) else {
             return Ok(());
         };
-        let pointers = self.pointers(object, &row, entries)?;
+        let pointers = self.names(object, &row, entries)?;
         self.forget(object, &row, pointers.as_slice());
         Ok(())
     }
@@ -88,12 +89,14 @@ impl<B: Blocks> Store<B> {
         row: &Row,
         present: &Inode,
         entries: &[Entry],
+        told: &[Option<Ptr>],
         pointers: &[Option<Ptr>],
     )
         requires store { IsStore (fields_of B.log self.old) }
         requires row { row_of self.old.rows object ≡ Some row.now }
         requires can { CanReplace (fields_of B.log self.old) object row.now present.now entries.now }
-        requires pointers { pointers.now ≡ pointers_of (B.log self.old.table).held object row.now }
+        requires told { told.now ≡ pointers_told present.now entries.now }
+        requires pointers { pointers.now ≡ pointers_named (B.log self.old.table).held object row.now }
         requires room { rewritten_blocks present.now entries.now ≤ length (B.log self.old.table).ahead }
         ensures { Replaces (fields_of B.log self.old) object row.now present.now entries.now (fields_of B.log self.new) }
     {
@@ -101,7 +104,7 @@ impl<B: Blocks> Store<B> {
         the_inode_at_a_moment();
         a_run_has_one_end_and_one_beginning();
         let moment = last_entry(&mut self.table, object, row);
-        count_replacement(&mut self.table, object, row, pointers, present, entries);
+        recount(&mut self.table, object, told, pointers);
         let next = rewrite_blocks(&mut self.table, object, row, present, moment, entries);
         self.table.names();
         let beside = Present {
@@ -129,8 +132,16 @@ impl<B: Blocks> Store<B> {
         ensures refusal { IfErr result (λ e. e ≡ NoMemory) }
         ensures unchanged { OnErr result (fields_of B.log self.new ≡ fields_of B.log self.old) }
     {
-        let pointers = self.pointers(object, row, before)?;
-        self.put_replacement(object, row, present, entries, pointers.as_slice());
+        let pointers = self.names(object, row, before)?;
+        let told = pointers_told(self.alloc, present, entries)?;
+        self.put_replacement(
+            object,
+            row,
+            present,
+            entries,
+            told.as_slice(),
+            pointers.as_slice(),
+        );
         Ok(())
     }
 

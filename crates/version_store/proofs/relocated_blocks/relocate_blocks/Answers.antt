@@ -2,11 +2,11 @@ use Rattle.version_store.specs.private.Relocating.{Moved}
 use Rattle.version_store.proofs.Relocated.{moved_over, relocates}
 use Rattle.version_store.proofs.RelocatedBlocks.{Dropped, same_blocks}
 use Rattle.version_store.proofs.Spending.{sum_stays}
-use Rattle.version_store.specs.Store.{IsLed, pointers_aside, pointers_of}
+use Rattle.version_store.specs.Store.{IsLed, pointers_named, pointers_of}
 use Rattle.version_store.specs.private.Names.{places_copied}
 use Rattle.version_store.specs.private.Recounting.{Recounts}
 use Rattle.version_store.proofs.Named.{all_or_nothing}
-use Rattle.version_store.proofs.Renamings.{Copied, asides_led, copied_led, counted_held, journaled_are, last_held, moved_led, moves_led, names_move, pointers_led, renamed_led, renaming_room}
+use Rattle.version_store.proofs.Renamings.{Copied, all_still, copied_led, counted_held, last_held, moved_led, moves_led, names_move, renamed_led, renaming_room}
 use Rattle.std.proofs.Common.{List, Option, ◌≡◌, ◌+◌, ◌++◌, ◌<◌, ◌≤◌, ◌^◌, length, map, option_map, option_copied, refl, sym, subst, ap, ◌∙◌, arith}
 use Rattle.block_log.specs.Taken.{TakesPlaces}
 use Rattle.block_log.specs.declared.kinds.BlockKind.TheVariants.{Journal, Checkpoint}
@@ -46,9 +46,9 @@ move_blocks-row-requires-clause-row g c =
       led = c.requires.led;
       counted = c.requires.counted;
     } in
-    let are = journaled_are before.held c.args.object c.args.row.now c.args.journal.now c.requires.journal in
-    let counts : Recounts c.args.object between (places_copied c.args.copies.now ++ map (renamed_slot c.append_copies-renaming.result) (pointers_of before.held c.args.object c.args.row.now)) (pointers_aside between.held c.args.object c.args.row.now ++ (pointers_of before.held c.args.object c.args.row.now ++ c.append_copies-renaming.result.moves)) counted =
-    subst (λ (xs : List (Option Place)). Recounts c.args.object between (places_copied c.args.copies.now ++ map (renamed_slot c.append_copies-renaming.result) xs) (pointers_aside between.held c.args.object c.args.row.now ++ (xs ++ c.append_copies-renaming.result.moves)) counted) are c.count_renaming.ensures in
+    let counts : Recounts c.args.object between (places_copied c.args.copies.now ++ map (renamed_slot c.append_copies-renaming.result) (pointers_of before.held c.args.object c.args.row.now)) (pointers_named before.held c.args.object c.args.row.now ++ c.append_copies-renaming.result.moves) counted =
+    subst (λ (xs : List (Option Place)). Recounts c.args.object between (places_copied c.args.copies.now ++ map (renamed_slot c.append_copies-renaming.result) xs) (pointers_named before.held c.args.object c.args.row.now ++ c.append_copies-renaming.result.moves) counted) c.requires.pointers
+    (subst (λ (xs : List (Option Place)). Recounts c.args.object between (places_copied c.args.copies.now ++ map (renamed_slot c.append_copies-renaming.result) c.args.led.now) (xs ++ c.append_copies-renaming.result.moves) counted) c.requires.names c.count_renaming.ensures) in
     let held = counted_held before between c.args.object c.args.row.now c.args.copies.now c.append_copies-renaming.result copied counted counts in
     subst (λ (view : Place → Option Stored). IsRow view c.args.object c.args.row.now) (sym held)
     (c.a_row_is_its_own_blocks.ensures.row before.held between.held c.args.object c.args.row.now (a.others Journal c.args.object refl) (a.others Checkpoint c.args.object refl) c.requires.row)
@@ -92,9 +92,9 @@ returns-clause-moved g c =
       led = c.requires.led;
       counted = c.requires.counted;
     } in
-    let are = journaled_are before.held c.args.object c.args.row.now c.args.journal.now c.requires.journal in
-    let counts : Recounts c.args.object between (places_copied c.args.copies.now ++ map (renamed_slot c.append_copies-renaming.result) (pointers_of before.held c.args.object c.args.row.now)) (pointers_aside between.held c.args.object c.args.row.now ++ (pointers_of before.held c.args.object c.args.row.now ++ c.append_copies-renaming.result.moves)) counted =
-    subst (λ (xs : List (Option Place)). Recounts c.args.object between (places_copied c.args.copies.now ++ map (renamed_slot c.append_copies-renaming.result) xs) (pointers_aside between.held c.args.object c.args.row.now ++ (xs ++ c.append_copies-renaming.result.moves)) counted) are c.count_renaming.ensures in
+    let counts : Recounts c.args.object between (places_copied c.args.copies.now ++ map (renamed_slot c.append_copies-renaming.result) (pointers_of before.held c.args.object c.args.row.now)) (pointers_named before.held c.args.object c.args.row.now ++ c.append_copies-renaming.result.moves) counted =
+    subst (λ (xs : List (Option Place)). Recounts c.args.object between (places_copied c.args.copies.now ++ map (renamed_slot c.append_copies-renaming.result) xs) (pointers_named before.held c.args.object c.args.row.now ++ c.append_copies-renaming.result.moves) counted) c.requires.pointers
+    (subst (λ (xs : List (Option Place)). Recounts c.args.object between (places_copied c.args.copies.now ++ map (renamed_slot c.append_copies-renaming.result) c.args.led.now) (xs ++ c.append_copies-renaming.result.moves) counted) c.requires.names c.count_renaming.ensures) in
     let held = counted_held before between c.args.object c.args.row.now c.args.copies.now c.append_copies-renaming.result copied counted counts in
     let o = c.args.object in
     let row = c.args.row.now in
@@ -146,16 +146,13 @@ count_renaming-requires g c =
       led = c.requires.led;
       counted = c.requires.counted;
     } in
-    let are = journaled_are before.held o row c.args.journal.now c.requires.journal in
     record {
-      row = c.a_row_is_its_own_blocks.ensures.row before.held between.held o row (a.others Journal o refl) (a.others Checkpoint o refl) c.requires.row;
-      aside = asides_led before between o row copies r copied;
+      names = subst (All (IsLed between.held o)) (sym c.requires.names) (all_still before between o row copies r copied);
       copied = copied_led before between o row copies r copied;
       new = moves_led before between o row copies r copied;
-      led = subst (All (IsLed between.held o)) (sym are) (pointers_led before between o row copies r copied);
-      renamed = subst (λ (xs : List (Option Place)). All (IsLed between.held o) (map (renamed_slot r) xs)) (sym are) (renamed_led before between o row copies r copied);
-      room = subst (λ (xs : List (Option Place)). (p : Place) → between.named p + (length copies + length xs) < 2 ^ 32) (sym are)
-          (λ p. let few = renaming_room before between o row copies r copied c.requires.names c.requires.few p in omega (arith, few));
+      renamed = subst (λ (xs : List (Option Place)). All (IsLed between.held o) (map (renamed_slot r) xs)) (sym c.requires.pointers) (renamed_led before between o row copies r copied);
+      room = subst (λ (xs : List (Option Place)). (p : Place) → between.named p + (length copies + length xs) < 2 ^ 32) (sym c.requires.pointers)
+          (λ p. let few = renaming_room before between o row copies r copied c.requires.few_names c.requires.few p in omega (arith, few));
     }
 
 pub drop_copied-requires : goal.drop_copied-requires
@@ -173,9 +170,9 @@ drop_copied-requires g c =
       led = c.requires.led;
       counted = c.requires.counted;
     } in
-    let are = journaled_are before.held c.args.object c.args.row.now c.args.journal.now c.requires.journal in
-    let counts : Recounts c.args.object between (places_copied c.args.copies.now ++ map (renamed_slot c.append_copies-renaming.result) (pointers_of before.held c.args.object c.args.row.now)) (pointers_aside between.held c.args.object c.args.row.now ++ (pointers_of before.held c.args.object c.args.row.now ++ c.append_copies-renaming.result.moves)) counted =
-    subst (λ (xs : List (Option Place)). Recounts c.args.object between (places_copied c.args.copies.now ++ map (renamed_slot c.append_copies-renaming.result) xs) (pointers_aside between.held c.args.object c.args.row.now ++ (xs ++ c.append_copies-renaming.result.moves)) counted) are c.count_renaming.ensures in
+    let counts : Recounts c.args.object between (places_copied c.args.copies.now ++ map (renamed_slot c.append_copies-renaming.result) (pointers_of before.held c.args.object c.args.row.now)) (pointers_named before.held c.args.object c.args.row.now ++ c.append_copies-renaming.result.moves) counted =
+    subst (λ (xs : List (Option Place)). Recounts c.args.object between (places_copied c.args.copies.now ++ map (renamed_slot c.append_copies-renaming.result) xs) (pointers_named before.held c.args.object c.args.row.now ++ c.append_copies-renaming.result.moves) counted) c.requires.pointers
+    (subst (λ (xs : List (Option Place)). Recounts c.args.object between (places_copied c.args.copies.now ++ map (renamed_slot c.append_copies-renaming.result) c.args.led.now) (xs ++ c.append_copies-renaming.result.moves) counted) c.requires.names c.count_renaming.ensures) in
     let held = counted_held before between c.args.object c.args.row.now c.args.copies.now c.append_copies-renaming.result copied counted counts in
     all_or_nothing c.args.object moved.held (places_copied c.args.copies.now) (moved_led before between c.args.object c.args.row.now c.args.copies.now c.append_copies-renaming.result copied counted counts moved c.move_blocks-row.ensures.moved.metadata c.move_blocks-row.ensures.named c.names-2.ensures)
 
@@ -194,9 +191,9 @@ returns-clause-named g c =
       led = c.requires.led;
       counted = c.requires.counted;
     } in
-    let are = journaled_are before.held c.args.object c.args.row.now c.args.journal.now c.requires.journal in
-    let counts : Recounts c.args.object between (places_copied c.args.copies.now ++ map (renamed_slot c.append_copies-renaming.result) (pointers_of before.held c.args.object c.args.row.now)) (pointers_aside between.held c.args.object c.args.row.now ++ (pointers_of before.held c.args.object c.args.row.now ++ c.append_copies-renaming.result.moves)) counted =
-    subst (λ (xs : List (Option Place)). Recounts c.args.object between (places_copied c.args.copies.now ++ map (renamed_slot c.append_copies-renaming.result) xs) (pointers_aside between.held c.args.object c.args.row.now ++ (xs ++ c.append_copies-renaming.result.moves)) counted) are c.count_renaming.ensures in
+    let counts : Recounts c.args.object between (places_copied c.args.copies.now ++ map (renamed_slot c.append_copies-renaming.result) (pointers_of before.held c.args.object c.args.row.now)) (pointers_named before.held c.args.object c.args.row.now ++ c.append_copies-renaming.result.moves) counted =
+    subst (λ (xs : List (Option Place)). Recounts c.args.object between (places_copied c.args.copies.now ++ map (renamed_slot c.append_copies-renaming.result) xs) (pointers_named before.held c.args.object c.args.row.now ++ c.append_copies-renaming.result.moves) counted) c.requires.pointers
+    (subst (λ (xs : List (Option Place)). Recounts c.args.object between (places_copied c.args.copies.now ++ map (renamed_slot c.append_copies-renaming.result) c.args.led.now) (xs ++ c.append_copies-renaming.result.moves) counted) c.requires.names c.count_renaming.ensures) in
     let held = counted_held before between c.args.object c.args.row.now c.args.copies.now c.append_copies-renaming.result copied counted counts in
     names_move before between c.args.object c.args.row.now c.args.copies.now c.append_copies-renaming.result copied counted counts moved c.move_blocks-row.ensures.moved.metadata c.move_blocks-row.ensures.named c.names-2.ensures (g.B.Blocks.log c.drop_copied.new.table) c.drop_copied.ensures c.names-3.ensures
 

@@ -137,7 +137,7 @@ returns g c =
     let held = checkpointed_held s log o row next i m gone written after rest.one_place counts in
     let later : Rewrites s after o row next m = rewrites_on rest.places_add_up s log after o row next m held counts.takes writes in
     let put = subst (λ (r : Option Row). IfSome r (λ old. PutsRow c.self.inside.objects o (record next { stamp = old.stamp + 1 }) c.change_row.new.self)) can.there c.change_row.ensures.changed in
-    let made = rewritten rest.orderly rest.row rest.inode rest.journal rest.later rest.last rest.meaning
+    let made = rewritten rest
     s c.change_row.new.self.rows after o row next i m can know later put.rows (checkpointed_counts s log o row next i m gone written after rest.one_place counts) in
     subst (λ (v : StoreOf _). Checkpointed (fields_of g.B.Blocks.log v) o row (record { rows = c.change_row.new.self.rows; log = after; latest = c.self.inside.latest })) c.self.view_is made
 
@@ -183,7 +183,7 @@ invariant_of-self g c =
     let held = checkpointed_held s log o row next i m gone written after rest.one_place counts in
     let later : Rewrites s after o row next m = rewrites_on rest.places_add_up s log after o row next m held counts.takes writes in
     let put = subst (λ (r : Option Row). IfSome r (λ old. PutsRow c.self.inside.objects o (record next { stamp = old.stamp + 1 }) c.change_row.new.self)) can.there c.change_row.ensures.changed in
-    let made = rewritten rest.orderly rest.row rest.inode rest.journal rest.later rest.last rest.meaning
+    let made = rewritten rest
     s c.change_row.new.self.rows after o row next i m can know later put.rows (checkpointed_counts s log o row next i m gone written after rest.one_place counts) in
     record {
       inodes = λ q. ap (option_map (λ p. p.inode)) (put.values q) ∙ c.self.invariant.inodes q ∙ sym (made.stands.inodes q c.self.inside.latest);

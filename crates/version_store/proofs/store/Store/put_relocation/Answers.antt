@@ -28,8 +28,8 @@ relocate_blocks-moved-requires-clause-counted g c =
     let store = subst (λ (v : StoreOf _). IsStore (fields_of g.B.Blocks.log v)) (sym c.self.view_is) c.requires.store in
     store.counted c.args.object c.args.row.now (subst (λ (v : StoreOf _). row_of v.rows c.args.object ≡ Some c.args.row.now) (sym c.self.view_is) c.requires.row)
 
-pub relocate_blocks-moved-requires-clause-names : goal.relocate_blocks-moved-requires-clause-names
-relocate_blocks-moved-requires-clause-names g c =
+pub relocate_blocks-moved-requires-clause-few_names : goal.relocate_blocks-moved-requires-clause-few_names
+relocate_blocks-moved-requires-clause-few_names g c =
     let s : StoreFields = record { rows = c.self.inside.objects.rows; log = g.B.Blocks.log c.self.inside.table; latest = c.self.inside.latest } in
     store_few s (subst (λ (v : StoreOf _). IsStore (fields_of g.B.Blocks.log v)) (sym c.self.view_is) c.requires.store)
 
@@ -56,18 +56,12 @@ returns g c =
     let put = subst (λ (x : Option Row). IfSome x (λ old. Puts c.self.inside.objects o (record next { stamp = old.stamp + 1 }) beside c.change.new.self)) there c.change.ensures.changed in
     let rest = c.what_changes_rest_on.ensures in
     let laws : Laws = record {
-      orderly = rest.orderly;
-      stands = rest.row;
-      same = rest.inode;
-      by = rest.journal;
-      matter = rest.meaning;
+      rest = rest;
       means = c.a_renamed_inode_means_the_same.ensures;
       points = c.a_renamed_run_is_a_run.ensures.pointers;
       tells = c.a_renamed_chain_tells_of_renamed_places.ensures.order;
       within = c.renamed_entries_keep_their_moments.ensures.within;
       old = c.renamed_entries_keep_their_moments.ensures.old;
-      needed = rest.blocks_are_needed;
-      takes = rest.checkpoint_blocks;
     } in
     let made = relocated laws s c.change.new.self.rows log o row next copies r store there c.relocate_blocks-moved.ensures.moved room put.rows c.relocate_blocks-moved.ensures.named in
     subst (λ (v : StoreOf _). RelocatesIn (fields_of g.B.Blocks.log v) o row copies (next_store s c.change.new.self.rows log)) c.self.view_is made
@@ -88,18 +82,12 @@ invariant_of-self g c =
     let put = subst (λ (x : Option Row). IfSome x (λ old. Puts c.self.inside.objects o (record next { stamp = old.stamp + 1 }) beside c.change.new.self)) there c.change.ensures.changed in
     let rest = c.what_changes_rest_on.ensures in
     let laws : Laws = record {
-      orderly = rest.orderly;
-      stands = rest.row;
-      same = rest.inode;
-      by = rest.journal;
-      matter = rest.meaning;
+      rest = rest;
       means = c.a_renamed_inode_means_the_same.ensures;
       points = c.a_renamed_run_is_a_run.ensures.pointers;
       tells = c.a_renamed_chain_tells_of_renamed_places.ensures.order;
       within = c.renamed_entries_keep_their_moments.ensures.within;
       old = c.renamed_entries_keep_their_moments.ensures.old;
-      needed = rest.blocks_are_needed;
-      takes = rest.checkpoint_blocks;
     } in
     let made = relocated laws s c.change.new.self.rows log o row next copies r store there c.relocate_blocks-moved.ensures.moved room put.rows c.relocate_blocks-moved.ensures.named in
     let by = renaming_by copies s.log.ahead in

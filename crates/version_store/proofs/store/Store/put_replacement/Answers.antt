@@ -13,7 +13,7 @@ use Rattle.s4_types.specs.declared.limits.TheConstants.{OBJECT_BLOCKS}
 use Rattle.object_map.specs.declared.map.Row.{Row}
 use Rattle.object_map.specs.Objects.{Puts}
 use Rattle.object_map.specs.Rows.{row_of}
-use Rattle.version_store.specs.Store.{IsLed, StoreOf, StoreFields, IsStore, fields_of, pointers_aside, pointers_of, sides_told}
+use Rattle.version_store.specs.Store.{IsLed, StoreOf, StoreFields, IsStore, fields_of, pointers_named, pointers_of, sides_told}
 use Rattle.version_store.specs.Replacing.{CanReplace, inode_led, pointers_told}
 use Rattle.row_changes.specs.Rewritten.{rewritten_blocks}
 use Rattle.version_store.specs.private.Recounting.{Recounts}
@@ -25,14 +25,14 @@ use Rattle.version_store.proofs.Spending.{none_more}
 use Rattle.version_store.proofs.CheckpointSteps.{next_store}
 use Rattle.version_store.proofs.Cached.{put_true}
 use Rattle.version_store.proofs.Named.{recounts_data}
-use Rattle.version_store.proofs.Recounted.{aside_led, told_few, told_led}
+use Rattle.version_store.proofs.Recounted.{all_led, told_few, told_led}
 use Rattle.version_store.proofs.Asides.{store_few}
 use Rattle.version_store.proofs.Telling.{led_there}
 use Rattle.version_store.proofs.Replaced.{known, swapped, replaced, replaced_counts, led_later, kept_beside}
 use Rattle.version_store.proofs.store.Store.put_replacement.Goals as goal
 
-pub count_replacement-requires : goal.count_replacement-requires
-count_replacement-requires g c =
+pub recount-requires : goal.recount-requires
+recount-requires g c =
     let o = c.args.object in
     let row = c.args.row.now in
     let present = c.args.present.now in
@@ -44,21 +44,20 @@ count_replacement-requires g c =
     let there = subst (λ (v : StoreOf _). row_of v.rows o ≡ Some row) (sym c.self.view_is) c.requires.row in
     let can = subst (λ (v : StoreOf _). CanReplace (fields_of g.B.Blocks.log v) o row present entries) (sym c.self.view_is) c.requires.can in
     let know = known c.the_inode_at_a_moment.ensures.done c.a_run_has_one_end_and_one_beginning.ensures.end s o row present entries m store there can c.last_entry-moment.ensures.moment in
-    let pointers_are = subst (λ (v : StoreOf _). c.args.pointers.now ≡ pointers_of (g.B.Blocks.log v.table).held o row) (sym c.self.view_is) c.requires.pointers in
+    let pointers_are = subst (λ (v : StoreOf _). c.args.pointers.now ≡ pointers_named (g.B.Blocks.log v.table).held o row) (sym c.self.view_is) c.requires.pointers in
     let same = sym c.last_entry-moment.ensures.same in
     record {
-      row = subst (λ (l : Log). IsRow l.held o row) same know.object.stands;
-      aside = subst (λ (l : Log). All (IsLed l.held o) (pointers_aside l.held o row)) same (aside_led s.log.held o row know.object.stands know.object.led);
-      pointers = subst (λ (l : Log). All (IsLed l.held o) c.args.pointers.now) same (subst (λ (xs : List (Option Place)). All (IsLed s.log.held o) xs) (sym pointers_are) know.object.led);
-      told = subst (λ (l : Log). All (IsLed l.held o) (pointers_told present entries)) same
-          (told_led s.log.held o (pointers_told present entries) (λ p told. led_there s.log.held o (pointers_of s.log.held o row) p know.object.led (can.pointers p told)));
-      room = subst (λ (l : Log). (p : Place) → l.named p + length (pointers_told present entries) < 2 ^ 32) same (λ p.
+      more = subst (λ (l : Log). All (IsLed l.held o) c.args.told.now) same (subst (λ (xs : List (Option Place)). All (IsLed s.log.held o) xs) (sym c.requires.told)
+          (told_led s.log.held o (pointers_told present entries) (λ p told. led_there s.log.held o (pointers_of s.log.held o row) p know.object.led (can.pointers p told))));
+      fewer = subst (λ (l : Log). All (IsLed l.held o) c.args.pointers.now) same (subst (λ (xs : List (Option Place)). All (IsLed s.log.held o) xs) (sym pointers_are) (all_led s.log.held o row know.object.stands know.object.led));
+      room = subst (λ (l : Log). (p : Place) → l.named p + length c.args.told.now < 2 ^ 32) same (λ p.
           let few = store_few s store p in
+          let is : length c.args.told.now ≡ length (pointers_told present entries) = ap length c.requires.told in
           let joined = length-append present.pointers (sides_told entries) in
           let count : length present.pointers ≡ OBJECT_BLOCKS = ap (λ (i : Inode). length i.pointers) (sym know.last) ∙ (can.tidy m).count in
           let told = told_few entries in
           let bytes = can.bytes in
-          omega (arith, few, joined, count, told, bytes));
+          omega (arith, few, is, joined, count, told, bytes));
     }
 
 pub rewrite_blocks-next-requires-clause-row : goal.rewrite_blocks-next-requires-clause-row
@@ -74,12 +73,13 @@ rewrite_blocks-next-requires-clause-row g c =
     let there = subst (λ (v : StoreOf _). row_of v.rows o ≡ Some row) (sym c.self.view_is) c.requires.row in
     let can = subst (λ (v : StoreOf _). CanReplace (fields_of g.B.Blocks.log v) o row present entries) (sym c.self.view_is) c.requires.can in
     let know = known c.the_inode_at_a_moment.ensures.done c.a_run_has_one_end_and_one_beginning.ensures.end s o row present entries m store there can c.last_entry-moment.ensures.moment in
-    let pointers_are = subst (λ (v : StoreOf _). c.args.pointers.now ≡ pointers_of (g.B.Blocks.log v.table).held o row) (sym c.self.view_is) c.requires.pointers in
-    let between = g.B.Blocks.log c.count_replacement.new.table in
-    let fewer : List (Option Place) = pointers_aside s.log.held o row ++ pointers_of s.log.held o row in
+    let pointers_are = subst (λ (v : StoreOf _). c.args.pointers.now ≡ pointers_named (g.B.Blocks.log v.table).held o row) (sym c.self.view_is) c.requires.pointers in
+    let between = g.B.Blocks.log c.recount.new.table in
+    let fewer : List (Option Place) = pointers_named s.log.held o row in
     let counts : Recounts o s.log (pointers_told present entries) fewer between =
-    subst (λ (xs : List (Option Place)). Recounts o s.log (pointers_told present entries) (pointers_aside s.log.held o row ++ xs) between) pointers_are
-    (subst (λ (l : Log). Recounts o l (pointers_told present entries) (pointers_aside l.held o row ++ c.args.pointers.now) between) c.last_entry-moment.ensures.same c.count_replacement.ensures) in
+    subst (λ (xs : List (Option Place)). Recounts o s.log (pointers_told present entries) xs between) pointers_are
+    (subst (λ (xs : List (Option Place)). Recounts o s.log xs c.args.pointers.now between) c.requires.told
+    (subst (λ (l : Log). Recounts o l c.args.told.now c.args.pointers.now between) c.last_entry-moment.ensures.same c.recount.ensures)) in
     let others = recounts_data o s.log between (pointers_told present entries) fewer counts in
     rest.row s.log.held between.held o row (others Journal o refl) (others Checkpoint o refl) know.object.stands
 
@@ -96,7 +96,7 @@ rewrite_blocks-next-requires-clause-rules g c =
     let there = subst (λ (v : StoreOf _). row_of v.rows o ≡ Some row) (sym c.self.view_is) c.requires.row in
     let can = subst (λ (v : StoreOf _). CanReplace (fields_of g.B.Blocks.log v) o row present entries) (sym c.self.view_is) c.requires.can in
     let know = known c.the_inode_at_a_moment.ensures.done c.a_run_has_one_end_and_one_beginning.ensures.end s o row present entries m store there can c.last_entry-moment.ensures.moment in
-    let pointers_are = subst (λ (v : StoreOf _). c.args.pointers.now ≡ pointers_of (g.B.Blocks.log v.table).held o row) (sym c.self.view_is) c.requires.pointers in
+    let pointers_are = subst (λ (v : StoreOf _). c.args.pointers.now ≡ pointers_named (g.B.Blocks.log v.table).held o row) (sym c.self.view_is) c.requires.pointers in
     know.rules
 
 pub returns : goal.returns
@@ -112,12 +112,13 @@ returns g c =
     let there = subst (λ (v : StoreOf _). row_of v.rows o ≡ Some row) (sym c.self.view_is) c.requires.row in
     let can = subst (λ (v : StoreOf _). CanReplace (fields_of g.B.Blocks.log v) o row present entries) (sym c.self.view_is) c.requires.can in
     let know = known c.the_inode_at_a_moment.ensures.done c.a_run_has_one_end_and_one_beginning.ensures.end s o row present entries m store there can c.last_entry-moment.ensures.moment in
-    let pointers_are = subst (λ (v : StoreOf _). c.args.pointers.now ≡ pointers_of (g.B.Blocks.log v.table).held o row) (sym c.self.view_is) c.requires.pointers in
-    let between = g.B.Blocks.log c.count_replacement.new.table in
-    let fewer : List (Option Place) = pointers_aside s.log.held o row ++ pointers_of s.log.held o row in
+    let pointers_are = subst (λ (v : StoreOf _). c.args.pointers.now ≡ pointers_named (g.B.Blocks.log v.table).held o row) (sym c.self.view_is) c.requires.pointers in
+    let between = g.B.Blocks.log c.recount.new.table in
+    let fewer : List (Option Place) = pointers_named s.log.held o row in
     let counts : Recounts o s.log (pointers_told present entries) fewer between =
-    subst (λ (xs : List (Option Place)). Recounts o s.log (pointers_told present entries) (pointers_aside s.log.held o row ++ xs) between) pointers_are
-    (subst (λ (l : Log). Recounts o l (pointers_told present entries) (pointers_aside l.held o row ++ c.args.pointers.now) between) c.last_entry-moment.ensures.same c.count_replacement.ensures) in
+    subst (λ (xs : List (Option Place)). Recounts o s.log (pointers_told present entries) xs between) pointers_are
+    (subst (λ (xs : List (Option Place)). Recounts o s.log xs c.args.pointers.now between) c.requires.told
+    (subst (λ (l : Log). Recounts o l c.args.told.now c.args.pointers.now between) c.last_entry-moment.ensures.same c.recount.ensures)) in
     let others = recounts_data o s.log between (pointers_told present entries) fewer counts in
     let log = g.B.Blocks.log c.rewrite_blocks-next.new.table in
     let swaps = swapped rest.one_place s.log between log.held o row present entries (store.counted o row there) counts c.rewrite_blocks-next.ensures.others in
@@ -126,7 +127,7 @@ returns g c =
     let room = subst (λ (v : StoreOf _). rewritten_blocks present entries ≤ length (g.B.Blocks.log v.table).ahead) (sym c.self.view_is) c.requires.room in
     let beside : Present = record { inode = present; index = c.index_of.result } in
     let put = subst (λ (r : Option Row). IfSome r (λ old. Puts c.self.inside.objects o (record c.rewrite_blocks-next.result { stamp = old.stamp + 1 }) beside c.change.new.self)) there c.change.ensures.changed in
-    let made = replaced rest.orderly rest.row rest.inode rest.journal rest.later rest.meaning rest.checkpoint_blocks
+    let made = replaced rest
     s c.change.new.self.rows log o row c.rewrite_blocks-next.result present entries m store can know c.last_entry-moment.ensures.moment swaps writes takes room put.rows
     (replaced_counts s.log between log o row c.rewrite_blocks-next.result present entries m (store.counted o row there) counts c.rewrite_blocks-next.ensures.others c.rewrite_blocks-next.ensures.named c.names.ensures writes know.last) in
     subst (λ (v : StoreOf _). Replaces (fields_of g.B.Blocks.log v) o row present entries (next_store s c.change.new.self.rows log)) c.self.view_is made
@@ -144,12 +145,13 @@ invariant_of-self g c =
     let there = subst (λ (v : StoreOf _). row_of v.rows o ≡ Some row) (sym c.self.view_is) c.requires.row in
     let can = subst (λ (v : StoreOf _). CanReplace (fields_of g.B.Blocks.log v) o row present entries) (sym c.self.view_is) c.requires.can in
     let know = known c.the_inode_at_a_moment.ensures.done c.a_run_has_one_end_and_one_beginning.ensures.end s o row present entries m store there can c.last_entry-moment.ensures.moment in
-    let pointers_are = subst (λ (v : StoreOf _). c.args.pointers.now ≡ pointers_of (g.B.Blocks.log v.table).held o row) (sym c.self.view_is) c.requires.pointers in
-    let between = g.B.Blocks.log c.count_replacement.new.table in
-    let fewer : List (Option Place) = pointers_aside s.log.held o row ++ pointers_of s.log.held o row in
+    let pointers_are = subst (λ (v : StoreOf _). c.args.pointers.now ≡ pointers_named (g.B.Blocks.log v.table).held o row) (sym c.self.view_is) c.requires.pointers in
+    let between = g.B.Blocks.log c.recount.new.table in
+    let fewer : List (Option Place) = pointers_named s.log.held o row in
     let counts : Recounts o s.log (pointers_told present entries) fewer between =
-    subst (λ (xs : List (Option Place)). Recounts o s.log (pointers_told present entries) (pointers_aside s.log.held o row ++ xs) between) pointers_are
-    (subst (λ (l : Log). Recounts o l (pointers_told present entries) (pointers_aside l.held o row ++ c.args.pointers.now) between) c.last_entry-moment.ensures.same c.count_replacement.ensures) in
+    subst (λ (xs : List (Option Place)). Recounts o s.log (pointers_told present entries) xs between) pointers_are
+    (subst (λ (xs : List (Option Place)). Recounts o s.log xs c.args.pointers.now between) c.requires.told
+    (subst (λ (l : Log). Recounts o l c.args.told.now c.args.pointers.now between) c.last_entry-moment.ensures.same c.recount.ensures)) in
     let others = recounts_data o s.log between (pointers_told present entries) fewer counts in
     let log = g.B.Blocks.log c.rewrite_blocks-next.new.table in
     let swaps = swapped rest.one_place s.log between log.held o row present entries (store.counted o row there) counts c.rewrite_blocks-next.ensures.others in
@@ -158,7 +160,7 @@ invariant_of-self g c =
     let room = subst (λ (v : StoreOf _). rewritten_blocks present entries ≤ length (g.B.Blocks.log v.table).ahead) (sym c.self.view_is) c.requires.room in
     let beside : Present = record { inode = present; index = c.index_of.result } in
     let put = subst (λ (r : Option Row). IfSome r (λ old. Puts c.self.inside.objects o (record c.rewrite_blocks-next.result { stamp = old.stamp + 1 }) beside c.change.new.self)) there c.change.ensures.changed in
-    let made = replaced rest.orderly rest.row rest.inode rest.journal rest.later rest.meaning rest.checkpoint_blocks
+    let made = replaced rest
     s c.change.new.self.rows log o row c.rewrite_blocks-next.result present entries m store can know c.last_entry-moment.ensures.moment swaps writes takes room put.rows
     (replaced_counts s.log between log o row c.rewrite_blocks-next.result present entries m (store.counted o row there) counts c.rewrite_blocks-next.ensures.others c.rewrite_blocks-next.ensures.named c.names.ensures writes know.last) in
     record {

@@ -113,7 +113,7 @@ returns g c =
     let turns = subst (λ (r : Option Row). IfSome r (λ old. TurnsBeside c.self.inside.objects o (record next { stamp = old.stamp + 1 }) after c.new-entries.result c.turn_beside.new.objects)) there c.turn_beside.ensures in
     let takes = recounted_takes rest.places_add_up (pushed_blocks (chain_of o row) (entries_between before after m)) s.log log later.log made.takes counts.takes in
     subst (λ (v : StoreOf _). Turns (fields_of g.B.Blocks.log v) o m after (blocks_turned (fields_of g.B.Blocks.log v) o before after m) later) c.self.view_is
-    (turned rest.orderly rest.row rest.inode rest.journal rest.later rest.meaning rest.entry_count rest.blocks_are_needed s later o m before after hand row next can there know refl records made.fields turns.put.rows takes
+    (turned rest s later o m before after hand row next can there know refl records made.fields turns.put.rows takes
     (turned_counts s log o row next (entries_between before after m) after hand m recorded later.log rest.one_place counts))
 
 pub invariant_of-self : goal.invariant_of-self

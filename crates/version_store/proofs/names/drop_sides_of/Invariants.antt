@@ -1,9 +1,0 @@
-use Rattle.std.proofs.Common.{take}
-use Rattle.version_store.specs.Store.{sides_of}
-use Rattle.version_store.specs.private.Names.{TakesAway}
-use Rattle.version_store.proofs.names.drop_sides_of.Given as goal
-
-abbrev pub invariant-loop-triple : goal.invariant-loop-triple
-invariant-loop-triple g l =
-    let log = g.B.Blocks.log in
-    TakesAway (log l.initial.table) (sides_of (take l.triple-index l.triples)) (log l.table)
