@@ -100,9 +100,9 @@ class SocketPeer(Peer):
         self.reader, self.writer, self._link = link.makefile("rb"), link.makefile("wb"), link
 
     def close(self) -> None:
-        for part in (self.writer, self.reader, self._link):
+        for close in (self.writer.close, self.reader.close, self._link.close):
             try:
-                part.close()
+                close()
             except OSError:
                 pass  # the other side is gone
 

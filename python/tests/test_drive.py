@@ -1,11 +1,12 @@
 """Sessions with the built program: `s4d pipe`, sockets and images."""
 import contextlib
 import os
+import re
+import shutil
 import socket
 import subprocess
 import tempfile
 import threading
-import time
 import unittest
 
 import s4d
@@ -109,20 +110,39 @@ class Pipelines(unittest.TestCase):
             self.assertEqual(sum(len(reply.result()) for reply in replies[:100]), 100 * 24_576)
             self.assertTrue(all(reply.refusal() for reply in replies[100:]))
 
-    def test_a_flush_costs_its_own_list(self):
-        """60,000 flushes of one moment each: the last ones take about as long as the first ones."""
+    def test_each_object_has_its_own_list(self):
+        """As many flushes of one moment of each object as a list may have, and thousands in all."""
         with drive(frames=1024) as it:
             with it.pipeline() as batch:
                 for _ in range(1_000):
                     batch.create()
-            seconds = []
             for at in range(1, 120, 2):
-                start = time.monotonic()
                 with it.pipeline() as batch:
                     flushed = [batch.flush_object(number, at, at) for number in range(1, 1_001)]
-                seconds.append(time.monotonic() - start)
                 self.assertTrue(all(reply.refusal() is None for reply in flushed))
-        self.assertLess(sorted(seconds[-15:])[7], 4 * sorted(seconds[:15])[7])
+
+
+@needs_program
+@unittest.skipUnless(shutil.which("valgrind"), "valgrind isn't installed")
+class Instructions(unittest.TestCase):
+    """What requests cost, in instructions: the same each time, whatever else the machine does."""
+
+    def counted(self, requests):
+        words = ["valgrind", "--tool=callgrind", "--callgrind-out-file=/dev/null", PROGRAM, "pipe",
+                 "--frames", "1024", "--window", "1000000", "--tick", "0", "admin"]
+        data = b"".join(request.frame() for request in requests)
+        ran = subprocess.run(words, input=data, stdout=subprocess.DEVNULL, stderr=subprocess.PIPE, check=False)
+        if ran.returncode:
+            self.skipTest("valgrind can't run this program: an unproved build has checks of its own")
+        return int(re.search(rb"Collected : (\d+)", ran.stderr)[1])
+
+    def test_a_flush_costs_its_own_list(self):
+        """60 flushes of each of many objects: the last 15 of each cost about as much as the first 15."""
+        objects = range(1, 201)
+        made = [s4d.wire.create(b"") for _ in objects]
+        flushes = [s4d.wire.flush_object(o, at, at) for at in range(1, 120, 2) for o in objects]
+        none, first, most, all_of_them = (self.counted(made + flushes[:rounds * len(objects)]) for rounds in (0, 15, 45, 60))
+        self.assertLess(all_of_them - most, 2 * (first - none))
 
 
 @needs_program
