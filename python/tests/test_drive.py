@@ -201,7 +201,7 @@ class Listener:
 @needs_program
 class Sockets(unittest.TestCase):
     def session(self, address):
-        with s4d.Drive.connect(address, timeout=20) as it:
+        with s4d.Drive.connect(address, timeout=600) as it:
             it.create()
             it.write(1, 0, b"hello")
             with it.pipeline() as batch:
@@ -259,7 +259,7 @@ class Images(unittest.TestCase):
         with open(requests, "wb") as writer, open(replies, "rb") as reader:
             it = s4d.Drive(reader, writer)
             self.assertEqual((it.create(), it.read(1)), (Created(1, 1), b""))
-        self.assertEqual(server.wait(20), 0)
+        self.assertEqual(server.wait(), 0)
         self.assertEqual(self.image.verify().objects, 1)
 
     def flood(self, frames, objects):
