@@ -12,13 +12,27 @@ seconds tell what rounds cost that have one object to clean.
 Beside it: what a million Writes would take that need no upkeep, by the time of 3,600 Writes (all that 1,024 frames take) of a run
 without upkeep, the shortest of some trials; and a million Reads of 100 bytes without upkeep and with it.
 
+With `--deleting` the session makes 3,000 files of 300 bytes on 64 frames, with a window of 400 moments, and deletes each 60 files later:
+how many of these 8,940 requests are accepted, and the same where an administrator's Flush that hides nothing follows each 20th
+file. A file's number is known before, so that after a Create that was refused all files have another: then requests are NoObject.
+
+With `--busy` a program has one processor, which a process beside it wants, too, that computes and never waits. A run whose session asks
+nothing, over 1,000 and 15,300 objects that were made, and a million Writes on 64 frames: seconds by the clock and of the processor, and
+how many times as many the first are, without that process and beside it. A run is ended after 300 seconds. And by `strace` the calls to the
+system of the run over 15,300 objects, with those of the same run without upkeep taken away.
+
     pace.py [--count N] [PROGRAM]             N Writes and Reads in place of 1,000,000
     pace.py --many [--count N] [PROGRAM ..]   one line for each program
+    pace.py --deleting [PROGRAM ..]           two lines for each program
+    pace.py --busy [--count N] [PROGRAM]      N Writes in place of 1,000,000
 """
 import argparse
 import os
+import select
 import shutil
+import signal
 import subprocess
+import sys
 import tempfile
 import time
 
@@ -31,7 +45,12 @@ TAKEN = 3_600  # Writes that 1,024 frames take without upkeep
 TRIALS = 5
 WINDOW = 100
 MANY = 15_000
-NAMES = {9: "NoSpace", 12: "ChainFull"}
+FILES, FILE, KEPT = 3_000, 300, 60  # how many there are, their bytes, and after how many others a file is deleted
+FILE_FRAMES, FILE_WINDOW = 64, 400
+FLUSHED = 20  # files between two flushes
+NOT_MOVED = (1_000, 15_300)  # objects of a run that is asked nothing
+LIMIT = 300  # seconds of a run beside a busy process
+NAMES = {1: "NoObject", 9: "NoSpace", 12: "ChainFull"}
 
 
 def writes(count):
@@ -66,13 +85,13 @@ def made_many(program):
         subprocess.run([program, "run", "image", "client:aged:/dev/null"], check=True)
 
 
-def served(program, requests, words):
+def served(program, requests, words, role="client"):
     """The seconds of a session over the image, and its replies."""
     taken = []
     for asked in (b"", requests):
         put("asked", asked)
         began = time.perf_counter()
-        subprocess.run([program, "run", *words, "image", "client:asked:replies"], check=True)
+        subprocess.run([program, "run", *words, "image", f"{role}:asked:replies"], check=True)
         taken.append(time.perf_counter() - began)
     with open("replies", "rb") as file:
         return taken[1] - taken[0], file.read()
@@ -83,15 +102,14 @@ def tallied(replies):
     counts, at = {}, 0
     while at < len(replies):
         size = int.from_bytes(replies[at:at + 4], "big")
-        name = "taken" if replies[at + 4] == CHANGED else NAMES.get(replies[at + 5], "others")
+        name = NAMES.get(replies[at + 5], "others") if replies[at + 4] == 0 else "taken"
         counts[name] = counts.get(name, 0) + 1
         at += 4 + size
     return counts
 
 
-def print_taken(told, seconds, replies):
-    counts = tallied(replies)
-    names = ", ".join(f"{counts.get(name, 0):,} {name}" for name in ("taken", "NoSpace", "ChainFull"))
+def print_taken(told, seconds, counts, refusals=("NoSpace", "ChainFull")):
+    names = ", ".join(f"{counts.get(name, 0):,} {name}" for name in ("taken", *refusals))
     print(f"{told}: {names}, {seconds:.1f} s", flush=True)
 
 
@@ -109,22 +127,123 @@ def measure_many(programs, count):
     shutil.copy("image", "many")
     for program in programs:
         shutil.copy("many", "image")
-        print_taken(program, *served(program, wire.write(1, 0, b"w" * SMALL) * count, []))
+        seconds, replies = served(program, wire.write(1, 0, b"w" * SMALL) * count, [])
+        print_taken(program, seconds, tallied(replies))
 
 
 def measure(program, count):
     for frames in FRAMES:
         made(program, frames)
-        print_taken(f"{frames:,} frames", *served(program, writes(count), []))
+        seconds, replies = served(program, writes(count), [])
+        print_taken(f"{frames:,} frames", seconds, tallied(replies))
     alone = shortest(program, writes(TAKEN), ["--no-upkeep"])
     print(f"Writes that need no upkeep: {alone * count / TAKEN:.1f} s", flush=True)
     for told, words in (("without", ["--no-upkeep"]), ("with", [])):
         print(f"Reads {told} upkeep: {shortest(program, reads(count), words):.2f} s", flush=True)
 
 
+# ---- files that are deleted
+
+def files(flush):
+    """The requests of all files, with this one after each 20th."""
+    asked = []
+    for number in range(1, FILES + 1):
+        asked += [wire.create(), wire.write(number, 0, b"f" * FILE)]
+        if number > KEPT:
+            asked.append(wire.delete(number - KEPT))
+        if number % FLUSHED == 0:
+            asked.append(flush)
+    return b"".join(asked)
+
+
+def measure_deleting(program):
+    for told, flush in (("", b""), (f" with a Flush each {FLUSHED} files", wire.flush(0, 0))):
+        subprocess.run([program, "new", "--window", str(FILE_WINDOW), "image", str(FILE_FRAMES)], check=True)
+        seconds, replies = served(program, files(flush), [], "admin")
+        counts = tallied(replies)
+        if flush:
+            counts["taken"] -= FILES // FLUSHED
+        print_taken(f"{program}: of {3 * FILES - KEPT:,} requests{told}", seconds, counts, ("NoSpace", "NoObject"))
+
+
+# ---- one processor
+
+def timed(words):
+    """The seconds of a run by the clock and of the processor, or nothing where it was ended."""
+    began = time.perf_counter()
+    child = os.posix_spawn(words[0], words, os.environ)
+    handle = os.pidfd_open(child)
+    ready = select.poll()
+    ready.register(handle, select.POLLIN)
+    has_ended = ready.poll(1000 * LIMIT)
+    if not has_ended:
+        os.kill(child, signal.SIGKILL)
+    os.close(handle)
+    _, status, used = os.wait4(child, 0)
+    if has_ended and status:
+        sys.exit(f"pace.py: {words}: status {os.waitstatus_to_exitcode(status)}")
+    return (time.perf_counter() - began, used.ru_utime + used.ru_stime) if has_ended else None
+
+
+def told_times(times):
+    if times is None:
+        return f"ended after {LIMIT} s"
+    clock, processor = times
+    return f"{clock:.2f} s, {processor:.2f} of the processor, {clock / processor:.1f} times"
+
+
+def print_busy(told, words):
+    """Prints the times of a run over the image in this folder, without a busy process and beside one."""
+    shutil.copy("image", "before")
+    alone = timed(words)
+    shutil.copy("before", "image")
+    with subprocess.Popen([sys.executable, "-c", "while True: pass"]) as busy:
+        beside = timed(words)
+        busy.kill()
+    shutil.copy("before", "image")
+    print(f"{told}: {told_times(alone)}; beside a busy process {told_times(beside)}", flush=True)
+
+
+def calls(words):
+    """How many calls to the system a run makes, of all threads, by name."""
+    subprocess.run(["strace", "-f", "-c", "-o", "counted", *words], check=True)
+    with open("counted", encoding="ascii") as file:
+        rows = [line.split() for line in file if line[:1] == " "]
+    return {row[-1]: int(row[3]) for row in rows if len(row) > 4 and row[-1] != "total" and row[3].isdigit()}
+
+
+def print_calls(told, program):
+    """Prints the calls to the system of upkeep: those of a run with it, less those of a run without."""
+    shutil.copy("image", "before")
+    counts = []
+    for words in ([], ["--no-upkeep"]):
+        shutil.copy("before", "image")
+        counts.append(calls([program, "run", *words, "image", "client:/dev/null:/dev/null"]))
+    more = {name: count - counts[1].get(name, 0) for name, count in counts[0].items()}
+    most = ", ".join(f"{more[name]:,} {name}" for name in sorted(more, key=more.get, reverse=True)[:5])
+    print(f"{told}: {sum(more.values()):,} calls to the system of upkeep: {most}", flush=True)
+
+
+def measure_busy(program, count):
+    processor = min(os.sched_getaffinity(0))
+    os.sched_setaffinity(0, {processor})
+    idle = [program, "run", "image", "client:/dev/null:/dev/null"]
+    for objects in NOT_MOVED:
+        subprocess.run([program, "new", "--window", str(WINDOW), "image", "1024"], check=True)
+        put("made", wire.create() * objects)
+        subprocess.run([program, "run", "--no-upkeep", "image", "client:made:/dev/null"], check=True)
+        print_busy(f"{objects:,} objects", idle)
+    print_calls(f"{objects:,} objects", program)
+    made(program, 64)
+    put("asked", writes(count))
+    print_busy(f"{count:,} Writes", [program, "run", "image", "client:asked:/dev/null"])
+
+
 def main():
-    words = argparse.ArgumentParser(description="Whether upkeep keeps pace with a session that never pauses.")
+    words = argparse.ArgumentParser(description=__doc__, formatter_class=argparse.RawDescriptionHelpFormatter)
     words.add_argument("--many", action="store_true")
+    words.add_argument("--deleting", action="store_true")
+    words.add_argument("--busy", action="store_true")
     words.add_argument("--count", type=int)
     words.add_argument("program", nargs="*")
     line = words.parse_args()
@@ -133,6 +252,11 @@ def main():
         os.chdir(folder)
         if line.many:
             measure_many(programs, line.count or 100_000)
+        elif line.deleting:
+            for program in programs:
+                measure_deleting(program)
+        elif line.busy:
+            measure_busy(programs[0], line.count or 1_000_000)
         else:
             measure(programs[0], line.count or 1_000_000)
 
