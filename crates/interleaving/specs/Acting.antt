@@ -132,13 +132,13 @@ Copies a x b = CopiesBy a.moving a x b
 
 -- Why a move isn't put in place: Stale exactly where it is out of date, which is looked at first; else want of room or of memory.
 abbrev pub IsUnmoved : DriveFields → Move → Refusal → Type 0
-IsUnmoved d move refusal = ((refusal ≡ Stale) × (IsCurrent (store_of d) move → ⊥)) ⊎ (((refusal ≡ NoRoom) ⊎ (refusal ≡ NoMemory)) × IsCurrent (store_of d) move)
+IsUnmoved d move refusal = ((refusal ≡ Stale) × (IsCurrent d move → ⊥)) ⊎ (((refusal ≡ NoRoom) ⊎ (refusal ≡ NoMemory)) × IsCurrent d move)
 
 -- A copied move is put in place, or refused. The history and every needed version are as they were. Where the move isn't empty
 -- the object holds no block in the frame that it left; an empty one changes nothing, and neither does one that is refused.
 pub record Commits (commits : Move → DriveFields → Result (Unit {0}) Refusal → DriveFields → Type 0) (move : Move) (d : DriveFields) (done : Result (Unit {0}) Refusal) (later : DriveFields) : Type 0 where
   pub own : commits move d done later
-  pub told : MatchResult done (λ _. IsCurrent (store_of d) move) (IsUnmoved d move)
+  pub told : MatchResult done (λ _. IsCurrent d move) (IsUnmoved d move)
   pub left : OnOk done (move.is_empty ≡ false → HoldsNone later.store.table move.object move.frame)
   pub empty : OnOk done (move.is_empty ≡ true → store_of later ≡ store_of d)
   pub unchanged : OnErr done (store_of later ≡ store_of d)

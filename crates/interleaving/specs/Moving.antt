@@ -2,10 +2,11 @@
 use Rattle.std.specs.Prelude.{◌≡◌, ℕ, Bool, false, [], MatchBool, MatchOption}
 use Rattle.s4_types.specs.Pointer.{Place}
 use Rattle.object_map.specs.Rows.{row_of}
+use Rattle.segment_word.specs.Frames.{Sealed}
+use Rattle.segment_word.specs.Layout.{frame_at}
 use Rattle.segment_table.specs.Room.{pointers_in}
 use Rattle.segment_table.specs.Table.{Table, held_at, is_of}
-use Rattle.version_store.specs.Store.{StoreFields}
-use Rattle.drive.specs.Fields.{DriveFields, store_of}
+use Rattle.drive.specs.Fields.{DriveFields}
 
 -- a move: the frame that is to be left, the object, the stamp of the object's row when the move was planned, and whether there
 -- was nothing to move
@@ -21,16 +22,18 @@ pub data Moving : Type 0 where
   Planned : Move → Moving
   Copied : Move → Moving
 
--- a move isn't out of date: its object has a row, of the stamp that it had when the move was planned
-abbrev pub IsCurrent : StoreFields → Move → Type 0
-IsCurrent s m = MatchOption (row_of s.rows m.object) ⊥ (λ row. row.stamp ≡ m.stamp)
+-- A move isn't out of date: its object has a row, of the stamp that it had when the move was planned; and where there is something to
+-- move, its frame is sealed.
+pub record IsCurrent (d : DriveFields) (m : Move) : Type 0 where
+  pub row : MatchOption (row_of d.store.rows m.object) ⊥ (λ row. row.stamp ≡ m.stamp)
+  pub frame : m.is_empty ≡ false → (frame_at d.store.table.seat.frames m.frame).phase ≡ Sealed
 
 -- A move of an object out of a frame, as it is planned: the object has a row, and there is nothing to move exactly where the
 -- frame isn't sealed, or isn't there, or has no held block of the object.
 pub record IsMoveOf (d : DriveFields) (f o : ℕ) (m : Move) : Type 0 where
   pub frame : m.frame ≡ f
   pub object : m.object ≡ o
-  pub current : IsCurrent (store_of d) m
+  pub current : IsCurrent d m
   pub empty : MatchBool m.is_empty (pointers_in d.store.table o f ≡ []) (pointers_in d.store.table o f ≡ [] → ⊥)
 
 -- an object holds no block in a frame

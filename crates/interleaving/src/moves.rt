@@ -82,11 +82,12 @@ pub trait Moves<J: Naming> {
     /// Puts a copied move in place: after that the object holds no block in the frame. One that is empty changes nothing. The
     /// history and every version that is needed stay, whatever is answered.
     ///
-    /// Stale exactly where the row's stamp changed since the move was planned, or the row is gone; else NoRoom where there is too
-    /// little room for what must be written, NoMemory where memory is refused. Nothing has changed then.
+    /// Stale exactly where the row's stamp changed since the move was planned, or the row is gone, or where there is something to
+    /// move and the frame isn't sealed any more; else NoRoom where there is too little room for what must be written, NoMemory where
+    /// memory is refused. Nothing has changed then.
     fn commit(alloc: Global, drive: &mut Drive<J>, moved: Self::Moved) -> Result<(), Refusal>
         ensures own { commits (copied moved) drive.old result drive.new }
-        ensures told { MatchResult result (λ _. IsCurrent (store_of drive.old) (copied moved)) (IsUnmoved drive.old (copied moved)) }
+        ensures told { MatchResult result (λ _. IsCurrent drive.old (copied moved)) (IsUnmoved drive.old (copied moved)) }
         ensures left { OnOk result ((copied moved).is_empty ≡ false → HoldsNone drive.new.store.table (copied moved).object (copied moved).frame) }
         ensures empty { OnOk result ((copied moved).is_empty ≡ true → store_of drive.new ≡ store_of drive.old) }
         ensures unchanged { OnErr result (store_of drive.new ≡ store_of drive.old) }

@@ -20,7 +20,7 @@ use Rattle.segment_table.specs.Laws.{IsListed, WhatIsListedIsHeld}
 use Rattle.version_store.specs.declared.copies.CopiedBlock.{CopiedBlock}
 use Rattle.segment_copier.specs.Moves.{is_data, data_in}
 use Rattle.segment_copier.specs.Commits.{AreStillThere}
-use Rattle.segment_copier.proofs.Listed.{later_has, some_sealed, of_some}
+use Rattle.segment_copier.proofs.Listed.{later_has, some_sealed, sealed_phase, of_some}
 use Rattle.segment_copier.proofs.Placed.{seen, seen_of, data_seen, none_of}
 
 -- ---- lists
@@ -33,7 +33,7 @@ filter_alike {X} one two (x ∷ xs) each =
     ∙ ap (λ (l : List X). cond (one x) (x ∷ l) l) (filter_alike one two xs (λ y has. each y (later_has x y xs has)))
 
 -- a list that isn't empty has an element
-has_some : {X : Type 0} (xs : List X) → (xs ≡ [] → ⊥) → (x : X) × Contains xs x
+pub has_some : {X : Type 0} (xs : List X) → (xs ≡ [] → ⊥) → (x : X) × Contains xs x
 has_some [] some = absurd (some refl)
 has_some (x ∷ xs) some = (x, (0, omega arith, refl))
 
@@ -150,4 +150,4 @@ still_there law t later f o copies some places_are same memory used =
     ap (filter (λ p. is_data (held_at later p))) pointers
     ∙ filter_alike (λ p. is_data (held_at t p)) (λ p. is_data (held_at later p)) (pointers_in t o f)
     (λ p has. data_alike o (held_at t p) (held_at later p) (seen_alike p) (law t o f p has).held) in
-    record { some = λ none. some (sym pointers ∙ none); places = places_are ∙ sym kinds }
+    record { sealed = sealed_phase (frame_at later.seat.frames f).phase frame.sealed; some = λ none. some (sym pointers ∙ none); places = places_are ∙ sym kinds }

@@ -6,6 +6,7 @@ use Rattle.s4_types.specs.declared.refusals.Refusal.TheVariants.{NoRoom}
 use Rattle.object_map.specs.declared.map.Row.{Row}
 use Rattle.object_map.specs.Rows.{row_of}
 use Rattle.row_changes.specs.Moving.{row_blocks}
+use Rattle.segment_word.specs.Frames.{Sealed}
 use Rattle.segment_word.specs.Layout.{frame_at, block_bytes}
 use Rattle.segment_table.specs.Table.{Table}
 use Rattle.segment_table.specs.Room.{pointers_in}
@@ -16,8 +17,9 @@ use Rattle.drive.specs.Fields.{DriveFields, store_of}
 use Rattle.interleaving.specs.Moving.{Move}
 use Rattle.segment_copier.specs.Moves.{data_in}
 
--- An object still holds something in a frame that is sealed, and these copies are of its data blocks there.
+-- A frame is sealed still, an object holds something there, and these copies are of its data blocks there.
 pub record AreStillThere (t : Table) (f o : ℕ) (copies : List CopiedBlock) : Type 0 where
+  pub sealed : (frame_at t.seat.frames f).phase ≡ Sealed
   pub some : pointers_in t o f ≡ [] → ⊥
   pub places : map (λ c. c.place) copies ≡ data_in t o f
 

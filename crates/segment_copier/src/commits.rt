@@ -124,15 +124,15 @@ fn put<J: Naming>(
 /// Where the object has no data block there any more, its checkpoint and its journal alone are written. A move that is empty changes
 /// nothing. Each version of each object is as it was at every moment, and so is the history, whatever is answered.
 ///
-/// Stale exactly where the row's stamp changed since the move was planned, or the row is gone, also of an empty move; else NoRoom
-/// where fewer places are ahead than must be written, NoMemory where memory is refused, and where the frame isn't sealed any more, which
-/// no step brings about that leaves the stamp. Nothing has changed then.
+/// Stale exactly where the row's stamp changed since the move was planned, or the row is gone, also of an empty move, or where there is
+/// something to move and the frame isn't sealed any more, which no step of a store brings about that leaves the stamp; else NoRoom
+/// where fewer places are ahead than must be written, and NoMemory where memory is refused. Nothing has changed then.
 pub fn commit<J: Naming>(
     alloc: Global,
     drive: &mut Drive<J>,
     moved: Moved<J>,
 ) -> Result<(), Refusal>
-    ensures told { MatchResult result (λ _. IsCurrent (store_of drive.old) moved.what) (IsUnmoved drive.old moved.what) }
+    ensures told { MatchResult result (λ _. IsCurrent drive.old moved.what) (IsUnmoved drive.old moved.what) }
     ensures moved { OnOk result (moved.what.is_empty ≡ false → IfSome (row_of drive.old.store.rows moved.what.object) (λ row. IsMovedBy drive.old moved.what.frame moved.what.object (copies_in drive.old.store.table moved.what.object moved.what.frame) row drive.new)) }
     ensures made { OnOk result (moved.what.is_empty ≡ false → map (λ c. c.place) moved.copies ≡ data_in drive.old.store.table moved.what.object moved.what.frame → moved.copies ≡ copies_in drive.old.store.table moved.what.object moved.what.frame) }
     ensures left { OnOk result (moved.what.is_empty ≡ false → HoldsNone drive.new.store.table moved.what.object moved.what.frame) }
@@ -163,7 +163,7 @@ pub fn commit<J: Naming>(
     // What is appended goes to no sealed frame. It could go to this one, were it sealed no more; with an equal stamp it is, as
     // `what_was_planned_is_still_there` says over the steps of a store, but no contract says that the drive came by such steps.
     if !is_sealed_now(drive, frame) {
-        return Err(Refusal::NoMemory);
+        return Err(Refusal::Stale);
     }
     let now = copies_now(alloc, drive, frame, object, copies.as_slice(), &mut memory)?;
     put(drive, frame, object, now.as_slice())

@@ -4,8 +4,9 @@ ghost use Rattle.segment_copier.specs.Laws.{WhatWasPlannedIsStillThere, Emptying
 use journal_chain::packing::laws::packing_keeps_the_rule;
 use segment_table::laws::what_is_listed_is_held;
 
-/// Where an object's blocks are as they were when a move was planned, and the memory of its pin is true, [`commit`](crate::commit)
-/// finds in the frame just the data blocks that were copied.
+/// Where an object's blocks are as they were when a move was planned, and the memory of its pin is true, the frame is sealed still, and
+/// [`commit`](crate::commit) finds in it just the data blocks that were copied. So where each step since left the row's stamp, the move
+/// isn't out of date.
 pub fn what_was_planned_is_still_there()
     ensures { WhatWasPlannedIsStillThere }
 {
