@@ -1,8 +1,9 @@
 -- What gathering comes to.
-use Rattle.std.specs.Prelude.{◌≡◌, ◌⊎◌, ℕ, ◌+◌, ◌*◌, ◌/◌, ◌<◌, ◌≤◌, ◌==◌, if◌then◌else◌, count_by, List, [], ◌∷◌, Option, None, Some, Result, Ok}
+use Rattle.std.specs.Prelude.{◌≡◌, ◌⊎◌, ℕ, ◌+◌, ◌*◌, ◌/◌, ◌<◌, ◌≤◌, ◌==◌, if◌then◌else◌, count_by, length, List, [], ◌∷◌, Option, None, Some, Result, Ok}
 use Rattle.s4_types.specs.Pointer.{Place}
 use Rattle.s4_types.specs.declared.limits.TheConstants.{CHECKPOINT_BLOCKS, JOURNAL_ENTRY_BYTES, MOVE_BLOCKS, PAYLOAD_BLOCKS}
 use Rattle.s4_types.specs.declared.refusals.Refusal.{Refusal}
+use Rattle.s4_types.specs.declared.refusals.Refusal.TheVariants.{NoObject, NoMemory, NoRoom, Busy}
 use Rattle.block_log.specs.Log.{Stored}
 use Rattle.object_map.specs.declared.map.Row.{Row}
 use Rattle.object_map.specs.Rows.{row_of}
@@ -14,7 +15,7 @@ use Rattle.drive.specs.Fields.{DriveFields, store_of}
 use Rattle.interleaving.specs.Moving.{Move, IsMoveOf}
 use Rattle.interleaving.specs.Acting.{Commits}
 use Rattle.segment_copier.specs.Choosing.{IsFirstFrame, IsLowestObject, NoneIsSparse}
-use Rattle.segment_copier.specs.Commits.{CommitsMove}
+use Rattle.segment_copier.specs.Commits.{CommitsMove, blocks_moved}
 use Rattle.segment_copier.specs.declared.candidates.Candidate.{Candidate}
 
 -- how many frames are free, retired ones among them
@@ -70,6 +71,21 @@ pub record MovesNow (d : DriveFields) (f o : ℕ) (done : Result (Unit {0}) Refu
   pub planned : IsMoveOf d f o move
   pub puts : Commits CommitsMove move d done later
 
+-- fewer places are ahead than the move of an object out of a frame takes
+pub record LacksRoom (d : DriveFields) (f o : ℕ) : Type 0 where
+  pub row : Row
+  pub there : row_of d.store.rows o ≡ Some row
+  pub short : length (store_of d).log.ahead < blocks_moved d f o row
+
+-- Why a whole move of an object that has a row isn't made: NoRoom where fewer places are ahead than it takes, else want of memory or of a
+-- pin.
+abbrev pub IsKeptBack : DriveFields → ℕ → ℕ → Refusal → Type 0
+IsKeptBack d f o e = ((e ≡ NoRoom) × LacksRoom d f o) ⊎ ((e ≡ NoMemory) ⊎ (e ≡ Busy))
+
+-- the same of any object: NoObject exactly where it has no row
+abbrev pub IsUnmade : DriveFields → ℕ → ℕ → Refusal → Type 0
+IsUnmade d f o e = ((e ≡ NoObject) × (row_of d.store.rows o ≡ None)) ⊎ IsKeptBack d f o e
+
 -- There was too little room for a move of the copier, and a frame was free. Of the frame that the copier would choose, which may be
 -- emptied by fewer blocks than it has, the least object that holds a block there was moved all the same.
 pub record IsGathered (d : DriveFields) (c : Candidate) (later : DriveFields) : Type 0 where
@@ -90,3 +106,19 @@ pub record TakesMany (d : DriveFields) : Type 0 where
 -- would choose may take too many blocks.
 abbrev pub GathersNothing : DriveFields → Type 0
 GathersNothing d = (MOVE_BLOCKS ≤ room (store_of d)) ⊎ (NoneIsSparse d.store.table ⊎ ((free_count d.store.table ≡ 0) ⊎ TakesMany d))
+
+-- Of the frame that the copier would choose, which may be emptied by fewer blocks than it has, the least object that holds a block there
+-- stays for now: Busy for want of a pin, NoRoom where fewer places are ahead than its move takes.
+pub record KeepsBack (d : DriveFields) (e : Refusal) : Type 0 where
+  pub next : Candidate
+  pub frame : IsFirstFrame d.store.table next.frame
+  pub object : IsLowestObject d.store.table next.frame next.object
+  pub free : 0 < free_count d.store.table
+  pub few : most_to_empty d next.frame < PAYLOAD_BLOCKS
+  pub why : (e ≡ Busy) ⊎ ((e ≡ NoRoom) × LacksRoom d next.frame next.object)
+
+-- Why gathering is refused, which comes only where there is too little room for a move of the copier: memory is refused, for the choice
+-- or for the move; or the move that would be made is kept back.
+pub record FailsToGather (d : DriveFields) (e : Refusal) : Type 0 where
+  pub short : room (store_of d) < MOVE_BLOCKS
+  pub why : (e ≡ NoMemory) ⊎ KeepsBack d e

@@ -1,11 +1,11 @@
 //! Gathering: where there is too little room for the copier's moves, a frame that holds little is emptied within the reserve.
-ghost use Rattle.std.specs.Prelude.{◌≡◌, ◌+◌, ◌≤◌, OnOk, OnErr, IfOk, IfSome, IfNone, nat_lt};
+ghost use Rattle.std.specs.Prelude.{◌≡◌, ◌+◌, ◌≤◌, OnOk, OnErr, IfOk, IfErr, IfSome, IfNone, nat_lt};
 ghost use Rattle.s4_types.specs.declared.limits.TheConstants.{PAYLOAD_BLOCKS};
 ghost use Rattle.object_map.specs.Rows.{row_of};
 ghost use Rattle.drive.specs.Fields.{state_in, store_of};
 ghost use Rattle.drive.specs.Keeping.{KeepsVersions};
 ghost use Rattle.segment_copier.specs.Choosing.{IsSparse};
-ghost use Rattle.segment_copier.specs.Gathering.{free_count, most_journal, most_rewritten, blocks_added, most_to_empty, MovesNow, IsGathered, GathersNothing};
+ghost use Rattle.segment_copier.specs.Gathering.{free_count, most_journal, most_rewritten, blocks_added, most_to_empty, MovesNow, IsUnmade, IsGathered, GathersNothing, FailsToGather};
 
 use crate::candidates::Candidate;
 use crate::choices::sparsest;
@@ -16,6 +16,7 @@ use drive::{Drive, Session};
 use s4_types::limits::{CHECKPOINT_BLOCKS, JOURNAL_ENTRY_BYTES, MOVE_BLOCKS, PAYLOAD_BLOCKS};
 use s4_types::{ObjectId, Ptr, Refusal};
 use segment_table::OverFrames;
+use segment_table::laws::what_is_listed_is_held;
 use segment_word::Naming;
 use std::alloc::Global;
 
@@ -120,8 +121,10 @@ fn takes_few<J: Naming>(drive: &mut Drive<J>, frame: u16) -> bool
 }
 
 /// A whole move of an object's held blocks out of a frame, planned, copied and put in place before anything else is done with the drive.
-/// After a refusal nothing has changed.
-fn move_now<J: Naming>(
+///
+/// NoObject exactly where the object has no row; else NoRoom where fewer places are ahead than the move takes, NoMemory where memory is
+/// refused, and Busy where no pin is to be had. Nothing has changed then.
+pub fn move_now<J: Naming>(
     alloc: Global,
     drive: &mut Drive<J>,
     session: &mut Session<J>,
@@ -129,6 +132,7 @@ fn move_now<J: Naming>(
     object: ObjectId,
 ) -> Result<(), Refusal>
     ensures moved { OnOk result (MovesNow drive.old frame object result drive.new) }
+    ensures refusal { IfErr result (IsUnmade drive.old frame object) }
     ensures unchanged { OnErr result (store_of drive.new ≡ store_of drive.old) }
     ensures ledger { drive.new.ledger ≡ drive.old.ledger }
     ensures needed { KeepsVersions (state_in drive.old) (store_of drive.old) (store_of drive.new) }
@@ -143,8 +147,11 @@ fn move_now<J: Naming>(
 /// or where emptying the frame may take as many blocks as it has: then nothing has changed. So what is gathered leaves the cleaner more
 /// of the reserve than it had, once the frame is free.
 ///
-/// The history and every version that can be read stay, whatever is answered. After a refusal nothing has changed: NoMemory, or
-/// Busy or NoRoom as [`plan_move`] and [`commit`] answer them.
+/// The history and every version that can be read stay, whatever is answered.
+///
+/// Refused only where there is too little room for the copier's moves: NoMemory where memory is refused, for the choice or for the move;
+/// Busy where no pin of the chosen frame is to be had, and NoRoom where fewer places are ahead than the move takes, as where each free
+/// frame is retired. Nothing has changed then.
 pub fn gather<J: Naming>(
     alloc: Global,
     drive: &mut Drive<J>,
@@ -153,10 +160,13 @@ pub fn gather<J: Naming>(
     ensures moved { IfOk result (λ found. IfSome found (λ c. IsGathered drive.old c drive.new)) }
     ensures idle { IfOk result (λ found. IfNone found (GathersNothing drive.old)) }
     ensures none { IfOk result (λ found. IfNone found (drive.new ≡ drive.old)) }
+    ensures refusal { IfErr result (FailsToGather drive.old) }
     ensures unchanged { OnErr result (store_of drive.new ≡ store_of drive.old) }
     ensures ledger { drive.new.ledger ≡ drive.old.ledger }
     ensures needed { KeepsVersions (state_in drive.old) (store_of drive.old) (store_of drive.new) }
 {
+    what_is_listed_is_held();
+    drive.rules();
     if drive.room() >= MOVE_BLOCKS {
         return Ok(None);
     }

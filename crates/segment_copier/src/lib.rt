@@ -4,8 +4,8 @@
 //! the object's data blocks there without the drive, whatever other threads do meanwhile, and [`commit`] puts copies in place,
 //! where the object wasn't changed since. History and every version stay at every moment, whatever they answer; after Ok of a move
 //! that isn't empty the object holds no block in the frame. [`Copier`] is these three for a run of interleaved steps. Which object
-//! leaves which frame is the caller's choice, and [`candidate`] makes it. [`gather`] takes a whole move at once within the reserve, where
-//! there is no room for the copier's.
+//! leaves which frame is the caller's choice, and [`candidate`] makes it. [`move_now`] takes the three steps at once, and [`gather`] does so
+//! within the reserve, where there is no room for the copier's moves.
 #![tactic(auto)]
 
 mod candidates;
@@ -22,5 +22,5 @@ pub use candidates::Candidate;
 pub use choices::{MOST_HELD, candidate};
 pub use commits::commit;
 pub use copier::Copier;
-pub use gathering::{free_frames, gather};
+pub use gathering::{free_frames, gather, move_now};
 pub use plans::{MovePlan, Moved, plan_move};
