@@ -1,6 +1,6 @@
 -- Frames that hold nothing are marked and released, one after the other.
 use Rattle.std.proofs.Common.{◌≡◌, ◌⊎◌, ℕ, zero, suc, ◌+◌, ◌<◌, ◌≤◌, Bool, true, false, cond, Result, Ok, Err, inl, inr, List, [], ◌∷◌, length, Option, refl, sym, ap, subst, ◌∙◌, arith}
-use Rattle.std.specs.Prelude.{OnOk, IfErr, slice_set, count_by}
+use Rattle.std.specs.Prelude.{OnOk, OnErr, IfErr, slice_set, count_by}
 use Rattle.std.specs.List.{range_with_len}
 use Rattle.std.proofs.lemmas.Bool.{cases_eq, false≢true}
 use Rattle.std.proofs.lemmas.List.{get_or-set_same, get_or-set_other, length-set}
@@ -20,7 +20,7 @@ use Rattle.version_store.specs.Store.{StoreFields}
 use Rattle.drive.specs.Fields.{DriveFields, store_of}
 use Rattle.drive.specs.Upkeep.{Marks}
 use Rattle.version_store.specs.Upkeep.{KeepsObjects}
-use Rattle.history_cleaner.specs.Emptying.{AllVacated, HasFoundReader, MarkedBelow}
+use Rattle.history_cleaner.specs.Emptying.{AllVacated, HasFoundReader, MarkedBelow, FreesFrame, MeetsReader, EndsAtReader, StopsAtReader}
 use Rattle.history_cleaner.specs.private.Emptying.{ReleasedFrom, ReleasedBelow}
 
 -- ---- frames
@@ -84,7 +84,16 @@ pub record MarksSoFar (f : ℕ) (old new : DriveFields) : Type 0 where
 
 pub none_marked : (d : DriveFields) → MarksSoFar 0 d d
 none_marked d = record {
-  table = record { count = refl; generations = λ k. refl; marked = λ k below. absurd (omega arith); releases = refl };
+  table = record {
+    count = refl;
+    generations = λ k. refl;
+    begun = λ k below can. absurd (omega arith);
+    others = λ k not. refl;
+    marked = λ k below. absurd (omega arith);
+    slots = refl;
+    table = refl;
+    releases = refl;
+  };
   same = refl;
   ledger = refl;
 }
@@ -98,39 +107,68 @@ marked_here old new f done =
     ap (λ (d : Drive). frame_at d.frames f) done.seat
     ∙ changed_here old.seat.frames f (record (frame_at old.seat.frames f) { phase = Draining }) (inside old.seat.frames f (λ free. not_free (sym free ∙ done.sealed)))
 
-marked_more : (f : ℕ) (old d new : Table) → MarkedBelow f old d → IsMarked f d new → (log_of new).held ≡ (log_of d).held → MarkedBelow (f + 1) old new
-marked_more f old d new sofar done same = record {
+-- what is no frame below f is as it was
+untouched : (f : ℕ) (old d : Table) → MarkedBelow f old d → frame_at d.seat.frames f ≡ frame_at old.seat.frames f
+untouched f old d sofar = sofar.others f (λ low can. absurd (omega arith))
+
+-- so it can begin to be emptied exactly where it could before
+can_still : (f : ℕ) (old d : Table) → MarkedBelow f old d → (log_of d).held ≡ (log_of old).held → CanBeEmptied f old → CanBeEmptied f d
+can_still f old d sofar was can = (ap (λ (x : Frame). x.phase) (untouched f old d sofar) ∙ can.0, none_again f old d was can.1)
+
+could_before : (f : ℕ) (old d : Table) → MarkedBelow f old d → (log_of d).held ≡ (log_of old).held → CanBeEmptied f d → CanBeEmptied f old
+could_before f old d sofar was can = (sym (ap (λ (x : Frame). x.phase) (untouched f old d sofar)) ∙ can.0, none_again f d old (sym was) can.1)
+
+marked_more : (f : ℕ) (old d new : Table) → MarkedBelow f old d → (log_of d).held ≡ (log_of old).held → IsMarked f d new → (log_of new).held ≡ (log_of d).held → MarkedBelow (f + 1) old new
+marked_more f old d new sofar was done same = record {
   count = ap (λ (x : Drive). length x.frames) done.seat ∙ changed_count d.seat.frames f (record (frame_at d.seat.frames f) { phase = Draining }) ∙ sofar.count;
   generations = λ k. elim (cases_eq k f) [
     | inl is ↦ ap (λ (n : ℕ). (frame_at new.seat.frames n).generation) is ∙ ap (λ (x : Frame). x.generation) (marked_here d new f done) ∙ ap (λ (n : ℕ). (frame_at d.seat.frames n).generation) (sym is) ∙ sofar.generations k
     | inr other ↦ ap (λ (x : Frame). x.generation) (marked_frame d new f k done other) ∙ sofar.generations k
   ];
+  begun = λ k below can. elim (cases_eq k f) [
+    | inl is ↦ ap (λ (n : ℕ). frame_at new.seat.frames n) is ∙ marked_here d new f done
+        ∙ ap (λ (x : Frame). record x { phase = Draining }) (untouched f old d sofar) ∙ ap (λ (n : ℕ). record (frame_at old.seat.frames n) { phase = Draining }) (sym is)
+    | inr other ↦ marked_frame d new f k done other ∙ sofar.begun k (omega arith) can
+  ];
+  others = λ k not. elim (cases_eq k f) [
+    | inl is ↦ absurd (not (omega arith) (subst (λ (n : ℕ). CanBeEmptied n old) (sym is) (could_before f old d sofar was (done.sealed, done.unheld))))
+    | inr other ↦ marked_frame d new f k done other ∙ sofar.others k (λ low can. not (omega arith) can)
+  ];
   marked = λ k below can. elim (cases_eq k f) [
     | inl is ↦ not_draining (sym (ap (λ (n : ℕ). (frame_at new.seat.frames n).phase) is ∙ ap (λ (x : Frame). x.phase) (marked_here d new f done)) ∙ can.0)
     | inr other ↦ sofar.marked k (omega arith) (sym (ap (λ (x : Frame). x.phase) (marked_frame d new f k done other)) ∙ can.0, none_again k new d (sym same) can.1)
   ];
+  slots = done.slots ∙ sofar.slots;
+  table = ap (λ (x : Drive). x.table) done.seat ∙ sofar.table;
   releases = ap (λ (x : Drive). x.releases) done.seat ∙ sofar.releases;
 }
 
-marked_not : (f : ℕ) (old d : Table) → MarkedBelow f old d → (CanBeEmptied f d → ⊥) → MarkedBelow (f + 1) old d
-marked_not f old d sofar cannot = record {
+marked_not : (f : ℕ) (old d : Table) → MarkedBelow f old d → (log_of d).held ≡ (log_of old).held → (CanBeEmptied f d → ⊥) → MarkedBelow (f + 1) old d
+marked_not f old d sofar was cannot = record {
   count = sofar.count;
   generations = sofar.generations;
+  begun = λ k below can. elim (cases_eq k f) [
+    | inl is ↦ absurd (cannot (can_still f old d sofar was (subst (λ (n : ℕ). CanBeEmptied n old) is can)))
+    | inr other ↦ sofar.begun k (omega arith) can
+  ];
+  others = λ k not. sofar.others k (λ low can. not (omega arith) can);
   marked = λ k below can. elim (cases_eq k f) [
     | inl is ↦ cannot (subst (λ (n : ℕ). CanBeEmptied n d) is can)
     | inr other ↦ sofar.marked k (omega arith) can
   ];
+  slots = sofar.slots;
+  table = sofar.table;
   releases = sofar.releases;
 }
 
 pub mark_step : (r : Result (Unit {0}) Refusal) (f : ℕ) (old d new : DriveFields) → MarksSoFar f old d → Marks f d r new → MarksSoFar (f + 1) old new
 mark_step (Ok u) f old d new sofar marks = record {
-  table = marked_more f old.store.table d.store.table new.store.table sofar.table marks.frame.marked (ap (λ (s : StoreFields). s.log.held) marks.store);
+  table = marked_more f old.store.table d.store.table new.store.table sofar.table (ap (λ (s : StoreFields). s.log.held) sofar.same) marks.frame.marked (ap (λ (s : StoreFields). s.log.held) marks.store);
   same = marks.store ∙ sofar.same;
   ledger = marks.ledger ∙ sofar.ledger;
 }
 mark_step (Err e) f old d new sofar marks = record {
-  table = subst (λ (x : DriveFields). MarkedBelow (f + 1) old.store.table x.store.table) (sym marks.refused) (marked_not f old.store.table d.store.table sofar.table marks.frame.answer.1);
+  table = subst (λ (x : DriveFields). MarkedBelow (f + 1) old.store.table x.store.table) (sym marks.refused) (marked_not f old.store.table d.store.table sofar.table (ap (λ (s : StoreFields). s.log.held) sofar.same) marks.frame.answer.1);
   same = marks.store ∙ sofar.same;
   ledger = marks.ledger ∙ sofar.ledger;
 }
@@ -170,15 +208,17 @@ count_more p q n alike =
 
 -- ---- releasing
 
--- how far releasing has come in a drive: down to frame first
+-- how far releasing has come in a drive: down to frame first, and with the frames below that it ends at a reader if they do
 pub record ReleasesSoFar (first f : ℕ) (old new : DriveFields) : Type 0 where
   pub table : ReleasedFrom first f old.store.table new.store.table
+  pub rest : (last : Drive) → EndsAtReader first new.store.table.seat last → EndsAtReader f old.store.table.seat last
   pub objects : KeepsObjects (store_of old) (store_of new)
   pub ledger : new.ledger ≡ old.ledger
 
 pub none_released : (f : ℕ) (d : DriveFields) → ReleasesSoFar f f d d
 none_released f d = record {
   table = record { count = refl; between = λ k from below. absurd (omega arith); sealed = λ k is. is; tried = omega arith };
+  rest = λ last ended. ended;
   objects = kept_all (store_of d);
   ledger = refl;
 }
@@ -223,12 +263,32 @@ released_not n f old d sofar not = record {
   tried = sofar.tried;
 }
 
+-- a frame was released, and then those below it down to a reader; or it had a reader itself
+end_below : (n : ℕ) (d new last : Drive) → FreesFrame n d new → EndsAtReader n new last → EndsAtReader (n + 1) d last
+end_below n d new last one rest =
+    let next : suc n ≡ n + 1 = omega arith in
+    let all : EndsAtReader (suc n) d last = inr (new, one, rest) in
+    subst (λ (m : ℕ). EndsAtReader m d last) next all
+
+end_here : (n : ℕ) (d last : Drive) → MeetsReader n d last → EndsAtReader (n + 1) d last
+end_here n d last meets =
+    let next : suc n ≡ n + 1 = omega arith in
+    let all : EndsAtReader (suc n) d last = inl meets in
+    subst (λ (m : ℕ). EndsAtReader m d last) next all
+
+frees : (n : ℕ) (old new : Table) → IsReleased n old new → FreesFrame n old.seat new.seat
+frees n old new done = record { freed = λ draining. done.seat; idle = λ not. absurd (not done.draining) }
+
+frees_none : (n : ℕ) (d : Drive) → is_draining (frame_at d.frames n).phase ≡ false → FreesFrame n d d
+frees_none n d not = record { freed = λ draining. absurd (false≢true (sym not ∙ ap is_draining draining)); idle = λ other. refl }
+
 pub release_step : (first n f : ℕ) (old d e new last : DriveFields) → first ≡ n + 1 → ReleasesSoFar first f old d → e ≡ d → IsReleased n e.store.table new.store.table → KeepsObjects (store_of e) (store_of new) → new.ledger ≡ e.ledger → last ≡ new → ReleasesSoFar n f old last
 release_step first n f old d e new last next sofar same done objects ledger is =
     let moved : ReleasesSoFar (n + 1) f old d = subst (λ (m : ℕ). ReleasesSoFar m f old d) next sofar in
     let before : ReleasesSoFar (n + 1) f old e = subst (ReleasesSoFar (n + 1) f old) (sym same) moved in
     subst (ReleasesSoFar n f old) (sym is) (record {
       table = released_more n f old.store.table e.store.table new.store.table before.table done;
+      rest = λ x ended. before.rest x (end_below n e.store.table.seat new.store.table.seat x (frees n e.store.table new.store.table done) ended);
       objects = kept_on (store_of old) (store_of e) (store_of new) before.objects objects;
       ledger = ledger ∙ before.ledger;
     })
@@ -238,11 +298,17 @@ skip_step first n f old d e last next sofar same not is =
     let before : ReleasesSoFar (n + 1) f old d = subst (λ (m : ℕ). ReleasesSoFar m f old d) next sofar in
     subst (ReleasesSoFar n f old) (sym (is ∙ same)) (record {
       table = released_not n f old.store.table d.store.table before.table not;
+      rest = λ x ended. before.rest x (end_below n d.store.table.seat d.store.table.seat x (frees_none n d.store.table.seat not) ended);
       objects = before.objects;
       ledger = before.ledger;
     })
 
 -- ---- where a frame had a reader
+
+-- what holds whatever was refused
+pub on_err_of : {A E X : Type 0} (r : Result A E) → X → OnErr r X
+on_err_of (Ok a) x = tt
+on_err_of (Err e) x = x
 
 draining_is : (p : Phase) → is_draining p ≡ true → p ≡ Draining
 draining_is Free is = absurd (false≢true is)
@@ -272,6 +338,16 @@ pub missed : (first f n : ℕ) (old d e new : DriveFields) → ReleasesSoFar fir
     → ((frame_at e.store.table.seat.frames n).phase ≡ Draining → HasMissed n e.store.table.seat new.store.table.seat) → HasFoundReader old.store.table.seat new.store.table.seat
 missed first f n old d e new sofar same is misses =
     missed_from first f n old d new sofar is (subst (λ (x : DriveFields). (frame_at x.store.table.seat.frames n).phase ≡ Draining → HasMissed n x.store.table.seat new.store.table.seat) same misses)
+
+-- and there it ended
+pub missed_ends : (first f n : ℕ) (old d e new : DriveFields) → first ≡ n + 1 → ReleasesSoFar first f old d → e ≡ d → is_draining (frame_at d.store.table.seat.frames n).phase ≡ true
+    → ((frame_at e.store.table.seat.frames n).phase ≡ Draining → HasMissed n e.store.table.seat new.store.table.seat) → EndsAtReader f old.store.table.seat new.store.table.seat
+missed_ends first f n old d e new next sofar same is misses =
+    let miss : (frame_at d.store.table.seat.frames n).phase ≡ Draining → HasMissed n d.store.table.seat new.store.table.seat =
+    subst (λ (x : DriveFields). (frame_at x.store.table.seat.frames n).phase ≡ Draining → HasMissed n x.store.table.seat new.store.table.seat) same misses in
+    let draining : (frame_at d.store.table.seat.frames n).phase ≡ Draining = draining_is (frame_at d.store.table.seat.frames n).phase is in
+    let moved : ReleasesSoFar (n + 1) f old d = subst (λ (m : ℕ). ReleasesSoFar m f old d) next sofar in
+    moved.rest new.store.table.seat (end_here n d.store.table.seat new.store.table.seat (record { draining = draining; missed = miss draining }))
 
 -- the objects are as they were also then
 pub missed_keeps : (first f : ℕ) (old d e new : DriveFields) → ReleasesSoFar first f old d → e ≡ d → KeepsObjects (store_of e) (store_of new) → KeepsObjects (store_of old) (store_of new)
@@ -308,24 +384,32 @@ found_since old d new same found = record {
 -- all that is promised of the answer
 pub record HasVacated (r : Result (Unit {0}) Refusal) (old new : DriveFields) : Type 0 where
   pub vacated : OnOk r (AllVacated new.store.table)
-  pub refusal : IfErr r (λ e. (e ≡ InUse) × HasFoundReader old.store.table.seat new.store.table.seat)
+  pub refusal : IfErr r (λ e. (e ≡ InUse) × StopsAtReader old.store.table new.store.table)
   pub frames : length new.store.table.seat.frames ≡ length old.store.table.seat.frames
   pub objects : KeepsObjects (store_of old) (store_of new)
   pub ledger : new.ledger ≡ old.ledger
 
 pub has_vacated : (r : Result (Unit {0}) Refusal) (count : ℕ) (old d new : DriveFields) → count ≡ length old.store.table.seat.frames → MarksSoFar count old d
     → OnOk r (ReleasedBelow count d.store.table new.store.table) → IfErr r (λ e. (e ≡ InUse) × HasFoundReader d.store.table.seat new.store.table.seat)
-    → length new.store.table.seat.frames ≡ length d.store.table.seat.frames → KeepsObjects (store_of d) (store_of new) → new.ledger ≡ d.ledger → HasVacated r old new
-has_vacated (Ok done) count old d new whole marked released refused frames objects ledger = record {
+    → OnErr r (EndsAtReader count d.store.table.seat new.store.table.seat) → length new.store.table.seat.frames ≡ length d.store.table.seat.frames → KeepsObjects (store_of d) (store_of new) → new.ledger ≡ d.ledger → HasVacated r old new
+has_vacated (Ok done) count old d new whole marked released refused ended frames objects ledger = record {
   vacated = all_vacated count old.store.table d.store.table new.store.table whole marked.table released objects.held;
   refusal = tt;
   frames = frames ∙ marked.table.count;
   objects = kept_on (store_of old) (store_of d) (store_of new) (kept_same (store_of old) (store_of d) marked.same) objects;
   ledger = ledger ∙ marked.ledger;
 }
-has_vacated (Err e) count old d new whole marked released refused frames objects ledger = record {
+has_vacated (Err e) count old d new whole marked released refused ended frames objects ledger = record {
   vacated = tt;
-  refusal = (refused.0, found_since old.store.table.seat d.store.table.seat new.store.table.seat marked.table.releases refused.1);
+  refusal = (
+    refused.0,
+    record {
+      between = d.store.table;
+      marked = subst (λ (n : ℕ). MarkedBelow n old.store.table d.store.table) whole marked.table;
+      ended = subst (λ (n : ℕ). EndsAtReader n d.store.table.seat new.store.table.seat) whole ended;
+      reader = found_since old.store.table.seat d.store.table.seat new.store.table.seat marked.table.releases refused.1;
+    },
+  );
   frames = frames ∙ marked.table.count;
   objects = kept_on (store_of old) (store_of d) (store_of new) (kept_same (store_of old) (store_of d) marked.same) objects;
   ledger = ledger ∙ marked.ledger;

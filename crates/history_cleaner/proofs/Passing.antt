@@ -18,6 +18,7 @@ use Rattle.time_read.specs.Rows.{entries_of}
 use Rattle.segment_word.specs.AcceptViews.{Ledger}
 use Rattle.s4_model.specs.State.{State, state_of}
 use Rattle.s4_model.specs.Visible.{IsVisible}
+use Rattle.segment_table.specs.Rules.{HasFramesInOrder}
 use Rattle.version_store.specs.Store.{StoreFields, IsStore}
 use Rattle.version_store.specs.Laws.{HeldIsWhatRowsName}
 use Rattle.version_store.specs.Versions.{inode_in}
@@ -26,7 +27,7 @@ use Rattle.drive.specs.Keeping.{KeepsVersions}
 use Rattle.history_cleaner.specs.Cleaning.{IsUntouched, OthersStay, IsSeenThroughout, IsClean, HasNoRoom}
 use Rattle.history_cleaner.specs.Passing.{is_other, is_gone, has_other_row, has_lost_row, IsCount, IsCleaned, StoppedAt, StoppedAtReader}
 use Rattle.version_store.specs.Upkeep.{KeepsObjects}
-use Rattle.history_cleaner.specs.Emptying.{HasFoundReader}
+use Rattle.history_cleaner.specs.Emptying.{StopsAtReader}
 use Rattle.history_cleaner.specs.Reaching.{IsReached, HoldsWhatIsReached, HeldIsWhatIsReached, RowTellsOfSeenPlaces}
 use Rattle.history_cleaner.specs.private.Counting.{NamesPlaces}
 use Rattle.history_cleaner.proofs.Emptied.{tally, count_alike, count_more}
@@ -316,12 +317,18 @@ cleaned_kept s mid later state o cleaned kept = cleaned_stays s mid later state 
 pub all_kept : (s mid later : StoreFields) (state : State) → ((o : ℕ) → IsCleaned s mid state o) → KeepsObjects mid later → (o : ℕ) → IsCleaned s later state o
 all_kept s mid later state all kept o = cleaned_kept s mid later state o (all o) kept
 
-pub stopped_at_reader : (d mid later : DriveFields) (e : Refusal) → ((o : ℕ) → IsCleaned (store_of d) (store_of mid) (state_in d) o) → KeepsObjects (store_of mid) (store_of later) → (e ≡ InUse) × HasFoundReader mid.store.table.seat later.store.table.seat
+pub stopped_at_reader : (d mid later : DriveFields) (e : Refusal) → ((o : ℕ) → IsCleaned (store_of d) (store_of mid) (state_in d) o) → mid.ledger ≡ d.ledger → KeepsVersions (state_in d) (store_of d) (store_of mid)
+    → HasFramesInOrder d.store.table.seat.table mid.store.table → KeepsObjects (store_of mid) (store_of later) → (e ≡ InUse) × StopsAtReader mid.store.table later.store.table
     → StoppedAt (store_of d) (store_of later) (state_in d) e ⊎ StoppedAtReader d later e
-stopped_at_reader d mid later e all kept found = inr (record {
+stopped_at_reader d mid later e all ledger needed frames kept found = inr (record {
   refusal = found.0;
   all = all_kept (store_of d) (store_of mid) (store_of later) (state_in d) all kept;
-  since = mid.store.table.seat;
+  since = mid;
+  cleaned = all;
+  ledger = ledger;
+  needed = needed;
+  frames = frames;
+  objects = kept;
   reader = found.1;
 })
 

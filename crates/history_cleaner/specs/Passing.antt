@@ -3,14 +3,16 @@ use Rattle.std.specs.Prelude.{◌≡◌, ◌⊎◌, ℕ, ◌<◌, ◌≤◌, ◌
 use Rattle.std.specs.List.{range_with_len}
 use Rattle.s4_types.specs.declared.refusals.Refusal.{Refusal}
 use Rattle.s4_types.specs.declared.refusals.Refusal.TheVariants.{NoMemory, NoRoom, InUse}
-use Rattle.segment_word.specs.Handles.{Drive}
 use Rattle.object_map.specs.declared.map.Row.{Row}
 use Rattle.object_map.specs.Rows.{row_of}
 use Rattle.s4_model.specs.State.{State}
+use Rattle.segment_table.specs.Rules.{HasFramesInOrder}
 use Rattle.version_store.specs.Store.{StoreFields}
+use Rattle.version_store.specs.Upkeep.{KeepsObjects}
 use Rattle.drive.specs.Fields.{DriveFields, state_in, store_of}
+use Rattle.drive.specs.Keeping.{KeepsVersions}
 use Rattle.history_cleaner.specs.Cleaning.{IsClean, IsUnseen, IsUntouched, HasNoRoom}
-use Rattle.history_cleaner.specs.Emptying.{HasFoundReader}
+use Rattle.history_cleaner.specs.Emptying.{StopsAtReader}
 use Rattle.history_cleaner.specs.Reaching.{HoldsWhatIsReached}
 
 -- a row that stands has another stamp than before
@@ -53,10 +55,15 @@ pub record StoppedAt (s later : StoreFields) (state : State) (e : Refusal) : Typ
   pub rest : (o : ℕ) → object ≤ o → IsUntouched s later o
   pub why : (e ≡ NoMemory) ⊎ ((e ≡ NoRoom) × HasNoRoom later state object)
 
--- A pass stopped with this refusal at a frame: all objects were cleaned, and since some state of the frames a release was tried, and
--- found a reader.
+-- A pass stopped with this refusal at a frame: first all objects were cleaned, which brought the drive to `since`; then its frames
+-- were marked and released, down to the first that had a reader.
 pub record StoppedAtReader (old new : DriveFields) (e : Refusal) : Type 0 where
   pub refusal : e ≡ InUse
   pub all : (o : ℕ) → IsCleaned (store_of old) (store_of new) (state_in old) o
-  pub since : Drive
-  pub reader : HasFoundReader since new.store.table.seat
+  pub since : DriveFields
+  pub cleaned : (o : ℕ) → IsCleaned (store_of old) (store_of since) (state_in old) o
+  pub ledger : since.ledger ≡ old.ledger
+  pub needed : KeepsVersions (state_in old) (store_of old) (store_of since)
+  pub frames : HasFramesInOrder old.store.table.seat.table since.store.table
+  pub objects : KeepsObjects (store_of since) (store_of new)
+  pub reader : StopsAtReader since.store.table new.store.table

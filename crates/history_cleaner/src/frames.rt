@@ -1,12 +1,12 @@
 //! Emptying the frames of a drive that hold nothing more.
-ghost use Rattle.std.specs.Prelude.{◌≡◌, ◌≤◌, IfOk, IfErr, OnOk, length, count_by, nat_lt};
+ghost use Rattle.std.specs.Prelude.{◌≡◌, ◌≤◌, IfOk, IfErr, OnOk, OnErr, length, count_by, nat_lt};
 ghost use Rattle.std.specs.List.{range_with_len};
 ghost use Rattle.s4_types.specs.declared.limits.TheConstants.{MOST_FRAMES};
 ghost use Rattle.s4_types.specs.declared.refusals.Refusal.TheVariants.{InUse};
 ghost use Rattle.segment_word.specs.Layout.{frame_at};
 ghost use Rattle.drive.specs.Fields.{store_of};
 ghost use Rattle.version_store.specs.Upkeep.{KeepsObjects};
-ghost use Rattle.history_cleaner.specs.Emptying.{AllVacated, frames_risen, HasFoundReader, MarkedBelow};
+ghost use Rattle.history_cleaner.specs.Emptying.{AllVacated, frames_risen, HasFoundReader, MarkedBelow, EndsAtReader, StopsAtReader};
 ghost use Rattle.history_cleaner.specs.private.Emptying.{ReleasedBelow, generations_in, is_later};
 
 use arrayvec::ArrayVec;
@@ -34,6 +34,7 @@ pub(crate) fn mark_all<J: Naming>(drive: &mut Drive<J>, count: u16)
 fn release_all<J: Naming>(drive: &mut Drive<J>, count: u16) -> Result<(), Refusal>
     ensures released { OnOk result (ReleasedBelow count drive.old.store.table drive.new.store.table) }
     ensures refusal { IfErr result (λ e. (e ≡ InUse) × HasFoundReader drive.old.store.table.seat drive.new.store.table.seat) }
+    ensures ended { OnErr result (EndsAtReader count drive.old.store.table.seat drive.new.store.table.seat) }
     ensures frames { length drive.new.store.table.seat.frames ≡ length drive.old.store.table.seat.frames }
     ensures objects { KeepsObjects (store_of drive.old) (store_of drive.new) }
     ensures ledger { drive.new.ledger ≡ drive.old.ledger }
@@ -53,7 +54,7 @@ fn release_all<J: Naming>(drive: &mut Drive<J>, count: u16) -> Result<(), Refusa
 /// that has a reader it stops.
 pub(crate) fn vacate<J: Naming>(drive: &mut Drive<J>) -> Result<(), Refusal>
     ensures vacated { OnOk result (AllVacated drive.new.store.table) }
-    ensures refusal { IfErr result (λ e. (e ≡ InUse) × HasFoundReader drive.old.store.table.seat drive.new.store.table.seat) }
+    ensures refusal { IfErr result (λ e. (e ≡ InUse) × StopsAtReader drive.old.store.table drive.new.store.table) }
     ensures frames { length drive.new.store.table.seat.frames ≡ length drive.old.store.table.seat.frames }
     ensures objects { KeepsObjects (store_of drive.old) (store_of drive.new) }
     ensures ledger { drive.new.ledger ≡ drive.old.ledger }
@@ -112,11 +113,12 @@ pub(crate) fn count_risen<J: Naming>(drive: &mut Drive<J>, noted: &[u32]) -> u32
 /// then each frame that holds nothing is free, a retired one among them, or it is the open one. All objects stay as they are,
 /// whatever is answered. Takes no memory.
 ///
-/// InUse where a frame that is being emptied has a reader. It stops there: frames with greater numbers were released.
+/// InUse where a frame that is being emptied has a reader, as its one release found that was tried. It stops there: those with greater
+/// numbers were released, and none with a lower number was tried.
 pub fn empty_frames<J: Naming>(drive: &mut Drive<J>) -> Result<u32, Refusal>
     ensures vacated { OnOk result (AllVacated drive.new.store.table) }
     ensures released { IfOk result (λ n. n ≡ frames_risen drive.old.store.table.seat drive.new.store.table.seat) }
-    ensures refusal { IfErr result (λ e. (e ≡ InUse) × HasFoundReader drive.old.store.table.seat drive.new.store.table.seat) }
+    ensures refusal { IfErr result (λ e. (e ≡ InUse) × StopsAtReader drive.old.store.table drive.new.store.table) }
     ensures frames { length drive.new.store.table.seat.frames ≡ length drive.old.store.table.seat.frames }
     ensures objects { KeepsObjects (store_of drive.old) (store_of drive.new) }
     ensures ledger { drive.new.ledger ≡ drive.old.ledger }

@@ -128,7 +128,9 @@ fn clean_and_empty<J: Naming>(alloc: Global, drive: &mut Drive<J>) -> Result<Cle
     ensures ledger { drive.new.ledger ≡ drive.old.ledger }
     ensures needed { KeepsVersions (state_in drive.old) (store_of drive.old) (store_of drive.new) }
 {
+    drive.rules();
     let cleanings = clean_all(alloc, drive)?;
+    drive.rules();
     vacate(drive)?;
     Ok(cleanings)
 }
@@ -143,8 +145,9 @@ fn clean_and_empty<J: Naming>(alloc: Global, drive: &mut Drive<J>) -> Result<Cle
 /// free, a retired one among them, or it is the open one.
 ///
 /// At its first refusal it stops, and what was cleaned stays cleaned. NoMemory and NoRoom as [`clean_object`] answers them for the
-/// object at which it stopped; InUse where a frame that is being emptied has a reader, after all objects were cleaned. The history
-/// and every version that can be read stay as they are, whatever is answered.
+/// object at which it stopped; InUse where a frame that is being emptied has a reader, as a release found that was tried after all
+/// objects were cleaned: frames with greater numbers were released then. The history and every version that can be read stay as they
+/// are, whatever is answered.
 ///
 /// It holds no list of all objects, and takes no memory but that of the single cleanings. It takes their time and a few steps for
 /// each frame. What was released is counted by the generations from before the pass: no contract of a cleaning tells of these.
