@@ -61,4 +61,4 @@ pub record IsRound (base : Base) (round : Round) : Type 0 where
 
 -- a whole round that began when all sessions had ended
 abbrev pub IsLastRound : Base → Round → Type 0
-IsLastRound base round = IsRound base round × (round.is_behind ≡ true)
+IsLastRound base round = IsRound base round × (round.is_last ≡ true)

@@ -1,17 +1,43 @@
 //! Which objects the cleaner is to visit. Nothing that is answered rests on it.
 use drive::Drive;
+use s4_types::limits::JOURNAL_ENTRY_BYTES;
 use s4_types::{Moment, ObjectId};
 use segment_word::Naming;
 use std::alloc::{AllocError, Global};
 use std::collections::BTreeMap;
 use std::mem::replace;
 
+/// What an object that was cleaned or changed has left for later turns.
+#[derive(Clone, Copy)]
+pub(crate) struct History {
+    /// The moment of its oldest entry above the floor.
+    pub oldest: Moment,
+    /// The moment of its Delete, if it is deleted. From that floor on a turn removes the object, and
+    /// writes nothing.
+    pub deleted: Option<Moment>,
+    /// All its entries fit one journal block.
+    pub is_short: bool,
+}
+
+impl History {
+    /// The floor from which on a turn frees more than it writes. A deleted object with few entries
+    /// has a checkpoint and a journal block less only once it is removed.
+    fn due(&self) -> Moment {
+        match self.deleted {
+            Some(deleted) if self.is_short => deleted,
+            _ => self.oldest,
+        }
+    }
+}
+
 /// The objects of which a turn of the cleaner may free something, now or later: those that have history.
 #[derive(Drop)]
 pub(crate) struct Agenda {
     alloc: Global,
-    /// Of each the floor from which on a turn may free something: the moment of its oldest entry.
+    /// Of each the floor from which on a turn may free something.
     floors: BTreeMap<u64, u64>,
+    /// The deleted ones, by the moments of their Deletes.
+    deleted: BTreeMap<u64, u64>,
     /// Some may be missing: nothing is known yet, or memory was refused.
     has_gaps: bool,
     /// Moments of all objects were hidden since the last round began.
@@ -24,19 +50,39 @@ impl Agenda {
         Agenda {
             alloc,
             floors: BTreeMap::new(alloc),
+            deleted: BTreeMap::new(alloc),
             has_gaps: true,
             is_hidden: false,
         }
     }
 
-    /// How many objects are known to have history.
+    /// How many objects are known to have history of which a turn may write something.
     pub(crate) fn count(&self) -> u64 {
-        self.floors.len() as u64
+        (self.floors.len() as u64).saturating_sub(self.deleted.len() as u64)
+    }
+
+    /// Whether at this floor an object can be removed.
+    pub(crate) fn has_removal(&self, floor: u64) -> bool {
+        match self.deleted.first_key_value() {
+            Some((moment, _)) => *moment <= floor,
+            None => false,
+        }
     }
 
     /// A turn of this object may free something from a floor on.
     fn put(&mut self, object: ObjectId, floor: Moment) {
         if self.floors.insert(object.number(), floor.number()).is_err() {
+            self.has_gaps = true;
+        }
+    }
+
+    /// An object was deleted at this moment.
+    fn put_deleted(&mut self, object: ObjectId, deleted: Moment) {
+        if self
+            .deleted
+            .insert(deleted.number(), object.number())
+            .is_err()
+        {
             self.has_gaps = true;
         }
     }
@@ -48,12 +94,32 @@ impl Agenda {
         }
     }
 
-    /// An object had its turn, and has entries from this moment on, or none.
-    pub(crate) fn settle(&mut self, object: ObjectId, oldest: Option<Moment>) {
-        match oldest {
-            Some(moment) => self.put(object, moment),
+    /// An object was deleted at this moment, whose entries may fit one journal block.
+    pub(crate) fn delete(&mut self, object: ObjectId, moment: Moment, is_short: bool) {
+        self.put_deleted(object, moment);
+        if is_short {
+            self.put(object, moment);
+        } else {
+            self.add(object, moment);
+        }
+    }
+
+    /// An object had its turn, and has this history left, or none.
+    pub(crate) fn settle(&mut self, object: ObjectId, left: Option<History>) {
+        match left {
+            Some(history) => {
+                self.put(object, history.due());
+                if let Some(deleted) = history.deleted {
+                    self.put_deleted(object, deleted);
+                }
+            }
             None => drop(self.floors.remove(&object.number())),
         }
+    }
+
+    /// An object could not be cleaned, and has another turn in the next round.
+    pub(crate) fn keep(&mut self, object: ObjectId) {
+        self.put(object, Moment::new(0));
     }
 
     /// Moments of an object were hidden, or of all where its number is 0.
@@ -65,14 +131,40 @@ impl Agenda {
         }
     }
 
-    /// A round begins at this floor: the objects that it is to visit, by ascending number. None where it is to visit all.
+    /// A round begins at this floor: the objects that it is to visit, by ascending number. None where
+    /// it is to visit all.
     pub(crate) fn begin_round(&mut self, floor: Moment) -> Option<Vec<ObjectId>> {
         let is_hidden = replace(&mut self.is_hidden, false);
         if replace(&mut self.has_gaps, false) {
             return None;
         }
         let last = if is_hidden { u64::MAX } else { floor.number() };
+        self.forget_removed(floor.number());
         self.due(last).ok()
+    }
+
+    /// A round begins at this floor that writes nothing: the objects that can be removed.
+    pub(crate) fn begin_removals(&mut self, floor: Moment) -> Option<Vec<ObjectId>> {
+        let mut objects = Vec::new(self.alloc);
+        for (moment, object) in self.deleted.iter() {
+            if *moment > floor.number() || objects.push(ObjectId::new(*object)).is_err() {
+                break;
+            }
+        }
+        self.forget_removed(floor.number());
+        objects.sort().ok()?;
+        Some(objects)
+    }
+
+    /// The objects whose Deletes have passed the floor have their turn now. One that can't be removed
+    /// is visited again as others are.
+    fn forget_removed(&mut self, floor: u64) {
+        for _ in 0..u64::MAX {
+            if !self.has_removal(floor) {
+                return;
+            }
+            drop(self.deleted.pop_first());
+        }
     }
 
     /// The objects whose floor is at most this one.
@@ -87,35 +179,79 @@ impl Agenda {
     }
 }
 
-/// When an object was last changed up to a moment, and 0 where it has no row.
-fn changed_by<J: Naming>(drive: &mut Drive<J>, object: ObjectId, at: u64) -> u64 {
-    match drive.inode_at(object, Moment::new(at)) {
-        Some(inode) => inode.changed.number(),
-        None => 0,
-    }
+/// What the entries of an object show of its state at a moment.
+#[derive(Clone, Copy, PartialEq, Eq)]
+struct State {
+    /// When it was last changed. A Delete leaves that as it is.
+    changed: Moment,
+    is_alive: bool,
 }
 
-/// The moment of the oldest entry of an object that was cleaned, if it has one: the first change above the floor. It is searched for by
-/// halves, which reads no block and takes no memory.
-pub(crate) fn oldest_entry<J: Naming>(drive: &mut Drive<J>, object: ObjectId) -> Option<Moment> {
-    let row = drive.row(object)?;
-    if row.journal_bytes == 0 {
-        return None;
-    }
+/// The state of an object at a moment, or of its life alone. None where it has no row.
+fn state_at<J: Naming>(
+    drive: &mut Drive<J>,
+    object: ObjectId,
+    at: u64,
+    is_of_life: bool,
+) -> Option<State> {
+    let inode = drive.inode_at(object, Moment::new(at))?;
+    Some(State {
+        changed: if is_of_life {
+            Moment::new(0)
+        } else {
+            inode.changed
+        },
+        is_alive: inode.alive,
+    })
+}
+
+/// The first moment above the floor at which an object's state is another one than at the floor, or
+/// the clock. It is searched for by halves, which reads no block and takes no memory.
+fn first_change<J: Naming>(drive: &mut Drive<J>, object: ObjectId, is_of_life: bool) -> Moment {
     let mut low = drive.floor().number();
     let mut high = drive.clock().number();
-    let first = changed_by(drive, object, low);
+    let first = state_at(drive, object, low, is_of_life);
     for _ in 0..u64::BITS {
         let half = high.saturating_sub(low) / 2;
         let middle = low.saturating_add(half);
         if half == 0 {
             break;
         }
-        if changed_by(drive, object, middle) == first {
+        if state_at(drive, object, middle, is_of_life) == first {
             low = middle;
         } else {
             high = middle;
         }
     }
-    Some(Moment::new(high))
+    Moment::new(high)
+}
+
+/// When an object was deleted, if it is.
+fn deletion<J: Naming>(drive: &mut Drive<J>, object: ObjectId) -> Option<Moment> {
+    let clock = drive.clock().number();
+    match state_at(drive, object, clock, true) {
+        Some(state) if !state.is_alive => Some(first_change(drive, object, true)),
+        _ => None,
+    }
+}
+
+/// Whether the entries of an object fit one journal block.
+pub(crate) fn is_short<J: Naming>(drive: &Drive<J>, object: ObjectId) -> bool {
+    match drive.row(object) {
+        Some(row) => row.journal_bytes as usize <= JOURNAL_ENTRY_BYTES,
+        None => true,
+    }
+}
+
+/// The history that an object has left which was cleaned, if it has any.
+pub(crate) fn history_left<J: Naming>(drive: &mut Drive<J>, object: ObjectId) -> Option<History> {
+    let row = drive.row(object)?;
+    if row.journal_bytes == 0 {
+        return None;
+    }
+    Some(History {
+        oldest: first_change(drive, object, false),
+        deleted: deletion(drive, object),
+        is_short: is_short(drive, object),
+    })
 }

@@ -6,7 +6,6 @@ use s4_types::limits::{MOST_FRAMES, PAYLOAD_BLOCKS};
 use segment_word::Naming;
 use std::alloc::Global;
 use std::sync::{Mutex, Wait};
-use std::thread::yield_now;
 
 /// Turns of the cleaner after which it gathers: what so many write may fill a frame.
 const TURNS_BETWEEN: u64 = PAYLOAD_BLOCKS as u64;
@@ -27,14 +26,13 @@ pub(crate) fn gather_all<J: Naming>(
         return;
     };
     for _ in 0..MOST_STEPS {
-        if !pace.is_tight() {
+        if !pace.is_tight(rt) {
             return;
         }
         release_frames(rt, drive, pace);
         if !matches!(gather_next(rt, alloc, drive, pace, session), Ok(Some(_))) {
             return;
         }
-        yield_now();
     }
 }
 

@@ -9,18 +9,21 @@
 
 mod agenda;
 mod clocks;
+mod effects;
 mod gate;
 mod gathering;
+mod holding;
 pub mod laws;
 mod locked;
 mod moving;
 mod pace;
+mod progress;
 mod running;
 mod settling;
 mod upkeep;
 
 pub use clocks::SharedClock;
-pub use gate::{Gate, Open};
+pub use gate::{Gate, Open, UpkeepStep};
 pub use locked::Locked;
 pub use moving::{MoveStep, Moves};
 pub use running::{Client, MOST_SESSIONS, Outcome, run_sessions};

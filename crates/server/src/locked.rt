@@ -9,9 +9,11 @@ ghost use Rattle.server.specs.Upkeep.{SharedTurn, SharedVisit, SharedSweep};
 ghost use Rattle.server.specs.Moving.{SharedPlan, SharedCommit};
 ghost use Rattle.server.specs.Gathering.{SharedGather};
 
-use crate::agenda::oldest_entry;
+use crate::agenda::history_left;
+use crate::effects::{Effect, effect_of};
 use crate::gate::Gate;
-use crate::pace::{Effect, Pace, effect_of};
+use crate::holding::{hold, hold_for, hold_next};
+use crate::pace::Pace;
 use drive::{Drive, Session};
 use history_cleaner::{Rounds, Turn, sweep, visit};
 use s4_types::{Bytes, Moment, ObjectId, Refusal, Reply, Request, Role};
@@ -21,84 +23,9 @@ use segment_copier::{
 use segment_word::Naming;
 use serving::Backend;
 use std::alloc::Global;
-use std::hint::spin_loop;
 use std::marker::Model;
-use std::sync::{Mutex, MutexGuard, Wait};
-use std::thread::yield_now;
+use std::sync::{Mutex, Wait};
 use time_read::ReadPlan;
-
-/// How often a session looks whether the lock is free before it sleeps: a small request holds it for some
-/// microseconds, which is less than it takes to wake.
-const LOOKS: usize = 300;
-
-/// Whether a session leaves the lock to cleaner or copier.
-fn gives_way(pace: Option<&Pace>) -> bool {
-    match pace {
-        Some(pace) => pace.is_lock_wanted(),
-        None => false,
-    }
-}
-
-/// The drive, once the lock is had. Where cleaner or copier waits for it, that one has it first.
-fn hold<'a, J: Naming>(
-    rt: &impl Wait,
-    drive: &'a Mutex<Drive<J>>,
-    pace: Option<&Pace>,
-) -> MutexGuard<'a, Drive<J>> {
-    for _ in 0..LOOKS {
-        if gives_way(pace) {
-            yield_now();
-        } else if let Some(held) = drive.try_lock() {
-            return held;
-        } else {
-            spin_loop();
-        }
-    }
-    drive.lock(rt)
-}
-
-/// The drive, once cleaner or copier has the lock.
-fn hold_next<'a, J: Naming>(
-    rt: &impl Wait,
-    drive: &'a Mutex<Drive<J>>,
-    pace: &Pace,
-) -> MutexGuard<'a, Drive<J>> {
-    pace.want_lock();
-    let held = hold(rt, drive, None);
-    pace.have_lock();
-    held
-}
-
-/// A request is asked: whether it is a change that is to wait for the cleaner.
-fn is_pressed<J: Naming>(rt: &impl Wait, drive: &Drive<J>, pace: &Pace, effect: &Effect) -> bool {
-    match effect {
-        Effect::Changes(object) => {
-            pace.count(rt, drive, *object);
-            pace.is_pressed(rt, drive, *object)
-        }
-        Effect::Hides(_) | Effect::Reads => false,
-    }
-}
-
-/// The drive for a request, once the lock is had. A change for which there may be too little room, or whose object's chain is nearly
-/// full, lets the cleaner go a whole round first.
-fn hold_for<'a, J: Naming>(
-    rt: &impl Wait,
-    drive: &'a Mutex<Drive<J>>,
-    pace: Option<&Pace>,
-    effect: &Effect,
-) -> MutexGuard<'a, Drive<J>> {
-    let held = hold(rt, drive, pace);
-    let Some(waits) = pace else {
-        return held;
-    };
-    if !is_pressed(rt, &held, waits, effect) {
-        return held;
-    }
-    drop(held);
-    waits.await_round(rt);
-    hold(rt, drive, pace)
-}
 
 /// A session of a role.
 pub(crate) fn enter<J: Naming>(
@@ -136,9 +63,15 @@ fn resolve<J: Naming>(
 }
 
 /// A request was answered, and the lock is still held.
-fn tell(rt: &impl Wait, pace: Option<&Pace>, effect: &Effect, reply: &Reply) {
+fn note<J: Naming>(
+    rt: &impl Wait,
+    drive: &Drive<J>,
+    pace: Option<&Pace>,
+    effect: &Effect,
+    reply: &Reply,
+) {
     if let Some(pace) = pace {
-        pace.tell(rt, effect, reply);
+        pace.note(rt, drive, effect, reply);
     }
 }
 
@@ -158,7 +91,7 @@ fn ask<J: Naming>(
     let mut drive = hold_for(rt, drive, pace, &effect);
     drive.rules();
     let reply = drive.request(session, request, now);
-    tell(rt, pace, &effect, &reply);
+    note(rt, &drive, pace, &effect, &reply);
     reply
 }
 
@@ -184,16 +117,15 @@ fn settle<J: Naming>(
     object: ObjectId,
     is_cleaned: bool,
 ) {
-    let oldest = if is_cleaned {
-        oldest_entry(drive, object)
+    if is_cleaned {
+        let left = history_left(drive, object);
+        pace.settle(rt, drive, object, left);
     } else {
-        Some(Moment::new(0))
-    };
-    pace.settle(rt, object, oldest);
-    pace.look(drive);
+        pace.keep(rt, drive, object);
+    }
 }
 
-/// A turn of a round over all objects was taken, and the lock is still held. Behind the last round nothing is visited any more.
+/// A turn of a round over all objects was taken, and the lock is still held. After the last round nothing is visited any more.
 fn settle_turn<J: Naming>(
     rt: &impl Wait,
     drive: &mut Drive<J>,
@@ -202,10 +134,10 @@ fn settle_turn<J: Naming>(
     is_last: bool,
 ) {
     match turn {
-        _ if is_last => pace.look(drive),
+        _ if is_last => pace.look(rt, drive),
         Turn::Cleaned(object) => settle(rt, drive, pace, *object, true),
         Turn::PassedOver(object, _) => settle(rt, drive, pace, *object, false),
-        Turn::Ended => pace.look(drive),
+        Turn::Ended => pace.look(rt, drive),
     }
 }
 
@@ -250,7 +182,7 @@ pub(crate) fn take_sweep<J: Naming>(rt: &impl Wait, drive: &Mutex<Drive<J>>, pac
     let mut drive = hold_next(rt, drive, pace);
     drive.rules();
     sweep(&mut drive);
-    pace.look(&drive);
+    pace.look(rt, &drive);
 }
 
 /// What the copier is to move next, and a plan of that, made under the lock, where there is something to be moved. Its session
@@ -304,19 +236,19 @@ pub(crate) fn gather_next<J: Naming>(
     let mut drive = hold_next(rt, drive, pace);
     drive.rules();
     let gathered = gather(alloc, &mut drive, session);
-    pace.look(&drive);
+    pace.look(rt, &drive);
     gathered
 }
 
-/// The frames are emptied that can be, under the lock. How many frames are free then is told the pace.
+/// The frames are emptied that can be, under the lock. How many frames are free then is noted.
 pub(crate) fn release_frames<J: Naming>(rt: &impl Wait, drive: &Mutex<Drive<J>>, pace: &Pace)
     ensures { SharedSweep J.base }
 {
     let mut drive = hold_next(rt, drive, pace);
     drive.rules();
     sweep(&mut drive);
-    pace.look(&drive);
-    pace.count_free(free_frames(&mut drive));
+    let frames = free_frames(&mut drive);
+    pace.count_free(rt, &drive, frames);
 }
 
 /// The reply to a Read that was planned so: the bytes that the plan names, where there is memory for them.

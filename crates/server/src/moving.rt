@@ -3,6 +3,7 @@ ghost use Rattle.std.specs.Prelude.{◌≡◌, ◌+◌, ◌^◌, ◌<◌, MatchR
 ghost use Rattle.s4_types.specs.declared.refusals.Refusal.TheVariants.{Busy};
 ghost use Rattle.server.specs.Moving.{SharedMove, IsMoving, is_planned, is_moved};
 
+use crate::gate::{Gate, UpkeepStep};
 use crate::locked::{enter, plan_next, put_in_place};
 use crate::pace::Pace;
 use drive::{Drive, Session};
@@ -10,13 +11,7 @@ use s4_types::{Refusal, Role};
 use segment_copier::Candidate;
 use segment_word::Naming;
 use std::alloc::Global;
-use std::sync::atomic::{AtomicBool, Ordering};
 use std::sync::{Mutex, Wait};
-use std::thread::{sleep, yield_now};
-use std::time::{Clock, Duration};
-
-/// How long the copier rests where it moved nothing, in microseconds.
-const REST: u64 = 1000;
 
 /// What a step of the copier came to.
 #[derive(Clone, Copy)]
@@ -84,29 +79,16 @@ fn move_next<J: Naming>(
     }
 }
 
-/// Rests behind a step, until there is too little room and something may have become sparse, or all sessions have ended.
-fn rest<R: Wait + Clock>(rt: &R, pace: &Pace, stirred: u64, step: &MoveStep, ended: &AtomicBool) {
-    if matches!(step, MoveStep::Moved(_)) && pace.is_scarce() {
-        yield_now();
-        return;
-    }
-    for _ in rt.forever() {
-        sleep(rt, Duration::from_micros(REST));
-        if ended.load(Ordering::SeqCst) || pace.is_scarce() && pace.stirred() != stirred {
-            return;
-        }
-    }
-}
-
-/// Moves what is to be moved, one step and then others while room is short, until all sessions have ended. The step that is under way then is
-/// taken to its end. Busy where the drive has no seat for the copier's session: nothing is moved then.
+/// Moves what is to be moved, one step and then others while room is short, until all sessions have
+/// ended. The step that is under way then is taken to its end. Busy where the drive has no seat for
+/// the copier's session: nothing is moved then.
 #[tactic(auto, using(crate::proofs::Stepping::moved_first, crate::proofs::Stepping::moved_more, crate::proofs::Stepping::moved_ends))]
-pub(crate) fn keep_moving<J: Naming, R: Wait + Clock>(
+pub(crate) fn keep_moving<J: Naming, R: Wait, G: Gate>(
     rt: &R,
     alloc: Global,
     drive: &Mutex<Drive<J>>,
     pace: &Pace,
-    ended: &AtomicBool,
+    gate: &G,
 ) -> Result<Moves, Refusal>
     ensures { MatchResult result (IsMoving J.base) (λ e. e ≡ Busy) }
 {
@@ -116,13 +98,15 @@ pub(crate) fn keep_moving<J: Naming, R: Wait + Clock>(
         moved: 0,
     };
     for _turn in rt.forever() {
-        let stirred = pace.stirred();
+        gate.upkeep(UpkeepStep::StepBegins);
+        let seen = pace.begin_step(rt);
         let step = move_next(rt, alloc, drive, pace, &mut session);
         moves.count(&step);
-        if ended.load(Ordering::SeqCst) {
+        let has_moved = matches!(step, MoveStep::Moved(_));
+        gate.upkeep(UpkeepStep::CopierRests);
+        if pace.await_step(rt, seen, has_moved) {
             return Ok(moves);
         }
-        rest(rt, pace, stirred, &step, ended);
     }
     unreachable!()
 }

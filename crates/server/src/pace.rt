@@ -1,98 +1,28 @@
-//! What sessions, cleaner and copier tell each other beside the drive. Nothing that is answered rests on it.
-use crate::agenda::Agenda;
+//! The lock of what sessions, cleaner and copier wait for, and its one condition variable. Each
+//! method is one section of the lock. Nothing that is answered rests on it.
+use crate::agenda::{History, is_short};
+use crate::effects::{Effect, is_nearly_full};
+use crate::progress::{Begun, Progress};
 use drive::Drive;
-use s4_types::limits::{CHAIN_ENTRY_BYTES, MOVE_BLOCKS, PAYLOAD_BLOCKS, RESERVE_BLOCKS};
-use s4_types::{Moment, ObjectId, Reply, Request};
-use segment_table::OverFrames;
+use s4_types::{Moment, ObjectId, Reply};
 use segment_word::Naming;
 use std::alloc::Global;
 use std::sync::atomic::{AtomicU64, Ordering};
-use std::sync::{Condvar, Mutex, Wait};
-use std::thread::sleep;
+use std::sync::{Condvar, CondvarTimeouts, Mutex, MutexGuard, Wait};
 use std::time::{Clock, Duration};
 
-/// Bytes of a chain past which it is nearly full: the largest change still fits twice.
-const NEARLY_FULL: usize = CHAIN_ENTRY_BYTES / 4 * 3;
+/// How long sessions wait for the cleaner before they begin, in milliseconds: it may have no thread.
+const START_MILLISECONDS: u64 = 100;
 
-/// How often sessions look whether the cleaner is at work before they begin, a millisecond apart.
-const START_LOOKS: usize = 100;
-
-/// Room that is none: the smallest Write takes as much.
-const LITTLE_ROOM: usize = 2;
-
-/// Blocks that a round writes for an object, by which the reserve is judged: a checkpoint and a journal block.
-const ROUND_BLOCKS: u64 = 2;
-
-/// The cleaner's rounds.
-#[derive(Clone, Copy)]
-struct Progress {
-    /// The cleaner is at work, and takes another round where one is wanted.
-    is_going: bool,
-    is_wanted: bool,
-    begun: u64,
-    ended: u64,
-    /// The first round that began after moments were hidden last.
-    frees: u64,
-}
-
-/// How upkeep gets on and what it is needed for. Its lock is held for a few steps alone, and the drive's is never asked for under it.
+/// How upkeep gets on and what it is needed for.
 #[derive(Drop)]
 pub(crate) struct Pace {
     progress: Mutex<Progress>,
     /// Whoever waits for progress is woken by this.
     news: Condvar,
-    /// Blocks of the drive, and how many changes may still take, when it was last looked at.
-    blocks: u64,
-    room: AtomicU64,
-    /// The clock from which on a round is worth its cost: a quarter of a window later than the last one began.
-    ripe: AtomicU64,
-    clock: AtomicU64,
-    window: AtomicU64,
-    floor: AtomicU64,
-    /// The objects that are to be visited. It is asked for under the drive's lock, too.
-    agenda: Mutex<Agenda>,
-    /// How much of the reserve is left, and the clock when there last was room for a change.
-    reserve: AtomicU64,
-    roomy: AtomicU64,
-    /// Changes that were asked so far, and how many of these there are to be before a round is due.
-    asked: AtomicU64,
-    due: AtomicU64,
-    /// How many of cleaner and copier wait for the drive's lock.
-    upkeep: AtomicU64,
-}
-
-/// What a request does, if it is accepted, to what can be freed.
-#[derive(Clone, Copy)]
-pub(crate) enum Effect {
-    /// Nothing.
-    Reads,
-    /// An object is changed; number 0 where it is made.
-    Changes(ObjectId),
-    /// Moments of an object are hidden, or of all where its number is 0: by a flush, or another window.
-    Hides(ObjectId),
-}
-
-/// What a request does to what can be freed.
-pub(crate) fn effect_of(request: &Request) -> Effect {
-    match request {
-        Request::Create { .. } => Effect::Changes(ObjectId::new(0)),
-        Request::Delete { object }
-        | Request::Write { object, .. }
-        | Request::Append { object, .. }
-        | Request::Truncate { object, .. }
-        | Request::SetAttr { object, .. } => Effect::Changes(*object),
-        Request::SetWindow { .. } | Request::Flush { .. } => Effect::Hides(ObjectId::new(0)),
-        Request::FlushO { object, .. } => Effect::Hides(*object),
-        Request::Read { .. } | Request::GetAttr { .. } => Effect::Reads,
-    }
-}
-
-/// Whether the chain of an object is nearly full.
-fn is_nearly_full<J: Naming>(drive: &Drive<J>, object: ObjectId) -> bool {
-    match drive.row(object) {
-        Some(row) => row.journal_bytes as usize > NEARLY_FULL,
-        None => false,
-    }
+    /// How many of cleaner and copier wait for the drive's lock, as the struct has it. Sessions look
+    /// at this copy while they try that lock, and decide no sleep by it.
+    wanting: AtomicU64,
 }
 
 impl Pace {
@@ -100,234 +30,245 @@ impl Pace {
     pub(crate) fn new<J: Naming>(rt: &impl Wait, alloc: Global, drive: &Mutex<Drive<J>>) -> Self {
         let drive = drive.lock(rt);
         Pace {
-            progress: Mutex::new(Progress {
-                is_going: false,
-                is_wanted: false,
-                begun: 0,
-                ended: 0,
-                frees: 0,
-            }),
+            progress: Mutex::new(Progress::new(alloc, &drive)),
             news: Condvar::new(),
-            blocks: drive.frame_count() as u64 * PAYLOAD_BLOCKS as u64,
-            room: AtomicU64::new(drive.room() as u64),
-            ripe: AtomicU64::new(0),
-            clock: AtomicU64::new(drive.clock().number()),
-            window: AtomicU64::new(drive.window()),
-            floor: AtomicU64::new(drive.floor().number()),
-            agenda: Mutex::new(Agenda::new(alloc)),
-            reserve: AtomicU64::new(RESERVE_BLOCKS as u64),
-            roomy: AtomicU64::new(drive.clock().number()),
-            asked: AtomicU64::new(0),
-            due: AtomicU64::new(0),
-            upkeep: AtomicU64::new(0),
+            wanting: AtomicU64::new(0),
         }
     }
 
-    /// One of cleaner and copier is to have the drive's lock next.
-    pub(crate) fn want_lock(&self) {
-        self.upkeep.fetch_add(1, Ordering::SeqCst);
-    }
-
-    /// It has it.
-    pub(crate) fn have_lock(&self) {
-        self.upkeep.fetch_sub(1, Ordering::SeqCst);
-    }
-
-    /// Whether the drive's lock is to be left to cleaner or copier.
-    pub(crate) fn is_lock_wanted(&self) -> bool {
-        self.upkeep.load(Ordering::SeqCst) > 0
-    }
-
-    /// Whether less room than an eighth of the drive is left, or the object's chain is nearly full.
-    fn is_short<J: Naming>(&self, drive: &Drive<J>, object: ObjectId) -> bool {
-        (drive.room() as u64) < self.blocks / 8 || is_nearly_full(drive, object)
-    }
-
-    /// Whether enough history may have aged since the last round for another one to gain something. With too little room for the
-    /// copier, and too few blocks left for the objects that have history, all of that is to have aged: then a round writes least and
-    /// frees most.
-    fn is_ripe<J: Naming>(&self, rt: &impl Wait, drive: &Drive<J>) -> bool {
-        let clock = drive.clock().number();
-        if clock < self.ripe.load(Ordering::SeqCst) {
-            return false;
+    /// Ends a section of the lock: whoever may go on is notified before it is let go.
+    fn end_section(&self, mut progress: MutexGuard<'_, Progress>) {
+        if progress.take_news() {
+            self.news.notify_all();
         }
-        let room = drive.room() as u64;
-        if room >= MOVE_BLOCKS as u64 {
-            return true;
-        }
-        let left = self.reserve.load(Ordering::SeqCst).saturating_add(room);
-        let written = self.agenda.lock(rt).count().saturating_mul(ROUND_BLOCKS);
-        let roomy = self.roomy.load(Ordering::SeqCst);
-        written <= left || roomy.saturating_add(drive.window()) <= clock
     }
 
-    /// Whether the round that frees what was hidden last hasn't ended yet.
-    fn is_hidden_held(&self, rt: &impl Wait) -> bool {
+    /// Sessions wait until the cleaner is at work, and not for long.
+    pub(crate) fn await_start<R: Wait + Clock>(&self, rt: &R) {
         let progress = self.progress.lock(rt);
-        progress.ended < progress.frees
+        let most = Duration::from_millis(START_MILLISECONDS);
+        let (_progress, _) = self
+            .news
+            .wait_timeout_while(rt, progress, most, |progress| !progress.is_going());
     }
 
-    /// Whether a change of an object is to wait for the cleaner.
-    pub(crate) fn is_pressed<J: Naming>(
+    /// A change of an object is asked, and the drive's lock is held. Answers whether it is to wait for
+    /// a round.
+    pub(crate) fn count<J: Naming>(
         &self,
         rt: &impl Wait,
         drive: &Drive<J>,
         object: ObjectId,
     ) -> bool {
-        self.is_short(drive, object) && (self.is_ripe(rt, drive) || self.is_hidden_held(rt))
+        let is_nearly_full = is_nearly_full(drive, object);
+        let mut progress = self.progress.lock(rt);
+        progress.look(drive);
+        let is_pressed = progress.count(is_nearly_full);
+        self.end_section(progress);
+        is_pressed
     }
 
-    /// The drive was looked at.
-    pub(crate) fn look<J: Naming>(&self, drive: &Drive<J>) {
-        self.room.store(drive.room() as u64, Ordering::SeqCst);
-        self.clock.store(drive.clock().number(), Ordering::SeqCst);
-        self.window.store(drive.window(), Ordering::SeqCst);
-        self.floor.store(drive.floor().number(), Ordering::SeqCst);
-        if drive.room() >= LITTLE_ROOM {
-            self.roomy.store(drive.clock().number(), Ordering::SeqCst);
-            self.reserve.store(RESERVE_BLOCKS as u64, Ordering::SeqCst);
+    /// A change waits until the cleaner has gone a whole round from now on, or the one that frees what
+    /// was hidden last. Not where no cleaner is at work.
+    pub(crate) fn await_round(&self, rt: &impl Wait) {
+        let mut progress = self.progress.lock(rt);
+        let round = progress.want_round();
+        if progress.take_news() {
+            self.news.notify_all();
         }
+        let _progress = self
+            .news
+            .wait_while(rt, progress, |progress| progress.is_to_come(round));
     }
 
-    /// A request was answered, and the drive's lock is held. What it has changed is to be visited; where it has hidden moments, the
-    /// cleaner is called.
-    pub(crate) fn tell(&self, rt: &impl Wait, effect: &Effect, reply: &Reply) {
-        match effect {
-            Effect::Changes(object) => self.tell_change(rt, *object, reply),
-            Effect::Hides(object) if matches!(reply, Reply::Changed(_)) => {
-                self.agenda.lock(rt).hide(*object);
-                self.hide(rt);
+    /// A request was answered, and the drive's lock is held. What it has changed is to be visited; where
+    /// it has hidden moments that could be read, the cleaner is called.
+    pub(crate) fn note<J: Naming>(
+        &self,
+        rt: &impl Wait,
+        drive: &Drive<J>,
+        effect: &Effect,
+        reply: &Reply,
+    ) {
+        match (effect, reply) {
+            (Effect::Changes(_), Reply::Created(made, moment)) => {
+                self.note_change(rt, *made, *moment);
             }
-            Effect::Hides(_) | Effect::Reads => {}
-        }
-    }
-
-    /// A change of an object was answered, or the making of one.
-    fn tell_change(&self, rt: &impl Wait, object: ObjectId, reply: &Reply) {
-        match reply {
-            Reply::Created(made, moment) => self.agenda.lock(rt).add(*made, *moment),
-            Reply::Changed(moment) => self.agenda.lock(rt).add(object, *moment),
+            (Effect::Changes(object), Reply::Changed(moment)) => {
+                self.note_change(rt, *object, *moment);
+            }
+            (Effect::Deletes(object), Reply::Changed(moment)) => {
+                self.note_delete(rt, *object, *moment, is_short(drive, *object));
+            }
+            (Effect::Hides(object, last), Reply::Changed(_)) if *last >= drive.floor() => {
+                self.hide(rt, *object);
+            }
             _ => {}
         }
     }
 
-    /// An object had its turn, and has entries from this moment on, or none. The drive's lock is held.
-    pub(crate) fn settle(&self, rt: &impl Wait, object: ObjectId, oldest: Option<Moment>) {
-        self.agenda.lock(rt).settle(object, oldest);
-    }
-
-    /// So many frames are free, and of the reserve no more is left.
-    pub(crate) fn count_free(&self, frames: u16) {
-        self.reserve
-            .store(frames as u64 * PAYLOAD_BLOCKS as u64, Ordering::SeqCst);
-    }
-
-    /// A change of an object is asked. The cleaner is called where room is below a quarter or the chain is nearly full, and
-    /// twice as many changes were asked since its last round as that had turns, and it is ripe.
-    pub(crate) fn count<J: Naming>(&self, rt: &impl Wait, drive: &Drive<J>, object: ObjectId) {
-        self.look(drive);
-        let asked = self.asked.fetch_add(1, Ordering::SeqCst).saturating_add(1);
-        if asked < self.due.load(Ordering::SeqCst) || !self.is_ripe(rt, drive) {
-            return;
-        }
-        if (drive.room() as u64) < self.blocks / 4 || is_nearly_full(drive, object) {
-            self.due.store(u64::MAX, Ordering::SeqCst);
-            self.call(rt);
-        }
-    }
-
-    /// Waits until the cleaner is at work, and not for long: there may be no thread for it.
-    pub(crate) fn await_start<R: Wait + Clock>(&self, rt: &R) {
-        for _ in 0..START_LOOKS {
-            if self.progress.lock(rt).is_going {
-                return;
-            }
-            sleep(rt, Duration::from_millis(1));
-        }
-    }
-
-    /// How many changes and rounds there were so far: where there were no more, the copier finds nothing new.
-    pub(crate) fn stirred(&self) -> u64 {
-        self.asked.load(Ordering::SeqCst)
-    }
-
-    /// Whether there is too little room for the copier's moves.
-    pub(crate) fn is_tight(&self) -> bool {
-        self.room.load(Ordering::SeqCst) < MOVE_BLOCKS as u64
-    }
-
-    /// Whether the copier is to make room: it has enough for a move, and beside that less than a quarter of the drive is left.
-    pub(crate) fn is_scarce(&self) -> bool {
-        let scarce = (self.blocks / 4).saturating_add(MOVE_BLOCKS as u64);
-        !self.is_tight() && self.room.load(Ordering::SeqCst) < scarce
-    }
-
-    /// The cleaner is to go round.
-    pub(crate) fn call(&self, rt: &impl Wait) {
+    /// An object was changed at this moment.
+    fn note_change(&self, rt: &impl Wait, object: ObjectId, moment: Moment) {
         let mut progress = self.progress.lock(rt);
-        progress.is_wanted = true;
-        self.news.notify_all();
+        progress.note_change(object, moment);
     }
 
-    /// Moments were hidden. The cleaner is called, and a change that lacks room waits for the round that it begins then.
-    fn hide(&self, rt: &impl Wait) {
+    /// An object was deleted at this moment, whose entries may fit one journal block.
+    fn note_delete(&self, rt: &impl Wait, object: ObjectId, moment: Moment, is_short: bool) {
         let mut progress = self.progress.lock(rt);
-        progress.frees = progress.begun.saturating_add(1);
-        progress.is_wanted = true;
-        self.news.notify_all();
+        progress.note_delete(object, moment, is_short);
     }
 
-    /// Waits until the cleaner has gone a whole round from now on, or the one that frees what was hidden last. Not where it isn't
-    /// at work.
-    pub(crate) fn await_round(&self, rt: &impl Wait) {
+    /// Moments of an object were hidden, or of all where its number is 0.
+    fn hide(&self, rt: &impl Wait, object: ObjectId) {
         let mut progress = self.progress.lock(rt);
-        let awaited = if progress.ended < progress.frees {
-            progress.frees
-        } else {
-            progress.begun.saturating_add(1)
-        };
-        progress.is_wanted = true;
-        self.news.notify_all();
-        let _progress = self.news.wait_while(rt, progress, |progress| {
-            progress.is_going && progress.ended < awaited
-        });
+        progress.hide(object);
+        self.end_section(progress);
     }
 
-    /// A round begins: the objects that it is to visit, by ascending number. None where it is to visit all.
-    pub(crate) fn begin_round(&self, rt: &impl Wait) -> Option<Vec<ObjectId>> {
-        self.note_begin(rt);
-        let floor = Moment::new(self.floor.load(Ordering::SeqCst));
-        self.agenda.lock(rt).begin_round(floor)
-    }
-
-    /// It is noted that a round begins.
-    fn note_begin(&self, rt: &impl Wait) {
-        let clock = self.clock.load(Ordering::SeqCst);
-        let part = self.window.load(Ordering::SeqCst) / 4;
-        self.ripe
-            .store(clock.saturating_add(part), Ordering::SeqCst);
+    /// A round begins.
+    pub(crate) fn begin_round(&self, rt: &impl Wait) -> Begun {
         let mut progress = self.progress.lock(rt);
-        progress.is_going = true;
-        progress.is_wanted = false;
-        progress.begun = progress.begun.saturating_add(1);
+        let begun = progress.begin_round();
+        self.end_section(progress);
+        begun
+    }
+
+    /// An object had its turn, and the drive's lock is held. It has this history left, or none.
+    pub(crate) fn settle<J: Naming>(
+        &self,
+        rt: &impl Wait,
+        drive: &Drive<J>,
+        object: ObjectId,
+        left: Option<History>,
+    ) {
+        let mut progress = self.progress.lock(rt);
+        progress.settle(object, left);
+        progress.look(drive);
+        self.end_section(progress);
+    }
+
+    /// An object could not be cleaned, and the drive's lock is held.
+    pub(crate) fn keep<J: Naming>(&self, rt: &impl Wait, drive: &Drive<J>, object: ObjectId) {
+        let mut progress = self.progress.lock(rt);
+        progress.keep(object);
+        progress.look(drive);
+        self.end_section(progress);
+    }
+
+    /// The drive was looked at, and its lock is held.
+    pub(crate) fn look<J: Naming>(&self, rt: &impl Wait, drive: &Drive<J>) {
+        let mut progress = self.progress.lock(rt);
+        progress.look(drive);
+        self.end_section(progress);
+    }
+
+    /// The same, and so many frames were free.
+    pub(crate) fn count_free<J: Naming>(&self, rt: &impl Wait, drive: &Drive<J>, frames: u16) {
+        let mut progress = self.progress.lock(rt);
+        progress.look(drive);
+        progress.count_free(frames);
+        self.end_section(progress);
     }
 
     /// A round of so many turns has ended, and there is none after the last.
     pub(crate) fn end_round(&self, rt: &impl Wait, turns: u64, is_last: bool) {
-        let asked = self.asked.fetch_add(1, Ordering::SeqCst);
-        let due = asked.saturating_add(turns.saturating_mul(2));
-        self.due.store(due, Ordering::SeqCst);
         let mut progress = self.progress.lock(rt);
-        progress.ended = progress.begun;
-        progress.is_going = !is_last;
-        self.news.notify_all();
+        progress.end_round(turns, is_last);
+        self.end_section(progress);
     }
 
-    /// The cleaner waits until another round is wanted.
+    /// The cleaner waits until another round is needed, or all others have ended.
     pub(crate) fn await_call(&self, rt: &impl Wait) {
         let progress = self.progress.lock(rt);
         let _progress = self
             .news
-            .wait_while(rt, progress, |progress| !progress.is_wanted);
+            .wait_while(rt, progress, |progress| progress.is_idle());
+    }
+
+    /// All sessions have ended.
+    pub(crate) fn end_sessions(&self, rt: &impl Wait) {
+        let mut progress = self.progress.lock(rt);
+        progress.end_sessions();
+        self.end_section(progress);
+    }
+
+    /// Whether there is too little room for the copier's moves.
+    pub(crate) fn is_tight(&self, rt: &impl Wait) -> bool {
+        self.progress.lock(rt).is_tight()
+    }
+
+    /// The copier takes a step: how much there was so far that it may see.
+    pub(crate) fn begin_step(&self, rt: &impl Wait) -> u64 {
+        self.progress.lock(rt).stirred()
+    }
+
+    /// The copier took a step that saw so much, and waits until it has another one to take, or all
+    /// sessions have ended. Answers whether they have.
+    pub(crate) fn await_step(&self, rt: &impl Wait, seen: u64, has_moved: bool) -> bool {
+        let mut progress = self.progress.lock(rt);
+        progress.plan_step(seen, has_moved);
+        let progress = self
+            .news
+            .wait_while(rt, progress, |progress| progress.rests());
+        progress.is_served()
+    }
+
+    /// The copier has ended, or had no seat.
+    pub(crate) fn end_moves(&self, rt: &impl Wait) {
+        let mut progress = self.progress.lock(rt);
+        progress.end_moves();
+        self.end_section(progress);
+    }
+
+    /// Whether cleaner or copier waits for the drive's lock: to be asked while one tries to have it.
+    pub(crate) fn is_drive_wanted(&self) -> bool {
+        self.wanting.load(Ordering::SeqCst) > 0
+    }
+
+    /// A session is about to wait for the drive's lock. Where cleaner or copier waits for it, that one
+    /// has it first, once.
+    pub(crate) fn ask_drive(&self, rt: &impl Wait) {
+        let mut progress = self.progress.lock(rt);
+        let taken = progress.taken();
+        if progress.is_wanted_since(taken) {
+            progress.begin_giving_way();
+            progress = self.news.wait_while(rt, progress, |progress| {
+                progress.is_wanted_since(taken)
+            });
+            progress.end_giving_way();
+        }
+        progress.ask_drive();
+    }
+
+    /// That session has the drive's lock.
+    pub(crate) fn enter_drive(&self, rt: &impl Wait) {
+        let mut progress = self.progress.lock(rt);
+        progress.enter_drive();
+        self.end_section(progress);
+    }
+
+    /// Cleaner or copier is about to take the drive's lock. Where a session waits for it, that one has
+    /// it first, once.
+    pub(crate) fn want_drive(&self, rt: &impl Wait) {
+        let mut progress = self.progress.lock(rt);
+        let entered = progress.entered();
+        if progress.is_asked_since(entered) {
+            progress.begin_giving_way();
+            progress = self.news.wait_while(rt, progress, |progress| {
+                progress.is_asked_since(entered)
+            });
+            progress.end_giving_way();
+        }
+        let wanting = progress.want_drive();
+        self.wanting.store(wanting, Ordering::SeqCst);
+    }
+
+    /// It has the drive's lock.
+    pub(crate) fn take_drive(&self, rt: &impl Wait) {
+        let mut progress = self.progress.lock(rt);
+        let wanting = progress.take_drive();
+        self.wanting.store(wanting, Ordering::SeqCst);
+        self.end_section(progress);
     }
 }

@@ -7,6 +7,7 @@ use crate::gate::Gate;
 use crate::locked::Locked;
 use crate::pace::Pace;
 use drive::{Drive, Session};
+use own_stacks::for_each_mut_with_stack;
 use s4_model::laws::the_state_goes_on_record_by_record;
 use s4_types::{Moment, Refusal, Role};
 use segment_word::Naming;
@@ -14,10 +15,14 @@ use serving::{ServeEnd, Sink, Source, serve};
 use std::alloc::Global;
 use std::sync::atomic::AtomicU64;
 use std::sync::{Mutex, Wait};
-use std::thread::{Threads, for_each_mut};
+use std::thread::Threads;
 
 /// Sessions that are served at once, at most.
 pub const MOST_SESSIONS: usize = 16;
+
+/// How many bytes of stack each thread has that serves, cleans or copies. None was seen to use more
+/// than 57,984, what the system keeps there included.
+pub(crate) const STACK_BYTES: usize = 512 << 10;
 
 /// What became of a session.
 #[derive(Clone, Copy, PartialEq, Eq)]
@@ -150,5 +155,5 @@ pub(crate) fn run_beside<
             client,
         );
     };
-    for_each_mut(rt, clients, MOST_SESSIONS, &serve_one);
+    for_each_mut_with_stack(rt, STACK_BYTES, clients, &serve_one);
 }

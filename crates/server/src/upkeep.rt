@@ -5,28 +5,29 @@ ghost use Rattle.server.specs.Attending.{IsAttendedClient};
 ghost use Rattle.server.specs.Moving.{IsMoving};
 ghost use Rattle.server.specs.Upkeep.{IsRound, IsLastRound, SharedVisit, SharedSweep, ends_round};
 
-use crate::gate::Gate;
+use crate::gate::{Gate, UpkeepStep};
 use crate::gathering::{gather_all, gather_between};
 use crate::locked::{enter, take_sweep, take_turn, take_visit};
 use crate::moving::{Moves, keep_moving};
 use crate::pace::Pace;
-use crate::running::{Client, run_beside};
+use crate::progress::Begun;
+use crate::running::{Client, STACK_BYTES, run_beside};
 use drive::{Drive, Session};
 use history_cleaner::{Rounds, Turn};
+use own_stacks::join_with_stack;
 use s4_types::{Moment, ObjectId, Refusal, Role};
 use segment_word::Naming;
 use serving::{Sink, Source};
 use std::alloc::Global;
-use std::sync::atomic::{AtomicBool, Ordering};
 use std::sync::{Mutex, Wait};
-use std::thread::{Threads, join, yield_now};
+use std::thread::Threads;
 use std::time::Clock;
 
 /// A whole round of the cleaner over all objects of a drive, by ascending number.
 #[derive(Clone, Copy)]
 pub struct Round {
     /// All sessions had ended when it began, and the copier too.
-    pub is_behind: bool,
+    pub is_last: bool,
     /// How many objects had their turn.
     pub turns: u64,
 }
@@ -56,20 +57,19 @@ fn go_round<J: Naming>(
     drive: &Mutex<Drive<J>>,
     pace: &Pace,
     seat: &mut Option<Session<J>>,
-    is_behind: bool,
+    is_last: bool,
 ) -> Round
     ensures round { IsRound J.base result }
-    ensures behind { result.is_behind ≡ is_behind }
+    ensures last { result.is_last ≡ is_last }
 {
     let mut rounds = Rounds::new();
     let mut turns = 0;
-    while !is_end(take_turn(rt, alloc, drive, pace, &mut rounds, is_behind)) {
+    while !is_end(take_turn(rt, alloc, drive, pace, &mut rounds, is_last)) {
         turns += 1;
         gather_between(rt, alloc, drive, pace, seat, turns);
-        yield_now();
     }
     gather_all(rt, alloc, drive, pace, seat);
-    Round { is_behind, turns }
+    Round { is_last, turns }
 }
 
 /// A round over these objects alone, in the same way.
@@ -89,71 +89,75 @@ fn go_over<J: Naming>(
         take_visit(rt, alloc, drive, pace, *object);
         turns = turns.saturating_add(1);
         gather_between(rt, alloc, drive, pace, seat, turns);
-        yield_now();
     }
     take_sweep(rt, drive, pace);
     gather_all(rt, alloc, drive, pace, seat);
 }
 
-/// Goes round again and again: over the objects of which a turn may free something where these are known, else over all. Ends with a
-/// whole round that began when all others had ended.
-fn keep_up<J: Naming, R: Wait + Clock>(
+/// Goes round again and again: over the objects of which a turn may free something where these are
+/// known, else over all. Ends with a whole round that began when all others had ended.
+fn keep_up<J: Naming, R: Wait, G: Gate>(
     rt: &R,
     alloc: Global,
     drive: &Mutex<Drive<J>>,
     pace: &Pace,
-    ended: &AtomicBool,
+    gate: &G,
 ) -> Round
     ensures { IsLastRound J.base result }
 {
     // Without a seat it cleans all the same.
     let mut seat = enter(rt, drive, Some(pace), Role::Client).ok();
     for _ in rt.forever() {
-        let is_behind = ended.load(Ordering::SeqCst);
-        match pace.begin_round(rt) {
-            Some(objects) if !is_behind => {
+        gate.upkeep(UpkeepStep::RoundBegins);
+        let Begun { is_last, objects } = pace.begin_round(rt);
+        gate.upkeep(UpkeepStep::FirstTurn);
+        match objects {
+            Some(objects) => {
                 go_over(rt, alloc, drive, pace, &mut seat, objects.as_slice());
+                gate.upkeep(UpkeepStep::RoundEnds);
                 pace.end_round(rt, objects.len() as u64, false);
             }
-            _ => {
-                let round = go_round(rt, alloc, drive, pace, &mut seat, is_behind);
-                pace.end_round(rt, round.turns, is_behind);
-                if round.is_behind {
+            None => {
+                let round = go_round(rt, alloc, drive, pace, &mut seat, is_last);
+                gate.upkeep(UpkeepStep::RoundEnds);
+                pace.end_round(rt, round.turns, is_last);
+                if round.is_last {
                     return round;
                 }
             }
         }
+        gate.upkeep(UpkeepStep::CleanerRests);
         pace.await_call(rt);
     }
     unreachable!()
 }
 
-/// The cleaner and the copier beside sessions. The copier ends once all sessions have ended, and the cleaner with a whole round
-/// after that.
-fn keep_beside<J: Naming + Send + Sync, R: Threads + Wait + Clock + Sync>(
+/// The cleaner and the copier beside sessions. The copier ends once all sessions have ended, and the
+/// cleaner with a whole round after that.
+fn keep_beside<J: Naming + Send + Sync, R: Threads + Wait + Sync, G: Gate + Sync>(
     rt: &R,
     alloc: Global,
     drive: &Mutex<Drive<J>>,
     pace: &Pace,
-    attended: &AtomicBool,
+    gate: &G,
 ) -> Upkeep
     ensures round { IsLastRound J.base result.round }
     ensures moves { MatchResult result.moves (IsMoving J.base) (λ e. e ≡ Busy) }
 {
-    let ended = AtomicBool::new(false);
     let clean = || -> Round
         ensures { IsLastRound J.base result }
-    { keep_up(rt, alloc, drive, pace, &ended) };
+    { keep_up(rt, alloc, drive, pace, gate) };
     let copy = || -> Result<Moves, Refusal>
         ensures moves { MatchResult result (IsMoving J.base) (λ e. e ≡ Busy) }
     {
-        let moves = keep_moving(rt, alloc, drive, pace, attended);
-        ended.store(true, Ordering::SeqCst);
-        pace.call(rt);
+        let moves = keep_moving(rt, alloc, drive, pace, gate);
+        gate.upkeep(UpkeepStep::CopierEnds);
+        pace.end_moves(rt);
+        gate.upkeep(UpkeepStep::CopierReturns);
         moves
     };
     // Where there is no thread for the first, it is called after the second.
-    let (round, moves) = join(rt, clean, copy);
+    let (round, moves) = join_with_stack(rt, STACK_BYTES, clean, copy);
     Upkeep { round, moves }
 }
 
@@ -195,12 +199,11 @@ pub fn run_with_upkeep<
     ensures attended { (i : ℕ) (d : _) → i < vec_len clients
         → IsAttendedClient S.remaining W.passed S.failures W.failures J.base (record { start = start; tick = tick }) (slice_index_or clients.items i d) (slice_index_or result.0.items i d) }
 {
-    let attended = AtomicBool::new(false);
     let pace = Pace::new(rt, alloc, drive);
     let keep = || -> Upkeep
         ensures round { IsLastRound J.base result.round }
         ensures moves { MatchResult result.moves (IsMoving J.base) (λ e. e ≡ Busy) }
-    { keep_beside(rt, alloc, drive, &pace, &attended) };
+    { keep_beside(rt, alloc, drive, &pace, gate) };
     let attend = || -> Vec<Client<J, S, W>>
         requires count { vec_len clients ≤ 16 }
         requires readers { All (λ c. S.failures c.reader + 1 < 2 ^ 64) clients.items }
@@ -221,10 +224,12 @@ pub fn run_with_upkeep<
             tick,
             clients.as_mut_slice(),
         );
-        attended.store(true, Ordering::SeqCst);
+        gate.upkeep(UpkeepStep::SessionsEnd);
+        pace.end_sessions(rt);
+        gate.upkeep(UpkeepStep::SessionsReturn);
         clients
     };
     // Where there is no thread for the first, it is called after the second.
-    let (upkeep, clients) = join(rt, keep, attend);
+    let (upkeep, clients) = join_with_stack(rt, STACK_BYTES, keep, attend);
     (clients, upkeep)
 }

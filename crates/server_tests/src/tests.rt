@@ -18,10 +18,11 @@ macro_rules! client {
 mod clocks;
 mod failing;
 mod held;
+mod ordered;
 
 use drive::NewDrive;
 use segment_word::Naming;
-use server::{Client, Outcome};
+use server::{Client, Outcome, UpkeepStep};
 use serving::{MemorySink, MemorySource, ServeEnd};
 use std::alloc::Global;
 use std::marker::Brand;
@@ -30,6 +31,7 @@ use std::sync::atomic::{AtomicBool, Ordering};
 use std::sync::{Mutex, Wait};
 use std::test::Fail;
 use std::thread::{Threads, yield_now};
+use std::time::Clock;
 
 /// What a test does with a new drive of 16 frames, with a window of 100 moments.
 #[derive(Clone, Copy)]
@@ -41,10 +43,12 @@ enum Scene {
     FailsAbove(usize),
     /// So does what is below it.
     FailsBelow(usize),
+    /// Whoever comes to the first step is held until somebody has come to the second.
+    Ordered(UpkeepStep, UpkeepStep),
 }
 
 /// Plays a scene. The drive is let go here alone, since that is proved anew in each function that does so.
-fn play_named<J: Naming + Send + Sync, R: Abort + Threads + Wait + Sync>(
+fn play_named<J: Naming + Send + Sync, R: Abort + Threads + Wait + Clock + Sync>(
     rt: &R,
     alloc: Global,
     made: NewDrive,
@@ -61,10 +65,15 @@ fn play_named<J: Naming + Send + Sync, R: Abort + Threads + Wait + Sync>(
         Scene::Crowded => held::crowd_out(rt, alloc, &drive),
         Scene::FailsAbove(room) => failing::fail_above(rt, alloc, &drive, room),
         Scene::FailsBelow(room) => failing::fail_below(rt, alloc, &drive, room),
+        Scene::Ordered(held, until) => ordered::run_ordered(rt, alloc, &drive, held, until),
     }
 }
 
-fn play<R: Abort + Threads + Wait + Sync>(rt: &R, alloc: Global, scene: Scene) -> Result<(), Fail> {
+fn play<R: Abort + Threads + Wait + Clock + Sync>(
+    rt: &R,
+    alloc: Global,
+    scene: Scene,
+) -> Result<(), Fail> {
     let made = NewDrive::new(alloc, 16, 100)?;
     play_named::<Brand, R>(rt, alloc, made, scene)
 }

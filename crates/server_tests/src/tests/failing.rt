@@ -5,7 +5,7 @@ use crate::tests::{Scene, joined, play};
 use drive::Drive;
 use s4_types::{Moment, ObjectId, Reply, Request, Role};
 use segment_word::Naming;
-use server::{Gate, Locked};
+use server::{Gate, Locked, UpkeepStep};
 use serving::{Backend, MemorySource, ServeEnd, Sink, StreamFailed, Ticking, WriteSink, serve};
 use std::alloc::Global;
 use std::io::{self, ErrorKind, Write};
@@ -103,6 +103,8 @@ impl Gate for Asked {
     fn answered(&self, _session: usize, _call: u64) {
         self.count.fetch_add(1, Ordering::SeqCst);
     }
+
+    fn upkeep(&self, _step: UpkeepStep) {}
 }
 
 /// Serves the four requests to a writer that takes `room` bytes of the replies, fewer than there are. Of each request that was

@@ -4,7 +4,7 @@ use drive::Drive;
 use s4_types::Refusal::Busy;
 use s4_types::{Bytes, Moment, ObjectId, Request, Role};
 use segment_word::Naming;
-use server::{Client, Gate, Locked, Open, Outcome, run_sessions};
+use server::{Client, Gate, Locked, Open, Outcome, UpkeepStep, run_sessions};
 use serving::{Backend, MemorySink, MemorySource, ServeEnd};
 use std::alloc::Global;
 use std::process::Abort;
@@ -55,6 +55,8 @@ impl Gate for Turns {
             self.changed.store(true, Ordering::SeqCst);
         }
     }
+
+    fn upkeep(&self, _step: UpkeepStep) {}
 }
 
 /// Each session is held in its read until 16 are there. It counts the replies too.
@@ -80,6 +82,8 @@ impl Gate for Crowd {
     fn answered(&self, _session: usize, _call: u64) {
         self.answered.fetch_add(1, Ordering::SeqCst);
     }
+
+    fn upkeep(&self, _step: UpkeepStep) {}
 }
 
 /// The sealed bytes are made, by a session at which nobody waits.

@@ -1,0 +1,167 @@
+//! Cleaner, copier and sessions, each held before one of its steps until another has come to one of
+//! its own: every run ends, in whichever order they come.
+use crate::tests::{Scene, joined, play};
+use drive::Drive;
+use s4_types::{Moment, Role};
+use segment_word::Naming;
+use server::{Client, Gate, Outcome, UpkeepStep, run_with_upkeep};
+use serving::{MemorySink, MemorySource, ServeEnd};
+use std::alloc::Global;
+use std::process::Abort;
+use std::sync::{Condvar, CondvarTimeouts, Mutex, Wait};
+use std::test::Fail;
+use std::thread::Threads;
+use std::time::{Clock, Duration};
+
+/// Steps of the cleaner, of the copier and of the sessions: those of one row are taken by one thread.
+static STEPS: [&[UpkeepStep]; 3] = [
+    &[
+        UpkeepStep::RoundBegins,
+        UpkeepStep::FirstTurn,
+        UpkeepStep::RoundEnds,
+        UpkeepStep::CleanerRests,
+    ],
+    &[
+        UpkeepStep::StepBegins,
+        UpkeepStep::CopierRests,
+        UpkeepStep::CopierEnds,
+        UpkeepStep::CopierReturns,
+    ],
+    &[UpkeepStep::SessionsEnd, UpkeepStep::SessionsReturn],
+];
+
+/// How long a thread is held at most, in milliseconds.
+const HELD_MILLISECONDS: u64 = 300;
+
+/// The frames of a Create, a Write of a byte to object 1, and a Flush of all moments.
+static REQUESTS: [&[u8]; 3] = [
+    b"\0\0\0\x02\x01\0",
+    b"\0\0\0\x12\x04\0\0\0\0\0\0\0\x01\0\0\0\0\0\0\0\0a",
+    b"\0\0\0\x11\x0a\0\0\0\0\0\0\0\0\0\0\0\0\0\0\0\0",
+];
+
+/// Whether an order can't come: the copier ends only once the sessions have.
+fn is_forbidden(held: UpkeepStep, until: UpkeepStep) -> bool {
+    held == UpkeepStep::SessionsEnd
+        && matches!(until, UpkeepStep::CopierEnds | UpkeepStep::CopierReturns)
+}
+
+/// What came so far.
+#[derive(Clone, Copy)]
+struct Seen {
+    /// The thread that is to be held has come to its step.
+    was_held: bool,
+    /// The other one has come to its own.
+    has_come: bool,
+    /// The first was held for too long.
+    gave_up: bool,
+}
+
+/// A gate at which whoever comes first to the one step is held until somebody has come to the other.
+#[derive(Drop)]
+struct Order<'a, R: Wait + Clock> {
+    rt: &'a R,
+    held: UpkeepStep,
+    until: UpkeepStep,
+    seen: Mutex<Seen>,
+    news: Condvar,
+}
+
+impl<'a, R: Wait + Clock> Order<'a, R> {
+    fn new(rt: &'a R, held: UpkeepStep, until: UpkeepStep) -> Self {
+        Order {
+            rt,
+            held,
+            until,
+            seen: Mutex::new(Seen {
+                was_held: false,
+                has_come: false,
+                gave_up: false,
+            }),
+            news: Condvar::new(),
+        }
+    }
+
+    /// Holds the thread that is here until the other one has come, or gives up.
+    fn hold(&self) {
+        let most = Duration::from_millis(HELD_MILLISECONDS);
+        let mut seen = self.seen.lock(self.rt);
+        if seen.was_held {
+            return;
+        }
+        seen.was_held = true;
+        let (mut seen, _) = self
+            .news
+            .wait_timeout_while(self.rt, seen, most, |seen| !seen.has_come);
+        seen.gave_up = !seen.has_come;
+    }
+}
+
+impl<R: Wait + Clock> Gate for Order<'_, R> {
+    fn between(&self, _session: usize, _call: u64) {}
+
+    fn answered(&self, _session: usize, _call: u64) {}
+
+    fn upkeep(&self, step: UpkeepStep) {
+        if step == self.until {
+            self.seen.lock(self.rt).has_come = true;
+            self.news.notify_all();
+        }
+        if step == self.held {
+            self.hold();
+        }
+    }
+}
+
+/// One session beside upkeep in this order: it is served to its end, and the order came unless it
+/// can't.
+pub(super) fn run_ordered<J: Naming + Send + Sync, R: Abort + Threads + Wait + Clock + Sync>(
+    rt: &R,
+    alloc: Global,
+    drive: &Mutex<Drive<J>>,
+    held: UpkeepStep,
+    until: UpkeepStep,
+) -> Result<(), Fail> {
+    let gate = Order::new(rt, held, until);
+    let asked = joined(alloc, &REQUESTS)?;
+    let mut clients = Vec::new(alloc);
+    clients.push(Client {
+        role: Role::Admin,
+        reader: MemorySource::new(&asked, 65_536),
+        writer: MemorySink::new(alloc),
+        outcome: Outcome::Waiting,
+        session: None,
+    })?;
+    let (clients, upkeep) = run_with_upkeep(rt, alloc, drive, &gate, Moment::new(0), 1, clients);
+    let is_served = clients[0].outcome == Outcome::Served(ServeEnd::Ended);
+    assert!(rt; is_served, "{held:?} until {until:?}: served to its end");
+    assert!(rt;
+        upkeep.round.is_last,
+        "{held:?} until {until:?}: a last round"
+    );
+    let seen = gate.seen.lock(rt);
+    assert!(rt; seen.was_held, "{held:?} until {until:?}: the one has come");
+    let is_as_listed = seen.gave_up == is_forbidden(held, until);
+    assert!(rt;
+        is_as_listed,
+        "{held:?} until {until:?}: given up after a bound, or not"
+    );
+    Ok(())
+}
+
+/// Each step of one of the threads before each of another.
+#[test]
+fn runs_end_in_whichever_order_threads_come(rt: HostRuntime) -> Result<(), Fail> {
+    for ours in 0..STEPS.len() {
+        for theirs in 0..STEPS.len() {
+            for held in STEPS[ours] {
+                for until in STEPS[theirs] {
+                    if ours != theirs {
+                        play(&rt, rt.alloc(), Scene::Ordered(*held, *until))?;
+                    }
+                }
+            }
+        }
+    }
+    Ok(())
+}
