@@ -66,16 +66,23 @@ def put(path, data):
         file.write(data)
 
 
+def new(program, frames):
+    """A new drive's image in this folder, in place of one that is there."""
+    if os.path.exists("image"):
+        os.remove("image")
+    subprocess.run([program, "new", "--window", str(WINDOW), "image", str(frames)], check=True)
+
+
 def made(program, frames):
     """An image in this folder, with objects that were written once."""
-    subprocess.run([program, "new", "--window", str(WINDOW), "image", str(frames)], check=True)
+    new(program, frames)
     put("made", wire.create() * OBJECTS + writes(OBJECTS))
     subprocess.run([program, "run", "--no-upkeep", "image", "client:made:/dev/null"], check=True)
 
 
 def made_many(program):
     """An image in this folder of as many objects as there are, all of whose history is freed: rounds are taken until nothing changes."""
-    subprocess.run([program, "new", "--window", str(WINDOW), "image", "1024"], check=True)
+    new(program, 1_024)
     put("made", wire.create() * MANY)
     subprocess.run([program, "run", "--no-upkeep", "image", "client:made:/dev/null"], check=True)
     put("aged", wire.get_attr(1) * (WINDOW + 1))

@@ -30,7 +30,7 @@ class Image:
         self.path, self.program = os.fspath(path), program
 
     def make(self, frames: int, window: int = 100) -> None:
-        """Writes the image of an empty drive, over one that is there."""
+        """Writes the image of an empty drive; ProgramFailed where a file with bytes is there."""
         output_of([self.program, "new", "--window", str(window), self.path, str(frames)])
 
     def verify(self) -> Facts:

@@ -1,4 +1,6 @@
+pub mod Faults
 pub mod Files
+pub mod Leaving
 pub mod Making
 pub mod ReadingPast
 pub mod Verifying

@@ -1,8 +1,9 @@
 //! Why a command over files failed.
-ghost use Rattle.std.specs.Prelude.{◌≡◌, ◌⊎◌};
+ghost use Rattle.std.specs.Prelude.{◌≡◌, ◌≢◌, ◌⊎◌};
 ghost use Rattle.std.specs.declared.io.ErrorKind.TheVariants.{OutOfMemory};
 ghost use Rattle.s4_types.specs.declared.refusals.Refusal.TheVariants.{NoMemory};
 
+use crate::obstacles::Obstacle;
 use s4_types::Refusal;
 use std::io;
 use thiserror::Error;
@@ -16,12 +17,12 @@ pub enum Fault<'a> {
     /// The file of this path can't be read.
     #[error("cannot read {0}")]
     CannotRead(&'a str),
-    /// The file of this path can't be written.
+    /// The file of this path can't be written, and why.
     #[error("cannot write {0}")]
-    CannotWrite(&'a str),
-    /// The image of this path can't be replaced; the new one is in a file of its own.
-    #[error("cannot write {0}, the image is in {1}")]
-    KeptIn(&'a str, String),
+    CannotWrite(&'a str, Obstacle),
+    /// The image of this path can't be replaced, and why; the new one is in a file of its own.
+    #[error("cannot write {0}, the image is in {2}")]
+    KeptIn(&'a str, Obstacle, String),
     /// Standard output can't be written.
     #[error("WriteFailed")]
     WriteFailed,
@@ -39,11 +40,12 @@ pub fn reading<'a>(kind: io::ErrorKind, path: &'a str) -> Fault<'a>
 }
 
 /// The fault of a file that can't be written: NoMemory where a growth was refused.
-pub fn writing<'a>(kind: io::ErrorKind, path: &'a str) -> Fault<'a>
-    ensures memory { kind ≡ OutOfMemory → result ≡ Fault.Refused NoMemory }
+pub fn writing<'a>(obstacle: Obstacle, path: &'a str) -> Fault<'a>
+    ensures memory { obstacle ≡ Obstacle.NoMemory → result ≡ Fault.Refused NoMemory }
+    ensures other { obstacle ≢ Obstacle.NoMemory → result ≡ Fault.CannotWrite path.entry obstacle }
 {
-    match kind {
-        io::ErrorKind::OutOfMemory => Fault::Refused(Refusal::NoMemory),
-        _ => Fault::CannotWrite(path),
+    match obstacle {
+        Obstacle::NoMemory => Fault::Refused(Refusal::NoMemory),
+        _ => Fault::CannotWrite(path, obstacle),
     }
 }

@@ -2,21 +2,28 @@
 //!
 //! The layer above may rely on this: `read_image` gives the image that a file's bytes spell, and `read_bytes` these, whatever they are.
 //! `verify_file` writes its line, `write_object`
-//! the bytes of an object at a moment in the drive that begins with it, and `make_file` leaves the image of a new drive in a file; what
-//! was written has been passed on where they succeed. That is proved over any `Files` that say what files hold. The system's files say
+//! the bytes of an object at a moment in the drive that begins with it, and `make_file` leaves the image of a new drive in a file that
+//! had no bytes; what was written has been passed on where they succeed. `remove_leftovers` removes nothing that `verify` takes. That is proved over any `Files` that say what files hold. The system's files say
 //! nothing of it, since no clause of the standard library does: that they read and write as the trait says is tested through the
 //! program, and so is the line that a `Fault` prints.
 #![tactic(auto)]
 
+mod beside;
 mod faults;
 mod files;
+mod host_files;
+mod leftovers;
+mod obstacles;
+mod paths;
 mod reading_past;
 mod saving;
 mod streams;
 mod verifying;
 
 pub use faults::{Fault, reading, writing};
-pub use files::{Files, NotReplaced};
+pub use files::{Files, NotReplaced, Placed};
+pub use leftovers::remove_leftovers;
+pub use obstacles::Obstacle;
 pub use reading_past::{write_object, write_version};
 pub use saving::{Place, longest_image, make_file};
 pub use streams::hold_standard_streams;

@@ -1,14 +1,16 @@
 //! Drives that are written to files, and `new`.
-ghost use Rattle.std.specs.Prelude.{◌≡◌, ◌+◌, ◌*◌, ℕ, true, false, List, None, IfOk, OnErr, OnOk};
+ghost use Rattle.std.specs.Prelude.{◌≡◌, ◌+◌, ◌*◌, ℕ, true, false, List, [], None, IfErr, IfOk, OnErr, OnOk};
 ghost use Rattle.std.specs.Io.KnownBytes.{Keeps};
 ghost use Rattle.s4_types.specs.Sizes.{IsFrameCount};
 ghost use Rattle.s4_types.specs.declared.limits.TheConstants.{PAYLOAD_BLOCKS, RUNS_IN_ALL};
 ghost use Rattle.s4_model.specs.State.{new_base};
 ghost use Rattle.image_commands.specs.Files.{AreKnown};
+ghost use Rattle.image_commands.specs.Faults.{KeepsNew};
 ghost use Rattle.image_commands.specs.Making.{HasNew, IsEmptyStore, SpellsNew};
 
 use crate::faults::{Fault, writing};
-use crate::files::{Files, NotReplaced};
+use crate::files::{Files, NotReplaced, Placed};
+use crate::obstacles::Obstacle;
 use drive::NewDrive;
 use image_parts::image_length;
 use s4_types::Refusal;
@@ -19,14 +21,18 @@ use std::alloc::Global;
 use std::marker::Brand;
 use verifier::save;
 
-/// Writes the image of a new drive, in place of the one that is there.
+/// Writes the image of a new drive, by a name that no file has or in place of a file without bytes. What has bytes is refused, since it
+/// may be a drive.
 pub fn make_file<'a, F: Files>(
     alloc: Global,
     files: &mut F,
     asked: New<'a>,
-) -> Result<(), Fault<'a>>
+) -> Result<Placed, Fault<'a>>
     requires frames { IsFrameCount asked.frames }
     ensures image { OnOk result (HasNew asked.entry.frames asked.entry.window (F.contents files.new asked.entry.image.now)) }
+    // What has bytes is refused.
+    ensures empty { OnOk result (AreKnown (F.contents files.old asked.entry.image.now) []) }
+    ensures kept { OnErr result ((path : List ℕ) → Keeps (F.contents files.old path) (F.contents files.new path)) }
 {
     let made = match NewDrive::new(alloc, asked.frames as usize, asked.window) {
         Ok(made) => made,
@@ -36,13 +42,32 @@ pub fn make_file<'a, F: Files>(
         Ok(bytes) => bytes,
         Err(refusal) => return Err(Fault::Refused(refusal)),
     };
-    let place = match files.claim(alloc, asked.image) {
-        Ok(claim) => Place::beside(alloc, files, asked.image, claim, 0),
-        Err(error) => Err(writing(error.kind(), asked.image)),
-    };
-    match place {
+    match empty_place(alloc, files, asked.image) {
         Ok(place) => place.put(files, bytes.as_slice()),
         Err(fault) => Err(fault),
+    }
+}
+
+// A place for an image where no file is, or one without bytes.
+fn empty_place<'a, F: Files>(
+    alloc: Global,
+    files: &mut F,
+    path: &'a str,
+) -> Result<Place<'a, F>, Fault<'a>>
+    ensures path { IfOk result (λ place. place.path.now ≡ path.now) }
+    ensures claimed { IfOk result (λ place. F.leads place.claim place.path.now) }
+    ensures empty { OnOk result (AreKnown (F.contents files.old path.now) []) }
+    ensures others { (other : List ℕ) → Keeps (F.contents files.old other) (F.contents files.new other) }
+    ensures unknown { IfOk result (λ place. (other : List ℕ) → F.is_beside place.beside other ≡ true → F.contents files.old other ≡ None) }
+{
+    let claim = match files.claim(alloc, path) {
+        Ok(claim) => claim,
+        Err(obstacle) => return Err(writing(obstacle, path)),
+    };
+    match files.has_bytes(&claim) {
+        Ok(false) => Place::beside(alloc, files, path, claim, 0),
+        Ok(true) => Err(Fault::CannotWrite(path, Obstacle::HasBytes)),
+        Err(error) => Err(writing(Obstacle::of(error.kind()), path)),
     }
 }
 
@@ -80,6 +105,7 @@ impl<'a, F: Files> Place<'a, F> {
         ensures path { IfOk result (λ place. place.path.now ≡ path.now) }
         ensures claimed { IfOk result (λ place. F.leads place.claim place.path.now) }
         ensures others { (other : List ℕ) → Keeps (F.contents files.old other) (F.contents files.new other) }
+        ensures reserved { IfOk result (λ place. (other : List ℕ) → F.is_beside place.beside other ≡ true → F.reserves claim other ≡ true) }
         ensures unknown { IfOk result (λ place. (other : List ℕ) → F.is_beside place.beside other ≡ true → F.contents files.old other ≡ None) }
     {
         match files.make_beside(alloc, &claim, length) {
@@ -88,7 +114,7 @@ impl<'a, F: Files> Place<'a, F> {
                 claim,
                 beside,
             }),
-            Err(error) => Err(writing(error.kind(), path)),
+            Err(obstacle) => Err(writing(obstacle, path)),
         }
     }
 
@@ -100,10 +126,11 @@ impl<'a, F: Files> Place<'a, F> {
     }
 
     /// Replaces the image by these bytes. Where that fails and they are all in the file beside it, the fault names that.
-    pub fn put(self, files: &mut F, bytes: &[u8]) -> Result<(), Fault<'a>>
+    pub fn put(self, files: &mut F, bytes: &[u8]) -> Result<Placed, Fault<'a>>
         requires claimed { F.leads self.claim self.path.now }
         ensures image { OnOk result (AreKnown (F.contents files.new self.entry.path.now) bytes.now) }
         ensures others { OnErr result ((other : List ℕ) → F.is_beside self.entry.beside other ≡ false → Keeps (F.contents files.old other) (F.contents files.new other)) }
+        ensures kept { IfErr result (λ fault. KeepsNew (F.contents files.new) bytes.now fault) }
     {
         let Place {
             path,
@@ -111,14 +138,14 @@ impl<'a, F: Files> Place<'a, F> {
             beside,
         } = self;
         match files.replace(claim, beside, bytes) {
-            Ok(()) => Ok(()),
+            Ok(placed) => Ok(placed),
             Err(
                 NotReplaced {
+                    obstacle,
                     kept: Some(kept),
-                    ..
                 },
-            ) => Err(Fault::KeptIn(path, kept)),
-            Err(NotReplaced { error, .. }) => Err(writing(error.kind(), path)),
+            ) => Err(Fault::KeptIn(path, obstacle, kept)),
+            Err(NotReplaced { obstacle, .. }) => Err(writing(obstacle, path)),
         }
     }
 }

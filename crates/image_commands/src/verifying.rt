@@ -1,10 +1,11 @@
 //! `verify`, and how each command reads an image.
-ghost use Rattle.std.specs.Prelude.{◌≡◌, ℕ, ◌+◌, ◌^◌, ◌<◌, List, Option, IfOk, IfSome, IfErr, OnOk, length, string_bytes};
+ghost use Rattle.std.specs.Prelude.{◌≡◌, ℕ, ◌+◌, ◌^◌, ◌<◌, List, Option, IfOk, IfSome, IfErr, IsTrue, OnOk, length, string_bytes};
 ghost use Rattle.std.specs.Io.{StartsWith};
 ghost use Rattle.std.specs.Io.KnownBytes.{Appends, Consumes, IsAtEnd};
 ghost use Rattle.s4_types.specs.declared.refusals.Cause.{Cause as Found};
 ghost use Rattle.s4_types.specs.declared.refusals.Refusal.TheVariants.{Damaged};
 ghost use Rattle.image_commands.specs.Files.{AreKnown};
+ghost use Rattle.image_commands.specs.Leaving.{IsNoImage};
 ghost use Rattle.image_commands.specs.Verifying.{number_line, image_line, IsDamaged, IsVerified, TellsImage};
 
 use crate::faults::{Fault, reading};
@@ -43,6 +44,20 @@ pub fn read_image<'a, T: Threads, F: Files>(
     match verify(rt, alloc, bytes.as_slice()) {
         Ok(image) => Ok(image),
         Err(refusal) => Err(Fault::Refused(refusal)),
+    }
+}
+
+/// Whether what a reader gives was read, and is no image.
+pub fn is_damaged<T: Threads, R: Read>(rt: &T, alloc: Global, reader: &mut R) -> bool
+    ensures damaged { IsTrue result → IsNoImage (R.remaining reader.old) }
+{
+    match read_bounded(alloc, reader) {
+        Ok(Ok(bytes)) => match verify(rt, alloc, bytes.as_slice()) {
+            Err(Refusal::Damaged(_)) => true,
+            _ => false,
+        },
+        Ok(Err(_)) => true,
+        Err(_) => false,
     }
 }
 

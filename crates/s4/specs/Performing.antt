@@ -1,5 +1,6 @@
 -- What the status of a line of words says.
 use Rattle.std.specs.Prelude.{◌≡◌, ◌⊎◌, ℕ, List, length, Option, None, true, false, MatchBool}
+use Rattle.std.specs.Io.KnownBytes.{Keeps}
 use Rattle.clap.specs.Takes.{takes}
 use Rattle.clap.specs.Walk.{Text}
 use Rattle.clap.specs.Simple.{subcommand_of}
@@ -37,6 +38,10 @@ IsDoneOver files files' Exported Salvaged output output' (command.Restore restor
 IsDoneOver files files' Exported Salvaged output output' (command.Check check) = OverImage (files check.image.now) (λ d. Checks (state_in d) (store_of d) output output')
 IsDoneOver files files' Exported Salvaged output output' (command.Compact compact) = ChangesImage (files compact.image.now) (files' compact.image.now) (λ d later. Compacts d later output output')
 IsDoneOver files files' Exported Salvaged output output' (command.Salvage salvage) = Salvaged (files salvage.image.now) salvage.folder.now output output'
+
+-- A command isn't done: all files are as they were. Or it is done, but that this lasts wasn't seen.
+abbrev pub IsUndone : (files files' : List ℕ → Option (List ℕ)) → (Done : Type 0) → Type 0
+IsUndone files files' Done = ((path : List ℕ) → Keeps (files path) (files' path)) ⊎ Done
 
 -- of the system's files nothing is known
 abbrev pub unknown : List ℕ → Option (List ℕ)

@@ -9,7 +9,7 @@ ghost use Rattle.s4.specs.Commands.{ChangesImage, ChangesOpened, SavesOpened};
 
 use crate::faults::Failure;
 use drive::{Drive, OpenedDrive};
-use image_commands::{Files, Place, longest_image, read_image, writing};
+use image_commands::{Files, Place, Placed, longest_image, read_image, writing};
 use segment_word::Naming;
 use serving::Sink;
 use std::alloc::Global;
@@ -44,7 +44,7 @@ pub fn change_image<T: Threads, F: Files, C: DriveChange, W: Sink>(
     image: &str,
     change: &C,
     writer: &mut W,
-) -> Result<(), Failure>
+) -> Result<Placed, Failure>
     requires writer { W.failures writer.old + 1 < 2 ^ 64 }
     ensures changed { OnOk result (ChangesImage (F.contents files.old image.now) (F.contents files.new image.now) (λ drive later. C.changes change.now drive later (W.passed writer.old) (W.passed writer.new))) }
     ensures kept { OnErr result ((path : List ℕ) → Keeps (F.contents files.old path) (F.contents files.new path)) }
@@ -54,7 +54,7 @@ pub fn change_image<T: Threads, F: Files, C: DriveChange, W: Sink>(
     let read = read_image(rt, alloc, files, image)?;
     let claim = match claim {
         Ok(claim) => claim,
-        Err(error) => return Err(Failure::from(writing(error.kind(), image))),
+        Err(obstacle) => return Err(Failure::from(writing(obstacle, image))),
     };
     let length = longest_image(read.frames());
     let opened = open(alloc, read)?;
@@ -70,7 +70,7 @@ fn change_opened<'a, J: Naming, F: Files, C: DriveChange, W: Sink>(
     opened: OpenedDrive,
     change: &C,
     writer: &mut W,
-) -> Result<(), Failure>
+) -> Result<Placed, Failure>
     requires accepts { opened.accepts ≡ J.accepts }
     requires frames { opened.store.table.seat.table ≡ J.frames }
     requires base { base_of (fields_of log_of opened.store) opened.timeline opened.next ≡ J.base }
@@ -81,8 +81,8 @@ fn change_opened<'a, J: Naming, F: Files, C: DriveChange, W: Sink>(
 {
     match changed_bytes::<J, C, W>(alloc, opened, change, writer) {
         Ok(bytes) => {
-            place.put(files, bytes.as_slice())?;
-            Ok(())
+            let placed = place.put(files, bytes.as_slice())?;
+            Ok(placed)
         }
         Err(failure) => {
             place.leave(files);

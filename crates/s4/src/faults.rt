@@ -1,6 +1,6 @@
 //! Why a command failed.
 use history_export::{ExportError, ExportedFile};
-use image_commands::Fault;
+use image_commands::{Fault, Obstacle};
 use s4_types::Refusal;
 use thiserror::Error;
 
@@ -46,12 +46,12 @@ pub enum Failure {
     /// A file in the folder can't be written.
     #[error("{0} cannot be written in the folder; give it room, and name an empty folder")]
     CannotExport(ExportedFile),
-    /// The image can't be replaced.
-    #[error("cannot be written; end the program that serves it, and give it a folder with room that you may write")]
-    CannotWrite,
-    /// The image can't be replaced; the new one is in a file of its own.
-    #[error("cannot be replaced; the new image is in {0}")]
-    KeptIn(String),
+    /// The image can't be replaced, and why.
+    #[error("cannot be written: {0}")]
+    CannotWrite(Obstacle),
+    /// The image can't be replaced, and why; the new one is in a file of its own.
+    #[error("cannot be replaced: {0}; the new image is in {1}")]
+    KeptIn(Obstacle, String),
 }
 
 impl From<Fault<'_>> for Failure {
@@ -60,8 +60,8 @@ impl From<Fault<'_>> for Failure {
             Fault::CannotRead(_) => Failure::CannotRead,
             Fault::Refused(refusal) => Failure::from(refusal),
             Fault::WriteFailed => Failure::WriteFailed,
-            Fault::CannotWrite(_) => Failure::CannotWrite,
-            Fault::KeptIn(_, kept) => Failure::KeptIn(kept),
+            Fault::CannotWrite(_, obstacle) => Failure::CannotWrite(obstacle),
+            Fault::KeptIn(_, obstacle, kept) => Failure::KeptIn(obstacle, kept),
         }
     }
 }

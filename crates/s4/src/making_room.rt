@@ -12,7 +12,7 @@ use crate::restoring::restore;
 use drive::{Drive, Session};
 use history_restore::{between, make_room};
 use history_view::version_at;
-use image_commands::Files;
+use image_commands::{Files, Placed};
 use s4_command::RestoreAsked;
 use s4_types::limits::{CHAIN_ENTRY_BYTES, CHANGE_ENTRY_BYTES};
 use s4_types::{Moment, ObjectId, Refusal, Role, Span};
@@ -72,7 +72,7 @@ pub fn restore_image<T: Threads, F: Files, W: Sink>(
     files: &mut F,
     asked: &RestoreAsked<'_>,
     writer: &mut W,
-) -> Result<(), Failure>
+) -> Result<Placed, Failure>
     requires writer { W.failures writer.old + 1 < 2 ^ 64 }
     ensures restored { OnOk result (ChangesImage (F.contents files.old asked.now.image.now) (F.contents files.new asked.now.image.now)
         (λ drive later. RestoresWithRoom drive later asked.now.at asked.now.objects.items (W.passed writer.old) (W.passed writer.new))) }

@@ -5,7 +5,7 @@ ghost use Rattle.s4.specs.Commands.{OverImage, ChangesImage};
 ghost use Rattle.s4.specs.Exporting.{Exported};
 ghost use Rattle.s4.specs.MakingRoom.{RestoresWithRoom};
 ghost use Rattle.s4.specs.Salvaging.{SalvagesFile};
-ghost use Rattle.s4.specs.Performing.{IsDone, IsDoneOver, IsUsage};
+ghost use Rattle.s4.specs.Performing.{IsDone, IsDoneOver, IsUndone, IsUsage};
 
 use crate::changing::{DriveChange, change_image};
 use crate::checking::WatchedCheck;
@@ -16,7 +16,7 @@ use crate::making_room::restore_image;
 use crate::restoring::DryRun;
 use crate::salvaging::salvage_image;
 use crate::watching::Screens;
-use image_commands::Files;
+use image_commands::{Files, Obstacle, Placed};
 use s4_command::{Command, ExportAsked, NoCommand, RestoreAsked, SalvageAsked, command_of};
 use s4_types::Refusal;
 use serving::Sink;
@@ -51,7 +51,7 @@ pub fn perform<T: Threads, F: Files, D: Folders + Screens, S: AsStr, W: Sink, E:
     requires writer { W.failures writer.old + 1 < 2 ^ 64 }
     ensures status { result ≤ 2 }
     ensures done { result ≡ 0 → IsDone (map S.text words.now) (F.contents files.old) (F.contents files.new) (Exported D.Opened.path D.Opened.files) (SalvagesFile D.Opened.path D.Opened.files Verdict.Fine) (W.passed writer.old) (W.passed writer.new) }
-    ensures kept { result ≢ 0 → (path : List ℕ) → Keeps (F.contents files.old path) (F.contents files.new path) }
+    ensures kept { result ≢ 0 → IsUndone (F.contents files.old) (F.contents files.new) (IsDone (map S.text words.now) (F.contents files.old) (F.contents files.new) (Exported D.Opened.path D.Opened.files) (SalvagesFile D.Opened.path D.Opened.files Verdict.Fine) (W.passed writer.old) (W.passed writer.new)) }
     ensures usage { result ≡ 2 → IsUsage (map S.text words.now) }
 {
     match command_of(alloc, words) {
@@ -78,7 +78,7 @@ fn perform_command<T: Threads, F: Files, D: Folders + Screens, W: Sink, E: Write
     requires writer { W.failures writer.old + 1 < 2 ^ 64 }
     ensures status { result ≤ 1 }
     ensures done { result ≡ 0 → IsDoneOver (F.contents files.old) (F.contents files.new) (Exported D.Opened.path D.Opened.files) (SalvagesFile D.Opened.path D.Opened.files Verdict.Fine) (W.passed writer.old) (W.passed writer.new) command.now }
-    ensures kept { result ≢ 0 → (path : List ℕ) → Keeps (F.contents files.old path) (F.contents files.new path) }
+    ensures kept { result ≢ 0 → IsUndone (F.contents files.old) (F.contents files.new) (IsDoneOver (F.contents files.old) (F.contents files.new) (Exported D.Opened.path D.Opened.files) (SalvagesFile D.Opened.path D.Opened.files Verdict.Fine) (W.passed writer.old) (W.passed writer.new) command.now) }
 {
     match command {
         Command::List(list) => show_image(rt, alloc, files, list.image, list, writer, errors),
@@ -181,10 +181,12 @@ fn alter_with_room<T: Threads, F: Files, W: Sink, E: Write>(
     ensures status { result ≤ 1 }
     ensures done { result ≡ 0 → ChangesImage (F.contents files.old restore.now.image.now) (F.contents files.new restore.now.image.now)
         (λ drive later. RestoresWithRoom drive later restore.now.at restore.now.objects.items (W.passed writer.old) (W.passed writer.new)) }
-    ensures kept { result ≢ 0 → (path : List ℕ) → Keeps (F.contents files.old path) (F.contents files.new path) }
+    ensures kept { result ≢ 0 → IsUndone (F.contents files.old) (F.contents files.new) (ChangesImage (F.contents files.old restore.now.image.now) (F.contents files.new restore.now.image.now)
+        (λ drive later. RestoresWithRoom drive later restore.now.at restore.now.objects.items (W.passed writer.old) (W.passed writer.new))) }
 {
     match restore_image(rt, alloc, files, restore, writer) {
-        Ok(()) => DONE,
+        Ok(Placed::Lasting) => DONE,
+        Ok(Placed::NotLasting) => fail_to_last(errors, restore.image),
         Err(failure) => fail_over(errors, restore.image, failure),
     }
 }
@@ -203,10 +205,11 @@ fn alter_image<T: Threads, F: Files, C: DriveChange, W: Sink, E: Write>(
     requires writer { W.failures writer.old + 1 < 2 ^ 64 }
     ensures status { result ≤ 1 }
     ensures done { result ≡ 0 → ChangesImage (F.contents files.old image.now) (F.contents files.new image.now) (λ drive later. C.changes change.now drive later (W.passed writer.old) (W.passed writer.new)) }
-    ensures kept { result ≢ 0 → (path : List ℕ) → Keeps (F.contents files.old path) (F.contents files.new path) }
+    ensures kept { result ≢ 0 → IsUndone (F.contents files.old) (F.contents files.new) (ChangesImage (F.contents files.old image.now) (F.contents files.new image.now) (λ drive later. C.changes change.now drive later (W.passed writer.old) (W.passed writer.new))) }
 {
     match change_image(rt, alloc, files, image, change, writer) {
-        Ok(()) => DONE,
+        Ok(Placed::Lasting) => DONE,
+        Ok(Placed::NotLasting) => fail_to_last(errors, image),
         Err(failure) => fail_over(errors, image, failure),
     }
 }
@@ -241,6 +244,13 @@ fn fail_over<E: Write>(errors: &mut E, image: &str, why: Failure) -> u8
 {
     let _ = writeln!(errors, "s4: {image}: {why}");
     FAILED
+}
+
+// Says that an image is in its place, and may be lost there.
+fn fail_to_last<E: Write>(errors: &mut E, image: &str) -> u8
+    ensures { result ≡ 1 }
+{
+    fail_over(errors, image, Failure::CannotWrite(Obstacle::NotLasting))
 }
 
 /// Says that the words spell no command.

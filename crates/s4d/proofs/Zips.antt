@@ -24,3 +24,12 @@ zip_on P R Q f step (x ∷ xs) [] cs' each len on = absurd each
 zip_on P R Q f step (x ∷ xs) (c ∷ cs) [] each len on = absurd (omega (arith, len))
 zip_on P R Q f step (x ∷ xs) (c ∷ cs) (c' ∷ cs') each len on =
     (step x c c' each.0 (on 0 c (omega arith)), zip_on P R Q f step xs cs cs' each.1 (omega (arith, len)) (λ i d lt. on (suc i) d (omega (arith, lt))))
+
+-- what holds of each element, and goes with what is beside it, says more of both
+pub zip_all : {A B : Type 0} (P : A → Type 0) (Q R : A → B → Type 0) → ((a : A) (b : B) → P a → Q a b → R a b) → (xs : List A) (ys : List B)
+    → ((i : ℕ) (d : A) → i < length xs → P (get_or xs i d)) → AllZip Q xs ys → AllZip R xs ys
+zip_all P Q R step [] [] all each = tt
+zip_all P Q R step [] (y ∷ ys) all each = absurd each
+zip_all P Q R step (x ∷ xs) [] all each = absurd each
+zip_all P Q R step (x ∷ xs) (y ∷ ys) all each =
+    (step x y (all 0 x (omega arith)) each.0, zip_all P Q R step xs ys (λ i d lt. all (suc i) d (omega (arith, lt))) each.1)

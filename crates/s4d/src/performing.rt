@@ -10,7 +10,7 @@ ghost use Rattle.s4d.specs.Running.{RunsImage};
 
 use crate::piping::serve_pipe;
 use crate::running::run_file;
-use image_commands::{Files, make_file, verify_file, write_object};
+use image_commands::{Fault, Files, Obstacle, Placed, make_file, verify_file, write_object};
 use s4d_command::{At, Command, CommandError, New, Pipe, Run, Verify, command_of};
 use serving::{ServeEnd, Sink, Source};
 use std::alloc::Global;
@@ -98,7 +98,10 @@ fn perform_new<'a, F: Files, E: Write>(
     ensures done { result ≡ 0 → HasNew new.entry.frames new.entry.window (F.contents files.new new.entry.image.now) }
 {
     match make_file(alloc, files, new) {
-        Ok(()) => DONE,
+        Ok(Placed::Lasting) => DONE,
+        Ok(Placed::NotLasting) => {
+            fail(errors, Fault::CannotWrite(new.image, Obstacle::NotLasting))
+        }
         Err(fault) => fail(errors, fault),
     }
 }

@@ -1,5 +1,5 @@
 //! `run`: sessions of a drive that an image is read from, and its image written anew.
-ghost use Rattle.std.specs.Prelude.{◌≡◌, ◌≢◌, ℕ, ◌+◌, ◌^◌, ◌<◌, ◌≤◌, All, List, length, slice_index_or, vec_len, IfOk, IsFalse, IsTrue, OnOk, ◌↔◌};
+ghost use Rattle.std.specs.Prelude.{◌≡◌, ◌≢◌, ℕ, ◌+◌, ◌^◌, ◌<◌, ◌≤◌, All, List, length, slice_index_or, vec_len, false, IfOk, IsFalse, IsTrue, OnOk, ◌↔◌};
 ghost use Rattle.std.specs.Io.KnownBytes.{Keeps};
 ghost use Rattle.std.specs.List.{AllZip};
 ghost use Rattle.segment_table.specs.Room.{log_of};
@@ -7,17 +7,21 @@ ghost use Rattle.version_store.specs.Store.{fields_of};
 ghost use Rattle.drive.specs.Opened.{base_of};
 ghost use Rattle.server.specs.Attending.{IsAttendedClient, IsSettledClient};
 ghost use Rattle.verifier.specs.Saved.{SpellsSaved};
+ghost use Rattle.image_commands.specs.Leaving.{IsKeptWhereWhole};
 ghost use Rattle.s4d.specs.Running.{HasFiles, IsSavedIn, LeavesDrive, RunsImage, RunsSessions};
 
 use drive::{Drive, OpenedDrive};
-use image_commands::{Fault, Files, Place, longest_image, read_image, reading, writing};
+use image_commands::{
+    Fault, Files, Obstacle, Place, Placed, longest_image, read_image, reading, remove_leftovers,
+    writing,
+};
 use s4_types::{Moment, Refusal};
 use s4d_command::{Run, RunSession};
 use segment_word::Naming;
 use server::{Client, Open, Outcome, run_sessions, run_with_upkeep, settle};
 use serving::{ReadSource, ServeEnd, Sink, Source, WriteSink};
 use std::alloc::Global;
-use std::io::Write;
+use std::io::{self, Write};
 use std::marker::Brand;
 use std::sync::{Mutex, Wait};
 use std::thread::Threads;
@@ -59,7 +63,8 @@ struct Begun<'a, F: Files> {
 ///
 /// Where the image or a file fails, no session is served. That the image can be replaced is known before: another program that
 /// serves it, a file that can't be made beside it, or a disk without room for the longest image is a fault then. So is a session that
-/// is to write over the image, or over what a session reads or another one writes, and then no output is made.
+/// is to write over the image, over what a session reads or another one writes, or that is to use a file beside the image; and then no
+/// output is made. What was left beside the image and is none itself is removed.
 pub fn run_file<'a, T: Threads + Wait + Clock + Sync, F: Files, E: Write>(
     rt: &T,
     alloc: Global,
@@ -78,7 +83,7 @@ pub fn run_file<'a, T: Threads + Wait + Clock + Sync, F: Files, E: Write>(
     };
     let claim = match claim {
         Ok(claim) => claim,
-        Err(error) => return Err(writing(error.kind(), asked.image)),
+        Err(obstacle) => return Err(writing(obstacle, asked.image)),
     };
     let length = longest_image(image.frames());
     let manner = Manner {
@@ -127,11 +132,7 @@ fn run_begun<'a, J: Naming + Send + Sync, T: Threads + Wait + Clock + Sync, F: F
         manner,
         opened,
     } = begun;
-    match are_apart(files, path, sessions) {
-        Ok(()) => {}
-        Err(fault) => return Err(fault),
-    }
-    let place = match Place::beside(alloc, files, path, claim, length) {
+    let place = match place_apart(rt, alloc, files, path, claim, length, sessions) {
         Ok(place) => place,
         Err(fault) => return Err(fault),
     };
@@ -148,7 +149,8 @@ fn run_begun<'a, J: Naming + Send + Sync, T: Threads + Wait + Clock + Sync, F: F
     let is_ended = tell_sessions(errors, served.as_slice());
     match saved {
         Ok(bytes) => match place.put(files, bytes.as_slice()) {
-            Ok(()) => Ok(is_ended),
+            Ok(Placed::Lasting) => Ok(is_ended),
+            Ok(Placed::NotLasting) => Err(Fault::CannotWrite(path, Obstacle::NotLasting)),
             Err(fault) => Err(fault),
         },
         Err(refusal) => {
@@ -158,37 +160,91 @@ fn run_begun<'a, J: Naming + Send + Sync, T: Threads + Wait + Clock + Sync, F: F
     }
 }
 
-// Whether no session is to write over the image, over what a session reads, or over what another one writes: where one did, what was
-// there would be lost. The first output that isn't so is a fault.
+// Makes the file beside an image, once what was left there is removed. Not so where a session is to use the image or such a file.
+fn place_apart<'a, T: Threads, F: Files>(
+    rt: &T,
+    alloc: Global,
+    files: &mut F,
+    path: &'a str,
+    claim: F::Claim,
+    length: usize,
+    sessions: &[RunSession<'a>],
+) -> Result<Place<'a, F>, Fault<'a>>
+    requires claimed { F.leads claim path.now }
+    ensures path { IfOk result (λ place. place.path.now ≡ path.now) }
+    ensures claimed { IfOk result (λ place. F.leads place.claim place.path.now) }
+    ensures apart { OnOk result (All (λ written. All (λ read. F.apart read.input.now written.output.now) sessions.now) sessions.now) }
+    ensures beside { IfOk result (λ place. All (λ s. F.is_beside place.beside s.output.now ≡ false) sessions.now) }
+    ensures inputs { OnOk result (All (λ s. Keeps (F.contents files.old s.input.now) (F.contents files.new s.input.now)) sessions.now) }
+    // No image is removed.
+    ensures whole { (other : List ℕ) → IsKeptWhereWhole (F.contents files.old other) (F.contents files.new other) }
+{
+    match are_apart(files, &claim, path, sessions) {
+        Ok(()) => {}
+        Err(fault) => return Err(fault),
+    }
+    remove_leftovers(rt, alloc, files, &claim);
+    Place::beside(alloc, files, path, claim, length)
+}
+
+// Whether no session is to write over the image, over what a session reads, or over what another one writes, and none is to use a file
+// beside the image: where one did, what was there would be lost. The first file that isn't so is a fault.
 fn are_apart<'a, F: Files>(
     files: &F,
+    claim: &F::Claim,
     image: &str,
     sessions: &[RunSession<'a>],
 ) -> Result<(), Fault<'a>>
     ensures apart { OnOk result (All (λ written. All (λ read. F.apart read.input.now written.output.now) sessions.now) sessions.now) }
+    ensures inputs { OnOk result (All (λ s. F.reserves claim.now s.input.now ≡ false) sessions.now) }
+    ensures outputs { OnOk result (All (λ s. F.reserves claim.now s.output.now ≡ false) sessions.now) }
 {
     for (number, session) in sessions.iter().enumerate() {
-        let output = session.output;
-        let is_taken = files.are_same(image, output)
-            || is_one_read(files, sessions, output)
-            || is_one_written(files, sessions, number, output);
-        if is_taken {
-            return Err(Fault::CannotWrite(output));
+        match files.is_reserved(claim, session.input) {
+            Ok(false) => {}
+            Ok(true) => return Err(Fault::CannotRead(session.input)),
+            Err(error) => return Err(reading(error.kind(), session.input)),
+        }
+        match is_taken(files, claim, image, sessions, number, session.output) {
+            Ok(false) => {}
+            Ok(true) => return Err(Fault::CannotWrite(session.output, Obstacle::Shared)),
+            Err(error) => return Err(writing(Obstacle::of(error.kind()), session.output)),
         }
     }
     Ok(())
 }
 
+// Whether an output is the image, a file beside it, one that a session reads, or one that an earlier session writes.
+fn is_taken<F: Files>(
+    files: &F,
+    claim: &F::Claim,
+    image: &str,
+    sessions: &[RunSession<'_>],
+    number: usize,
+    output: &str,
+) -> io::Result<bool>
+    ensures apart { IfOk result (λ is. IsFalse is → All (λ read. F.apart read.input.now output.now) sessions.now) }
+    ensures reserved { IfOk result (λ is. IsFalse is → F.reserves claim.now output.now ≡ false) }
+{
+    if files.are_same(image, output)? || files.is_reserved(claim, output)? {
+        return Ok(true);
+    }
+    if is_one_written(files, sessions, number, output)? {
+        return Ok(true);
+    }
+    is_one_read(files, sessions, output)
+}
+
 // Whether an output is one of the files that sessions read.
-fn is_one_read<F: Files>(files: &F, sessions: &[RunSession<'_>], output: &str) -> bool
-    ensures apart { IsFalse result → All (λ read. F.apart read.input.now output.now) sessions.now }
+fn is_one_read<F: Files>(files: &F, sessions: &[RunSession<'_>], output: &str) -> io::Result<bool>
+    ensures apart { IfOk result (λ is. IsFalse is → All (λ read. F.apart read.input.now output.now) sessions.now) }
 {
     for session in sessions {
-        if files.are_same(session.input, output) {
-            return true;
+        if files.are_same(session.input, output)? {
+            return Ok(true);
         }
     }
-    false
+    Ok(false)
 }
 
 // Whether an output is one of the files that so many sessions write, the first ones.
@@ -197,13 +253,13 @@ fn is_one_written<F: Files>(
     sessions: &[RunSession<'_>],
     count: usize,
     output: &str,
-) -> bool {
+) -> io::Result<bool> {
     for session in sessions.iter().take(count) {
-        if files.are_same(session.output, output) {
-            return true;
+        if files.are_same(session.output, output)? {
+            return Ok(true);
         }
     }
-    false
+    Ok(false)
 }
 
 // Opens the files of each session in turn.
@@ -250,7 +306,7 @@ fn client_of<'a, J: Naming, F: Files>(
     };
     let output = match files.make(session.output) {
         Ok(output) => output,
-        Err(error) => return Err(writing(error.kind(), session.output)),
+        Err(error) => return Err(writing(Obstacle::of(error.kind()), session.output)),
     };
     Ok(Client {
         role: session.role,

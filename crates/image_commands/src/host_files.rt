@@ -1,0 +1,445 @@
+//! The files of this system.
+ghost use Rattle.std.specs.Prelude.{false, None, ⊤};
+
+use crate::beside::{MOST_BESIDE, beside_path, is_beside_name};
+use crate::files::{Files, NotReplaced, Placed};
+use crate::obstacles::Obstacle;
+use crate::paths::{are_one_file, are_one_path, end_of_path, folder_of, found, real_path};
+use std::alloc::Global;
+use std::fs::{self, File, Metadata, OpenOptions, TryLockError};
+use std::io::{self, Read, Seek, SeekFrom, Stderr, Stdin, Stdout, Write};
+use std::os::unix::fs::{MetadataExt, OpenOptionsExt, fchown};
+use std::path::Path;
+
+/// Who may read and write the file beside an image until it has the image's own mode: nobody else.
+const PRIVATE: u32 = 0o600;
+
+/// Who may read and write a new image, by the mask of who made it.
+const ORDINARY: u32 = 0o666;
+
+/// Zeros that are written at once.
+const ZEROS: [u8; 4096] = [0; 4096];
+
+/// Where an image is, or will be, on this system.
+#[derive(Drop)]
+pub struct ImageClaim {
+    /// Its path as it was given.
+    given: String,
+    /// Its path without links.
+    path: String,
+    /// The image, locked, where it is there.
+    image: Option<File>,
+}
+
+/// A file of this system beside an image, locked.
+#[derive(Drop)]
+pub struct BesideFile {
+    path: String,
+    file: File,
+    /// The folder that both are in.
+    folder: File,
+}
+
+/// A file of this system that may have been left beside an image, locked.
+#[derive(Drop)]
+pub struct LeftFile {
+    path: String,
+    file: File,
+}
+
+/// The standard streams. The system opens no socket by a path, so what their paths name is not opened, but used as it is.
+#[derive(Clone, Copy, PartialEq, Eq)]
+enum Standard {
+    Input,
+    Output,
+    Error,
+}
+
+/// What a session reads on this system.
+#[derive(Drop)]
+pub enum Input {
+    Named(File),
+    Standard(Stdin),
+}
+
+impl Read for Input {
+    fn read(&mut self, buffer: &mut [u8]) -> io::Result<usize> {
+        match self {
+            Input::Named(file) => file.read(buffer),
+            Input::Standard(input) => input.read(buffer),
+        }
+    }
+}
+
+/// What a session writes on this system.
+#[derive(Drop)]
+pub enum Output {
+    Named(File),
+    Standard(Stdout),
+    Error(Stderr),
+}
+
+impl Write for Output {
+    fn write(&mut self, buffer: &[u8]) -> io::Result<usize> {
+        match self {
+            Output::Named(file) => file.write(buffer),
+            Output::Standard(output) => output.write(buffer),
+            Output::Error(errors) => errors.write(buffer),
+        }
+    }
+
+    fn flush(&mut self) -> io::Result<()> {
+        match self {
+            Output::Named(file) => file.flush(),
+            Output::Standard(output) => output.flush(),
+            Output::Error(errors) => errors.flush(),
+        }
+    }
+}
+
+impl Files for HostRuntime {
+    type Reader = Input;
+
+    type Writer = Output;
+
+    type Claim = ImageClaim;
+
+    type Beside = BesideFile;
+
+    type Leftover = LeftFile;
+
+    // No clause of the standard library says what a file of the system holds.
+    ghost contents = { λ _ _. None };
+
+    ghost leads = { λ _ _. ⊤ };
+
+    ghost reserves = { λ _ _. false };
+
+    ghost is_beside = { λ _ _. false };
+
+    ghost is_left = { λ _ _. false };
+
+    ghost apart = { λ _ _. ⊤ };
+
+    fn open(&self, path: &str) -> io::Result<Input> {
+        match standard_stream(path) {
+            Some(Standard::Input) => Ok(Input::Standard(self.stdin())),
+            _ => Ok(Input::Named(File::open(self, path)?)),
+        }
+    }
+
+    fn make(&mut self, path: &str) -> io::Result<Output> {
+        match standard_stream(path) {
+            Some(Standard::Output) => Ok(Output::Standard(self.stdout())),
+            Some(Standard::Error) => Ok(Output::Error(self.stderr())),
+            _ => Ok(Output::Named(File::create(self, path)?)),
+        }
+    }
+
+    fn are_same(&self, first: &str, second: &str) -> io::Result<bool> {
+        match (found(self, first), found(self, second)) {
+            (Some(one), Some(other)) => Ok(are_one_file(&one, &other)),
+            (None, None) => are_one_path(self, first, second),
+            _ => Ok(false),
+        }
+    }
+
+    fn claim(&self, alloc: Global, path: &str) -> Result<ImageClaim, Obstacle> {
+        let given = String::from_str(alloc, path)?;
+        let (path, is_there) = real_path(self, alloc, path)?;
+        let image = match is_there {
+            true => Some(locked(self, path.as_str())?),
+            false => None,
+        };
+        Ok(ImageClaim { given, path, image })
+    }
+
+    fn has_bytes(&self, claim: &ImageClaim) -> io::Result<bool> {
+        match &claim.image {
+            Some(image) => Ok(image.metadata()?.len() > 0),
+            None => Ok(false),
+        }
+    }
+
+    fn is_reserved(&self, claim: &ImageClaim, path: &str) -> io::Result<bool> {
+        let path = end_of_path(self, path)?;
+        let path = Path::new(path.as_str());
+        match path.file_name() {
+            Some(name) if is_beside_name(name) => {}
+            _ => return Ok(false),
+        }
+        let folder = folder_of(Path::new(claim.path.as_str()));
+        match (found(self, folder_of(path)), found(self, folder)) {
+            (Some(one), Some(other)) => Ok(are_one_file(&one, &other)),
+            _ => Ok(false),
+        }
+    }
+
+    fn make_beside(
+        &mut self,
+        alloc: Global,
+        claim: &ImageClaim,
+        length: usize,
+    ) -> Result<BesideFile, Obstacle> {
+        let mut beside = new_beside(self, alloc, claim)?;
+        match prepare(&mut beside.file, claim, length) {
+            Ok(()) => Ok(beside),
+            Err(obstacle) => {
+                self.remove_beside(beside);
+                Err(obstacle)
+            }
+        }
+    }
+
+    fn remove_beside(&mut self, beside: BesideFile) {
+        // It is of no use to anybody, also where it can't be removed.
+        let _ = fs::remove_file(self, beside.path.as_str());
+    }
+
+    fn leftover(&self, alloc: Global, claim: &ImageClaim, number: u32) -> Option<LeftFile> {
+        match beside_path(alloc, claim.path.as_str(), number) {
+            Ok(path) => left_at(self, path),
+            Err(_) => None,
+        }
+    }
+
+    fn open_leftover(&self, leftover: &LeftFile) -> io::Result<Input> {
+        Ok(Input::Named(leftover.file.try_clone()?))
+    }
+
+    fn remove_leftover(&mut self, leftover: LeftFile) {
+        // Where it stays its name is passed over, as that of a file which is in use.
+        let _ = fs::remove_file(self, leftover.path.as_str());
+    }
+
+    fn replace(
+        &mut self,
+        claim: ImageClaim,
+        beside: BesideFile,
+        bytes: &[u8],
+    ) -> Result<Placed, NotReplaced> {
+        let mut beside = beside;
+        if let Err(error) = fill(&mut beside.file, bytes) {
+            self.remove_beside(beside);
+            return Err(NotReplaced {
+                obstacle: Obstacle::from(error),
+                kept: None,
+            });
+        }
+        match put_in_place(self, &claim, &beside) {
+            Ok(placed) => Ok(placed),
+            Err(obstacle) => Err(NotReplaced {
+                obstacle,
+                kept: Some(beside.path),
+            }),
+        }
+    }
+}
+
+// The standard stream that a path names, if it does.
+fn standard_stream(path: &str) -> Option<Standard> {
+    match path {
+        "/dev/stdin" | "/dev/fd/0" | "/proc/self/fd/0" => Some(Standard::Input),
+        "/dev/stdout" | "/dev/fd/1" | "/proc/self/fd/1" => Some(Standard::Output),
+        "/dev/stderr" | "/dev/fd/2" | "/proc/self/fd/2" => Some(Standard::Error),
+        _ => None,
+    }
+}
+
+// The image of this path, locked against other programs. An obstacle where it is no regular file, or nobody may write it, though who
+// runs this may do anything; where another program has it, or has just put another one in its place.
+fn locked(rt: &HostRuntime, path: &str) -> Result<File, Obstacle> {
+    // A stream isn't opened: that could wait, or be seen at its other end.
+    let is_image = fs::metadata(rt, path)?.is_file();
+    if !is_image {
+        return Err(Obstacle::NoFile);
+    }
+    let image = OpenOptions::new().read(true).write(true).open(rt, path)?;
+    if image.metadata()?.permissions().readonly() {
+        return Err(Obstacle::NotAllowed);
+    }
+    match lock(rt, &image, path)? {
+        true => Ok(image),
+        false => Err(Obstacle::Served),
+    }
+}
+
+// Locks a file against other programs, and says whether it is at its path then. Not so where another program has it.
+fn lock(rt: &HostRuntime, file: &File, path: &str) -> io::Result<bool> {
+    match file.try_lock() {
+        Ok(()) => is_at(rt, file, path),
+        Err(TryLockError::WouldBlock) => Ok(false),
+        Err(TryLockError::Error(error)) => Err(error),
+    }
+}
+
+// Whether a path without links leads to this very file.
+fn is_at(rt: &HostRuntime, file: &File, path: &str) -> io::Result<bool> {
+    let about = file.metadata()?;
+    match fs::symlink_metadata(rt, path) {
+        Ok(now) => Ok(are_one_file(&about, &now)),
+        Err(error) if error.kind() == io::ErrorKind::NotFound => Ok(false),
+        Err(error) => Err(error),
+    }
+}
+
+// Whether a path, by links or without, leads to this very file.
+fn is_led_to(rt: &HostRuntime, file: &File, path: &str) -> io::Result<bool> {
+    let about = file.metadata()?;
+    match found(rt, path) {
+        Some(now) => Ok(are_one_file(&about, &now)),
+        None => Ok(false),
+    }
+}
+
+// Makes an empty file beside an image, by the first name that no file has. So nobody else writes it, no file that was there is lost,
+// and the name is short however long the image's is.
+fn new_beside(rt: &HostRuntime, alloc: Global, claim: &ImageClaim) -> Result<BesideFile, Obstacle> {
+    // It is opened now, so that a folder of which that is refused is known before any session.
+    let folder = File::open(rt, folder_of(Path::new(claim.path.as_str())))?;
+    for number in 0..MOST_BESIDE {
+        let path = beside_path(alloc, claim.path.as_str(), number)?;
+        let is_free = can_be_linked(rt, claim, path.as_str())?;
+        if !is_free {
+            continue;
+        }
+        match made_locked(rt, claim, path.as_str())? {
+            Some(file) => return Ok(BesideFile { path, file, folder }),
+            None => {}
+        }
+    }
+    Err(Obstacle::NoName)
+}
+
+// Whether a name beside an image is free. An image that is mounted by itself can't be renamed over, and the system says that of a link
+// of the image, too: so one is made by that name, and removed. What else a link is refused for proves nothing.
+fn can_be_linked(rt: &HostRuntime, claim: &ImageClaim, path: &str) -> Result<bool, Obstacle> {
+    if claim.image.is_none() {
+        return Ok(true);
+    }
+    match fs::hard_link(rt, claim.path.as_str(), path) {
+        Ok(()) => {
+            fs::remove_file(rt, path)?;
+            Ok(true)
+        }
+        Err(error) => match error.kind() {
+            io::ErrorKind::AlreadyExists => Ok(false),
+            io::ErrorKind::CrossesDevices => Err(Obstacle::Mounted),
+            _ => Ok(true),
+        },
+    }
+}
+
+// A file that was made at a path without links, and is locked. None where a file is there, or another program took this one for a
+// leftover before it was locked.
+fn made_locked(rt: &HostRuntime, claim: &ImageClaim, path: &str) -> Result<Option<File>, Obstacle> {
+    let mode = if claim.image.is_some() {
+        PRIVATE
+    } else {
+        ORDINARY
+    };
+    let mut options = OpenOptions::new();
+    options.write(true).create_new(true).mode(mode);
+    let file = match options.open(rt, path) {
+        Ok(file) => file,
+        Err(error) if error.kind() == io::ErrorKind::AlreadyExists => return Ok(None),
+        Err(error) => return Err(Obstacle::from(error)),
+    };
+    match lock(rt, &file, path) {
+        Ok(true) => Ok(Some(file)),
+        Ok(false) => Ok(None),
+        Err(error) => {
+            let _ = fs::remove_file(rt, path);
+            Err(Obstacle::from(error))
+        }
+    }
+}
+
+// The file at a path without links, locked, where it is a regular one that no program has.
+fn left_at(rt: &HostRuntime, path: String) -> Option<LeftFile> {
+    match locked_at(rt, path.as_str()) {
+        Ok(Some(file)) => Some(LeftFile { path, file }),
+        _ => None,
+    }
+}
+
+// The same file, without its path.
+fn locked_at(rt: &HostRuntime, path: &str) -> io::Result<Option<File>> {
+    // What is no file isn't opened.
+    let is_file = fs::symlink_metadata(rt, path)?.is_file();
+    if !is_file {
+        return Ok(None);
+    }
+    let file = OpenOptions::new().read(true).write(true).open(rt, path)?;
+    match lock(rt, &file, path)? {
+        true => Ok(Some(file)),
+        false => Ok(None),
+    }
+}
+
+// Gives a file beside an image the image's mode and owner, and its length.
+fn prepare(file: &mut File, claim: &ImageClaim, length: usize) -> Result<(), Obstacle> {
+    if let Some(image) = &claim.image {
+        let about = image.metadata()?;
+        if keep_owner(file, &about).is_err() {
+            return Err(Obstacle::NotKept);
+        }
+    }
+    write_zeros(file, length)?;
+    Ok(())
+}
+
+// Gives a file the owner, the group and the mode of another.
+fn keep_owner(file: &File, other: &Metadata) -> io::Result<()> {
+    let mine = file.metadata()?;
+    if mine.uid() != other.uid() || mine.gid() != other.gid() {
+        fchown(file, Some(other.uid()), Some(other.gid()))?;
+    }
+    file.set_permissions(other.permissions())
+}
+
+// Gives a file so many zeros, which are written, so that the disk has room for them then.
+fn write_zeros(file: &mut File, count: usize) -> io::Result<()> {
+    for _ in 0..count.div_ceil(ZEROS.len()) {
+        file.write_all(&ZEROS)?;
+    }
+    file.set_len(count as u64)
+}
+
+// Gives a file these bytes.
+fn fill(file: &mut File, bytes: &[u8]) -> io::Result<()> {
+    file.seek(SeekFrom::Start(0))?;
+    file.write_all(bytes)?;
+    file.set_len(bytes.len() as u64)
+}
+
+// Gives the file beside an image the image's name once its bytes are on the disk, where that still names what was claimed.
+fn put_in_place(
+    rt: &HostRuntime,
+    claim: &ImageClaim,
+    beside: &BesideFile,
+) -> Result<Placed, Obstacle> {
+    beside.file.sync_all()?;
+    if !is_as_claimed(rt, claim)? {
+        return Err(Obstacle::Moved);
+    }
+    fs::rename(rt, beside.path.as_str(), claim.path.as_str())?;
+    match beside.folder.sync_all() {
+        Ok(()) => Ok(Placed::Lasting),
+        // This file system does that for no folder.
+        Err(error) if error.kind() == io::ErrorKind::InvalidInput => Ok(Placed::Lasting),
+        Err(_) => Ok(Placed::NotLasting),
+    }
+}
+
+// Whether the paths of a claim still lead to the file that was claimed, or still to none.
+fn is_as_claimed(rt: &HostRuntime, claim: &ImageClaim) -> io::Result<bool> {
+    let path = claim.path.as_str();
+    match &claim.image {
+        Some(image) => Ok(is_at(rt, image, path)? && is_led_to(rt, image, claim.given.as_str())?),
+        None => match fs::symlink_metadata(rt, path) {
+            Ok(_) => Ok(false),
+            Err(error) => Ok(error.kind() == io::ErrorKind::NotFound),
+        },
+    }
+}

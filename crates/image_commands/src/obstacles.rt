@@ -1,0 +1,77 @@
+//! Why a file can't be written.
+ghost use Rattle.std.specs.Prelude.{◌≡◌, ◌≢◌};
+ghost use Rattle.std.specs.declared.io.ErrorKind.TheVariants.{OutOfMemory};
+
+use std::alloc::AllocError;
+use std::io;
+use thiserror::Error;
+
+/// Why an image can't be put in its place, or a file can't be made. Each prints what is so, and what can be done.
+#[derive(Clone, Copy, Debug, PartialEq, Eq, Error)]
+pub enum Obstacle {
+    #[error("memory is short; try again with more")]
+    NoMemory,
+    /// Another program has the image, or has just put another one in its place.
+    #[error("a program serves it; end that one")]
+    Served,
+    #[error("it is no file, or a link that leads nowhere; give the path of a file")]
+    NoFile,
+    #[error("it has bytes, and a new drive would wipe them; name another file, or remove this one")]
+    HasBytes,
+    #[error("its folder is not there; make it, or name one that is")]
+    NoFolder,
+    #[error("its mode or its folder's lets nobody write, or not you; change that")]
+    NotAllowed,
+    #[error("its mode and owner cannot be kept; be the owner")]
+    NotKept,
+    #[error("s4d.new and s4d.new.1 to s4d.new.99 are taken in its folder; see what these files are")]
+    NoName,
+    #[error("there is no room for it; make room on its disk")]
+    NoRoom,
+    #[error("it is mounted as a single file; mount its folder in place of it")]
+    Mounted,
+    #[error("its path leads to another file than before, or to none")]
+    Moved,
+    #[error("its folder cannot be written to the disk; the new image is there, unless the machine fails")]
+    NotLasting,
+    /// Of what a session writes: it is the image, is read or written by another session, or has the name of a file beside the image.
+    #[error("it is in use; name another file")]
+    Shared,
+    #[error("the system refuses it")]
+    Other,
+}
+
+impl Obstacle {
+    /// What an error of the system says.
+    pub fn of(kind: io::ErrorKind) -> Obstacle
+        ensures memory { kind ≡ OutOfMemory → result ≡ Obstacle.NoMemory }
+        ensures only { kind ≢ OutOfMemory → result ≢ Obstacle.NoMemory }
+    {
+        match kind {
+            io::ErrorKind::OutOfMemory => Obstacle::NoMemory,
+            io::ErrorKind::NotFound | io::ErrorKind::NotADirectory => Obstacle::NoFolder,
+            io::ErrorKind::PermissionDenied | io::ErrorKind::ReadOnlyFilesystem => {
+                Obstacle::NotAllowed
+            }
+            io::ErrorKind::StorageFull
+            | io::ErrorKind::QuotaExceeded
+            | io::ErrorKind::FileTooLarge => Obstacle::NoRoom,
+            io::ErrorKind::WouldBlock => Obstacle::Served,
+            // The second is what a rename over a file says that is mounted by itself.
+            io::ErrorKind::CrossesDevices | io::ErrorKind::ResourceBusy => Obstacle::Mounted,
+            _ => Obstacle::Other,
+        }
+    }
+}
+
+impl From<io::Error> for Obstacle {
+    fn from(error: io::Error) -> Obstacle {
+        Obstacle::of(error.kind())
+    }
+}
+
+impl From<AllocError> for Obstacle {
+    fn from(_error: AllocError) -> Obstacle {
+        Obstacle::NoMemory
+    }
+}
