@@ -250,6 +250,12 @@ class Images(unittest.TestCase):
         with self.assertRaisesRegex(s4d.Future, "read of object 7 at moment 1"):
             self.image.read(7, at=1)
 
+    def test_a_drive_is_not_wiped_by_a_second_one(self):
+        self.image.make(16)
+        with self.assertRaises(s4d.ProgramFailed):
+            self.image.make(8)
+        self.assertEqual(self.image.verify().frames, 16)
+
     def test_a_live_session_over_fifos(self):
         self.image.make(16)
         requests, replies = f"{self.image.path}.in", f"{self.image.path}.out"

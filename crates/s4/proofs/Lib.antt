@@ -3,3 +3,4 @@ mod Done
 mod Fronts
 mod Kept
 mod Rows
+mod Undone

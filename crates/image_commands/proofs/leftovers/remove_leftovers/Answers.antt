@@ -2,8 +2,8 @@ use Rattle.std.proofs.KnownBytes.{Keeps-refl, Keeps-trans}
 use Rattle.image_commands.proofs.Leaving.{whole_on, whole_untouched}
 use Rattle.image_commands.proofs.leftovers.remove_leftovers.Goals as goal
 
-pub loop-number-entered : goal.loop-number-entered
-loop-number-entered g c = record { others = λ path elsewhere. Keeps-refl _; whole = λ path. whole_untouched _ }
+pub loop-number-init : goal.loop-number-init
+loop-number-init g c = record { others = λ path elsewhere. Keeps-refl _; whole = λ path. whole_untouched _ }
 
 pub loop-number-preserved : goal.loop-number-preserved
 loop-number-preserved g c = record {

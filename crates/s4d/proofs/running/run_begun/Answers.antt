@@ -13,8 +13,8 @@ use Rattle.s4d.proofs.Settled.{left_for, sessions_ran}
 use Rattle.s4d.proofs.running.run_begun.Goals as goal
 
 -- the sessions of the line are those of the clients, and the image's place has the bytes that were put there
-pub returns-in-Ok-put : goal.returns-in-Ok-put
-returns-in-Ok-put g c =
+pub returns-in-Ok-Lasting : goal.returns-in-Ok-Lasting
+returns-in-Ok-Lasting g c =
     let base = g.J.Naming.base in
     let clock : ClockFields = record { start = c.args.begun.manner.start; tick = c.args.begun.manner.tick } in
     let contents = g.F.Files.contents in
@@ -30,7 +30,7 @@ returns-in-Ok-put g c =
     let ends = subst (λ xs. IsTrue ended ↔ All (λ x. x.outcome ≡ Served Ended) xs) c.as_slice.ensures.value c.tell_sessions-is_ended.ensures.ended in
     let kept : AreKnown (now c.args.begun.path.now) bytes =
     subst (λ (path : List ℕ). AreKnown (now path) bytes) c.in-Ok.ensures.path
-    (subst (λ (put : List ℕ). AreKnown (now c.in-Ok.place.path.now) put) c.as_slice-in-Ok-saved.ensures.value c.in-Ok-put.ensures.image) in
+    (subst (λ (put : List ℕ). AreKnown (now c.in-Ok.place.path.now) put) c.as_slice-in-Ok-saved.ensures.value c.in-Ok-Lasting.ensures.image) in
     let remaining = g.F.Reader.Read.remaining in
     let written = g.F.Writer.Write.contents in
     let asked = zip_all (λ (s : RunSession). Keeps (before s.input.now) (beside s.input.now))
