@@ -13,6 +13,7 @@ seen.
 
     limits.py [FILE.hex [S4D [S4]]]    first_requests.hex beside this file, crates/s4d/out/s4d and crates/s4/out/s4 where they aren't given
 """
+import contextlib
 import os
 import shutil
 import subprocess
@@ -221,15 +222,19 @@ class Images:
         return ["run", *options, self.path("image"), *[f"client:{self.path(name + '.requests')}:/dev/null" for name in sessions]]
 
     def renew(self, name):
-        """Puts the image there anew, and takes away the folder that a command makes."""
-        shutil.copy(self.path(name), self.path("image"))
+        """Puts the image there anew, or takes it away where none is named, and the folder that a command makes."""
+        if name is None:
+            with contextlib.suppress(FileNotFoundError):
+                os.remove(self.path("image"))
+        else:
+            shutil.copy(self.path(name), self.path("image"))
         shutil.rmtree(self.path("folder"), ignore_errors=True)
 
 
 def commands_of_s4d(images):
     """The image that each command is run over, and its words."""
     image = images.path("image")
-    yield "new", ["new", image, "16"]
+    yield None, ["new", image, "16"]
     yield "past", ["verify", image]
     yield "past", ["at", image, "1", "5"]
     yield "new", images.served(["small"])
