@@ -1,17 +1,19 @@
 -- The objects of held blocks have rows.
-use Rattle.std.proofs.Common.{◌≡◌, ℕ, Bool, true, ◌&&◌, ◌==◌, if◌then◌else◌, Option, Some, None, refl, sym, ap, ◌∙◌}
-use Rattle.std.specs.Prelude.{IsSome, option_map}
+use Rattle.std.proofs.Common.{◌≡◌, ℕ, Bool, true, ◌&&◌, ◌==◌, if◌then◌else◌, Option, Some, None, inl, inr, refl, sym, ap, subst, ◌∙◌}
+use Rattle.std.specs.Prelude.{option_map}
 use Rattle.std.proofs.lemmas.Bool.{eq-eqb, and_from}
 use Rattle.s4_types.specs.Pointer.{Place}
+use Rattle.s4_types.specs.declared.refusals.Refusal.{Refusal}
 use Rattle.block_log.specs.declared.kinds.BlockKind.{BlockKind}
 use Rattle.block_log.specs.declared.kinds.BlockKind.TheVariants.{Journal, Checkpoint, Data}
 use Rattle.block_log.specs.Log.{Stored, same_kind, seen_as}
 use Rattle.codec.specs.declared.summaries.BlockRole.{BlockRole}
-use Rattle.object_map.specs.declared.map.Row.{Row}
 use Rattle.object_map.specs.Rows.{row_of}
 use Rattle.segment_table.specs.Table.{held_at, role_of}
 use Rattle.version_store.specs.Store.{IsStore}
 use Rattle.drive.specs.Fields.{DriveFields, store_of}
+use Rattle.segment_copier.specs.Gathering.{IsKeptBack, IsUnmade}
+use Rattle.drive_compaction.specs.Emptying.{Stays}
 
 -- ---- what is held has a row
 
@@ -26,13 +28,8 @@ seen_itself block o is none =
     let some : Some block.bytes ≡ None = sym (ap (λ (b : Bool). if b then Some block.bytes else None) both) ∙ none in
     absurd (cc)
 
-not_none : (r : Option Row) → (r ≡ None → ⊥) → IsSome r
-not_none None some = absurd (some refl)
-not_none (Some row) some = refl
-
-pub row_there : (d : DriveFields) (p : Place) (block : Stored) (o : ℕ) → IsStore (store_of d) → held_at d.store.table p ≡ Some block → block.object ≡ o → IsSome (row_of d.store.rows o)
-row_there d p block o store held is = not_none (row_of d.store.rows o) (λ none.
-    seen_itself block o is (ap (seen_as block.kind o) (sym held) ∙ store.nothing o none block.kind p))
+has_row : (d : DriveFields) (p : Place) (block : Stored) (o : ℕ) → IsStore (store_of d) → held_at d.store.table p ≡ Some block → block.object ≡ o → row_of d.store.rows o ≡ None → ⊥
+has_row d p block o store held is none = seen_itself block o is (ap (seen_as block.kind o) (sym held) ∙ store.nothing o none block.kind p)
 
 -- a held block, by what it is for
 pub record IsOf (d : DriveFields) (p : Place) (o : ℕ) : Type 0 where
@@ -50,3 +47,15 @@ pub held_role : (d : DriveFields) (p : Place) (role : BlockRole) → Some role �
 held_role d p role e =
     let found = block_from (held_at d.store.table p) role e in
     record { block = found.0; held = found.1; object = found.2 }
+
+-- where its move isn't made, the object stays for want of room, of memory or of a pin
+pub stays : (d later : DriveFields) (p : Place) (o : ℕ) (e : Refusal) → IsStore (store_of d) → IsOf d p o → store_of later ≡ store_of d → IsUnmade d p.frame o e → Stays d p e later
+stays d later p o e store is same why = record {
+  block = is.block;
+  held = is.held;
+  same = same;
+  why = subst (λ (n : ℕ). IsKeptBack d p.frame n e) (sym is.object) (elim why [
+    | inl none ↦ absurd (has_row d p is.block o store is.held is.object none.1)
+    | inr kept ↦ kept
+  ]);
+}

@@ -1,21 +1,17 @@
 -- What the emptying of frames comes to.
-use Rattle.std.specs.Prelude.{◌≡◌, ◌⊎◌, ℕ, zero, suc, ◌+◌, ◌<◌, length, Option, Some, None, Ok}
+use Rattle.std.specs.Prelude.{◌≡◌, ℕ, zero, suc, ◌+◌, Option, Some, None, Ok}
 use Rattle.s4_types.specs.Pointer.{Place}
 use Rattle.s4_types.specs.declared.limits.TheConstants.{PAYLOAD_BLOCKS}
 use Rattle.s4_types.specs.declared.refusals.Refusal.{Refusal}
-use Rattle.s4_types.specs.declared.refusals.Refusal.TheVariants.{NoMemory, NoRoom, Busy, InUse}
+use Rattle.s4_types.specs.declared.refusals.Refusal.TheVariants.{InUse}
 use Rattle.block_log.specs.Log.{Stored}
-use Rattle.object_map.specs.declared.map.Row.{Row}
-use Rattle.object_map.specs.Rows.{row_of}
 use Rattle.segment_word.specs.Layout.{frame_at}
-use Rattle.segment_word.specs.Handles.{Drive}
 use Rattle.segment_table.specs.Table.{held_at}
 use Rattle.version_store.specs.Upkeep.{KeepsObjects}
 use Rattle.drive.specs.Fields.{DriveFields, state_in, store_of}
 use Rattle.drive.specs.Keeping.{KeepsVersions}
-use Rattle.history_cleaner.specs.Emptying.{AllVacated, HasFoundReader}
-use Rattle.segment_copier.specs.Commits.{blocks_moved}
-use Rattle.segment_copier.specs.Gathering.{MovesNow}
+use Rattle.history_cleaner.specs.Emptying.{AllVacated, StopsAtReader}
+use Rattle.segment_copier.specs.Gathering.{MovesNow, IsKeptBack}
 use Rattle.drive_compaction.specs.Choosing.{IsLowestFrame}
 
 -- the history is as it was, and every version that can be read
@@ -44,16 +40,6 @@ abbrev pub LeavesBelow : DriveFields → ℕ → ℕ → ℕ → ℕ → DriveFi
 LeavesBelow d f generation zero moves later = (moves ≡ 0) × (later ≡ d)
 LeavesBelow d f generation (suc n) moves later =
     (between : DriveFields) × (k : ℕ) × (m : ℕ) × LeavesBelow d f generation n k between × LeavesPlace between (block_of f generation (suc n)) m later × (moves ≡ k + m)
-
--- fewer places are ahead than the move of an object out of a frame takes
-pub record LacksRoom (d : DriveFields) (f o : ℕ) : Type 0 where
-  pub row : Row
-  pub there : row_of d.store.rows o ≡ Some row
-  pub short : length (store_of d).log.ahead < blocks_moved d f o row
-
--- why the move of an object out of a frame isn't made
-abbrev pub IsKeptBack : DriveFields → ℕ → ℕ → Refusal → Type 0
-IsKeptBack d f o e = ((e ≡ NoRoom) × LacksRoom d f o) ⊎ ((e ≡ NoMemory) ⊎ (e ≡ Busy))
 
 -- The object of the block at a place stays in its frame, for this reason, and nothing has changed.
 pub record Stays (d : DriveFields) (p : Place) (e : Refusal) (later : DriveFields) : Type 0 where
@@ -89,6 +75,11 @@ FreesInTurn d zero moves later = (moves ≡ 0) × (later ≡ d)
 FreesInTurn d (suc n) moves later =
     (between : DriveFields) × (f : ℕ) × (k : ℕ) × (m : ℕ) × FreesInTurn d n k between × IsLowestFrame between f × Frees between f m None later × (moves ≡ k + m)
 
--- a release was tried since some state of the frames, and found a reader
-abbrev pub FindsReader : Drive → Refusal → Type 0
-FindsReader new e = (e ≡ InUse) × (since : Drive) × HasFoundReader since new
+-- A release found a reader: from the drive `since`, of the same history and versions, the frames were marked and released, down to the
+-- first that had one.
+pub record FindsReader (d later : DriveFields) (e : Refusal) : Type 0 where
+  pub refusal : e ≡ InUse
+  pub since : DriveFields
+  pub keeps : KeepsAll d since
+  pub objects : KeepsObjects (store_of since) (store_of later)
+  pub reader : StopsAtReader since.store.table later.store.table

@@ -19,7 +19,7 @@ pub(crate) fn clean<J: Naming>(
     drive: &mut Drive<J>,
 ) -> Result<Option<PassReport>, Refusal>
     ensures passed { IfOk result (λ pass. Passes drive.old pass drive.new) }
-    ensures refusal { IfErr result (λ e. (e ≡ NoMemory) ⊎ FindsReader drive.new.store.table.seat e) }
+    ensures refusal { IfErr result (λ e. (e ≡ NoMemory) ⊎ FindsReader drive.old drive.new e) }
     ensures keeps { KeepsAll drive.old drive.new }
 {
     match full_pass(alloc, drive) {

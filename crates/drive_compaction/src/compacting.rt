@@ -47,7 +47,7 @@ pub fn compact<J: Naming>(
     session: &mut Session<J>,
 ) -> Result<Compaction, Refusal>
     ensures compacted { IfOk result (IsCompacted drive.old drive.new) }
-    ensures refusal { IfErr result (λ e. (e ≡ NoMemory) ⊎ ((e ≡ Busy) ⊎ FindsReader drive.new.store.table.seat e)) }
+    ensures refusal { IfErr result (λ e. (e ≡ NoMemory) ⊎ ((e ≡ Busy) ⊎ FindsReader drive.old drive.new e)) }
     ensures ledger { drive.new.ledger ≡ drive.old.ledger }
     ensures needed { KeepsVersions (state_in drive.old) (store_of drive.old) (store_of drive.new) }
 {

@@ -1,15 +1,12 @@
 //! The objects of one frame leave it.
-ghost use Rattle.std.specs.Prelude.{◌≡◌, ◌≤◌, IsSome, IfOk, IfErr, OnOk, OnErr};
-ghost use Rattle.object_map.specs.Rows.{row_of};
-ghost use Rattle.drive.specs.Fields.{store_of};
+ghost use Rattle.std.specs.Prelude.{◌≤◌, IfOk, IfErr};
 ghost use Rattle.segment_copier.specs.Choosing.{IsLife};
-ghost use Rattle.segment_copier.specs.Gathering.{MovesNow};
-ghost use Rattle.drive_compaction.specs.Emptying.{KeepsAll, LeavesPlace, IsKeptBack, Stays, Empties};
+ghost use Rattle.drive_compaction.specs.Emptying.{KeepsAll, LeavesPlace, Stays, Empties};
 
 use drive::{Drive, Session};
 use s4_types::limits::PAYLOAD_BLOCKS;
-use s4_types::{ObjectId, Ptr, Refusal};
-use segment_copier::{commit, plan_move};
+use s4_types::{Ptr, Refusal};
+use segment_copier::move_now;
 use segment_table::OverFrames;
 use segment_word::Naming;
 use std::alloc::Global;
@@ -21,26 +18,6 @@ pub(crate) struct Emptied {
     pub(crate) moves: u32,
     /// Why it stopped before its end, if it did.
     pub(crate) stopped: Option<Refusal>,
-}
-
-/// A whole move of an object's held blocks out of a frame, planned, copied and put in place before anything else is done with the drive.
-/// After a refusal nothing has changed.
-fn move_out<J: Naming>(
-    alloc: Global,
-    drive: &mut Drive<J>,
-    session: &mut Session<J>,
-    frame: u16,
-    object: ObjectId,
-) -> Result<(), Refusal>
-    requires some { IsSome (row_of drive.old.store.rows object) }
-    ensures moved { OnOk result (MovesNow drive.old frame object result drive.new) }
-    ensures refusal { IfErr result (IsKeptBack drive.old frame object) }
-    ensures unchanged { OnErr result (store_of drive.new ≡ store_of drive.old) }
-    ensures keeps { KeepsAll drive.old drive.new }
-{
-    let plan = plan_move(alloc, drive, session, frame, object)?;
-    let moved = plan.copy(alloc)?;
-    commit(alloc, drive, moved)
 }
 
 /// The object of the block at a place leaves the frame with all that it holds there, if one is held at the place. Ok tells how many moves
@@ -60,7 +37,7 @@ fn leave<J: Naming>(
         return Ok(0);
     };
     drive.rules();
-    move_out(alloc, drive, session, place.frame(), role.object)?;
+    move_now(alloc, drive, session, place.frame(), role.object)?;
     Ok(1)
 }
 

@@ -51,7 +51,7 @@ fn free_frame<J: Naming>(
     requires { IsLowestFrame drive.old frame }
     ensures frees { IfOk result (λ done. Frees drive.old frame done.moves done.stopped drive.new) }
     ensures few { IfOk result (λ done. done.moves ≤ 15) }
-    ensures refusal { IfErr result (FindsReader drive.new.store.table.seat) }
+    ensures refusal { IfErr result (FindsReader drive.old drive.new) }
     ensures keeps { KeepsAll drive.old drive.new }
 {
     let Some(generation) = drive.generation(frame) else {
@@ -73,7 +73,7 @@ pub(crate) fn free_all<J: Naming>(
     session: &mut Session<J>,
 ) -> Result<Freed, Refusal>
     ensures freed { IfOk result (λ freed. FreesAll drive.old freed.frames freed.moves freed.ending drive.new) }
-    ensures refusal { IfErr result (λ e. (e ≡ NoMemory) ⊎ ((e ≡ Busy) ⊎ FindsReader drive.new.store.table.seat e)) }
+    ensures refusal { IfErr result (λ e. (e ≡ NoMemory) ⊎ ((e ≡ Busy) ⊎ FindsReader drive.old drive.new e)) }
     ensures keeps { KeepsAll drive.old drive.new }
 {
     let mut moves = 0;
