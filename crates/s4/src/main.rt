@@ -1,6 +1,7 @@
 //! The program `s4`: looks into the past of a drive that is kept in a file, and brings it back.
 //!
-//! `perform` does what a line of words asks for, over any files and writers, and `main` calls it with the system's. `restore` and
+//! `perform` does what a line of words asks for, over any files and writers, and `main` calls it with the system's, on a thread whose
+//! stack is had before anything is read. `restore` and
 //! `compact` alone change an image; no other command does, or keeps another program from it. What is proved over any files that say what they hold:
 //! `list` writes the line of exactly the objects that are listed at a moment, `log` a line for each entry of the journals between two
 //! moments, `cat` the bytes of an object at a moment, `diff` what differs between two moments, `check` how many versions can be read, all
@@ -9,8 +10,10 @@
 //! tested, and so are the texts on standard error.
 #![tactic(auto)]
 
-ghost use Rattle.std.specs.Prelude.{◌≡◌, ◌≢◌};
+ghost use Rattle.std.specs.Prelude.{◌≡◌, ◌≢◌, ◌+◌, ◌^◌, ◌<◌, ◌≤◌, map};
+ghost use Rattle.std.specs.Process.{exit_status};
 ghost use Rattle.std.specs.declared.io.ErrorKind.TheVariants.{OutOfMemory};
+ghost use Rattle.s4.specs.Performing.{IsUsage};
 
 mod changing;
 mod checking;
@@ -23,6 +26,7 @@ mod listing;
 mod logging;
 mod making_room;
 mod moments;
+mod own_thread;
 mod performing;
 mod reading;
 mod restoring;
@@ -32,27 +36,41 @@ mod watching;
 
 use faults::Failure;
 use image_commands::hold_standard_streams;
-use performing::{fail, perform, refuse};
+use own_thread::perform_apart;
+use performing::{fail, refuse};
 use s4_types::Refusal;
-use serving::WriteSink;
+use serving::{Sink, WriteSink};
+use std::convert::AsStr;
 use std::io;
+use std::marker::Send;
 use std::process::ExitCode;
+use std::thread::Threads;
 
 fn main(rt: HostRuntime) -> ExitCode {
     // Where the system has nothing to open, the streams stay as they are.
     let _ = hold_standard_streams(&rt);
-    let mut files = rt;
     match words_of(&rt) {
-        Ok(words) => ExitCode::from(perform(
-            &rt,
-            rt.alloc(),
-            &mut files,
-            &rt,
-            words.as_slice(),
-            &mut WriteSink::new(rt.stdout()),
-            &mut rt.stderr(),
-        )),
+        Ok(words) => exit_of(&rt, &rt, words, WriteSink::new(rt.stdout())),
         Err(error) => ExitCode::from(tell(&rt, error.kind())),
+    }
+}
+
+// What the line came to.
+fn exit_of<
+    T: Threads + Copy + Send + Sync + Drop + 'static,
+    S: AsStr + Send + Drop + 'static,
+    W: Sink + Send + Drop + 'static,
+>(threads: &T, rt: &HostRuntime, words: Vec<S>, writer: W) -> ExitCode
+    requires writer { W.failures writer + 1 < 2 ^ 64 }
+    ensures status { exit_status result ≤ 2 }
+    ensures usage { exit_status result ≡ 2 → IsUsage (map S.text words.items) }
+{
+    match perform_apart(threads, rt.alloc(), *rt, *rt, words, writer, rt.stderr()) {
+        Ok(run) => ExitCode::from(run.status),
+        Err(_) => {
+            let status = fail(&mut rt.stderr(), Failure::from(Refusal::NoMemory));
+            ExitCode::from(status)
+        }
     }
 }
 

@@ -3,17 +3,18 @@ ghost use Rattle.std.specs.Prelude.{◌≡◌, ◌+◌, ◌^◌, ◌<◌, ◌≤
 ghost use Rattle.s4d.specs.Performing.{IsDone, IsUsage, unknown};
 
 use crate::performing::perform;
+use own_stacks::call_with_stack;
 use serving::{Sink, Source};
 use std::alloc::AllocError;
 use std::convert::AsStr;
 use std::io::Write;
 use std::marker::Send;
-use std::snapshot::Snapshot;
 use std::sync::Wait;
-use std::thread::{Builder, Promise, Threads};
+use std::thread::Threads;
 use std::time::Clock;
 
-/// How many bytes of stack a run has: several times what the deepest call takes.
+/// How many bytes of stack a run has. None was seen to touch more than 79,992, what the system
+/// keeps there included.
 const STACK_BYTES: usize = 1 << 20;
 
 /// A run that is over: its status, and the streams as it left them.
@@ -22,22 +23,6 @@ pub struct Ran<R, W> {
     pub status: u8,
     pub reader: R,
     pub writer: W,
-}
-
-/// What a run began with.
-#[derive(Drop)]
-struct Begun<S, R, W> {
-    words: Snapshot<Vec<S>>,
-    reader: Snapshot<R>,
-    writer: Snapshot<W>,
-}
-
-impl<S: AsStr, R: Source, W: Sink> Promise<Ran<R, W>> for Begun<S, R, W> {
-    ghost kept_by = { λ begun run. (run.status ≤ 2)
-        × (run.status ≡ 0 → IsDone (map S.text begun.words.value.items) unknown unknown
-        (R.remaining begun.reader.value) (W.passed begun.writer.value)
-        (R.remaining run.reader) (W.passed run.writer))
-        × (run.status ≡ 2 → IsUsage (map S.text begun.words.value.items)) };
 }
 
 /// Does what the words ask for, as `perform` does, on a thread with a stack of its own.
@@ -65,22 +50,20 @@ pub fn perform_apart<
         (R.remaining run.reader) (W.passed run.writer)) }
     ensures usage { IfOk result (λ run. run.status ≡ 2 → IsUsage (map S.text words.items)) }
 {
-    let begun = Begun {
-        words: Snapshot::of(&words),
-        reader: Snapshot::of(&reader),
-        writer: Snapshot::of(&writer),
-    };
     let own = *threads;
-    let stack = Builder::new().stack_size(STACK_BYTES);
-    let started = stack.spawn_with(
+    call_with_stack(
         threads,
-        begun,
-        move ||
+        STACK_BYTES,
+        move || -> Ran<R, W>
             requires reader { R.failures reader + 1 < 2 ^ 64 }
             requires writer { W.failures writer + 1 < 2 ^ 64 }
+            ensures status { result.status ≤ 2 }
+            ensures done { result.status ≡ 0 → IsDone (map S.text words.items) unknown unknown
+                (R.remaining reader) (W.passed writer)
+                (R.remaining result.reader) (W.passed result.writer) }
+            ensures usage { result.status ≡ 2 → IsUsage (map S.text words.items) }
         { run(own, files, words, reader, writer, errors) },
-    )?;
-    Ok(started.join(threads))
+    )
 }
 
 /// Does what the words ask for, over files and streams of its own.
