@@ -35,7 +35,7 @@ WINDOW = 20
 LIMIT = 20.0  # seconds of a run
 PATIENCE = 10  # limits of a run that goes on: it may only lack a processor
 REST = 1.0  # seconds in which no thread of a run that hangs has run
-BATCH = 200  # runs of one task of a worker
+BATCH = 50  # runs of one task of a worker
 OBJECTS = 3
 MOST_WRITES = 4  # of the one session
 MOST_SESSIONS, MOST_ASKED = 16, 12
@@ -212,20 +212,33 @@ class Worker:
         return Tally(**counts), told
 
 
+def begin_worker():
+    """What ends the script goes to its first process alone: the others end with their runs."""
+    signal.signal(signal.SIGINT, signal.SIG_IGN)
+    signal.signal(signal.SIGTERM, signal.SIG_DFL)
+
+
 def count(worker, first, runs, workers):
-    """Makes all runs, and gives what came of them; prints what didn't end, and how far it is."""
-    total, began = Tally(0, 0, 0), time.monotonic()
+    """Makes all runs, and gives what came of them; prints what didn't end, and how far it is. Where it is interrupted, of those so far."""
+    total, rate, began = Tally(0, 0, 0), 0.0, time.monotonic()
     batches = [range(at, min(at + BATCH, first + runs)) for at in range(first, first + runs, BATCH)]
-    with concurrent.futures.ProcessPoolExecutor(workers) as pool:
-        for done in concurrent.futures.as_completed([pool.submit(worker.batch, it) for it in batches]):
-            tally, lines = done.result()
-            total = Tally(*map(sum, zip(total, tally)))
-            if lines:
-                print("\n".join(lines), flush=True)
-            rate = sum(total) / (time.monotonic() - began)
-            print(f"\r{sum(total):,} of {runs:,}, {rate:.0f} a second ", end="", file=sys.stderr, flush=True)
+    with concurrent.futures.ProcessPoolExecutor(workers, initializer=begin_worker) as pool:
+        try:
+            for done in concurrent.futures.as_completed([pool.submit(worker.batch, it) for it in batches]):
+                tally, lines = done.result()
+                total = Tally(*map(sum, zip(total, tally)))
+                if lines:
+                    print("\n".join(lines), flush=True)
+                rate = sum(total) / (time.monotonic() - began)
+                print(f"\r{sum(total):,} of {runs:,}, {rate:.0f} a second ", end="", file=sys.stderr, flush=True)
+        except KeyboardInterrupt:
+            pool.shutdown(cancel_futures=True)
     print(file=sys.stderr)
     return total, rate
+
+
+def interrupt(*_):
+    raise KeyboardInterrupt
 
 
 def main():
@@ -243,14 +256,15 @@ def main():
     with tempfile.TemporaryDirectory(dir=MEMORY) as folder:
         images = prepared(program, folder)
     worker = Worker(program, images, several if options.sessions else single, options.seconds)
-    busy = [subprocess.Popen([sys.executable, "-c", "while True: pass"]) for _ in range(options.busy)]
+    busy = [wire.busy() for _ in range(options.busy)]
+    signal.signal(signal.SIGTERM, interrupt)
     try:
         total, rate = count(worker, options.first, options.runs, options.workers)
     finally:
         for process in busy:
             process.kill()
             process.wait()
-    print(f"{total.ended:,} of {options.runs:,} runs ended, {total.hung:,} hung, {total.failed:,} failed; {rate:.0f} a second,"
+    print(f"{total.ended:,} of {sum(total):,} runs ended, {total.hung:,} hung, {total.failed:,} failed; {rate:.0f} a second,"
           f" {options.workers} side by side beside {options.busy} busy processes on {processors} processors")
     return 0 if total.ended == options.runs else 1
 

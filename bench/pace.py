@@ -204,7 +204,7 @@ def print_busy(told, words):
     shutil.copy("image", "before")
     alone = timed(words)
     shutil.copy("before", "image")
-    with subprocess.Popen([sys.executable, "-c", "while True: pass"]) as busy:
+    with wire.busy() as busy:
         beside = timed(words)
         busy.kill()
     shutil.copy("before", "image")

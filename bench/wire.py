@@ -14,6 +14,13 @@ _, status, used = os.wait4(child, 0)
 print(used.ru_maxrss, file=sys.stderr)
 sys.exit(os.waitstatus_to_exitcode(status) != 0)
 """
+BUSY = """
+import os
+parent = os.getppid()
+while os.getppid() == parent:
+    for _ in range(1_000_000):
+        pass
+"""
 CHANGED, CREATED, DATA, ATTRIBUTE = 1, 2, 3, 4  # kinds of replies
 
 
@@ -85,6 +92,11 @@ def memory(words, **how):
     watched = [sys.executable, "-S", "-E", "-c", WATCHER, *words]
     ran = subprocess.run(watched, stdout=subprocess.DEVNULL, stderr=subprocess.PIPE, text=True, check=True, **how)
     return int(ran.stderr)
+
+
+def busy():
+    """A process that computes and never waits, until it is killed or the one that started it has ended."""
+    return subprocess.Popen([sys.executable, "-S", "-E", "-c", BUSY])
 
 
 def spread(values):
