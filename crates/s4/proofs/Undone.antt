@@ -1,11 +1,6 @@
 -- What a command that isn't done leaves.
-use Rattle.std.proofs.Common.{◌≡◌, ℕ, List, Option, inl, inr}
-use Rattle.std.proofs.KnownBytes.{Keeps-refl}
+use Rattle.std.proofs.Common.{ℕ, List, Option, inl, inr}
 use Rattle.s4.specs.Performing.{IsUndone}
-
--- no file was touched
-pub undone : (files : List ℕ → Option (List ℕ)) (Done : Type 0) → IsUndone files files Done
-undone files Done = inl (λ path. Keeps-refl (files path))
 
 -- what is done in few words is done in others
 pub undone_on : (files files' : List ℕ → Option (List ℕ)) (A B : Type 0) → (A → B) → IsUndone files files' A → IsUndone files files' B
