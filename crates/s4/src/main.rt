@@ -1,8 +1,7 @@
 //! The program `s4`: looks into the past of a drive that is kept in a file, and brings it back.
 //!
 //! `perform` does what a line of words asks for, over any files and writers, and `main` calls it with the system's, on a thread whose
-//! stack is had before anything is read. `restore` and
-//! `compact` alone change an image; no other command does, or keeps another program from it. What is proved over any files that say what they hold:
+//! stack is had before anything is read. `restore` and `compact` alone change an image; no other command does, or keeps another program from it. What is proved over any files that say what they hold:
 //! `list` writes the line of exactly the objects that are listed at a moment, `log` a line for each entry of the journals between two
 //! moments, `cat` the bytes of an object at a moment, `diff` what differs between two moments, `check` how many versions can be read, all
 //! of which were; `salvage` how much of a damaged image was written into a folder, file by file; `restore` leaves what the drive is saved as in which the objects are what they were, and `compact` what the compacted
@@ -10,10 +9,9 @@
 //! tested, and so are the texts on standard error.
 #![tactic(auto)]
 
-ghost use Rattle.std.specs.Prelude.{◌≡◌, ◌≢◌, ◌+◌, ◌^◌, ◌<◌, ◌≤◌, map};
+ghost use Rattle.std.specs.Prelude.{◌≡◌, ◌≢◌, ◌+◌, ◌^◌, ◌<◌, ◌≤◌};
 ghost use Rattle.std.specs.Process.{exit_status};
 ghost use Rattle.std.specs.declared.io.ErrorKind.TheVariants.{OutOfMemory};
-ghost use Rattle.s4.specs.Performing.{IsUsage};
 
 mod changing;
 mod checking;
@@ -62,11 +60,10 @@ fn exit_of<
     W: Sink + Send + Drop + 'static,
 >(threads: &T, rt: &HostRuntime, words: Vec<S>, writer: W) -> ExitCode
     requires writer { W.failures writer + 1 < 2 ^ 64 }
-    ensures status { exit_status result ≤ 2 }
-    ensures usage { exit_status result ≡ 2 → IsUsage (map S.text words.items) }
+    ensures { exit_status result ≤ 2 }
 {
-    match perform_apart(threads, rt.alloc(), *rt, *rt, words, writer, rt.stderr()) {
-        Ok(run) => ExitCode::from(run.status),
+    match perform_apart(threads, *rt, words, writer, rt.stderr()) {
+        Ok(status) => ExitCode::from(status),
         Err(_) => {
             let status = fail(&mut rt.stderr(), Failure::from(Refusal::NoMemory));
             ExitCode::from(status)
