@@ -1,19 +1,21 @@
-/* How the sessions of one drive, its cleaner and its copier wait for one another: the methods of `Pace` in
-   crates/server/src/pace.rt that take the monitor's lock, an inline of the same name each, and the drive's
-   mutex. tests/model/run searches it by spin, in all orders in which the threads may take their steps.
+/* How the sessions of one drive, its cleaner and its copier wait for one another: the methods
+   of `Pace` in crates/server/src/pace.rt that take the monitor's lock, an inline of the same
+   name each, and the drive's mutex. tests/model/run searches it by spin, in all orders in
+   which the threads may take their steps.
 
-   A step is a section of the monitor's lock, with the drive's lock right before it or the drive's unlock
-   right after it; a sleep; a wake-up. With FINE each of these is several steps, each lock and each unlock
-   among them. What the code decides by rooms, clocks, chains and the agenda is left open: each answer is
-   tried.
+   A step is a section of the monitor's lock, with the drive's lock right before it or the
+   drive's unlock right after it; a sleep; a wake-up. With FINE each of these is several
+   steps, each lock and each unlock among them. What the code decides by rooms, clocks, chains
+   and the agenda is left open: each answer is tried.
 
-   Left out: what is in the drive; moments, so a timed wait may end at once; memory and its refusals; that
-   the two mutexes are fair, but for the drive's with FAIR. A session's look at `wanting` before it tries
-   the drive's lock decides no sleep: here it may try, and may ask, whatever it would see.
+   Left out: what is in the drive; moments, so a timed wait may end at once; memory and its
+   refusals; that the two mutexes are fair, but for the drive's with FAIR. A session's look at
+   `wanting` before it tries the drive's lock decides no sleep: here it may try, and may ask,
+   whatever it would see.
 
-   All that is asked of the numbers of rounds is which is the greater, so they are counted from the last
-   round that ended. Of `entered`, `taken` and `stirred` it is asked how far they are from what one saw: a
-   few values. So a run of any length has few states.
+   All that is asked of the numbers of rounds is which is the greater, so they are counted
+   from the last round that ended. Of `entered`, `taken` and `stirred` it is asked how far
+   they are from what one saw: a few values. So a run of any length has few states.
 
    What is chosen by macros:
    SESSIONS      how many; one where it isn't given
@@ -22,10 +24,10 @@
    QUANTUM       changes and rounds after which the copier looks again; one where it isn't given
    THREADED      the system gives all threads; otherwise each may be lacking
    FALLS_SILENT  a session may stop asking though its input is open: nothing may wait for it then
-   FAIR          the drive's mutex goes to those that are in its lock call in the order in which they came
-   OLD_ORDER     an order that loses a call: the cleaner reads whether all others have ended before its
-                 round begins, the begin of a round clears what is wanted, and the cleaner rests where
-                 nothing is wanted, whoever has ended meanwhile
+   FAIR          the drive's mutex goes to those in its lock call in the order in which they came
+   OLD_ORDER     an order that loses a call: the cleaner reads whether all others have ended before
+                 its round begins, the begin of a round clears what is wanted, and the cleaner
+                 rests where nothing is wanted, whoever has ended meanwhile
    FAULT         1 .. 10, another fault: see there */
 #ifndef SESSIONS
 #define SESSIONS 1
@@ -71,8 +73,9 @@ byte moves = MOVES;
 
 /* Only for what is claimed. */
 bit is_owed;                      /* something was hidden, and no round has begun since */
-bit is_unseen, is_held;           /* something is hidden that no turn saw; that one saw, not freed yet */
-bit was_unseen[SESSIONS], was_held[SESSIONS];  /* the same, of what was so when this session began to wait */
+bit is_unseen, is_held; /* something is hidden that no turn saw; that one saw, not freed yet */
+/* the same, of what was so when this session began to wait */
+bit was_unseen[SESSIONS], was_held[SESSIONS];
 bit is_waiting[SESSIONS];         /* for a round */
 #ifdef FAIR
 bit needs_drive[WAITERS];
@@ -104,8 +107,8 @@ inline notify_all() {
   d_step { for (each : 0 .. WAITERS - 1) { is_asleep[each] = 0 } each = 0 }
 }
 
-/* Condvar::wait: it unlocks and sleeps in one step; woken, it locks again. Each caller then looks at its
-   predicate again. */
+/* Condvar::wait: it unlocks and sleeps in one step; woken, it locks again. Each caller then looks
+   at its predicate again. */
 inline sleep(me) {
   atomic { is_asleep[me] = 1; UNLOCK(monitor) };
   is_asleep[me] == 0;
@@ -488,7 +491,8 @@ over:
 #define IS_OVER (has_cleaned && has_copied && is_served)
 
 #ifdef FALLS_SILENT
-/* No thread can take a step. Then all is over, or sessions are mute and the others wait for them alone. */
+/* No thread can take a step. Then all is over, or sessions are mute and the others wait for them
+   alone. */
 proctype Quiet() {
   timeout;
   assert(left + mute == SESSIONS && (mute > 0 || IS_OVER));
@@ -519,7 +523,7 @@ init {
   }
 }
 
-ltl ends    { <> IS_OVER }                                    /* each run, where requests and moves end */
+ltl ends    { <> IS_OVER } /* each run, where requests and moves end */
 ltl begins  { [] (is_owed -> <> !is_owed) }                   /* a round, after each flush */
 ltl waits   { [] (is_waiting[0] -> <> !is_waiting[0]) }
 #ifdef FAIR
