@@ -98,8 +98,9 @@ def several(number):
 def prepared(program, folder):
     """The images that runs begin with, by name: empty ones, and some that were written until no Write was taken."""
     images = {}
-    path, asked = os.path.join(folder, "made"), os.path.join(folder, "asked")
+    asked = os.path.join(folder, "asked")
     for frames in FRAMES:
+        path = os.path.join(folder, f"image{frames}")
         subprocess.run([program, "new", "--window", str(WINDOW), path, str(frames)], check=True)
         images[f"empty{frames}"] = bytes_of(path)
         writes = b"".join(wire.write(o, 0, b"w" * wire.SMALL) for o in range(1, OBJECTS + 1)) * (15 * frames)

@@ -66,11 +66,11 @@ def put(path, data):
         file.write(data)
 
 
-def new(program, frames):
+def new(program, frames, window=WINDOW):
     """A new drive's image in this folder, in place of one that is there."""
     if os.path.exists("image"):
         os.remove("image")
-    subprocess.run([program, "new", "--window", str(WINDOW), "image", str(frames)], check=True)
+    subprocess.run([program, "new", "--window", str(window), "image", str(frames)], check=True)
 
 
 def made(program, frames):
@@ -165,7 +165,7 @@ def files(flush):
 
 def measure_deleting(program):
     for told, flush in (("", b""), (f" with a Flush each {FLUSHED} files", wire.flush(0, 0))):
-        subprocess.run([program, "new", "--window", str(FILE_WINDOW), "image", str(FILE_FRAMES)], check=True)
+        new(program, FILE_FRAMES, FILE_WINDOW)
         seconds, replies = served(program, files(flush), [], "admin")
         counts = tallied(replies)
         if flush:
@@ -236,7 +236,7 @@ def measure_busy(program, count):
     os.sched_setaffinity(0, {processor})
     idle = [program, "run", "image", "client:/dev/null:/dev/null"]
     for objects in NOT_MOVED:
-        subprocess.run([program, "new", "--window", str(WINDOW), "image", "1024"], check=True)
+        new(program, 1_024)
         put("made", wire.create() * objects)
         subprocess.run([program, "run", "--no-upkeep", "image", "client:made:/dev/null"], check=True)
         print_busy(f"{objects:,} objects", idle)
