@@ -215,8 +215,8 @@ class Worker:
 
 def begin_worker():
     """What ends the script goes to its first process alone: the others end with their runs."""
-    signal.signal(signal.SIGINT, signal.SIG_IGN)
-    signal.signal(signal.SIGTERM, signal.SIG_DFL)
+    for it in (signal.SIGINT, signal.SIGTERM):
+        signal.signal(it, signal.SIG_IGN)
 
 
 def count(worker, first, runs, workers):
@@ -238,7 +238,8 @@ def count(worker, first, runs, workers):
     return total, rate
 
 
-def interrupt(*_):
+def interrupt(number, _):
+    signal.signal(number, signal.SIG_IGN)
     raise KeyboardInterrupt
 
 
