@@ -117,7 +117,7 @@ def of_script(script, replay):
 
 def of_session(s4d):
     return Subject("a session", [s4d, "pipe", "client"], REQUESTS,
-                   lambda status, output, errors: fault_of(status, output, errors, REPLIES))
+                   lambda status, output, errors: fault_of(s4d, status, output, errors, REPLIES))
 
 
 def named(program, word):
