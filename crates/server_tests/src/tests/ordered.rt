@@ -30,8 +30,10 @@ static STEPS: [&[UpkeepStep]; 3] = [
     &[UpkeepStep::SessionsEnd, UpkeepStep::SessionsReturn],
 ];
 
-/// How long a thread is held at most, in milliseconds.
-const HELD_MILLISECONDS: u64 = 300;
+/// How long a thread is held at most, in milliseconds: where the order can come, and where it can't.
+const MOST_MILLISECONDS: u64 = 20_000;
+
+const FORBIDDEN_MILLISECONDS: u64 = 300;
 
 /// The frames of a Create, a Write of a byte to object 1, and a Flush of all moments.
 static REQUESTS: [&[u8]; 3] = [
@@ -53,6 +55,8 @@ struct Seen {
     was_held: bool,
     /// The other one has come to its own.
     has_come: bool,
+    /// The cleaner has begun its first round.
+    has_begun: bool,
     /// The first was held for too long.
     gave_up: bool,
 }
@@ -76,15 +80,25 @@ impl<'a, R: Wait + Clock> Order<'a, R> {
             seen: Mutex::new(Seen {
                 was_held: false,
                 has_come: false,
+                has_begun: false,
                 gave_up: false,
             }),
             news: Condvar::new(),
         }
     }
 
+    /// How long the thread is held at most.
+    fn bound(&self) -> Duration {
+        let most = if is_forbidden(self.held, self.until) {
+            FORBIDDEN_MILLISECONDS
+        } else {
+            MOST_MILLISECONDS
+        };
+        Duration::from_millis(most)
+    }
+
     /// Holds the thread that is here until the other one has come, or gives up.
     fn hold(&self) {
-        let most = Duration::from_millis(HELD_MILLISECONDS);
         let mut seen = self.seen.lock(self.rt);
         if seen.was_held {
             return;
@@ -92,8 +106,29 @@ impl<'a, R: Wait + Clock> Order<'a, R> {
         seen.was_held = true;
         let (mut seen, _) = self
             .news
-            .wait_timeout_while(self.rt, seen, most, |seen| !seen.has_come);
+            .wait_timeout_while(self.rt, seen, self.bound(), |seen| !seen.has_come);
         seen.gave_up = !seen.has_come;
+    }
+
+    /// Sessions that have ended wait for the cleaner's first round, so that it isn't the last: on a
+    /// busy machine they may have begun without a cleaner. Not where that round is held for them.
+    fn await_round(&self) {
+        if self.held == UpkeepStep::RoundBegins {
+            return;
+        }
+        let seen = self.seen.lock(self.rt);
+        let most = Duration::from_millis(MOST_MILLISECONDS);
+        let (_seen, _) = self
+            .news
+            .wait_timeout_while(self.rt, seen, most, |seen| !seen.has_begun);
+    }
+
+    /// Notes who has come to which step.
+    fn note(&self, step: UpkeepStep) {
+        let mut seen = self.seen.lock(self.rt);
+        seen.has_come |= step == self.until;
+        seen.has_begun |= step == UpkeepStep::FirstTurn;
+        self.news.notify_all();
     }
 }
 
@@ -103,9 +138,9 @@ impl<R: Wait + Clock> Gate for Order<'_, R> {
     fn answered(&self, _session: usize, _call: u64) {}
 
     fn upkeep(&self, step: UpkeepStep) {
-        if step == self.until {
-            self.seen.lock(self.rt).has_come = true;
-            self.news.notify_all();
+        self.note(step);
+        if step == UpkeepStep::SessionsEnd {
+            self.await_round();
         }
         if step == self.held {
             self.hold();
