@@ -7,8 +7,8 @@ Each edit of crates/server_tests/old-orders is put into a copy of the repository
 `server_tests` without proofs, and runs them. First they run as they are, since a test that fails then says nothing. An edit has the form of
 those of must-fail; its files are those of crates/server, or named from the top of the repository.
 
-Prints for each edit which tests fail, and which of these had not ended after their seconds; last 'N passed, M failed'. The
-status is 0 where a test fails of each edit.
+Prints for each edit which tests fail, and what `rt try` says of them, as that one hadn't ended after its seconds; last 'N passed, M
+failed'. The status is 0 where a test fails of each edit.
 """
 import argparse
 import os
@@ -23,7 +23,6 @@ TESTS = "crates/server_tests"
 ORDERS = f"{TESTS}/old-orders"
 EDITED = "crates/server"
 SECONDS = 20  # of a test
-UNENDED = "no-answer: the program did not end within the time limit"
 
 
 def copy_repository(clone):
@@ -74,20 +73,19 @@ def put(clone, texts):
 
 
 def tried(clone, seconds):
-    """Runs the tests: how many there are, and the name of each that fails with whether it had ended. ValueError where none was run."""
+    """Runs the tests: how many there are, and the name of each that fails with what is said of it. ValueError where none was run."""
     words = ["rt", "try", "--test", "--seconds", str(seconds)]
     how = {"stdout": subprocess.PIPE, "stderr": subprocess.STDOUT, "text": True, "errors": "replace"}
     said = subprocess.run(words, cwd=f"{clone}/{TESTS}", check=False, **how).stdout
     found = re.findall(r"^test (\S+) \.\.\. (\w+)\n((?: .*\n)*)", said, re.MULTILINE)
     if not found or "test result:" not in said:
         raise ValueError("no test was run:\n" + "\n".join(said.splitlines()[:8]))
-    return len(found), [(name, UNENDED not in rest) for name, result, rest in found if result != "ok"]
+    return len(found), [(name, rest.rstrip()) for name, result, rest in found if result != "ok"]
 
 
 def told(count, failing):
-    """How many tests fail, and which."""
-    names = ", ".join(name if has_ended else f"{name} (had not ended)" for name, has_ended in failing)
-    return f"{len(failing)} of {count} tests fail{': ' if failing else ''}{names}"
+    """How many tests fail, and what is said of these."""
+    return "\n".join([f"{len(failing)} of {count} tests fail", *(f"  {name}\n{rest}" for name, rest in failing)])
 
 
 def try_order(clone, name, seconds):
@@ -102,7 +100,7 @@ def try_order(clone, name, seconds):
         return False
     finally:
         restore(clone, name)
-    print(f"{name}: {told(count, failing)}, {time.time() - began:.0f} s", flush=True)
+    print(f"{name}: {time.time() - began:.0f} s, {told(count, failing)}", flush=True)
     return bool(failing)
 
 
