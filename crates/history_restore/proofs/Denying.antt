@@ -19,7 +19,7 @@ use Rattle.history_restore.proofs.Stepping.{IsNoRead, no_read, accepts_none}
 -- ---- what a step refuses
 
 -- a change is judged by the history as it was
-judged_as_was : (h : History) (request : Request) (now : ℕ) → IsOfVersions request → judged h request now ≡ state_of h
+pub judged_as_was : (h : History) (request : Request) (now : ℕ) → IsOfVersions request → judged h request now ≡ state_of h
 judged_as_was h (Create attribute) now of = refl
 judged_as_was h (Delete object) now of = refl
 judged_as_was h (Read object offset len at) now of = absurd of

@@ -14,3 +14,6 @@ pub mod There
 pub mod AllBack
 pub mod Asked
 pub mod Chosen
+pub mod Storing
+pub mod Planned
+pub mod Counted

@@ -1,8 +1,8 @@
 -- What a request for a change of an object leaves.
-use Rattle.std.specs.Prelude.{◌≡◌, ◌⊎◌, Bool, true, Option, Some}
+use Rattle.std.specs.Prelude.{◌≡◌, ◌⊎◌, ℕ, ◌≤◌, ◌+◌, max, Bool, true, List, [], ◌∷◌, Option, Some}
 use Rattle.s4_types.specs.declared.changes.Change.{Change}
 use Rattle.s4_types.specs.declared.refusals.Refusal.{Refusal}
-use Rattle.s4_types.specs.declared.refusals.Refusal.TheVariants.{ClockEnd}
+use Rattle.s4_types.specs.declared.refusals.Refusal.TheVariants.{ChainFull, ClockEnd}
 use Rattle.s4_types.specs.declared.requests.Request.{Request}
 use Rattle.s4_model.specs.State.{State}
 use Rattle.s4_model.specs.Effect.{effect, object_of}
@@ -10,6 +10,9 @@ use Rattle.s4_model.specs.Numbers.{next_by}
 use Rattle.s4_model.specs.Laws.{is_of_want}
 use Rattle.s4_model.specs.Refusals.{present}
 use Rattle.s4_model.specs.Step.{change_of}
+use Rattle.version_store.specs.Costs.{change_refusal}
+use Rattle.version_store.specs.Store.{StoreFields}
+use Rattle.drive.specs.Answering.{StoresVersion}
 use Rattle.history_restore.specs.Content.{content_of}
 
 -- A change was made: its object has the content that the change's effect on its version has.
@@ -30,3 +33,37 @@ is_left refusal = is_of_want refusal
 -- a refusal is of want, or the first that applies
 abbrev pub IsGiven : Option Refusal → Refusal → Type 0
 IsGiven first refusal = (is_of_want refusal ≡ true) ⊎ (first ≡ Some refusal)
+
+-- a change was stored, at some moment
+abbrev pub IsStoredBy : Change → StoreFields → StoreFields → Type 0
+IsStoredBy change store after = (m : ℕ) × StoresVersion store change m after
+
+-- The journal of its object would be too long with the entries of a change. The moment makes no difference.
+abbrev pub IsTooLongBy : Change → StoreFields → Type 0
+IsTooLongBy change store = (m : ℕ) × (change_refusal store change m ≡ Some ChainFull)
+
+-- these changes were stored, one after the other
+abbrev pub AreStored : StoreFields → List Change → StoreFields → Type 0
+AreStored store [] after = after ≡ store
+AreStored store (change ∷ changes) after = (middle : StoreFields) × IsStoredBy change store middle × AreStored middle changes after
+
+-- Of these changes one finds its object's journal too full, once those in front of it are stored, one after the other.
+abbrev pub FindsFull : StoreFields → List Change → Type 0
+FindsFull store [] = ⊥
+FindsFull store (change ∷ changes) = IsTooLongBy change store ⊎ ((middle : StoreFields) × IsStoredBy change store middle × FindsFull middle changes)
+
+-- the change that a request asks for was stored
+abbrev pub StoresAsked : StoreFields → State → Request → StoreFields → Type 0
+StoresAsked store s request after = (change : Change) → change_of s request ≡ Some change → IsStoredBy change store after
+
+-- a refusal that is for a full journal is so of the change that a request asks for
+abbrev pub IsFullFor : StoreFields → State → Request → Refusal → Type 0
+IsFullFor store s request refusal = refusal ≡ ChainFull → (change : Change) → change_of s request ≡ Some change → IsTooLongBy change store
+
+-- so it is of one of these changes
+abbrev pub IsFullForOne : StoreFields → List Change → Refusal → Type 0
+IsFullForOne store changes refusal = refusal ≡ ChainFull → FindsFull store changes
+
+-- So many changes since a state were made by moments of a clock, or none was: the clock passed the greater of both by that number at most.
+abbrev pub IsWithinChanges : State → ℕ → ℕ → State → Type 0
+IsWithinChanges s now count later = later.clock ≤ max s.clock now + count

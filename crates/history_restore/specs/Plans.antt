@@ -1,5 +1,6 @@
 -- What has to be done to an object, so that it is what it was, and what that comes to.
-use Rattle.std.specs.Prelude.{◌≡◌, ◌≢◌, ℕ, ◌+◌, ◌-◌, ◌<◌, ◌≤◌, ◌&&◌, not, is_none, if◌then◌else◌, Bool, false, List, length, take, drop, slice_index, Option, None, Some, MatchBool}
+use Rattle.std.specs.Prelude.{◌≡◌, ◌≢◌, ℕ, ◌+◌, ◌-◌, ◌<◌, ◌≤◌, min, ◌&&◌, not, is_none, if◌then◌else◌, Bool, false, List, [], ◌∷◌, ◌++◌, length, take, drop, slice_index, Option, None, Some, MatchBool}
+use Rattle.s4_types.specs.declared.changes.Change.{Change as ChangeOf}
 use Rattle.s4_types.specs.declared.changes.Change.TheVariants as change
 use Rattle.s4_types.specs.declared.limits.TheConstants.{OBJECT_BYTES}
 use Rattle.s4_types.specs.declared.versions.Version.{Version}
@@ -129,3 +130,40 @@ next_by_plan (Remake size) next = next + 1
 next_by_plan Keep next = next
 next_by_plan Delete next = next
 next_by_plan (Change changes) next = next
+
+-- ---- the changes of a plan
+
+abbrev pub cut_changes : ℕ → Option ℕ → List ChangeOf
+cut_changes o None = []
+cut_changes o (Some size) = change.Truncate o size ∷ []
+
+abbrev pub written_changes : ℕ → List ℕ → Option Patch → List ChangeOf
+written_changes o bytes None = []
+written_changes o bytes (Some patch) = change.Write o patch.offset (part bytes patch.offset patch.length) ∷ []
+
+abbrev pub attribute_changes : ℕ → List ℕ → Bool → List ChangeOf
+attribute_changes o attribute wanted = if wanted then change.SetAttr o attribute ∷ [] else []
+
+-- those that give an object without bytes all of these
+abbrev pub made_changes : ℕ → List ℕ → List ChangeOf
+made_changes o [] = []
+made_changes o (b ∷ bs) = change.Write o 0 (b ∷ bs) ∷ []
+
+-- The changes of an object that a plan asks for, in order, where bytes and attribute are those of an earlier version; of one that is made
+-- anew under the next number those are of this number.
+abbrev pub changes_by : Version → Plan → ℕ → ℕ → List ChangeOf
+changes_by before Keep next o = []
+changes_by before Delete next o = change.Delete o ∷ []
+changes_by before (Remake size) next o = change.Create next (attribute_of before) ∷ made_changes next (bytes_of before)
+changes_by before (Change changes) next o = cut_changes o changes.cut ++ (written_changes o (bytes_of before) changes.written ++ attribute_changes o (attribute_of before) changes.attribute)
+
+-- how many these are
+abbrev pub count_of : {X : Type 0} → Option X → ℕ
+count_of None = 0
+count_of (Some x) = 1
+
+abbrev pub change_count : Plan → ℕ
+change_count Keep = 0
+change_count Delete = 1
+change_count (Remake size) = 1 + min 1 size
+change_count (Change changes) = count_of changes.cut + (count_of changes.written + (if changes.attribute then 1 else 0))

@@ -10,11 +10,13 @@ use Rattle.s4_model.specs.State.{State}
 use Rattle.s4_model.specs.VersionAt.{version_of}
 use Rattle.s4_model.specs.Visible.{IsVisible}
 use Rattle.s4_model.specs.Refusals.{present, moment_refusal, last_number}
+use Rattle.version_store.specs.Store.{StoreFields}
+use Rattle.history_restore.specs.declared.plans.Plan.{Plan}
 use Rattle.history_restore.specs.declared.restoring.Restored.{Restored}
 use Rattle.history_restore.specs.declared.failures.Failure.{Failure}
-use Rattle.history_restore.specs.Asking.{is_left}
+use Rattle.history_restore.specs.Asking.{FindsFull, is_left}
 use Rattle.history_restore.specs.Content.{content_of, changed_in}
-use Rattle.history_restore.specs.Plans.{IsPlan, next_by_plan}
+use Rattle.history_restore.specs.Plans.{IsPlan, changes_by, next_by_plan}
 
 -- the number that an object has after it was restored, by what it was and what it is: the next one where it isn't there any more
 abbrev pub number_from : Version → Version → ℕ → ℕ → ℕ
@@ -56,3 +58,10 @@ pub record IsStopped (s later : State) (o at : ℕ) (failure : Failure) : Type 0
   pub object : failure.object ≡ o
   pub why : (IsUnread s o at failure.refusal × (later ≡ s)) ⊎ (IsVisible s o at × (IsWithinLimits (version_of s o at) → is_left failure.refusal ≡ true))
   pub flush : failure.flush ≡ flush_for o at (present s o) failure.refusal
+
+-- What restoring an object asks for finds its journal too full: one of the changes of its plan would make the journal too long, once those
+-- in front of it are stored.
+pub record IsTooFull (s : State) (store : StoreFields) (o at : ℕ) : Type 0 where
+  pub plan : Plan
+  pub planned : IsPlan (version_of s o at) (present s o) plan
+  pub full : FindsFull store (changes_by (version_of s o at) plan s.next o)

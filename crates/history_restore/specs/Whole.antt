@@ -1,5 +1,5 @@
 -- What restoring all objects of a drive comes to.
-use Rattle.std.specs.Prelude.{◌≡◌, ◌≢◌, ℕ, ◌<◌, List, [], ◌∷◌, map, None, ◌==◌, Bool, true, false}
+use Rattle.std.specs.Prelude.{◌≡◌, ◌≢◌, ℕ, ◌+◌, ◌<◌, List, [], ◌∷◌, map, None, ◌==◌, Bool, true, false}
 use Rattle.std.specs.List.{AllByRecursion, list_any, filter}
 use Rattle.s4_types.specs.declared.refusals.Refusal.TheVariants.{NoMemory}
 use Rattle.s4_types.specs.declared.versions.Version.TheVariants.{Absent}
@@ -13,7 +13,8 @@ use Rattle.version_store.specs.Store.{StoreFields}
 use Rattle.history_restore.specs.declared.failures.Failure.{Failure}
 use Rattle.history_restore.specs.declared.restoring.Restored.{Restored}
 use Rattle.history_restore.specs.Content.{content_of}
-use Rattle.history_restore.specs.Plans.{IsPlan, number_by, next_by_plan}
+use Rattle.history_restore.specs.Asking.{IsWithinChanges}
+use Rattle.history_restore.specs.Plans.{IsPlan, change_count, number_by, next_by_plan}
 use Rattle.history_restore.specs.Keeping.{LeavesPast}
 use Rattle.history_restore.specs.Restoring.{IsStopped}
 
@@ -37,6 +38,22 @@ pub record IsRestored (s later : State) (at : ℕ) (restored : Restored) : Type 
 abbrev pub AreNumbered : ℕ → List Restored → Type 0
 AreNumbered next [] = Unit {0}
 AreNumbered next (r ∷ all) = (r.number ≡ number_by r.plan next r.object) × AreNumbered (next_by_plan r.plan next) all
+
+-- how many changes their plans have together
+abbrev pub changes_of_all : List Restored → ℕ
+changes_of_all [] = 0
+changes_of_all (r ∷ all) = change_count r.plan + changes_of_all all
+
+-- how many of them were made anew
+abbrev pub made_anew : List Restored → ℕ
+made_anew [] = 0
+made_anew (r ∷ all) = next_by_plan r.plan 0 + made_anew all
+
+-- The next number is one more for each object that was made anew. The clock is at most the greater of the old one and of the moment of the
+-- server's clock, and one more for each change of the plans.
+pub record IsCounted (s later : State) (now : ℕ) (all : List Restored) : Type 0 where
+  pub next : later.next ≡ s.next + made_anew all
+  pub clock : IsWithinChanges s now (changes_of_all all) later
 
 -- the objects that these tell of
 abbrev pub objects_of : List Restored → List ℕ

@@ -1,9 +1,9 @@
 //! Requests for changes of objects.
 ghost use Rattle.std.specs.Prelude.{OnOk, IfErr};
 ghost use Rattle.s4_model.specs.Refusals.{first_refusal};
-ghost use Rattle.drive.specs.Fields.{state_in};
+ghost use Rattle.drive.specs.Fields.{state_in, store_of};
 ghost use Rattle.drive.specs.Later.{IsOfVersions, object_asked};
-ghost use Rattle.history_restore.specs.Asking.{Grants, IsGiven};
+ghost use Rattle.history_restore.specs.Asking.{Grants, IsGiven, IsFullFor, IsWithinChanges, StoresAsked};
 ghost use Rattle.history_restore.specs.Keeping.{LeavesPast, LeavesOthers};
 
 use drive::{Drive, Session};
@@ -21,6 +21,9 @@ pub(crate) fn ask<J: Naming>(
     requires { IsOfVersions request }
     ensures granted { OnOk result (Grants (state_in drive.old) request (state_in drive.new)) }
     ensures refused { IfErr result (IsGiven (first_refusal (state_in drive.old) session.old.role request)) }
+    ensures stored { OnOk result (StoresAsked (store_of drive.old) (state_in drive.old) request (store_of drive.new)) }
+    ensures full { IfErr result (IsFullFor (store_of drive.old) (state_in drive.old) request) }
+    ensures clock { IsWithinChanges (state_in drive.old) now 1 (state_in drive.new) }
     ensures others { LeavesOthers (object_asked (state_in drive.old).next request) (state_in drive.old) (state_in drive.new) }
     ensures past { LeavesPast (state_in drive.old) (state_in drive.new) }
 {

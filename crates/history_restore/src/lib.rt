@@ -5,7 +5,7 @@
 //! and the attribute that it had, under its own number, or under the next one where it was deleted since. `restore_all` does so with every
 //! object that has a row, `restore_objects` with those of them that are asked for. Whatever these answer, every other object is what it was,
 //! every version up to the clock stays, and no moment is hidden. `make_room` alone hides moments, of the one object that it is asked for,
-//! and then cleans that object's chain.
+//! and then cleans that object's chain. A refusal for a full journal comes only where one of the plan's changes would make it too long.
 //!
 //! Each change moves the clock on, and the floor with it, so that the moment may fall below the floor while objects are restored; that is
 //! refused then, and what was done before stays. Whoever saves the drive saves it only where all was done.

@@ -1,12 +1,14 @@
 //! An object is made what it was at a moment.
 ghost use Rattle.std.specs.Prelude.{◌≡◌, IfOk, IfErr, OnOk};
+ghost use Rattle.s4_types.specs.declared.refusals.Refusal.TheVariants.{ChainFull};
 ghost use Rattle.s4_model.specs.Refusals.{present};
 ghost use Rattle.s4_model.specs.VersionAt.{version_of};
 ghost use Rattle.s4_model.specs.Visible.{IsVisible};
 ghost use Rattle.drive.specs.Fields.{state_in, store_of};
-ghost use Rattle.history_restore.specs.Plans.{IsPlan};
+ghost use Rattle.history_restore.specs.Asking.{IsWithinChanges};
+ghost use Rattle.history_restore.specs.Plans.{IsPlan, change_count};
 ghost use Rattle.history_restore.specs.Keeping.{LeavesPast, LeavesOthers};
-ghost use Rattle.history_restore.specs.Restoring.{IsUnread, Restores, IsStopped, number_after};
+ghost use Rattle.history_restore.specs.Restoring.{IsUnread, Restores, IsStopped, IsTooFull, number_after};
 
 use crate::changing::perform;
 use crate::comparing::compare;
@@ -61,6 +63,8 @@ pub fn restore_object<J: Naming>(
 ) -> Result<Restored, Failure>
     ensures restored { IfOk result (Restores (state_in drive.old) (state_in drive.new) object at) }
     ensures stopped { IfErr result (IsStopped (state_in drive.old) (state_in drive.new) object at) }
+    ensures full { IfErr result (λ failure. failure.refusal ≡ ChainFull → IsTooFull (state_in drive.old) (store_of drive.old) object at) }
+    ensures clock { IfOk result (λ restored. IsWithinChanges (state_in drive.old) now (change_count restored.plan) (state_in drive.new)) }
     ensures others { LeavesOthers (number_after (state_in drive.old) object at) (state_in drive.old) (state_in drive.new) }
     ensures past { LeavesPast (state_in drive.old) (state_in drive.new) }
 {

@@ -1,7 +1,8 @@
 //! Room in an object's chain.
-ghost use Rattle.std.specs.Prelude.{◌≡◌, ℕ, ◌≤◌, OnOk};
+ghost use Rattle.std.specs.Prelude.{◌≡◌, ◌≤◌, OnOk};
 ghost use Rattle.drive.specs.Fields.{state_in, store_of};
 ghost use Rattle.history_cleaner.specs.Cleaning.{IsClean};
+ghost use Rattle.history_restore.specs.Asking.{IsWithinChanges};
 ghost use Rattle.history_restore.specs.Room.{LeavesObjects, HidesBetween};
 
 use drive::{Drive, Session};
@@ -22,6 +23,7 @@ fn flush<J: Naming>(
 ) -> Result<(), Refusal>
     ensures hides { OnOk result (HidesBetween (state_in drive.old) object first last (state_in drive.new)) }
     ensures objects { LeavesObjects (state_in drive.old) object (state_in drive.new) }
+    ensures clock { IsWithinChanges (state_in drive.old) now 1 (state_in drive.new) }
 {
     the_state_goes_on_record_by_record();
     a_flush_hides_exactly_its_span();
@@ -54,6 +56,7 @@ pub fn make_room<J: Naming>(
     ensures hides { OnOk result (HidesBetween (state_in drive.old) object first last (state_in drive.new)) }
     ensures clean { OnOk result (IsClean (store_of drive.new) (state_in drive.new) object) }
     ensures objects { LeavesObjects (state_in drive.old) object (state_in drive.new) }
+    ensures clock { IsWithinChanges (state_in drive.old) now 1 (state_in drive.new) }
 {
     flush(drive, session, object, first, last, now)?;
     clean_object(alloc, drive, object)

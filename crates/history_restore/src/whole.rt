@@ -3,7 +3,7 @@ ghost use Rattle.std.specs.Prelude.{◌≡◌, IfOk, IfErr, filter};
 ghost use Rattle.s4_types.specs.declared.refusals.Refusal.TheVariants.{NoMemory};
 ghost use Rattle.drive.specs.Fields.{state_in, store_of};
 ghost use Rattle.history_restore.specs.Keeping.{LeavesPast};
-ghost use Rattle.history_restore.specs.Whole.{AreRowsFrom, AreAskedRows, AscendBelow, RestoresEach, RestoresAsked, RestoresAll, StopsAll, LeavesRest, LeavesUnasked, is_among};
+ghost use Rattle.history_restore.specs.Whole.{AreRowsFrom, AreAskedRows, AscendBelow, RestoresEach, RestoresAsked, RestoresAll, StopsAll, IsCounted, LeavesRest, LeavesUnasked, is_among};
 
 use crate::failures::{Failure, unread};
 use crate::restoring::{Restored, restore_object};
@@ -71,6 +71,7 @@ fn restore_each<J: Naming>(
 ) -> Result<Vec<Restored>, Failure>
     requires { AscendBelow 0 (state_in drive.old).next objects.now }
     ensures each { IfOk result (λ all. RestoresEach (state_in drive.old) (state_in drive.new) at objects.now all.items) }
+    ensures counted { IfOk result (λ all. IsCounted (state_in drive.old) (state_in drive.new) now all.items) }
     ensures stopped { IfErr result (StopsAll (state_in drive.old) (state_in drive.new) at) }
     ensures rest { LeavesRest (state_in drive.old) (state_in drive.new) objects.now }
     ensures past { LeavesPast (state_in drive.old) (state_in drive.new) }
@@ -99,6 +100,7 @@ pub fn restore_objects<J: Naming>(
     now: Moment,
 ) -> Result<Vec<Restored>, Failure>
     ensures asked { IfOk result (λ all. RestoresAsked (state_in drive.old) (state_in drive.new) at asked.now all.items) }
+    ensures counted { IfOk result (λ all. IsCounted (state_in drive.old) (state_in drive.new) now all.items) }
     ensures stopped { IfErr result (StopsAll (state_in drive.old) (state_in drive.new) at) }
     ensures unasked { LeavesUnasked (state_in drive.old) (state_in drive.new) asked.now }
     ensures past { LeavesPast (state_in drive.old) (state_in drive.new) }
@@ -124,6 +126,7 @@ pub fn restore_all<J: Naming>(
     now: Moment,
 ) -> Result<Vec<Restored>, Failure>
     ensures all { IfOk result (λ all. RestoresAll (state_in drive.old) (state_in drive.new) at all.items) }
+    ensures counted { IfOk result (λ all. IsCounted (state_in drive.old) (state_in drive.new) now all.items) }
     ensures stopped { IfErr result (StopsAll (state_in drive.old) (state_in drive.new) at) }
     ensures past { LeavesPast (state_in drive.old) (state_in drive.new) }
 {

@@ -5,7 +5,7 @@ use Rattle.std.specs.Io.KnownBytes.{Appends}
 use Rattle.s4_model.specs.State.{State}
 use Rattle.history_text.specs.Lines.{column}
 use Rattle.history_restore.specs.Keeping.{LeavesPast}
-use Rattle.history_restore.specs.Whole.{RestoresAll, RestoresAsked, LeavesUnasked}
+use Rattle.history_restore.specs.Whole.{IsCounted, RestoresAll, RestoresAsked, LeavesUnasked}
 use Rattle.history_restore.specs.declared.plans.Plan.{Plan}
 use Rattle.history_restore.specs.declared.plans.Plan.TheVariants.{Keep, Delete, Remake, Change}
 use Rattle.history_restore.specs.declared.restoring.Restored.{Restored}
@@ -20,10 +20,11 @@ planned_line object number (Change changes) = column 10 object ++ codes "  chang
 abbrev pub restored_line : Restored → List ℕ
 restored_line r = planned_line r.object r.number r.plan
 
--- The objects that are named were restored, or all where none is; every other one is what it was, and the past stays.
+-- The objects that are named were restored, or all where none is; every other one is what it was, and the past stays. As many numbers were
+-- given as objects were made anew, and no more moments than there were changes.
 abbrev pub AreRestored : State → State → ℕ → List ℕ → List Restored → Type 0
-AreRestored s later at [] all = RestoresAll s later at all × LeavesPast s later
-AreRestored s later at (o ∷ objects) all = RestoresAsked s later at (o ∷ objects) all × LeavesUnasked s later (o ∷ objects) × LeavesPast s later
+AreRestored s later at [] all = RestoresAll s later at all × LeavesPast s later × IsCounted s later 0 all
+AreRestored s later at (o ∷ objects) all = RestoresAsked s later at (o ∷ objects) all × LeavesUnasked s later (o ∷ objects) × LeavesPast s later × IsCounted s later 0 all
 
 -- So it was, and the output has the lines of that behind it.
 pub record RestoresDrive (s later : State) (at : ℕ) (objects : List ℕ) (output output' : Option (List ℕ)) : Type 0 where

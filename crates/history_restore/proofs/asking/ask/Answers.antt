@@ -1,6 +1,7 @@
 use Rattle.drive.specs.Fields.{history_of}
-use Rattle.history_restore.proofs.Stepping.{refused_leaves, granted_leaves}
+use Rattle.history_restore.proofs.Stepping.{refused_leaves, granted_leaves, no_read}
 use Rattle.history_restore.proofs.Denying.{is_given}
+use Rattle.history_restore.proofs.Storing.{clock_granted, clock_refused, full_refused, stored_granted}
 use Rattle.history_restore.proofs.asking.ask.Goals as goal
 
 pub returns-in-Refused : goal.returns-in-Refused
@@ -13,12 +14,26 @@ returns-in-Refused g c =
     record {
       granted = tt;
       refused = is_given h after role c.args.request c.args.now c.request.result c.in-Refused.refusal c.requires c.in-Refused.is c.request.ensures.step;
+      stored = tt;
+      full = full_refused c.args.drive.now c.request.new.self role c.args.request c.args.now c.request.result c.in-Refused.refusal c.requires c.in-Refused.is c.request.ensures.refused;
+      clock = clock_refused h after role c.args.request c.args.now c.request.result c.in-Refused.refusal c.the_state_goes_on_record_by_record.ensures.by_moments (no_read c.args.request c.requires) c.in-Refused.is c.request.ensures.step;
       others = leaves.others;
       past = leaves.past;
     }
 
 pub returns : goal.returns
 returns g c =
-    let leaves = granted_leaves (history_of c.args.drive.now) (history_of c.request.new.self) c.args.session.now.role c.args.request c.args.now c.request.result
+    let h = history_of c.args.drive.now in
+    let after = history_of c.request.new.self in
+    let role = c.args.session.now.role in
+    let leaves = granted_leaves h after role c.args.request c.args.now c.request.result
     c.the_state_goes_on_record_by_record.ensures.by_changes c.a_change_acts_at_its_moment.ensures.acts c.rules.ensures.sound c.requires c.in_default.not-Refused c.request.ensures.step in
-    record { granted = leaves.granted; refused = tt; others = leaves.others; past = leaves.past }
+    record {
+      granted = leaves.granted;
+      refused = tt;
+      stored = stored_granted c.args.drive.now c.request.new.self role c.args.request c.args.now c.request.result c.requires c.in_default.not-Refused c.request.ensures.step c.request.ensures.stored;
+      full = tt;
+      clock = clock_granted h after role c.args.request c.args.now c.request.result c.the_state_goes_on_record_by_record.ensures.by_changes (no_read c.args.request c.requires) c.in_default.not-Refused c.request.ensures.step;
+      others = leaves.others;
+      past = leaves.past;
+    }

@@ -3,13 +3,19 @@ use Rattle.std.proofs.lemmas.List.{take_all}
 use Rattle.std.proofs.lemmas.Result.{err_from_is_err_and}
 use Rattle.drive.specs.Fields.{state_in}
 use Rattle.history_restore.specs.declared.restoring.Restored.{Restored}
+use Rattle.history_restore.specs.Whole.{IsCounted}
+use Rattle.history_restore.proofs.Counted.{counted_more, counted_none}
 use Rattle.history_restore.proofs.Each.{StandsBy, GoesOn, stands_none, goes_none, stands_on, stands_after, goes_on, goes_whole, one_more, ascending_item, stops_at}
 use Rattle.history_restore.proofs.whole.restore_each.Goals as goal
 
 pub loop-object-init : goal.loop-object-init
 loop-object-init g c =
     let s = state_in c.args.drive.now in
-    record { stands = stands_none s; goes = subst (λ (l : List Restored). GoesOn s s c.args.at [] l) (sym c.new-all.ensures.items) (goes_none s c.args.at) }
+    record {
+      stands = stands_none s;
+      goes = subst (λ (l : List Restored). GoesOn s s c.args.at [] l) (sym c.new-all.ensures.items) (goes_none s c.args.at);
+      counted = subst (IsCounted s s c.args.now) (sym c.new-all.ensures.items) (counted_none s c.args.now);
+    }
 
 pub loop-object-preserved : goal.loop-object-preserved
 loop-object-preserved g c =
@@ -29,6 +35,8 @@ loop-object-preserved g c =
       goes = subst (λ (l : List Restored). GoesOn s later c.args.at (take (i + 1) objects) l) (sym c.in-Ok.ensures.items)
           (subst (λ (l : List ℕ). GoesOn s later c.args.at l (c.loop-object.all.items ++ c.in_ok-restored.restored ∷ [])) (sym more)
           (goes_on s middle later c.args.at (take i objects) o c.loop-object.all.items c.in_ok-restored.restored before.stands before.goes item.0 item.1 c.in_ok-restored.ensures.restored calls.others calls.past));
+      counted = subst (IsCounted s later c.args.now) (sym c.in-Ok.ensures.items)
+          (counted_more s middle later c.args.now c.loop-object.all.items c.in_ok-restored.restored before.counted c.in_ok-restored.ensures.restored.next c.in_ok-restored.ensures.clock);
     }
 
 pub returns : goal.returns
@@ -41,6 +49,7 @@ returns g c =
     record {
       each = goes_whole s later c.args.at objects c.loop-object.all.items (subst (λ (l : List ℕ). GoesOn s later c.args.at l c.loop-object.all.items) all c.loop-object.invariant.goes);
       stopped = tt;
+      counted = c.loop-object.invariant.counted;
       rest = stands.rest;
       past = stands.past;
     }

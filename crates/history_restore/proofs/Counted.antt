@@ -1,0 +1,85 @@
+-- How many changes a plan has, and plans one after the other.
+use Rattle.std.proofs.Common.{◌≡◌, ◌∙◌, ◌+◌, ℕ, min, Bool, true, false, List, [], ◌∷◌, ◌++◌, length, Option, None, Some, cond, inl, inr, refl, sym, ap, subst, arith}
+use Rattle.std.specs.Prelude.{if◌then◌else◌, nat_lt}
+use Rattle.std.proofs.lemmas.Option.{none-some}
+use Rattle.s4_types.specs.declared.refusals.Refusal.{Refusal}
+use Rattle.s4_types.specs.declared.refusals.Refusal.TheVariants.{ChainFull, Future, Expired, Flushed}
+use Rattle.s4_types.specs.declared.versions.Version.{Version}
+use Rattle.s4_types.specs.declared.versions.Version.TheVariants.{Absent, Live}
+use Rattle.s4_model.specs.State.{State}
+use Rattle.s4_model.specs.Visible.{is_hidden}
+use Rattle.history_restore.specs.declared.plans.Patch.{Patch}
+use Rattle.history_restore.specs.declared.plans.Plan.{Plan}
+use Rattle.history_restore.specs.declared.plans.Plan.TheVariants.{Keep, Delete, Remake, Change}
+use Rattle.history_restore.specs.declared.restoring.Restored.{Restored}
+use Rattle.history_restore.specs.Asking.{IsWithinChanges}
+use Rattle.history_restore.specs.Plans.{IsPlan, attribute_changes, change_count, changes_by, count_of, cut_changes, made_changes, next_by_plan, written_changes}
+use Rattle.history_restore.specs.Restoring.{IsUnread}
+use Rattle.history_restore.specs.Whole.{IsCounted, changes_of_all, made_anew}
+
+-- ---- a plan
+
+count_made : (o : ℕ) (bytes : List ℕ) → length (made_changes o bytes) ≡ min 1 (length bytes)
+count_made o [] = refl
+count_made o (b ∷ bs) = omega arith
+
+count_changed : (o : ℕ) (bytes attribute : List ℕ) (cut : Option ℕ) (patch : Option Patch) (wanted : Bool)
+    → length (cut_changes o cut ++ (written_changes o bytes patch ++ attribute_changes o attribute wanted)) ≡ count_of cut + (count_of patch + (if wanted then 1 else 0))
+count_changed o bytes attribute None None true = refl
+count_changed o bytes attribute None None false = refl
+count_changed o bytes attribute None (Some p) true = refl
+count_changed o bytes attribute None (Some p) false = refl
+count_changed o bytes attribute (Some n) None true = refl
+count_changed o bytes attribute (Some n) None false = refl
+count_changed o bytes attribute (Some n) (Some p) true = refl
+count_changed o bytes attribute (Some n) (Some p) false = refl
+
+pub counts_changes : (before now : Version) (plan : Plan) (next o : ℕ) → IsPlan before now plan → length (changes_by before plan next o) ≡ change_count plan
+counts_changes Absent Absent plan next o is = subst (λ (p : Plan). length (changes_by Absent p next o) ≡ change_count p) (sym is) refl
+counts_changes Absent (Live now attribute_now created changed) plan next o is = subst (λ (p : Plan). length (changes_by Absent p next o) ≡ change_count p) (sym is) refl
+counts_changes (Live bytes attribute created changed) Absent plan next o is =
+    let made : 1 + length (made_changes next bytes) ≡ 1 + min 1 (length bytes) = ap (λ n. 1 + n) (count_made next bytes) in
+    subst (λ (p : Plan). length (changes_by (Live bytes attribute created changed) p next o) ≡ change_count p) (sym is) (omega (arith, made))
+counts_changes (Live bytes attribute created changed) (Live now attribute_now created_now changed_now) Keep next o is = refl
+counts_changes (Live bytes attribute created changed) (Live now attribute_now created_now changed_now) Delete next o is = absurd is
+counts_changes (Live bytes attribute created changed) (Live now attribute_now created_now changed_now) (Remake size) next o is = absurd is
+counts_changes (Live bytes attribute created changed) (Live now attribute_now created_now changed_now) (Change changes) next o is = count_changed o bytes attribute changes.cut changes.written changes.attribute
+
+-- ---- what isn't read isn't for a full journal
+
+tests_are_others : (a b c : Bool) → cond a (Some Future) (cond b (Some Expired) (cond c (Some Flushed) None)) ≡ Some ChainFull → ⊥
+tests_are_others true b c is = cc
+tests_are_others false true c is = cc
+tests_are_others false false true is = cc
+tests_are_others false false false is = none-some ChainFull is
+
+pub unread_is_other : (s : State) (o at : ℕ) (e : Refusal) → IsUnread s o at e → e ≡ ChainFull → ⊥
+unread_is_other s o at e (inl is) full = tests_are_others (nat_lt s.clock at) (nat_lt at s.floor) (is_hidden s o at) (is ∙ ap Some full)
+unread_is_other s o at e (inr (inl is)) full = cc
+unread_is_other s o at e (inr (inr is)) full = cc
+
+-- ---- plans
+
+pub counted_none : (s : State) (now : ℕ) → IsCounted s s now []
+counted_none s now = record { next = omega arith; clock = omega arith }
+
+next_plus : (plan : Plan) (n : ℕ) → next_by_plan plan n ≡ n + next_by_plan plan 0
+next_plus Keep n = omega arith
+next_plus Delete n = omega arith
+next_plus (Remake size) n = omega arith
+next_plus (Change changes) n = omega arith
+
+made_push : (all : List Restored) (r : Restored) → made_anew (all ++ r ∷ []) ≡ made_anew all + next_by_plan r.plan 0
+made_push [] r = omega arith
+made_push (q ∷ all) r = omega (arith, made_push all r)
+
+changes_push : (all : List Restored) (r : Restored) → changes_of_all (all ++ r ∷ []) ≡ changes_of_all all + change_count r.plan
+changes_push [] r = omega arith
+changes_push (q ∷ all) r = omega (arith, changes_push all r)
+
+pub counted_more : (s middle later : State) (now : ℕ) (all : List Restored) (r : Restored) → IsCounted s middle now all → later.next ≡ next_by_plan r.plan middle.next → IsWithinChanges middle now (change_count r.plan) later
+    → IsCounted s later now (all ++ r ∷ [])
+counted_more s middle later now all r before next clock = record {
+  next = omega (arith, next, next_plus r.plan middle.next, before.next, made_push all r);
+  clock = omega (arith, clock, before.clock, changes_push all r);
+}

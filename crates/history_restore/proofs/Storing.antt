@@ -1,0 +1,138 @@
+-- What a request for a change of an object stores, when it is refused for a full journal, and how far it moves the clock.
+use Rattle.std.proofs.Common.{◌≡◌, ◌∙◌, ◌+◌, ◌≤◌, ℕ, max, Bool, true, false, cond, find, List, [], ◌∷◌, Option, None, Some, inl, inr, refl, sym, ap, subst, arith}
+use Rattle.std.specs.Prelude.{option_and_then, MatchBool}
+use Rattle.std.specs.List.{AllByRecursion}
+use Rattle.std.proofs.lemmas.Option.{none-some, same_Some}
+use Rattle.s4_types.specs.History.{History, Record}
+use Rattle.s4_types.specs.declared.changes.Accepted.{Accepted}
+use Rattle.s4_types.specs.declared.changes.Change.{Change}
+use Rattle.s4_types.specs.declared.changes.Change.TheVariants as change
+use Rattle.s4_types.specs.declared.requests.Role.{Role}
+use Rattle.s4_types.specs.declared.requests.Request.{Request}
+use Rattle.s4_types.specs.declared.requests.Request.TheVariants.{Create, Delete, Read, Write, Append, Truncate, GetAttr, SetAttr, SetWindow, Flush, FlushO}
+use Rattle.s4_types.specs.declared.refusals.Refusal.{Refusal}
+use Rattle.s4_types.specs.declared.refusals.Refusal.TheVariants.{ChainFull, NoMemory, Busy}
+use Rattle.s4_types.specs.declared.replies.Reply.{Reply}
+use Rattle.s4_types.specs.declared.replies.Reply.TheVariants.{Refused}
+use Rattle.s4_model.specs.State.{State, state_of, seen, took}
+use Rattle.s4_model.specs.Effect.{is_of_versions}
+use Rattle.s4_model.specs.Refusals.{applies, checks, first_refusal, present, size_of}
+use Rattle.s4_model.specs.Step.{Step, Refuses, Serves, Accepts, Alters, Reads, accepted_record, change_of, judged, reply_at, stamp}
+use Rattle.version_store.specs.Costs.{change_refusal}
+use Rattle.version_store.specs.Store.{StoreFields}
+use Rattle.drive.specs.Answering.{Leaves, StoresChange, StoresVersion, is_acceptance}
+use Rattle.drive.specs.Fields.{DriveFields, history_of, state_in, store_of}
+use Rattle.drive.specs.Later.{IsOfVersions}
+use Rattle.drive.specs.Refusing.{RefusesBy, RefusesExactly, or_then, refusal_of, storing_refusal, want_of}
+use Rattle.history_restore.specs.Asking.{IsFullFor, IsWithinChanges, StoresAsked}
+use Rattle.history_restore.proofs.Denying.{judged_as_was}
+use Rattle.history_restore.proofs.Stepping.{BySeen, ByTook, IsNoRead, IsTaken, granted_took, no_read, refused_saw}
+
+-- ---- refused
+
+found_passes : (p : Refusal → Bool) (P : Refusal → Type 0) (xs : List Refusal) (r : Refusal) → AllByRecursion P xs → find p xs ≡ Some r → P r
+found_passes p P [] r all e = absurd (none-some r e)
+found_passes p P (x ∷ xs) r all e =
+    elim (p x) as (λ b. cond b (Some x) (find p xs) ≡ Some r → P r) [
+      | true ↦ λ is. subst P (same_Some x r is) all.0
+      | false ↦ λ is. found_passes p P xs r all.1 is
+    ] e
+
+-- no check is for a full journal
+abbrev IsOther : Refusal → Type 0
+IsOther r = r ≡ ChainFull → ⊥
+
+checks_are_others : AllByRecursion IsOther checks
+checks_are_others = (λ e. cc, (λ e. cc, (λ e. cc, (λ e. cc, (λ e. cc, (λ e. cc, (λ e. cc, (λ e. cc, (λ e. cc, (λ e. cc, tt))))))))))
+
+no_check_is_full : (s : State) (role : Role) (request : Request) → first_refusal s role request ≡ Some ChainFull → ⊥
+no_check_is_full s role request is = found_passes (applies s role request) IsOther checks ChainFull checks_are_others is refl
+
+want_by : (first want : Option Refusal) → (first ≡ Some ChainFull → ⊥) → or_then first want ≡ Some ChainFull → want ≡ Some ChainFull
+want_by None want never is = is
+want_by (Some f) want never is = absurd (never is)
+
+-- what is refused for a full journal is so by the drive
+why_full : (why : Option Refusal) (d : DriveFields) (request : Request) → RefusesBy why d request (Refused ChainFull) → why ≡ Some ChainFull
+why_full why d request (inl h) = let e : ChainFull ≡ NoMemory = h.0 in absurd (cc)
+why_full why d request (inr (inl is)) = is
+why_full why d request (inr (inr h)) = let e : ChainFull ≡ Busy = h.0 in absurd (cc)
+
+stored_full : (b : Bool) (x : Option Refusal) → cond b x None ≡ Some ChainFull → x ≡ Some ChainFull
+stored_full true x is = is
+stored_full false x is = absurd (none-some ChainFull is)
+
+pub full_refused : (d later : DriveFields) (role : Role) (request : Request) (now : ℕ) (reply : Reply) (e : Refusal) → IsOfVersions request → reply ≡ Refused e → RefusesExactly d role request now reply later → IsFullFor (store_of d) (state_in d) request e
+full_refused d later role request now reply e of refused exactly full c asked =
+    let s : State = state_in d in
+    let store : StoreFields = store_of d in
+    let given : reply ≡ Refused ChainFull = refused ∙ ap Refused full in
+    let by : RefusesBy (refusal_of store s role request now) later request (Refused ChainFull) =
+    subst (λ (k : State). RefusesBy (refusal_of store k role request now) later request (Refused ChainFull)) (judged_as_was (history_of d) request now of)
+    (subst (RefusesBy (refusal_of store (judged (history_of d) request now) role request now) later request) given exactly) in
+    let want : want_of store s request now ≡ Some ChainFull = want_by (first_refusal s role request) (want_of store s request now) (no_check_is_full s role request) (why_full (refusal_of store s role request now) later request by) in
+    let m : ℕ = stamp s now in
+    (m, stored_full (is_of_versions c) (change_refusal store c m) (sym (ap (option_and_then (storing_refusal store m)) asked) ∙ want))
+
+-- ---- granted
+
+accepts_change : (c : Change) (m : ℕ) → is_acceptance (reply_at c m) ≡ true
+accepts_change (change.Create object attribute) m = refl
+accepts_change (change.Delete object) m = refl
+accepts_change (change.Write object offset bytes) m = refl
+accepts_change (change.Truncate object size) m = refl
+accepts_change (change.SetAttr object attribute) m = refl
+accepts_change (change.SetWindow window) m = refl
+accepts_change (change.Flush first last) m = refl
+accepts_change (change.FlushO object first last) m = refl
+
+accepts_by : (h : History) (request : Request) (now : ℕ) (reply : Reply) (r : Record) → IsNoRead request → Accepts h request now reply r → is_acceptance reply ≡ true
+accepts_by h request now reply r unread (Alters c asked is r_is) = ap is_acceptance is ∙ accepts_change c (stamp (state_of h) now)
+accepts_by h request now reply r unread (Reads is r_is) = absurd (unread (judged h request now) reply is)
+
+is_accepted : (h after : History) (role : Role) (request : Request) (now : ℕ) (reply : Reply) → IsNoRead request → ((e : Refusal) → reply ≡ Refused e → ⊥) → Step h role request now reply after → is_acceptance reply ≡ true
+is_accepted h after role request now reply unread free (Refuses refusal is may after_is) = absurd (free refusal is)
+is_accepted h after role request now reply unread free (Serves r none accepts after_is) = accepts_by h request now reply r unread accepts
+
+-- the change that is asked for makes a version
+makes_version : (s : State) (request : Request) (c : Change) → IsOfVersions request → change_of s request ≡ Some c → is_of_versions c ≡ true
+makes_version s (Create attribute) c of is = ap is_of_versions (sym (same_Some (change.Create s.next attribute) c is))
+makes_version s (Delete object) c of is = ap is_of_versions (sym (same_Some (change.Delete object) c is))
+makes_version s (Read object offset len at) c of is = absurd of
+makes_version s (Write object offset bytes) c of is = ap is_of_versions (sym (same_Some (change.Write object offset bytes) c is))
+makes_version s (Append object bytes) c of is = ap is_of_versions (sym (same_Some (change.Write object (size_of (present s object)) bytes) c is))
+makes_version s (Truncate object size) c of is = ap is_of_versions (sym (same_Some (change.Truncate object size) c is))
+makes_version s (GetAttr object at) c of is = absurd of
+makes_version s (SetAttr object attribute) c of is = ap is_of_versions (sym (same_Some (change.SetAttr object attribute) c is))
+makes_version s (SetWindow window) c of is = absurd of
+makes_version s (Flush first last) c of is = absurd of
+makes_version s (FlushO object first last) c of is = absurd of
+
+first_case : (b : Bool) (P Q : Type 0) → b ≡ true → MatchBool b P Q → P
+first_case true P Q is h = h
+first_case false P Q is h = absurd (cc)
+
+pub stored_granted : (d later : DriveFields) (role : Role) (request : Request) (now : ℕ) (reply : Reply) → IsOfVersions request → ((e : Refusal) → reply ≡ Refused e → ⊥)
+    → Step (history_of d) role request now reply (history_of later) → Leaves (store_of d) (state_in d) request now reply (store_of later) → StoresAsked (store_of d) (state_in d) request (store_of later)
+stored_granted d later role request now reply of free step leaves c asked =
+    let s : State = state_in d in
+    let m : ℕ = stamp s now in
+    let accepted : is_acceptance reply ≡ true = is_accepted (history_of d) (history_of later) role request now reply (no_read request of) free step in
+    let stores = first_case (is_acceptance reply) ((c : Change) → change_of s request ≡ Some c → StoresChange (store_of d) c m (store_of later)) (store_of later ≡ store_of d) accepted leaves in
+    (m, first_case (is_of_versions c) (StoresVersion (store_of d) c m (store_of later)) (store_of later ≡ store_of d) (makes_version s request c of asked) (stores c asked))
+
+-- ---- the clock
+
+pub clock_refused : (h after : History) (role : Role) (request : Request) (now : ℕ) (reply : Reply) (e : Refusal) → BySeen → IsNoRead request → reply ≡ Refused e → Step h role request now reply after → IsWithinChanges (state_of h) now 1 (state_of after)
+clock_refused h after role request now reply e by_seen unread refused step =
+    let s : State = state_of h in
+    let within : (seen s now).clock ≤ max s.clock now + 1 = omega arith in
+    subst (IsWithinChanges s now 1) (sym (ap state_of (refused_saw h after role request now reply e unread refused step) ∙ by_seen h now)) within
+
+pub clock_granted : (h after : History) (role : Role) (request : Request) (now : ℕ) (reply : Reply) → ByTook → IsNoRead request → ((e : Refusal) → reply ≡ Refused e → ⊥) → Step h role request now reply after → IsWithinChanges (state_of h) now 1 (state_of after)
+clock_granted h after role request now reply by_took unread free step =
+    let s : State = state_of h in
+    let taken : IsTaken h request now after = granted_took h after role request now reply unread free step in
+    let a : Accepted = accepted_record s taken.change now in
+    let within : (took s a).clock ≤ max s.clock now + 1 = omega arith in
+    subst (IsWithinChanges s now 1) (sym (ap state_of taken.took ∙ by_took h a)) within
