@@ -1,0 +1,87 @@
+//! How a moment is printed: as a number, or as a date.
+ghost use Rattle.std.specs.Prelude.{◌≡◌, ◌*◌, IfOk, pos, string_bytes};
+ghost use Rattle.std.specs.Fmt.{decimal};
+ghost use Rattle.moment_words.specs.Texts as texts;
+ghost use Rattle.moment_words.specs.Printed.{IsPrinted};
+ghost use Rattle.moment_words.specs.Words.{IsMomentWord};
+ghost use Rattle.moment_words.specs.declared.words.MomentWord.TheVariants.{Moment};
+
+use jiff_core::Timestamp;
+use jiff_fmt::temporal::DateTimePrinter;
+use std::alloc::{AllocError, Global};
+
+/// A clock that is at least so high counts the microseconds of Unix time: this is
+/// 2001-09-09T01:46:40Z, and more requests than any drive serves.
+pub const FIRST_DATED: u64 = 1_000_000_000_000_000;
+
+/// Nanoseconds of a microsecond.
+const NANOS: i128 = 1_000;
+
+/// Places of a fraction of a second that are microseconds.
+const PLACES: u8 = 6;
+
+/// How moments are printed.
+#[derive(Clone, Copy, Debug, PartialEq, Eq)]
+pub enum MomentStyle {
+    /// As numbers.
+    Number,
+    /// As dates and times in UTC.
+    Date,
+}
+
+/// The style for the moments of a drive whose clock is there: dates where it is at least
+/// `FIRST_DATED` and numbers weren't asked for.
+pub fn style_of(clock: u64, as_numbers: bool) -> MomentStyle
+    ensures { result ≡ texts.style_of clock as_numbers }
+{
+    if as_numbers || clock < FIRST_DATED {
+        MomentStyle::Number
+    } else {
+        MomentStyle::Date
+    }
+}
+
+/// The text of a moment: as a number, or as RFC 3339 has it, in UTC and to the microsecond
+/// (`2026-11-27T13:18:02.000123Z`). A moment past the years that have four digits is a number.
+/// `read` gives the moment back.
+pub fn moment_text(alloc: Global, moment: u64, style: MomentStyle) -> Result<String, AllocError>
+    ensures text { IfOk result (λ text. string_bytes text ≡ texts.moment_text moment style) }
+    ensures read { IfOk result (λ text. IsMomentWord (string_bytes text) (Moment moment)) }
+{
+    match style {
+        MomentStyle::Number => number_text(alloc, moment),
+        MomentStyle::Date => dated_text(alloc, moment),
+    }
+}
+
+fn number_text(alloc: Global, moment: u64) -> Result<String, AllocError>
+    ensures text { IfOk result (λ text. string_bytes text ≡ decimal moment) }
+    ensures read { IfOk result (λ text. IsMomentWord (string_bytes text) (Moment moment)) }
+{
+    format!(in alloc; "{moment}")
+}
+
+fn dated_text(alloc: Global, moment: u64) -> Result<String, AllocError>
+    ensures text { IfOk result (λ text. string_bytes text ≡ texts.dated_text moment) }
+    ensures read { IfOk result (λ text. IsMomentWord (string_bytes text) (Moment moment)) }
+{
+    match Timestamp::from_nanosecond(nanosecond_of(moment)) {
+        Ok(instant) => instant_text(alloc, instant),
+        Err(_) => number_text(alloc, moment),
+    }
+}
+
+fn nanosecond_of(moment: u64) -> i128
+    ensures { result ≡ pos (moment * 1_000) }
+{
+    moment as i128 * NANOS
+}
+
+// An instant in UTC, with the six places of its microseconds.
+fn instant_text(alloc: Global, instant: Timestamp) -> Result<String, AllocError>
+    ensures { IfOk result (λ text. IsPrinted instant (string_bytes text)) }
+{
+    let printer = DateTimePrinter::new().precision(Some(PLACES));
+    let printed = printer.timestamp_text(instant);
+    String::from_str(alloc, printed.as_str())
+}
