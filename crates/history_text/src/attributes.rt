@@ -1,49 +1,63 @@
 //! Attributes as people read them.
-ghost use Rattle.std.specs.Prelude.{◌≡◌, ◌++◌, true, IfOk, OnOk, string_bytes};
+ghost use Rattle.std.specs.Prelude.{◌≡◌, ◌++◌, true, false, IfOk, IfSome, IfNone, codes, string_bytes};
 ghost use Rattle.std.specs.List.{list_all};
-ghost use Rattle.history_text.specs.Lines.{is_plain, attribute_text};
+ghost use Rattle.std.specs.Str.{chars};
+ghost use Rattle.history_text.specs.Lines.{is_printable, are_printable, printed_attribute};
 
-use codec::Attribute;
 use std::alloc::{AllocError, Global};
+use std::str;
 
-fn is_plain(byte: u8) -> bool
-    ensures { result ≡ is_plain byte }
+fn is_printable(character: char) -> bool
+    ensures { result ≡ is_printable character }
 {
-    32 <= byte && byte < 127 && byte != b'"' && byte != b'\\'
+    let code = u32::from(character);
+    let is_control = 127 <= code && code <= 159;
+    let has_no_width = 0x200B <= code && code <= 0x200F;
+    let is_separator = 0x2028 <= code && code <= 0x202E;
+    let is_invisible = 0x2060 <= code && code <= 0x206F;
+    32 <= code
+        && code != 34
+        && code != 92
+        && !is_control
+        && !has_no_width
+        && !is_separator
+        && !is_invisible
+        && code != 0xFEFF
 }
 
-fn are_plain(bytes: &[u8]) -> bool
-    ensures { result ≡ list_all is_plain bytes.now }
+fn has_printable(text: &str) -> bool
+    ensures { result ≡ list_all is_printable (chars text.now) }
 {
-    for byte in bytes {
-        if !is_plain(*byte) {
-            return false;
-        }
-    }
-    true
+    text.chars().all(|character| is_printable(character))
 }
 
-// Adds bytes that stand for themselves to a text.
-fn push_plain(text: &mut String, bytes: &[u8]) -> Result<(), AllocError>
-    requires { list_all is_plain bytes.now ≡ true }
-    ensures { OnOk result (string_bytes text.new ≡ string_bytes text.old ++ bytes.now) }
+fn quoted(alloc: Global, text: &str) -> Result<String, AllocError>
+    ensures { IfOk result (λ line. string_bytes line ≡ codes "\"" ++ (text.now ++ codes "\"")) }
 {
-    for byte in bytes {
-        text.push(char::from(*byte))?;
-    }
-    Ok(())
+    format!(in alloc; "\"{text}\"")
 }
 
-/// An attribute between quotation marks where each of its bytes stands for itself there, and else in hex.
-pub(crate) fn attribute_text(alloc: Global, attribute: &Attribute) -> Result<String, AllocError>
-    ensures { IfOk result (λ text. string_bytes text ≡ attribute_text attribute.now) }
+// The text that bytes are in UTF-8, where all its characters are printable.
+fn printable_text(bytes: &[u8]) -> Option<&str>
+    ensures some { IfSome result (λ text. (are_printable bytes.now ≡ true) × (text.now ≡ bytes.now)) }
+    ensures none { IfNone result (are_printable bytes.now ≡ false) }
 {
-    let bytes = attribute.as_slice();
-    if !are_plain(bytes) {
-        return hex::encode(alloc, bytes);
+    let Ok(text) = str::from_utf8(bytes) else {
+        return None;
+    };
+    if !has_printable(text) {
+        return None;
     }
-    let mut text = String::from_str(alloc, "\"")?;
-    push_plain(&mut text, bytes)?;
-    text.push_str("\"")?;
-    Ok(text)
+    Some(text)
+}
+
+/// An attribute between quotation marks where it is text in UTF-8 of printable characters alone, and
+/// else in hex.
+pub fn printed_attribute(alloc: Global, bytes: &[u8]) -> Result<String, AllocError>
+    ensures { IfOk result (λ text. string_bytes text ≡ printed_attribute bytes.now) }
+{
+    match printable_text(bytes) {
+        Some(text) => quoted(alloc, text),
+        None => hex::encode(alloc, bytes),
+    }
 }

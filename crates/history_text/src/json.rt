@@ -4,14 +4,17 @@ ghost use Rattle.serde_json.specs.View.{view};
 ghost use Rattle.hex.specs.Hex.{encode_lower};
 ghost use Rattle.serde_json.specs.Data.{string};
 ghost use Rattle.serde_json.specs.Written.{has_float};
-ghost use Rattle.history_text.specs.Json.{json_line, state_word, kind_word, listed_data, change_data, side_data, index_data, numbers_data};
+ghost use Rattle.moment_words.specs.declared.printing.MomentStyle.TheVariants.{Date};
+ghost use Rattle.history_text.specs.Json.{json_line, state_word, kind_word, text_data, time_data, listed_data, change_data, side_data, index_data, hidden_data, row_data, stat_data, times_data, counts_data, numbers_data};
 
 use crate::numbers::DriveNumbers;
 use codec::{Attribute, Pair};
-use history_view::{Blocks, Kind, Listed, ObjectChange};
-use s4_types::ObjectId;
+use history_view::{Blocks, Kind, Listed, LogRow, ObjectChange, ObjectStat};
+use moment_words::{MomentStyle, moment_text};
+use s4_types::{Moment, ObjectId, Span};
 use serde_json::{Value, json};
 use std::alloc::{AllocError, Global};
+use std::str;
 
 // The line of a value.
 fn line_of(alloc: Global, value: &Value) -> Result<String, AllocError>
@@ -29,27 +32,56 @@ fn state_word(is_live: bool) -> &'static str
     if is_live { "live" } else { "deleted" }
 }
 
-fn listed_value(alloc: Global, row: &Listed) -> Result<Value, AllocError>
-    ensures { IfOk result (λ value. view value ≡ listed_data row.now) }
+/// The text that bytes are in UTF-8; null where they are none.
+pub fn text_value(alloc: Global, bytes: &[u8]) -> Result<Value, AllocError>
+    ensures { IfOk result (λ value. view value ≡ text_data bytes.now) }
+{
+    match str::from_utf8(bytes) {
+        Ok(text) => Ok(Value::from(String::from_str(alloc, text)?)),
+        Err(_) => Ok(Value::Null),
+    }
+}
+
+fn time_value(alloc: Global, moment: Moment, style: MomentStyle) -> Result<Value, AllocError>
+    ensures { IfOk result (λ value. view value ≡ time_data style moment) }
+{
+    match style {
+        MomentStyle::Number => Ok(Value::Null),
+        MomentStyle::Date => Ok(Value::from(moment_text(
+            alloc,
+            moment.number(),
+            MomentStyle::Date,
+        )?)),
+    }
+}
+
+fn listed_value(alloc: Global, row: &Listed, style: MomentStyle) -> Result<Value, AllocError>
+    ensures { IfOk result (λ value. view value ≡ listed_data style row.now) }
 {
     let attribute = hex::encode(alloc, row.attribute.as_slice())?;
+    let attribute_text = text_value(alloc, row.attribute.as_slice())?;
     let (object, size, state) = (row.object.number(), row.size, state_word(row.is_live));
     let (created, changed) = (row.created.number(), row.changed.number());
+    let created_time = time_value(alloc, row.created, style)?;
+    let changed_time = time_value(alloc, row.changed, style)?;
     json!(in alloc; {
         "object": object,
         "state": state,
         "size": size,
         "created": created,
+        "created_time": created_time,
         "changed": changed,
-        "attribute": attribute
+        "changed_time": changed_time,
+        "attribute": attribute,
+        "attribute_text": attribute_text
     })
 }
 
 /// The line of an object.
-pub fn listed_json(alloc: Global, row: &Listed) -> Result<String, AllocError>
-    ensures { IfOk result (λ line. string_bytes line ≡ json_line (listed_data row.now)) }
+pub fn listed_json(alloc: Global, row: &Listed, style: MomentStyle) -> Result<String, AllocError>
+    ensures { IfOk result (λ line. string_bytes line ≡ json_line (listed_data style row.now)) }
 {
-    let value = listed_value(alloc, row)?;
+    let value = listed_value(alloc, row, style)?;
     line_of(alloc, &value)
 }
 
@@ -110,8 +142,13 @@ fn last_block(blocks: Option<Blocks>) -> Value
     }
 }
 
-fn change_value(alloc: Global, object: ObjectId, change: &ObjectChange) -> Result<Value, AllocError>
-    ensures { IfOk result (λ value. view value ≡ change_data object change.now) }
+fn change_value(
+    alloc: Global,
+    object: ObjectId,
+    change: &ObjectChange,
+    style: MomentStyle,
+) -> Result<Value, AllocError>
+    ensures { IfOk result (λ value. view value ≡ change_data style object change.now) }
 {
     let (moment, object, kind) = (
         change.moment.number(),
@@ -122,8 +159,10 @@ fn change_value(alloc: Global, object: ObjectId, change: &ObjectChange) -> Resul
     let (first, last) = (first_block(change.blocks), last_block(change.blocks));
     let attribute_before = attribute_before(alloc, &change.pair)?;
     let attribute_after = attribute_after(alloc, &change.pair)?;
+    let time = time_value(alloc, change.moment, style)?;
     json!(in alloc; {
         "moment": moment,
+        "time": time,
         "object": object,
         "kind": kind,
         "size_before": before,
@@ -135,40 +174,127 @@ fn change_value(alloc: Global, object: ObjectId, change: &ObjectChange) -> Resul
     })
 }
 
-/// The line of a change of an object.
-pub fn change_json(
-    alloc: Global,
-    object: ObjectId,
-    change: &ObjectChange,
-) -> Result<String, AllocError>
-    ensures { IfOk result (λ line. string_bytes line ≡ json_line (change_data object change.now)) }
+fn hidden_value(alloc: Global, run: &Span, style: MomentStyle) -> Result<Value, AllocError>
+    ensures { IfOk result (λ value. view value ≡ hidden_data style run.now) }
 {
-    let value = change_value(alloc, object, change)?;
+    let (first, last, object) = (run.first.number(), run.last.number(), run.object.number());
+    let time = time_value(alloc, run.first, style)?;
+    let last_time = time_value(alloc, run.last, style)?;
+    json!(in alloc; {
+        "moment": first,
+        "time": time,
+        "last": last,
+        "last_time": last_time,
+        "object": object,
+        "kind": "hidden"
+    })
+}
+
+fn row_value(alloc: Global, row: &LogRow, style: MomentStyle) -> Result<Value, AllocError>
+    ensures { IfOk result (λ value. view value ≡ row_data style row.now) }
+{
+    match row {
+        LogRow::Changed { object, change } => change_value(alloc, *object, change, style),
+        LogRow::Hidden(run) => hidden_value(alloc, run, style),
+    }
+}
+
+/// The line of a row of a log.
+pub fn log_json(alloc: Global, row: &LogRow, style: MomentStyle) -> Result<String, AllocError>
+    ensures { IfOk result (λ line. string_bytes line ≡ json_line (row_data style row.now)) }
+{
+    let value = row_value(alloc, row, style)?;
     line_of(alloc, &value)
 }
 
-fn numbers_value(alloc: Global, numbers: &DriveNumbers) -> Result<Value, AllocError>
-    ensures { IfOk result (λ value. view value ≡ numbers_data numbers.now) }
+fn stat_value(alloc: Global, stat: &ObjectStat, style: MomentStyle) -> Result<Value, AllocError>
+    ensures { IfOk result (λ value. view value ≡ stat_data style stat.now) }
 {
-    let (frames, room, next) = (numbers.frames, numbers.room, numbers.next);
-    let (live, deleted) = (numbers.live, numbers.deleted);
+    let (object, changes) = (stat.object.number(), stat.changes);
+    let (first, last) = (stat.first.number(), stat.last.number());
+    let first_time = time_value(alloc, stat.first, style)?;
+    let last_time = time_value(alloc, stat.last, style)?;
+    json!(in alloc; {
+        "object": object,
+        "changes": changes,
+        "first": first,
+        "first_time": first_time,
+        "last": last,
+        "last_time": last_time
+    })
+}
+
+/// The line of what the changes of an object come to.
+pub fn stat_json(alloc: Global, stat: &ObjectStat, style: MomentStyle) -> Result<String, AllocError>
+    ensures { IfOk result (λ line. string_bytes line ≡ json_line (stat_data style stat.now)) }
+{
+    let value = stat_value(alloc, stat, style)?;
+    line_of(alloc, &value)
+}
+
+fn times_value(
+    alloc: Global,
+    numbers: &DriveNumbers,
+    style: MomentStyle,
+) -> Result<Value, AllocError>
+    ensures { IfOk result (λ value. view value ≡ times_data style numbers.now) }
+{
+    match style {
+        MomentStyle::Number => Ok(Value::Null),
+        MomentStyle::Date => dates_value(alloc, numbers),
+    }
+}
+
+fn dates_value(alloc: Global, numbers: &DriveNumbers) -> Result<Value, AllocError>
+    ensures { IfOk result (λ value. view value ≡ times_data Date numbers.now) }
+{
+    let clock = moment_text(alloc, numbers.clock, MomentStyle::Date)?;
+    let floor = moment_text(alloc, numbers.floor, MomentStyle::Date)?;
+    json!(in alloc; { "clock": clock, "floor": floor })
+}
+
+fn counts_value(alloc: Global, numbers: &DriveNumbers) -> Result<Value, AllocError>
+    ensures { IfOk result (λ value. view value ≡ counts_data numbers.now) }
+{
+    let (runs, objects) = (numbers.hidden, numbers.hidden_objects);
+    json!(in alloc; { "runs": runs, "objects": objects })
+}
+
+fn numbers_value(
+    alloc: Global,
+    numbers: &DriveNumbers,
+    style: MomentStyle,
+) -> Result<Value, AllocError>
+    ensures { IfOk result (λ value. view value ≡ numbers_data style numbers.now) }
+{
+    let (frames, free, room) = (numbers.frames, numbers.free, numbers.room);
+    let (live, deleted, next) = (numbers.live, numbers.deleted, numbers.next);
     let (clock, window, floor) = (numbers.clock, numbers.window, numbers.floor);
+    let hidden = counts_value(alloc, numbers)?;
+    let time = times_value(alloc, numbers, style)?;
     json!(in alloc; {
         "frames": frames,
+        "free": free,
         "room": room,
         "live": live,
         "deleted": deleted,
         "next": next,
         "clock": clock,
         "window": window,
-        "floor": floor
+        "floor": floor,
+        "time": time,
+        "hidden": hidden
     })
 }
 
 /// The line of a drive's numbers.
-pub fn numbers_json(alloc: Global, numbers: &DriveNumbers) -> Result<String, AllocError>
-    ensures { IfOk result (λ line. string_bytes line ≡ json_line (numbers_data numbers.now)) }
+pub fn numbers_json(
+    alloc: Global,
+    numbers: &DriveNumbers,
+    style: MomentStyle,
+) -> Result<String, AllocError>
+    ensures { IfOk result (λ line. string_bytes line ≡ json_line (numbers_data style numbers.now)) }
 {
-    let value = numbers_value(alloc, numbers)?;
+    let value = numbers_value(alloc, numbers, style)?;
     line_of(alloc, &value)
 }

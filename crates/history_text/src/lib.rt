@@ -8,6 +8,7 @@ mod json;
 mod lines;
 mod numbers;
 
-pub use json::{change_json, listed_json, numbers_json};
-pub use lines::{LIST_HEAD, LOG_HEAD, change_line, listed_line, numbers_lines};
+pub use attributes::printed_attribute;
+pub use json::{listed_json, log_json, numbers_json, stat_json, text_value};
+pub use lines::{list_head, listed_line, log_head, log_line, numbers_lines, stat_head, stat_line};
 pub use numbers::DriveNumbers;

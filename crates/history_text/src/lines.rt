@@ -1,19 +1,15 @@
 //! The lines that people read.
 ghost use Rattle.std.specs.Prelude.{◌≡◌, IfOk, string_bytes};
-ghost use Rattle.history_text.specs.Lines.{column, listed_line, change_line, state_text, kind_text, blocks_text, pair_text, sizes_text, detail_text, counts_text, moments_text, numbers_lines};
+ghost use Rattle.moment_words.specs.Texts as texts;
+ghost use Rattle.history_text.specs.Lines.{column, moment_column, list_head, listed_line, state_text, kind_text, added_text, blocks_text, pair_text, sizes_text, detail_text, log_head, change_line, hidden_of, hidden_line, log_line, stat_head, stat_line, counts_text, moments_text, hidden_text, numbers_lines};
 
-use crate::attributes::attribute_text;
+use crate::attributes::printed_attribute;
 use crate::numbers::DriveNumbers;
 use codec::Pair;
-use history_view::{Blocks, Kind, Listed, ObjectChange};
-use s4_types::ObjectId;
+use history_view::{Blocks, Kind, Listed, LogRow, ObjectChange, ObjectStat};
+use moment_words::{MomentStyle, moment_text};
+use s4_types::{Moment, ObjectId, Span};
 use std::alloc::{AllocError, Global};
-
-/// The line above the objects.
-pub const LIST_HEAD: &str = "    OBJECT  STATE      SIZE     CREATED     CHANGED  ATTRIBUTE\n";
-
-/// The line above the changes.
-pub const LOG_HEAD: &str = "    MOMENT      OBJECT  CHANGE      BEFORE   AFTER\n";
 
 /// Bytes of a block.
 const BLOCK_BYTES: u64 = s4_types::limits::BLOCK_BYTES as u64;
@@ -24,11 +20,20 @@ fn state_text(is_live: bool) -> &'static str
     if is_live { "live   " } else { "deleted" }
 }
 
-// A moment or the number of an object, in its column.
+// The number of an object, a count or a moment, in its column.
 fn column(alloc: Global, number: u64) -> Result<String, AllocError>
     ensures { IfOk result (λ text. string_bytes text ≡ column 10 number) }
 {
     format!(in alloc; "{number:10}")
+}
+
+fn moment_column(alloc: Global, moment: Moment, style: MomentStyle) -> Result<String, AllocError>
+    ensures { IfOk result (λ text. string_bytes text ≡ moment_column style moment) }
+{
+    match style {
+        MomentStyle::Number => column(alloc, moment.number()),
+        MomentStyle::Date => moment_text(alloc, moment.number(), MomentStyle::Date),
+    }
 }
 
 // A size, in its column.
@@ -38,16 +43,30 @@ fn size_text(alloc: Global, size: u32) -> Result<String, AllocError>
     format!(in alloc; "{size:6}")
 }
 
+/// The line above the objects.
+pub fn list_head(style: MomentStyle) -> &'static str
+    ensures { result.now ≡ list_head style }
+{
+    match style {
+        MomentStyle::Number => {
+            "    OBJECT  STATE      SIZE     CREATED     CHANGED  ATTRIBUTE\n"
+        }
+        MomentStyle::Date => {
+            "    OBJECT  STATE      SIZE  CREATED                      CHANGED                      ATTRIBUTE\n"
+        }
+    }
+}
+
 /// The line of an object.
-pub fn listed_line(alloc: Global, row: &Listed) -> Result<String, AllocError>
-    ensures { IfOk result (λ line. string_bytes line ≡ listed_line row.now) }
+pub fn listed_line(alloc: Global, row: &Listed, style: MomentStyle) -> Result<String, AllocError>
+    ensures { IfOk result (λ line. string_bytes line ≡ listed_line style row.now) }
 {
     let object = column(alloc, row.object.number())?;
     let state = state_text(row.is_live);
     let size = size_text(alloc, row.size)?;
-    let created = column(alloc, row.created.number())?;
-    let changed = column(alloc, row.changed.number())?;
-    let attribute = attribute_text(alloc, &row.attribute)?;
+    let created = moment_column(alloc, row.created, style)?;
+    let changed = moment_column(alloc, row.changed, style)?;
+    let attribute = printed_attribute(alloc, row.attribute.as_slice())?;
     format!(in alloc; "{object}  {state}  {size}  {created}  {changed}  {attribute}\n")
 }
 
@@ -66,6 +85,17 @@ fn kind_text(kind: Kind) -> &'static str
     }
 }
 
+fn added_text(alloc: Global, change: &ObjectChange) -> Result<String, AllocError>
+    ensures { IfOk result (λ text. string_bytes text ≡ added_text change.now) }
+{
+    let (before, after) = (change.size_before, change.size_after);
+    if after <= before {
+        return Ok(String::new(alloc));
+    }
+    let count = after - before;
+    format!(in alloc; "  {count} bytes added at {before}")
+}
+
 fn blocks_text(alloc: Global, blocks: Option<Blocks>) -> Result<String, AllocError>
     ensures { IfOk result (λ text. string_bytes text ≡ blocks_text blocks) }
 {
@@ -74,7 +104,7 @@ fn blocks_text(alloc: Global, blocks: Option<Blocks>) -> Result<String, AllocErr
     };
     let first = BLOCK_BYTES * blocks.first as u64;
     let last = BLOCK_BYTES * blocks.last as u64 + (BLOCK_BYTES - 1);
-    format!(in alloc; "  bytes {first}-{last}")
+    format!(in alloc; "  blocks {first}-{last}")
 }
 
 fn pair_text(alloc: Global, pair: &Option<Pair>) -> Result<String, AllocError>
@@ -83,8 +113,8 @@ fn pair_text(alloc: Global, pair: &Option<Pair>) -> Result<String, AllocError>
     let Some(pair) = pair else {
         return Ok(String::new(alloc));
     };
-    let before = attribute_text(alloc, &pair.before)?;
-    let after = attribute_text(alloc, &pair.after)?;
+    let before = printed_attribute(alloc, pair.before.as_slice())?;
+    let after = printed_attribute(alloc, pair.after.as_slice())?;
     format!(in alloc; "  {before} -> {after}")
 }
 
@@ -99,20 +129,33 @@ fn sizes_text(alloc: Global, change: &ObjectChange) -> Result<String, AllocError
 fn detail_text(alloc: Global, change: &ObjectChange) -> Result<String, AllocError>
     ensures { IfOk result (λ text. string_bytes text ≡ detail_text change.now) }
 {
+    let added = added_text(alloc, change)?;
     let blocks = blocks_text(alloc, change.blocks)?;
     let pair = pair_text(alloc, &change.pair)?;
-    format!(in alloc; "{blocks}{pair}")
+    format!(in alloc; "{added}{blocks}{pair}")
 }
 
-/// The line of a change of an object.
-pub fn change_line(
+/// The line above the rows of a log.
+pub fn log_head(style: MomentStyle) -> &'static str
+    ensures { result.now ≡ log_head style }
+{
+    match style {
+        MomentStyle::Number => "    MOMENT      OBJECT  CHANGE      BEFORE   AFTER\n",
+        MomentStyle::Date => {
+            "MOMENT                           OBJECT  CHANGE      BEFORE   AFTER\n"
+        }
+    }
+}
+
+fn change_line(
     alloc: Global,
     object: ObjectId,
     change: &ObjectChange,
+    style: MomentStyle,
 ) -> Result<String, AllocError>
-    ensures { IfOk result (λ line. string_bytes line ≡ change_line object change.now) }
+    ensures { IfOk result (λ line. string_bytes line ≡ change_line style object change.now) }
 {
-    let moment = column(alloc, change.moment.number())?;
+    let moment = moment_column(alloc, change.moment, style)?;
     let object = column(alloc, object.number())?;
     let kind = kind_text(change.kind);
     let sizes = sizes_text(alloc, change)?;
@@ -120,27 +163,94 @@ pub fn change_line(
     format!(in alloc; "{moment}  {object}  {kind}  {sizes}{detail}\n")
 }
 
+fn hidden_of(alloc: Global, object: ObjectId) -> Result<String, AllocError>
+    ensures { IfOk result (λ text. string_bytes text ≡ hidden_of object) }
+{
+    let number = object.number();
+    if number == 0 {
+        return Ok(String::new(alloc));
+    }
+    format!(in alloc; " of object {number}")
+}
+
+fn hidden_line(alloc: Global, run: &Span, style: MomentStyle) -> Result<String, AllocError>
+    ensures { IfOk result (λ line. string_bytes line ≡ hidden_line style run.now) }
+{
+    let first = moment_column(alloc, run.first, style)?;
+    let last = moment_text(alloc, run.last.number(), style)?;
+    let object = hidden_of(alloc, run.object)?;
+    format!(in alloc; "{first}-{last} hidden by a flush{object}\n")
+}
+
+/// The line of a row of a log.
+pub fn log_line(alloc: Global, row: &LogRow, style: MomentStyle) -> Result<String, AllocError>
+    ensures { IfOk result (λ line. string_bytes line ≡ log_line style row.now) }
+{
+    match row {
+        LogRow::Changed { object, change } => change_line(alloc, *object, change, style),
+        LogRow::Hidden(run) => hidden_line(alloc, run, style),
+    }
+}
+
+/// The line above what the changes of objects come to.
+pub fn stat_head(style: MomentStyle) -> &'static str
+    ensures { result.now ≡ stat_head style }
+{
+    match style {
+        MomentStyle::Number => "    OBJECT     CHANGES       FIRST        LAST\n",
+        MomentStyle::Date => "    OBJECT     CHANGES  FIRST                        LAST\n",
+    }
+}
+
+/// The line of what the changes of an object come to.
+pub fn stat_line(alloc: Global, stat: &ObjectStat, style: MomentStyle) -> Result<String, AllocError>
+    ensures { IfOk result (λ line. string_bytes line ≡ stat_line style stat.now) }
+{
+    let object = column(alloc, stat.object.number())?;
+    let changes = column(alloc, stat.changes)?;
+    let first = moment_column(alloc, stat.first, style)?;
+    let last = moment_column(alloc, stat.last, style)?;
+    format!(in alloc; "{object}  {changes}  {first}  {last}\n")
+}
+
 fn counts_text(alloc: Global, numbers: &DriveNumbers) -> Result<String, AllocError>
     ensures { IfOk result (λ text. string_bytes text ≡ counts_text numbers.now) }
 {
-    let (frames, room) = (numbers.frames, numbers.room);
+    let (frames, free, room) = (numbers.frames, numbers.free, numbers.room);
     let (live, deleted) = (numbers.live, numbers.deleted);
-    format!(in alloc; "frames {frames}\nroom {room}\nlive {live}\ndeleted {deleted}\n")
+    format!(in alloc; "frames {frames}\nfree {free}\nroom {room}\nlive {live}\ndeleted {deleted}\n")
 }
 
-fn moments_text(alloc: Global, numbers: &DriveNumbers) -> Result<String, AllocError>
-    ensures { IfOk result (λ text. string_bytes text ≡ moments_text numbers.now) }
+fn moments_text(
+    alloc: Global,
+    numbers: &DriveNumbers,
+    style: MomentStyle,
+) -> Result<String, AllocError>
+    ensures { IfOk result (λ text. string_bytes text ≡ moments_text style numbers.now) }
 {
-    let (next, clock) = (numbers.next, numbers.clock);
-    let (window, floor) = (numbers.window, numbers.floor);
+    let (next, window) = (numbers.next, numbers.window);
+    let clock = moment_text(alloc, numbers.clock, style)?;
+    let floor = moment_text(alloc, numbers.floor, style)?;
     format!(in alloc; "next {next}\nclock {clock}\nwindow {window}\nfloor {floor}\n")
 }
 
+fn hidden_text(alloc: Global, numbers: &DriveNumbers) -> Result<String, AllocError>
+    ensures { IfOk result (λ text. string_bytes text ≡ hidden_text numbers.now) }
+{
+    let (hidden, objects) = (numbers.hidden, numbers.hidden_objects);
+    format!(in alloc; "hidden {hidden}\nhidden_objects {objects}\n")
+}
+
 /// The lines of a drive's numbers.
-pub fn numbers_lines(alloc: Global, numbers: &DriveNumbers) -> Result<String, AllocError>
-    ensures { IfOk result (λ lines. string_bytes lines ≡ numbers_lines numbers.now) }
+pub fn numbers_lines(
+    alloc: Global,
+    numbers: &DriveNumbers,
+    style: MomentStyle,
+) -> Result<String, AllocError>
+    ensures { IfOk result (λ lines. string_bytes lines ≡ numbers_lines style numbers.now) }
 {
     let counts = counts_text(alloc, numbers)?;
-    let moments = moments_text(alloc, numbers)?;
-    format!(in alloc; "{counts}{moments}")
+    let moments = moments_text(alloc, numbers, style)?;
+    let hidden = hidden_text(alloc, numbers)?;
+    format!(in alloc; "{counts}{moments}{hidden}")
 }

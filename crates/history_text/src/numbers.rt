@@ -5,6 +5,8 @@
 pub struct DriveNumbers {
     /// How many frames it has.
     pub frames: u64,
+    /// How many of them are free.
+    pub free: u64,
     /// How many objects are live.
     pub live: u64,
     /// How many were deleted, of those that something is kept of.
@@ -19,4 +21,8 @@ pub struct DriveNumbers {
     pub floor: u64,
     /// How many blocks of 512 bytes changes may still append.
     pub room: u64,
+    /// How many runs of moments are hidden of all objects.
+    pub hidden: u64,
+    /// Of how many objects alone some moments are hidden.
+    pub hidden_objects: u64,
 }

@@ -2,3 +2,7 @@ pub mod Shown
 mod Read
 pub mod Asked
 pub mod Outside
+pub mod Sifted
+pub mod Fronts
+pub mod Named
+pub mod Logged

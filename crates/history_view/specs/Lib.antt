@@ -1,2 +1,5 @@
 pub mod Changes
 pub mod Listing
+pub mod LogRows
+pub mod Logs
+pub mod Names
