@@ -6,3 +6,4 @@ mod Pieces
 mod Floats
 mod Rows
 mod Only
+mod Written

@@ -1,6 +1,5 @@
 -- What is written of a drive, object by object.
-use Rattle.std.proofs.Common.{◌≡◌, ◌∙◌, ◌<◌, ◌≤◌, ◌++◌, ◌&&◌, ◌||◌, not, ℕ, Bool, true, false, nat_le, List, [], ◌∷◌, Option, Some, None, inl, inr, refl, sym, ap, subst, arith}
-use Rattle.std.specs.List.{flat_map}
+use Rattle.std.proofs.Common.{◌≡◌, ◌∙◌, ◌<◌, ◌≤◌, ◌++◌, ◌&&◌, ◌||◌, not, ℕ, Bool, true, false, nat_le, List, [], ◌∷◌, Option, Some, None, inl, inr, refl, sym, ap, subst, append_assoc, arith}
 use Rattle.std.specs.Io.KnownBytes.{Appends}
 use Rattle.std.proofs.KnownBytes.{Appends-trans, Appends-nil}
 use Rattle.std.proofs.lemmas.Bool.{leb-true, le-leb, and_parts, and_from, not-true, not_from_false, or_right, true≢false, cases_lt}
@@ -18,10 +17,10 @@ use Rattle.drive.specs.Keeping.{DecodesWhereVisible}
 use Rattle.history_view.specs.Listing.{is_visible}
 use Rattle.history_diff.specs.declared.diffing.Comparison.{Comparison}
 use Rattle.history_diff.specs.Differences.{AreAlike}
-use Rattle.history_diff.specs.Diffing.{ObjectDifference, lines_of, IsPassed, IsDifferenceNext, AreDifferencesFrom, IsUnreadable, WritesAsked, has_any}
+use Rattle.history_diff.specs.Diffing.{ObjectDifference, IsPassed, AreLinesOf, AreAllLinesOf, IsDifferenceNext, AreDifferencesFrom, IsUnreadable, WritesAsked, has_any}
 use Rattle.history_diff.specs.private.Writing.{WritesBetween, WritesObject}
 use Rattle.history_diff.proofs.Alike.{same_are_alike}
-use Rattle.history_diff.proofs.Fronts.{IsFront, front_begun, front_more, front_whole, flat_more}
+use Rattle.history_diff.proofs.Fronts.{IsFront, front_begun, front_more, front_whole}
 
 -- ---- which moments can be read
 
@@ -82,11 +81,13 @@ object_written s c o before after true a b seen also is was wrote = record {
 
 -- the one object that is asked for
 pub one_written : (s : State) (c : Comparison) (o : ℕ) (differs : Bool) (a b : Option (List ℕ)) → WritesObject s c o differs a b → WritesAsked s c (Some o) differs a b
-one_written s c o false a b wrote = record { differences = []; asked = wrote.0; wrote = wrote.1; answer = refl }
+one_written s c o false a b wrote = record { differences = []; asked = wrote.0; text = []; lines = refl; wrote = wrote.1; answer = refl }
 one_written s c o true a b wrote = record {
   differences = wrote.row ∷ [];
   asked = (wrote.object, wrote.here);
-  wrote = subst (Appends a b) (sym (append-nil (lines_of c wrote.row))) wrote.wrote;
+  text = wrote.wrote.text;
+  lines = (wrote.wrote.text, [], sym (append-nil wrote.wrote.text), wrote.wrote.lines, refl);
+  wrote = wrote.wrote.wrote;
   answer = refl;
 }
 
@@ -96,12 +97,19 @@ one_written s c o true a b wrote = record {
 pub record WrittenTo (s : State) (c : Comparison) (last : ℕ) (differs : Bool) (output output' : Option (List ℕ)) : Type 0 where
   pub rows : List ObjectDifference
   pub front : IsFront (AreDifferencesFrom s c) rows last
-  pub wrote : Appends output output' (flat_map (lines_of c) rows)
+  pub text : List ℕ
+  pub lines : AreAllLinesOf c rows text
+  pub wrote : Appends output output' text
   pub answer : differs ≡ has_any rows
 
 -- none has at first
 pub none_written : (s : State) (c : Comparison) (output : Option (List ℕ)) → WrittenTo s c 0 false output output
-none_written s c output = record { rows = []; front = front_begun (AreDifferencesFrom s c); wrote = Appends-nil output; answer = refl }
+none_written s c output = record { rows = []; front = front_begun (AreDifferencesFrom s c); text = []; lines = refl; wrote = Appends-nil output; answer = refl }
+
+-- the lines of a difference more are behind the others
+lines_more : (c : Comparison) (rows : List ObjectDifference) (d : ObjectDifference) (text more : List ℕ) → AreAllLinesOf c rows text → AreLinesOf c d more → AreAllLinesOf c (rows ++ d ∷ []) (text ++ more)
+lines_more c [] d text more before one = (more, [], ap (λ (t : List ℕ). t ++ more) before ∙ sym (append-nil more), one, refl)
+lines_more c (row ∷ rows) d text more before one = (before.0, before.1 ++ more, ap (λ (t : List ℕ). t ++ more) before.2 ∙ append_assoc before.0 before.1 more, before.3, lines_more c rows d before.1 more before.4 one)
 
 -- the objects between two numbers are passed
 abbrev ArePassed : State → Comparison → ℕ → ℕ → Type 0
@@ -148,7 +156,9 @@ pub written_on : (s : State) (store : StoreFields) (c : Comparison) (last o : �
 written_on s store c last o so_far false x y z decodes before next wrote = record {
   rows = before.rows;
   front = λ rest more. before.front rest (pass_on s c last o rest next.above (passed_up_to s c last o (passed_between s store c last o decodes next) wrote.0) more);
-  wrote = subst (Appends x z) (append-nil (flat_map (lines_of c) before.rows)) (Appends-trans x y z (flat_map (lines_of c) before.rows) [] before.wrote wrote.1);
+  text = before.text;
+  lines = before.lines;
+  wrote = subst (Appends x z) (append-nil before.text) (Appends-trans x y z before.text [] before.wrote wrote.1);
   answer = or_false so_far ∙ before.answer;
 }
   where
@@ -166,7 +176,9 @@ written_on s store c last o so_far true x y z decodes before next wrote =
     record {
       rows = before.rows ++ d ∷ [];
       front = front_more (AreDifferencesFrom s c) before.rows d last o before.front (λ rest more. (here, subst (λ n. AreDifferencesFrom s c n rest) is more));
-      wrote = subst (Appends x z) (sym (flat_more (lines_of c) before.rows d)) (Appends-trans x y z (flat_map (lines_of c) before.rows) (lines_of c d) before.wrote wrote.wrote);
+      text = before.text ++ wrote.wrote.text;
+      lines = lines_more c before.rows d before.text wrote.wrote.text before.lines wrote.wrote.lines;
+      wrote = Appends-trans x y z before.text wrote.wrote.text before.wrote wrote.wrote.wrote;
       answer = or_right so_far true refl ∙ sym (has_more before.rows d);
     }
 
@@ -176,6 +188,8 @@ pub all_written : (s : State) (store : StoreFields) (c : Comparison) (last : ℕ
 all_written s store c last differs a b decodes before none = record {
   differences = before.rows;
   asked = front_whole (AreDifferencesFrom s c) before.rows last before.front (λ o above. rowless_is_passed s store c o decodes (none o above));
+  text = before.text;
+  lines = before.lines;
   wrote = before.wrote;
   answer = before.answer;
 }

@@ -1,6 +1,5 @@
 -- What is told of the differences between two moments of a drive.
 use Rattle.std.specs.Prelude.{◌≡◌, ◌⊎◌, ⊤, ℕ, ◌<◌, ◌++◌, if◌then◌else◌, Bool, true, false, List, [], ◌∷◌, Option, Some, None}
-use Rattle.std.specs.List.{flat_map}
 use Rattle.std.specs.Io.KnownBytes.{Appends}
 use Rattle.s4_types.specs.declared.versions.Version.{Version}
 use Rattle.s4_model.specs.State.{State}
@@ -8,13 +7,16 @@ use Rattle.s4_model.specs.VersionAt.{version_of}
 use Rattle.s4_model.specs.Visible.{IsVisible}
 use Rattle.history_text.specs.Json.{json_line}
 use Rattle.history_diff.specs.declared.diffing.Comparison.{Comparison}
+use Rattle.history_diff.specs.declared.texts.Detail.{Detail}
+use Rattle.history_diff.specs.declared.texts.Detail.TheVariants.{Ranges, Bytes, Lines}
 use Rattle.history_diff.specs.declared.diffing.DiffAsked.{DiffAsked}
 use Rattle.history_diff.specs.declared.faults.DiffFault.{DiffFault}
 use Rattle.history_diff.specs.declared.faults.DiffFault.TheVariants.{Unreadable, Stopped}
 use Rattle.history_diff.specs.Differences.{AreAlike, IsDifferenceOf, Told, content_of}
 use Rattle.history_diff.specs.Lines.{difference_line}
 use Rattle.history_diff.specs.Patches.{patch_lines}
-use Rattle.history_diff.specs.Json.{difference_data, ranges_data}
+use Rattle.history_diff.specs.Json.{difference_data, ranges_data, text_members, has_bytes}
+use Rattle.history_diff.specs.Texts.{IsAskedText, bytes_shown}
 
 -- an object's two versions, and what differs between them
 pub record ObjectDifference : Type 0 where
@@ -23,17 +25,34 @@ pub record ObjectDifference : Type 0 where
   pub after : Version
   pub told : Told
 
--- the text of what differs of an object: its line, and where a patch is asked for the lines of its bytes
-abbrev pub text_of : Bool → ObjectDifference → List ℕ
-text_of patch d = difference_line d.object d.told ++ (if patch then patch_lines (content_of d.before) (content_of d.after) d.told.ranges else [])
+-- what follows the line of an object: nothing, the lines of its bytes, or those of a unified difference
+abbrev pub detail_lines : Detail → ObjectDifference → Option (List ℕ) → List ℕ
+detail_lines Ranges d text = []
+detail_lines Bytes d text = patch_lines (content_of d.before) (content_of d.after) d.told.ranges
+detail_lines Lines d text = bytes_shown text
+
+-- the text of what differs of an object: its line, and the detail that is asked for
+abbrev pub text_of : Detail → ObjectDifference → Option (List ℕ) → List ℕ
+text_of detail d text = difference_line d.object d.told ++ detail_lines detail d text
 
 -- its line for programs
-abbrev pub json_of : Bool → ObjectDifference → List ℕ
-json_of patch d = json_line (difference_data d.object (ranges_data patch (content_of d.before) (content_of d.after) d.told.ranges) d.told)
+abbrev pub json_of : Detail → ObjectDifference → Option (List ℕ) → List ℕ
+json_of detail d text = json_line (difference_data d.object (ranges_data (has_bytes detail) (content_of d.before) (content_of d.after) d.told.ranges) (text_members detail text) d.told)
 
 -- what is written of it, for programs or for people
-abbrev pub lines_of : Comparison → ObjectDifference → List ℕ
-lines_of c d = if c.json then json_of c.patch d else text_of c.patch d
+abbrev pub lines_with : Comparison → ObjectDifference → Option (List ℕ) → List ℕ
+lines_with c d text = if c.json then json_of c.detail d text else text_of c.detail d text
+
+-- This is what is written of an object's difference.
+pub record AreLinesOf (c : Comparison) (d : ObjectDifference) (lines : List ℕ) : Type 0 where
+  pub text : Option (List ℕ)
+  pub unified : IsAskedText c.detail d.object c (content_of d.before) (content_of d.after) text
+  pub lines_are : lines ≡ lines_with c d text
+
+-- This is what is written of differences, one after the other.
+abbrev pub AreAllLinesOf : Comparison → List ObjectDifference → List ℕ → Type 0
+AreAllLinesOf c [] text = text ≡ []
+AreAllLinesOf c (d ∷ differences) text = (first : List ℕ) × (rest : List ℕ) × (text ≡ first ++ rest) × AreLinesOf c d first × AreAllLinesOf c differences rest
 
 -- An object is passed: its versions at the two moments are alike, or one of these moments of it can't be read.
 abbrev pub IsPassed : State → Comparison → ℕ → Type 0
@@ -82,7 +101,9 @@ has_any (x ∷ xs) = true
 pub record WritesAsked (s : State) (c : Comparison) (object : Option ℕ) (differs : Bool) (output output' : Option (List ℕ)) : Type 0 where
   pub differences : List ObjectDifference
   pub asked : AreAsked s c object differences
-  pub wrote : Appends output output' (flat_map (lines_of c) differences)
+  pub text : List ℕ
+  pub lines : AreAllLinesOf c differences text
+  pub wrote : Appends output output' text
   pub answer : differs ≡ has_any differences
 
 -- the object whose moments must be such that can be read; where none is asked for, 0: its moments are hidden where those of all objects are
@@ -97,7 +118,7 @@ moment_asked s (Some at) = at
 
 -- which moments are compared, and how what differs is told
 abbrev pub comparison_of : State → DiffAsked → Comparison
-comparison_of s asked = record { before = asked.before; after = moment_asked s asked.after; json = asked.json; patch = asked.patch }
+comparison_of s asked = record { before = asked.before; after = moment_asked s asked.after; json = asked.json; detail = asked.detail; style = asked.style }
 
 -- both moments of an object can be read
 pub record AreVisible (s : State) (o t u : ℕ) : Type 0 where

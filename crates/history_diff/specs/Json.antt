@@ -1,12 +1,14 @@
 -- The lines that programs read: one JSON object a line.
-use Rattle.std.specs.Prelude.{ℕ, if◌then◌else◌, Bool, List, map, Option, Some, None, codes}
+use Rattle.std.specs.Prelude.{ℕ, if◌then◌else◌, Bool, true, false, List, map, Option, Some, None, codes}
 use Rattle.hex.specs.Hex.{encode_lower}
-use Rattle.serde_json.specs.Data.{Data, null, number, unsigned, string, array, object, member, no_members}
+use Rattle.serde_json.specs.Data.{Data, null, number, unsigned, string, array, object, Members, member, no_members}
 use Rattle.serde_json.specs.View.{items_of}
 use Rattle.history_diff.specs.declared.ranges.ByteRange.{ByteRange}
 use Rattle.history_diff.specs.declared.differences.AttributePair.{AttributePair}
 use Rattle.history_diff.specs.declared.differences.DifferenceKind.{DifferenceKind}
 use Rattle.history_diff.specs.declared.differences.DifferenceKind.TheVariants.{Made, Deleted, Changed}
+use Rattle.history_diff.specs.declared.texts.Detail.{Detail}
+use Rattle.history_diff.specs.declared.texts.Detail.TheVariants.{Ranges, Bytes, Lines}
 use Rattle.history_diff.specs.Differences.{Told}
 use Rattle.history_diff.specs.Patches.{bytes_in}
 
@@ -30,6 +32,12 @@ patch_data before after range =
     (member (codes "first") (number (unsigned range.first))
     (member (codes "last") (number (unsigned range.last)) no_members))))
 
+-- whether the bytes of the ranges are asked for
+abbrev pub has_bytes : Detail → Bool
+has_bytes Ranges = false
+has_bytes Bytes = true
+has_bytes Lines = false
+
 abbrev pub range_data : Bool → List ℕ → List ℕ → ByteRange → Data
 range_data patch before after range = if patch then patch_data before after range else place_data range
 
@@ -42,13 +50,24 @@ abbrev pub side_data : (AttributePair → List ℕ) → Option AttributePair →
 side_data side None = null
 side_data side (Some pair) = string (encode_lower (side pair))
 
--- what differs of an object: the attributes after and before, what was done, the object, its ranges, and the sizes in bytes after and before
-abbrev pub difference_data : ℕ → Data → Told → Data
-difference_data o ranges told =
+-- the unified difference; null where a version isn't text
+abbrev pub text_data : Option (List ℕ) → Data
+text_data None = null
+text_data (Some text) = string text
+
+-- the last member, where lines are asked for
+abbrev pub text_members : Detail → Option (List ℕ) → Members
+text_members Ranges text = no_members
+text_members Bytes text = no_members
+text_members Lines text = member (codes "text") (text_data text) no_members
+
+-- what differs of an object: the attributes after and before, what was done, the object, its ranges, the sizes in bytes after and before, and the last member
+abbrev pub difference_data : ℕ → Data → Members → Told → Data
+difference_data o ranges rest told =
     object (member (codes "attribute_after") (side_data (λ p. p.after) told.attributes)
     (member (codes "attribute_before") (side_data (λ p. p.before) told.attributes)
     (member (codes "kind") (string (kind_word told.kind))
     (member (codes "object") (number (unsigned o))
     (member (codes "ranges") ranges
     (member (codes "size_after") (number (unsigned told.size_after))
-    (member (codes "size_before") (number (unsigned told.size_before)) no_members)))))))
+    (member (codes "size_before") (number (unsigned told.size_before)) rest)))))))

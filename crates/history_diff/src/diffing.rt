@@ -1,9 +1,10 @@
 //! What differs between two moments of a drive, object by object.
-ghost use Rattle.std.specs.Prelude.{◌≡◌, ◌+◌, ◌^◌, ◌<◌, ◌||◌, None, IfOk, IfErr, IfNone, IfSome, OnOk};
+ghost use Rattle.std.specs.Prelude.{◌≡◌, ℕ, ◌+◌, ◌^◌, ◌<◌, ◌||◌, None, IfOk, IfErr, IfNone, IfSome, OnOk};
 ghost use Rattle.std.specs.Io.KnownBytes.{Appends};
 ghost use Rattle.drive.specs.Fields.{state_in, store_of};
-ghost use Rattle.history_diff.specs.Diffing.{TellsDifferences, IsFaultOf, IsUnreadable, AreVisible, WritesAsked, comparison_of, object_asked, lines_of, json_of, text_of};
-ghost use Rattle.history_diff.specs.private.Writing.{row_of, WritesBetween, WritesObject};
+ghost use Rattle.history_diff.specs.Diffing.{TellsDifferences, IsFaultOf, IsUnreadable, AreVisible, WritesAsked, comparison_of, object_asked, json_of, text_of, detail_lines};
+ghost use Rattle.history_diff.specs.private.Writing.{row_of, WritesBetween, WritesObject, WritesLines};
+ghost use Rattle.history_diff.specs.Texts.{detail_of, text_shown};
 ghost use Rattle.history_diff.specs.Differences.{told_of};
 ghost use Rattle.history_diff.specs.Lines.{difference_line};
 
@@ -13,9 +14,11 @@ use crate::json::difference_json;
 use crate::lines::difference_line;
 use crate::output::write_out;
 use crate::patches::write_patch;
+use crate::texts::{Detail, Shown, shown_of};
 use crate::versions::content_of;
 use drive::{Drive, Session};
 use history_view::{is_visible, version_at};
+use moment_words::MomentStyle;
 use s4_types::{Moment, ObjectId, Role, Version};
 use segment_word::Naming;
 use serving::Sink;
@@ -32,8 +35,10 @@ pub struct DiffAsked {
     pub after: Option<Moment>,
     /// Whether lines are for programs.
     pub json: bool,
-    /// Whether the bytes that differ are told too.
-    pub patch: bool,
+    /// How much is shown of the bytes that differ.
+    pub detail: Detail,
+    /// How the moments of versions are printed.
+    pub style: MomentStyle,
 }
 
 /// Which moments are compared, and how what differs is told.
@@ -42,7 +47,8 @@ pub struct Comparison {
     pub before: Moment,
     pub after: Moment,
     pub json: bool,
-    pub patch: bool,
+    pub detail: Detail,
+    pub style: MomentStyle,
 }
 
 /// Writes what differs between two moments: for each object that differs the lines of its difference, by ascending number, or of the one
@@ -83,7 +89,8 @@ fn comparison_of<J: Naming>(drive: &Drive<J>, asked: &DiffAsked) -> Comparison
         before: asked.before,
         after,
         json: asked.json,
-        patch: asked.patch,
+        detail: asked.detail,
+        style: asked.style,
     }
 }
 
@@ -257,29 +264,18 @@ fn write_lines<W: Sink>(
     writer: &mut W,
 ) -> Result<(), Stop>
     requires writer { W.failures writer.old + 1 < 2 ^ 64 }
-    ensures lines { OnOk result (Appends (W.passed writer.old) (W.passed writer.new) (lines_of comparison.now (row_of object before.now after.now difference.now))) }
+    ensures lines { OnOk result (WritesLines comparison.now (row_of object before.now after.now difference.now) (W.passed writer.old) (W.passed writer.new)) }
     ensures failures { OnOk result (W.failures writer.new ≡ W.failures writer.old) }
 {
+    let (old, new) = (content_of(before), content_of(after));
+    let shown = match shown_of(alloc, object, comparison, old, new) {
+        Ok(shown) => shown,
+        Err(_) => return Err(Stop::NoMemory),
+    };
     if comparison.json {
-        return write_json(
-            alloc,
-            object,
-            before,
-            after,
-            difference,
-            comparison.patch,
-            writer,
-        );
+        return write_json(alloc, object, before, after, difference, &shown, writer);
     }
-    write_text(
-        alloc,
-        object,
-        before,
-        after,
-        difference,
-        comparison.patch,
-        writer,
-    )
+    write_text(alloc, object, before, after, difference, &shown, writer)
 }
 
 // Writes the line of a difference for programs.
@@ -289,15 +285,15 @@ fn write_json<W: Sink>(
     before: &Version,
     after: &Version,
     difference: &Difference,
-    patch: bool,
+    shown: &Shown,
     writer: &mut W,
 ) -> Result<(), Stop>
     requires writer { W.failures writer.old + 1 < 2 ^ 64 }
-    ensures line { OnOk result (Appends (W.passed writer.old) (W.passed writer.new) (json_of patch (row_of object before.now after.now difference.now))) }
+    ensures line { OnOk result (Appends (W.passed writer.old) (W.passed writer.new) (json_of (detail_of shown.now) (row_of object before.now after.now difference.now) (text_shown shown.now))) }
     ensures failures { OnOk result (W.failures writer.new ≡ W.failures writer.old) }
 {
     let (old, new) = (content_of(before), content_of(after));
-    let line = match difference_json(alloc, object, old, new, difference, patch) {
+    let line = match difference_json(alloc, object, old, new, difference, shown) {
         Ok(line) => line,
         Err(_) => return Err(Stop::NoMemory),
     };
@@ -311,22 +307,41 @@ fn write_text<W: Sink>(
     before: &Version,
     after: &Version,
     difference: &Difference,
-    patch: bool,
+    shown: &Shown,
     writer: &mut W,
 ) -> Result<(), Stop>
     requires writer { W.failures writer.old + 1 < 2 ^ 64 }
-    ensures lines { OnOk result (Appends (W.passed writer.old) (W.passed writer.new) (text_of patch (row_of object before.now after.now difference.now))) }
+    ensures lines { OnOk result (Appends (W.passed writer.old) (W.passed writer.new) (text_of (detail_of shown.now) (row_of object before.now after.now difference.now) (text_shown shown.now))) }
     ensures failures { OnOk result (W.failures writer.new ≡ W.failures writer.old) }
 {
     match write_line(alloc, object, difference, writer) {
-        Ok(()) => {}
-        Err(stop) => return Err(stop),
+        Ok(()) => write_detail(alloc, before, after, difference, shown, writer),
+        Err(stop) => Err(stop),
     }
-    if !patch {
-        return Ok(());
+}
+
+// Writes what follows the line of a difference.
+fn write_detail<W: Sink>(
+    alloc: Global,
+    before: &Version,
+    after: &Version,
+    difference: &Difference,
+    shown: &Shown,
+    writer: &mut W,
+) -> Result<(), Stop>
+    requires writer { W.failures writer.old + 1 < 2 ^ 64 }
+    ensures lines { OnOk result ((o : ℕ) → Appends (W.passed writer.old) (W.passed writer.new) (detail_lines (detail_of shown.now) (row_of o before.now after.now difference.now) (text_shown shown.now))) }
+    ensures failures { OnOk result (W.failures writer.new ≡ W.failures writer.old) }
+{
+    match shown {
+        Shown::Ranges => Ok(()),
+        Shown::Bytes => {
+            let (old, new) = (content_of(before), content_of(after));
+            write_patch(alloc, old, new, difference.ranges.as_slice(), writer)
+        }
+        Shown::Lines(Some(text)) => write_out(writer, text.as_bytes()),
+        Shown::Lines(None) => Ok(()),
     }
-    let (old, new) = (content_of(before), content_of(after));
-    write_patch(alloc, old, new, difference.ranges.as_slice(), writer)
 }
 
 // Writes the line of a difference for people.

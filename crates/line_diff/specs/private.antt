@@ -1,0 +1,3 @@
+pub mod Trimming
+pub mod Reaching
+pub mod Finding
