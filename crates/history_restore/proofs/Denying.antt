@@ -44,13 +44,14 @@ may_is_given first request e (AsFirst is) = inr is
 may_is_given first request e (ForMemory is wants) = inl (ap is_of_want is)
 may_is_given first request e (AsOpen none is) = inl (want_of_open e is)
 
--- what a step of a change is refused for
-given_by : (h after : History) (role : Role) (request : Request) (now : ℕ) (reply : Reply) (e : Refusal) → IsOfVersions request → reply ≡ Refused e → Step h role request now reply after → IsNoRead request → IsGiven (first_refusal (state_of h) role request) e
-given_by h after role request now reply e of refused (Refuses refusal is may after_is) unread =
+-- what a step of a request that is judged so is refused for
+pub given_as_was : (h after : History) (role : Role) (request : Request) (now : ℕ) (reply : Reply) (e : Refusal) → judged h request now ≡ state_of h → reply ≡ Refused e → Step h role request now reply after → IsNoRead request
+    → IsGiven (first_refusal (state_of h) role request) e
+given_as_was h after role request now reply e as_was refused (Refuses refusal is may after_is) unread =
     let same : refusal ≡ e = cc in
-    subst (λ (s : State). IsGiven (first_refusal s role request) e) (judged_as_was h request now of)
+    subst (λ (s : State). IsGiven (first_refusal s role request) e) as_was
     (subst (IsGiven (first_refusal (judged h request now) role request)) same (may_is_given (first_refusal (judged h request now) role request) request refusal may))
-given_by h after role request now reply e of refused (Serves r free accepts after_is) unread = absurd (accepts_none h request now reply r e unread refused accepts)
+given_as_was h after role request now reply e as_was refused (Serves r free accepts after_is) unread = absurd (accepts_none h request now reply r e unread refused accepts)
 
 pub is_given : (h after : History) (role : Role) (request : Request) (now : ℕ) (reply : Reply) (e : Refusal) → IsOfVersions request → reply ≡ Refused e → Step h role request now reply after → IsGiven (first_refusal (state_of h) role request) e
-is_given h after role request now reply e of refused step = given_by h after role request now reply e of refused step (no_read request of)
+is_given h after role request now reply e of refused step = given_as_was h after role request now reply e (judged_as_was h request now of) refused step (no_read request of)

@@ -29,7 +29,7 @@ all_front P [] (suc n) all = tt
 all_front P (x ∷ xs) zero all = tt
 all_front P (x ∷ xs) (suc n) all = (all.0, all_front P xs n all.1)
 
-all_push : {X : Type 0} (P : X → Type 0) (xs : List X) (x : X) → AllByRecursion P xs → P x → AllByRecursion P (xs ++ x ∷ [])
+pub all_push : {X : Type 0} (P : X → Type 0) (xs : List X) (x : X) → AllByRecursion P xs → P x → AllByRecursion P (xs ++ x ∷ [])
 all_push P [] x all here = (here, tt)
 all_push P (y ∷ xs) x all here = (all.0, all_push P xs x all.1 here)
 
@@ -38,7 +38,7 @@ all_last : {X : Type 0} (P : X → Type 0) (xs : List X) (x : X) → AllByRecurs
 all_last P [] x all = (tt, all.0)
 all_last P (y ∷ xs) x all = let rest = all_last P xs x all.1 in ((all.0, rest.0), rest.1)
 
-all_weaker : {X : Type 0} (P Q : X → Type 0) (xs : List X) → ((x : X) → P x → Q x) → AllByRecursion P xs → AllByRecursion Q xs
+pub all_weaker : {X : Type 0} (P Q : X → Type 0) (xs : List X) → ((x : X) → P x → Q x) → AllByRecursion P xs → AllByRecursion Q xs
 all_weaker P Q [] f all = tt
 all_weaker P Q (x ∷ xs) f all = (f x all.0, all_weaker P Q xs f all.1)
 

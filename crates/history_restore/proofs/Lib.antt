@@ -17,3 +17,5 @@ pub mod Chosen
 pub mod Storing
 pub mod Planned
 pub mod Counted
+pub mod Windows
+pub mod AllPlanned

@@ -1,8 +1,8 @@
 -- The objects that have a row.
-use Rattle.std.proofs.Common.{◌≡◌, ◌≢◌, ◌∙◌, ◌++◌, ◌<◌, ℕ, List, [], ◌∷◌, Option, None, inl, inr, sym, ap, subst, append_assoc, arith}
+use Rattle.std.proofs.Common.{◌≡◌, ◌≢◌, ◌∙◌, ◌+◌, ◌++◌, ◌<◌, ◌≤◌, ℕ, zero, suc, List, [], ◌∷◌, length, drop, get_or, Option, None, inl, inr, sym, ap, subst, append_assoc, arith}
 use Rattle.std.specs.Prelude.{IsSome, is_some}
 use Rattle.std.specs.List.{AllByRecursion}
-use Rattle.std.proofs.lemmas.List.{append-nil}
+use Rattle.std.proofs.lemmas.List.{append-nil, drop_all}
 use Rattle.std.proofs.lemmas.Bool.{cases_lt, true≢false}
 use Rattle.s4_types.specs.declared.versions.Version.TheVariants.{Absent}
 use Rattle.s4_model.specs.State.{State}
@@ -53,3 +53,38 @@ no_row store after (o ∷ objects) q are above apart =
 -- and so it isn't there at a moment that can be read
 pub rowless_is_absent : (store : StoreFields) (s : State) (q t : ℕ) → DecodesWhereVisible store s → row_of store.rows q ≡ None → IsVisible s q t → version_of s q t ≡ Absent
 rowless_is_absent store s q t decodes none visible = sym (decodes q t visible) ∙ ap (λ (r : Option Row). version_by store.log.held (inode_by store.log.held q t r)) none
+
+-- ---- numbers that ascend, one by one
+
+pub ascend_step : (low high i o d : ℕ) (objects : List ℕ) → i < length objects → o ≡ get_or objects i d → AscendBelow low high (drop i objects) → (low < o) × (o < high) × AscendBelow o high (drop (i + 1) objects)
+ascend_step low high zero o d [] lt is ascend = absurd (omega arith)
+ascend_step low high (suc i) o d [] lt is ascend = absurd (omega arith)
+ascend_step low high zero o d (x ∷ objects) lt is ascend = subst (λ (y : ℕ). (low < y) × (y < high) × AscendBelow y high objects) (sym is) ascend
+ascend_step low high (suc i) o d (x ∷ objects) lt is ascend =
+    let next : suc (i + 1) ≡ suc i + 1 = omega arith in
+    subst (λ (n : ℕ). (low < o) × (o < high) × AscendBelow o high (drop n (x ∷ objects))) next (ascend_step low high i o d objects (omega arith) is ascend)
+
+ascend_back : (low high i o d : ℕ) (objects : List ℕ) → i < length objects → o ≡ get_or objects i d → low < o → o < high → AscendBelow o high (drop (i + 1) objects) → AscendBelow low high (drop i objects)
+ascend_back low high zero o d [] lt is above below ascend = absurd (omega arith)
+ascend_back low high (suc i) o d [] lt is above below ascend = absurd (omega arith)
+ascend_back low high zero o d (x ∷ objects) lt is above below ascend = subst (λ (y : ℕ). (low < y) × (y < high) × AscendBelow y high objects) is (above, below, ascend)
+ascend_back low high (suc i) o d (x ∷ objects) lt is above below ascend =
+    let next : suc i + 1 ≡ suc (i + 1) = omega arith in
+    ascend_back low high i o d objects (omega arith) is above below (subst (λ (n : ℕ). AscendBelow o high (drop n (x ∷ objects))) next ascend)
+
+-- The numbers ascend if those that are left do from the last one on, and only then.
+pub record AscendOn (high last : ℕ) (objects left : List ℕ) : Type 0 where
+  pub whole : AscendBelow last high left → AscendBelow 0 high objects
+  pub rest : AscendBelow 0 high objects → AscendBelow last high left
+
+pub ascend_on : (high last i o d : ℕ) (objects : List ℕ) → i < length objects → o ≡ get_or objects i d → (last < o) × (o < high) → AscendOn high last objects (drop i objects) → AscendOn high o objects (drop (i + 1) objects)
+ascend_on high last i o d objects lt is between before = record {
+  whole = λ rest. before.whole (ascend_back last high i o d objects lt is between.0 between.1 rest);
+  rest = λ whole. (ascend_step last high i o d objects lt is (before.rest whole)).2;
+}
+
+pub ascend_ends : (high last i o d : ℕ) (objects : List ℕ) → i < length objects → o ≡ get_or objects i d → ((last < o) × (o < high) → ⊥) → AscendOn high last objects (drop i objects) → AscendBelow 0 high objects → ⊥
+ascend_ends high last i o d objects lt is apart before whole = let here = ascend_step last high i o d objects lt is (before.rest whole) in apart (here.0, here.1)
+
+pub ascend_whole : (high last i : ℕ) (objects : List ℕ) → length objects ≤ i → AscendOn high last objects (drop i objects) → AscendBelow 0 high objects
+ascend_whole high last i objects over before = before.whole (subst (AscendBelow last high) (sym (drop_all i objects over)) tt)

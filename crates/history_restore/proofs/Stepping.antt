@@ -80,7 +80,7 @@ of_object s (Flush first last) c of is = absurd of
 of_object s (FlushO object first last) c of is = absurd of
 
 -- one more change without a span adds none
-spans_stay : (s : State) (a : Accepted) → span_by a.change ≡ None → spans_of (took s a) ≡ spans_of s
+pub spans_stay : (s : State) (a : Accepted) → span_by a.change ≡ None → spans_of (took s a) ≡ spans_of s
 spans_stay s a none =
     ap (λ more. s.spans ++ more)
     (filter_map-append span_of s.changes (a ∷ []) ∙ ap (λ o. filter_map span_of s.changes ++ cons_option o []) none ∙ append-nil (filter_map span_of s.changes))

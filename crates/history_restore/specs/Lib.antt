@@ -3,5 +3,7 @@ pub mod Plans
 pub mod Keeping
 pub mod Asking
 pub mod Restoring
+pub mod Planning
 pub mod Whole
 pub mod Room
+pub mod Widening

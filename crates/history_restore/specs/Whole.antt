@@ -1,5 +1,5 @@
 -- What restoring all objects of a drive comes to.
-use Rattle.std.specs.Prelude.{◌≡◌, ◌≢◌, ℕ, ◌+◌, ◌<◌, List, [], ◌∷◌, map, None, ◌==◌, Bool, true, false}
+use Rattle.std.specs.Prelude.{◌≡◌, ◌≢◌, ℕ, ◌+◌, ◌<◌, List, [], ◌∷◌, map, None, ◌==◌, ◌&&◌, ◌||◌, not, Bool, true, false}
 use Rattle.std.specs.List.{AllByRecursion, list_any, filter}
 use Rattle.s4_types.specs.declared.refusals.Refusal.TheVariants.{NoMemory}
 use Rattle.s4_types.specs.declared.versions.Version.TheVariants.{Absent}
@@ -14,7 +14,9 @@ use Rattle.history_restore.specs.declared.failures.Failure.{Failure}
 use Rattle.history_restore.specs.declared.restoring.Restored.{Restored}
 use Rattle.history_restore.specs.Content.{content_of}
 use Rattle.history_restore.specs.Asking.{IsWithinChanges}
-use Rattle.history_restore.specs.Plans.{IsPlan, change_count, number_by, next_by_plan}
+use Rattle.history_restore.specs.declared.planning.ObjectPlan.{ObjectPlan}
+use Rattle.history_restore.specs.Plans.{IsPlan, number_by, next_by_plan}
+use Rattle.history_restore.specs.Planning.{IsPlanned, changes_planned, is_older, objects_planned}
 use Rattle.history_restore.specs.Keeping.{LeavesPast}
 use Rattle.history_restore.specs.Restoring.{IsStopped}
 
@@ -39,10 +41,16 @@ abbrev pub AreNumbered : ℕ → List Restored → Type 0
 AreNumbered next [] = Unit {0}
 AreNumbered next (r ∷ all) = (r.number ≡ number_by r.plan next r.object) × AreNumbered (next_by_plan r.plan next) all
 
+-- what was planned for an object
+abbrev pub planned_of : Restored → ObjectPlan
+planned_of r = record { object = r.object; plan = r.plan }
+
+abbrev pub plans_of : List Restored → List ObjectPlan
+plans_of all = map planned_of all
+
 -- how many changes their plans have together
 abbrev pub changes_of_all : List Restored → ℕ
-changes_of_all [] = 0
-changes_of_all (r ∷ all) = change_count r.plan + changes_of_all all
+changes_of_all all = changes_planned (plans_of all)
 
 -- how many of them were made anew
 abbrev pub made_anew : List Restored → ℕ
@@ -81,11 +89,25 @@ pub record RestoresAll (s later : State) (at : ℕ) (all : List Restored) : Type
 abbrev pub is_among : List ℕ → ℕ → Bool
 is_among asked o = list_any (λ (x : ℕ). x == o) asked
 
+-- whether a plan is carried out: of an object that isn't skipped, and wasn't made since where newer ones are kept
+abbrev pub is_chosen : Bool → List ℕ → ObjectPlan → Bool
+is_chosen keep_newer skipped p = (not keep_newer || is_older p.plan) && not (is_among skipped p.object)
+
 -- These are the objects that are asked for and have a row, by ascending number.
 pub record AreAskedRows (store : StoreFields) (asked objects : List ℕ) : Type 0 where
   pub rows : List ℕ
   pub all : AreRowsFrom store 0 rows
   pub chosen : objects ≡ filter (is_among asked) rows
+
+-- These are the plans of all objects of a drive that have a row, by ascending number.
+pub record PlansAll (s : State) (store : StoreFields) (at : ℕ) (plans : List ObjectPlan) : Type 0 where
+  pub rows : AreRowsFrom store 0 (objects_planned plans)
+  pub each : AllByRecursion (IsPlanned s at) plans
+
+-- These are the plans of those that are asked for.
+pub record PlansAsked (s : State) (store : StoreFields) (at : ℕ) (asked : List ℕ) (plans : List ObjectPlan) : Type 0 where
+  pub rows : AreAskedRows store asked (objects_planned plans)
+  pub each : AllByRecursion (IsPlanned s at) plans
 
 -- objects that aren't asked for are what they were
 abbrev pub LeavesUnasked : State → State → List ℕ → Type 0

@@ -5,10 +5,13 @@
 //! and the attribute that it had, under its own number, or under the next one where it was deleted since. `restore_all` does so with every
 //! object that has a row, `restore_objects` with those of them that are asked for. Whatever these answer, every other object is what it was,
 //! every version up to the clock stays, and no moment is hidden. `make_room` alone hides moments, of the one object that it is asked for,
-//! and then cleans that object's chain. A refusal for a full journal comes only where one of the plan's changes would make it too long.
+//! and then cleans that object's chain; `newest_versions` says which moments are those of its newest versions. A refusal for a full journal
+//! comes only where one of the plan's changes would make it too long.
 //!
+//! `plan_all` and `plan_objects` say before anything is changed what these do to each object, and `count_changes` by how many changes.
 //! Each change moves the clock on, and the floor with it, so that the moment may fall below the floor while objects are restored; that is
-//! refused then, and what was done before stays. Whoever saves the drive saves it only where all was done.
+//! refused then, and what was done before stays. `widen_window` keeps it in reach until that many changes are made: `laws` says so. Whoever
+//! saves the drive saves it only where all was done.
 #![tactic(auto)]
 
 mod asking;
@@ -17,13 +20,19 @@ mod comparing;
 mod differences;
 mod failures;
 pub mod laws;
+mod planning;
 mod plans;
 mod restoring;
 mod room;
 mod whole;
+mod widening;
 
 pub use failures::{Failure, between};
+pub use planning::{
+    ObjectPlan, chosen_plans, count_changes, plan_all, plan_objects, planned_objects,
+};
 pub use plans::{Changes, Patch, Plan, plan_of};
 pub use restoring::{Restored, plan_object, restore_object};
-pub use room::make_room;
-pub use whole::{restore_all, restore_objects};
+pub use room::{make_room, newest_versions};
+pub use whole::{restore_all, restore_objects, restore_these};
+pub use widening::widen_window;

@@ -1,14 +1,17 @@
 //! Room in an object's chain.
-ghost use Rattle.std.specs.Prelude.{◌≡◌, ◌≤◌, OnOk};
+ghost use Rattle.std.specs.Prelude.{◌≡◌, ◌≤◌, length, IfOk, IfErr, OnOk, MatchOption};
+ghost use Rattle.s4_types.specs.declared.refusals.Refusal.TheVariants.{NoMemory};
+ghost use Rattle.version_store.specs.Versions.{entries_of_object};
 ghost use Rattle.drive.specs.Fields.{state_in, store_of};
 ghost use Rattle.history_cleaner.specs.Cleaning.{IsClean};
 ghost use Rattle.history_restore.specs.Asking.{IsWithinChanges};
-ghost use Rattle.history_restore.specs.Room.{LeavesObjects, HidesBetween};
+ghost use Rattle.history_restore.specs.Room.{LeavesObjects, HidesBetween, IsOfNewest, begun_after};
 
+use codec::Entry;
 use drive::{Drive, Session};
 use history_cleaner::clean_object;
 use s4_model::laws::{a_flush_hides_exactly_its_span, the_state_goes_on_record_by_record};
-use s4_types::{Moment, ObjectId, Refusal, Reply, Request};
+use s4_types::{Moment, ObjectId, Refusal, Reply, Request, Span};
 use segment_word::Naming;
 use std::alloc::Global;
 
@@ -60,4 +63,60 @@ pub fn make_room<J: Naming>(
 {
     flush(drive, session, object, first, last, now)?;
     clean_object(alloc, drive, object)
+}
+
+/// The moments after a given one at which versions begin, by the entries of a journal.
+fn begun_after(alloc: Global, at: Moment, entries: &[Entry]) -> Result<Vec<u64>, Refusal>
+    ensures begun { IfOk result (λ begun. begun.items ≡ begun_after at entries.now) }
+    ensures refusal { IfErr result (λ e. e ≡ NoMemory) }
+{
+    let mut begun = Vec::new(alloc);
+    for entry in entries {
+        let moment = entry.moment().number();
+        if at.number() < moment {
+            begun.push(moment)?;
+        }
+    }
+    begun.dedup();
+    Ok(begun)
+}
+
+/// The moments of this many of the newest versions, where as many begin at these moments beside the
+/// last.
+fn newest(begun: &[u64], count: usize, object: ObjectId) -> Option<Span>
+    ensures { MatchOption result (length begun.now ≤ count) (λ span. IsOfNewest begun.now count object span) }
+{
+    if begun.len() <= count {
+        return None;
+    }
+    let last = begun.len() - 1;
+    Some(Span {
+        object,
+        first: Moment::new(begun[last - count]),
+        last: Moment::new(begun[last].saturating_sub(1)),
+    })
+}
+
+/// The moments of the newest versions of an object, `count` of them beside the present one: all
+/// moments at which one of these is current. None where fewer begin after the moment `at`: what is
+/// current then is never among them.
+///
+/// The versions are those of the object's journal; once it is cleaned each can be read at some
+/// moment. NoMemory alone, where the memory for the entries is refused.
+pub fn newest_versions<J: Naming>(
+    alloc: Global,
+    drive: &mut Drive<J>,
+    object: ObjectId,
+    at: Moment,
+    count: usize,
+) -> Result<Option<Span>, Refusal>
+    ensures newest { IfOk result (λ found. MatchOption found (length (begun_after at (entries_of_object (store_of drive.old) object)) ≤ count)
+        (λ span. IsOfNewest (begun_after at (entries_of_object (store_of drive.old) object)) count object span)) }
+    ensures refusal { IfErr result (λ e. e ≡ NoMemory) }
+    ensures ledger { drive.new.ledger ≡ drive.old.ledger }
+    ensures store { store_of drive.new ≡ store_of drive.old }
+{
+    let entries = drive.entries(object)?;
+    let begun = begun_after(alloc, at, entries.as_slice())?;
+    Ok(newest(begun.as_slice(), count, object))
 }

@@ -1,9 +1,9 @@
 //! All objects of a drive are made what they were at a moment.
-ghost use Rattle.std.specs.Prelude.{◌≡◌, IfOk, IfErr, filter};
+ghost use Rattle.std.specs.Prelude.{◌≡◌, ◌<◌, IfOk, IfErr, MatchBool, filter};
 ghost use Rattle.s4_types.specs.declared.refusals.Refusal.TheVariants.{NoMemory};
 ghost use Rattle.drive.specs.Fields.{state_in, store_of};
 ghost use Rattle.history_restore.specs.Keeping.{LeavesPast};
-ghost use Rattle.history_restore.specs.Whole.{AreRowsFrom, AreAskedRows, AscendBelow, RestoresEach, RestoresAsked, RestoresAll, StopsAll, IsCounted, LeavesRest, LeavesUnasked, is_among};
+ghost use Rattle.history_restore.specs.Whole.{AreRowsFrom, AreAskedRows, AscendBelow, RestoresEach, RestoresAsked, RestoresAll, StopsAll, IsCounted, LeavesRest, LeavesUnasked, PlansAll, PlansAsked, is_among, plans_of};
 
 use crate::failures::{Failure, unread};
 use crate::restoring::{Restored, restore_object};
@@ -13,7 +13,7 @@ use segment_word::Naming;
 use std::alloc::Global;
 
 /// All objects that have a row, by ascending number.
-fn rows<J: Naming>(alloc: Global, drive: &Drive<J>) -> Result<Vec<ObjectId>, Refusal>
+pub(crate) fn rows<J: Naming>(alloc: Global, drive: &Drive<J>) -> Result<Vec<ObjectId>, Refusal>
     ensures rows { IfOk result (λ rows. AreRowsFrom (store_of drive.now) 0 rows.items) }
     ensures refusal { IfErr result (λ e. e ≡ NoMemory) }
 {
@@ -27,7 +27,7 @@ fn rows<J: Naming>(alloc: Global, drive: &Drive<J>) -> Result<Vec<ObjectId>, Ref
 }
 
 /// Whether an object is among those that are asked for.
-fn is_among(asked: &[ObjectId], object: ObjectId) -> bool
+pub(crate) fn is_among(asked: &[ObjectId], object: ObjectId) -> bool
     ensures { result ≡ is_among asked.now object }
 {
     asked.iter().any(|one| *one == object)
@@ -48,7 +48,7 @@ fn choose(alloc: Global, objects: &[ObjectId], asked: &[ObjectId]) -> Result<Vec
 }
 
 /// Those objects that are asked for and have a row, by ascending number.
-fn rows_among<J: Naming>(
+pub(crate) fn rows_among<J: Naming>(
     alloc: Global,
     drive: &Drive<J>,
     asked: &[ObjectId],
@@ -87,8 +87,57 @@ fn restore_each<J: Naming>(
     Ok(all)
 }
 
+/// Whether a number is above one and below another.
+fn is_between(low: u64, number: u64, high: u64) -> bool
+    ensures { MatchBool result ((low < number) × (number < high)) ((low < number) × (number < high) → ⊥) }
+{
+    low < number && number < high
+}
+
+/// Whether these numbers ascend from 1 on and are below the next one.
+#[tactic(auto, using(crate::proofs::Rows::ascend_ends, crate::proofs::Rows::ascend_whole))]
+fn ascends_below(objects: &[ObjectId], next: ObjectId) -> bool
+    ensures { MatchBool result (AscendBelow 0 next objects.now) (AscendBelow 0 next objects.now → ⊥) }
+{
+    let mut last = 0;
+    for object in objects {
+        let number = object.number();
+        if !is_between(last, number, next.number()) {
+            return false;
+        }
+        last = number;
+    }
+    true
+}
+
+/// Makes these objects what they were at a moment, by requests at the moment `now` of the server's clock, and says of each what was done
+/// to it, in their order. Their numbers ascend, and were given.
+///
+/// A refusal says of which object and why, as [`restore_all`] does; NoObject of object 0 where the numbers aren't such, and then nothing
+/// was done.
+pub fn restore_these<J: Naming>(
+    alloc: Global,
+    drive: &mut Drive<J>,
+    session: &mut Session<J>,
+    objects: &[ObjectId],
+    at: Moment,
+    now: Moment,
+) -> Result<Vec<Restored>, Failure>
+    ensures each { IfOk result (λ all. RestoresEach (state_in drive.old) (state_in drive.new) at objects.now all.items) }
+    ensures counted { IfOk result (λ all. IsCounted (state_in drive.old) (state_in drive.new) now all.items) }
+    ensures stopped { AscendBelow 0 (state_in drive.old).next objects.now → IfErr result (StopsAll (state_in drive.old) (state_in drive.new) at) }
+    ensures rest { LeavesRest (state_in drive.old) (state_in drive.new) objects.now }
+    ensures past { LeavesPast (state_in drive.old) (state_in drive.new) }
+{
+    if !ascends_below(objects, drive.next()) {
+        return Err(unread(ObjectId::new(0), Refusal::NoObject));
+    }
+    restore_each(alloc, drive, session, objects, at, now)
+}
+
 /// Makes the objects that are asked for what they were at a moment, by requests at the moment `now` of the server's clock, and tells of
-/// each that has a row what was done to it, by ascending number and once, in whatever order and how often it is asked for.
+/// each that has a row what was done to it, by ascending number and once, in whatever order and how often it is asked for:
+/// exactly what [`plan_objects`](crate::plan_objects) plans.
 ///
 /// A refusal says of which object and why, as [`restore_all`] does.
 pub fn restore_objects<J: Naming>(
@@ -100,6 +149,7 @@ pub fn restore_objects<J: Naming>(
     now: Moment,
 ) -> Result<Vec<Restored>, Failure>
     ensures asked { IfOk result (λ all. RestoresAsked (state_in drive.old) (state_in drive.new) at asked.now all.items) }
+    ensures planned { IfOk result (λ all. PlansAsked (state_in drive.old) (store_of drive.old) at asked.now (plans_of all.items)) }
     ensures counted { IfOk result (λ all. IsCounted (state_in drive.old) (state_in drive.new) now all.items) }
     ensures stopped { IfErr result (StopsAll (state_in drive.old) (state_in drive.new) at) }
     ensures unasked { LeavesUnasked (state_in drive.old) (state_in drive.new) asked.now }
@@ -114,7 +164,8 @@ pub fn restore_objects<J: Naming>(
 }
 
 /// Makes all objects of a drive what they were at a moment, by requests at the moment `now` of the server's clock, and tells of each object
-/// that has a row what was done to it, by ascending number. An object that is made anew is a new one and isn't visited again.
+/// that has a row what was done to it, by ascending number: exactly what [`plan_all`](crate::plan_all) plans. An object that is
+/// made anew is a new one and isn't visited again.
 ///
 /// A refusal says of which object and why, as [`Failure`] tells, of object 0 where there was no memory for a list of the rows. What was
 /// done before it stays; Expired comes where the floor has passed the moment by the changes that were made.
@@ -126,6 +177,7 @@ pub fn restore_all<J: Naming>(
     now: Moment,
 ) -> Result<Vec<Restored>, Failure>
     ensures all { IfOk result (λ all. RestoresAll (state_in drive.old) (state_in drive.new) at all.items) }
+    ensures planned { IfOk result (λ all. PlansAll (state_in drive.old) (store_of drive.old) at (plans_of all.items)) }
     ensures counted { IfOk result (λ all. IsCounted (state_in drive.old) (state_in drive.new) now all.items) }
     ensures stopped { IfErr result (StopsAll (state_in drive.old) (state_in drive.new) at) }
     ensures past { LeavesPast (state_in drive.old) (state_in drive.new) }

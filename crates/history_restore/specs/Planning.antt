@@ -1,0 +1,44 @@
+-- What restoring objects to a moment asks for, before anything is changed.
+use Rattle.std.specs.Prelude.{◌≡◌, ℕ, ◌+◌, ◌-◌, not, min, max, Bool, true, false, Option, None, Some, List, [], ◌∷◌, map, nat_lt}
+use Rattle.std.specs.List.{AllByRecursion}
+use Rattle.s4_model.specs.State.{State}
+use Rattle.s4_model.specs.VersionAt.{version_of}
+use Rattle.s4_model.specs.Visible.{IsVisible}
+use Rattle.s4_model.specs.Refusals.{present}
+use Rattle.history_restore.specs.declared.failures.Failure.{Failure}
+use Rattle.history_restore.specs.declared.planning.ObjectPlan.{ObjectPlan}
+use Rattle.history_restore.specs.declared.plans.Plan.{Plan}
+use Rattle.history_restore.specs.declared.plans.Plan.TheVariants.{Keep, Delete, Remake, Change}
+use Rattle.history_restore.specs.Plans.{IsPlan, change_count}
+use Rattle.history_restore.specs.Restoring.{IsUnread}
+
+-- An object has this plan, by what it was at a moment that can be read and what it is.
+pub record IsPlanned (s : State) (at : ℕ) (p : ObjectPlan) : Type 0 where
+  pub visible : IsVisible s p.object at
+  pub planned : IsPlan (version_of s p.object at) (present s p.object) p.plan
+
+-- the objects of plans
+abbrev pub objects_planned : List ObjectPlan → List ℕ
+objects_planned plans = map (λ (p : ObjectPlan). p.object) plans
+
+-- These are the plans of these objects, in their order.
+pub record PlansEach (s : State) (at : ℕ) (objects : List ℕ) (plans : List ObjectPlan) : Type 0 where
+  pub objects_are : objects_planned plans ≡ objects
+  pub each : AllByRecursion (IsPlanned s at) plans
+
+-- Why plans weren't made: an object's versions weren't read.
+pub record IsUnplanned (s : State) (at : ℕ) (failure : Failure) : Type 0 where
+  pub why : IsUnread s failure.object at failure.refusal
+  pub flush : failure.flush ≡ None
+
+-- how many changes plans have together
+abbrev pub changes_planned : List ObjectPlan → ℕ
+changes_planned [] = 0
+changes_planned (p ∷ plans) = change_count p.plan + changes_planned plans
+
+-- whether a plan is of an object that was there at the moment, or is no more: of one that was made since it is to delete it
+abbrev pub is_older : Plan → Bool
+is_older Delete = false
+is_older Keep = true
+is_older (Remake size) = true
+is_older (Change changes) = true

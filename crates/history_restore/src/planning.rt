@@ -1,0 +1,206 @@
+//! What restoring objects asks for, before anything is changed.
+ghost use Rattle.std.specs.Prelude.{◌≡◌, ◌+◌, ◌≤◌, if◌then◌else◌, min, filter, IfOk, IfErr};
+ghost use Rattle.s4_model.specs.Refusals.{last_number};
+ghost use Rattle.drive.specs.Fields.{state_in, store_of};
+ghost use Rattle.history_restore.specs.Plans.{change_count, count_of};
+ghost use Rattle.history_restore.specs.Planning.{IsPlanned, IsUnplanned, PlansEach, changes_planned, is_older, objects_planned};
+ghost use Rattle.history_restore.specs.Whole.{PlansAll, PlansAsked, is_chosen};
+
+use crate::failures::{Failure, unread};
+use crate::plans::{Changes, Plan};
+use crate::restoring::plan_object;
+use crate::whole::{is_among, rows, rows_among};
+use drive::{Drive, Session};
+use s4_types::{Moment, ObjectId, Refusal};
+use segment_word::Naming;
+use std::alloc::{AllocError, Global};
+
+/// What would be done to an object.
+#[derive(Clone, Copy, PartialEq, Eq)]
+pub struct ObjectPlan {
+    pub object: ObjectId,
+    pub plan: Plan,
+}
+
+fn plan_one<J: Naming>(
+    alloc: Global,
+    drive: &mut Drive<J>,
+    session: &mut Session<J>,
+    object: ObjectId,
+    at: Moment,
+) -> Result<ObjectPlan, Failure>
+    ensures object { IfOk result (λ planned. planned.object ≡ object) }
+    ensures planned { IfOk result (IsPlanned (state_in drive.old) at) }
+    ensures unplanned { IfErr result (IsUnplanned (state_in drive.old) at) }
+    ensures state { state_in drive.new ≡ state_in drive.old }
+    ensures store { store_of drive.new ≡ store_of drive.old }
+{
+    match plan_object(alloc, drive, session, object, at) {
+        Ok(plan) => Ok(ObjectPlan { object, plan }),
+        Err(refusal) => Err(unread(object, refusal)),
+    }
+}
+
+/// What would be done to these objects, in their order.
+fn plan_each<J: Naming>(
+    alloc: Global,
+    drive: &mut Drive<J>,
+    session: &mut Session<J>,
+    objects: &[ObjectId],
+    at: Moment,
+) -> Result<Vec<ObjectPlan>, Failure>
+    ensures planned { IfOk result (λ plans. PlansEach (state_in drive.old) at objects.now plans.items) }
+    ensures unplanned { IfErr result (IsUnplanned (state_in drive.old) at) }
+    ensures state { state_in drive.new ≡ state_in drive.old }
+    ensures store { store_of drive.new ≡ store_of drive.old }
+{
+    let mut plans = Vec::new(alloc);
+    for object in objects {
+        let planned = match plan_one(alloc, drive, session, *object, at) {
+            Ok(planned) => planned,
+            Err(failure) => return Err(failure),
+        };
+        match plans.push(planned) {
+            Ok(()) => {}
+            Err(_) => return Err(unread(*object, Refusal::NoMemory)),
+        }
+    }
+    Ok(plans)
+}
+
+/// What [`restore_objects`](crate::restore_objects) would do to the objects that are asked for. Nothing is done.
+///
+/// Future, Expired or Flushed where the moment can't be read of one of them, with its number; NoMemory where memory was refused,
+/// Busy where a read would have needed a pin.
+pub fn plan_objects<J: Naming>(
+    alloc: Global,
+    drive: &mut Drive<J>,
+    session: &mut Session<J>,
+    asked: &[ObjectId],
+    at: Moment,
+) -> Result<Vec<ObjectPlan>, Failure>
+    ensures planned { IfOk result (λ plans. PlansAsked (state_in drive.old) (store_of drive.old) at asked.now plans.items) }
+    ensures unplanned { IfErr result (IsUnplanned (state_in drive.old) at) }
+    ensures state { state_in drive.new ≡ state_in drive.old }
+    ensures store { store_of drive.new ≡ store_of drive.old }
+{
+    let objects = match rows_among(alloc, drive, asked) {
+        Ok(objects) => objects,
+        Err(refusal) => return Err(unread(ObjectId::new(0), refusal)),
+    };
+    plan_each(alloc, drive, session, objects.as_slice(), at)
+}
+
+/// What [`restore_all`](crate::restore_all) would do to each object that has a row. Nothing is done.
+///
+/// An error as of [`plan_objects`], of object 0 where there was no memory for a list of the rows.
+pub fn plan_all<J: Naming>(
+    alloc: Global,
+    drive: &mut Drive<J>,
+    session: &mut Session<J>,
+    at: Moment,
+) -> Result<Vec<ObjectPlan>, Failure>
+    ensures planned { IfOk result (λ plans. PlansAll (state_in drive.old) (store_of drive.old) at plans.items) }
+    ensures unplanned { IfErr result (IsUnplanned (state_in drive.old) at) }
+    ensures state { state_in drive.new ≡ state_in drive.old }
+    ensures store { store_of drive.new ≡ store_of drive.old }
+{
+    let objects = match rows(alloc, drive) {
+        Ok(objects) => objects,
+        Err(refusal) => return Err(unread(ObjectId::new(0), refusal)),
+    };
+    plan_each(alloc, drive, session, objects.as_slice(), at)
+}
+
+fn count_of<T: Copy>(part: Option<T>) -> u64
+    ensures count { result ≡ count_of part }
+    ensures most { result ≤ 1 }
+{
+    match part {
+        None => 0,
+        Some(_) => 1,
+    }
+}
+
+fn count_if(wanted: bool) -> u64
+    ensures count { result ≡ if wanted then 1 else 0 }
+    ensures most { result ≤ 1 }
+{
+    if wanted { 1 } else { 0 }
+}
+
+fn count_of_changes(changes: &Changes) -> u64
+    ensures { result ≡ count_of changes.now.cut + (count_of changes.now.written + (if changes.now.attribute then 1 else 0)) }
+{
+    count_of(changes.cut) + (count_of(changes.written) + count_if(changes.attribute))
+}
+
+/// How many changes a plan has: each is one request, and one moment.
+fn change_count(plan: &Plan) -> u64
+    ensures { result ≡ change_count plan.now }
+{
+    match plan {
+        Plan::Keep => 0,
+        Plan::Delete => 1,
+        Plan::Remake(size) => 1 + (*size).min(1),
+        Plan::Change(changes) => count_of_changes(changes),
+    }
+}
+
+/// How many changes plans have together: as many moments as restoring takes. The greatest number where there are more.
+pub fn count_changes(plans: &[ObjectPlan]) -> u64
+    ensures { result ≡ min last_number (changes_planned plans.now) }
+{
+    let mut count: u64 = 0;
+    for planned in plans {
+        count = count.saturating_add(change_count(&planned.plan));
+    }
+    count
+}
+
+/// Whether a plan is of an object that was there at the moment, or isn't there any more. One that was made since is to be deleted.
+fn is_older(plan: &Plan) -> bool
+    ensures { result ≡ is_older plan.now }
+{
+    match plan {
+        Plan::Delete => false,
+        _ => true,
+    }
+}
+
+/// Whether an object is to be restored: it isn't among those that are skipped, nor made since where newer ones are kept.
+fn is_chosen(planned: &ObjectPlan, keep_newer: bool, skipped: &[ObjectId]) -> bool
+    ensures { result ≡ is_chosen keep_newer skipped.now planned.now }
+{
+    (!keep_newer || is_older(&planned.plan)) && !is_among(skipped, planned.object)
+}
+
+/// Of these plans those of objects that are to be restored: without those that are skipped, and where newer objects are kept without
+/// those that were made since the moment.
+pub fn chosen_plans(
+    alloc: Global,
+    plans: &[ObjectPlan],
+    keep_newer: bool,
+    skipped: &[ObjectId],
+) -> Result<Vec<ObjectPlan>, AllocError>
+    ensures { IfOk result (λ chosen. chosen.items ≡ filter (is_chosen keep_newer skipped.now) plans.now) }
+{
+    let mut chosen = Vec::new(alloc);
+    for planned in plans {
+        if is_chosen(planned, keep_newer, skipped) {
+            chosen.push(*planned)?;
+        }
+    }
+    Ok(chosen)
+}
+
+/// The objects that plans are of, in their order.
+pub fn planned_objects(alloc: Global, plans: &[ObjectPlan]) -> Result<Vec<ObjectId>, AllocError>
+    ensures { IfOk result (λ objects. objects.items ≡ objects_planned plans.now) }
+{
+    let mut objects = Vec::new(alloc);
+    for planned in plans {
+        objects.push(planned.object)?;
+    }
+    Ok(objects)
+}
