@@ -1,22 +1,17 @@
 -- What is counted of a frame, block by block.
-use Rattle.std.proofs.Common.{◌≡◌, inl, inr, ℕ, zero, suc, ◌+◌, ◌*◌, ◌<◌, ◌≤◌, List, ◌∷◌, length, get_or, take, drop, count_by, Bool, true, false, Option, Some, None, refl, sym, ap, ◌∙◌, arith}
+use Rattle.std.proofs.Common.{◌≡◌, ℕ, zero, suc, ◌+◌, ◌*◌, ◌<◌, ◌≤◌, List, [], ◌∷◌, ◌++◌, length, get_or, take, drop, count_by, Bool, true, false, Option, Some, None, refl, sym, ap, ◌∙◌, arith, length-append}
 use Rattle.std.specs.Prelude.{is_some, option_map}
-use Rattle.std.proofs.lemmas.Bool.{cases_lt}
 use Rattle.std.proofs.lemmas.List.{take_all, drop_more, drop_all}
-use Rattle.std.proofs.lemmas.List.Sums.{count_by_more_yes, count_by_more_no}
+use Rattle.std.proofs.lemmas.List.Sums.{count_by_more_yes, count_by_more_no, count_by-le-length}
 use Rattle.s4_types.specs.Pointer.{Place}
 use Rattle.block_log.specs.Log.{Stored}
 use Rattle.codec.specs.declared.summaries.BlockRole.{BlockRole}
-use Rattle.object_map.specs.declared.map.Row.{Row}
 use Rattle.segment_word.specs.Layout.{frame_at}
 use Rattle.segment_table.specs.Table.{Table, held_at, role_of}
 use Rattle.segment_table.specs.Room.{places, whole_of}
-use Rattle.drive.specs.Fields.{DriveFields}
-use Rattle.segment_copier.specs.Choosing.{held_count}
-use Rattle.segment_copier.specs.Gathering.{free_count, blocks_added, added_at, last_at, most_to_move, most_to_empty}
+use Rattle.segment_table.specs.Counts.{held_count}
 use Rattle.drive_compaction.specs.declared.choices.Counted.{Counted}
-use Rattle.drive_compaction.specs.Choosing.{IsLowestFrame}
-use Rattle.drive_compaction.specs.private.Counting.{TakesFew}
+use Rattle.drive_compaction.specs.Choosing.{blocks_added, added_at, objects_at, blocks_to_move, blocks_to_empty}
 
 -- ---- the places of a frame
 
@@ -64,106 +59,102 @@ held_same t f n h is = count_by_more_no (is_held t) (whole_of t f) n (block_at t
 held_all : (t : Table) (f : ℕ) → held_to t f 15 ≡ held_count t f
 held_all t f = ap (λ (l : List Place). count_by (λ p. is_some (held_at t p)) l) (take_all 15 (whole_of t f) (omega (arith, length-whole_of t f)))
 
--- ---- what emptying takes
+-- ---- what emptying writes
 
--- what is held where the loop has come, and what is behind it
-next_block : (d : DriveFields) (f n last : ℕ) → n < 15 → most_to_move d last (drop n (whole_of d.store.table f))
-    ≡ added_at d.store.rows last (held_at d.store.table (block_at d.store.table f (n + 1))) + most_to_move d (last_at last (held_at d.store.table (block_at d.store.table f (n + 1)))) (drop (n + 1) (whole_of d.store.table f))
-next_block d f n last h =
-    let t : Table = d.store.table in
+-- what is held where the loop has come, and what is after it
+next_block : (counts : List (ℕ × ℕ)) (t : Table) (f n : ℕ) (before : List ℕ) → n < 15 → blocks_to_move counts t before (drop n (whole_of t f))
+    ≡ added_at counts before (held_at t (block_at t f (n + 1))) + blocks_to_move counts t (objects_at before (held_at t (block_at t f (n + 1)))) (drop (n + 1) (whole_of t f))
+next_block counts t f n before h =
     let blocks : List Place = whole_of t f in
-    ap (most_to_move d last) (drop_more blocks n (block_at t f (n + 1)) (omega (arith, length-whole_of t f)) ∙ ap (λ (p : Place). p ∷ drop (n + 1) blocks) (whole_at t f n h))
+    ap (blocks_to_move counts t before) (drop_more blocks n (block_at t f (n + 1)) (omega (arith, length-whole_of t f)) ∙ ap (λ (p : Place). p ∷ drop (n + 1) blocks) (whole_at t f n h))
 
 -- what is held, and what it is for
-record Adds (rows : List (ℕ × Row)) (before more after : ℕ) (some : Bool) (held : Option Stored) : Type 0 where
-  pub added : added_at rows before held ≡ more
-  pub last : last_at before held ≡ after
+record Adds (counts : List (ℕ × ℕ)) (before : List ℕ) (more : ℕ) (after : List ℕ) (some : Bool) (held : Option Stored) : Type 0 where
+  pub added : added_at counts before held ≡ more
+  pub objects : objects_at before held ≡ after
   pub there : is_some held ≡ some
 
-adds_some : (rows : List (ℕ × Row)) (last : ℕ) (held : Option Stored) (role : BlockRole) → Some role ≡ option_map role_of held → Adds rows last (blocks_added rows last role.object) role.object true held
-adds_some rows last None role e = absurd (cc)
-adds_some rows last (Some block) role e =
+adds_some : (counts : List (ℕ × ℕ)) (before : List ℕ) (held : Option Stored) (role : BlockRole) → Some role ≡ option_map role_of held
+    → Adds counts before (blocks_added counts before role.kind role.object) (before ++ role.object ∷ []) true held
+adds_some counts before None role e = absurd (cc)
+adds_some counts before (Some block) role e =
     let same : role_of block ≡ role = (cc) in
-    record { added = ap (λ (r : BlockRole). blocks_added rows last r.object) same; last = ap (λ (r : BlockRole). r.object) same; there = refl }
+    record { added = ap (λ (r : BlockRole). blocks_added counts before r.kind r.object) same; objects = ap (λ (r : BlockRole). before ++ r.object ∷ []) same; there = refl }
 
-adds_none : (rows : List (ℕ × Row)) (last : ℕ) (held : Option Stored) → None ≡ option_map role_of held → Adds rows last 0 last false held
-adds_none rows last None e = record { added = refl; last = refl; there = refl }
-adds_none rows last (Some block) e = absurd (cc)
+adds_none : (counts : List (ℕ × ℕ)) (before : List ℕ) (held : Option Stored) → None ≡ option_map role_of held → Adds counts before 0 before false held
+adds_none counts before None e = record { added = refl; objects = refl; there = refl }
+adds_none counts before (Some block) e = absurd (cc)
 
 -- ---- as far as the loop has come
 
--- Of the first n blocks so much was counted; with what is behind them that comes to all.
-pub record CountsTo (d : DriveFields) (f n : ℕ) (c : Counted) : Type 0 where
-  pub few : c.blocks ≤ 302 * n
+-- Of the first n blocks so much was counted; with what is after them that comes to all.
+pub record CountsTo (counts : List (ℕ × ℕ)) (t : Table) (f n : ℕ) (c : Counted) : Type 0 where
+  pub few : c.blocks ≤ 16 * n
   pub within : c.held ≤ n
-  pub held : c.held ≡ held_to d.store.table f n
-  pub rest : c.blocks + most_to_move d c.last (drop n (whole_of d.store.table f)) ≡ most_to_empty d f
+  pub held : c.held ≡ held_to t f n
+  pub objects : length c.objects.items ≡ c.held
+  pub rest : c.blocks + blocks_to_move counts t c.objects.items (drop n (whole_of t f)) ≡ blocks_to_empty counts t f
 
-counted : (d : DriveFields) (f n last count added after all : ℕ) (some : Bool) → n < 15 → Adds d.store.rows last added after some (held_at d.store.table (block_at d.store.table f (n + 1)))
-    → count + most_to_move d last (drop n (whole_of d.store.table f)) ≡ all → (count + added) + most_to_move d after (drop (n + 1) (whole_of d.store.table f)) ≡ all
-counted d f n last count added after all some h adds before =
-    let next = next_block d f n last h in
-    let rest : most_to_move d (last_at last (held_at d.store.table (block_at d.store.table f (n + 1)))) (drop (n + 1) (whole_of d.store.table f)) ≡ most_to_move d after (drop (n + 1) (whole_of d.store.table f)) =
-    ap (λ (o : ℕ). most_to_move d o (drop (n + 1) (whole_of d.store.table f))) adds.last in
+counted : (counts : List (ℕ × ℕ)) (t : Table) (f n count added all : ℕ) (before after : List ℕ) (some : Bool) → n < 15 → Adds counts before added after some (held_at t (block_at t f (n + 1)))
+    → count + blocks_to_move counts t before (drop n (whole_of t f)) ≡ all → (count + added) + blocks_to_move counts t after (drop (n + 1) (whole_of t f)) ≡ all
+counted counts t f n count added all before after some h adds so_far =
+    let next = next_block counts t f n before h in
+    let rest : blocks_to_move counts t (objects_at before (held_at t (block_at t f (n + 1)))) (drop (n + 1) (whole_of t f)) ≡ blocks_to_move counts t after (drop (n + 1) (whole_of t f)) =
+    ap (λ (os : List ℕ). blocks_to_move counts t os (drop (n + 1) (whole_of t f))) adds.objects in
     let here = adds.added in
-    omega (arith, next, rest, here, before)
+    omega (arith, next, rest, here, so_far)
 
 -- the next block is held
-pub counted_with : (d : DriveFields) (f n m g : ℕ) (p : Place) (role : BlockRole) (old new : Counted) → n < 15 → p ≡ record { frame = f; block = m; generation = g } → m ≡ n + 1
-    → g ≡ (frame_at d.store.table.seat.frames f).generation → Some role ≡ option_map role_of (held_at d.store.table p)
-    → new.held ≡ old.held + 1 → new.blocks ≡ old.blocks + blocks_added d.store.rows old.last role.object → new.last ≡ role.object → new.blocks ≤ old.blocks + 302
-    → CountsTo d f n old → CountsTo d f (n + 1) new
-counted_with d f n m g p role old new h place block generation is held blocks last few before =
-    let t : Table = d.store.table in
-    let adds : Adds d.store.rows old.last (blocks_added d.store.rows old.last role.object) role.object true (held_at t (block_at t f (n + 1))) =
-    adds_some d.store.rows old.last (held_at t (block_at t f (n + 1))) role (is ∙ ap (λ (q : Place). option_map role_of (held_at t q)) (place_is t f (n + 1) m g p place block generation)) in
-    let were : old.blocks ≤ 302 * n = before.few in
+pub counted_with : (counts : List (ℕ × ℕ)) (t : Table) (f n m g : ℕ) (p : Place) (role : BlockRole) (old new : Counted) → n < 15 → p ≡ record { frame = f; block = m; generation = g } → m ≡ n + 1
+    → g ≡ (frame_at t.seat.frames f).generation → Some role ≡ option_map role_of (held_at t p)
+    → new.held ≡ old.held + 1 → new.blocks ≡ old.blocks + blocks_added counts old.objects.items role.kind role.object → new.objects.items ≡ old.objects.items ++ role.object ∷ [] → new.blocks ≤ old.blocks + 16
+    → CountsTo counts t f n old → CountsTo counts t f (n + 1) new
+counted_with counts t f n m g p role old new h place block generation is held blocks objects few before =
+    let added : ℕ = blocks_added counts old.objects.items role.kind role.object in
+    let adds : Adds counts old.objects.items added (old.objects.items ++ role.object ∷ []) true (held_at t (block_at t f (n + 1))) =
+    adds_some counts old.objects.items (held_at t (block_at t f (n + 1))) role (is ∙ ap (λ (q : Place). option_map role_of (held_at t q)) (place_is t f (n + 1) m g p place block generation)) in
+    let were : old.blocks ≤ 16 * n = before.few in
     let had : old.held ≤ n = before.within in
+    let long : length new.objects.items ≡ length old.objects.items + 1 = ap (λ (os : List ℕ). length os) objects ∙ length-append old.objects.items (role.object ∷ []) in
+    let lengths = before.objects in
     record {
       few = omega (arith, few, were);
       within = omega (arith, held, had);
       held = held ∙ ap (λ (x : ℕ). x + 1) before.held ∙ sym (held_more t f n h adds.there);
-      rest = ap (λ (x : ℕ). x + most_to_move d new.last (drop (n + 1) (whole_of t f))) blocks
-          ∙ ap (λ (o : ℕ). (old.blocks + blocks_added d.store.rows old.last role.object) + most_to_move d o (drop (n + 1) (whole_of t f))) last
-          ∙ counted d f n old.last old.blocks (blocks_added d.store.rows old.last role.object) role.object (most_to_empty d f) true h adds before.rest;
+      objects = omega (arith, long, lengths, held);
+      rest = ap (λ (x : ℕ). x + blocks_to_move counts t new.objects.items (drop (n + 1) (whole_of t f))) blocks
+          ∙ ap (λ (os : List ℕ). (old.blocks + added) + blocks_to_move counts t os (drop (n + 1) (whole_of t f))) objects
+          ∙ counted counts t f n old.blocks added (blocks_to_empty counts t f) old.objects.items (old.objects.items ++ role.object ∷ []) true h adds before.rest;
     }
 
 -- the next block isn't held
-pub counted_without : (d : DriveFields) (f n m g : ℕ) (p : Place) (old : Counted) → n < 15 → p ≡ record { frame = f; block = m; generation = g } → m ≡ n + 1
-    → g ≡ (frame_at d.store.table.seat.frames f).generation → None ≡ option_map role_of (held_at d.store.table p)
-    → CountsTo d f n old → CountsTo d f (n + 1) old
-counted_without d f n m g p old h place block generation is before =
-    let t : Table = d.store.table in
-    let adds : Adds d.store.rows old.last 0 old.last false (held_at t (block_at t f (n + 1))) =
-    adds_none d.store.rows old.last (held_at t (block_at t f (n + 1))) (is ∙ ap (λ (q : Place). option_map role_of (held_at t q)) (place_is t f (n + 1) m g p place block generation)) in
-    let all_of_it = counted d f n old.last old.blocks 0 old.last (most_to_empty d f) false h adds before.rest in
-    let were : old.blocks ≤ 302 * n = before.few in
+pub counted_without : (counts : List (ℕ × ℕ)) (t : Table) (f n m g : ℕ) (p : Place) (old : Counted) → n < 15 → p ≡ record { frame = f; block = m; generation = g } → m ≡ n + 1
+    → g ≡ (frame_at t.seat.frames f).generation → None ≡ option_map role_of (held_at t p)
+    → CountsTo counts t f n old → CountsTo counts t f (n + 1) old
+counted_without counts t f n m g p old h place block generation is before =
+    let adds : Adds counts old.objects.items 0 old.objects.items false (held_at t (block_at t f (n + 1))) =
+    adds_none counts old.objects.items (held_at t (block_at t f (n + 1))) (is ∙ ap (λ (q : Place). option_map role_of (held_at t q)) (place_is t f (n + 1) m g p place block generation)) in
+    let all_of_it = counted counts t f n old.blocks 0 (blocks_to_empty counts t f) old.objects.items old.objects.items false h adds before.rest in
+    let were : old.blocks ≤ 16 * n = before.few in
     let had : old.held ≤ n = before.within in
     record {
       few = omega (arith, were);
       within = omega (arith, had);
       held = before.held ∙ sym (held_same t f n h adds.there);
+      objects = before.objects;
       rest = omega (arith, all_of_it);
     }
 
 -- all blocks were looked at
-pub held_counted : (d : DriveFields) (f n : ℕ) (c : Counted) → n ≡ 15 → CountsTo d f n c → c.held ≡ held_count d.store.table f
-held_counted d f n c end all = all.held ∙ ap (λ (m : ℕ). held_to d.store.table f m) end ∙ held_all d.store.table f
+pub held_counted : (counts : List (ℕ × ℕ)) (t : Table) (f n : ℕ) (c : Counted) → n ≡ 15 → CountsTo counts t f n c → c.held ≡ held_count t f
+held_counted counts t f n c end all = all.held ∙ ap (λ (m : ℕ). held_to t f m) end ∙ held_all t f
 
-pub blocks_counted : (d : DriveFields) (f n : ℕ) (c : Counted) → n ≡ 15 → CountsTo d f n c → c.blocks ≡ most_to_empty d f
-blocks_counted d f n c end all =
-    let none : most_to_move d c.last (drop n (whole_of d.store.table f)) ≡ 0 = ap (most_to_move d c.last) (drop_all n (whole_of d.store.table f) (omega (arith, length-whole_of d.store.table f))) in
+pub blocks_counted : (counts : List (ℕ × ℕ)) (t : Table) (f n : ℕ) (c : Counted) → n ≡ 15 → CountsTo counts t f n c → c.blocks ≡ blocks_to_empty counts t f
+blocks_counted counts t f n c end all =
+    let none : blocks_to_move counts t c.objects.items (drop n (whole_of t f)) ≡ 0 = ap (blocks_to_move counts t c.objects.items) (drop_all n (whole_of t f) (omega (arith, length-whole_of t f))) in
     let whole = all.rest in
     omega (arith, none, whole)
 
--- ---- the next frame
-
--- a frame that takes few was found, and none below it does
-pub lowest_found : (d : DriveFields) (f : ℕ) → (0 < free_count d.store.table) → TakesFew d f → ((k : ℕ) → k < f → TakesFew d k → ⊥) → IsLowestFrame d f
-lowest_found d f free few none = record {
-  can = record { sparse = few.sparse; few = few.few; free = free };
-  lowest = λ g can. elim (cases_lt g f) [
-    | inl below ↦ absurd (none g below (record { sparse = can.sparse; few = can.few }))
-    | inr above ↦ above
-  ];
-}
+-- no more blocks are held than a frame has
+pub few_held : (t : Table) (f : ℕ) → held_count t f ≤ 15
+few_held t f = let long = length-whole_of t f in omega (arith, long, count_by-le-length (is_held t) (whole_of t f))

@@ -1,9 +1,10 @@
 -- What stays over several steps.
-use Rattle.std.proofs.Common.{◌≡◌, ◌⊎◌, inl, inr, refl, ap, subst, ◌∙◌}
+use Rattle.std.proofs.Common.{◌≡◌, ◌⊎◌, inl, inr, refl, sym, ap, subst, ◌∙◌}
 use Rattle.s4_model.specs.State.{State, state_of}
 use Rattle.s4_types.specs.declared.refusals.Refusal.{Refusal}
 use Rattle.s4_types.specs.declared.refusals.Refusal.TheVariants.{NoMemory, Busy, InUse}
 use Rattle.segment_word.specs.AcceptViews.{Ledger}
+use Rattle.version_store.specs.Store.{StoreFields}
 use Rattle.version_store.specs.Upkeep.{KeepsObjects}
 use Rattle.drive.specs.Fields.{DriveFields, state_in, store_of}
 use Rattle.drive.specs.Keeping.{KeepsVersions}
@@ -22,6 +23,10 @@ keeps_on d between later first second = record {
   ledger = second.ledger ∙ first.ledger;
   needed = λ o t needed. subst (λ (x : State). KeepsVersions x (store_of between) (store_of later)) (state_stays d between first.ledger) second.needed o t needed ∙ first.needed o t needed;
 }
+
+-- history and store are as they were
+pub keeps_alike : (d later : DriveFields) → later.ledger ≡ d.ledger → store_of later ≡ store_of d → KeepsAll d later
+keeps_alike d later same alike = record { ledger = same; needed = subst (λ (s : StoreFields). KeepsVersions (state_in d) (store_of d) s) (sym alike) (λ o t needed. refl) }
 
 -- a reader was found after that, or in the cleaner's pass
 pub found_on : (d between later : DriveFields) (e : Refusal) → KeepsAll d between → FindsReader between later e → FindsReader d later e

@@ -1,21 +1,79 @@
--- Which frame is freed next.
-use Rattle.std.specs.Prelude.{ℕ, ◌<◌, ◌≤◌}
+-- Which frames are freed.
+use Rattle.std.specs.Prelude.{◌≡◌, ℕ, ◌+◌, ◌<◌, ◌≤◌, ◌==◌, min, Bool, if◌then◌else◌, unwrap_or, List, [], ◌∷◌, ◌++◌, Option, Some, None}
+use Rattle.std.specs.List.{list_any}
+use Rattle.s4_types.specs.Pointer.{Place}
 use Rattle.s4_types.specs.declared.limits.TheConstants.{PAYLOAD_BLOCKS}
+use Rattle.block_log.specs.Log.{Stored, same_kind}
+use Rattle.block_log.specs.declared.kinds.BlockKind.{BlockKind}
+use Rattle.block_log.specs.declared.kinds.BlockKind.TheVariants.{Data}
+use Rattle.object_map.specs.declared.map.Row.{Row}
+use Rattle.object_map.specs.Objects.{value_of}
+use Rattle.object_map.specs.Rows.{row_of}
+use Rattle.row_changes.specs.Moving.{row_blocks}
+use Rattle.segment_word.specs.Frames.{Sealed}
+use Rattle.segment_word.specs.Layout.{frame_at}
+use Rattle.segment_table.specs.Table.{Table, held_at}
+use Rattle.segment_table.specs.Room.{whole_of}
+use Rattle.segment_table.specs.Counts.{held_count}
+use Rattle.version_store.specs.Store.{StoreFields}
 use Rattle.drive.specs.Fields.{DriveFields}
-use Rattle.segment_copier.specs.Choosing.{IsSparse}
-use Rattle.segment_copier.specs.Gathering.{free_count, most_to_empty}
+use Rattle.segment_copier.specs.Choosing.{IsLife}
+use Rattle.segment_copier.specs.Gathering.{free_count}
 
--- A frame can be freed at a gain: a move can be made out of it, emptying it takes fewer blocks than it has, and a free frame has room
--- for these.
-pub record CanBeFreed (d : DriveFields) (f : ℕ) : Type 0 where
-  pub sparse : IsSparse d.store.table f
-  pub few : most_to_empty d f < PAYLOAD_BLOCKS
+-- ---- what is written of an object, whatever frame it leaves
+
+-- how many blocks the checkpoint and the journal of an object of this row are, once they are written anew
+abbrev pub blocks_of_row : StoreFields → ℕ → Option Row → ℕ
+blocks_of_row s o None = 0
+blocks_of_row s o (Some row) = row_blocks s.log.held o row
+
+abbrev pub blocks_rewritten : StoreFields → ℕ → ℕ
+blocks_rewritten s o = blocks_of_row s o (row_of s.rows o)
+
+-- what a list has of an object; 0 where it has nothing
+abbrev pub count_in : List (ℕ × ℕ) → ℕ → ℕ
+count_in counts o = unwrap_or (value_of counts o) 0
+
+-- these are the counts of all objects
+abbrev pub AreCounts : StoreFields → List (ℕ × ℕ) → Type 0
+AreCounts s counts = (o : ℕ) → count_in counts o ≡ blocks_rewritten s o
+
+-- ---- what emptying a frame writes
+
+abbrev pub is_among : ℕ → List ℕ → Bool
+is_among o objects = list_any (λ one. one == o) objects
+
+-- How many blocks are written for a held block of this kind: itself where it is of data; and what is written of its object, where
+-- none of the objects before it is the same. Of one object no more are counted than a frame has.
+abbrev pub blocks_added : List (ℕ × ℕ) → List ℕ → BlockKind → ℕ → ℕ
+blocks_added counts before kind o = (if same_kind Data kind then 1 else 0) + (if is_among o before then 0 else min PAYLOAD_BLOCKS (count_in counts o))
+
+-- the same of what is held at a place, and the objects up to there
+abbrev pub added_at : List (ℕ × ℕ) → List ℕ → Option Stored → ℕ
+added_at counts before None = 0
+added_at counts before (Some block) = blocks_added counts before block.kind block.object
+
+abbrev pub objects_at : List ℕ → Option Stored → List ℕ
+objects_at before None = before
+objects_at before (Some block) = before ++ block.object ∷ []
+
+-- how many blocks are written to move what is held at these places, after blocks of these objects
+abbrev pub blocks_to_move : List (ℕ × ℕ) → Table → List ℕ → List Place → ℕ
+blocks_to_move counts t before [] = 0
+blocks_to_move counts t before (p ∷ places) = added_at counts before (held_at t p) + blocks_to_move counts t (objects_at before (held_at t p)) places
+
+-- How many blocks the moves of all objects out of a frame write, by the count of each object.
+abbrev pub blocks_to_empty : List (ℕ × ℕ) → Table → ℕ → ℕ
+blocks_to_empty counts t f = blocks_to_move counts t [] (whole_of t f)
+
+-- A frame can be freed at a gain: it is sealed and holds something, the moves out of it write fewer blocks than it has, and a frame
+-- is free, which has room for these.
+pub record CanBeFreed (counts : List (ℕ × ℕ)) (d : DriveFields) (f : ℕ) : Type 0 where
+  pub sealed : (frame_at d.store.table.seat.frames f).phase ≡ Sealed
+  pub life : IsLife (frame_at d.store.table.seat.frames f).generation
+  pub some : 1 ≤ held_count d.store.table f
+  pub few : blocks_to_empty counts d.store.table f < PAYLOAD_BLOCKS
   pub free : 0 < free_count d.store.table
 
-abbrev pub NoneCanBeFreed : DriveFields → Type 0
-NoneCanBeFreed d = (f : ℕ) → CanBeFreed d f → ⊥
-
--- of all frames that can be freed the one with the lowest number
-pub record IsLowestFrame (d : DriveFields) (f : ℕ) : Type 0 where
-  pub can : CanBeFreed d f
-  pub lowest : (g : ℕ) → CanBeFreed d g → f ≤ g
+abbrev pub NoneCanBeFreed : List (ℕ × ℕ) → DriveFields → Type 0
+NoneCanBeFreed counts d = (f : ℕ) → CanBeFreed counts d f → ⊥

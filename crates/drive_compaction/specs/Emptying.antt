@@ -1,9 +1,9 @@
 -- What the emptying of frames comes to.
-use Rattle.std.specs.Prelude.{◌≡◌, ℕ, zero, suc, ◌+◌, Option, Some, None, Ok}
+use Rattle.std.specs.Prelude.{◌≡◌, ℕ, zero, suc, ◌+◌, Bool, true, false, List, Option, Some, None, Ok}
 use Rattle.s4_types.specs.Pointer.{Place}
 use Rattle.s4_types.specs.declared.limits.TheConstants.{PAYLOAD_BLOCKS}
 use Rattle.s4_types.specs.declared.refusals.Refusal.{Refusal}
-use Rattle.s4_types.specs.declared.refusals.Refusal.TheVariants.{InUse}
+use Rattle.s4_types.specs.declared.refusals.Refusal.TheVariants.{NoRoom, InUse}
 use Rattle.block_log.specs.Log.{Stored}
 use Rattle.segment_word.specs.Layout.{frame_at}
 use Rattle.segment_table.specs.Table.{held_at}
@@ -12,7 +12,7 @@ use Rattle.drive.specs.Fields.{DriveFields, state_in, store_of}
 use Rattle.drive.specs.Keeping.{KeepsVersions}
 use Rattle.history_cleaner.specs.Emptying.{AllVacated, StopsAtReader}
 use Rattle.segment_copier.specs.Gathering.{MovesNow, IsKeptBack}
-use Rattle.drive_compaction.specs.Choosing.{IsLowestFrame}
+use Rattle.drive_compaction.specs.Choosing.{CanBeFreed}
 
 -- the history is as it was, and every version that can be read
 pub record KeepsAll (d later : DriveFields) : Type 0 where
@@ -69,11 +69,27 @@ pub record Frees (d : DriveFields) (f moves : ℕ) (stopped : Option Refusal) (l
   pub vacated : AllVacated later.store.table
   pub objects : KeepsObjects (store_of between) (store_of later)
 
--- So many frames were emptied and freed, each the lowest one that could be, by so many moves in all.
-unfoldable pub FreesInTurn : DriveFields → ℕ → ℕ → DriveFields → Type 0
-FreesInTurn d zero moves later = (moves ≡ 0) × (later ≡ d)
-FreesInTurn d (suc n) moves later =
-    (between : DriveFields) × (f : ℕ) × (k : ℕ) × (m : ℕ) × FreesInTurn d n k between × IsLowestFrame between f × Frees between f m None later × (moves ≡ k + m)
+-- This number of frames was emptied and freed, each of which could be freed at a gain by these counts, by this number of moves in all.
+unfoldable pub FreesInTurn : List (ℕ × ℕ) → DriveFields → ℕ → ℕ → DriveFields → Type 0
+FreesInTurn counts d zero moves later = (moves ≡ 0) × (later ≡ d)
+FreesInTurn counts d (suc n) moves later =
+    (between : DriveFields) × (f : ℕ) × (k : ℕ) × (m : ℕ) × FreesInTurn counts d n k between × CanBeFreed counts between f × Frees between f m None later × (moves ≡ k + m)
+
+-- They were, and then the emptying of one more stopped, since a move found too little room.
+pub record RunsOut (counts : List (ℕ × ℕ)) (d : DriveFields) (frames moves : ℕ) (later : DriveFields) : Type 0 where
+  pub between : DriveFields
+  pub before : ℕ
+  pub freed : FreesInTurn counts d frames before between
+  pub frame : ℕ
+  pub can : CanBeFreed counts between frame
+  pub more : ℕ
+  pub stopped : Frees between frame more (Some NoRoom) later
+  pub sum : moves ≡ before + more
+
+-- What frame after frame comes to, by whether it ran out of room.
+abbrev pub Sweeps : List (ℕ × ℕ) → DriveFields → ℕ → ℕ → Bool → DriveFields → Type 0
+Sweeps counts d frames moves false later = FreesInTurn counts d frames moves later
+Sweeps counts d frames moves true later = RunsOut counts d frames moves later
 
 -- A release found a reader: from the drive `since`, of the same history and versions, the frames were marked and released, down to the
 -- first that had one.

@@ -1,5 +1,7 @@
 pub mod Choosing
 pub mod Emptying
 pub mod Cleaning
+pub mod Turns
+pub mod Past
 pub mod Compacting
 pub mod private

@@ -1,15 +1,13 @@
 //! The compaction of a drive.
-ghost use Rattle.std.specs.Prelude.{◌≡◌, ◌⊎◌, IfOk, IfErr};
+ghost use Rattle.std.specs.Prelude.{◌≡◌, ◌⊎◌, true, false, IfOk, IfErr};
 ghost use Rattle.s4_types.specs.declared.refusals.Refusal.TheVariants.{NoMemory, Busy};
 ghost use Rattle.drive.specs.Fields.{state_in, store_of};
 ghost use Rattle.drive.specs.Keeping.{KeepsVersions};
 ghost use Rattle.drive_compaction.specs.Emptying.{FindsReader};
-ghost use Rattle.drive_compaction.specs.Compacting.{IsCompacted};
+ghost use Rattle.drive_compaction.specs.Compacting.{IsCompacted, LosesRoom};
 
-use crate::cleaning::clean;
-use crate::freeing::{Ending, free_all};
+use crate::turns::{Ending, Work, take_turns};
 use drive::{Drive, Session};
-use history_cleaner::PassReport;
 use s4_types::Refusal;
 use segment_copier::free_frames;
 use segment_word::Naming;
@@ -22,44 +20,89 @@ pub struct Compaction {
     pub free_before: u16,
     /// How many are free after it.
     pub free_after: u16,
-    /// What the cleaner's pass came to; none where it stopped for want of room.
-    pub pass: Option<PassReport>,
-    /// How many frames were emptied by moves.
-    pub frames: u32,
-    /// How many moves were made, one for each object that left a frame.
-    pub moves: u32,
-    /// How the moves ended.
+    /// How many blocks changes could append before it.
+    pub room_before: usize,
+    /// How many they can append after it, no fewer.
+    pub room_after: usize,
+    /// How many turns were taken.
+    pub turns: u32,
+    /// What they did in all.
+    pub work: Work,
+    /// How they ended.
     pub ending: Ending,
 }
 
-/// Makes as much room in a drive as one go gives. First all objects are cleaned, and each frame that holds nothing then is free. Where that
-/// stops for want of room, the frames that hold nothing are freed all the same. Then one frame after another is emptied by moves and freed,
-/// the lowest first: each that is sealed, of which 1 to 7 blocks are held, and that is emptied by fewer blocks than it has, as long as
-/// some frame is free. So each leaves more places ahead than there were. It ends where there is no such frame, where a move finds too
-/// little room, or after [`MOST_FREED`](crate::MOST_FREED) frames; none of these is a failure.
+/// Compacts a drive, with or without the cleaner.
+fn compact_by<J: Naming>(
+    alloc: Global,
+    drive: &mut Drive<J>,
+    session: &mut Session<J>,
+    cleans: bool,
+) -> Result<Compaction, Refusal>
+    ensures compacted { IfOk result (IsCompacted cleans drive.old drive.new) }
+    ensures refusal { IfErr result (λ e. (e ≡ NoMemory) ⊎
+        ((e ≡ Busy) ⊎ (LosesRoom drive.old drive.new e ⊎ FindsReader drive.old drive.new e))) }
+    ensures ledger { drive.new.ledger ≡ drive.old.ledger }
+    ensures needed { KeepsVersions (state_in drive.old) (store_of drive.old) (store_of drive.new) }
+{
+    let free_before = free_frames(drive);
+    let room_before = drive.room();
+    let run = take_turns(alloc, drive, session, cleans)?;
+    let room_after = drive.room();
+    if room_after < room_before {
+        return Err(Refusal::NoRoom);
+    }
+    Ok(Compaction {
+        free_before,
+        free_after: free_frames(drive),
+        room_before,
+        room_after,
+        turns: run.turns,
+        work: run.work,
+        ending: run.ending,
+    })
+}
+
+/// Makes as much room in a drive as cleaner and moves give. It takes turns, until a whole one frees
+/// nothing. In a turn all objects are cleaned, and each frame that holds nothing then is free;
+/// where that stops for too little room, the frames that hold nothing are freed all the same. Then
+/// one frame after another is emptied by moves and freed, those with the fewest held blocks first:
+/// each that is sealed, and whose moves write fewer blocks than it has, as long as some frame is
+/// free. So each leaves more places ahead than there were. It ends also where a move finds too
+/// little room, or after [`MOST_TURNS`](crate::MOST_TURNS) turns; none of these is a failure.
 ///
-/// The session is that of whoever moves, and stays as it is. NoMemory where memory is refused, Busy where no pin is to be had, InUse
-/// where a frame that is being emptied has a reader, which comes only where another session reads. What was cleaned and moved stays
-/// so then. The history and every version that can be read stay, whatever is answered.
+/// The session is that of whoever moves, and stays as it is. NoRoom exactly where the drive has
+/// less room in the end than it had, which comes where the cleaner wrote more than could be freed:
+/// then [`compact_by_moves`] may still make room, in the drive as it was before. NoMemory where
+/// memory is refused, Busy where no pin is to be had, InUse where a frame that is being emptied has
+/// a reader, which comes only where another session reads. What was cleaned and moved stays so
+/// then. The history and every version that can be read stay, whatever is answered.
 pub fn compact<J: Naming>(
     alloc: Global,
     drive: &mut Drive<J>,
     session: &mut Session<J>,
 ) -> Result<Compaction, Refusal>
-    ensures compacted { IfOk result (IsCompacted drive.old drive.new) }
-    ensures refusal { IfErr result (λ e. (e ≡ NoMemory) ⊎ ((e ≡ Busy) ⊎ FindsReader drive.old drive.new e)) }
+    ensures compacted { IfOk result (IsCompacted true drive.old drive.new) }
+    ensures refusal { IfErr result (λ e. (e ≡ NoMemory) ⊎
+        ((e ≡ Busy) ⊎ (LosesRoom drive.old drive.new e ⊎ FindsReader drive.old drive.new e))) }
     ensures ledger { drive.new.ledger ≡ drive.old.ledger }
     ensures needed { KeepsVersions (state_in drive.old) (store_of drive.old) (store_of drive.new) }
 {
-    let free_before = free_frames(drive);
-    let pass = clean(alloc, drive)?;
-    let freed = free_all(alloc, drive, session)?;
-    Ok(Compaction {
-        free_before,
-        free_after: free_frames(drive),
-        pass,
-        frames: freed.frames,
-        moves: freed.moves,
-        ending: freed.ending,
-    })
+    compact_by(alloc, drive, session, true)
+}
+
+/// The same without the cleaner: no object is cleaned, and frames are emptied by moves alone. Its
+/// refusals are those of [`compact`].
+pub fn compact_by_moves<J: Naming>(
+    alloc: Global,
+    drive: &mut Drive<J>,
+    session: &mut Session<J>,
+) -> Result<Compaction, Refusal>
+    ensures compacted { IfOk result (IsCompacted false drive.old drive.new) }
+    ensures refusal { IfErr result (λ e. (e ≡ NoMemory) ⊎
+        ((e ≡ Busy) ⊎ (LosesRoom drive.old drive.new e ⊎ FindsReader drive.old drive.new e))) }
+    ensures ledger { drive.new.ledger ≡ drive.old.ledger }
+    ensures needed { KeepsVersions (state_in drive.old) (store_of drive.old) (store_of drive.new) }
+{
+    compact_by(alloc, drive, session, false)
 }

@@ -20,8 +20,8 @@ pub(crate) struct Emptied {
     pub(crate) stopped: Option<Refusal>,
 }
 
-/// The object of the block at a place leaves the frame with all that it holds there, if one is held at the place. Ok tells how many moves
-/// were made, 1 or none. After a refusal nothing has changed.
+/// The object of the block at a place leaves the frame with all that it holds there, if one is held
+/// at the place. Ok tells how many moves were made, 1 or none. After a refusal nothing has changed.
 fn leave<J: Naming>(
     alloc: Global,
     drive: &mut Drive<J>,
@@ -41,8 +41,8 @@ fn leave<J: Naming>(
     Ok(1)
 }
 
-/// The objects that hold blocks in a frame leave it, one after the other, in the order of their first blocks there. At the first refusal
-/// it stops.
+/// The objects that hold blocks in a frame leave it, one after the other, in the order of their
+/// first blocks there. At the first refusal it stops.
 pub(crate) fn empty_frame<J: Naming>(
     alloc: Global,
     drive: &mut Drive<J>,

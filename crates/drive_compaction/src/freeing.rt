@@ -1,59 +1,50 @@
 //! Frame after frame is emptied and freed.
-ghost use Rattle.std.specs.Prelude.{◌≡◌, ◌⊎◌, ◌≤◌, IfOk, IfErr};
+ghost use Rattle.std.specs.Prelude.{◌≡◌, ◌⊎◌, ℕ, ◌≤◌, false, MatchBool, IfOk, IfErr};
 ghost use Rattle.s4_types.specs.declared.refusals.Refusal.TheVariants.{NoMemory, Busy};
-ghost use Rattle.drive_compaction.specs.Choosing.{IsLowestFrame};
-ghost use Rattle.drive_compaction.specs.Emptying.{KeepsAll, Frees, FindsReader};
-ghost use Rattle.drive_compaction.specs.Compacting.{FreesAll};
+ghost use Rattle.drive_compaction.specs.Choosing.{CanBeFreed, NoneCanBeFreed};
+ghost use Rattle.drive_compaction.specs.Emptying.{KeepsAll, Frees, Sweeps, FindsReader};
+ghost use Rattle.drive_compaction.specs.private.Sweeping.{IsNext};
 
-use crate::choices::next_frame;
+use crate::choices::can_be_freed;
 use crate::emptying::{Emptied, empty_frame};
 use drive::{Drive, Session};
 use history_cleaner::empty_frames;
+use object_map::ObjectMap;
 use s4_types::Refusal;
-use s4_types::limits::{MOST_FRAMES, PAYLOAD_BLOCKS};
+use s4_types::limits::PAYLOAD_BLOCKS;
 use segment_table::OverFrames;
 use segment_word::Naming;
 use std::alloc::Global;
 
-/// Frames that are freed at one go, at most: each leaves one place more ahead than there was, and no drive has more places.
-pub const MOST_FREED: u32 = (MOST_FRAMES * PAYLOAD_BLOCKS) as u32;
-
-/// How the freeing of frames ended.
-#[derive(Clone, Copy, Debug, PartialEq, Eq)]
-pub enum Ending {
-    /// No frame is left that can be freed at a gain.
-    Done,
-    /// A move found too little room: other blocks than a frame's own were in its way.
-    OutOfRoom,
-    /// [`MOST_FREED`] frames were freed.
-    Limit,
-}
-
 /// What the freeing of frames came to.
 #[derive(Clone, Copy)]
-pub(crate) struct Freed {
+pub(crate) struct Swept {
     /// How many frames were emptied.
-    pub(crate) frames: u32,
-    /// How many moves were made.
-    pub(crate) moves: u32,
-    pub(crate) ending: Ending,
+    pub(crate) frames: u64,
+    /// How many moves were made, also out of a frame that couldn't be emptied.
+    pub(crate) moves: u64,
+    /// Whether it ended since a move found too little room.
+    pub(crate) ran_out: bool,
 }
 
-/// A frame is emptied, and then each frame that holds nothing is freed, also where the emptying stopped.
+/// A frame is emptied, and then each frame that holds nothing is freed, also where the emptying
+/// stopped.
 ///
 /// InUse where a frame that is being emptied has a reader.
 fn free_frame<J: Naming>(
     alloc: Global,
     drive: &mut Drive<J>,
     session: &mut Session<J>,
+    counts: &ObjectMap<usize>,
     frame: u16,
 ) -> Result<Emptied, Refusal>
-    requires { IsLowestFrame drive.old frame }
+    requires { CanBeFreed counts.now.values drive.old frame }
     ensures frees { IfOk result (λ done. Frees drive.old frame done.moves done.stopped drive.new) }
     ensures few { IfOk result (λ done. done.moves ≤ 15) }
     ensures refusal { IfErr result (FindsReader drive.old drive.new) }
     ensures keeps { KeepsAll drive.old drive.new }
 {
+    let _ = counts;
     let Some(generation) = drive.generation(frame) else {
         unreachable!()
     };
@@ -62,46 +53,108 @@ fn free_frame<J: Naming>(
     Ok(done)
 }
 
-/// Empties and frees one frame after another, the lowest first, as long as one can be freed at a gain. Where a move finds too little room
-/// it ends, and that is no failure.
+/// Whether a frame has this number of held blocks, and can be freed at a gain.
+fn is_next<J: Naming>(
+    drive: &mut Drive<J>,
+    counts: &ObjectMap<usize>,
+    held: usize,
+    frame: u16,
+) -> bool
+    ensures next { MatchBool result (IsNext counts.now.values held drive.old frame)
+        (IsNext counts.now.values held drive.old frame → ⊥) }
+    ensures same { drive.new ≡ drive.old }
+{
+    if drive.held_count(frame) as usize != held {
+        return false;
+    }
+    can_be_freed(drive, counts, frame)
+}
+
+/// Of the frames with this number of held blocks each is emptied and freed that can be at a gain,
+/// the lowest first. It ends where a move finds too little room.
 ///
-/// NoMemory where the memory for a move is refused, Busy where no pin is to be had, InUse where a frame that is being emptied has a reader.
-/// What was moved stays moved.
-pub(crate) fn free_all<J: Naming>(
+/// NoMemory where the memory for a move is refused, Busy where no pin is to be had, InUse where a
+/// frame that is being emptied has a reader. What was moved stays moved.
+fn sweep_alike<J: Naming>(
     alloc: Global,
     drive: &mut Drive<J>,
     session: &mut Session<J>,
-) -> Result<Freed, Refusal>
-    ensures freed { IfOk result (λ freed. FreesAll drive.old freed.frames freed.moves freed.ending drive.new) }
-    ensures refusal { IfErr result (λ e. (e ≡ NoMemory) ⊎ ((e ≡ Busy) ⊎ FindsReader drive.old drive.new e)) }
+    counts: &ObjectMap<usize>,
+    held: usize,
+) -> Result<Swept, Refusal>
+    ensures sweeps { IfOk result (λ swept. Sweeps counts.now.values drive.old swept.frames
+        swept.moves swept.ran_out drive.new) }
+    ensures none { IfOk result (λ swept. swept.frames ≡ 0 → swept.ran_out ≡ false → (f : ℕ) →
+        IsNext counts.now.values held drive.old f → ⊥) }
+    ensures few { IfOk result (λ swept. swept.frames ≤ 65535) }
+    ensures few_moves { IfOk result (λ swept. swept.moves ≤ 1000000) }
+    ensures refusal { IfErr result (λ e. (e ≡ NoMemory) ⊎
+        ((e ≡ Busy) ⊎ FindsReader drive.old drive.new e)) }
     ensures keeps { KeepsAll drive.old drive.new }
 {
-    let mut moves = 0;
-    for frames in 0..MOST_FREED {
-        let Some(frame) = next_frame(drive) else {
-            return Ok(Freed {
-                frames,
-                moves,
-                ending: Ending::Done,
-            });
-        };
-        let done = free_frame(alloc, drive, session, frame)?;
-        moves += done.moves;
+    let (mut frames, mut moves) = (0, 0);
+    for frame in 0..drive.frame_count() {
+        if !is_next(drive, counts, held, frame) {
+            continue;
+        }
+        let done = free_frame(alloc, drive, session, counts, frame)?;
+        moves += done.moves as u64;
         match done.stopped {
-            None => {}
+            None => frames += 1,
             Some(Refusal::NoRoom) => {
-                return Ok(Freed {
+                return Ok(Swept {
                     frames,
                     moves,
-                    ending: Ending::OutOfRoom,
+                    ran_out: true,
                 });
             }
             Some(refusal) => return Err(refusal),
         }
     }
-    Ok(Freed {
-        frames: MOST_FREED,
+    Ok(Swept {
+        frames,
         moves,
-        ending: Ending::Limit,
+        ran_out: false,
+    })
+}
+
+/// Each frame is emptied and freed that can be at a gain, those with the fewest held blocks first.
+/// It ends where a move finds too little room. Where no frame was freed, none can be.
+///
+/// NoMemory where the memory for a move is refused, Busy where no pin is to be had, InUse where a
+/// frame that is being emptied has a reader. What was moved stays moved.
+pub(crate) fn sweep<J: Naming>(
+    alloc: Global,
+    drive: &mut Drive<J>,
+    session: &mut Session<J>,
+    counts: &ObjectMap<usize>,
+) -> Result<Swept, Refusal>
+    ensures sweeps { IfOk result (λ swept. Sweeps counts.now.values drive.old swept.frames
+        swept.moves swept.ran_out drive.new) }
+    ensures none { IfOk result (λ swept. swept.frames ≡ 0 → swept.ran_out ≡ false → NoneCanBeFreed
+        counts.now.values drive.new) }
+    ensures few { IfOk result (λ swept. swept.frames ≤ 1000000) }
+    ensures few_moves { IfOk result (λ swept. swept.moves ≤ 100000000) }
+    ensures refusal { IfErr result (λ e. (e ≡ NoMemory) ⊎
+        ((e ≡ Busy) ⊎ FindsReader drive.old drive.new e)) }
+    ensures keeps { KeepsAll drive.old drive.new }
+{
+    let (mut frames, mut moves) = (0, 0);
+    for index in 0..PAYLOAD_BLOCKS {
+        let swept = sweep_alike(alloc, drive, session, counts, index + 1)?;
+        frames += swept.frames;
+        moves += swept.moves;
+        if swept.ran_out {
+            return Ok(Swept {
+                frames,
+                moves,
+                ran_out: true,
+            });
+        }
+    }
+    Ok(Swept {
+        frames,
+        moves,
+        ran_out: false,
     })
 }

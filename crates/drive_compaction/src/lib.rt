@@ -1,16 +1,24 @@
-//! Compaction: as much room as a drive without sessions gives at one go.
+//! Compaction: as much room as a drive without sessions gives.
 //!
-//! The layers above may rely on this: whatever [`compact`] answers, the history and every version that can be read stay. It cleans
-//! all objects, and then empties and frees one sparse frame after another, as long as that is done by fewer blocks than the frame
-//! has: so each leaves more places ahead than there were. Unlike the copier it needs no room beyond the reserve, and it looks at each
-//! sparse frame, not at the sparsest alone. It tells how many frames are free before and after, and how it ended.
+//! The layers above may rely on this: whatever [`compact`] answers, the history and every version
+//! that can be read stay. It takes turns of the cleaner and of moves, until a whole one frees
+//! nothing: all objects are cleaned, and then each frame is emptied and freed that is by fewer
+//! blocks than it has. So each leaves more places ahead than there were. Unlike the copier it needs
+//! no room beyond the reserve, and counts exactly what a move writes. Where it succeeds, a drive
+//! has no less room than before; where the cleaner wrote more than could be freed it is refused,
+//! and [`compact_by_moves`] makes the room that moves alone give. The report has what all turns
+//! did, and how they ended. [`past_blocks`] says whether hiding moments would give more.
 #![tactic(auto)]
 
 mod choices;
 mod cleaning;
 mod compacting;
+mod counts;
 mod emptying;
 mod freeing;
+mod past;
+mod turns;
 
-pub use compacting::{Compaction, compact};
-pub use freeing::{Ending, MOST_FREED};
+pub use compacting::{Compaction, compact, compact_by_moves};
+pub use past::past_blocks;
+pub use turns::{Ending, MOST_TURNS, Work};

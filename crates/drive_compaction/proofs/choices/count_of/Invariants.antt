@@ -1,4 +1,4 @@
--- As far as the loop has come, what was counted is told of the blocks that were looked at.
+-- As far as the loop has come, what was counted is of the blocks that were looked at.
 use Rattle.std.proofs.Common.{◌≡◌, ◌≤◌}
 use Rattle.segment_copier.specs.Choosing.{IsLife}
 use Rattle.drive_compaction.proofs.Counting.{CountsTo}
@@ -9,5 +9,5 @@ invariant-loop-index g l =
     record {
       same : l.drive ≡ l.initial.drive;
       life : 1 ≤ l.index → IsLife l.generation;
-      counts : CountsTo l.initial.drive l.frame l.index l.so_far;
+      counts : CountsTo l.counts.values l.initial.drive.store.table l.frame l.index l.so_far;
     }
