@@ -4,3 +4,6 @@ pub mod Later
 pub mod Whole
 pub mod Going
 pub mod RowByRow
+pub mod Finding
+pub mod RowFinding
+pub mod NothingLost

@@ -1,5 +1,5 @@
 -- What was given out so far, row by row.
-use Rattle.std.proofs.Common.{◌≡◌, ◌∙◌, ◌+◌, ◌<◌, ◌≤◌, ◌++◌, ℕ, zero, suc, List, [], ◌∷◌, drop, length, slice_get, Option, Some, None, Result, Ok, Err, OnOk, IfErr, refl, sym, ap, subst, arith, append_assoc}
+use Rattle.std.proofs.Common.{◌≡◌, ◌∙◌, ◌<◌, ◌≤◌, ◌++◌, ℕ, zero, suc, List, [], ◌∷◌, drop, length, slice_get, Option, Some, None, Result, Ok, Err, OnOk, IfErr, refl, sym, ap, subst, arith, append_assoc}
 use Rattle.std.specs.List.{AllZip}
 use Rattle.std.specs.Option.{option_map}
 use Rattle.std.proofs.lemmas.List.{append-nil, drop_all}
@@ -62,46 +62,46 @@ part_at (first ∷ parts) (suc n) lt = part_at parts n (omega (arith, lt))
 -- the rows up to an index are given out
 pub record GivenTo (s : SalvageFields) (n : ℕ) (given : GivenOut) (files files' : Option (List NamedFile)) : Type 0 where
   pub rows : List Salvaged
-  pub front : (rest : List Salvaged) → AllZip (IsSalvagedBy (used_at s.table)) (drop n s.parts.rows) rest → AllZip (IsSalvagedBy (used_at s.table)) s.parts.rows (rows ++ rest)
-  pub counts : given ≡ counted_all (used_at s.table) (none_given s.lost) rows
-  pub becomes : files' ≡ option_map (with_rows (used_at s.table) (none_given s.lost) rows) files
+  pub front : (rest : List Salvaged) → AllZip (IsSalvagedBy (used_at s.table)) (drop n s.rows) rest → AllZip (IsSalvagedBy (used_at s.table)) s.rows (rows ++ rest)
+  pub counts : given ≡ counted_all (used_at s.table) (none_given s) rows
+  pub becomes : files' ≡ option_map (with_rows (used_at s.table) (none_given s) rows) files
 
 -- none is at first
-pub none_yet : (s : SalvageFields) (given : GivenOut) (files : Option (List NamedFile)) → given ≡ none_given s.lost → GivenTo s 0 given files files
+pub none_yet : (s : SalvageFields) (given : GivenOut) (files : Option (List NamedFile)) → given ≡ none_given s → GivenTo s 0 given files files
 none_yet s given files is = record {
   rows = [];
   front = λ rest are. are;
   counts = is;
-  becomes = changes_none (with_rows (used_at s.table) (none_given s.lost) []) files (λ f. refl);
+  becomes = changes_none (with_rows (used_at s.table) (none_given s) []) files (λ f. refl);
 }
 
 -- the next one is
-pub given_on : (s : SalvageFields) (n m : ℕ) (row : Salvaged) (given given' : GivenOut) (start files files' : Option (List NamedFile)) → n < length s.parts.rows → m ≡ suc n → GivenTo s n given start files
-    → ((part : RowPart) → slice_get s.parts.rows n ≡ Some part → IsSalvagedBy (used_at s.table) part row)
+pub given_on : (s : SalvageFields) (n m : ℕ) (row : Salvaged) (given given' : GivenOut) (start files files' : Option (List NamedFile)) → n < length s.rows → m ≡ suc n → GivenTo s n given start files
+    → ((part : RowPart) → slice_get s.rows n ≡ Some part → IsSalvagedBy (used_at s.table) part row)
     → given' ≡ counted (used_at s.table) given row → files' ≡ option_map (with_row (used_at s.table) given row) files → GivenTo s m given' start files'
 given_on s n m row given given' start files files' lt next before salvaged counts becomes =
     let used = used_at s.table in
-    let none = none_given s.lost in
-    let here = part_at s.parts.rows n lt in
-    let onward : drop n s.parts.rows ≡ here.0 ∷ drop m s.parts.rows = here.2 ∙ ap (λ (k : ℕ). here.0 ∷ drop k s.parts.rows) (sym next) in
+    let none = none_given s in
+    let here = part_at s.rows n lt in
+    let onward : drop n s.rows ≡ here.0 ∷ drop m s.rows = here.2 ∙ ap (λ (k : ℕ). here.0 ∷ drop k s.rows) (sym next) in
     let changes : files' ≡ option_map (with_row used (counted_all used none before.rows) row) files = becomes ∙ ap (λ (g : GivenOut). option_map (with_row used g row) files) before.counts in
     record {
       rows = before.rows ++ row ∷ [];
       front = λ rest are.
-          subst (AllZip (IsSalvagedBy used) s.parts.rows) (sym (append_assoc before.rows (row ∷ []) rest))
+          subst (AllZip (IsSalvagedBy used) s.rows) (sym (append_assoc before.rows (row ∷ []) rest))
           (before.front (row ∷ rest) (subst (λ (l : List RowPart). AllZip (IsSalvagedBy used) l (row ∷ rest)) (sym onward) (salvaged here.0 here.1, are)));
       counts = counts ∙ ap (λ (g : GivenOut). counted used g row) before.counts ∙ counted_more used none before.rows row;
       becomes = changes_join (with_rows used none before.rows) (with_row used (counted_all used none before.rows) row) (with_rows used none (before.rows ++ row ∷ [])) start files files' before.becomes changes (rows_more used none before.rows row);
     }
 
 -- all are, where there is none behind
-pub all_given : (s : SalvageFields) (n : ℕ) (given : GivenOut) (files files' : Option (List NamedFile)) → length s.parts.rows ≤ n → GivenTo s n given files files' → GivesRows s given files files'
+pub all_given : (s : SalvageFields) (n : ℕ) (given : GivenOut) (files files' : Option (List NamedFile)) → length s.rows ≤ n → GivenTo s n given files files' → GivesRows s given files files'
 all_given s n given files files' le before =
     let used = used_at s.table in
     record {
       rows = before.rows;
-      are = subst (AllZip (IsSalvagedBy used) s.parts.rows) (append-nil before.rows)
-          (before.front [] (subst (λ (l : List RowPart). AllZip (IsSalvagedBy used) l []) (sym (drop_all n s.parts.rows le)) tt));
+      are = subst (AllZip (IsSalvagedBy used) s.rows) (append-nil before.rows)
+          (before.front [] (subst (λ (l : List RowPart). AllZip (IsSalvagedBy used) l []) (sym (drop_all n s.rows le)) tt));
       counts = before.counts;
       becomes = before.becomes;
     }
@@ -116,7 +116,7 @@ gives_out s given first begun told files empty begins tells gives = record {
   rows = gives.rows;
   are = gives.are;
   counts = gives.counts;
-  has = files_become (with_rows (used_at s.table) (none_given s.lost) gives.rows) told files (with_frames s.lost (with_file manifest_name [] []))
+  has = files_become (with_rows (used_at s.table) (none_given s) gives.rows) told files (with_frames s.lost (with_file manifest_name [] []))
       (files_become (with_frames s.lost) begun told (with_file manifest_name [] []) (files_become (with_file manifest_name []) first begun [] empty begins) tells) gives.becomes;
 }
 

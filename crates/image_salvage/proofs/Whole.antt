@@ -1,5 +1,5 @@
 -- Each row of an image that isn't damaged gives its object.
-use Rattle.std.proofs.Common.{◌≡◌, ℕ, zero, suc, ◌<◌, ◌≤◌, ◌&&◌, ◌==◌, Bool, true, false, cond, List, [], ◌∷◌, ◌^◌, length, get_or, Option, Some, None, refl, sym, ap, subst, ◌∙◌, arith}
+use Rattle.std.proofs.Common.{◌≡◌, ◌⊎◌, inl, inr, ℕ, zero, suc, ◌<◌, ◌≤◌, ◌&&◌, ◌==◌, Bool, true, false, cond, List, [], ◌∷◌, ◌^◌, length, get_or, Option, Some, None, refl, sym, ap, subst, ◌∙◌, arith}
 use Rattle.std.specs.Prelude.{IsSome, MatchOption, unwrap_or}
 use Rattle.std.specs.List.{All, AllByRecursion, Contains}
 use Rattle.std.proofs.lemmas.List.Elements.{All-get_or}
@@ -15,7 +15,7 @@ use Rattle.inode.specs.Contents.{bytes_stored, contents_of, meaning}
 use Rattle.inode.specs.Laws.{OnlyItsBlocksMatter}
 use Rattle.version_store.specs.Store.{IsLed}
 use Rattle.segment_table.specs.Used.{used_at}
-use Rattle.image_parts.specs.Image.{Image}
+use Rattle.image_parts.specs.Image.{Image, image_in}
 use Rattle.image_parts.specs.declared.rows.RowPart.{RowPart}
 use Rattle.image_objects.specs.declared.rows.ImageRow.{ImageRow}
 use Rattle.image_objects.specs.Chains.{entries_used}
@@ -24,11 +24,15 @@ use Rattle.image_objects.specs.VersionChain.{present_used}
 use Rattle.image_objects.specs.Objects.{ObjectStands, inode_used, pointers_used}
 use Rattle.image_objects.specs.Laws.{InodesUsedPointToWhatRowsLeadTo}
 use Rattle.verifier.specs.Rows.{SpellsRow, SpellRows}
-use Rattle.verifier.specs.Grammar.{SpellsDrive}
+use Rattle.verifier.specs.Grammar.{SpellsDrive, FirstFault}
 use Rattle.image_salvage.specs.declared.rows.Salvaged.{Salvaged}
 use Rattle.image_salvage.specs.Contents.{data_of}
 use Rattle.image_salvage.specs.Rows.{last_moment, IsLost, IsPresentOf, IsSalvagedBy}
-use Rattle.image_salvage.specs.Salvaging.{SalvageFields, IsSalvageOf}
+use Rattle.s4_types.specs.declared.refusals.Cause.{Cause}
+use Rattle.segment_table.specs.Table.{Table}
+use Rattle.image_parts.specs.Causes.{FirstSplitCause}
+use Rattle.image_salvage.specs.Frames.{Sees, AreLostOf}
+use Rattle.image_salvage.specs.Salvaging.{SalvageFields, HasFault, SeesBy, IsSalvageOfParts, IsSalvageOfBytes, IsSalvageOf}
 use Rattle.image_salvage.specs.Laws.{salvaged_version, IsSalvagedWhole, HasAll}
 use Rattle.image_salvage.proofs.Seeing.{OneSummaryASpelling}
 use Rattle.image_salvage.proofs.Alike.{RulesOfASummary, used_alike, none_lost_of}
@@ -97,7 +101,7 @@ present_whole one done points only used seen clock part row salvaged (Some inode
 
 -- ---- all rows
 
-spelled_count : (parts : List RowPart) (rows : List ImageRow) → SpellRows parts rows → length parts ≡ length rows
+pub spelled_count : (parts : List RowPart) (rows : List ImageRow) → SpellRows parts rows → length parts ≡ length rows
 spelled_count [] [] all = refl
 spelled_count [] (row ∷ rows) all = absurd all
 spelled_count (part ∷ parts) [] all = absurd all
@@ -115,18 +119,53 @@ stands_at P [] k r all h = absurd (omega arith)
 stands_at P (row ∷ rows) zero r all h = all.0
 stands_at P (row ∷ rows) (suc k) r all h = stands_at P rows k r all.1 (omega arith)
 
-pub has_all : RulesOfASummary → OneSummaryASpelling → OnePointerASpelling → AllEntriesAreDone → InodesUsedPointToWhatRowsLeadTo → OnlyItsBlocksMatter → (bytes : List ℕ) (image : Image) (s : SalvageFields) → SpellsDrive bytes image → IsSalvageOf image s → HasAll image s
-has_all rules_of one_summary one_pointer done points only bytes image s spells salvages =
+-- ---- the image
+
+-- bytes that can't be split have that fault
+pub split_fault : (bytes : List ℕ) (cause : Cause) → FirstSplitCause bytes (Some cause) → FirstFault bytes (Some cause)
+split_fault bytes cause (inl short) = inl short
+split_fault bytes cause (inr (long, inl none)) = inr (long, inl none)
+split_fault bytes cause (inr (long, inr (header, inl apart))) = inr (long, inr (header, inl apart))
+split_fault bytes cause (inr (long, inr (header, inr (filled, is)))) = absurd (let clash : Some cause ≡ None = is in cc)
+
+-- what laws of images tell
+abbrev pub NoFaultIsThere : Type 0
+NoFaultIsThere = (bytes : List ℕ) (cause : Cause) (image : Image) → FirstFault bytes (Some cause) → SpellsDrive bytes image → ⊥
+
+abbrev pub ImageIsRead : Type 0
+ImageIsRead = (bytes : List ℕ) (image : Image) → SpellsDrive bytes image → image_in bytes ≡ image
+
+sound_by : NoFaultIsThere → (bytes : List ℕ) (image : Image) (fault : Option Cause) → SpellsDrive bytes image → HasFault bytes fault → fault ≡ None
+sound_by no_fault bytes image None spells has = refl
+sound_by no_fault bytes image (Some cause) spells has = absurd (no_fault bytes cause image has spells)
+
+sees_by : NoFaultIsThere → (bytes : List ℕ) (image : Image) (t : Table) (fault : Option Cause) → SpellsDrive bytes image → HasFault bytes fault → SeesBy bytes t fault → Sees (image_in bytes).frames t
+sees_by no_fault bytes image t None spells has sees = sees
+sees_by no_fault bytes image t (Some cause) spells has sees = absurd (no_fault bytes cause image has spells)
+
+parts_by : NoFaultIsThere → (bytes : List ℕ) (image : Image) (s : SalvageFields) → SpellsDrive bytes image → IsSalvageOfParts bytes s ⊎ IsSalvageOfBytes bytes s → IsSalvageOfParts bytes s
+parts_by no_fault bytes image s spells (inl parts) = parts
+parts_by no_fault bytes image s spells (inr other) = absurd (no_fault bytes other.cause image (split_fault bytes other.cause other.split) spells)
+
+pub has_all : RulesOfASummary → OneSummaryASpelling → OnePointerASpelling → AllEntriesAreDone → InodesUsedPointToWhatRowsLeadTo → OnlyItsBlocksMatter → NoFaultIsThere → ImageIsRead
+    → (bytes : List ℕ) (image : Image) (s : SalvageFields) → SpellsDrive bytes image → IsSalvageOf bytes s → HasAll image s
+has_all rules_of one_summary one_pointer done points only no_fault read bytes image s spells salvages =
     let chains = spells.chains in
-    let same : used_at s.table ≡ used_at chains.table = used_alike rules_of one_summary image.frames s.table chains.table spells.parts.rules.frames.each salvages.sees chains.frames in
+    let is : image_in bytes ≡ image = read bytes image spells in
+    let parts : IsSalvageOfParts bytes s = parts_by no_fault bytes image s spells salvages.of in
+    let sees : Sees image.frames s.table = subst (λ (i : Image). Sees i.frames s.table) is (sees_by no_fault bytes image s.table s.fault spells salvages.has salvages.sees) in
+    let lost : AreLostOf image.frames (length image.frames) s.lost = subst (λ (i : Image). AreLostOf i.frames (length i.frames) s.lost) is parts.lost_are in
+    let same : used_at s.table ≡ used_at chains.table = used_alike rules_of one_summary image.frames s.table chains.table spells.parts.rules.frames.each sees chains.frames in
     let count : length image.rows ≡ length chains.rows = spelled_count image.rows chains.rows chains.spelled in
     let clock : image.clock < 2 ^ 64 = spells.parts.is.clock in
     record {
+      sound = sound_by no_fault bytes image s.fault spells salvages.has;
+      same = parts.rows_are ∙ ap (λ (i : Image). i.rows) is;
       table = chains.table;
       frames = chains.frames;
       rows = chains.rows;
       spelled = chains.spelled;
-      intact = none_lost_of image.frames s.lost spells.parts.rules.frames.each salvages.lost;
+      intact = none_lost_of image.frames s.lost spells.parts.rules.frames.each lost;
       each = λ k part row salvaged h by.
           let here : IsSalvagedBy (used_at chains.table) (get_or image.rows k part) salvaged = subst (λ (view : Place → Option Stored). IsSalvagedBy view (get_or image.rows k part) salvaged) same by in
           present_whole one_pointer done points only (used_at chains.table) (used_at s.table) image.clock (get_or image.rows k part) (get_or chains.rows k row) salvaged salvaged.present same (omega (arith, clock))

@@ -1,5 +1,5 @@
 -- What is given out of a salvaged image: the files of a folder, and the counts.
-use Rattle.std.specs.Prelude.{◌≡◌, ℕ, ◌+◌, ◌-◌, ◌^◌, ◌==◌, ◌&&◌, min, nat_lt, if◌then◌else◌, Bool, List, [], ◌∷◌, length, Option, Some, None}
+use Rattle.std.specs.Prelude.{◌≡◌, ℕ, ◌+◌, ◌-◌, ◌^◌, ◌==◌, ◌&&◌, not, min, nat_lt, is_some, if◌then◌else◌, Bool, List, [], ◌∷◌, length, Option, Some, None}
 use Rattle.std.specs.List.{AllZip}
 use Rattle.std.specs.Option.{option_map}
 use Rattle.s4_types.specs.Pointer.{Place}
@@ -42,6 +42,7 @@ with_given o gone g = record {
   blocks_gone = capped (g.blocks_gone + gone);
   lost_objects = g.lost_objects;
   lost_frames = g.lost_frames;
+  damaged = g.damaged;
 }
 
 -- the counts with a lost one more
@@ -52,6 +53,7 @@ with_lost g = record {
   blocks_gone = g.blocks_gone;
   lost_objects = capped (g.lost_objects + 1);
   lost_frames = g.lost_frames;
+  damaged = g.damaged;
 }
 
 -- the counts with an object more, by what became of its row
@@ -80,9 +82,9 @@ with_row used g row files = with_fate used row.object (fate_of g.last row) files
 
 -- ---- all of an image
 
--- nothing is given out, of an image of which these frames are lost
-abbrev pub none_given : List ℕ → GivenOut
-none_given lost = record { last = 0; objects = 0; blocks_gone = 0; lost_objects = 0; lost_frames = length lost }
+-- nothing is given out yet: rows may be missing and frames lost, and the image may have a fault
+abbrev pub none_given : SalvageFields → GivenOut
+none_given s = record { last = 0; objects = 0; blocks_gone = 0; lost_objects = s.missing; lost_frames = length s.lost; damaged = is_some s.fault }
 
 -- the counts with these rows more
 abbrev pub counted_all : (Place → Option Stored) → GivenOut → List Salvaged → GivenOut
@@ -102,27 +104,27 @@ with_frames (frame ∷ lost) files = with_frames lost (with_bytes manifest_name 
 -- The files of a salvage whose rows give this: the manifest, which has a line for each lost frame, and then one for each object that is given
 -- out or lost, in the order of the rows; and the file of each that is given out.
 abbrev pub salvaged_files : SalvageFields → List Salvaged → List NamedFile
-salvaged_files s rows = with_rows (used_at s.table) (none_given s.lost) rows (with_frames s.lost (with_file manifest_name [] []))
+salvaged_files s rows = with_rows (used_at s.table) (none_given s) rows (with_frames s.lost (with_file manifest_name [] []))
 
 -- This is what the rows of an image give, one by one.
 abbrev pub AreGivenBy : SalvageFields → List Salvaged → Type 0
-AreGivenBy s rows = AllZip (IsSalvagedBy (used_at s.table)) s.parts.rows rows
+AreGivenBy s rows = AllZip (IsSalvagedBy (used_at s.table)) s.rows rows
 
 -- The rows of an image were given out behind what a folder had.
 pub record GivesRows (s : SalvageFields) (given : GivenOut) (files files' : Option (List NamedFile)) : Type 0 where
   pub rows : List Salvaged
   pub are : AreGivenBy s rows
-  pub counts : given ≡ counted_all (used_at s.table) (none_given s.lost) rows
-  pub becomes : files' ≡ option_map (with_rows (used_at s.table) (none_given s.lost) rows) files
+  pub counts : given ≡ counted_all (used_at s.table) (none_given s) rows
+  pub becomes : files' ≡ option_map (with_rows (used_at s.table) (none_given s) rows) files
 
 -- A folder had nothing, and has what was salvaged of an image.
 pub record GivesOut (s : SalvageFields) (given : GivenOut) (files files' : Option (List NamedFile)) : Type 0 where
   pub empty : AreFiles files []
   pub rows : List Salvaged
   pub are : AreGivenBy s rows
-  pub counts : given ≡ counted_all (used_at s.table) (none_given s.lost) rows
+  pub counts : given ≡ counted_all (used_at s.table) (none_given s) rows
   pub has : AreFiles files' (salvaged_files s rows)
 
--- whether nothing is lost, by the counts
+-- whether nothing is lost: the image has no fault, and no count says that anything is gone
 abbrev pub is_whole : GivenOut → Bool
-is_whole g = (g.blocks_gone == 0 && g.lost_objects == 0) && g.lost_frames == 0
+is_whole g = (not g.damaged && g.blocks_gone == 0) && (g.lost_objects == 0 && g.lost_frames == 0)

@@ -1,5 +1,5 @@
 -- What is salvaged of an image that isn't damaged: all of its objects, as a drive that is opened from it has them.
-use Rattle.std.specs.Prelude.{◌≡◌, ℕ, ◌<◌, List, [], length, slice_index_or, Option, Some}
+use Rattle.std.specs.Prelude.{◌≡◌, ℕ, ◌<◌, List, [], length, slice_index_or, Option, Some, None}
 use Rattle.s4_types.specs.Pointer.{Place}
 use Rattle.s4_types.specs.declared.versions.Version.{Version}
 use Rattle.block_log.specs.Log.{Stored}
@@ -18,7 +18,9 @@ use Rattle.verifier.specs.Grammar.{SpellsDrive}
 use Rattle.image_salvage.specs.declared.rows.Salvaged.{Salvaged}
 use Rattle.image_salvage.specs.Contents.{data_of}
 use Rattle.image_salvage.specs.Rows.{IsSalvagedBy}
+use Rattle.history_export.specs.Folders.{NamedFile}
 use Rattle.image_salvage.specs.Salvaging.{SalvageFields, IsSalvageOf}
+use Rattle.image_salvage.specs.Wholeness.{IsGivenWhole, HasEachLive}
 
 -- the version that an inode of an object stands for over the blocks that were salvaged
 abbrev pub salvaged_version : (Place → Option Stored) → ℕ → Inode → Version
@@ -32,9 +34,11 @@ pub record IsSalvagedWhole (used : Place → Option Stored) (clock : ℕ) (row :
   pub present : salvaged.present ≡ Some inode
   pub version : salvaged_version seen row.object inode ≡ version_by used (Some (inode_used used row clock))
 
--- No frame of an image is lost, and what a row of it gives is all that it had, over the table and by the rows by which a drive is opened
--- from it.
+-- An image has no fault, no frame of it is lost, and what a row of it gives is all that it had, over the table and by the rows by which a
+-- drive is opened from it.
 pub record HasAll (image : Image) (s : SalvageFields) : Type 0 where
+  pub sound : s.fault ≡ None
+  pub same : s.rows ≡ image.rows
   pub table : Table
   pub frames : IsTableOf image.frames table
   pub rows : List ImageRow
@@ -44,4 +48,8 @@ pub record HasAll (image : Image) (s : SalvageFields) : Type 0 where
       → IsSalvagedWhole (used_at table) image.clock (slice_index_or rows k row) (used_at s.table) salvaged
 
 abbrev pub AnUndamagedImageIsSalvagedWhole : Type 0
-AnUndamagedImageIsSalvagedWhole = (bytes : List ℕ) (image : Image) (s : SalvageFields) → SpellsDrive bytes image → IsSalvageOf image s → HasAll image s
+AnUndamagedImageIsSalvagedWhole = (bytes : List ℕ) (image : Image) (s : SalvageFields) → SpellsDrive bytes image → IsSalvageOf bytes s → HasAll image s
+
+-- What is given out whole is all that a drive that is opened from the bytes has at its clock.
+abbrev pub WhatIsWholeIsAll : Type 0
+WhatIsWholeIsAll = (bytes : List ℕ) (s : SalvageFields) (files : Option (List NamedFile)) → IsSalvageOf bytes s → IsGivenWhole s files → HasEachLive bytes files

@@ -1,7 +1,11 @@
 pub mod Frames
+pub mod Searching
 pub mod Rows
+pub mod RowSearch
 pub mod Contents
 pub mod Salvaging
 pub mod Laws
 pub mod Manifest
 pub mod Giving
+pub mod Counts
+pub mod Wholeness

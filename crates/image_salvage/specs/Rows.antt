@@ -20,6 +20,10 @@ pub record IsPresentOf (used : Place → Option Stored) (part : RowPart) (inode 
   pub stands : VersionChainStands used row last_moment
   pub present : inode ≡ present_used used row
 
+-- it leads to one
+abbrev pub IsThere : (Place → Option Stored) → RowPart → Type 0
+IsThere used part = (inode : Inode) × IsPresentOf used part inode
+
 -- The object of a row is lost: its bytes spell no row whose version chain stands.
 abbrev pub IsLost : (Place → Option Stored) → RowPart → Type 0
 IsLost used part = (row : ImageRow) → SpellsRow part row → VersionChainStands used row last_moment → ⊥

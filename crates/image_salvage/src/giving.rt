@@ -1,5 +1,5 @@
 //! What was salvaged, given out as files of a folder.
-ghost use Rattle.std.specs.Prelude.{◌≡◌, length, IfOk, IfErr, OnOk};
+ghost use Rattle.std.specs.Prelude.{◌≡◌, true, length, IfOk, IfErr, OnOk};
 ghost use Rattle.std.specs.Option.{option_map};
 ghost use Rattle.segment_table.specs.Used.{used_at};
 ghost use Rattle.history_export.specs.Folders.{with_bytes};
@@ -8,6 +8,7 @@ ghost use Rattle.history_export.specs.Exports.{Explains, IsOfWriting};
 ghost use Rattle.image_salvage.specs.Contents.{blocks_gone};
 ghost use Rattle.image_salvage.specs.Manifest.{lost_object_line};
 ghost use Rattle.image_salvage.specs.Giving.{GivesOut, GivesRows, counted, fate_of, is_whole, none_given, with_frames, with_given, with_lost, with_row, with_salvaged};
+ghost use Rattle.image_salvage.specs.Wholeness.{IsGivenWhole};
 
 use crate::manifest::{lost_frame_line, lost_object_line, salvaged_line};
 use crate::rows::Salvaged;
@@ -27,18 +28,21 @@ pub struct GivenOut {
     pub objects: u64,
     /// How many blocks of these are gone, for which zeros stand.
     pub blocks_gone: u64,
-    /// How many rows gave no object: they lead to none, or tell of one again or out of order.
+    /// How many rows gave no object: they lead to none, or name one again or out of order, or aren't found though the header counts them.
     pub lost_objects: u64,
     /// How many frames are lost.
     pub lost_frames: u64,
+    /// Whether the bytes are no image.
+    pub damaged: bool,
 }
 
 impl GivenOut {
-    /// Whether nothing is lost.
+    /// Whether nothing is lost: the bytes are an image, and no count says that anything is gone.
     pub fn is_whole(&self) -> bool
         ensures { result ≡ is_whole self.now }
     {
-        self.blocks_gone == 0 && self.lost_objects == 0 && self.lost_frames == 0
+        let sound = !self.damaged && self.blocks_gone == 0;
+        sound && (self.lost_objects == 0 && self.lost_frames == 0)
     }
 
     // With an object more, of which so many blocks are gone.
@@ -51,6 +55,7 @@ impl GivenOut {
             blocks_gone: self.blocks_gone.saturating_add(gone),
             lost_objects: self.lost_objects,
             lost_frames: self.lost_frames,
+            damaged: self.damaged,
         }
     }
 
@@ -64,6 +69,7 @@ impl GivenOut {
             blocks_gone: self.blocks_gone,
             lost_objects: self.lost_objects.saturating_add(1),
             lost_frames: self.lost_frames,
+            damaged: self.damaged,
         }
     }
 }
@@ -98,13 +104,16 @@ fn fate_of(last: ObjectId, row: &Salvaged) -> Fate
 /// JSON for each, in the order of the rows. Lines in front tell of the frames that are lost, and lines between of the objects. An object
 /// that was deleted has neither.
 ///
+/// Where what was given out is whole, each object of the image is in the folder, with all of its bytes, and none of its blocks is gone.
+///
 /// NotEmpty where anything is in the folder. In memory there is one object at a time, beside the image.
 pub fn give_out<F: Folder>(
     alloc: Global,
-    image: &SalvagedImage<'_>,
+    image: &SalvagedImage,
     folder: &mut F,
 ) -> Result<GivenOut, ExportError>
     ensures gives { IfOk result (λ given. GivesOut image.now given (F.files folder.old) (F.files folder.new)) }
+    ensures whole { IfOk result (λ given. is_whole given ≡ true → IsGivenWhole image.now (F.files folder.new)) }
     ensures path { F.path folder.new ≡ F.path folder.old }
     ensures refused { IfErr result (Explains (F.files folder.old)) }
 {
@@ -132,14 +141,14 @@ fn tell_frames<F: Folder>(alloc: Global, lost: &[u16], folder: &mut F) -> Result
 // Gives out what each row gives.
 fn give_rows<F: Folder>(
     alloc: Global,
-    image: &SalvagedImage<'_>,
+    image: &SalvagedImage,
     folder: &mut F,
 ) -> Result<GivenOut, ExportError>
     ensures gives { IfOk result (λ given. GivesRows image.now given (F.files folder.old) (F.files folder.new)) }
     ensures path { F.path folder.new ≡ F.path folder.old }
     ensures refused { IfErr result IsOfWriting }
 {
-    let mut given = none_given(image.lost_frames());
+    let mut given = none_given(image);
     for index in 0..image.rows() {
         let row = image.row(alloc, index)?;
         give_row(alloc, image, folder, &row, &mut given)?;
@@ -147,23 +156,24 @@ fn give_rows<F: Folder>(
     Ok(given)
 }
 
-// Nothing is given out of an image of which these frames are lost.
-fn none_given(lost: &[u16]) -> GivenOut
-    ensures { result ≡ none_given lost.now }
+// Nothing is given out of an image yet: what is known are its missing rows and lost frames, and whether it has a fault.
+fn none_given(image: &SalvagedImage) -> GivenOut
+    ensures { result ≡ none_given image.now }
 {
     GivenOut {
         last: ObjectId::new(0),
         objects: 0,
         blocks_gone: 0,
-        lost_objects: 0,
-        lost_frames: lost.len() as u64,
+        lost_objects: image.missing_rows(),
+        lost_frames: image.lost_frames().len() as u64,
+        damaged: image.fault().is_some(),
     }
 }
 
 // Gives out what a row gives.
 fn give_row<F: Folder>(
     alloc: Global,
-    image: &SalvagedImage<'_>,
+    image: &SalvagedImage,
     folder: &mut F,
     row: &Salvaged,
     given: &mut GivenOut,
@@ -183,7 +193,7 @@ fn give_row<F: Folder>(
 // Writes an object, tells it in the manifest, and counts it.
 fn give_object<F: Folder>(
     alloc: Global,
-    image: &SalvagedImage<'_>,
+    image: &SalvagedImage,
     folder: &mut F,
     object: ObjectId,
     inode: &Inode,

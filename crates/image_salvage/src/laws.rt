@@ -1,10 +1,11 @@
 //! Laws of salvage, for the layers above: each function does nothing, and its contract is the law.
-ghost use Rattle.image_salvage.specs.Laws.{AnUndamagedImageIsSalvagedWhole};
+ghost use Rattle.image_salvage.specs.Laws.{AnUndamagedImageIsSalvagedWhole, WhatIsWholeIsAll};
 
 use codec::laws::{one_pointer_a_spelling, one_summary_a_spelling, rules_of_a_summary};
 use image_objects::laws::inodes_used_point_to_what_rows_lead_to;
 use inode::laws::only_its_blocks_matter;
 use undo_redo::laws::the_inode_at_a_moment;
+use verifier::laws::{what_has_a_fault_spells_nothing, what_has_no_fault_is_an_image};
 
 /// Of an image that isn't damaged no object is lost, and each stands for the version that it has at the clock in a drive that is opened
 /// from it.
@@ -17,4 +18,14 @@ pub fn an_undamaged_image_is_salvaged_whole()
     the_inode_at_a_moment();
     inodes_used_point_to_what_rows_lead_to();
     only_its_blocks_matter();
+    what_has_a_fault_spells_nothing();
+    what_has_no_fault_is_an_image();
+}
+
+/// Where nothing of what was salvaged is lost, the bytes are an image, and each object that is live in a drive that is opened from it has a file
+/// with exactly the bytes of its version at the clock.
+pub fn what_is_whole_is_all()
+    ensures { WhatIsWholeIsAll }
+{
+    an_undamaged_image_is_salvaged_whole();
 }

@@ -1,10 +1,10 @@
 //! The object that a row leads to.
-ghost use Rattle.std.specs.Prelude.{◌≡◌, IfSome, IfOk, IfErr, MatchOption};
+ghost use Rattle.std.specs.Prelude.{◌≡◌, IfSome, IfOk, IfErr, MatchBool, MatchOption};
 ghost use Rattle.s4_types.specs.declared.refusals.Refusal.TheVariants.{NoMemory};
 ghost use Rattle.segment_table.specs.Used.{used_at};
 ghost use Rattle.image_objects.specs.declared.rows.ImageRow.{ImageRow as RowFields};
 ghost use Rattle.verifier.specs.Rows.{SpellsRow};
-ghost use Rattle.image_salvage.specs.Rows.{IsLost, IsPresentOf, IsSalvagedBy};
+ghost use Rattle.image_salvage.specs.Rows.{IsLost, IsPresentOf, IsSalvagedBy, IsThere};
 
 use crate::used::TableBlocks;
 use codec::Inode;
@@ -67,4 +67,20 @@ pub(crate) fn salvage_row(
         object: part.object,
         present,
     })
+}
+
+/// Whether a row leads to its object. NoMemory alone.
+#[tactic(auto, using(crate::proofs::RowFinding::stands_there))]
+pub(crate) fn leads(alloc: Global, table: &TableBuilder, part: &RowPart) -> Result<bool, Refusal>
+    ensures found { IfOk result (λ leads. MatchBool leads (IsThere (used_at table.now) part.now) (IsLost (used_at table.now) part.now)) }
+    ensures refusal { IfErr result (λ e. e ≡ NoMemory) }
+{
+    let Some(row) = row_of(part) else {
+        return Ok(false);
+    };
+    let blocks = TableBlocks { table };
+    let Some(_versions) = read_version_chain(alloc, &blocks, &row, Moment::new(u64::MAX))? else {
+        return Ok(false);
+    };
+    Ok(true)
 }

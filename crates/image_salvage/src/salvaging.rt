@@ -1,5 +1,6 @@
 //! The salvage of an image.
-ghost use Rattle.std.specs.Prelude.{◌≡◌, ◌⊎◌, ◌<◌, length, slice_get, Some, None, IfOk, IfErr};
+ghost use Rattle.std.specs.Prelude.{◌≡◌, ◌⊎◌, ◌-◌, ◌<◌, length, slice_get, Option, Some, None, IfOk, IfErr};
+ghost use Rattle.s4_types.specs.Sizes.{IsFrameCount};
 ghost use Rattle.s4_types.specs.declared.refusals.Cause.{Cause as Found};
 ghost use Rattle.s4_types.specs.declared.refusals.Refusal.TheVariants.{NoMemory, Damaged};
 ghost use Rattle.image_parts.specs.Causes.{FirstSplitCause};
@@ -7,66 +8,95 @@ ghost use Rattle.image_parts.specs.Image.{image_in};
 ghost use Rattle.image_parts.specs.declared.rows.RowPart.{RowPart as Part};
 ghost use Rattle.segment_table.specs.Used.{used_at};
 ghost use Rattle.image_salvage.specs.Contents.{salvaged_bytes, blocks_gone};
+ghost use Rattle.image_salvage.specs.Frames.{Sees};
+ghost use Rattle.image_salvage.specs.RowSearch.{HasNoRow};
 ghost use Rattle.image_salvage.specs.Rows.{IsSalvagedBy};
-ghost use Rattle.image_salvage.specs.Salvaging.{IsSalvageOf};
+ghost use Rattle.image_salvage.specs.Salvaging.{HasFault, IsSalvageOf, SeesBy, rows_counted};
 
 use crate::contents::{content_of, count_gone};
 use crate::frames::{WholeFrames, whole_frames};
+use crate::row_search::find_rows;
 use crate::rows::{Salvaged, salvage_row};
+use crate::searching::find_frames;
+use byteorder::{BigEndian, ByteOrder};
 use codec::Inode;
-use image_parts::{ImageParts, split_parts};
-use s4_types::{ObjectId, Refusal};
+use image_parts::{ImageParts, RowPart, split_parts};
+use s4_types::{Cause, ObjectId, Refusal};
 use segment_table::TableBuilder;
 use std::alloc::Global;
 use std::marker::Model;
+use std::thread::Threads;
+use verifier::verify;
 
-/// What was salvaged of an image: the blocks of its whole frames, and its rows, which stand in the bytes that were given.
+/// As many bytes as a header and a digest have.
+const FRONT_BYTES: usize = 544;
+
+/// Where a header has the number of rows.
+const ROWS_AT: usize = 48;
+
+/// What was salvaged of an image: its first fault, its rows, and the blocks of its frames.
 #[derive(Drop)]
-pub struct SalvagedImage<'a> {
-    parts: ImageParts<'a>,
+pub struct SalvagedImage {
+    fault: Option<Cause>,
+    rows: Vec<RowPart>,
+    missing: u64,
     table: TableBuilder,
     lost: Vec<u16>,
 }
 
-impl<'a> Model for SalvagedImage<'a> {
+impl Model for SalvagedImage {
     ghost use Rattle.image_salvage.specs.Salvaging.{SalvageFields};
 
     ghost Value = { SalvageFields };
 
-    ghost view = { λ s. record { parts = s.parts; table = s.table; lost = s.lost.items } };
+    ghost view = { λ s. record { fault = s.fault; rows = s.rows.items; missing = s.missing; table = s.table; lost = s.lost.items } };
 }
 
-impl<'a> SalvagedImage<'a> {
-    /// How many rows there are.
-    pub fn rows(&self) -> u32
-        ensures { result ≡ length self.now.parts.rows }
+impl SalvagedImage {
+    /// Why the bytes are no image: the cause that `verify` gives. None where they are one, so that nothing is damaged.
+    pub fn fault(&self) -> Option<Cause>
+        ensures { result ≡ self.now.fault }
     {
-        self.parts.rows().len()
+        self.fault
     }
 
-    /// What the row of an index gives. Rows may tell of one object more than once. NoMemory alone, where the memory for its entries is
+    /// How many rows there are.
+    pub fn rows(&self) -> usize
+        ensures { result ≡ length self.now.rows }
+    {
+        self.rows.len()
+    }
+
+    /// How many more rows the header counts, where it is one and the parts don't fill the bytes.
+    pub fn missing_rows(&self) -> u64
+        ensures { result ≡ self.now.missing }
+    {
+        self.missing
+    }
+
+    /// What the row of an index gives. Rows may name one object more than once. NoMemory alone, where the memory for its entries is
     /// refused.
-    pub fn row(&self, alloc: Global, index: u32) -> Result<Salvaged, Refusal>
-        requires { index < length self.now.parts.rows }
-        ensures salvaged { IfOk result (λ salvaged. (part : Part) → slice_get self.now.parts.rows index ≡ Some part → IsSalvagedBy (used_at self.now.table) part salvaged) }
+    pub fn row(&self, alloc: Global, index: usize) -> Result<Salvaged, Refusal>
+        requires { index < length self.now.rows }
+        ensures salvaged { IfOk result (λ salvaged. (part : Part) → slice_get self.now.rows index ≡ Some part → IsSalvagedBy (used_at self.now.table) part salvaged) }
         ensures refusal { IfErr result (λ e. e ≡ NoMemory) }
     {
-        let Some(part) = self.parts.rows().get(index) else {
+        let Some(part) = self.rows.as_slice().get(index) else {
             unreachable!()
         };
-        salvage_row(alloc, &self.table, &part)
+        salvage_row(alloc, &self.table, part)
     }
 
-    /// The numbers of the frames that are lost: each is open or sealed by its word, and breaks a rule of frames, be it that its summary
-    /// has no right digest.
+    /// The numbers of the frames that break a rule: each is open or sealed by its word, and its summary is none of that frame and generation
+    /// with the right digest. None is known where the header is none, or the parts don't fill the bytes.
     pub fn lost_frames(&self) -> &[u16]
         ensures { result.now ≡ self.now.lost }
     {
         self.lost.as_slice()
     }
 
-    /// The bytes of an inode of an object, cut to its size, as far as whole frames have them: zeros stand in holes, and for the blocks that
-    /// are gone. NoMemory alone, where the memory for them is refused.
+    /// The bytes of an inode of an object, cut to its size, as far as the frames have them: zeros are in holes, and for the blocks that are
+    /// gone. NoMemory alone, where the memory for them is refused.
     pub fn content(
         &self,
         alloc: Global,
@@ -87,20 +117,130 @@ impl<'a> SalvagedImage<'a> {
     }
 }
 
-/// What the bytes of an image still tell, whatever became of them: the blocks of the frames that are whole, and by its rows the present
-/// inode of each object whose chain and checkpoint stand over these. Neither the image's digest nor its clock is asked, and a row by
-/// itself is believed nothing: what it leads to must name its object and making.
+/// The first fault of an image, none where it has none. NoMemory alone.
+fn fault_of<R: Threads>(rt: &R, alloc: Global, bytes: &[u8]) -> Result<Option<Cause>, Refusal>
+    ensures has { IfOk result (HasFault bytes.now) }
+    ensures refusal { IfErr result (λ e. e ≡ NoMemory) }
+{
+    match verify(rt, alloc, bytes) {
+        Ok(_) => Ok(None),
+        Err(Refusal::Damaged(cause)) => Ok(Some(cause)),
+        Err(refusal) => Err(refusal),
+    }
+}
+
+/// The rows of an image, in their order. NoMemory alone.
+fn rows_of(alloc: Global, parts: &ImageParts<'_>) -> Result<Vec<RowPart>, Refusal>
+    ensures rows { IfOk result (λ rows. rows.items ≡ parts.now.rows) }
+    ensures refusal { IfErr result (λ e. e ≡ NoMemory) }
+{
+    let mut rows = Vec::new(alloc);
+    for row in parts.rows() {
+        rows.push(row)?;
+    }
+    Ok(rows)
+}
+
+/// The table by which an image's rows are read: that of the frames that are whole by their words, where it has no fault. Else words aren't
+/// believed, and it is that of all frames that are found. NoMemory alone.
+fn table_by(
+    alloc: Global,
+    bytes: &[u8],
+    whole: TableBuilder,
+    fault: Option<Cause>,
+) -> Result<TableBuilder, Refusal>
+    requires sees { Sees (image_in bytes.now).frames whole }
+    ensures sees { IfOk result (λ table. SeesBy bytes.now table fault) }
+    ensures refusal { IfErr result (λ e. e ≡ NoMemory) }
+{
+    match fault {
+        None => Ok(whole),
+        Some(_) => find_frames(alloc, bytes),
+    }
+}
+
+/// The salvage of bytes that were split into these parts. NoMemory alone.
+fn salvage_parts(
+    alloc: Global,
+    bytes: &[u8],
+    parts: &ImageParts<'_>,
+    fault: Option<Cause>,
+) -> Result<SalvagedImage, Refusal>
+    requires split { FirstSplitCause bytes.now None }
+    requires parts { parts.now ≡ image_in bytes.now }
+    requires frames { IsFrameCount (length parts.now.frames) }
+    requires has { HasFault bytes.now fault }
+    ensures salvaged { IfOk result (IsSalvageOf bytes.now) }
+    ensures refusal { IfErr result (λ e. e ≡ NoMemory) }
+{
+    let rows = rows_of(alloc, parts)?;
+    let WholeFrames { table: whole, lost } = whole_frames(alloc, parts)?;
+    let table = table_by(alloc, bytes, whole, fault)?;
+    Ok(SalvagedImage {
+        fault,
+        rows,
+        missing: 0,
+        table,
+        lost,
+    })
+}
+
+/// How many rows the header counts of bytes that can't be split for this cause: known where the length alone is wrong.
+#[tactic(auto, unfolding(image_parts::specs::Header::number_in))]
+fn rows_counted(bytes: &[u8], cause: Cause) -> u32
+    ensures { result ≡ rows_counted bytes.now cause }
+{
+    match cause {
+        Cause::Length if bytes.len() >= FRONT_BYTES => BigEndian::read_u32(&bytes[ROWS_AT..]),
+        _ => 0,
+    }
+}
+
+/// How many rows are missing of those that the header counts, where so many are found.
+fn rows_missing(bytes: &[u8], cause: Cause, found: usize) -> u64
+    ensures { result ≡ rows_counted bytes.now cause - found }
+{
+    u64::from(rows_counted(bytes, cause)).saturating_sub(found as u64)
+}
+
+/// The salvage of bytes that can't be split into parts, for this cause: frames and rows are found by themselves. NoMemory, or Damaged with
+/// the cause where no row is found.
+fn salvage_bytes(alloc: Global, bytes: &[u8], cause: Cause) -> Result<SalvagedImage, Refusal>
+    requires split { FirstSplitCause bytes.now (Some cause) }
+    ensures salvaged { IfOk result (IsSalvageOf bytes.now) }
+    ensures refusal { IfErr result (λ e. (e ≡ NoMemory) ⊎ ((e ≡ Damaged cause) × HasNoRow bytes.now)) }
+{
+    let table = find_frames(alloc, bytes)?;
+    let rows = find_rows(alloc, &table, bytes)?;
+    if rows.is_empty() {
+        return Err(Refusal::Damaged(cause));
+    }
+    let missing = rows_missing(bytes, cause, rows.len());
+    Ok(SalvagedImage {
+        fault: Some(cause),
+        rows,
+        missing,
+        table,
+        lost: Vec::new(alloc),
+    })
+}
+
+/// What the bytes of an image still have, whatever became of them, and the first fault that `verify` finds in them.
 ///
-/// Damaged where the header is none, or the parts don't fill the bytes: then no frame has a place. NoMemory where memory is refused.
-pub fn salvage(alloc: Global, bytes: &[u8]) -> Result<SalvagedImage<'_>, Refusal>
-    ensures split { IfOk result (λ s. FirstSplitCause bytes.now None) }
-    ensures salvaged { IfOk result (λ s. IsSalvageOf (image_in bytes.now) s) }
-    ensures refusal { IfErr result (λ e. (e ≡ NoMemory) ⊎ ((cause : Found) × (e ≡ Damaged cause) × FirstSplitCause bytes.now (Some cause))) }
+/// Where they have none, the blocks are those of the frames, and the rows are the image's. Else the blocks are those of all frames that are
+/// found: a frame's summary has a digest of its own, so that neither header nor words nor length are asked for where it is. The rows are the
+/// image's, where its header is one and the parts fill the bytes, and else all that are found. A row by itself is believed nothing: what it
+/// leads to must name its object and making.
+///
+/// Damaged where the header is none, or the parts don't fill the bytes, and no row is found either. NoMemory where memory is refused.
+pub fn salvage<R: Threads>(rt: &R, alloc: Global, bytes: &[u8]) -> Result<SalvagedImage, Refusal>
+    ensures salvaged { IfOk result (IsSalvageOf bytes.now) }
+    ensures refusal { IfErr result (λ e. (e ≡ NoMemory) ⊎ ((cause : Found) × (e ≡ Damaged cause) × FirstSplitCause bytes.now (Some cause) × HasNoRow bytes.now)) }
 {
     let parts = match split_parts(bytes) {
         Ok(parts) => parts,
-        Err(cause) => return Err(Refusal::Damaged(cause)),
+        Err(cause) => return salvage_bytes(alloc, bytes, cause),
     };
-    let WholeFrames { table, lost } = whole_frames(alloc, &parts)?;
-    Ok(SalvagedImage { parts, table, lost })
+    let fault = fault_of(rt, alloc, bytes)?;
+    salvage_parts(alloc, bytes, &parts, fault)
 }

@@ -1,11 +1,10 @@
-use Rattle.std.proofs.Common.{◌∙◌, ◌+◌, refl, ap, arith}
-use Rattle.image_salvage.specs.Giving.{none_given}
+use Rattle.std.proofs.Common.{◌∙◌, ◌+◌, refl, arith}
 use Rattle.image_salvage.proofs.RowByRow.{none_yet, given_on, all_given}
 use Rattle.image_salvage.proofs.giving.give_rows.Goals as goal
 
 pub loop-index-init : goal.loop-index-init
 loop-index-init g c = record {
-  given = none_yet c.args.image.now c.none_given-given.result (g.F.Folder.files c.args.folder.now) (c.none_given-given.ensures ∙ ap none_given c.lost_frames.ensures);
+  given = none_yet c.args.image.now c.none_given-given.result (g.F.Folder.files c.args.folder.now) c.none_given-given.ensures;
   path = refl;
 }
 

@@ -1,0 +1,16 @@
+use Rattle.std.proofs.Common.{◌∙◌, inl, refl, length, ap, subst}
+use Rattle.image_parts.specs.Image.{Image}
+use Rattle.image_salvage.specs.Frames.{AreLostOf}
+use Rattle.image_salvage.proofs.salvaging.salvage_parts.Goals as goal
+
+pub returns-clause-salvaged : goal.returns-clause-salvaged
+returns-clause-salvaged c = record {
+  has = c.requires.has;
+  sees = c.in_ok-table.ensures.sees;
+  of = inl (record {
+    split = c.requires.split;
+    rows_are = c.in_ok-rows.ensures.rows ∙ ap (λ (p : Image). p.rows) c.requires.parts;
+    missing_are = refl;
+    lost_are = subst (λ (p : Image). AreLostOf p.frames (length p.frames) c.in_ok-whole.field-0.lost.items) c.requires.parts c.in_ok-whole.ensures.lost;
+  });
+}
