@@ -1,15 +1,15 @@
 #!/usr/bin/env python3
-"""Draws the versions of objects over the drive's moments, as text and as SVG.
+"""Draws the versions of objects over the drive's moments, as text. `s4 report` draws them as a picture.
 
     timeline.py PROGRAM                               plays a small story on a new drive, as an administrator, and draws it
-    timeline.py PROGRAM --svg story.svg               draws it as SVG too
     timeline.py PROGRAM --image IMAGE --object 1      draws objects of an image's file, which stays as it is
     timeline.py --connect ADDRESS --object 1          draws objects of a drive behind a socket (host:port or a path)
     timeline.py --log FILE                            draws what `s4 log --json` printed into a file, `-` for standard input
 
 PROGRAM is a built s4d. An image is copied, and the copy is served with a tick of 0 and without upkeep, so nothing ages by
 being looked at. Behind a socket each request moves the drive's clock by its tick: a drive with a small window forgets then. A log
-says nothing of the moments after its last change, nor why moments before an object's first change are missing.
+says nothing of the moments after its last change, nor why moments before an object's first change are missing, and its
+hidden moments aren't drawn.
 """
 import argparse
 import contextlib
@@ -18,7 +18,6 @@ import os
 import shutil
 import sys
 import tempfile
-from html import escape
 
 sys.path.insert(0, os.path.join(os.path.dirname(os.path.abspath(__file__)), "..", "python"))
 import s4d  # noqa: E402: from this repository, also where it isn't installed
@@ -59,75 +58,6 @@ def as_text(histories, width=64):
         lines.append("")
     lines.append(f"moments {first} to {last}:  ▌█ a version  ░ hidden  · deleted  ? older than the window")
     return "\n".join(lines)
-
-
-STYLE = """
-  text { font: 13px system-ui, sans-serif; fill: #1f2933 }
-  .small { font-size: 11px; fill: #52606d }
-  .inside { font-size: 11px; fill: #ffffff; text-anchor: middle }
-  .dark { fill: #52606d }
-  .axis { stroke: #cbd2d9; stroke-width: 1 }"""
-BLUES = ("#1f6feb", "#4189ee")
-FILLS = {Kind.HIDDEN: "url(#hatch)", Kind.GONE: "#e4e7eb", Kind.EXPIRED: "#f5f0d8"}
-
-
-def tick_step(moments, room):
-    """Moments between two marks of the axis, so that marks are 40 units apart or more."""
-    step = 1
-    while moments / step > room / 40:
-        step = step * 5 // 2 if str(step).startswith("2") else step * 2
-    return step
-
-
-def as_svg(histories, room=760):
-    """The same as a picture."""
-    first = min((spans[0].first for spans in histories.values() if spans), default=0)
-    last = max((spans[-1].last for spans in histories.values() if spans), default=0)
-    count, left, top, row, bar = last - first + 1, 86, 50, 52, 28
-    height = top + row * len(histories) + 66
-
-    def x(moment):
-        return round(left + (moment - first) * room / count, 1)
-
-    parts = [f'<svg xmlns="http://www.w3.org/2000/svg" viewBox="0 0 {left + room + 24} {height}" '
-             f'width="{left + room + 24}" height="{height}">', f"<style>{STYLE}\n</style>",
-             '<defs><pattern id="hatch" width="6" height="6" patternUnits="userSpaceOnUse" '
-             'patternTransform="rotate(45)"><rect width="6" height="6" fill="#fde2e1"/>'
-             '<rect width="2" height="6" fill="#e12d39"/></pattern></defs>',
-             f'<rect width="{left + room + 24}" height="{height}" fill="#ffffff"/>',
-             f'<text x="{left}" y="26" font-weight="600">Versions of objects over the drive\'s moments</text>']
-    bottom = top + row * len(histories)
-    for moment in range(first, last + 1, tick_step(count, room)):
-        middle = round((x(moment) + x(moment + 1)) / 2, 1)
-        parts.append(f'<line class="axis" x1="{middle}" y1="{top - 8}" x2="{middle}" y2="{bottom}"/>'
-                     f'<text class="small" text-anchor="middle" x="{middle}" y="{bottom + 16}">{moment}</text>')
-    for place, (object, spans) in enumerate(histories.items()):
-        parts += svg_row(object, spans, x, top + place * row, bar)
-    parts += svg_legend(left, bottom + 34)
-    return "\n".join(parts + ["</svg>", ""])
-
-
-def svg_row(object, spans, x, y, bar):
-    yield f'<text x="12" y="{y + bar / 2 + 5}">object {object}</text>'
-    for place, span in enumerate(spans):
-        start, end = x(span.first), x(span.last + 1)
-        fill = BLUES[place % 2] if span.kind is Kind.LIVE else FILLS[span.kind]
-        tip = f"object {object}, moments {moments_of(span)}: {say(span)}"
-        yield (f'<rect x="{start + 0.75}" y="{y}" width="{max(end - start - 1.5, 1):.1f}" height="{bar}" rx="3" '
-               f'fill="{fill}"><title>{escape(tip)}</title></rect>')
-        label = f"{span.size:,} B" if span.kind is Kind.LIVE else "deleted" if span.kind is Kind.GONE else ""
-        if label and end - start > 8 * len(label):
-            middle = round((start + end) / 2, 1)
-            tone = "inside" if span.kind is Kind.LIVE else "inside dark"
-            yield f'<text class="{tone}" x="{middle}" y="{y + bar / 2 + 4}">{label}</text>'
-
-
-def svg_legend(x, y):
-    for fill, name in ((BLUES[0], "a version, with its size"), (FILLS[Kind.HIDDEN], "hidden by a flush"),
-                       (FILLS[Kind.GONE], "deleted"), (FILLS[Kind.EXPIRED], "older than the window")):
-        yield (f'<rect x="{x}" y="{y}" width="14" height="14" rx="2" fill="{fill}"/>'
-               f'<text class="small" x="{x + 20}" y="{y + 11}">{name}</text>')
-        x += 48 + 7 * len(name)
 
 
 def story(drive):
@@ -176,9 +106,10 @@ def add_change(spans, change, last):
 
 
 def read_log(path):
-    """The lines of a file, or of standard input, as objects."""
+    """The changes of a log in a file, or on standard input. Its hidden moments aren't drawn: a version goes on over them."""
     with contextlib.nullcontext(sys.stdin) if path == "-" else open(path, encoding="utf-8") as file:
-        return [json.loads(line) for line in file]
+        rows = [json.loads(line) for line in file]
+    return [row for row in rows if row["kind"] != "hidden"]
 
 
 @contextlib.contextmanager
@@ -206,7 +137,6 @@ def parsed(words):
     parser.add_argument("--log", metavar="FILE", help="what `s4 log --json` printed")
     parser.add_argument("--object", type=int, action="append", default=[], metavar="N", help="an object to draw, more than once")
     parser.add_argument("--story", action="store_true", help="plays the story over the socket too")
-    parser.add_argument("--svg", metavar="FILE", help="writes a picture")
     given = parser.parse_args(words)
     if [bool(given.program), bool(given.connect), bool(given.log)].count(True) != 1:
         parser.error("name the program s4d, --connect ADDRESS, or --log FILE")
@@ -229,11 +159,7 @@ def drawn(given):
 def main(words):
     given = parsed(words)
     try:
-        histories = drawn(given)
-        print(as_text(histories))
-        if given.svg:
-            with open(given.svg, "w", encoding="utf-8") as file:
-                file.write(as_svg(histories))
+        print(as_text(drawn(given)))
     except (s4d.Error, OSError, ValueError, KeyError) as error:
         print(f"timeline.py: {error}", file=sys.stderr)
         return 1

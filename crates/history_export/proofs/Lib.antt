@@ -1,5 +1,6 @@
+mod Later
 mod Covering
 mod Files
-mod Fronts
+pub mod Fronts
 pub mod Counts
 pub mod Seen

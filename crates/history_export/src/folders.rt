@@ -31,12 +31,21 @@ pub trait Folder {
         ensures path { path self.new ≡ path self.old };
 }
 
-/// A folder of this system.
+// A file that stays open for what comes at its end, and its name.
+#[derive(Drop)]
+struct Grown {
+    name: String,
+    file: File,
+}
+
+/// A folder of this system. The file that something was added to last stays open, so that each of
+/// many lines costs no walk to it.
 #[derive(Drop)]
 pub struct SystemFolder {
     rt: HostRuntime,
     alloc: Global,
     path: String,
+    grown: Option<Grown>,
 }
 
 impl SystemFolder {
@@ -51,6 +60,7 @@ impl SystemFolder {
             rt: *rt,
             alloc,
             path: String::from_str(alloc, path)?,
+            grown: None,
         })
     }
 
@@ -58,6 +68,16 @@ impl SystemFolder {
     fn path_of(&self, name: &str) -> io::Result<String> {
         let path = Path::new(self.path.as_str()).join(self.alloc, name)?;
         Ok(path.into_string())
+    }
+
+    // A file of the folder, opened for what comes at its end.
+    fn opened(&self, name: &str) -> io::Result<Grown> {
+        let path = self.path_of(name)?;
+        let file = OpenOptions::new()
+            .append(true)
+            .open(&self.rt, path.as_str())?;
+        let name = String::from_str(self.alloc, name)?;
+        Ok(Grown { name, file })
     }
 }
 
@@ -85,10 +105,12 @@ impl Folder for SystemFolder {
     }
 
     fn append(&mut self, name: &str, bytes: &[u8]) -> io::Result<()> {
-        let path = self.path_of(name)?;
-        let mut file = OpenOptions::new()
-            .append(true)
-            .open(&self.rt, path.as_str())?;
-        file.write_all(bytes)
+        let mut grown = match self.grown.take() {
+            Some(grown) if grown.name.as_str() == name => grown,
+            _ => self.opened(name)?,
+        };
+        let written = grown.file.write_all(bytes);
+        self.grown = Some(grown);
+        written
     }
 }

@@ -1,0 +1,6 @@
+mod Differing
+mod Lines
+mod Pages
+mod Rows
+mod Safe
+pub mod Markup

@@ -1,0 +1,87 @@
+-- Data has no markup, and stays where it is.
+use Rattle.std.proofs.Common.{◌≡◌, ◌∙◌, ◌+◌, ◌/◌, ◌%◌, ◌≤◌, ◌&&◌, ◌==◌, ℕ, true, false, not, List, [], ◌∷◌, flat_map, nat_lt, refl, ap, arith}
+use Rattle.std.specs.List.{list_all, AllByRecursion}
+use Rattle.std.specs.Str.{chars}
+use Rattle.std.proofs.lemmas.Bool.{cond_both, cond-false, and_parts, and_from, not-true, not_from_false, false_from_ne_true, eqb-true}
+use Rattle.std.proofs.lemmas.List.Folds.{list_all-append}
+use lib.Utf8.{encode}
+use Rattle.history_report.specs.Page.{Escaped, escaped_char, is_shown, part_text, shown}
+use Rattle.history_report.specs.Markup.{Text, Name, Tag, Value, read, is_harmless, DataIsHarmless}
+
+-- a number that isn't another one
+apart : (b n : ℕ) → (b ≡ n → ⊥) → (b == n) ≡ false
+apart b n differs = false_from_ne_true (b == n) (λ is. differs (eqb-true b n is))
+
+-- such a byte, by its four tests
+harmless_by : (b : ℕ) → (b == 60) ≡ false → (b == 62) ≡ false → (b == 34) ≡ false → (b == 39) ≡ false → is_harmless b ≡ true
+harmless_by b less greater double single =
+    and_from (not (b == 60)) (not (b == 62) && (not (b == 34) && not (b == 39))) (not_from_false (b == 60) less)
+    (and_from (not (b == 62)) (not (b == 34) && not (b == 39)) (not_from_false (b == 62) greater)
+    (and_from (not (b == 34)) (not (b == 39)) (not_from_false (b == 34) double) (not_from_false (b == 39) single)))
+
+-- a byte that isn't ASCII is harmless
+high : (b : ℕ) → 128 ≤ b → is_harmless b ≡ true
+high b up = harmless_by b (apart b 60 (λ is. omega (arith, up, is))) (apart b 62 (λ is. omega (arith, up, is))) (apart b 34 (λ is. omega (arith, up, is))) (apart b 39 (λ is. omega (arith, up, is)))
+
+all_high : (bytes : List ℕ) → AllByRecursion (λ b. 128 ≤ b) bytes → list_all is_harmless bytes ≡ true
+all_high [] all = refl
+all_high (b ∷ bytes) all = and_from (is_harmless b) (list_all is_harmless bytes) (high b all.0) (all_high bytes all.1)
+
+-- a character that is none of the four is harmless in UTF-8
+encoded : (c : ℕ) → is_harmless c ≡ true → list_all is_harmless (encode c) ≡ true
+unfolding encode
+encoded c harmless =
+    let P : List ℕ → Type 0 = λ l. list_all is_harmless l ≡ true in
+    cond_both (nat_lt c 128) _ _ P
+    (λ _. and_from (is_harmless c) true harmless refl)
+    (λ _. cond_both (nat_lt c 2048) _ _ P
+    (λ _. all_high ((192 + c / 64) ∷ (128 + c % 64) ∷ []) (omega arith, (omega arith, tt)))
+    (λ _. cond_both (nat_lt c 65536) _ _ P
+    (λ _. all_high ((224 + c / 4096) ∷ (128 + c / 64 % 64) ∷ (128 + c % 64) ∷ []) (omega arith, (omega arith, (omega arith, tt))))
+    (λ _. all_high ((240 + c / 262144) ∷ (128 + c / 4096 % 64) ∷ (128 + c / 64 % 64) ∷ (128 + c % 64) ∷ []) (omega arith, (omega arith, (omega arith, (omega arith, tt)))))))
+
+-- so is each character as a page has it
+char_harmless : (c : ℕ) → list_all is_harmless (escaped_char c) ≡ true
+char_harmless c =
+    let P : List ℕ → Type 0 = λ l. list_all is_harmless l ≡ true in
+    cond_both (c == 60) _ _ P (λ _. refl)
+    (λ less. cond_both (c == 62) _ _ P (λ _. refl)
+    (λ greater. cond_both (c == 38) _ _ P (λ _. refl)
+    (λ _. cond_both (c == 34) _ _ P (λ _. refl)
+    (λ double. cond_both (c == 39) _ _ P (λ _. refl)
+    (λ single. cond_both (is_shown c) _ _ P (λ _. encoded c (harmless_by c less greater double single)) (λ _. refl))))))
+
+chars_harmless : (cs : List ℕ) → list_all is_harmless (flat_map escaped_char cs) ≡ true
+chars_harmless [] = refl
+chars_harmless (c ∷ cs) =
+    list_all-append is_harmless (escaped_char c) (flat_map escaped_char cs)
+    ∙ and_from (list_all is_harmless (escaped_char c)) (list_all is_harmless (flat_map escaped_char cs)) (char_harmless c) (chars_harmless cs)
+
+pub data_is_harmless : DataIsHarmless
+data_is_harmless bytes = chars_harmless (chars (shown bytes))
+
+-- ---- where a reader is after data
+
+-- a harmless text is read as text
+text_read : (text : List ℕ) → list_all is_harmless text ≡ true → read Text text ≡ Text
+text_read [] all = refl
+text_read (b ∷ text) all =
+    let parts = and_parts (is_harmless b) (list_all is_harmless text) all in
+    let first = and_parts (not (b == 60)) (not (b == 62) && (not (b == 34) && not (b == 39))) parts.0 in
+    ap (λ m. read m text) (cond-false (b == 60) (Name []) Text (not-true (b == 60) first.0)) ∙ text_read text parts.1
+
+-- and as a value
+value_read : (text : List ℕ) → list_all is_harmless text ≡ true → read (Value false) text ≡ Value false
+value_read [] all = refl
+value_read (b ∷ text) all =
+    let parts = and_parts (is_harmless b) (list_all is_harmless text) all in
+    let first = and_parts (not (b == 60)) (not (b == 62) && (not (b == 34) && not (b == 39))) parts.0 in
+    let second = and_parts (not (b == 62)) (not (b == 34) && not (b == 39)) first.1 in
+    let third = and_parts (not (b == 34)) (not (b == 39)) second.1 in
+    ap (λ m. read m text) (cond-false (b == 34) (Tag false) (Value false) (not-true (b == 34) third.0)) ∙ value_read text parts.1
+
+pub in_text : (bytes : List ℕ) → read Text (part_text (Escaped bytes)) ≡ Text
+in_text bytes = text_read (part_text (Escaped bytes)) (data_is_harmless bytes)
+
+pub in_value : (bytes : List ℕ) → read (Value false) (part_text (Escaped bytes)) ≡ Value false
+in_value bytes = value_read (part_text (Escaped bytes)) (data_is_harmless bytes)

@@ -1,0 +1,7 @@
+pub mod Page
+pub mod Timeline
+pub mod Table
+pub mod Differences
+pub mod Report
+pub mod Markup
+pub mod private

@@ -1,0 +1,18 @@
+//! What a page is written to.
+ghost use Rattle.std.specs.Prelude.{◌≡◌, ◌+◌, ◌^◌, ◌<◌, OnOk};
+ghost use Rattle.std.specs.Io.KnownBytes.{Appends};
+
+use history_diff::Stop;
+use serving::Sink;
+
+/// Writes the bytes.
+pub(crate) fn write_out<W: Sink>(writer: &mut W, bytes: &[u8]) -> Result<(), Stop>
+    requires writer { W.failures writer.old + 1 < 2 ^ 64 }
+    ensures bytes { OnOk result (Appends (W.passed writer.old) (W.passed writer.new) bytes.now) }
+    ensures failures { OnOk result (W.failures writer.new ≡ W.failures writer.old) }
+{
+    match writer.put(bytes) {
+        Ok(()) => Ok(()),
+        Err(_) => Err(Stop::WriteFailed),
+    }
+}

@@ -1,0 +1,161 @@
+//! The strips of a timeline: one for each object.
+ghost use Rattle.std.specs.Prelude.{◌≡◌, ◌++◌, ◌+◌, ◌^◌, ◌<◌, nat_le, filter, IfOk, OnOk, string_bytes};
+ghost use Rattle.std.specs.Io.KnownBytes.{Appends};
+ghost use Rattle.window.specs.Runs.{Ascend, span_is_of};
+ghost use Rattle.drive.specs.Fields.{state_in, store_of};
+ghost use Rattle.history_export.specs.Versions.{beginnings_of};
+ghost use Rattle.history_report.specs.Page.{page_text};
+ghost use Rattle.history_report.specs.Timeline.{run_bars, strip_end, strip_head, strip_of};
+ghost use Rattle.history_report.specs.private.Sections.{WritesStrips};
+
+use crate::bars::{push_bars, push_runs};
+use crate::escaping::number_text;
+use crate::output::write_out;
+use crate::scale::Scale;
+use drive::Drive;
+use history_diff::Stop;
+use history_export::beginnings;
+use s4_types::{Moment, ObjectId, Refusal, Span};
+use segment_word::Naming;
+use serving::Sink;
+use std::alloc::{AllocError, Global};
+
+// The runs from those of a list on. Logarithmic in the runs.
+fn from_list(runs: &[Span], list: ObjectId) -> &[Span]
+    requires { Ascend runs.now }
+    ensures { result.now ≡ filter (λ run. nat_le list run.object) runs.now }
+{
+    let before = runs.partition_point(|run| run.object < list);
+    &runs[before..]
+}
+
+// The runs up to those of a list. Logarithmic in the runs.
+fn up_to_list(runs: &[Span], list: ObjectId) -> &[Span]
+    requires { Ascend runs.now }
+    ensures { result.now ≡ filter (λ run. nat_le run.object list) runs.now }
+{
+    let count = runs.partition_point(|run| run.object <= list);
+    &runs[..count]
+}
+
+// The runs of one list, which are side by side. Logarithmic in the runs.
+fn of_list(runs: &[Span], list: ObjectId) -> &[Span]
+    requires { Ascend runs.now }
+    ensures { result.now ≡ filter (span_is_of list) runs.now }
+{
+    up_to_list(from_list(runs, list), list)
+}
+
+fn strip_head(alloc: Global, scale: &Scale, object: ObjectId) -> Result<String, AllocError>
+    ensures { IfOk result (λ text. string_bytes text ≡ page_text (strip_head scale.now object)) }
+{
+    let number = number_text(alloc, object.number())?;
+    let width = number_text(alloc, scale.width)?;
+    format!(in alloc;
+        "<div class=\"strip\"><span>object {number}</span>\
+        <svg viewBox=\"0 0 {width} 10\" preserveAspectRatio=\"none\">\n"
+    )
+}
+
+// Adds the bars of the hidden moments of all objects, those of this one, and the end of its strip.
+fn push_hidden(
+    alloc: Global,
+    scale: &Scale,
+    runs: &[Span],
+    object: ObjectId,
+    text: &mut String,
+) -> Result<(), AllocError>
+    requires { Ascend runs.now }
+    ensures { OnOk result (string_bytes text.new ≡ ((string_bytes text.old ++ page_text (run_bars scale.now runs.now 0)) ++ page_text (run_bars scale.now runs.now object)) ++ page_text strip_end) }
+{
+    push_runs(alloc, scale, of_list(runs, ObjectId::new(0)), text)?;
+    push_runs(alloc, scale, of_list(runs, object), text)?;
+    text.push_str("</svg></div>\n")
+}
+
+// The strip of an object whose versions begin at these moments.
+fn strip_by<J: Naming>(
+    alloc: Global,
+    drive: &mut Drive<J>,
+    object: ObjectId,
+    scale: &Scale,
+    runs: &[Span],
+    moments: &[Moment],
+) -> Result<String, AllocError>
+    requires ordered { Ascend runs.now }
+    requires moments { moments.now ≡ beginnings_of (state_in drive.old) (store_of drive.old) object }
+    ensures strip { IfOk result (λ text. string_bytes text ≡ page_text (strip_of scale.now (state_in drive.old) (store_of drive.old) runs.now object)) }
+    ensures ledger { drive.new.ledger ≡ drive.old.ledger }
+    ensures store { store_of drive.new ≡ store_of drive.old }
+{
+    let mut text = strip_head(alloc, scale, object)?;
+    push_bars(alloc, drive, object, scale, moments, &mut text)?;
+    push_hidden(alloc, scale, runs, object, &mut text)?;
+    Ok(text)
+}
+
+// The strip of an object.
+fn strip_text<J: Naming>(
+    alloc: Global,
+    drive: &mut Drive<J>,
+    object: ObjectId,
+    scale: &Scale,
+    runs: &[Span],
+) -> Result<String, Refusal>
+    requires { Ascend runs.now }
+    ensures strip { IfOk result (λ text. string_bytes text ≡ page_text (strip_of scale.now (state_in drive.old) (store_of drive.old) runs.now object)) }
+    ensures ledger { drive.new.ledger ≡ drive.old.ledger }
+    ensures store { store_of drive.new ≡ store_of drive.old }
+{
+    let moments = beginnings(alloc, drive, object)?;
+    match strip_by(alloc, drive, object, scale, runs, moments.as_slice()) {
+        Ok(text) => Ok(text),
+        Err(_) => Err(Refusal::NoMemory),
+    }
+}
+
+// Writes the strip of an object.
+fn write_strip<J: Naming, W: Sink>(
+    alloc: Global,
+    drive: &mut Drive<J>,
+    object: ObjectId,
+    scale: &Scale,
+    runs: &[Span],
+    writer: &mut W,
+) -> Result<(), Stop>
+    requires ordered { Ascend runs.now }
+    requires writer { W.failures writer.old + 1 < 2 ^ 64 }
+    ensures strip { OnOk result (Appends (W.passed writer.old) (W.passed writer.new) (page_text (strip_of scale.now (state_in drive.old) (store_of drive.old) runs.now object))) }
+    ensures failures { OnOk result (W.failures writer.new ≡ W.failures writer.old) }
+    ensures ledger { drive.new.ledger ≡ drive.old.ledger }
+    ensures store { store_of drive.new ≡ store_of drive.old }
+{
+    let text = match strip_text(alloc, drive, object, scale, runs) {
+        Ok(text) => text,
+        Err(refusal) => return Err(Stop::Refused(refusal)),
+    };
+    write_out(writer, text.as_bytes())
+}
+
+/// Writes the strip of each object that has a row.
+pub(crate) fn write_strips<J: Naming, W: Sink>(
+    alloc: Global,
+    drive: &mut Drive<J>,
+    scale: &Scale,
+    runs: &[Span],
+    writer: &mut W,
+) -> Result<(), Stop>
+    requires ordered { Ascend runs.now }
+    requires writer { W.failures writer.old + 1 < 2 ^ 64 }
+    ensures strips { OnOk result (WritesStrips scale.now (state_in drive.old) (store_of drive.old) runs.now (W.passed writer.old) (W.passed writer.new)) }
+    ensures failures { OnOk result (W.failures writer.new ≡ W.failures writer.old) }
+    ensures ledger { drive.new.ledger ≡ drive.old.ledger }
+    ensures store { store_of drive.new ≡ store_of drive.old }
+{
+    let mut last = ObjectId::new(0);
+    while let Some(object) = drive.next_row(last) {
+        write_strip(alloc, drive, object, scale, runs, writer)?;
+        last = object;
+    }
+    Ok(())
+}

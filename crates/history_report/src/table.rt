@@ -1,0 +1,85 @@
+//! The table of objects.
+ghost use Rattle.std.specs.Prelude.{◌≡◌, ◌+◌, ◌^◌, ◌<◌, true, IfOk, OnOk, string_bytes};
+ghost use Rattle.std.specs.Io.KnownBytes.{Appends};
+ghost use Rattle.drive.specs.Fields.{state_in, store_of};
+ghost use Rattle.history_report.specs.Page.{page_text};
+ghost use Rattle.history_report.specs.Table.{row_of, state_cell};
+ghost use Rattle.history_report.specs.private.Sections.{WritesRows};
+
+use crate::escaping::{data_text, moment_cell, number_text};
+use crate::output::write_out;
+use drive::Drive;
+use history_diff::Stop;
+use history_view::{Listed, next_listed};
+use moment_words::MomentStyle;
+use s4_types::{Moment, ObjectId};
+use segment_word::Naming;
+use serving::Sink;
+use std::alloc::{AllocError, Global};
+
+fn state_cell(is_live: bool) -> &'static str
+    ensures { result.now ≡ state_cell is_live }
+{
+    if is_live {
+        "</td><td>live</td><td>"
+    } else {
+        "</td><td>deleted</td><td>"
+    }
+}
+
+// The row of an object.
+fn row_text(alloc: Global, row: &Listed, style: MomentStyle) -> Result<String, AllocError>
+    ensures { IfOk result (λ text. string_bytes text ≡ page_text (row_of style row.now)) }
+{
+    let object = number_text(alloc, row.object.number())?;
+    let state = state_cell(row.is_live);
+    let size = number_text(alloc, u64::from(row.size))?;
+    let created = moment_cell(alloc, row.created, style)?;
+    let changed = moment_cell(alloc, row.changed, style)?;
+    let attribute = data_text(alloc, row.attribute.as_slice())?;
+    format!(in alloc;
+        "<tr><td>{object}{state}{size}</td>\
+        <td>{created}</td><td>{changed}</td><td>{attribute}</td></tr>\n"
+    )
+}
+
+// Writes the row of an object.
+fn write_row<W: Sink>(
+    alloc: Global,
+    row: &Listed,
+    style: MomentStyle,
+    writer: &mut W,
+) -> Result<(), Stop>
+    requires writer { W.failures writer.old + 1 < 2 ^ 64 }
+    ensures row { OnOk result (Appends (W.passed writer.old) (W.passed writer.new) (page_text (row_of style row.now))) }
+    ensures failures { OnOk result (W.failures writer.new ≡ W.failures writer.old) }
+{
+    let text = match row_text(alloc, row, style) {
+        Ok(text) => text,
+        Err(_) => return Err(Stop::NoMemory),
+    };
+    write_out(writer, text.as_bytes())
+}
+
+/// Writes the row of each object that is listed at a moment, also of those that were deleted before
+/// it.
+pub(crate) fn write_rows<J: Naming, W: Sink>(
+    alloc: Global,
+    drive: &mut Drive<J>,
+    at: Moment,
+    style: MomentStyle,
+    writer: &mut W,
+) -> Result<(), Stop>
+    requires writer { W.failures writer.old + 1 < 2 ^ 64 }
+    ensures rows { OnOk result (WritesRows (state_in drive.old) (store_of drive.old) at style (W.passed writer.old) (W.passed writer.new)) }
+    ensures failures { OnOk result (W.failures writer.new ≡ W.failures writer.old) }
+    ensures ledger { drive.new.ledger ≡ drive.old.ledger }
+    ensures store { store_of drive.new ≡ store_of drive.old }
+{
+    let mut last = ObjectId::new(0);
+    while let Some(row) = next_listed(drive, last, at, true) {
+        write_row(alloc, &row, style, writer)?;
+        last = row.object;
+    }
+    Ok(())
+}
