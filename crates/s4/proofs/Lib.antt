@@ -1,6 +1,1 @@
-mod Checked
-mod Done
-mod Fronts
-mod Kept
-mod Rows
 mod Undone

@@ -1,12 +1,1 @@
-pub mod Checking
-pub mod Commands
-pub mod Compacting
-pub mod Comparing
-pub mod Exporting
-pub mod Listing
-pub mod Logging
-pub mod MakingRoom
 pub mod Performing
-pub mod Restoring
-pub mod Salvaging
-pub mod Telling

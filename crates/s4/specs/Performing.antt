@@ -1,43 +1,46 @@
 -- What the status of a line of words says.
-use Rattle.std.specs.Prelude.{◌≡◌, ◌⊎◌, ℕ, List, length, Option, None, true, false, MatchBool}
+use Rattle.std.specs.Prelude.{◌≡◌, ◌≢◌, ◌⊎◌, ⊤, ℕ, List, [], Option, None, true, MatchBool}
 use Rattle.std.specs.Io.KnownBytes.{Keeps}
+use Rattle.clap.specs.Faults.{fault_of}
+use Rattle.clap.specs.Kinds.{IsAmong, Kinds}
 use Rattle.clap.specs.Takes.{takes}
 use Rattle.clap.specs.Walk.{Text}
 use Rattle.clap.specs.Simple.{subcommand_of}
-use Rattle.s4_command.specs.CommandLine.{line, Spells, SpellsNone}
+use Rattle.clap.specs.declared.error.kind.ErrorKind.{ErrorKind}
+use Rattle.s4_command.specs.CommandLine.{line, is_asked_for, Spells, SpellsNone}
 use Rattle.s4_command.specs.declared.Command.{Command}
 use Rattle.s4_command.specs.declared.Command.TheVariants as command
-use Rattle.s4_model.specs.VersionAt.{version_of}
-use Rattle.drive.specs.Fields.{DriveFields, state_in, store_of}
-use Rattle.image_commands.specs.ReadingPast.{GivesVersion}
-use Rattle.history_diff.specs.Diffing.{TellsDifferences}
-use Rattle.s4.specs.Checking.{Checks}
-use Rattle.s4.specs.Commands.{OverImage, ChangesImage}
-use Rattle.s4.specs.Compacting.{Compacts}
-use Rattle.s4.specs.Comparing.{comparison_asked}
-use Rattle.s4.specs.Listing.{ListsObjects, moment_asked}
-use Rattle.s4.specs.Logging.{LogsObjects}
-use Rattle.s4.specs.MakingRoom.{RestoresWithRoom}
-use Rattle.s4.specs.Restoring.{RestoresDrive, WouldRestore}
-use Rattle.s4.specs.Telling.{TellsNumbers}
+use Rattle.s4_command.specs.declared.contents.ExportAsked.{ExportAsked}
+use Rattle.s4_command.specs.declared.whole.SalvageAsked.{SalvageAsked}
+use Rattle.drive.specs.Fields.{DriveFields}
+use Rattle.s4_images.specs.Commands.{OverImage, ChangesImage}
+use Rattle.s4_images.specs.declared.commands.Verdict.TheVariants.{Fine, Differs}
+use Rattle.s4_reading.specs.Checking.{Checks}
+use Rattle.s4_reading.specs.Comparing.{Compares}
+use Rattle.s4_reading.specs.Listing.{Lists}
+use Rattle.s4_reading.specs.Logging.{Logs}
+use Rattle.s4_reading.specs.Reading.{Gives}
+use Rattle.s4_reading.specs.Telling.{Informs}
+use Rattle.s4_report.specs.Reporting.{ReportsDrive}
+use Rattle.s4_restore.specs.Images.{RestoresImage, WouldRestoreImage}
+use Rattle.s4_compact.specs.Compacting.{Compacts}
 
--- A command is done, by what is known of the files before and after it, by what an export of a drive at a moment into the folder at a path is
--- and a salvage of a file's bytes into one, and by what the output has then. `diff` is where nothing differs, and `salvage` where nothing is lost.
-abbrev pub IsDoneOver : (files files' : List ℕ → Option (List ℕ)) → (Exported : DriveFields → Option ℕ → List ℕ → Type 0) → (Salvaged : Option (List ℕ) → List ℕ → (output output' : Option (List ℕ)) → Type 0) → (output output' : Option (List ℕ)) → Command → Type 0
-IsDoneOver files files' Exported Salvaged output output' (command.List list) = OverImage (files list.image.now) (λ d. ListsObjects (state_in d) (store_of d) list.at list.deleted list.json output output')
-IsDoneOver files files' Exported Salvaged output output' (command.Log log) = OverImage (files log.image.now) (λ d. LogsObjects (state_in d) (store_of d) log.object log.since log.until log.json output output')
-IsDoneOver files files' Exported Salvaged output output' (command.Cat cat) = OverImage (files cat.image.now) (λ d. GivesVersion (version_of (state_in d) cat.object (moment_asked (state_in d) cat.at)) output output')
-IsDoneOver files files' Exported Salvaged output output' (command.Info info) = OverImage (files info.image.now) (λ d. TellsNumbers (state_in d) (store_of d) (length d.store.table.seat.frames) info.json output output')
-IsDoneOver files files' Exported Salvaged output output' (command.Diff diff) = OverImage (files diff.image.now) (λ d. TellsDifferences (state_in d) (comparison_asked diff) false output output')
-IsDoneOver files files' Exported Salvaged output output' (command.Export export) = OverImage (files export.image.now) (λ d. Exported d export.at export.folder.now)
+-- A command is done, by what is known of the files before and after it, by what an export of a drive is and a salvage of a file's bytes, and by what
+-- the output has then. `diff` is where nothing differs, and `salvage` where nothing is lost.
+abbrev pub IsDoneOver : (files files' : List ℕ → Option (List ℕ)) → (Exported : DriveFields → ExportAsked → Type 0) → (Salvaged : Option (List ℕ) → SalvageAsked → (output output' : Option (List ℕ)) → Type 0) → (output output' : Option (List ℕ)) → Command → Type 0
+IsDoneOver files files' Exported Salvaged output output' (command.List list) = OverImage (files list.image.now) (λ d. Lists d list output output')
+IsDoneOver files files' Exported Salvaged output output' (command.Log log) = OverImage (files log.image.now) (λ d. Logs d log output output')
+IsDoneOver files files' Exported Salvaged output output' (command.Cat cat) = OverImage (files cat.image.now) (λ d. Gives d cat output output')
+IsDoneOver files files' Exported Salvaged output output' (command.Info info) = OverImage (files info.image.now) (λ d. Informs d info output output')
+IsDoneOver files files' Exported Salvaged output output' (command.Diff diff) = OverImage (files diff.image.now) (λ d. Compares d diff Fine output output')
+IsDoneOver files files' Exported Salvaged output output' (command.Report report) = OverImage (files report.image.now) (λ d. ReportsDrive d report output output')
+IsDoneOver files files' Exported Salvaged output output' (command.Export export) = OverImage (files export.image.now) (λ d. Exported d export)
 IsDoneOver files files' Exported Salvaged output output' (command.Restore restore) = MatchBool restore.dry_run
-    (OverImage (files restore.image.now) (λ d. WouldRestore (state_in d) restore.at restore.objects.items output output'))
-    (MatchBool restore.flush
-    (ChangesImage (files restore.image.now) (files' restore.image.now) (λ d later. RestoresWithRoom d later restore.at restore.objects.items output output'))
-    (ChangesImage (files restore.image.now) (files' restore.image.now) (λ d later. RestoresDrive (state_in d) (state_in later) restore.at restore.objects.items output output')))
-IsDoneOver files files' Exported Salvaged output output' (command.Check check) = OverImage (files check.image.now) (λ d. Checks (state_in d) (store_of d) output output')
-IsDoneOver files files' Exported Salvaged output output' (command.Compact compact) = ChangesImage (files compact.image.now) (files' compact.image.now) (λ d later. Compacts d later output output')
-IsDoneOver files files' Exported Salvaged output output' (command.Salvage salvage) = Salvaged (files salvage.image.now) salvage.folder.now output output'
+    (WouldRestoreImage (files restore.image.now) restore output output')
+    (RestoresImage (files restore.image.now) (files' restore.image.now) restore output output')
+IsDoneOver files files' Exported Salvaged output output' (command.Check check) = OverImage (files check.image.now) (λ d. Checks d check output output')
+IsDoneOver files files' Exported Salvaged output output' (command.Compact compact) = ChangesImage (files compact.image.now) (files' compact.image.now) (λ d later. Compacts d later compact output output')
+IsDoneOver files files' Exported Salvaged output output' (command.Salvage salvage) = Salvaged (files salvage.image.now) salvage output output'
 
 -- A command isn't done: all files are as they were. Or it is done, but that this lasts wasn't seen.
 abbrev pub IsUndone : (files files' : List ℕ → Option (List ℕ)) → (Done : Type 0) → Type 0
@@ -51,6 +54,26 @@ unknown path = None
 abbrev pub IsUsage : List Text → Type 0
 IsUsage words = takes line words ≡ true → SpellsNone (subcommand_of line words)
 
--- The words spell a command, which is done; or they ask for help or the version, and spell none.
-abbrev pub IsDone : List Text → (files files' : List ℕ → Option (List ℕ)) → (Exported : DriveFields → Option ℕ → List ℕ → Type 0) → (Salvaged : Option (List ℕ) → List ℕ → (output output' : Option (List ℕ)) → Type 0) → (output output' : Option (List ℕ)) → Type 0
-IsDone words files files' Exported Salvaged output output' = ((c : Command) × Spells (subcommand_of line words) c × IsDoneOver files files' Exported Salvaged output output' c) ⊎ IsUsage words
+-- one of these reasons is that help or the version is asked for
+pub record IsAsking (kinds : Kinds) : Type 0 where
+  pub kind : ErrorKind
+  pub among : IsAmong kind kinds
+  pub asked : is_asked_for kind ≡ true
+
+-- The words spell no command, and the parser refuses them for no other reason than that they ask for help or the version.
+pub record IsAskedFor (words : List Text) : Type 0 where
+  pub none : IsUsage words
+  pub asks : fault_of line words ≢ [] → IsAsking (fault_of line words)
+
+-- The words spell a command, which is done; or they spell none, and ask for help or the version.
+abbrev pub IsDone : List Text → (files files' : List ℕ → Option (List ℕ)) → (Exported : DriveFields → ExportAsked → Type 0) → (Salvaged : Option (List ℕ) → SalvageAsked → (output output' : Option (List ℕ)) → Type 0) → (output output' : Option (List ℕ)) → Type 0
+IsDone words files files' Exported Salvaged output output' = ((c : Command) × Spells (subcommand_of line words) c × IsDoneOver files files' Exported Salvaged output output' c) ⊎ IsAskedFor words
+
+-- What status 1 says of a command: of `diff` that something differs, which was printed; of others nothing.
+abbrev pub DiffersOver : (files : List ℕ → Option (List ℕ)) → (output output' : Option (List ℕ)) → Command → Type 0
+DiffersOver files output output' (command.Diff diff) = OverImage (files diff.image.now) (λ d. Compares d diff Differs output output')
+DiffersOver files output output' _ = ⊤
+
+-- The words spell a command, and status 1 says this of it; or they spell none.
+abbrev pub IsDiffering : List Text → (files : List ℕ → Option (List ℕ)) → (output output' : Option (List ℕ)) → Type 0
+IsDiffering words files output output' = ((c : Command) × Spells (subcommand_of line words) c × DiffersOver files output output' c) ⊎ IsUsage words

@@ -9,33 +9,16 @@
 //! tested, and so are the texts on standard error.
 #![tactic(auto)]
 
-ghost use Rattle.std.specs.Prelude.{◌≡◌, ◌≢◌, ◌+◌, ◌^◌, ◌<◌, ◌≤◌};
+ghost use Rattle.std.specs.Prelude.{◌≡◌, ◌+◌, ◌^◌, ◌<◌, ◌≤◌};
 ghost use Rattle.std.specs.Process.{exit_status};
-ghost use Rattle.std.specs.declared.io.ErrorKind.TheVariants.{OutOfMemory};
 
-mod changing;
-mod checking;
-mod commands;
-mod compacting;
-mod comparing;
-mod exporting;
-mod faults;
-mod listing;
-mod logging;
-mod making_room;
-mod moments;
 mod own_thread;
 mod performing;
-mod reading;
-mod restoring;
-mod salvaging;
-mod telling;
-mod watching;
 
-use faults::Failure;
 use image_commands::hold_standard_streams;
 use own_thread::perform_apart;
-use performing::{fail, refuse};
+use performing::refuse;
+use s4_images::Failure;
 use s4_types::Refusal;
 use serving::{Sink, WriteSink};
 use std::convert::AsStr;
@@ -65,19 +48,18 @@ fn exit_of<
     match perform_apart(threads, *rt, words, writer, rt.stderr()) {
         Ok(status) => ExitCode::from(status),
         Err(_) => {
-            let status = fail(&mut rt.stderr(), Failure::from(Refusal::NoMemory));
+            let status = refuse(&mut rt.stderr(), Failure::from(Refusal::NoMemory));
             ExitCode::from(status)
         }
     }
 }
 
-// Says why the line couldn't be had: for want of memory, or as words that are no text.
+// Says why the line couldn't be had: memory was refused, or the words are no text.
 fn tell(rt: &HostRuntime, why: io::ErrorKind) -> u8
-    ensures memory { why ≡ OutOfMemory → result ≡ 1 }
-    ensures text { why ≢ OutOfMemory → result ≡ 2 }
+    ensures { result ≡ 2 }
 {
     match why {
-        io::ErrorKind::OutOfMemory => fail(&mut rt.stderr(), Failure::from(Refusal::NoMemory)),
+        io::ErrorKind::OutOfMemory => refuse(&mut rt.stderr(), Failure::from(Refusal::NoMemory)),
         _ => refuse(&mut rt.stderr(), "the words are no text in UTF-8"),
     }
 }

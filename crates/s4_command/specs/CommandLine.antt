@@ -1,17 +1,29 @@
 -- The program's command line in clap's own words, and which command the matches of a line spell.
-use Rattle.std.specs.Prelude.{◌≡◌, ◌↔◌, ℕ, List, [], Option, Some, None, true, codes, unwrap_or}
+use Rattle.std.specs.Prelude.{◌≡◌, ◌↔◌, ◌⊎◌, ℕ, Bool, false, List, [], Option, Some, None, true, codes, option_map, unwrap_or}
+use Rattle.std.specs.Borrow.{Bor}
 use Rattle.std.specs.List.{AllZip}
 use Rattle.clap.specs.Walk.{Row, Rule, Text, all_of, first_of, one_of}
 use Rattle.clap.specs.Simple.{App, new_app, new_rule, on_top, with_rule, with_subcommand}
+use Rattle.clap.specs.Kinds.{Kinds, IsAmong}
+use Rattle.clap.specs.Values.{kind_of}
+use Rattle.clap.specs.declared.error.kind.ErrorKind.{ErrorKind}
+use Rattle.clap.specs.declared.error.kind.ErrorKind.TheVariants as kind
 use Rattle.clap.specs.declared.builder.action.ArgAction.TheVariants.{Set, Append}
+use Rattle.moment_words.specs.Words.{IsMomentWord}
+use Rattle.moment_words.specs.declared.words.MomentWord.{MomentWord}
 use Rattle.s4d_command.specs.CommandLine.{flag_rule, IsGiven, IsNumber}
 use Rattle.s4_command.specs.declared.Command.{Command}
 use Rattle.s4_command.specs.declared.Command.TheVariants as command
+use Rattle.s4_command.specs.declared.NoCommand.{NoCommand}
+use Rattle.s4_command.specs.declared.NoCommand.TheVariants as refusal
 use Rattle.s4_command.specs.declared.contents.ListAsked.{ListAsked}
 use Rattle.s4_command.specs.declared.contents.CatAsked.{CatAsked}
 use Rattle.s4_command.specs.declared.contents.ExportAsked.{ExportAsked}
 use Rattle.s4_command.specs.declared.changes.LogAsked.{LogAsked}
 use Rattle.s4_command.specs.declared.changes.DiffAsked.{DiffAsked}
+use Rattle.s4_command.specs.declared.changes.ReportAsked.{ReportAsked}
+use Rattle.s4_command.specs.declared.changes.ChangeKind.{ChangeKind}
+use Rattle.s4_command.specs.declared.changes.ChangeKind.TheVariants.{Made, Deleted, Written, Cut, Lengthened, Attribute, Touched}
 use Rattle.s4_command.specs.declared.whole.InfoAsked.{InfoAsked}
 use Rattle.s4_command.specs.declared.whole.CheckAsked.{CheckAsked}
 use Rattle.s4_command.specs.declared.whole.CompactAsked.{CompactAsked}
@@ -19,17 +31,17 @@ use Rattle.s4_command.specs.declared.whole.SalvageAsked.{SalvageAsked}
 use Rattle.s4_command.specs.declared.restoring.RestoreAsked.{RestoreAsked}
 
 -- `--name VALUE`, which is given or not
-abbrev pub number_rule : Text → Rule
-number_rule name = record (new_rule name) { long = Some name; action = Some Set; value_names = 1 }
+abbrev pub value_rule : Text → Rule
+value_rule name = record (new_rule name) { long = Some name; action = Some Set; value_names = 1 }
 
 -- `--name VALUE`, which has to be given
-abbrev pub needed_number_rule : Text → Rule
-needed_number_rule name =
+abbrev pub needed_value_rule : Text → Rule
+needed_value_rule name =
     record (new_rule name) { long = Some name; action = Some Set; value_names = 1; required = true }
 
 -- `--name VALUE`, as often as it is given
-abbrev pub numbers_rule : Text → Rule
-numbers_rule name = record (new_rule name) { long = Some name; action = Some Append; value_names = 1 }
+abbrev pub values_rule : Text → Rule
+values_rule name = record (new_rule name) { long = Some name; action = Some Append; value_names = 1 }
 
 -- a word that stands for itself, and has to be given
 abbrev pub needed_rule : Text → Rule
@@ -39,41 +51,54 @@ needed_rule name = record (new_rule name) { action = Some Set; value_names = 1; 
 abbrev pub optional_rule : Text → Rule
 optional_rule name = record (new_rule name) { action = Some Set; value_names = 1 }
 
--- `list [--at M] [--deleted] [--json] IMAGE`
+-- `list [--at M] [--deleted] [--moments] [--json] IMAGE`
 abbrev pub list_line : App
-list_line = with_rule (with_rule (with_rule (with_rule (new_app (codes "list"))
-    (number_rule (codes "at")))
+list_line = with_rule (with_rule (with_rule (with_rule (with_rule (new_app (codes "list"))
+    (value_rule (codes "at")))
     (flag_rule (codes "deleted")))
+    (flag_rule (codes "moments")))
     (flag_rule (codes "json")))
     (needed_rule (codes "image"))
 
--- `log [--object O] [--since M] [--until M] [--json] IMAGE`
+-- `log [--object O] [--name TEXT] [--since M] [--until M] [--kind KIND] [--limit N] [--by-object] [--reverse] [--stat] [--moments] [--json] IMAGE`
 abbrev pub log_line : App
-log_line = with_rule (with_rule (with_rule (with_rule (with_rule (new_app (codes "log"))
-    (number_rule (codes "object")))
-    (number_rule (codes "since")))
-    (number_rule (codes "until")))
+log_line = with_rule (with_rule (with_rule (with_rule (with_rule (with_rule (with_rule (with_rule (with_rule (with_rule (with_rule (with_rule (new_app (codes "log"))
+    (value_rule (codes "object")))
+    (value_rule (codes "name")))
+    (value_rule (codes "since")))
+    (value_rule (codes "until")))
+    (value_rule (codes "kind")))
+    (value_rule (codes "limit")))
+    (flag_rule (codes "by-object")))
+    (flag_rule (codes "reverse")))
+    (flag_rule (codes "stat")))
+    (flag_rule (codes "moments")))
     (flag_rule (codes "json")))
     (needed_rule (codes "image"))
 
--- `cat [--at M] IMAGE OBJECT`
+-- `cat [--at M] [--name TEXT] IMAGE [OBJECT]`
 abbrev pub cat_line : App
-cat_line = with_rule (with_rule (with_rule (new_app (codes "cat"))
-    (number_rule (codes "at")))
+cat_line = with_rule (with_rule (with_rule (with_rule (new_app (codes "cat"))
+    (value_rule (codes "at")))
+    (value_rule (codes "name")))
     (needed_rule (codes "image")))
-    (needed_rule (codes "object"))
+    (optional_rule (codes "object"))
 
--- `info [--json] IMAGE`
+-- `info [--moments] [--json] IMAGE`
 abbrev pub info_line : App
-info_line = with_rule (with_rule (new_app (codes "info"))
+info_line = with_rule (with_rule (with_rule (new_app (codes "info"))
+    (flag_rule (codes "moments")))
     (flag_rule (codes "json")))
     (needed_rule (codes "image"))
 
--- `diff [--object O] [--patch] [--json] IMAGE FROM [TO]`
+-- `diff [--object O] [--name TEXT] [--patch] [--text] [--moments] [--json] IMAGE FROM [TO]`
 abbrev pub diff_line : App
-diff_line = with_rule (with_rule (with_rule (with_rule (with_rule (with_rule (new_app (codes "diff"))
-    (number_rule (codes "object")))
+diff_line = with_rule (with_rule (with_rule (with_rule (with_rule (with_rule (with_rule (with_rule (with_rule (new_app (codes "diff"))
+    (value_rule (codes "object")))
+    (value_rule (codes "name")))
     (flag_rule (codes "patch")))
+    (flag_rule (codes "text")))
+    (flag_rule (codes "moments")))
     (flag_rule (codes "json")))
     (needed_rule (codes "image")))
     (needed_rule (codes "from")))
@@ -82,49 +107,109 @@ diff_line = with_rule (with_rule (with_rule (with_rule (with_rule (with_rule (ne
 -- `export [--at M] IMAGE DIR`
 abbrev pub export_line : App
 export_line = with_rule (with_rule (with_rule (new_app (codes "export"))
-    (number_rule (codes "at")))
+    (value_rule (codes "at")))
     (needed_rule (codes "image")))
     (needed_rule (codes "folder"))
 
--- `restore --at M [--object O].. [--dry-run] [--flush] IMAGE`
-abbrev pub restore_line : App
-restore_line = with_rule (with_rule (with_rule (with_rule (with_rule (new_app (codes "restore"))
-    (needed_number_rule (codes "at")))
-    (numbers_rule (codes "object")))
+-- `[--dry-run] [--flush] [--skip] [--keep-newer] [--json] IMAGE` after what is there
+abbrev pub with_restore_rules : App → App
+with_restore_rules app = with_rule (with_rule (with_rule (with_rule (with_rule (with_rule app
     (flag_rule (codes "dry-run")))
     (flag_rule (codes "flush")))
+    (flag_rule (codes "skip")))
+    (flag_rule (codes "keep-newer")))
+    (flag_rule (codes "json")))
     (needed_rule (codes "image"))
 
--- `check IMAGE`
+-- `restore --at M [--object O].. [--name TEXT] [--dry-run] [--flush] [--skip] [--keep-newer] [--json] IMAGE`
+abbrev pub restore_line : App
+restore_line = with_restore_rules (with_rule (with_rule (with_rule (new_app (codes "restore"))
+    (needed_value_rule (codes "at")))
+    (values_rule (codes "object")))
+    (value_rule (codes "name")))
+
+-- `check [--json] IMAGE`
 abbrev pub check_line : App
-check_line = with_rule (new_app (codes "check")) (needed_rule (codes "image"))
+check_line = with_rule (with_rule (new_app (codes "check"))
+    (flag_rule (codes "json")))
+    (needed_rule (codes "image"))
 
--- `compact IMAGE`
+-- `compact [--json] IMAGE`
 abbrev pub compact_line : App
-compact_line = with_rule (new_app (codes "compact")) (needed_rule (codes "image"))
+compact_line = with_rule (with_rule (new_app (codes "compact"))
+    (flag_rule (codes "json")))
+    (needed_rule (codes "image"))
 
--- `salvage IMAGE DIR`
+-- `salvage [--json] IMAGE DIR`
 abbrev pub salvage_line : App
-salvage_line = with_rule (with_rule (new_app (codes "salvage"))
+salvage_line = with_rule (with_rule (with_rule (new_app (codes "salvage"))
+    (flag_rule (codes "json")))
     (needed_rule (codes "image")))
     (needed_rule (codes "folder"))
 
--- the program, which has a version, as each of its commands has, and no command for help; one of its commands has to be given
+-- `report [--since M] IMAGE`
+abbrev pub report_line : App
+report_line = with_rule (with_rule (new_app (codes "report"))
+    (value_rule (codes "since")))
+    (needed_rule (codes "image"))
+
+-- the program, which has a version, as each of its commands has, and the command `help` too; one of its commands has to be given
 abbrev pub program : App
-program = on_top (λ s. record s { has_version = true; propagate_version = true; subcommand_required = true; disable_help_subcommand = true })
+program = on_top (λ s. record s { has_version = true; propagate_version = true; subcommand_required = true })
     (new_app (codes "s4"))
 
 -- the program's whole command line
 abbrev pub line : App
-line = with_subcommand (with_subcommand (with_subcommand (with_subcommand (with_subcommand (with_subcommand
+line = with_subcommand (with_subcommand (with_subcommand (with_subcommand (with_subcommand (with_subcommand (with_subcommand
     (with_subcommand (with_subcommand (with_subcommand (with_subcommand program
     list_line.top) log_line.top) cat_line.top) info_line.top)
-    diff_line.top) export_line.top) restore_line.top) check_line.top) compact_line.top) salvage_line.top
+    diff_line.top) export_line.top) restore_line.top) check_line.top) compact_line.top) salvage_line.top) report_line.top
 
 -- a number that is given is what the text reads as; none is where no text is there
 abbrev pub IsAsked : Text → List Row → Option ℕ → Type 0
 IsAsked name rows None = first_of name rows ≡ None
 IsAsked name rows (Some n) = IsNumber (one_of name rows) n
+
+-- the text is there, and says this of a moment
+abbrev pub IsMomentAt : Option Text → MomentWord → Type 0
+IsMomentAt None moment = ⊥
+IsMomentAt (Some text) moment = IsMomentWord text moment
+
+-- a moment that is given is what the text says; none is where no text is there
+abbrev pub IsMomentAsked : Text → List Row → Option MomentWord → Type 0
+IsMomentAsked name rows None = first_of name rows ≡ None
+IsMomentAsked name rows (Some moment) = IsMomentAt (first_of name rows) moment
+
+-- a text that is given; none is where no text is there
+abbrev pub IsTextAsked : Text → List Row → Option (Bor Text) → Type 0
+IsTextAsked name rows text = option_map (λ t. t.now) text ≡ first_of name rows
+
+-- the word for a kind of change
+abbrev pub kind_word : ChangeKind → Text
+kind_word Made = codes "made"
+kind_word Deleted = codes "deleted"
+kind_word Written = codes "written"
+kind_word Cut = codes "cut"
+kind_word Lengthened = codes "lengthened"
+kind_word Attribute = codes "attribute"
+kind_word Touched = codes "touched"
+
+-- a kind that is given is the one with this word; none is where no text is there
+abbrev pub IsKindAsked : List Row → Option ChangeKind → Type 0
+IsKindAsked rows None = first_of (codes "kind") rows ≡ None
+IsKindAsked rows (Some kind) = first_of (codes "kind") rows ≡ Some (kind_word kind)
+
+-- at most one of the two is given
+abbrev pub AreApart : Text → Text → List Row → Type 0
+AreApart one other rows = (first_of one rows ≡ None) ⊎ (first_of other rows ≡ None)
+
+-- at least one of the two is given
+abbrev pub IsOneGiven : Text → Text → List Row → Type 0
+IsOneGiven one other rows = first_of one rows ≡ None → first_of other rows ≡ None → ⊥
+
+-- at most one of the two flags is given
+abbrev pub AreFlagsApart : Text → Text → List Row → Type 0
+AreFlagsApart one other rows = IsGiven one rows → IsGiven other rows → ⊥
 
 -- the numbers are what the texts read as, one of each, in their order
 abbrev pub AreNumbers : List Text → List ℕ → Type 0
@@ -137,64 +222,95 @@ texts_of name rows = unwrap_or (all_of name rows) []
 -- The matches of `list` have this text, this moment and these flags.
 pub record SpellsList (rows : List Row) (list : ListAsked) : Type 0 where
   pub image : first_of (codes "image") rows ≡ Some list.image.now
-  pub at : IsAsked (codes "at") rows list.at
+  pub at : IsMomentAsked (codes "at") rows list.at
   pub deleted : (list.deleted ≡ true) ↔ IsGiven (codes "deleted") rows
+  pub moments : (list.moments ≡ true) ↔ IsGiven (codes "moments") rows
   pub json : (list.json ≡ true) ↔ IsGiven (codes "json") rows
 
--- The matches of `log` have this text, these numbers and this flag.
+-- The matches of `log` have these texts, at most one of a number and a name, these moments, this kind, this limit and these flags.
 pub record SpellsLog (rows : List Row) (log : LogAsked) : Type 0 where
   pub image : first_of (codes "image") rows ≡ Some log.image.now
+  pub apart : AreApart (codes "object") (codes "name") rows
   pub object : IsAsked (codes "object") rows log.object
-  pub since : IsAsked (codes "since") rows log.since
-  pub until : IsAsked (codes "until") rows log.until
+  pub name : IsTextAsked (codes "name") rows log.name
+  pub since : IsMomentAsked (codes "since") rows log.since
+  pub until : IsMomentAsked (codes "until") rows log.until
+  pub kind : IsKindAsked rows log.kind
+  pub limit : IsAsked (codes "limit") rows log.limit
+  pub by_object : (log.by_object ≡ true) ↔ IsGiven (codes "by-object") rows
+  pub reverse : (log.reverse ≡ true) ↔ IsGiven (codes "reverse") rows
+  pub stat : (log.stat ≡ true) ↔ IsGiven (codes "stat") rows
+  pub moments : (log.moments ≡ true) ↔ IsGiven (codes "moments") rows
   pub json : (log.json ≡ true) ↔ IsGiven (codes "json") rows
 
--- The matches of `cat` have this text and these numbers.
+-- The matches of `cat` have this text, a number or a name and not both, and this moment.
 pub record SpellsCat (rows : List Row) (cat : CatAsked) : Type 0 where
   pub image : first_of (codes "image") rows ≡ Some cat.image.now
-  pub object : IsAsked (codes "object") rows (Some cat.object)
-  pub at : IsAsked (codes "at") rows cat.at
+  pub apart : AreApart (codes "object") (codes "name") rows
+  pub given : IsOneGiven (codes "object") (codes "name") rows
+  pub object : IsAsked (codes "object") rows cat.object
+  pub name : IsTextAsked (codes "name") rows cat.name
+  pub at : IsMomentAsked (codes "at") rows cat.at
 
--- The matches of `info` have this text and this flag.
+-- The matches of `info` have this text and these flags.
 pub record SpellsInfo (rows : List Row) (info : InfoAsked) : Type 0 where
   pub image : first_of (codes "image") rows ≡ Some info.image.now
+  pub moments : (info.moments ≡ true) ↔ IsGiven (codes "moments") rows
   pub json : (info.json ≡ true) ↔ IsGiven (codes "json") rows
 
--- The matches of `diff` have this text, these numbers and these flags.
+-- The matches of `diff` have this text, these moments, at most one of a number and a name, and these flags, of which `patch` and `text` aren't both there.
 pub record SpellsDiff (rows : List Row) (diff : DiffAsked) : Type 0 where
   pub image : first_of (codes "image") rows ≡ Some diff.image.now
-  pub from : IsAsked (codes "from") rows (Some diff.from)
-  pub to : IsAsked (codes "to") rows diff.to
+  pub apart : AreApart (codes "object") (codes "name") rows
+  pub flags_apart : AreFlagsApart (codes "patch") (codes "text") rows
+  pub from : IsMomentAsked (codes "from") rows (Some diff.from)
+  pub to : IsMomentAsked (codes "to") rows diff.to
   pub object : IsAsked (codes "object") rows diff.object
+  pub name : IsTextAsked (codes "name") rows diff.name
   pub patch : (diff.patch ≡ true) ↔ IsGiven (codes "patch") rows
+  pub text : (diff.text ≡ true) ↔ IsGiven (codes "text") rows
+  pub moments : (diff.moments ≡ true) ↔ IsGiven (codes "moments") rows
   pub json : (diff.json ≡ true) ↔ IsGiven (codes "json") rows
 
 -- The matches of `export` have these texts and this moment.
 pub record SpellsExport (rows : List Row) (export : ExportAsked) : Type 0 where
   pub image : first_of (codes "image") rows ≡ Some export.image.now
   pub folder : first_of (codes "folder") rows ≡ Some export.folder.now
-  pub at : IsAsked (codes "at") rows export.at
+  pub at : IsMomentAsked (codes "at") rows export.at
 
--- The matches of `restore` have this text, this moment, exactly these objects, in the order of the words, and these flags.
+-- The matches of `restore` have these texts, this moment, exactly these objects, in the order of the words, or a name, and these flags.
 pub record SpellsRestore (rows : List Row) (restore : RestoreAsked) : Type 0 where
   pub image : first_of (codes "image") rows ≡ Some restore.image.now
-  pub at : IsAsked (codes "at") rows (Some restore.at)
+  pub apart : AreApart (codes "object") (codes "name") rows
+  pub at : IsMomentAsked (codes "at") rows (Some restore.at)
   pub objects : AreNumbers (texts_of (codes "object") rows) restore.objects.items
+  pub name : IsTextAsked (codes "name") rows restore.name
   pub dry_run : (restore.dry_run ≡ true) ↔ IsGiven (codes "dry-run") rows
   pub flush : (restore.flush ≡ true) ↔ IsGiven (codes "flush") rows
+  pub skip : (restore.skip ≡ true) ↔ IsGiven (codes "skip") rows
+  pub keep_newer : (restore.keep_newer ≡ true) ↔ IsGiven (codes "keep-newer") rows
+  pub json : (restore.json ≡ true) ↔ IsGiven (codes "json") rows
 
--- The matches of `check` have this text.
+-- The matches of `check` have this text and this flag.
 pub record SpellsCheck (rows : List Row) (check : CheckAsked) : Type 0 where
   pub image : first_of (codes "image") rows ≡ Some check.image.now
+  pub json : (check.json ≡ true) ↔ IsGiven (codes "json") rows
 
--- The matches of `compact` have this text.
+-- The matches of `compact` have this text and this flag.
 pub record SpellsCompact (rows : List Row) (compact : CompactAsked) : Type 0 where
   pub image : first_of (codes "image") rows ≡ Some compact.image.now
+  pub json : (compact.json ≡ true) ↔ IsGiven (codes "json") rows
 
--- The matches of `salvage` have these texts.
+-- The matches of `salvage` have these texts and this flag.
 pub record SpellsSalvage (rows : List Row) (salvage : SalvageAsked) : Type 0 where
   pub image : first_of (codes "image") rows ≡ Some salvage.image.now
   pub folder : first_of (codes "folder") rows ≡ Some salvage.folder.now
+  pub json : (salvage.json ≡ true) ↔ IsGiven (codes "json") rows
+
+-- The matches of `report` have this text and this moment.
+pub record SpellsReport (rows : List Row) (report : ReportAsked) : Type 0 where
+  pub image : first_of (codes "image") rows ≡ Some report.image.now
+  pub since : IsMomentAsked (codes "since") rows report.since
 
 -- The name and the matches of a subcommand spell the command.
 abbrev pub Spells : Option (Text × List Row) → Command → Type 0
@@ -209,7 +325,21 @@ Spells (Some named) (command.Restore restore) = (named.0 ≡ codes "restore") ×
 Spells (Some named) (command.Check check) = (named.0 ≡ codes "check") × SpellsCheck named.1 check
 Spells (Some named) (command.Compact compact) = (named.0 ≡ codes "compact") × SpellsCompact named.1 compact
 Spells (Some named) (command.Salvage salvage) = (named.0 ≡ codes "salvage") × SpellsSalvage named.1 salvage
+Spells (Some named) (command.Report report) = (named.0 ≡ codes "report") × SpellsReport named.1 report
 
 -- They spell none.
 abbrev pub SpellsNone : Option (Text × List Row) → Type 0
 SpellsNone named = (c : Command) → Spells named c → ⊥
+
+-- the kinds of a text that was asked for: help, or the version
+abbrev pub is_asked_for : ErrorKind → Bool
+is_asked_for kind.DisplayHelp = true
+is_asked_for kind.DisplayVersion = true
+is_asked_for _ = false
+
+-- The parser refuses the words for one of these reasons: help and the version were asked for, and any other says what is wrong with them.
+abbrev pub IsRefusedBy : Kinds → NoCommand → Type 0
+IsRefusedBy kinds (refusal.Asked error) = IsAmong (kind_of error) kinds × (is_asked_for (kind_of error) ≡ true)
+IsRefusedBy kinds (refusal.Refused error) = IsAmong (kind_of error) kinds × (is_asked_for (kind_of error) ≡ false)
+IsRefusedBy kinds refusal.NoMemory = Unit {0}
+IsRefusedBy kinds _ = ⊥

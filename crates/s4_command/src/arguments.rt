@@ -1,15 +1,17 @@
-//! Options, flags and operands, as `clap` builds them, and commands that are made of them one by one.
+//! Options, flags and operands, as `clap` builds them, and commands that are made of them one by
+//! one.
 ghost use Rattle.std.specs.Prelude.{◌≡◌, false};
 ghost use Rattle.clap.specs.Walk.{rule_of};
 ghost use Rattle.clap.specs.Simple.{App, new_app, with_rule};
 ghost use Rattle.s4d_command.specs.CommandLine.{flag_rule, IsLine};
-ghost use Rattle.s4_command.specs.CommandLine.{number_rule, needed_number_rule, numbers_rule, needed_rule, optional_rule};
+ghost use Rattle.s4_command.specs.CommandLine.{value_rule, needed_value_rule, values_rule};
+ghost use Rattle.s4_command.specs.CommandLine.{needed_rule, optional_rule};
 
 use clap::{Arg, ArgAction, Command};
 use std::alloc::{AllocError, Global};
 
-fn number_of<'a>(alloc: Global, name: &'a str, value: &'a str, help: &'a str) -> Arg<'a>
-    ensures rule { rule_of result ≡ number_rule name.entry.now }
+fn value_of<'a>(alloc: Global, name: &'a str, value: &'a str, help: &'a str) -> Arg<'a>
+    ensures rule { rule_of result ≡ value_rule name.entry.now }
     ensures own { result.global ≡ false }
 {
     Arg::new(alloc, name)
@@ -19,8 +21,8 @@ fn number_of<'a>(alloc: Global, name: &'a str, value: &'a str, help: &'a str) ->
         .help(help)
 }
 
-fn needed_number_of<'a>(alloc: Global, name: &'a str, value: &'a str, help: &'a str) -> Arg<'a>
-    ensures rule { rule_of result ≡ needed_number_rule name.entry.now }
+fn needed_value_of<'a>(alloc: Global, name: &'a str, value: &'a str, help: &'a str) -> Arg<'a>
+    ensures rule { rule_of result ≡ needed_value_rule name.entry.now }
     ensures own { result.global ≡ false }
 {
     Arg::new(alloc, name)
@@ -31,8 +33,8 @@ fn needed_number_of<'a>(alloc: Global, name: &'a str, value: &'a str, help: &'a 
         .help(help)
 }
 
-fn numbers_of<'a>(alloc: Global, name: &'a str, value: &'a str, help: &'a str) -> Arg<'a>
-    ensures rule { rule_of result ≡ numbers_rule name.entry.now }
+fn values_of<'a>(alloc: Global, name: &'a str, value: &'a str, help: &'a str) -> Arg<'a>
+    ensures rule { rule_of result ≡ values_rule name.entry.now }
     ensures own { result.global ≡ false }
 {
     Arg::new(alloc, name)
@@ -84,43 +86,47 @@ pub(crate) fn named<'a>(
     Ok(Command::new(alloc, name).about(about))
 }
 
-/// A command that is being made, with an option for a number more. The first refusal of memory stays.
-pub(crate) fn with_number<'a>(
+/// A command that is being made, with an option for a value more. The first refusal of memory
+/// stays.
+pub(crate) fn with_value<'a>(
     alloc: Global,
     command: Result<Command<'a>, AllocError>,
     name: &'a str,
     value: &'a str,
     help: &'a str,
 ) -> Result<Command<'a>, AllocError>
-    ensures { (app : App) → IsLine command.entry app → IsLine result (with_rule app (number_rule name.entry.now)) }
+    ensures { (app : App) → IsLine command.entry app
+        → IsLine result (with_rule app (value_rule name.entry.now)) }
 {
-    command?.arg(number_of(alloc, name, value, help))
+    command?.arg(value_of(alloc, name, value, help))
 }
 
-/// It, with an option for a number more that has to be given.
-pub(crate) fn with_needed_number<'a>(
+/// It, with an option for a value more that has to be given.
+pub(crate) fn with_needed_value<'a>(
     alloc: Global,
     command: Result<Command<'a>, AllocError>,
     name: &'a str,
     value: &'a str,
     help: &'a str,
 ) -> Result<Command<'a>, AllocError>
-    ensures { (app : App) → IsLine command.entry app → IsLine result (with_rule app (needed_number_rule name.entry.now)) }
+    ensures { (app : App) → IsLine command.entry app
+        → IsLine result (with_rule app (needed_value_rule name.entry.now)) }
 {
-    command?.arg(needed_number_of(alloc, name, value, help))
+    command?.arg(needed_value_of(alloc, name, value, help))
 }
 
-/// It, with an option more for a number each time that it is given.
-pub(crate) fn with_numbers<'a>(
+/// It, with an option more for a value each time that it is given.
+pub(crate) fn with_values<'a>(
     alloc: Global,
     command: Result<Command<'a>, AllocError>,
     name: &'a str,
     value: &'a str,
     help: &'a str,
 ) -> Result<Command<'a>, AllocError>
-    ensures { (app : App) → IsLine command.entry app → IsLine result (with_rule app (numbers_rule name.entry.now)) }
+    ensures { (app : App) → IsLine command.entry app
+        → IsLine result (with_rule app (values_rule name.entry.now)) }
 {
-    command?.arg(numbers_of(alloc, name, value, help))
+    command?.arg(values_of(alloc, name, value, help))
 }
 
 /// It, with an operand more.
@@ -131,7 +137,8 @@ pub(crate) fn with_operand<'a>(
     value: &'a str,
     help: &'a str,
 ) -> Result<Command<'a>, AllocError>
-    ensures { (app : App) → IsLine command.entry app → IsLine result (with_rule app (needed_rule name.entry.now)) }
+    ensures { (app : App) → IsLine command.entry app
+        → IsLine result (with_rule app (needed_rule name.entry.now)) }
 {
     command?.arg(operand_of(alloc, name, value, help))
 }
@@ -144,7 +151,8 @@ pub(crate) fn with_optional<'a>(
     value: &'a str,
     help: &'a str,
 ) -> Result<Command<'a>, AllocError>
-    ensures { (app : App) → IsLine command.entry app → IsLine result (with_rule app (optional_rule name.entry.now)) }
+    ensures { (app : App) → IsLine command.entry app
+        → IsLine result (with_rule app (optional_rule name.entry.now)) }
 {
     command?.arg(optional_of(alloc, name, value, help))
 }
@@ -156,7 +164,8 @@ pub(crate) fn with_flag<'a>(
     name: &'a str,
     help: &'a str,
 ) -> Result<Command<'a>, AllocError>
-    ensures { (app : App) → IsLine command.entry app → IsLine result (with_rule app (flag_rule name.entry.now)) }
+    ensures { (app : App) → IsLine command.entry app
+        → IsLine result (with_rule app (flag_rule name.entry.now)) }
 {
     command?.arg(flag_of(alloc, name, help))
 }

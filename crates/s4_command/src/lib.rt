@@ -1,28 +1,32 @@
 //! What a line of words asks of the program `s4`, read with `clap`.
 //!
-//! The layer above may rely on this: a command that `command_of` gives has the numbers and texts of the matches that `clap` states for
-//! the words; a line is refused only where `clap` refuses it, or its matches spell no command, and want of memory is told apart. What a
-//! command does is said elsewhere.
+//! The layer above may rely on this: a command that `command_of` gives has the numbers, moments and
+//! texts of the matches that `clap` states for the words; a line is refused only where `clap`
+//! refuses it, or its matches spell no command. Help and the version come as such, and a refusal of
+//! memory is one of its own. What a command does is said elsewhere.
 #![tactic(auto)]
 
-ghost use Rattle.std.specs.Prelude.{◌≡◌, ◌≢◌, IfOk, IfErr, Some, map, true};
+ghost use Rattle.std.specs.Prelude.{◌≡◌, ◌≢◌, IfOk, IfErr, IsErrAnd, Some, [], map, true};
 ghost use Rattle.clap.specs.Walk.{rows_of};
 ghost use Rattle.clap.specs.Takes.{takes};
+ghost use Rattle.clap.specs.Faults.{fault_of};
+ghost use Rattle.clap.specs.Kinds.{Kinds, HasKind};
 ghost use Rattle.clap.specs.Values.{kind_of};
 ghost use Rattle.clap.specs.Matches.{found_of};
 ghost use Rattle.clap.specs.Simple.{subcommand_of, subcommand_rows_of};
-ghost use Rattle.s4_command.specs.CommandLine.{line, Spells, SpellsNone};
+ghost use Rattle.s4_command.specs.CommandLine.{line, IsRefusedBy, Spells, SpellsNone};
 
 mod arguments;
 mod changes;
+mod choosing;
 mod contents;
 mod line;
 mod reading;
 mod restoring;
 mod whole;
 
-pub use changes::{DiffAsked, LogAsked};
-use changes::{diff_asked, log_asked};
+pub use changes::{ChangeKind, DiffAsked, LogAsked, ReportAsked};
+use changes::{diff_asked, log_asked, report_asked};
 use clap::ArgMatches;
 use clap::error::ErrorKind;
 pub use contents::{CatAsked, ExportAsked, ListAsked};
@@ -32,6 +36,7 @@ pub use restoring::RestoreAsked;
 use restoring::restore_asked;
 use std::alloc::{AllocError, Global};
 use std::convert::AsStr;
+use thiserror::Error;
 pub use whole::{CheckAsked, CompactAsked, InfoAsked, SalvageAsked};
 use whole::{check_asked, compact_asked, info_asked, salvage_asked};
 
@@ -58,20 +63,53 @@ pub enum Command<'a> {
     Compact(CompactAsked<'a>),
     /// Writes what a damaged image still has of each object into a folder.
     Salvage(SalvageAsked<'a>),
+    /// Prints a page that shows a drive and what was changed.
+    Report(ReportAsked<'a>),
 }
 
 /// Why a line of words gave no command.
-#[derive(Debug, Drop)]
+#[derive(Debug, Drop, Error)]
 pub enum NoCommand<'a> {
     /// Help or the version was asked for: this is its text.
+    #[error("{0}")]
     Asked(clap::Error),
     /// The words spell no command: this says why.
+    #[error("{0}")]
     Refused(clap::Error),
-    /// What stands for this is no number.
-    NoNumber { name: &'static str, word: &'a str },
+    /// The word for this is no number.
+    #[error("{word} is no number for {name}; give one from 0 to 2^64 - 1")]
+    NoNumber {
+        name: &'static str,
+        word: &'a str,
+    },
+    /// The word for this is no moment.
+    #[error("{word} is no moment for {name}; give a number, a time as 2026-11-27T13:18:02Z, or an age as 90s, 15m, 2h, 3d or 1w")]
+    NoMoment {
+        name: &'static str,
+        word: &'a str,
+    },
+    /// The word is no kind of change.
+    #[error("{word} is no kind of change; give made, deleted, written, cut, lengthened, attribute or touched")]
+    NoKind {
+        word: &'a str,
+    },
+    /// Both are given, of which one alone may be.
+    #[error("{one} and {other} can't be given together")]
+    Both {
+        one: &'static str,
+        other: &'static str,
+    },
+    /// Neither is given, of which one has to be.
+    #[error("{one} or {other} has to be given")]
+    Neither {
+        one: &'static str,
+        other: &'static str,
+    },
     /// The words spell no command.
+    #[error("the words spell no command; try --help")]
     Unspelled,
     /// A growth of memory was refused.
+    #[error("a growth of memory was refused")]
     NoMemory,
 }
 
@@ -86,11 +124,15 @@ impl From<AllocError> for NoCommand<'_> {
     }
 }
 
-/// The command that the words spell, the program's name first among them.
+/// The command that the words spell, the program's name first among them. At `help`, `--help` and
+/// `--version` it is `Asked`, with the text.
 pub fn command_of<'a, S: AsStr>(alloc: Global, words: &'a [S]) -> Result<Command<'a>, NoCommand<'a>>
     ensures spelled { IfOk result (Spells (subcommand_of line (map S.text words.entry.now))) }
-    ensures usage { IfErr result (λ e. e ≢ NoCommand.NoMemory → takes line (map S.text words.entry.now) ≡ true
+    ensures usage { IfErr result (λ e. e ≢ NoCommand.NoMemory
+        → takes line (map S.text words.entry.now) ≡ true
         → SpellsNone (subcommand_of line (map S.text words.entry.now))) }
+    ensures refused { fault_of line (map S.text words.entry.now) ≢ []
+        → IsErrAnd result (IsRefusedBy (fault_of line (map S.text words.entry.now))) }
 {
     let parser = command_line(alloc)?;
     match parser.try_get_matches_from(words) {
@@ -101,7 +143,8 @@ pub fn command_of<'a, S: AsStr>(alloc: Global, words: &'a [S]) -> Result<Command
 
 // What a refusal of the parser means.
 fn refused<'a>(error: clap::Error) -> NoCommand<'a>
-    ensures { kind_of error ≡ ErrorKind.OutOfMemory → result ≡ NoCommand.NoMemory }
+    ensures memory { kind_of error ≡ ErrorKind.OutOfMemory → result ≡ NoCommand.NoMemory }
+    ensures refused { (kinds : Kinds) → HasKind kinds error → IsRefusedBy kinds result }
 {
     match error.kind() {
         ErrorKind::OutOfMemory => NoCommand::NoMemory,
@@ -112,7 +155,8 @@ fn refused<'a>(error: clap::Error) -> NoCommand<'a>
 
 fn command_in<'a>(alloc: Global, matches: &ArgMatches<'a>) -> Result<Command<'a>, NoCommand<'a>>
     ensures spelled { IfOk result (Spells (subcommand_rows_of matches.now)) }
-    ensures usage { IfErr result (λ e. e ≢ NoCommand.NoMemory → SpellsNone (subcommand_rows_of matches.now)) }
+    ensures usage { IfErr result (λ e. e ≢ NoCommand.NoMemory
+        → SpellsNone (subcommand_rows_of matches.now)) }
 {
     match matches.subcommand() {
         Some((name, found)) => named_command(alloc, name, found),
@@ -126,7 +170,8 @@ fn named_command<'a>(
     found: &ArgMatches<'a>,
 ) -> Result<Command<'a>, NoCommand<'a>>
     ensures spelled { IfOk result (Spells (Some (name.now, rows_of (found_of found.now)))) }
-    ensures usage { IfErr result (λ e. e ≢ NoCommand.NoMemory → SpellsNone (Some (name.now, rows_of (found_of found.now)))) }
+    ensures usage { IfErr result (λ e. e ≢ NoCommand.NoMemory
+        → SpellsNone (Some (name.now, rows_of (found_of found.now)))) }
 {
     match name {
         "list" => list_asked(found),
@@ -139,6 +184,7 @@ fn named_command<'a>(
         "check" => check_asked(found),
         "compact" => compact_asked(found),
         "salvage" => salvage_asked(found),
+        "report" => report_asked(found),
         _ => Err(NoCommand::Unspelled),
     }
 }

@@ -2,11 +2,13 @@
 ghost use Rattle.std.specs.Prelude.{◌≡◌, IfOk};
 ghost use Rattle.clap.specs.Simple.{App, app_of, with_subcommand};
 ghost use Rattle.s4d_command.specs.CommandLine.{IsLine};
-ghost use Rattle.s4_command.specs.CommandLine.{line, program, list_line, log_line, cat_line, info_line, diff_line, export_line, restore_line};
-ghost use Rattle.s4_command.specs.CommandLine.{check_line, compact_line, salvage_line};
+ghost use Rattle.s4_command.specs.CommandLine.{line, program, list_line, log_line, cat_line};
+ghost use Rattle.s4_command.specs.CommandLine.{info_line, diff_line, export_line, restore_line};
+ghost use Rattle.s4_command.specs.CommandLine.{with_restore_rules};
+ghost use Rattle.s4_command.specs.CommandLine.{check_line, compact_line, salvage_line, report_line};
 
 use crate::arguments::{
-    named, with_flag, with_needed_number, with_number, with_numbers, with_operand, with_optional,
+    named, with_flag, with_needed_value, with_operand, with_optional, with_value, with_values,
 };
 use clap::Command;
 use std::alloc::{AllocError, Global};
@@ -20,8 +22,20 @@ const IMAGE: (&str, &str) = ("IMAGE", "The file of a drive");
 /// What each `--json` does.
 const JSON: &str = "Prints one JSON object a line";
 
+/// What a `--json` does where all that is printed is one object.
+const ONE_JSON: &str = "Prints one JSON object";
+
 /// What an `--at` does that need not be given.
 const AT: &str = "At this moment, in place of the clock's";
+
+/// What each `--moments` does.
+const MOMENTS: &str = "Prints moments as numbers, also where they are dates";
+
+/// What an `--object` does that may be given once.
+const OBJECT: &str = "Of this object alone";
+
+/// What each `--name` does.
+const NAME: &str = "Of the one object alone whose attribute is this text";
 
 fn list_command<'a>(alloc: Global) -> Result<Command<'a>, AllocError>
     ensures { IsLine result list_line }
@@ -31,24 +45,44 @@ fn list_command<'a>(alloc: Global) -> Result<Command<'a>, AllocError>
         "list",
         "Prints the objects that are live, by ascending number",
     );
-    let at = with_number(alloc, list, "at", "M", AT);
+    let at = with_value(alloc, list, "at", "M", AT);
     let deleted = with_flag(alloc, at, "deleted", "Also those that were deleted before");
-    let json = with_flag(alloc, deleted, "json", JSON);
+    let moments = with_flag(alloc, deleted, "moments", MOMENTS);
+    let json = with_flag(alloc, moments, "json", JSON);
     with_operand(alloc, json, "image", IMAGE.0, IMAGE.1)
 }
 
 fn log_command<'a>(alloc: Global) -> Result<Command<'a>, AllocError>
     ensures { IsLine result log_line }
 {
-    let log = named(
+    let log = named(alloc, "log", "Prints what was changed, by ascending moment");
+    let object = with_value(alloc, log, "object", "O", OBJECT);
+    let name = with_value(alloc, object, "name", "TEXT", NAME);
+    let since = with_value(alloc, name, "since", "M", "From this moment on");
+    let until = with_value(alloc, since, "until", "M", "Up to this moment");
+    let kind = with_value(
         alloc,
-        "log",
-        "Prints the changes of each object, by ascending number and moment",
+        until,
+        "kind",
+        "KIND",
+        "Changes of this kind: made, deleted, written, cut, lengthened, attribute or touched",
     );
-    let object = with_number(alloc, log, "object", "O", "Of this object alone");
-    let since = with_number(alloc, object, "since", "M", "From this moment on");
-    let until = with_number(alloc, since, "until", "M", "Up to this moment");
-    let json = with_flag(alloc, until, "json", JSON);
+    let limit = with_value(alloc, kind, "limit", "N", "At most so many changes");
+    let by_object = with_flag(
+        alloc,
+        limit,
+        "by-object",
+        "By ascending object, and then by moment",
+    );
+    let reverse = with_flag(alloc, by_object, "reverse", "In the opposite order");
+    let stat = with_flag(
+        alloc,
+        reverse,
+        "stat",
+        "Prints one line an object: how many changes, and when",
+    );
+    let moments = with_flag(alloc, stat, "moments", MOMENTS);
+    let json = with_flag(alloc, moments, "json", JSON);
     with_operand(alloc, json, "image", IMAGE.0, IMAGE.1)
 }
 
@@ -56,16 +90,24 @@ fn cat_command<'a>(alloc: Global) -> Result<Command<'a>, AllocError>
     ensures { IsLine result cat_line }
 {
     let cat = named(alloc, "cat", "Prints the bytes of an object");
-    let at = with_number(alloc, cat, "at", "M", AT);
-    let image = with_operand(alloc, at, "image", IMAGE.0, IMAGE.1);
-    with_operand(alloc, image, "object", "OBJECT", "The number of an object")
+    let at = with_value(alloc, cat, "at", "M", AT);
+    let name = with_value(
+        alloc,
+        at,
+        "name",
+        "TEXT",
+        "The one object whose attribute is this text, in place of OBJECT",
+    );
+    let image = with_operand(alloc, name, "image", IMAGE.0, IMAGE.1);
+    with_optional(alloc, image, "object", "OBJECT", "The number of an object")
 }
 
 fn info_command<'a>(alloc: Global) -> Result<Command<'a>, AllocError>
     ensures { IsLine result info_line }
 {
     let info = named(alloc, "info", "Prints the numbers of an image");
-    let json = with_flag(alloc, info, "json", JSON);
+    let moments = with_flag(alloc, info, "moments", MOMENTS);
+    let json = with_flag(alloc, moments, "json", ONE_JSON);
     with_operand(alloc, json, "image", IMAGE.0, IMAGE.1)
 }
 
@@ -73,9 +115,17 @@ fn diff_command<'a>(alloc: Global) -> Result<Command<'a>, AllocError>
     ensures { IsLine result diff_line }
 {
     let diff = named(alloc, "diff", "Prints what differs between two moments");
-    let object = with_number(alloc, diff, "object", "O", "Of this object alone");
-    let patch = with_flag(alloc, object, "patch", "Also the bytes that differ");
-    let json = with_flag(alloc, patch, "json", JSON);
+    let object = with_value(alloc, diff, "object", "O", OBJECT);
+    let name = with_value(alloc, object, "name", "TEXT", NAME);
+    let patch = with_flag(alloc, name, "patch", "Also the bytes that differ");
+    let text = with_flag(
+        alloc,
+        patch,
+        "text",
+        "Also the lines that differ, where both versions are text",
+    );
+    let moments = with_flag(alloc, text, "moments", MOMENTS);
+    let json = with_flag(alloc, moments, "json", JSON);
     let image = with_operand(alloc, json, "image", IMAGE.0, IMAGE.1);
     let from = with_operand(alloc, image, "from", "FROM", "The first moment");
     with_optional(
@@ -95,7 +145,7 @@ fn export_command<'a>(alloc: Global) -> Result<Command<'a>, AllocError>
         "export",
         "Writes the bytes of each object into a folder, with a manifest",
     );
-    let at = with_number(alloc, export, "at", "M", AT);
+    let at = with_value(alloc, export, "at", "M", AT);
     let image = with_operand(alloc, at, "image", IMAGE.0, IMAGE.1);
     with_operand(alloc, image, "folder", "DIR", "The folder")
 }
@@ -103,22 +153,30 @@ fn export_command<'a>(alloc: Global) -> Result<Command<'a>, AllocError>
 fn restore_command<'a>(alloc: Global) -> Result<Command<'a>, AllocError>
     ensures { IsLine result restore_line }
 {
-    let restore = named(
-        alloc,
-        "restore",
-        "Makes the present what it was at a moment",
-    );
-    let at = with_needed_number(alloc, restore, "at", "M", "The moment");
-    let objects = with_numbers(
+    let about = "Makes the present what it was at a moment";
+    let restore = named(alloc, "restore", about);
+    let at = with_needed_value(alloc, restore, "at", "M", "The moment");
+    let objects = with_values(
         alloc,
         at,
         "object",
         "O",
         "This object alone; may be given again",
     );
+    let name = with_value(alloc, objects, "name", "TEXT", NAME);
+    with_restore_settings(alloc, name)
+}
+
+// What else a restore may be asked for, and the image.
+fn with_restore_settings<'a>(
+    alloc: Global,
+    restore: Result<Command<'a>, AllocError>,
+) -> Result<Command<'a>, AllocError>
+    ensures { (app : App) → IsLine restore.entry app → IsLine result (with_restore_rules app) }
+{
     let dry_run = with_flag(
         alloc,
-        objects,
+        restore,
         "dry-run",
         "Prints what would be done, and does nothing",
     );
@@ -126,16 +184,30 @@ fn restore_command<'a>(alloc: Global) -> Result<Command<'a>, AllocError>
         alloc,
         dry_run,
         "flush",
-        "Where a journal is full, hides the object's moments between",
+        "Where a journal is full, hides the fewest of its versions",
     );
-    with_operand(alloc, flush, "image", IMAGE.0, IMAGE.1)
+    let skip = with_flag(
+        alloc,
+        flush,
+        "skip",
+        "Leaves out objects that can't be restored",
+    );
+    let keep_newer = with_flag(
+        alloc,
+        skip,
+        "keep-newer",
+        "Keeps objects that were made since the moment",
+    );
+    let json = with_flag(alloc, keep_newer, "json", JSON);
+    with_operand(alloc, json, "image", IMAGE.0, IMAGE.1)
 }
 
 fn check_command<'a>(alloc: Global) -> Result<Command<'a>, AllocError>
     ensures { IsLine result check_line }
 {
     let check = named(alloc, "check", "Reads every version that can be read");
-    with_operand(alloc, check, "image", IMAGE.0, IMAGE.1)
+    let json = with_flag(alloc, check, "json", ONE_JSON);
+    with_operand(alloc, json, "image", IMAGE.0, IMAGE.1)
 }
 
 fn compact_command<'a>(alloc: Global) -> Result<Command<'a>, AllocError>
@@ -146,7 +218,8 @@ fn compact_command<'a>(alloc: Global) -> Result<Command<'a>, AllocError>
         "compact",
         "Cleans a drive, and gathers what is scattered",
     );
-    with_operand(alloc, compact, "image", IMAGE.0, IMAGE.1)
+    let json = with_flag(alloc, compact, "json", ONE_JSON);
+    with_operand(alloc, json, "image", IMAGE.0, IMAGE.1)
 }
 
 fn salvage_command<'a>(alloc: Global) -> Result<Command<'a>, AllocError>
@@ -157,8 +230,27 @@ fn salvage_command<'a>(alloc: Global) -> Result<Command<'a>, AllocError>
         "salvage",
         "Writes what a damaged image still has of each object into a folder",
     );
-    let image = with_operand(alloc, salvage, "image", IMAGE.0, IMAGE.1);
+    let json = with_flag(alloc, salvage, "json", ONE_JSON);
+    let image = with_operand(alloc, json, "image", IMAGE.0, IMAGE.1);
     with_operand(alloc, image, "folder", "DIR", "The folder")
+}
+
+fn report_command<'a>(alloc: Global) -> Result<Command<'a>, AllocError>
+    ensures { IsLine result report_line }
+{
+    let report = named(
+        alloc,
+        "report",
+        "Prints a page for browsers: the objects, what was changed, and what differs",
+    );
+    let since = with_value(
+        alloc,
+        report,
+        "since",
+        "M",
+        "Differences since this moment, in place of the first that can be read",
+    );
+    with_operand(alloc, since, "image", IMAGE.0, IMAGE.1)
 }
 
 // The program with one command more. The first refusal of memory stays.
@@ -166,13 +258,14 @@ fn with_command<'a>(
     program: Result<Command<'a>, AllocError>,
     command: Result<Command<'a>, AllocError>,
 ) -> Result<Command<'a>, AllocError>
-    ensures { (app added : App) → IfOk program.entry (λ c. app_of c ≡ app) → IsLine command.entry added
+    ensures { (app added : App) → IfOk program.entry (λ c. app_of c ≡ app)
+        → IsLine command.entry added
         → IfOk result (λ c. app_of c ≡ with_subcommand app added.top) }
 {
     program?.subcommand(command?)
 }
 
-// The program with no command.
+// The program with no command but `help`.
 fn empty_program<'a>(alloc: Global) -> Result<Command<'a>, AllocError>
     ensures { IfOk result (λ c. app_of c ≡ program) }
 {
@@ -183,8 +276,7 @@ fn empty_program<'a>(alloc: Global) -> Result<Command<'a>, AllocError>
             )
             .version(VERSION)
             .propagate_version(true)
-            .subcommand_required(true)
-            .disable_help_subcommand(true),
+            .subcommand_required(true),
     )
 }
 
@@ -201,5 +293,6 @@ pub(crate) fn command_line<'a>(alloc: Global) -> Result<Command<'a>, AllocError>
     let restore = with_command(export, restore_command(alloc));
     let check = with_command(restore, check_command(alloc));
     let compact = with_command(check, compact_command(alloc));
-    with_command(compact, salvage_command(alloc))
+    let salvage = with_command(compact, salvage_command(alloc));
+    with_command(salvage, report_command(alloc))
 }

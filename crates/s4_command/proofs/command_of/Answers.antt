@@ -5,7 +5,7 @@ use Rattle.clap.specs.Walk.{Row, Text}
 use Rattle.s4_command.specs.CommandLine.{line, Spells, SpellsNone}
 use Rattle.s4_command.specs.declared.NoCommand.TheVariants.{NoMemory}
 use Rattle.s4_command.proofs.Refusals.{under_premise}
-use Rattle.s4_command.proofs.Simple.{same_subcommand}
+use Rattle.s4_command.proofs.Simple.{no_fault, same_fault, same_subcommand}
 use Rattle.s4_command.proofs.command_of.Goals as goal
 
 pub returns-in-Ok-clause-spelled : goal.returns-in-Ok-clause-spelled
@@ -23,4 +23,10 @@ returns-in-Ok-clause-usage g c =
 pub returns-in-Err-clause-usage : goal.returns-in-Err-clause-usage
 returns-in-Err-clause-usage g c = λ apart taken.
     let words = map g.S.AsStr.text c.args.words.now in
-    absurd (apart (c.refused.ensures (c.in-Err.ensures.passes (subst (λ (a : App). takes a words ≡ true) (sym c.in_ok-parser.ensures) taken))))
+    absurd (apart (c.refused.ensures.memory (c.in-Err.ensures.passes (subst (λ (a : App). takes a words ≡ true) (sym c.in_ok-parser.ensures) taken))))
+
+pub returns-in-Ok-clause-refused : goal.returns-in-Ok-clause-refused
+returns-in-Ok-clause-refused g c = λ faulty. absurd (faulty (no_fault _ (map g.S.AsStr.text c.args.words.now) c.in_ok-parser.ensures c.in-Ok.ensures.kinds))
+
+pub returns-in-Err-clause-refused : goal.returns-in-Err-clause-refused
+returns-in-Err-clause-refused g c = λ _. c.refused.ensures.refused _ (same_fault _ (map g.S.AsStr.text c.args.words.now) c.in-Err.error c.in_ok-parser.ensures c.in-Err.ensures.kinds)

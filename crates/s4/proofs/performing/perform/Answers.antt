@@ -1,7 +1,32 @@
-use Rattle.std.proofs.Common.{inl}
+use Rattle.std.proofs.Common.{inl, inr, map, rules, subst}
+use Rattle.clap.specs.Faults.{fault_of}
+use Rattle.clap.specs.Values.{kind_of}
+use Rattle.s4_command.specs.CommandLine.{line, IsRefusedBy}
+use Rattle.s4.specs.Performing.{IsUsage}
 use Rattle.s4.proofs.Undone.{undone_on}
 use Rattle.s4.proofs.performing.perform.Goals as goal
 
 -- the words spell the command that isn't done, or is
 pub returns-in-Ok-clause-kept : goal.returns-in-Ok-clause-kept
 returns-in-Ok-clause-kept g c = λ failed. undone_on _ _ _ _ (λ done. inl (c.in-Ok.command, c.in-Ok.ensures.spelled, done)) (c.perform_command.ensures.kept failed)
+
+-- they spell the command that status 1 says something of
+pub returns-in-Ok-clause-differs : goal.returns-in-Ok-clause-differs
+returns-in-Ok-clause-differs g c = λ one. inl (c.in-Ok.command, c.in-Ok.ensures.spelled, c.perform_command.ensures.differs one)
+
+-- they spell none, and ask for help or the version
+pub returns-in-Err-Asked-clause-done : goal.returns-in-Err-Asked-clause-done
+returns-in-Err-Asked-clause-done g c = λ done.
+    let words = map g.S.AsStr.text c.args.words.now in
+    let none : IsUsage words = search rules in
+    inr (record {
+      none = none;
+      asks = λ faulty.
+          let why = subst (IsRefusedBy (fault_of line words)) c.in-Err-Asked.field-0-is (c.in-Err-Asked.ensures.refused faulty) in
+          record { kind = kind_of c.in-Err-Asked.help; among = why.0; asked = why.1 };
+    })
+
+pub returns-in-Err-Asked-clause-differs : goal.returns-in-Err-Asked-clause-differs
+returns-in-Err-Asked-clause-differs g c = λ one.
+    let none : IsUsage (map g.S.AsStr.text c.args.words.now) = search rules in
+    inr none

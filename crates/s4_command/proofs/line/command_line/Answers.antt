@@ -1,5 +1,5 @@
 use Rattle.clap.specs.Simple.{with_subcommand}
-use Rattle.s4_command.specs.CommandLine.{program, list_line, log_line, cat_line, info_line, diff_line, export_line, restore_line, check_line, compact_line, salvage_line}
+use Rattle.s4_command.specs.CommandLine.{program, list_line, log_line, cat_line, info_line, diff_line, export_line, restore_line, check_line, compact_line, salvage_line, report_line}
 use Rattle.s4_command.proofs.line.command_line.Goals as goal
 
 pub returns : goal.returns
@@ -13,6 +13,7 @@ returns c =
     let seven = with_subcommand six restore_line.top in
     let eight = with_subcommand seven check_line.top in
     let nine = with_subcommand eight compact_line.top in
+    let ten = with_subcommand nine salvage_line.top in
     let first = c.with_command-list.ensures program list_line c.empty_program.ensures c.list_command.ensures in
     let second = c.with_command-log.ensures one log_line first c.log_command.ensures in
     let third = c.with_command-cat.ensures two cat_line second c.cat_command.ensures in
@@ -22,4 +23,5 @@ returns c =
     let seventh = c.with_command-restore.ensures six restore_line sixth c.restore_command.ensures in
     let eighth = c.with_command-check.ensures seven check_line seventh c.check_command.ensures in
     let ninth = c.with_command-compact.ensures eight compact_line eighth c.compact_command.ensures in
-    c.with_command.ensures nine salvage_line ninth c.salvage_command.ensures
+    let tenth = c.with_command-salvage.ensures nine salvage_line ninth c.salvage_command.ensures in
+    c.with_command.ensures ten report_line tenth c.report_command.ensures

@@ -1,5 +1,0 @@
-use Rattle.std.proofs.Common.{Some}
-use Rattle.s4_command.proofs.reading.needed_number_in.Goals as goal
-
-pub returns-in-Err-clause-usage : goal.returns-in-Err-clause-usage
-returns-in-Err-clause-usage c = λ number asked. c.in-Err.ensures.usage (Some number) asked

@@ -1,0 +1,112 @@
+-- What `compact` prints, and what it leaves.
+use Rattle.std.specs.Prelude.{◌≡◌, ◌⊎◌, ℕ, ◌++◌, ◌==◌, if◌then◌else◌, Bool, true, false, List, Option, codes, decimal}
+use Rattle.std.specs.Io.KnownBytes.{Appends}
+use Rattle.serde_json.specs.Data.{Data, number, unsigned, string, object, member, no_members}
+use Rattle.serde_json.specs.Written.{compact_text}
+use Rattle.s4_types.specs.declared.refusals.Refusal.TheVariants.{NoRoom}
+use Rattle.drive.specs.Fields.{DriveFields, state_in, store_of}
+use Rattle.drive.specs.Keeping.{KeepsVersions}
+use Rattle.drive_compaction.specs.Compacting.{IsCompacted, LosesRoom}
+use Rattle.drive_compaction.specs.Past.{IsPast}
+use Rattle.drive_compaction.specs.declared.turns.Ending.{Ending}
+use Rattle.drive_compaction.specs.declared.turns.Ending.TheVariants.{Done, OutOfRoom, Limit}
+use Rattle.s4_command.specs.declared.whole.CompactAsked.{CompactAsked}
+use Rattle.s4_images.specs.Commands.{OverImage, ChangesImage}
+use Rattle.s4_images.specs.declared.commands.Verdict.{Verdict}
+use Rattle.s4_images.specs.declared.commands.Verdict.TheVariants.{Fine, Differs}
+use Rattle.s4_compact.specs.declared.reports.Report.{Report}
+
+-- ---- what is printed
+
+-- how far the cleaner came: to its end, or not for too little room; or no object was cleaned
+abbrev pub cleaning_word : Report → List ℕ
+cleaning_word r = if r.cleans then (if r.compaction.work.is_cleaned then codes "whole" else codes "stopped") else codes "none"
+
+-- why the turns ended: a whole one freed nothing, a move found too little room, or there were as many as may be
+abbrev pub ending_word : Ending → List ℕ
+ending_word Done = codes "done"
+ending_word OutOfRoom = codes "no room"
+ending_word Limit = codes "limit"
+
+-- whether hiding moments would give more room
+abbrev pub advice : ℕ → List ℕ
+advice past = if past == 0 then codes "only a larger image gives more room\n" else (decimal past ++ codes " blocks are held for the past alone; hiding its moments frees them\n")
+
+-- how much room there was and is, in blocks and in free frames
+abbrev pub room_text : Report → List ℕ
+room_text r =
+    codes "room_before " ++ (decimal r.compaction.room_before ++ (codes "\nroom_after " ++ (decimal r.compaction.room_after
+    ++ (codes "\nfree_before " ++ (decimal r.compaction.free_before ++ (codes "\nfree_after " ++ (decimal r.compaction.free_after ++ codes "\n")))))))
+
+-- what was done for it
+abbrev pub work_text : Report → List ℕ
+work_text r =
+    codes "turns " ++ (decimal r.compaction.turns ++ (codes "\nrewritten " ++ (decimal r.compaction.work.rewritten ++ (codes "\nremoved " ++ (decimal r.compaction.work.removed
+    ++ (codes "\nemptied " ++ (decimal r.compaction.work.frames ++ (codes "\nmoves " ++ (decimal r.compaction.work.moves ++ codes "\n")))))))))
+
+-- how it ended, and what is held for the past alone
+abbrev pub end_text : Report → List ℕ
+end_text r = codes "cleaning " ++ (cleaning_word r ++ (codes "\nending " ++ (ending_word r.compaction.ending ++ (codes "\npast " ++ (decimal r.past ++ codes "\n")))))
+
+-- the lines of a compaction, each number after its name
+abbrev pub report_text : Report → List ℕ
+report_text r = room_text r ++ (work_text r ++ (end_text r ++ advice r.past))
+
+-- the same as one object
+abbrev pub report_data : Report → Data
+report_data r =
+    object (member (codes "cleaning") (string (cleaning_word r))
+    (member (codes "emptied") (number (unsigned r.compaction.work.frames))
+    (member (codes "ending") (string (ending_word r.compaction.ending))
+    (member (codes "free_after") (number (unsigned r.compaction.free_after))
+    (member (codes "free_before") (number (unsigned r.compaction.free_before))
+    (member (codes "moves") (number (unsigned r.compaction.work.moves))
+    (member (codes "past") (number (unsigned r.past))
+    (member (codes "removed") (number (unsigned r.compaction.work.removed))
+    (member (codes "rewritten") (number (unsigned r.compaction.work.rewritten))
+    (member (codes "room_after") (number (unsigned r.compaction.room_after))
+    (member (codes "room_before") (number (unsigned r.compaction.room_before))
+    (member (codes "turns") (number (unsigned r.compaction.turns)) no_members))))))))))))
+
+abbrev pub report_line : Report → List ℕ
+report_line r = compact_text (report_data r) ++ codes "\n"
+
+-- the lines that are asked for
+abbrev pub printed : Bool → Report → List ℕ
+printed true r = report_line r
+printed false r = report_text r
+
+-- ---- what is left
+
+-- A drive was compacted, with the cleaner or without it, and the output has the lines of that. History and versions stay.
+pub record CompactsBy (cleans : Bool) (d later : DriveFields) (compact : CompactAsked) (output output' : Option (List ℕ)) : Type 0 where
+  pub report : Report
+  pub way : report.cleans ≡ cleans
+  pub between : DriveFields
+  pub is : IsCompacted cleans d between report.compaction
+  pub past : IsPast between report.past
+  pub same : store_of later ≡ store_of between
+  pub ledger : later.ledger ≡ d.ledger
+  pub needed : KeepsVersions (state_in d) (store_of d) (store_of later)
+  pub wrote : Appends output output' (printed compact.json report)
+
+-- What `compact` asks for was done to a drive.
+pub record Compacts (d later : DriveFields) (compact : CompactAsked) (output output' : Option (List ℕ)) : Type 0 where
+  pub cleans : Bool
+  pub compacts : CompactsBy cleans d later compact output output'
+
+-- With the cleaner a drive would have less room than before.
+pub record LosesByCleaning (d : DriveFields) : Type 0 where
+  pub later : DriveFields
+  pub loses : LosesRoom d later NoRoom
+
+-- what a trial found of a drive: whether it has no less room with the cleaner
+abbrev pub Tries : DriveFields → Verdict → Type 0
+Tries d Fine = Unit {0}
+Tries d Differs = LosesByCleaning d
+
+-- The drive of an image was compacted with the cleaner; or without it, where it would have less room with it.
+abbrev pub CompactsImage : (known known' : Option (List ℕ)) → CompactAsked → (output output' : Option (List ℕ)) → Type 0
+CompactsImage known known' compact output output' =
+    ChangesImage known known' (λ d later. CompactsBy true d later compact output output')
+    ⊎ (OverImage known LosesByCleaning × ChangesImage known known' (λ d later. CompactsBy false d later compact output output'))

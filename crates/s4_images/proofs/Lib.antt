@@ -1,0 +1,3 @@
+pub mod Done
+pub mod Fronts
+pub mod Kept

@@ -1,0 +1,37 @@
+-- The moment and the object that a command asks for.
+use Rattle.std.specs.Prelude.{◌≡◌, ◌≢◌, ◌⊎◌, ℕ, List, Option, Some, None}
+use Rattle.object_map.specs.Rows.{row_of}
+use Rattle.s4_model.specs.State.{State}
+use Rattle.version_store.specs.Store.{StoreFields}
+use Rattle.history_view.specs.Names.{IsNameRefusal, IsOnlyNamed}
+use Rattle.history_view.specs.declared.names.NameRefusal.TheVariants.{NotNamed}
+use Rattle.moment_words.specs.Words.{moment_of}
+use Rattle.moment_words.specs.declared.words.MomentWord.{MomentWord}
+
+-- the moment that a word says, by the clock
+abbrev pub moment_said : State → MomentWord → ℕ
+moment_said s word = moment_of word s.clock
+
+-- the moment that is asked for, and the clock's where none is
+abbrev pub moment_asked : State → Option MomentWord → ℕ
+moment_asked s None = s.clock
+moment_asked s (Some word) = moment_said s word
+
+-- The object that is asked for at a moment: the one of this number, which has a row, or else the one of this name then. None where neither
+-- is given.
+abbrev pub IsObjectAsked : State → StoreFields → Option ℕ → Option (List ℕ) → ℕ → Option ℕ → Type 0
+IsObjectAsked s store (Some o) name at found = (row_of store.rows o ≢ None) × (found ≡ Some o)
+IsObjectAsked s store None (Some name) at found = (o : ℕ) × IsOnlyNamed s store name at o × (found ≡ Some o)
+IsObjectAsked s store None None at found = found ≡ None
+
+-- An object is the one of a name at the first of two moments, or where none has it then, at the second.
+abbrev pub IsNamedInEither : State → StoreFields → List ℕ → (first second : ℕ) → ℕ → Type 0
+IsNamedInEither s store name first second o =
+    IsOnlyNamed s store name first o ⊎ (IsNameRefusal s store name first NotNamed × IsOnlyNamed s store name second o)
+
+-- The object that is asked for of two moments: the one of this number, which has a row, or else the one of this name at the first of them,
+-- or where none has it then, at the second. None where neither is given.
+abbrev pub IsObjectInEither : State → StoreFields → Option ℕ → Option (List ℕ) → (first second : ℕ) → Option ℕ → Type 0
+IsObjectInEither s store (Some o) name first second found = (row_of store.rows o ≢ None) × (found ≡ Some o)
+IsObjectInEither s store None (Some name) first second found = (o : ℕ) × IsNamedInEither s store name first second o × (found ≡ Some o)
+IsObjectInEither s store None None first second found = found ≡ None

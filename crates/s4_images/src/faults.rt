@@ -1,0 +1,162 @@
+//! Why a command failed.
+ghost use Rattle.std.specs.Prelude.{◌≡◌};
+ghost use Rattle.s4_images.specs.Failures.{is_of_folder};
+
+use history_export::{ExportError, ExportedFile};
+use image_commands::{Fault, Obstacle};
+use s4_types::Refusal;
+use thiserror::Error;
+
+/// Why a command over an image failed. Each prints what is wrong and what can be done, on one line.
+#[derive(Debug, Drop, Error)]
+pub enum Failure {
+    /// The file can't be read.
+    #[error("cannot be read; give the path of a file that you may read")]
+    CannotRead,
+    /// The file has no image, or a damaged one; or memory or a count was full.
+    #[error("{0}; {1}")]
+    Refused(Refusal, &'static str),
+    /// The moment is above the clock.
+    #[error("moment {asked} is to come; the clock is at {clock}, the last moment that can be read")]
+    Future {
+        asked: u64,
+        clock: u64,
+    },
+    /// The moment is below the floor, or hidden.
+    #[error("moment {asked} is hidden or expired; the earliest that can be read is {earliest}")]
+    Unreadable {
+        asked: u64,
+        earliest: u64,
+    },
+    /// No object has the number.
+    #[error("there is no object {object}; `s4 list --deleted` prints those that are")]
+    NoObject {
+        object: u64,
+    },
+    /// The object isn't there at the moment.
+    #[error("object {object} is not there at moment {moment}; `s4 log --object {object}` prints when it was")]
+    NotThere {
+        object: u64,
+        moment: u64,
+    },
+    /// No object has the name at the moment.
+    #[error("no object has this name at moment {moment}; `s4 list --at {moment}` prints the names")]
+    NotNamed {
+        moment: u64,
+    },
+    /// No object has the name at either of two moments.
+    #[error("no object has this name at moment {first} or {second}; `s4 list --at {first}` prints the names")]
+    NotNamedInEither {
+        first: u64,
+        second: u64,
+    },
+    /// No object is asked for, where one has to be.
+    #[error("no object is asked for; give its number, or its name by --name")]
+    NoneAsked,
+    /// Several objects have the name at the moment.
+    #[error("objects {first} and {second} have this name at moment {moment}; give one by its number")]
+    NamedTwice {
+        first: u64,
+        second: u64,
+        moment: u64,
+    },
+    /// Standard output can't be written.
+    #[error("cannot write standard output; give it room, or a reader that reads to the end")]
+    WriteFailed,
+    /// The object's journal has no room for what restores it.
+    #[error("object {object} has a full journal; --skip restores the others")]
+    JournalFull {
+        object: u64,
+    },
+    /// No further run of the object's moments may be hidden.
+    #[error("object {object} has its moments hidden in 64 runs; --skip restores the others")]
+    TooManySpans {
+        object: u64,
+    },
+    /// The drive has no room for what restores the object.
+    #[error("there is no room to restore object {object}; --skip restores the others")]
+    NoRoom {
+        object: u64,
+    },
+    /// What restores these objects has no room, and what can be done.
+    #[error("cannot restore {objects}; {advice}")]
+    NoRoomFor {
+        objects: String,
+        advice: &'static str,
+    },
+    /// The folder can't be made, or isn't one.
+    #[error("the folder cannot be made; name one that is empty, or a new one where you may write")]
+    NoFolder,
+    /// Anything is in the folder.
+    #[error("the folder is not empty; name one that is, or a new one")]
+    FolderNotEmpty,
+    /// A file in the folder can't be written.
+    #[error("{0} cannot be written in the folder; give it room, and name an empty folder")]
+    CannotExport(ExportedFile),
+    /// The image can't be replaced, and why.
+    #[error("cannot be written: {0}")]
+    CannotWrite(Obstacle),
+    /// The image can't be replaced, and why; the new one is in a file of its own.
+    #[error("cannot be replaced: {0}; the new image is in {1}")]
+    KeptIn(Obstacle, String),
+}
+
+impl From<Fault<'_>> for Failure {
+    fn from(fault: Fault<'_>) -> Failure {
+        match fault {
+            Fault::CannotRead(_) => Failure::CannotRead,
+            Fault::Refused(refusal) => Failure::from(refusal),
+            Fault::WriteFailed => Failure::WriteFailed,
+            Fault::CannotWrite(_, obstacle) => Failure::CannotWrite(obstacle),
+            Fault::KeptIn(_, obstacle, kept) => Failure::KeptIn(obstacle, kept),
+        }
+    }
+}
+
+impl From<ExportError> for Failure {
+    fn from(error: ExportError) -> Failure {
+        match error {
+            ExportError::NotEmpty => Failure::FolderNotEmpty,
+            ExportError::CannotRead => Failure::NoFolder,
+            ExportError::CannotWrite(file) => Failure::CannotExport(file),
+            ExportError::Refused(refusal) => Failure::from(refusal),
+        }
+    }
+}
+
+impl From<Refusal> for Failure {
+    fn from(refusal: Refusal) -> Failure {
+        Failure::Refused(refusal, advice(refusal))
+    }
+}
+
+// What can be done where the drive refuses something.
+fn advice(refusal: Refusal) -> &'static str {
+    match refusal {
+        Refusal::Damaged(_) => "read an older copy of the image",
+        Refusal::NoMemory => "try again with more memory",
+        Refusal::ClockEnd =>
+            "its moments or object numbers are used up: it can be read, and not changed",
+        Refusal::NoSpace | Refusal::NoRoom => "it is full; `s4 compact` may make room",
+        Refusal::ChainFull => "the journal of an object is full; hide some of its moments",
+        Refusal::TooManySpans => "no further run of moments can be hidden",
+        Refusal::NoObject => "`s4 list --deleted` prints the objects that are",
+        Refusal::Expired | Refusal::Future | Refusal::Flushed => {
+            "give a moment that can be read; `s4 info` prints the first and the last"
+        }
+        Refusal::Busy => "all its sessions are in use; try again",
+        _ => "the drive does not take it",
+    }
+}
+
+impl Failure {
+    /// Whether what failed is the folder that is written into, and not the image.
+    pub fn is_of_folder(&self) -> bool
+        ensures { result ≡ is_of_folder self.now }
+    {
+        match self {
+            Failure::NoFolder | Failure::FolderNotEmpty | Failure::CannotExport(_) => true,
+            _ => false,
+        }
+    }
+}

@@ -1,0 +1,199 @@
+//! The moment and the object that a command asks for.
+ghost use Rattle.std.specs.Prelude.{◌≡◌, ◌≢◌, None, IfErr, IfOk, IfSome, OnOk, option_map};
+ghost use Rattle.object_map.specs.Rows.{row_of};
+ghost use Rattle.s4_model.specs.Visible.{IsVisible};
+ghost use Rattle.drive.specs.Fields.{state_in, store_of};
+ghost use Rattle.history_view.specs.Names.{IsNameRefusal, IsOnlyNamed};
+ghost use Rattle.s4_images.specs.Moments.{IsNamedInEither, IsObjectAsked, IsObjectInEither};
+ghost use Rattle.s4_images.specs.Moments.{moment_asked, moment_said};
+
+use crate::faults::Failure;
+use drive::Drive;
+use history_view::{NameRefusal, earliest, is_visible, named_object};
+use moment_words::{MomentWord, moment_of};
+use s4_types::{Moment, ObjectId};
+use segment_word::Naming;
+
+/// The moment that a word says: an age is that long before the drive's clock.
+pub fn moment_said<J: Naming>(drive: &Drive<J>, word: MomentWord) -> Moment
+    ensures { result ≡ moment_said (state_in drive.now) word }
+{
+    Moment::new(moment_of(word, drive.clock().number()))
+}
+
+/// The moment that is asked for, the clock's where none is, whether it can be read or not.
+pub fn moment_or_clock<J: Naming>(drive: &Drive<J>, at: Option<MomentWord>) -> Moment
+    ensures { result ≡ moment_asked (state_in drive.now) at }
+{
+    match at {
+        Some(word) => moment_said(drive, word),
+        None => drive.clock(),
+    }
+}
+
+/// The moment that is asked for, the clock's where none is. An error where that moment of the object can't be read; of object 0 where it
+/// can't be read of any.
+pub fn moment_asked<J: Naming>(
+    drive: &Drive<J>,
+    object: ObjectId,
+    at: Option<MomentWord>,
+) -> Result<Moment, Failure>
+    ensures moment { IfOk result (λ moment. moment ≡ moment_asked (state_in drive.now) at) }
+    ensures readable { OnOk result (IsVisible (state_in drive.now) object (moment_asked (state_in drive.now) at)) }
+{
+    let moment = moment_or_clock(drive, at);
+    if is_visible(drive, object, moment) {
+        return Ok(moment);
+    }
+    Err(unreadable(drive, object, moment))
+}
+
+/// The failure of a moment that can't be read: it is to come, or hidden or expired, and then the failure has the first one that can be.
+pub fn unreadable<J: Naming>(drive: &Drive<J>, object: ObjectId, moment: Moment) -> Failure {
+    let (asked, clock) = (moment.number(), drive.clock().number());
+    if clock < asked {
+        return Failure::Future { asked, clock };
+    }
+    Failure::Unreadable {
+        asked,
+        earliest: earliest(drive, object).number(),
+    }
+}
+
+/// An error where no object has the number that is asked for.
+pub fn check_object<J: Naming>(drive: &Drive<J>, object: Option<u64>) -> Result<(), Failure>
+    ensures there { OnOk result (IfSome object (λ o. row_of drive.now.store.rows o ≢ None)) }
+{
+    let Some(object) = object else {
+        return Ok(());
+    };
+    match drive.row(ObjectId::new(object)) {
+        Some(_) => Ok(()),
+        None => Err(Failure::NoObject { object }),
+    }
+}
+
+/// The object that is asked for at a moment: by its number, or else by its attribute then. None where neither is given.
+///
+/// An error where no object has the number, where the moment can't be read, or where not exactly one object has the attribute then.
+pub fn object_asked<J: Naming>(
+    drive: &mut Drive<J>,
+    object: Option<u64>,
+    name: Option<&str>,
+    at: Moment,
+) -> Result<Option<ObjectId>, Failure>
+    ensures asked { IfOk result (IsObjectAsked (state_in drive.old) (store_of drive.old) object (option_map (λ text. text.now) name.entry) at) }
+    ensures ledger { drive.new.ledger ≡ drive.old.ledger }
+    ensures store { store_of drive.new ≡ store_of drive.old }
+{
+    if let Some(object) = object {
+        check_object(drive, Some(object))?;
+        return Ok(Some(ObjectId::new(object)));
+    }
+    let Some(name) = name else {
+        return Ok(None);
+    };
+    match named_at(drive, name, at)? {
+        Ok(object) => Ok(Some(object)),
+        Err(refusal) => Err(unnamed(refusal, at)),
+    }
+}
+
+/// The object that is asked for of two moments: by its number, or else by its attribute at the first of them, or where none has it then,
+/// at the second. None where neither is given.
+///
+/// An error where no object has the number, where a moment can't be read at which the attribute is looked for, or where none has it at
+/// either, or several at one.
+pub fn object_in_either<J: Naming>(
+    drive: &mut Drive<J>,
+    object: Option<u64>,
+    name: Option<&str>,
+    first: Moment,
+    second: Moment,
+) -> Result<Option<ObjectId>, Failure>
+    ensures asked { IfOk result (IsObjectInEither (state_in drive.old) (store_of drive.old) object (option_map (λ text. text.now) name.entry) first second) }
+    ensures ledger { drive.new.ledger ≡ drive.old.ledger }
+    ensures store { store_of drive.new ≡ store_of drive.old }
+{
+    if let Some(object) = object {
+        check_object(drive, Some(object))?;
+        return Ok(Some(ObjectId::new(object)));
+    }
+    let Some(name) = name else {
+        return Ok(None);
+    };
+    match named_in_either(drive, name, first, second) {
+        Ok(object) => Ok(Some(object)),
+        Err(failure) => Err(failure),
+    }
+}
+
+// The object of a name at the first moment, or where none has it then, at the second.
+fn named_in_either<J: Naming>(
+    drive: &mut Drive<J>,
+    name: &str,
+    first: Moment,
+    second: Moment,
+) -> Result<ObjectId, Failure>
+    ensures named { IfOk result (IsNamedInEither (state_in drive.old) (store_of drive.old) name.now first second) }
+    ensures ledger { drive.new.ledger ≡ drive.old.ledger }
+    ensures store { store_of drive.new ≡ store_of drive.old }
+{
+    match named_at(drive, name, first)? {
+        Ok(object) => Ok(object),
+        Err(NameRefusal::NotNamed) => named_at_last(drive, name, first, second),
+        Err(refusal) => Err(unnamed(refusal, first)),
+    }
+}
+
+// The object of a name at the second moment, where none has it at the first.
+fn named_at_last<J: Naming>(
+    drive: &mut Drive<J>,
+    name: &str,
+    first: Moment,
+    second: Moment,
+) -> Result<ObjectId, Failure>
+    ensures named { IfOk result (IsOnlyNamed (state_in drive.old) (store_of drive.old) name.now second) }
+    ensures ledger { drive.new.ledger ≡ drive.old.ledger }
+    ensures store { store_of drive.new ≡ store_of drive.old }
+{
+    match named_at(drive, name, second)? {
+        Ok(object) => Ok(object),
+        Err(NameRefusal::NotNamed) => Err(Failure::NotNamedInEither {
+            first: first.number(),
+            second: second.number(),
+        }),
+        Err(refusal) => Err(unnamed(refusal, second)),
+    }
+}
+
+// The object of a name at a moment, which can be read.
+fn named_at<J: Naming>(
+    drive: &mut Drive<J>,
+    name: &str,
+    at: Moment,
+) -> Result<Result<ObjectId, NameRefusal>, Failure>
+    ensures named { IfOk result (λ found. IfOk found (IsOnlyNamed (state_in drive.old) (store_of drive.old) name.now at)) }
+    ensures refused { IfOk result (λ found. IfErr found (IsNameRefusal (state_in drive.old) (store_of drive.old) name.now at)) }
+    ensures ledger { drive.new.ledger ≡ drive.old.ledger }
+    ensures store { store_of drive.new ≡ store_of drive.old }
+{
+    let any = ObjectId::new(0);
+    if !is_visible(drive, any, at) {
+        return Err(unreadable(drive, any, at));
+    }
+    Ok(named_object(drive, name.as_bytes(), at))
+}
+
+// The failure of a name that isn't that of one object.
+fn unnamed(refusal: NameRefusal, at: Moment) -> Failure {
+    let moment = at.number();
+    match refusal {
+        NameRefusal::NotNamed => Failure::NotNamed { moment },
+        NameRefusal::NamedTwice { first, second } => Failure::NamedTwice {
+            first: first.number(),
+            second: second.number(),
+            moment,
+        },
+    }
+}

@@ -1,0 +1,120 @@
+-- What is printed of a drive, line by line.
+use Rattle.std.proofs.Common.{◌≡◌, ◌+◌, ◌-◌, ◌<◌, ◌≤◌, ◌++◌, ◌∙◌, ◌==◌, ◌*◌, ◌%◌, ◌^◌, ℕ, Bool, true, List, [], ◌∷◌, length, count_by, cond, Option, get_or, drop, ap, ap₂, sym, subst, refl, arith}
+use Rattle.std.proofs.lemmas.List.{length-append, drop_more, drop_all}
+use Rattle.std.proofs.lemmas.List.Sums.{count_by-le-length, sum_by_push}
+use Rattle.std.specs.List.{flat_map}
+use Rattle.std.specs.Io.KnownBytes.{Appends}
+use Rattle.std.proofs.KnownBytes.{Appends-trans, Appends-nil}
+use Rattle.s4_types.specs.declared.spans.Span.{Span}
+use Rattle.s4_model.specs.State.{State}
+use Rattle.segment_word.specs.Frames.{Phase, Free, Open, Sealed, Draining, Frame, code_of}
+use Rattle.segment_word.specs.Layout.{word_of}
+use Rattle.version_store.specs.Store.{StoreFields}
+use Rattle.history_view.specs.declared.listing.Listed.{Listed}
+use Rattle.history_view.specs.Listing.{AreListedFrom, IsListedNext, IsPassed}
+use Rattle.moment_words.specs.declared.printing.MomentStyle.{MomentStyle}
+use Rattle.s4_reading.specs.Listing.{ListsRows, line_of_listed}
+use Rattle.s4_reading.specs.Telling.{CountsObjects, is_free_frame, objects_hidden}
+use Rattle.s4_images.proofs.Fronts.{IsFront, front_begun, front_more, front_whole, flat_more}
+
+-- ---- lists
+
+-- the objects up to one are listed
+pub record ListedTo (s : State) (store : StoreFields) (t : ℕ) (deleted json : Bool) (style : MomentStyle) (last : ℕ) (output output' : Option (List ℕ)) : Type 0 where
+  pub rows : List Listed
+  pub front : IsFront (AreListedFrom s store deleted t) rows last
+  pub wrote : Appends output output' (flat_map (line_of_listed json style) rows)
+
+-- none is at first
+pub none_listed : (s : State) (store : StoreFields) (t : ℕ) (deleted json : Bool) (style : MomentStyle) (output : Option (List ℕ)) → ListedTo s store t deleted json style 0 output output
+none_listed s store t deleted json style output = record { rows = []; front = front_begun (AreListedFrom s store deleted t); wrote = Appends-nil output }
+
+-- the next one is
+pub listed_on : (s : State) (store : StoreFields) (t : ℕ) (deleted json : Bool) (style : MomentStyle) (last : ℕ) (row : Listed) (a b c : Option (List ℕ)) → ListedTo s store t deleted json style last a b → IsListedNext s store deleted t last row
+    → Appends b c (line_of_listed json style row) → ListedTo s store t deleted json style row.object a c
+listed_on s store t deleted json style last row a b c before next wrote = record {
+  rows = before.rows ++ row ∷ [];
+  front = front_more (AreListedFrom s store deleted t) before.rows row last row.object before.front (λ rest more. (next, more));
+  wrote = subst (Appends a c) (sym (flat_more (line_of_listed json style) before.rows row)) (Appends-trans a b c (flat_map (line_of_listed json style) before.rows) (line_of_listed json style row) before.wrote wrote);
+}
+
+-- all are, where nothing is listed behind the last
+pub all_listed : (s : State) (store : StoreFields) (t : ℕ) (deleted json : Bool) (style : MomentStyle) (last : ℕ) (a b : Option (List ℕ)) → ListedTo s store t deleted json style last a b → ((o : ℕ) → last < o → IsPassed s store deleted t o)
+    → ListsRows s store t deleted json style a b
+all_listed s store t deleted json style last a b before none = record {
+  rows = before.rows;
+  listed = front_whole (AreListedFrom s store deleted t) before.rows last before.front none;
+  wrote = before.wrote;
+}
+
+-- ---- counts
+
+-- the objects up to one are counted: those that are live, and all
+pub record CountedTo (s : State) (store : StoreFields) (last live all : ℕ) : Type 0 where
+  pub rows : List Listed
+  pub front : IsFront (AreListedFrom s store true s.clock) rows last
+  pub are_live : live ≡ count_by (λ row. row.is_live) rows
+  pub are_all : all ≡ length rows
+
+-- none is at first
+pub none_counted : (s : State) (store : StoreFields) → CountedTo s store 0 0 0
+none_counted s store = record { rows = []; front = front_begun (AreListedFrom s store true s.clock); are_live = refl; are_all = refl }
+
+-- one more that is live or isn't
+one_more : (rows : List Listed) (row : Listed) → count_by (λ r. r.is_live) (rows ++ row ∷ []) ≡ count_by (λ r. r.is_live) rows + cond row.is_live 1 0
+one_more rows row = sum_by_push (λ r. cond r.is_live 1 0) rows row
+
+-- the next one is counted
+pub counted_on : (s : State) (store : StoreFields) (last live all more : ℕ) (row : Listed) → CountedTo s store last live all → IsListedNext s store true s.clock last row → more ≡ cond row.is_live 1 0
+    → CountedTo s store row.object (live + more) (all + 1)
+counted_on s store last live all more row before next is = record {
+  rows = before.rows ++ row ∷ [];
+  front = front_more (AreListedFrom s store true s.clock) before.rows row last row.object before.front (λ rest after. (next, after));
+  are_live = ap₂ (λ a b. a + b) before.are_live is ∙ sym (one_more before.rows row);
+  are_all = ap (λ n. n + 1) before.are_all ∙ sym (length-append before.rows (row ∷ []));
+}
+
+-- all are counted, where nothing is listed behind the last
+pub all_counted : (s : State) (store : StoreFields) (last live all : ℕ) → CountedTo s store last live all → ((o : ℕ) → last < o → IsPassed s store true s.clock o) → CountsObjects s store live (all - live)
+all_counted s store last live all before none = record {
+  rows = before.rows;
+  listed = front_whole (AreListedFrom s store true s.clock) before.rows last before.front none;
+  are_live = before.are_live;
+  are_all = omega (arith, before.are_live, before.are_all, count_by-le-length (λ r. r.is_live) before.rows);
+}
+
+-- as many are live as there are at most
+pub live_among_all : (s : State) (store : StoreFields) (last live all : ℕ) → CountedTo s store last live all → live ≤ all
+live_among_all s store last live all before = omega (arith, before.are_live, before.are_all, count_by-le-length (λ r. r.is_live) before.rows)
+
+-- ---- free frames
+
+few_codes : (p : Phase) → code_of p < 4
+few_codes Free = omega arith
+few_codes Open = omega arith
+few_codes Sealed = omega arith
+few_codes Draining = omega arith
+
+low_bits : (code g : ℕ) → code < 4 → (code + 4 * 0 + 2 ^ 32 * g) % 4 ≡ code
+low_bits code g few = omega (arith, few)
+
+-- the two low bits of a frame's word say whether it is free
+pub free_by_word : (k : Frame) (word : ℕ) → word ≡ word_of k 0 → (word % 4 == 0) ≡ is_free_frame k
+free_by_word k word is = ap (λ n. n == 0) (ap (λ n. n % 4) is ∙ low_bits (code_of k.phase) k.generation (few_codes k.phase))
+
+-- ---- hidden moments
+
+-- one run more is counted
+pub objects_on : (runs : List Span) (i last counted all : ℕ) (run : Span) → i < length runs → run ≡ get_or runs i run → counted + objects_hidden last (drop i runs) ≡ all
+    → (counted + cond (run.object == last) 0 1) + objects_hidden run.object (drop (i + 1) runs) ≡ all
+objects_on runs i last counted all run lt here so_far =
+    let rest = drop (i + 1) runs in
+    let more : objects_hidden last (drop i runs) ≡ cond (run.object == last) 0 1 + objects_hidden run.object rest =
+    ap (objects_hidden last) (drop_more runs i run lt ∙ ap (λ (r : Span). r ∷ rest) (sym here)) in
+    omega (arith, so_far, more)
+
+-- all are, at the end
+pub objects_all : (runs : List Span) (i last counted all : ℕ) → length runs ≤ i → counted + objects_hidden last (drop i runs) ≡ all → counted ≡ all
+objects_all runs i last counted all over so_far =
+    let none : objects_hidden last (drop i runs) ≡ 0 = ap (objects_hidden last) (drop_all i runs over) in
+    omega (arith, so_far, none)

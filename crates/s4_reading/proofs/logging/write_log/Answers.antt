@@ -1,0 +1,22 @@
+use Rattle.std.proofs.Common.{rules, List, subst}
+use Rattle.std.specs.List.{flat_map}
+use Rattle.std.specs.Io.KnownBytes.{Appends}
+use Rattle.std.proofs.KnownBytes.{Appends-trans}
+use Rattle.history_view.specs.declared.rows.LogRow.{LogRow}
+use Rattle.s4_reading.specs.Logging.{head_of_log, line_of_row}
+use Rattle.s4_reading.proofs.logging.write_log.Goals as goal
+
+pub returns : goal.returns
+returns g c =
+    let passed = g.W.Sink.passed in
+    let line = line_of_row c.args.json c.args.style in
+    let first : Appends (passed c.args.writer.now) (passed c.write_out.new.writer) (head_of_log c.args.json c.args.style) = search rules in
+    let rest : Appends (passed c.write_out.new.writer) (passed c.write_rows.new.writer) (flat_map line c.in_ok-rows.rows.items) =
+    subst (λ (l : List LogRow). Appends (passed c.write_out.new.writer) (passed c.write_rows.new.writer) (flat_map line l)) c.as_slice.ensures.value c.in_ok-write_rows.ensures.lines in
+    record {
+      log = record {
+        rows = c.in_ok-rows.rows.items;
+        shows = c.in_ok-rows.ensures.rows;
+        wrote = Appends-trans (passed c.args.writer.now) (passed c.write_out.new.writer) (passed c.write_rows.new.writer) (head_of_log c.args.json c.args.style) (flat_map line c.in_ok-rows.rows.items) first rest;
+      };
+    }

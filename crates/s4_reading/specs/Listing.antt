@@ -1,0 +1,43 @@
+-- What `list` prints.
+use Rattle.std.specs.Prelude.{ℕ, ◌++◌, if◌then◌else◌, Bool, List, [], Option}
+use Rattle.std.specs.List.{flat_map}
+use Rattle.std.specs.Io.KnownBytes.{Appends}
+use Rattle.s4_model.specs.State.{State}
+use Rattle.s4_model.specs.Visible.{IsVisible}
+use Rattle.version_store.specs.Store.{StoreFields}
+use Rattle.drive.specs.Fields.{DriveFields, state_in, store_of}
+use Rattle.history_view.specs.declared.listing.Listed.{Listed}
+use Rattle.history_view.specs.Listing.{AreListedFrom}
+use Rattle.history_text.specs.Lines.{list_head, listed_line}
+use Rattle.history_text.specs.Json.{json_line, listed_data}
+use Rattle.s4_command.specs.declared.contents.ListAsked.{ListAsked}
+use Rattle.moment_words.specs.declared.printing.MomentStyle.{MomentStyle}
+use Rattle.moment_words.specs.declared.words.MomentWord.{MomentWord}
+use Rattle.moment_words.specs.Texts.{style_of}
+use Rattle.s4_images.specs.Moments.{moment_asked}
+
+-- the line above the objects; no line above JSON
+abbrev pub head_of_list : Bool → MomentStyle → List ℕ
+head_of_list json style = if json then [] else list_head style
+
+-- the line of an object, for programs or for people
+abbrev pub line_of_listed : Bool → MomentStyle → Listed → List ℕ
+line_of_listed json style row = if json then json_line (listed_data style row) else listed_line style row
+
+-- The output has a line behind it for each object that is listed at a moment, by ascending number.
+pub record ListsRows (s : State) (store : StoreFields) (t : ℕ) (deleted json : Bool) (style : MomentStyle) (output output' : Option (List ℕ)) : Type 0 where
+  pub rows : List Listed
+  pub listed : AreListedFrom s store deleted t 0 rows
+  pub wrote : Appends output output' (flat_map (line_of_listed json style) rows)
+
+-- The output has a list behind it: the line of each object that is listed at the moment asked for, by ascending number. That moment can be
+-- read, but of objects of which alone it is hidden.
+pub record ListsObjects (s : State) (store : StoreFields) (at : Option MomentWord) (deleted json : Bool) (style : MomentStyle) (output output' : Option (List ℕ)) : Type 0 where
+  pub readable : IsVisible s 0 (moment_asked s at)
+  pub rows : List Listed
+  pub listed : AreListedFrom s store deleted (moment_asked s at) 0 rows
+  pub wrote : Appends output output' (head_of_list json style ++ flat_map (line_of_listed json style) rows)
+
+-- What `list` asks for was printed of a drive.
+abbrev pub Lists : DriveFields → ListAsked → (output output' : Option (List ℕ)) → Type 0
+Lists d list output output' = ListsObjects (state_in d) (store_of d) list.at list.deleted list.json (style_of (state_in d).clock list.moments) output output'

@@ -1,0 +1,90 @@
+-- What `log` prints.
+use Rattle.std.specs.Prelude.{◌≡◌, ℕ, ◌^◌, ◌-◌, ◌++◌, if◌then◌else◌, MatchBool, Bool, List, [], Option, Some, None, option_map}
+use Rattle.std.specs.List.{flat_map}
+use Rattle.std.specs.Io.KnownBytes.{Appends}
+use Rattle.s4_model.specs.State.{State}
+use Rattle.version_store.specs.Store.{StoreFields}
+use Rattle.drive.specs.Fields.{DriveFields, state_in, store_of}
+use Rattle.history_view.specs.declared.changes.Kind.{Kind}
+use Rattle.history_view.specs.declared.changes.Kind.TheVariants as kind
+use Rattle.history_view.specs.declared.logs.LogQuery.{LogQuery}
+use Rattle.history_view.specs.declared.rows.LogRow.{LogRow}
+use Rattle.history_view.specs.declared.stats.ObjectStat.{ObjectStat}
+use Rattle.history_view.specs.Logs.{ShowsLog, ShowsStats}
+use Rattle.history_text.specs.Lines.{log_head, log_line, stat_head, stat_line}
+use Rattle.history_text.specs.Json.{json_line, row_data, stat_data}
+use Rattle.moment_words.specs.declared.printing.MomentStyle.{MomentStyle}
+use Rattle.moment_words.specs.declared.words.MomentWord.{MomentWord}
+use Rattle.moment_words.specs.Texts.{style_of}
+use Rattle.s4_command.specs.declared.changes.ChangeKind.{ChangeKind}
+use Rattle.s4_command.specs.declared.changes.ChangeKind.TheVariants.{Made, Deleted, Written, Cut, Lengthened, Attribute, Touched}
+use Rattle.s4_command.specs.declared.changes.LogAsked.{LogAsked}
+use Rattle.s4_images.specs.Moments.{IsObjectAsked, moment_said}
+
+-- the first moment that is asked for; the least of all where none is
+abbrev pub first_asked : State → Option MomentWord → ℕ
+first_asked s None = 0
+first_asked s (Some since) = moment_said s since
+
+-- the last moment that is asked for; the greatest of all where none is
+abbrev pub last_asked : State → Option MomentWord → ℕ
+last_asked s None = 2 ^ 64 - 1
+last_asked s (Some until) = moment_said s until
+
+-- the kind of changes that a word asks for
+abbrev pub kind_asked : ChangeKind → Kind
+kind_asked Made = kind.Made
+kind_asked Deleted = kind.Deleted
+kind_asked Written = kind.Written
+kind_asked Cut = kind.Cut
+kind_asked Lengthened = kind.Lengthened
+kind_asked Attribute = kind.Attribute
+kind_asked Touched = kind.Touched
+
+-- A query asks for what the words of `log` ask for.
+pub record IsQuery (s : State) (store : StoreFields) (log : LogAsked) (query : LogQuery) : Type 0 where
+  pub object : IsObjectAsked s store log.object (option_map (λ name. name.now) log.name) s.clock query.object
+  pub since : query.since ≡ first_asked s log.since
+  pub until : query.until ≡ last_asked s log.until
+  pub of_kind : query.kind ≡ option_map kind_asked log.kind
+  pub limit : query.limit ≡ log.limit
+  pub by_object : query.order.by_object ≡ log.by_object
+  pub is_reversed : query.order.is_reversed ≡ log.reverse
+
+-- the line above the rows of a log; no line above JSON
+abbrev pub head_of_log : Bool → MomentStyle → List ℕ
+head_of_log json style = if json then [] else log_head style
+
+-- the line of a row of a log, for programs or for people
+abbrev pub line_of_row : Bool → MomentStyle → LogRow → List ℕ
+line_of_row json style row = if json then json_line (row_data style row) else log_line style row
+
+-- The output has the log that a query asks for after it: the head, and then a line for each row.
+pub record PrintsLog (s : State) (store : StoreFields) (query : LogQuery) (style : MomentStyle) (json : Bool) (output output' : Option (List ℕ)) : Type 0 where
+  pub rows : List LogRow
+  pub shows : ShowsLog s store query rows
+  pub wrote : Appends output output' (head_of_log json style ++ flat_map (line_of_row json style) rows)
+
+-- the line above what changes come to; no line above JSON
+abbrev pub head_of_stats : Bool → MomentStyle → List ℕ
+head_of_stats json style = if json then [] else stat_head style
+
+-- the line of what an object's changes come to, for programs or for people
+abbrev pub line_of_stat : Bool → MomentStyle → ObjectStat → List ℕ
+line_of_stat json style stat = if json then json_line (stat_data style stat) else stat_line style stat
+
+-- The output has what the log comes to that a query asks for after it: the head, and then a line for each object that it has changes of.
+pub record PrintsStats (s : State) (store : StoreFields) (query : LogQuery) (style : MomentStyle) (json : Bool) (output output' : Option (List ℕ)) : Type 0 where
+  pub stats : List ObjectStat
+  pub shows : ShowsStats s store query stats
+  pub wrote : Appends output output' (head_of_stats json style ++ flat_map (line_of_stat json style) stats)
+
+-- What `log` asks for was printed: the log, or what it comes to.
+pub record LogsDrive (s : State) (store : StoreFields) (log : LogAsked) (output output' : Option (List ℕ)) : Type 0 where
+  pub query : LogQuery
+  pub is : IsQuery s store log query
+  pub printed : MatchBool log.stat (PrintsStats s store query (style_of s.clock log.moments) log.json output output') (PrintsLog s store query (style_of s.clock log.moments) log.json output output')
+
+-- The same over a drive.
+abbrev pub Logs : DriveFields → LogAsked → (output output' : Option (List ℕ)) → Type 0
+Logs d log output output' = LogsDrive (state_in d) (store_of d) log output output'

@@ -1,0 +1,71 @@
+-- What `info` prints.
+use Rattle.std.specs.Prelude.{◌≡◌, ℕ, ◌+◌, ◌==◌, if◌then◌else◌, Bool, true, List, [], ◌∷◌, length, Option, count_by}
+use Rattle.std.specs.Io.KnownBytes.{Appends}
+use Rattle.s4_types.specs.declared.spans.Span.{Span}
+use Rattle.s4_model.specs.State.{State}
+use Rattle.segment_word.specs.Frames.{Frame, code_of}
+use Rattle.version_store.specs.Store.{StoreFields}
+use Rattle.version_store.specs.Costs.{room}
+use Rattle.drive.specs.Fields.{DriveFields, state_in, store_of}
+use Rattle.history_view.specs.declared.listing.Listed.{Listed}
+use Rattle.history_view.specs.Listing.{AreListedFrom}
+use Rattle.history_view.specs.Logs.{AreHidden}
+use Rattle.history_text.specs.declared.numbers.DriveNumbers.{DriveNumbers}
+use Rattle.history_text.specs.Lines.{numbers_lines}
+use Rattle.history_text.specs.Json.{json_line, numbers_data}
+use Rattle.moment_words.specs.declared.printing.MomentStyle.{MomentStyle}
+use Rattle.moment_words.specs.Texts.{style_of}
+use Rattle.s4_command.specs.declared.whole.InfoAsked.{InfoAsked}
+
+-- So many objects are live at the clock, and so many were deleted by then.
+pub record CountsObjects (s : State) (store : StoreFields) (live deleted : ℕ) : Type 0 where
+  pub rows : List Listed
+  pub listed : AreListedFrom s store true s.clock 0 rows
+  pub are_live : live ≡ count_by (λ row. row.is_live) rows
+  pub are_all : live + deleted ≡ length rows
+
+-- whether a frame is free
+abbrev pub is_free_frame : Frame → Bool
+is_free_frame k = code_of k.phase == 0
+
+-- whether a run hides moments of all objects
+abbrev pub is_of_all : Span → Bool
+is_of_all run = run.object == 0
+
+-- how many objects these runs are of that aren't the one before them; the runs of an object are together
+abbrev pub objects_hidden : ℕ → List Span → ℕ
+objects_hidden before [] = 0
+objects_hidden before (run ∷ runs) = (if run.object == before then 0 else 1) + objects_hidden run.object runs
+
+-- So many runs of moments are hidden of all objects, and of so many objects some are alone.
+pub record CountsHidden (s : State) (hidden objects : ℕ) : Type 0 where
+  pub runs : List Span
+  pub are : AreHidden s runs
+  pub of_all : hidden ≡ count_by is_of_all runs
+  pub of_objects : objects ≡ objects_hidden 0 runs
+
+-- These are the numbers of a drive of these frames.
+pub record IsNumbersOf (s : State) (store : StoreFields) (frames : List Frame) (n : DriveNumbers) : Type 0 where
+  pub frame_count : n.frames ≡ length frames
+  pub free : n.free ≡ count_by is_free_frame frames
+  pub counted : CountsObjects s store n.live n.deleted
+  pub next : n.next ≡ s.next
+  pub clock : n.clock ≡ s.clock
+  pub window : n.window ≡ s.window
+  pub floor : n.floor ≡ s.floor
+  pub room : n.room ≡ room store
+  pub hidden : CountsHidden s n.hidden n.hidden_objects
+
+-- the text of numbers, for programs or for people
+abbrev pub text_of_numbers : Bool → MomentStyle → DriveNumbers → List ℕ
+text_of_numbers json style n = if json then json_line (numbers_data style n) else numbers_lines style n
+
+-- The output has the numbers of a drive of these frames after it.
+pub record TellsNumbers (s : State) (store : StoreFields) (frames : List Frame) (json : Bool) (style : MomentStyle) (output output' : Option (List ℕ)) : Type 0 where
+  pub numbers : DriveNumbers
+  pub is : IsNumbersOf s store frames numbers
+  pub wrote : Appends output output' (text_of_numbers json style numbers)
+
+-- What `info` asks for was printed of a drive.
+abbrev pub Informs : DriveFields → InfoAsked → (output output' : Option (List ℕ)) → Type 0
+Informs d info output output' = TellsNumbers (state_in d) (store_of d) d.store.table.seat.frames info.json (style_of (state_in d).clock info.moments) output output'

@@ -1,0 +1,133 @@
+//! `check`: every version that can be read is read.
+ghost use Rattle.std.specs.Prelude.{◌≡◌, ◌+◌, ◌^◌, ◌<◌, false, OnOk, IfOk, string_bytes};
+ghost use Rattle.std.specs.Io.KnownBytes.{Appends};
+ghost use Rattle.drive.specs.Fields.{state_in, store_of};
+ghost use Rattle.s4_images.specs.Commands.{OverImage};
+ghost use Rattle.serde_json.specs.View.{view};
+ghost use Rattle.serde_json.specs.Written.{has_float};
+ghost use Rattle.history_text.specs.Json.{json_line};
+ghost use Rattle.s4_reading.specs.Checking.{Checks, ChecksVersions, counts_data, counts_text, printed_report};
+
+use crate::watching::Meter;
+use drive::Drive;
+use history_export::{CheckReport, Checked, check_all};
+use image_commands::{Files, write_out};
+use s4_command::CheckAsked;
+use s4_images::{DriveCommand, Failure, Verdict, over_image};
+use s4_types::{Refusal, Role};
+use segment_word::Naming;
+use serde_json::{Value, json};
+use serving::Sink;
+use std::alloc::{AllocError, Global};
+use std::thread::Threads;
+
+/// Reads every version of the drive of an image that can be read, shows on the meter how far that has come, and prints how many these are
+/// and their digest.
+pub fn check_image<T: Threads, F: Files, M: Meter, W: Sink>(
+    rt: &T,
+    alloc: Global,
+    files: &F,
+    meter: &M,
+    asked: &CheckAsked<'_>,
+    writer: &mut W,
+) -> Result<Verdict, Failure>
+    requires writer { W.failures writer.old + 1 < 2 ^ 64 }
+    ensures checks { IfOk result (λ verdict. OverImage (F.contents files.now asked.now.image.now) (λ drive. Checks drive asked.now (W.passed writer.old) (W.passed writer.new))) }
+{
+    let watched = WatchedCheck { asked, meter };
+    over_image(rt, alloc, files, asked.image, &watched, writer)
+}
+
+/// What `check` asks for, and where it is shown how far that has come.
+#[derive(Clone, Copy)]
+struct WatchedCheck<'a, M: Meter> {
+    asked: &'a CheckAsked<'a>,
+    meter: &'a M,
+}
+
+impl<M: Meter> DriveCommand for WatchedCheck<'_, M> {
+    ghost shows = { λ it d verdict. Checks d it.asked.now };
+
+    fn perform<J: Naming, W: Sink>(
+        &self,
+        alloc: Global,
+        drive: &mut Drive<J>,
+        writer: &mut W,
+    ) -> Result<Verdict, Failure> {
+        let mut meter = *self.meter;
+        check(alloc, drive, self.asked.json, &mut meter, writer)?;
+        Ok(Verdict::Fine)
+    }
+}
+
+// Reads every version of a drive that can be read, and prints how many these are and their digest.
+fn check<J: Naming, M: Meter, W: Sink>(
+    alloc: Global,
+    drive: &mut Drive<J>,
+    json: bool,
+    meter: &mut M,
+    writer: &mut W,
+) -> Result<(), Failure>
+    requires writer { W.failures writer.old + 1 < 2 ^ 64 }
+    ensures checks { OnOk result (ChecksVersions (state_in drive.old) (store_of drive.old) json (W.passed writer.old) (W.passed writer.new)) }
+{
+    let mut session = drive.session(Role::Client)?;
+    let checked = check_all(alloc, drive, &mut session, meter);
+    meter.end();
+    match checked {
+        Ok(report) => write_report(alloc, &report, json, writer),
+        Err(refusal) => Err(Failure::from(refusal)),
+    }
+}
+
+// Writes how many versions were read, and their digest.
+fn write_report<W: Sink>(
+    alloc: Global,
+    report: &CheckReport,
+    json: bool,
+    writer: &mut W,
+) -> Result<(), Failure>
+    requires writer { W.failures writer.old + 1 < 2 ^ 64 }
+    ensures text { OnOk result (Appends (W.passed writer.old) (W.passed writer.new) (printed_report json report.now)) }
+{
+    let text = match printed_report(alloc, report, json) {
+        Ok(text) => text,
+        Err(_) => return Err(Failure::from(Refusal::NoMemory)),
+    };
+    write_out(writer, text.as_bytes())?;
+    Ok(())
+}
+
+// Lines for people, or one object for programs.
+fn printed_report(alloc: Global, report: &CheckReport, json: bool) -> Result<String, AllocError>
+    ensures { IfOk result (λ text. string_bytes text ≡ printed_report json report.now) }
+{
+    let digits = hex::encode(alloc, report.digest.as_slice())?;
+    if json {
+        return counts_json(alloc, report.checked, digits.as_str());
+    }
+    counts_text(alloc, report.checked, digits.as_str())
+}
+
+fn counts_text(alloc: Global, checked: Checked, digits: &str) -> Result<String, AllocError>
+    ensures { IfOk result (λ text. string_bytes text ≡ counts_text checked digits.now) }
+{
+    let (versions, bytes) = (checked.versions, checked.bytes);
+    format!(in alloc; "versions {versions}\nbytes {bytes}\nsha256 {digits}\n")
+}
+
+fn counts_value(alloc: Global, checked: Checked, digits: &str) -> Result<Value, AllocError>
+    ensures { IfOk result (λ value. view value ≡ counts_data checked digits.now) }
+{
+    let (bytes, versions) = (checked.bytes, checked.versions);
+    json!(in alloc; { "bytes": bytes, "versions": versions, "sha256": digits })
+}
+
+fn counts_json(alloc: Global, checked: Checked, digits: &str) -> Result<String, AllocError>
+    ensures { IfOk result (λ line. string_bytes line ≡ json_line (counts_data checked digits.now)) }
+{
+    let value = counts_value(alloc, checked, digits)?;
+    let mut line = value.to_string(alloc)?;
+    line.push_str("\n")?;
+    Ok(line)
+}

@@ -1,0 +1,153 @@
+//! `diff`: what differs between two moments.
+ghost use Rattle.std.specs.Prelude.{◌≡◌, ◌+◌, ◌^◌, ◌<◌, IfOk};
+ghost use Rattle.drive.specs.Fields.{state_in};
+ghost use Rattle.history_diff.specs.Diffing.{TellsDifferences};
+ghost use Rattle.s4_images.specs.Commands.{OverImage};
+ghost use Rattle.s4_reading.specs.Comparing.{Compares, comparison_asked, detail_asked, differs_by, moment_given};
+
+use drive::Drive;
+use history_diff::{Detail, DiffFault, Stop, write_differences};
+use image_commands::Files;
+use moment_words::{MomentWord, style_of};
+use s4_command::DiffAsked;
+use s4_images::{
+    DriveCommand, Failure, Verdict, moment_or_clock, moment_said, object_in_either, over_image,
+    unreadable,
+};
+use s4_types::{Moment, ObjectId, Refusal};
+use segment_word::Naming;
+use serving::Sink;
+use std::alloc::Global;
+use std::thread::Threads;
+
+/// Prints what differs in the drive of an image between two moments. `Differs` where anything does.
+pub fn diff_image<T: Threads, F: Files, W: Sink>(
+    rt: &T,
+    alloc: Global,
+    files: &F,
+    asked: &DiffAsked<'_>,
+    writer: &mut W,
+) -> Result<Verdict, Failure>
+    requires writer { W.failures writer.old + 1 < 2 ^ 64 }
+    ensures compares { IfOk result (λ verdict. OverImage (F.contents files.now asked.now.image.now) (λ drive. Compares drive asked.now verdict (W.passed writer.old) (W.passed writer.new))) }
+{
+    over_image(rt, alloc, files, asked.image, &Comparing { asked }, writer)
+}
+
+/// What `diff` asks for.
+#[derive(Clone, Copy)]
+struct Comparing<'a> {
+    asked: &'a DiffAsked<'a>,
+}
+
+impl DriveCommand for Comparing<'_> {
+    ghost shows = { λ it d verdict. Compares d it.asked.now verdict };
+
+    fn perform<J: Naming, W: Sink>(
+        &self,
+        alloc: Global,
+        drive: &mut Drive<J>,
+        writer: &mut W,
+    ) -> Result<Verdict, Failure> {
+        diff(alloc, drive, self.asked, writer)
+    }
+}
+
+// Prints what differs of a drive between two moments.
+fn diff<J: Naming, W: Sink>(
+    alloc: Global,
+    drive: &mut Drive<J>,
+    asked: &DiffAsked<'_>,
+    writer: &mut W,
+) -> Result<Verdict, Failure>
+    requires writer { W.failures writer.old + 1 < 2 ^ 64 }
+    ensures compares { IfOk result (λ verdict. Compares drive.old asked.now verdict (W.passed writer.old) (W.passed writer.new)) }
+{
+    let (first, second) = (
+        moment_said(drive, asked.from),
+        moment_or_clock(drive, asked.to),
+    );
+    let object = object_in_either(drive, asked.object, asked.name, first, second)?;
+    write_compared(alloc, drive, object, asked, writer)
+}
+
+// Prints what differs of an object, or of all, between the two moments.
+fn write_compared<J: Naming, W: Sink>(
+    alloc: Global,
+    drive: &mut Drive<J>,
+    object: Option<ObjectId>,
+    asked: &DiffAsked<'_>,
+    writer: &mut W,
+) -> Result<Verdict, Failure>
+    requires writer { W.failures writer.old + 1 < 2 ^ 64 }
+    ensures told { IfOk result (λ verdict. TellsDifferences (state_in drive.old) (comparison_asked (state_in drive.old) asked.now object) (differs_by verdict) (W.passed writer.old) (W.passed writer.new)) }
+{
+    let comparison = comparison_asked(drive, asked, object);
+    match write_differences(alloc, drive, &comparison, writer) {
+        Ok(differs) => Ok(verdict_of(differs)),
+        Err(fault) => Err(failure_of(drive, &comparison, &fault)),
+    }
+}
+
+fn comparison_asked<J: Naming>(
+    drive: &Drive<J>,
+    asked: &DiffAsked<'_>,
+    object: Option<ObjectId>,
+) -> history_diff::DiffAsked
+    ensures { result ≡ comparison_asked (state_in drive.now) asked.now object }
+{
+    history_diff::DiffAsked {
+        object,
+        before: moment_said(drive, asked.from),
+        after: moment_given(drive, asked.to),
+        json: asked.json,
+        detail: detail_asked(asked),
+        style: style_of(drive.clock().number(), asked.moments),
+    }
+}
+
+fn detail_asked(asked: &DiffAsked<'_>) -> Detail
+    ensures { result ≡ detail_asked asked.now }
+{
+    match (asked.patch, asked.text) {
+        (true, _) => Detail::Bytes,
+        (false, true) => Detail::Lines,
+        (false, false) => Detail::Ranges,
+    }
+}
+
+fn moment_given<J: Naming>(drive: &Drive<J>, word: Option<MomentWord>) -> Option<Moment>
+    ensures { result ≡ moment_given (state_in drive.now) word }
+{
+    match word {
+        Some(word) => Some(moment_said(drive, word)),
+        None => None,
+    }
+}
+
+fn verdict_of(differs: bool) -> Verdict
+    ensures { differs_by result ≡ differs }
+{
+    if differs {
+        Verdict::Differs
+    } else {
+        Verdict::Fine
+    }
+}
+
+// The failure of what stopped the comparison.
+fn failure_of<J: Naming>(
+    drive: &Drive<J>,
+    comparison: &history_diff::DiffAsked,
+    fault: &DiffFault,
+) -> Failure {
+    match fault {
+        DiffFault::Unreadable(moment) => {
+            let judged = comparison.object.unwrap_or(ObjectId::new(0));
+            unreadable(drive, judged, *moment)
+        }
+        DiffFault::Stopped(Stop::Refused(refusal)) => Failure::from(*refusal),
+        DiffFault::Stopped(Stop::NoMemory) => Failure::from(Refusal::NoMemory),
+        DiffFault::Stopped(Stop::WriteFailed) => Failure::WriteFailed,
+    }
+}

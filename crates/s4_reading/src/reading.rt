@@ -1,0 +1,105 @@
+//! `cat`: the bytes of an object at a moment.
+ghost use Rattle.std.specs.Prelude.{◌≡◌, ◌+◌, ◌^◌, ◌<◌, IfOk, OnOk};
+ghost use Rattle.s4_model.specs.VersionAt.{version_of};
+ghost use Rattle.drive.specs.Fields.{state_in};
+ghost use Rattle.image_commands.specs.ReadingPast.{GivesVersion};
+ghost use Rattle.s4_images.specs.Commands.{OverImage};
+ghost use Rattle.s4_images.specs.Moments.{moment_asked};
+ghost use Rattle.s4_reading.specs.Reading.{Gives};
+
+use drive::Drive;
+use history_view::version_at;
+use image_commands::{Files, write_version};
+use moment_words::MomentWord;
+use s4_command::CatAsked;
+use s4_images::{
+    DriveCommand, Failure, Verdict, moment_asked, moment_or_clock, object_asked, over_image,
+};
+use s4_types::{Moment, ObjectId, Role, Version};
+use segment_word::Naming;
+use serving::Sink;
+use std::alloc::Global;
+use std::thread::Threads;
+
+/// Prints the bytes that an object of the drive of an image has at the moment that is asked for.
+pub fn cat_image<T: Threads, F: Files, W: Sink>(
+    rt: &T,
+    alloc: Global,
+    files: &F,
+    asked: &CatAsked<'_>,
+    writer: &mut W,
+) -> Result<Verdict, Failure>
+    requires writer { W.failures writer.old + 1 < 2 ^ 64 }
+    ensures gives { IfOk result (λ verdict. OverImage (F.contents files.now asked.now.image.now) (λ drive. Gives drive asked.now (W.passed writer.old) (W.passed writer.new))) }
+{
+    over_image(rt, alloc, files, asked.image, &Reading { asked }, writer)
+}
+
+/// What `cat` asks for.
+#[derive(Clone, Copy)]
+struct Reading<'a> {
+    asked: &'a CatAsked<'a>,
+}
+
+impl DriveCommand for Reading<'_> {
+    ghost shows = { λ it d verdict. Gives d it.asked.now };
+
+    fn perform<J: Naming, W: Sink>(
+        &self,
+        alloc: Global,
+        drive: &mut Drive<J>,
+        writer: &mut W,
+    ) -> Result<Verdict, Failure> {
+        cat(alloc, drive, self.asked, writer)?;
+        Ok(Verdict::Fine)
+    }
+}
+
+// Prints the bytes of the object of a drive that is asked for, at the moment that is asked for.
+fn cat<J: Naming, W: Sink>(
+    alloc: Global,
+    drive: &mut Drive<J>,
+    asked: &CatAsked<'_>,
+    writer: &mut W,
+) -> Result<(), Failure>
+    requires writer { W.failures writer.old + 1 < 2 ^ 64 }
+    ensures gives { OnOk result (Gives drive.old asked.now (W.passed writer.old) (W.passed writer.new)) }
+{
+    let at = moment_or_clock(drive, asked.at);
+    match object_asked(drive, asked.object, asked.name, at)? {
+        Some(object) => write_object(alloc, drive, object, asked.at, writer),
+        None => Err(Failure::NoneAsked),
+    }
+}
+
+// Prints the bytes of an object of a drive at a moment.
+fn write_object<J: Naming, W: Sink>(
+    alloc: Global,
+    drive: &mut Drive<J>,
+    object: ObjectId,
+    at: Option<MomentWord>,
+    writer: &mut W,
+) -> Result<(), Failure>
+    requires writer { W.failures writer.old + 1 < 2 ^ 64 }
+    ensures version { OnOk result (GivesVersion (version_of (state_in drive.old) object (moment_asked (state_in drive.old) at)) (W.passed writer.old) (W.passed writer.new)) }
+{
+    let moment = match moment_asked(drive, object, at) {
+        Ok(moment) => moment,
+        Err(failure) => return Err(failure),
+    };
+    let mut session = drive.session(Role::Client)?;
+    let version = version_at(alloc, drive, &mut session, object, moment)?;
+    if let Version::Absent = version {
+        return Err(not_there(object, moment));
+    }
+    write_version(&version, writer)?;
+    Ok(())
+}
+
+// The failure of an object that isn't there at a moment.
+fn not_there(object: ObjectId, moment: Moment) -> Failure {
+    Failure::NotThere {
+        object: object.number(),
+        moment: moment.number(),
+    }
+}

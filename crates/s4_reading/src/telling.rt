@@ -1,0 +1,204 @@
+//! `info`: the numbers of an image.
+ghost use Rattle.std.specs.Prelude.{◌≡◌, ◌+◌, ◌^◌, ◌<◌, if◌then◌else◌, IfOk, OnOk, string_bytes, length, count_by};
+ghost use Rattle.std.specs.Io.KnownBytes.{Appends};
+ghost use Rattle.drive.specs.Fields.{state_in, store_of};
+ghost use Rattle.s4_images.specs.Commands.{OverImage};
+ghost use Rattle.moment_words.specs.Texts as styles;
+ghost use Rattle.s4_reading.specs.Telling.{CountsHidden, CountsObjects, Informs, IsNumbersOf, TellsNumbers, is_free_frame, is_of_all, objects_hidden, text_of_numbers};
+
+use drive::Drive;
+use history_text::{DriveNumbers, numbers_json, numbers_lines};
+use history_view::next_listed;
+use image_commands::{Files, write_out};
+use moment_words::{MomentStyle, style_of};
+use s4_command::InfoAsked;
+use s4_images::{DriveCommand, Failure, Verdict, over_image};
+use s4_types::{Moment, ObjectId, Refusal, Span};
+use segment_table::OverFrames;
+use segment_word::Naming;
+use serving::Sink;
+use std::alloc::{AllocError, Global};
+use std::thread::Threads;
+
+/// Prints the numbers of the drive of an image.
+pub fn info_image<T: Threads, F: Files, W: Sink>(
+    rt: &T,
+    alloc: Global,
+    files: &F,
+    asked: &InfoAsked<'_>,
+    writer: &mut W,
+) -> Result<Verdict, Failure>
+    requires writer { W.failures writer.old + 1 < 2 ^ 64 }
+    ensures informs { IfOk result (λ verdict. OverImage (F.contents files.now asked.now.image.now) (λ drive. Informs drive asked.now (W.passed writer.old) (W.passed writer.new))) }
+{
+    over_image(rt, alloc, files, asked.image, &Numbering { asked }, writer)
+}
+
+/// What `info` asks for.
+#[derive(Clone, Copy)]
+struct Numbering<'a> {
+    asked: &'a InfoAsked<'a>,
+}
+
+impl DriveCommand for Numbering<'_> {
+    ghost shows = { λ it d verdict. Informs d it.asked.now };
+
+    fn perform<J: Naming, W: Sink>(
+        &self,
+        alloc: Global,
+        drive: &mut Drive<J>,
+        writer: &mut W,
+    ) -> Result<Verdict, Failure> {
+        info(alloc, drive, self.asked, writer)?;
+        Ok(Verdict::Fine)
+    }
+}
+
+// Prints the numbers of a drive.
+fn info<J: Naming, W: Sink>(
+    alloc: Global,
+    drive: &mut Drive<J>,
+    asked: &InfoAsked<'_>,
+    writer: &mut W,
+) -> Result<(), Failure>
+    requires writer { W.failures writer.old + 1 < 2 ^ 64 }
+    ensures numbers { OnOk result (TellsNumbers (state_in drive.old) (store_of drive.old) drive.old.store.table.seat.frames asked.now.json (styles.style_of (state_in drive.old).clock asked.now.moments) (W.passed writer.old) (W.passed writer.new)) }
+{
+    let style = style_of(drive.clock().number(), asked.moments);
+    let numbers = numbers_of(drive)?;
+    write_numbers(alloc, &numbers, asked.json, style, writer)?;
+    Ok(())
+}
+
+// The numbers of a drive.
+fn numbers_of<J: Naming>(drive: &mut Drive<J>) -> Result<DriveNumbers, Failure>
+    ensures { IfOk result (IsNumbersOf (state_in drive.old) (store_of drive.old) drive.old.store.table.seat.frames) }
+{
+    let frames = drive.frame_count();
+    let free = count_free(drive, frames);
+    let (hidden, hidden_objects) = hidden_of(drive)?;
+    let at = drive.clock();
+    let (next, window) = (drive.next().number(), drive.window());
+    let (clock, floor) = (at.number(), drive.floor().number());
+    let room = drive.room() as u64;
+    let (live, deleted) = count_objects(drive, at);
+    Ok(DriveNumbers {
+        frames: u64::from(frames),
+        free,
+        live,
+        deleted,
+        next,
+        clock,
+        window,
+        floor,
+        room,
+        hidden,
+        hidden_objects,
+    })
+}
+
+// How many frames are free: their words have no phase in the two low bits.
+fn count_free<J: Naming>(drive: &mut Drive<J>, frames: u16) -> u64
+    requires all { frames ≡ length drive.old.store.table.seat.frames }
+    ensures free { result ≡ count_by is_free_frame drive.old.store.table.seat.frames }
+    ensures same { drive.new ≡ drive.old }
+{
+    let mut free = 0;
+    for frame in 0..frames {
+        if drive.saved_word(frame) % 4 == 0 {
+            free += 1;
+        }
+    }
+    free
+}
+
+// How many runs of moments are hidden of all objects, and of how many objects some are alone.
+fn hidden_of<J: Naming>(drive: &Drive<J>) -> Result<(u64, u64), Failure>
+    ensures { IfOk result (λ counts. CountsHidden (state_in drive.now) counts.0 counts.1) }
+{
+    let runs = drive.spans()?;
+    Ok((count_of_all(runs.as_slice()), count_hidden(runs.as_slice())))
+}
+
+fn count_of_all(runs: &[Span]) -> u64
+    ensures { result ≡ count_by is_of_all runs.now }
+{
+    let mut count = 0;
+    for run in runs {
+        if run.object.number() == 0 {
+            count += 1;
+        }
+    }
+    count
+}
+
+// How many objects the runs are of: those of an object are together, and those of all are first.
+fn count_hidden(runs: &[Span]) -> u64
+    ensures { result ≡ objects_hidden 0 runs.now }
+{
+    let (mut count, mut last) = (0, 0);
+    for run in runs {
+        count += one_if(run.object.number() != last);
+        last = run.object.number();
+    }
+    count
+}
+
+// How many objects are live at the clock, and how many were deleted.
+fn count_objects<J: Naming>(drive: &mut Drive<J>, clock: Moment) -> (u64, u64)
+    requires clock { clock ≡ (state_in drive.old).clock }
+    ensures counted { CountsObjects (state_in drive.old) (store_of drive.old) result.0 result.1 }
+    ensures ledger { drive.new.ledger ≡ drive.old.ledger }
+    ensures store { store_of drive.new ≡ store_of drive.old }
+{
+    let (mut live, mut all) = (0, 0);
+    let mut last = ObjectId::new(0);
+    while let Some(row) = next_listed(drive, last, clock, true) {
+        // numbers that are read have 64 bits
+        let _ = row.object.number();
+        live += one_if(row.is_live);
+        all += 1;
+        last = row.object;
+    }
+    let deleted = all - live;
+    (live, deleted)
+}
+
+fn one_if(is_live: bool) -> u64
+    ensures { result ≡ (if is_live then 1 else 0) }
+{
+    if is_live { 1 } else { 0 }
+}
+
+// Writes the numbers.
+fn write_numbers<W: Sink>(
+    alloc: Global,
+    numbers: &DriveNumbers,
+    json: bool,
+    style: MomentStyle,
+    writer: &mut W,
+) -> Result<(), Failure>
+    requires writer { W.failures writer.old + 1 < 2 ^ 64 }
+    ensures { OnOk result (Appends (W.passed writer.old) (W.passed writer.new) (text_of_numbers json style numbers.now)) }
+{
+    let text = match text_of_numbers(alloc, numbers, json, style) {
+        Ok(text) => text,
+        Err(_) => return Err(Failure::from(Refusal::NoMemory)),
+    };
+    write_out(writer, text.as_bytes())?;
+    Ok(())
+}
+
+fn text_of_numbers(
+    alloc: Global,
+    numbers: &DriveNumbers,
+    json: bool,
+    style: MomentStyle,
+) -> Result<String, AllocError>
+    ensures { IfOk result (λ text. string_bytes text ≡ text_of_numbers json style numbers.now) }
+{
+    if json {
+        return numbers_json(alloc, numbers, style);
+    }
+    numbers_lines(alloc, numbers, style)
+}

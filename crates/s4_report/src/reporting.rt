@@ -1,0 +1,89 @@
+//! `report`: a page about a drive.
+ghost use Rattle.std.specs.Prelude.{◌≡◌, ◌+◌, ◌^◌, ◌<◌, IfOk, OnOk};
+ghost use Rattle.drive.specs.Fields.{state_in};
+ghost use Rattle.s4_images.specs.Commands.{OverImage};
+ghost use Rattle.s4_report.specs.Reporting.{ReportsDrive, since_asked};
+
+use drive::Drive;
+use history_diff::Stop;
+use history_report::{ReportFault, write_report};
+use image_commands::Files;
+use moment_words::MomentWord;
+use s4_command::ReportAsked;
+use s4_images::{DriveCommand, Failure, Verdict, moment_said, over_image, unreadable};
+use s4_types::{Moment, ObjectId, Refusal};
+use segment_word::Naming;
+use serving::Sink;
+use std::alloc::Global;
+use std::thread::Threads;
+
+/// Writes the page about the drive of an image.
+pub fn report_image<T: Threads, F: Files, W: Sink>(
+    rt: &T,
+    alloc: Global,
+    files: &F,
+    asked: &ReportAsked<'_>,
+    writer: &mut W,
+) -> Result<Verdict, Failure>
+    requires writer { W.failures writer.old + 1 < 2 ^ 64 }
+    ensures reports { IfOk result (λ verdict. OverImage (F.contents files.now asked.now.image.now) (λ drive. ReportsDrive drive asked.now (W.passed writer.old) (W.passed writer.new))) }
+{
+    over_image(rt, alloc, files, asked.image, &Reporting { asked }, writer)
+}
+
+/// What `report` asks for.
+#[derive(Clone, Copy)]
+struct Reporting<'a> {
+    asked: &'a ReportAsked<'a>,
+}
+
+impl DriveCommand for Reporting<'_> {
+    ghost shows = { λ it d verdict. ReportsDrive d it.asked.now };
+
+    fn perform<J: Naming, W: Sink>(
+        &self,
+        alloc: Global,
+        drive: &mut Drive<J>,
+        writer: &mut W,
+    ) -> Result<Verdict, Failure> {
+        report(alloc, drive, self.asked, writer)?;
+        Ok(Verdict::Fine)
+    }
+}
+
+// Writes the page about a drive.
+fn report<J: Naming, W: Sink>(
+    alloc: Global,
+    drive: &mut Drive<J>,
+    asked: &ReportAsked<'_>,
+    writer: &mut W,
+) -> Result<(), Failure>
+    requires writer { W.failures writer.old + 1 < 2 ^ 64 }
+    ensures page { OnOk result (ReportsDrive drive.old asked.now (W.passed writer.old) (W.passed writer.new)) }
+{
+    let since = since_asked(drive, asked.since);
+    match write_report(alloc, drive, since, writer) {
+        Ok(()) => Ok(()),
+        Err(fault) => Err(failure_of(drive, &fault)),
+    }
+}
+
+// The moment since which differences are asked for, by the drive's clock.
+fn since_asked<J: Naming>(drive: &Drive<J>, since: Option<MomentWord>) -> Option<Moment>
+    ensures { result ≡ since_asked (state_in drive.now) since }
+{
+    match since {
+        Some(word) => Some(moment_said(drive, word)),
+        None => None,
+    }
+}
+
+// The failure of a page that wasn't written to its end.
+fn failure_of<J: Naming>(drive: &Drive<J>, fault: &ReportFault) -> Failure {
+    match fault {
+        ReportFault::Unreadable(moment) => unreadable(drive, ObjectId::new(0), *moment),
+        ReportFault::Stopped(Stop::Refused(refusal)) => Failure::from(*refusal),
+        ReportFault::Stopped(Stop::NoMemory) => Failure::from(Refusal::NoMemory),
+        ReportFault::Stopped(Stop::WriteFailed) => Failure::WriteFailed,
+    }
+}
