@@ -14,8 +14,9 @@
             replies = [batch.append(note, b"!") for _ in range(3)]
         replies[-1].result()
 
-A drive that lasts is a file: `s4d.Image(path).session()`. A refusal is raised as an exception of its own class
-(`NoObject`, `Expired`, ..), all of them `Refused`; it names the request, the object and the moment.
+A drive that lasts is a file: `s4d.Image(path).session()`. What it has of the past is in `Image.log`, `diff` and others.
+A refusal is raised as an exception of its own class (`NoObject`, `Expired`, ..), all of them `Refused`; it names the
+request, the object and the moment.
 """
 from .connection import Peer, Reader, Writer
 from .drive import Drive, Past
@@ -23,15 +24,21 @@ from .errors import (REFUSALS, BadAttr, BadFrame, BadReply, BadSpan, Busy, Chain
                      Error, Expired, Flushed, Future, InUse, NoMemory, NoObject, NoRoom, NoSpace, NotAdmin,
                      ProgramFailed, Refused, Stale, TooLarge, TooManySpans)
 from .history import Kind, Span
-from .image import Facts, Image
+from .image import Facts, Image, Moment
 from .pipeline import Pipeline, Reply
 from .retry import NEVER, Retry
+from .rows import (Change, ChangeKind, Checked, Compacted, Difference, Hidden, HiddenCounts, HiddenVersions, Info,
+                   Listed, Range, Restored, Stat, Times, Widened)
 from .wire import ATTRIBUTE_BYTES, BODY_BYTES, LAST, OBJECT_BYTES, Attributes, Created
 
+__version__ = "0.1.0"
+
 __all__ = [
-    "ATTRIBUTE_BYTES", "Attributes", "BODY_BYTES", "BadAttr", "BadFrame", "BadReply", "BadSpan", "Busy", "ChainFull",
-    "ClockEnd", "Created", "Disconnected", "Drive", "Ended", "Error", "Expired", "Facts", "Flushed", "Future", "Image",
-    "InUse", "Kind", "LAST", "NEVER", "NoMemory", "NoObject", "NoRoom", "NoSpace", "NotAdmin", "OBJECT_BYTES", "Past",
-    "Peer", "Pipeline", "ProgramFailed", "REFUSALS", "Reader", "Refused", "Reply", "Retry", "Span", "Stale", "TooLarge",
-    "TooManySpans", "Writer",
+    "ATTRIBUTE_BYTES", "Attributes", "BODY_BYTES", "BadAttr", "BadFrame", "BadReply", "BadSpan", "Busy",
+    "ChainFull", "Change", "ChangeKind", "Checked", "ClockEnd", "Compacted", "Created", "Difference",
+    "Disconnected", "Drive", "Ended", "Error", "Expired", "Facts", "Flushed", "Future", "Hidden", "HiddenCounts",
+    "HiddenVersions", "Image", "InUse", "Info", "Kind", "LAST", "Listed", "Moment", "NEVER", "NoMemory", "NoObject",
+    "NoRoom", "NoSpace", "NotAdmin", "OBJECT_BYTES", "Past", "Peer", "Pipeline", "ProgramFailed", "REFUSALS",
+    "Range", "Reader", "Refused", "Reply", "Restored", "Retry", "Span", "Stale", "Stat", "Times", "TooLarge",
+    "TooManySpans", "Widened", "Writer",
 ]

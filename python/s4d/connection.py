@@ -61,7 +61,7 @@ class Connection:
             self._writer.write(data)
             self._writer.flush()
         except (OSError, ValueError) as error:
-            raise self._lost(f"the request could not be sent: {error}") from error
+            raise self._lost(f"the request could not be sent: {error}", error) from error
 
     def receive(self) -> bytes:
         """The body of the next reply."""
@@ -81,15 +81,16 @@ class Connection:
             try:
                 more = self._reader.read(count - len(found))
             except (OSError, ValueError) as error:
-                raise self._lost(f"the reply could not be read: {error}") from error
+                raise self._lost(f"the reply could not be read: {error}", error) from error
             if not more:
                 raise self._lost("the stream ended before the reply")
             found += more
         return found
 
-    def _lost(self, why: str) -> Disconnected:
+    def _lost(self, why: str, error: Optional[Exception] = None) -> Disconnected:
         self._usable = False
-        self.ended = self.ended or self._peer.outcome()
+        if not isinstance(error, TimeoutError):  # after one it still runs
+            self.ended = self.ended or self._peer.outcome()
         return Disconnected(why, self.ended)
 
 

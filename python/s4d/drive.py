@@ -23,6 +23,8 @@ class Drive:
 
     Each method asks one request and gives plain numbers and bytes. A refusal is raised as an exception of its own class.
     One session is for one thread.
+
+    Where a session is made with a timeout, in seconds, each wait for the other side ends after as long with Disconnected.
     """
 
     def __init__(self, reader: Reader, writer: Writer, peer: Optional[Peer] = None, retry: Retry = NEVER) -> None:
@@ -31,21 +33,24 @@ class Drive:
 
     @classmethod
     def pipe(cls, program: str = "s4d", role: str = "client", *, frames: int = 16, window: int = 100, tick: int = 1,
-             retry: Retry = NEVER) -> Drive:
+             timeout: Optional[float] = None, retry: Retry = NEVER) -> Drive:
         """A session with a new drive in memory, by `s4d pipe`. All its data is gone when the session ends."""
         options = ["--frames", str(frames), "--window", str(window), "--tick", str(tick)]
-        peer = Program([program, "pipe", *options, role])
+        peer = Program([program, "pipe", *options, role], timeout)
         return cls(peer.reader, peer.writer, peer, retry)
 
     @classmethod
     def image(cls, path: Union[str, os.PathLike[str]], program: str = "s4d", role: str = "client", *, tick: int = 0,
-              upkeep: bool = True, retry: Retry = NEVER) -> Drive:
+              upkeep: bool = True, timeout: Optional[float] = None, retry: Retry = NEVER) -> Drive:
         """A session with the drive in an image's file, by `s4d run`. The file is written when the session is closed.
 
         With a tick of 0 only changes move the clock. Without upkeep, nothing beside the session cleans or moves blocks.
+        The file is locked until the session is closed. One that is dropped is closed then, but whether it was saved
+        isn't said.
         """
         options = ["--tick", str(tick), *([] if upkeep else ["--no-upkeep"])]
-        peer = Program([program, "run", *options, os.fspath(path), f"{role}:/dev/stdin:/dev/stdout"])
+        peer = Program([program, "run", *options, os.fspath(path), f"{role}:/dev/stdin:/dev/stdout"],
+                       timeout)
         return cls(peer.reader, peer.writer, peer, retry)
 
     @classmethod

@@ -34,7 +34,7 @@ class BadReply(Error):
 
 
 class ProgramFailed(Error):
-    """`s4d` ended with a status that isn't 0: `ended` has it, and what the program printed."""
+    """`s4d` or `s4` ended with a status that isn't 0: `ended` has it, and the program's text on standard error."""
 
     def __init__(self, ended: Ended) -> None:
         super().__init__(str(ended))

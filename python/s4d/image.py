@@ -1,13 +1,22 @@
-"""An image's file, by the commands `s4d new`, `verify` and `at`."""
+"""An image's file, by the commands `s4d new`, `verify` and `at`, and by those of `s4`."""
 from __future__ import annotations
 
 import os
-from typing import NamedTuple, NoReturn, Union
+from datetime import datetime, timezone
+from typing import Iterable, List, NamedTuple, NoReturn, Optional, Tuple, Union
 
+from . import rows
 from .drive import Drive
 from .errors import REFUSALS, ProgramFailed
 from .program import output_of
 from .retry import NEVER, Retry
+from .rows import (Change, ChangeKind, Checked, Compacted, Difference, Hidden, HiddenVersions, Info, Listed, Restored,
+                   Stat, Widened)
+
+DIFFERS = 1  # the status of `diff` where anything differs
+
+Moment = Union[int, datetime, str]
+Option = Union[Moment, ChangeKind, Tuple[int, ...], None]
 
 
 class Facts(NamedTuple):
@@ -24,31 +33,131 @@ class Facts(NamedTuple):
 
 
 class Image:
-    """A drive's image in a file. A program named otherwise than `s4d` on the path is handed in."""
+    """A drive's image in a file. Programs named otherwise than `s4d` and `s4` on the path are handed in.
 
-    def __init__(self, path: Union[str, os.PathLike[str]], program: str = "s4d") -> None:
-        self.path, self.program = os.fspath(path), program
+    What fails in `s4` is raised as ProgramFailed, with the program's line and status. A moment is its number, a time
+    with its offset from UTC, or a text that `s4` takes, as `2026-11-27T13:18:02Z` or the age `2h`. With a timeout, in
+    seconds, a command that takes longer is killed, and the file stays as it was; each wait of a session has it too.
+    """
+
+    def __init__(self, path: Union[str, os.PathLike[str]], program: str = "s4d", s4: str = "s4",
+                 timeout: Optional[float] = None) -> None:
+        self.path, self.program, self.s4, self.timeout = os.fspath(path), program, s4, timeout
 
     def make(self, frames: int, window: int = 100) -> None:
         """Writes the image of an empty drive; ProgramFailed where a file with bytes is there."""
-        output_of([self.program, "new", "--window", str(window), self.path, str(frames)])
+        self._s4d("new", "--window", str(window), self.path, str(frames))
 
     def verify(self) -> Facts:
         """Reads the whole file; ProgramFailed where it is no image, or is damaged."""
-        words = output_of([self.program, "verify", self.path]).decode().split()
+        words = self._s4d("verify", self.path).decode().split()
         fields = dict(word.split("=") for word in words[1:])
         return Facts(**{name: int(fields[name]) for name in Facts._fields})
 
     def read(self, object: int, at: int) -> bytes:
         """The whole bytes of an object at a moment. Neither file nor clock changes, also while the image is served."""
         try:
-            return output_of([self.program, "at", self.path, str(object), str(at)])
+            return self._s4d("at", self.path, str(object), str(at))
         except ProgramFailed as failure:
             raise_refusal(failure, object, at)
 
     def session(self, role: str = "client", *, tick: int = 0, upkeep: bool = True, retry: Retry = NEVER) -> Drive:
         """A session with the drive, which is saved when the session is closed."""
-        return Drive.image(self.path, self.program, role, tick=tick, upkeep=upkeep, retry=retry)
+        return Drive.image(self.path, self.program, role, tick=tick, upkeep=upkeep, timeout=self.timeout, retry=retry)
+
+    def list(self, at: Optional[Moment] = None, *, deleted: bool = False) -> List[Listed]:
+        """The objects that are live at a moment, now where none is given, by ascending number; with `deleted` also those
+        that were deleted before.
+        """
+        return rows.rows_of(self._s4("list", [], at=at, deleted=deleted, json=True), rows.listed)
+
+    def log(self, *, object: Optional[int] = None, name: Optional[str] = None, since: Optional[Moment] = None,
+            until: Optional[Moment] = None, kind: Union[ChangeKind, str, None] = None, limit: Optional[int] = None,
+            by_object: bool = False, reverse: bool = False) -> List[Union[Change, Hidden]]:
+        """What was changed, and what is hidden, by ascending moment: of all objects, or of one by its number or attribute.
+
+        From the moment `since` up to `until`; of one kind alone, and no more changes than the limit, beside the hidden
+        moments between. By object they are in the order of objects, and each order can be reversed.
+        """
+        printed = self._s4("log", [], object=object, name=name, since=since, until=until, kind=kind, limit=limit,
+                           by_object=by_object, reverse=reverse, json=True)
+        return rows.rows_of(printed, rows.logged)
+
+    def stats(self, *, object: Optional[int] = None, name: Optional[str] = None, since: Optional[Moment] = None,
+              until: Optional[Moment] = None, kind: Union[ChangeKind, str, None] = None) -> List[Stat]:
+        """How many changes each object has in the log that is asked for, and when, by ascending number."""
+        printed = self._s4("log", [], object=object, name=name, since=since, until=until, kind=kind, stat=True,
+                           json=True)
+        return rows.rows_of(printed, rows.stat)
+
+    def diff(self, before: Moment, after: Optional[Moment] = None, *, object: Optional[int] = None,
+             name: Optional[str] = None, patch: bool = False, text: bool = False) -> List[Difference]:
+        """What differs between two moments, the second the clock's where it isn't given, by ascending object.
+
+        Nothing differs where the list is empty. With `patch` ranges have their bytes, with `text` differences have lines.
+        """
+        moments = [word_of(before)] if after is None else [word_of(before), word_of(after)]
+        printed = self._s4("diff", moments, DIFFERS, object=object, name=name, patch=patch, text=text, json=True)
+        return rows.rows_of(printed, rows.difference)
+
+    def cat(self, object: Optional[int] = None, *, name: Optional[str] = None, at: Optional[Moment] = None) -> bytes:
+        """The bytes of an object, by its number or its attribute, at a moment, now where none is given."""
+        return self._s4("cat", [] if object is None else [str(object)], name=name, at=at)
+
+    def restore(self, at: Moment, *, objects: Iterable[int] = (), name: Optional[str] = None, dry_run: bool = False,
+                flush: bool = False, skip: bool = False,
+                keep_newer: bool = False) -> List[Union[Restored, HiddenVersions, Widened]]:
+        """Makes objects what they were at a moment: these, or the one of an attribute, or all where none is named.
+
+        All is done or nothing: where an object can't be restored ProgramFailed is raised, unless `skip` leaves it out.
+        `flush` hides as few versions of full journals as serve, for good. `keep_newer` keeps objects that were made
+        since. A dry run gives what would be done, and does nothing.
+        """
+        printed = self._s4("restore", [], at=at, object=tuple(objects), name=name, dry_run=dry_run, flush=flush,
+                           skip=skip, keep_newer=keep_newer, json=True)
+        return rows.rows_of(printed, rows.restored)
+
+    def info(self) -> Info:
+        """The drive's numbers."""
+        return rows.row_of(self._s4("info", [], json=True), rows.info)
+
+    def check(self) -> Checked:
+        """Reads every version that can be read."""
+        return rows.row_of(self._s4("check", [], json=True), rows.checked)
+
+    def compact(self) -> Compacted:
+        """Frees what nobody can read any more, and gathers what is scattered."""
+        return rows.row_of(self._s4("compact", [], json=True), rows.compacted)
+
+    def _s4d(self, *words: str) -> bytes:
+        return output_of([self.program, *words], self.timeout)
+
+    def _s4(self, command: str, operands: List[str], differs: Optional[int] = None,
+            **options: Option) -> bytes:
+        """What a command prints, of this image, with operands that follow it, and with options by their names."""
+        given = [word for name, value in options.items() for word in option_of(name, value)]
+        return output_of([self.s4, command, *given, "--", self.path, *operands], self.timeout, differs)
+
+
+def option_of(name: str, value: Option) -> List[str]:
+    """The words of an option: none where it isn't given, or is a flag that isn't; as many as it has values."""
+    option = f"--{name.replace('_', '-')}"
+    if value is None or value is False:
+        return []
+    if isinstance(value, tuple):
+        return [f"{option}={one}" for one in value]
+    return [option] if value is True else [f"{option}={word_of(value)}"]
+
+
+def word_of(value: Union[Moment, ChangeKind]) -> str:
+    """The word for a moment or a kind; ValueError for a time without an offset from UTC."""
+    if isinstance(value, ChangeKind):
+        return str(value.value)
+    if not isinstance(value, datetime):
+        return str(value)
+    if value.utcoffset() is None:
+        raise ValueError(f"{value} has no offset from UTC")
+    return value.astimezone(timezone.utc).isoformat().replace("+00:00", "Z")
 
 
 def raise_refusal(failure: ProgramFailed, object: int, at: int) -> NoReturn:

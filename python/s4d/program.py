@@ -1,51 +1,164 @@
-"""The program `s4d` as the other end of a session, and its commands that end by themselves."""
+"""The program `s4d` as the other end of a session, and commands of `s4d` and `s4` that end by themselves."""
 from __future__ import annotations
 
+import io
+import os
+import select
+import signal
 import subprocess
 import tempfile
-from typing import IO, Optional, Sequence
+import warnings
+import weakref
+from typing import IO, Any, NamedTuple, Optional, Sequence
 
-from .connection import Peer
+from .connection import Peer, Reader, Writer
 from .errors import Ended, ProgramFailed
 
-SECONDS_TO_END = 10  # that a program has to end by itself once it has closed its output
+SECONDS_TO_END = 10  # that a program has to end by itself once its session is over
 
 
-class Program(Peer):
-    """A running `s4d` whose standard streams are a session's."""
+class TimedReader(io.RawIOBase):
+    """The end of a pipe that is read from. Each wait for bytes ends after some seconds with TimeoutError."""
 
-    def __init__(self, words: Sequence[str]) -> None:
-        self._errors = tempfile.TemporaryFile()
-        try:
-            self._process = subprocess.Popen(words, stdin=subprocess.PIPE, stdout=subprocess.PIPE, stderr=self._errors)
-        except OSError:
-            self._errors.close()
-            raise
-        self.writer, self.reader = opened(self._process.stdin), opened(self._process.stdout)
-        self._ended: Optional[Ended] = None
+    def __init__(self, pipe: IO[bytes], seconds: float) -> None:
+        os.set_blocking(pipe.fileno(), False)
+        self._pipe, self._seconds = pipe, seconds
 
-    def close(self) -> Ended:
-        """Ends the session's input, and waits until the program has saved what it saves."""
-        self.reader.close()  # first, so that a program ends that waits for its replies to be read
+    def readable(self) -> bool:
+        return True
+
+    def readinto(self, buffer: Any) -> int:
+        while True:
+            wait_for(self._pipe, select.POLLIN, self._seconds)
+            try:
+                found = os.read(self._pipe.fileno(), len(buffer))
+            except BlockingIOError:
+                continue
+            buffer[:len(found)] = found
+            return len(found)
+
+    def close(self) -> None:
+        super().close()
+        self._pipe.close()
+
+
+class TimedWriter:
+    """The end of a pipe that is written to. Each wait for room ends after some seconds with TimeoutError."""
+
+    def __init__(self, pipe: IO[bytes], seconds: float) -> None:
+        os.set_blocking(pipe.fileno(), False)
+        self._pipe, self._seconds = pipe, seconds
+
+    def write(self, data: bytes) -> int:
+        rest = memoryview(data)
+        while rest:
+            wait_for(self._pipe, select.POLLOUT, self._seconds)
+            try:
+                rest = rest[os.write(self._pipe.fileno(), rest):]
+            except BlockingIOError:
+                continue
+        return len(data)
+
+    def flush(self) -> None:
+        """Nothing is kept back."""
+
+    def close(self) -> None:
+        self._pipe.close()
+
+
+def wait_for(pipe: IO[bytes], event: int, seconds: float) -> None:
+    """Waits until a pipe can be read or written, or its other end is closed."""
+    poll = select.poll()
+    poll.register(pipe, event)
+    if not poll.poll(seconds * 1_000):
+        raise TimeoutError(f"timed out after {seconds:g} seconds")
+
+
+class Running(NamedTuple):
+    """A program that was started, the streams to it, and its text on standard error."""
+
+    process: subprocess.Popen[bytes]
+    writer: IO[bytes]
+    reader: IO[bytes]
+    errors: IO[bytes]
+
+    def close(self) -> None:
+        """Closes the streams: first its output, so that a program ends that waits for its replies to be read."""
+        self.reader.close()
         try:
             self.writer.close()
         except OSError:
             pass  # what was still to be written is refused by a program that has ended
-        return self._take(None)
+
+    def wait(self, seconds: Optional[float]) -> Ended:
+        """How the program ended. One that takes longer than that is killed."""
+        try:
+            self.process.wait(seconds)
+        except subprocess.TimeoutExpired:
+            self.process.kill()
+            return killed(self.process.wait(), seconds)
+        self.errors.seek(0)
+        return Ended(self.process.returncode, text_of(self.errors.read()))
+
+
+class Program(Peer):
+    """A running `s4d` whose standard streams are a session's.
+
+    With a timeout each wait for a reply, or for a request to be taken, ends after that many seconds. A program that is
+    dropped without `close` is ended then, and at the latest when Python ends.
+    """
+
+    def __init__(self, words: Sequence[str], timeout: Optional[float] = None) -> None:
+        self._running, self._timeout = started(words, timeout is not None), timeout
+        self.reader: Reader = self._running.reader
+        self.writer: Writer = self._running.writer
+        if timeout is not None:
+            self.reader = io.BufferedReader(TimedReader(self._running.reader, timeout))
+            self.writer = TimedWriter(self._running.writer, timeout)
+        self._ended: Optional[Ended] = None
+        self._drop = weakref.finalize(self, end_dropped, self._running)
+
+    def close(self) -> Ended:
+        """Ends the session's input, and waits until the program has saved what it saves.
+
+        With a timeout that wait ends too: after as long, and after ten seconds at the least, the program is killed.
+        """
+        self._running.close()
+        return self._take(None if self._timeout is None else max(self._timeout, SECONDS_TO_END))
 
     def outcome(self) -> Optional[Ended]:
         try:
-            return self._take(SECONDS_TO_END)
+            self._running.process.wait(SECONDS_TO_END)
         except subprocess.TimeoutExpired:
             return None
+        return self._take(None)
 
     def _take(self, seconds: Optional[float]) -> Ended:
         if self._ended is None:
-            status = self._process.wait(seconds)
-            self._errors.seek(0)
-            self._ended = Ended(status, self._errors.read().decode("utf-8", "replace").strip())
-            self._errors.close()
+            self._ended = self._running.wait(seconds)
+            self._running.errors.close()
+            self._drop.detach()
         return self._ended
+
+
+def started(words: Sequence[str], is_timed: bool) -> Running:
+    """Starts a program, with streams that keep nothing back where each wait is timed."""
+    errors = tempfile.TemporaryFile()
+    try:
+        process = subprocess.Popen(words, bufsize=0 if is_timed else -1, stdin=subprocess.PIPE, stdout=subprocess.PIPE,
+                                   stderr=errors)
+    except OSError:
+        errors.close()
+        raise
+    return Running(process, opened(process.stdin), opened(process.stdout), errors)
+
+
+def end_dropped(running: Running) -> None:
+    """Ends the program of a session that nobody closed, so that its image doesn't stay locked, and warns of it."""
+    running.close()
+    ended = running.wait(SECONDS_TO_END)
+    running.errors.close()
+    warnings.warn(f"a session was dropped and not closed: {ended}", ResourceWarning, stacklevel=2)
 
 
 def opened(stream: Optional[IO[bytes]]) -> IO[bytes]:
@@ -55,9 +168,25 @@ def opened(stream: Optional[IO[bytes]]) -> IO[bytes]:
     return stream
 
 
-def output_of(words: Sequence[str]) -> bytes:
-    """What a command prints; ProgramFailed where its status isn't 0."""
-    ran = subprocess.run(words, stdin=subprocess.DEVNULL, stdout=subprocess.PIPE, stderr=subprocess.PIPE, check=False)
-    if ran.returncode:
-        raise ProgramFailed(Ended(ran.returncode, ran.stderr.decode("utf-8", "replace").strip()))
+def text_of(said: bytes) -> str:
+    return said.decode("utf-8", "replace").strip()
+
+
+def killed(status: int, seconds: Optional[float]) -> Ended:
+    return Ended(status, f"killed after {seconds:g} seconds")
+
+
+def output_of(words: Sequence[str], timeout: Optional[float] = None, differs: Optional[int] = None) -> bytes:
+    """What a command prints; ProgramFailed where its status isn't 0, or it takes longer than the timeout and is killed.
+
+    The status `differs` isn't a failure either, where the command has no line on standard error.
+    """
+    try:
+        ran = subprocess.run(words, stdin=subprocess.DEVNULL, stdout=subprocess.PIPE, stderr=subprocess.PIPE,
+                             check=False, timeout=timeout)
+    except subprocess.TimeoutExpired:
+        raise ProgramFailed(killed(-signal.SIGKILL, timeout)) from None
+    ended = Ended(ran.returncode, text_of(ran.stderr))
+    if ended.status and ended != (differs, ""):
+        raise ProgramFailed(ended)
     return ran.stdout

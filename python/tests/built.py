@@ -1,11 +1,17 @@
-"""The built program that tests run, where there is one."""
+"""The built programs that tests run, where there are any."""
 import os
 import pathlib
 import unittest
 
 TOP = pathlib.Path(__file__).resolve().parents[2]
-BUILT = TOP / "crates/s4d/out/s4d"
-PROGRAM = os.environ.get("S4D") or str(BUILT)
 
-needs_program = unittest.skipUnless(
-    os.access(PROGRAM, os.X_OK), f"no built s4d at {PROGRAM}: build it as CONTRIBUTING.md says, or name one as S4D")
+
+def program(variable, name):
+    """The program's path, and what skips a test where it isn't built."""
+    path = os.environ.get(variable) or str(TOP / f"crates/{name}/out/{name}")
+    why = f"no built {name} at {path}: build it as CONTRIBUTING.md says, or name one as {variable}"
+    return path, unittest.skipUnless(os.access(path, os.X_OK), why)
+
+
+PROGRAM, needs_program = program("S4D", "s4d")
+S4, needs_s4 = program("S4", "s4")

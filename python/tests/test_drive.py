@@ -1,18 +1,22 @@
 """Sessions with the built program: `s4d pipe`, sockets and images."""
 import contextlib
+import gc
 import os
 import re
 import shutil
 import socket
 import subprocess
+import sys
 import tempfile
 import threading
+import time
 import unittest
+from unittest import mock
 
 import s4d
-from s4d import Attributes, Created
+from s4d import Attributes, Created, program
 
-from .built import PROGRAM, needs_program
+from .built import PROGRAM, TOP, needs_program
 
 
 def drive(role="admin", **options):
@@ -179,6 +183,82 @@ class Ends(unittest.TestCase):
             s4d.Drive.pipe("/nowhere/s4d")
 
 
+class Timeouts(unittest.TestCase):
+    """Sessions with programs that never answer."""
+
+    def setUp(self):
+        folder = tempfile.TemporaryDirectory()
+        self.addCleanup(folder.cleanup)
+        self.program = f"{folder.name}/silent"
+        self.start = time.monotonic()
+        patch = mock.patch.object(program, "SECONDS_TO_END", 0.1)
+        patch.start()
+        self.addCleanup(patch.stop)
+
+    def silent(self, line="exec sleep 60"):
+        with open(self.program, "w", encoding="utf-8") as file:
+            file.write(f"#!/bin/sh\n{line}\n")
+        os.chmod(self.program, 0o700)
+
+    def check_killed(self, it):
+        """The wait has ended, and the program is killed once the session is closed."""
+        self.assertIsNone(it.ended)
+        with self.assertRaisesRegex(s4d.ProgramFailed, r"killed after 0.2 seconds \(status -9\)"):
+            it.close()
+        self.assertLess(time.monotonic() - self.start, 30)
+
+    def test_a_reply_that_does_not_come(self):
+        self.silent()
+        for it in (s4d.Drive.pipe(self.program, timeout=0.2), s4d.Drive.image("none", self.program, timeout=0.2)):
+            with self.assertRaisesRegex(s4d.Disconnected, "the reply could not be read: timed out after 0.2 seconds"):
+                it.create()
+            with self.assertRaises(s4d.Disconnected):
+                it.create()
+            self.check_killed(it)
+
+    def test_a_request_that_is_not_taken(self):
+        self.silent()
+        it = s4d.Drive.pipe(self.program, timeout=0.2)
+        with self.assertRaisesRegex(s4d.Disconnected, "the request could not be sent: timed out"):
+            for _ in range(100):
+                it._connection.send(s4d.wire.append(1, b"x" * 30_000).frame())
+        self.check_killed(it)
+
+    def test_a_program_that_does_not_end(self):
+        self.silent("printf '\\0\\0\\0\\21\\2\\0\\0\\0\\0\\0\\0\\0\\1\\0\\0\\0\\0\\0\\0\\0\\1'; exec sleep 60")
+        it = s4d.Drive.pipe(self.program, timeout=0.2)
+        self.assertEqual(it.create(), Created(1, 1))
+        self.check_killed(it)
+
+    def test_a_program_that_ends_is_no_timeout(self):
+        self.silent("echo wrong >&2; exit 3")
+        with self.assertRaises(s4d.Disconnected) as caught, s4d.Drive.pipe(self.program, timeout=30) as it:
+            it.create()
+        self.assertEqual(caught.exception.ended, s4d.Ended(3, "wrong"))
+
+    def test_a_dropped_session_whose_program_does_not_end(self):
+        self.silent()
+        it = s4d.Drive.image("none", self.program)
+        process = it._connection._peer._running.process
+        with self.assertWarns(ResourceWarning):
+            del it
+            gc.collect()
+        self.assertEqual(process.returncode, -9)
+
+
+@needs_program
+class TimedSessions(unittest.TestCase):
+    def test_a_program_that_answers_in_time(self):
+        with drive(timeout=600) as it:
+            it.create()
+            it.truncate(1, 24_576)
+            with it.pipeline() as batch:
+                replies = [batch.read(1) for _ in range(100)] + [batch.append(9, b"x" * 30_000) for _ in range(100)]
+            self.assertEqual(sum(len(reply.result()) for reply in replies[:100]), 100 * 24_576)
+            self.assertTrue(all(reply.refusal() for reply in replies[100:]))
+        self.assertEqual(it.ended, (0, ""))
+
+
 class Listener:
     """A socket that gives each connection the standard streams of a program of its own, as `socat` does."""
 
@@ -295,6 +375,27 @@ class Images(unittest.TestCase):
         kept, flooded, refusal = self.flood(frames=16, objects=4)
         self.assertIs(refusal, s4d.NoSpace)
         self.restore(kept, flooded, lambda it, first, last: it.flush(first, last))
+
+    def test_a_dropped_session_leaves_no_lock(self):
+        self.image.make(16)
+        for number in range(1, 4):
+            it = self.image.session()
+            self.assertEqual(it.create().object, number)
+            if number == 2:
+                it.cycle = it
+            with self.assertWarns(ResourceWarning):
+                del it
+                gc.collect()
+            self.assertEqual(self.image.verify().objects, number)
+        with self.image.session() as it:
+            self.assertEqual(it.create().object, 4)
+
+    def test_a_session_that_python_ends(self):
+        self.image.make(16)
+        words = [sys.executable, "-c", "import s4d, sys; it = s4d.Image(*sys.argv[1:]).session(); it.create()"]
+        subprocess.run([*words, self.image.path, PROGRAM], cwd=TOP / "python", check=True)
+        with self.image.session() as it:
+            self.assertEqual(it.create().object, 2)
 
     def test_what_is_no_image(self):
         with self.assertRaisesRegex(s4d.ProgramFailed, "cannot read"):

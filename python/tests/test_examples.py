@@ -7,7 +7,7 @@ import unittest
 
 import s4d
 
-from .built import PROGRAM, TOP, needs_program
+from .built import PROGRAM, S4, TOP, needs_program, needs_s4
 
 
 @needs_program
@@ -18,12 +18,25 @@ class Examples(unittest.TestCase):
         self.addCleanup(os.chdir, os.getcwd())
         os.chdir(folder.name)
 
-    def test_the_readme(self):
+    def readme(self):
+        """The examples of the readme, and the names that the first of them leaves."""
         text = (TOP / "python/README.md").read_text(encoding="utf-8")
-        example = re.search(r"```python\n(.*?)```", text, re.S)[1].replace("crates/s4d/out/s4d", PROGRAM)
+        text = text.replace("crates/s4d/out/s4d", PROGRAM).replace("crates/s4/out/s4", S4)
+        first, *others = re.findall(r"```python\n(.*?)```", text, re.S)
         names = {}
-        exec(example, names)
+        exec(first, names)
+        return others, names
+
+    def test_the_readme(self):
+        _, names = self.readme()
         self.assertEqual(names["image"].read(1, at=names["image"].verify().clock), b"meet at the mill")
+
+    @needs_s4
+    def test_the_readme_of_images(self):
+        others, names = self.readme()
+        for example in others:
+            exec(example, names)
+        self.assertEqual(names["image"].cat(1), b"meet at the mill")
 
     def test_the_package(self):
         example = textwrap.dedent(re.search(r"\n(    import s4d\n.*?)\n\n[^ ]", s4d.__doc__, re.S)[1])
