@@ -277,7 +277,9 @@ class Commands:
         status, output, errors = run(self.program, words, b"", "-s", limit)
         seen[status] = seen.get(status, 0) + 1
         is_whole = (status, output, errors) == expected
-        if not is_whole and not (status == 1 and is_one_line(self.program, errors)):
+        # s4 ends with 2 where memory is short before the command is known, since of diff 1 says that something differs.
+        failures = (1, 2) if os.path.basename(self.program) == "s4" else (1,)
+        if not is_whole and not (status in failures and is_one_line(self.program, errors)):
             self.faults += 1
             print(f"ulimit -s {limit}, image {name}: {words}: status {status}, {errors[:200]!r}")
         return is_whole

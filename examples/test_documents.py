@@ -38,6 +38,11 @@ class Documents(unittest.TestCase):
                     with self.subTest(page=page.name, line=number):
                         self.assertLessEqual(max(len(cell.split()) for cell in line.split("|")), CELL_WORDS)
 
+    def test_what_is_proved(self):
+        """The page of what is proved is what its script makes of the sources."""
+        made = subprocess.run([TOP / "docs" / "proved.py"], capture_output=True, text=True, check=True).stdout
+        self.assertEqual(made, (TOP / "docs" / "PROVED.md").read_text(encoding="utf-8"))
+
     def test_one_version(self):
         """The file VERSION has it; what can't read that file says the same."""
         version = (TOP / "VERSION").read_text(encoding="utf-8").strip()

@@ -1,0 +1,125 @@
+#!/usr/bin/env python3
+"""Prints docs/PROVED.md: each crate's public calls with the names of the clauses that their contracts ensure, from the sources.
+
+    docs/proved.py > docs/PROVED.md      after a change of a public call or clause; the documents' test compares both
+"""
+import pathlib
+import re
+import textwrap
+
+TOP = pathlib.Path(__file__).resolve().parents[1]
+HEAD = """# What is proved, crate by crate
+
+Made by `docs/proved.py` from the sources. "Proved" means: for every input, the function meets the contract beside it in the
+source, is safe (no overflow, no index out of range, no use after free), and returns. Only what waits for a lock isn't shown
+to return: the calls of `server`. Where memory is short the answer is `NoMemory`, and nothing changes but what the contract says.
+
+Each crate has here what it is, and its public calls that have a contract, with the names of its clauses in brackets; a call
+with one clause without a name has none here. A **law** is a theorem: a function without arguments, whose contract is all of it.
+What the clauses say is in the contract, under `crates/CRATE/src`, in the terms of [DEFINITIONS](DEFINITIONS.md);
+which of them carry a promise, [PROMISES](PROMISES.md). What is only tested, and what is open: [TESTING](TESTING.md).
+"""
+WIDTH = 130
+FUNCTION = re.compile(r"\s*(pub )?(?:const |unsafe |final )*fn (\w+)(.*)")
+OWNER = re.compile(r"(?:pub )?(?:unsafe )?(impl|trait)\b(.*)")
+CLAUSE = re.compile(r"\s*ensures\s*(\w*)\s*\{")
+
+
+def without_parameters(text):
+    """The text without the type parameters that it begins with."""
+    depth = 0
+    for at, letter in enumerate(text):
+        depth += (letter == "<") - (letter == ">" and text[at - 1] != "-")
+        if depth == 0:
+            return text[at + 1:] if at else text
+    return text
+
+
+def owner_of(line):
+    """The type or trait whose block a line opens: its name, and whether all of its functions are public, as a trait's are."""
+    kind, rest = OWNER.match(line).groups()
+    if kind == "trait":
+        return re.match(r"\s*(\w+)", rest).group(1), True
+    rest = without_parameters(rest)
+    # What a type does for a trait is in the trait's contract.
+    return (None, False) if " for " in rest else (re.match(r"\s*(\w+)", rest).group(1), False)
+
+
+def contract(lines, at):
+    """The names of the clauses that the function at this line ensures; '' for one without a name."""
+    names = []
+    for line in lines[at + 1:]:
+        if FUNCTION.match(line) or OWNER.match(line) or line.startswith("}"):
+            break
+        clause = CLAUSE.match(line)
+        if clause:
+            names.append(clause.group(1))
+    return names
+
+
+def functions(path):
+    """Yields of a file's functions: the type or trait that has it, whether it is public, its name, its clauses, whether it is a law."""
+    lines, owner, all_public = path.read_text(encoding="utf-8").splitlines(), "", False
+    for at, line in enumerate(lines):
+        if OWNER.match(line):
+            owner, all_public = owner_of(line)
+        elif line.startswith("}"):
+            owner, all_public = "", False
+        found = FUNCTION.match(line)
+        if found and owner is not None:
+            public, name, rest = found.groups()
+            yield owner, bool(public) or all_public, name, contract(lines, at), rest.strip() in ("()", "() {}")
+
+
+def exported(root):
+    """The names that a crate hands out, and its public modules."""
+    text = root.read_text(encoding="utf-8")
+    names = set()
+    for many, one in re.findall(r"^pub use (?:\w+::)*(?:\{([^}]*)\}|(\w+))", text, re.M):
+        names.update(word.split(" as ")[-1].strip() for word in (many or one).split(","))
+    return names, set(re.findall(r"^pub mod (\w+);", text, re.M))
+
+
+def first_sentence(root):
+    """The first sentence of a crate's own documentation, up to a colon if more than a name is before it."""
+    lines = [line[3:].strip() for line in root.read_text(encoding="utf-8").splitlines() if line.startswith("//!")]
+    sentence = re.split(r"(?<=\.)\s", " ".join(lines), maxsplit=1)[0]
+    short = sentence.split(": ", 1)[0]
+    return sentence if len(short.split()) < 3 else short.rstrip(".") + "."
+
+
+def calls_of(source):
+    """The public calls of a crate: of each type or trait, and its laws."""
+    root = next(path for path in (source / "lib.rt", source / "main.rt") if path.exists())
+    names, modules = exported(root)
+    # A program hands out nothing; what its modules share is its contract.
+    is_program = root.name == "main.rt"
+    calls = {}
+    for path in sorted(source.rglob("*.rt")):
+        for owner, public, name, clauses, is_law in functions(path):
+            is_free = not owner and (name in names or path.stem in modules or path == root)
+            if public and clauses and (is_free or owner in names or is_program):
+                said = ", ".join(clause for clause in clauses if clause)
+                row = f"`{name}`" + (f" ({said})" if said else "")
+                calls.setdefault("Laws" if is_law and not owner else owner, []).append(row)
+    return first_sentence(root), calls
+
+
+def page():
+    """The text of the page."""
+    parts = [HEAD]
+    for line in (TOP / "crates.txt").read_text(encoding="utf-8").splitlines():
+        if not line or line.startswith("#") or "tests_may" in line:
+            continue
+        crate = re.match(r"\w+", line).group(0)
+        sentence, calls = calls_of(TOP / "crates" / crate / "src")
+        parts.append(f"\n## `{crate}`\n\n" + textwrap.fill(sentence, WIDTH) + "\n")
+        rows = [("" if not owner else f"{owner}: " if owner == "Laws" else f"`{owner}`: ") + "; ".join(calls[owner])
+                for owner in sorted(calls, key=lambda it: (it == "Laws", it != "", it))]
+        if rows:
+            parts.append("\n" + "".join(textwrap.fill(f"- {row}.", WIDTH, subsequent_indent="  ", break_on_hyphens=False) + "\n" for row in rows))
+    return "".join(parts)
+
+
+if __name__ == "__main__":
+    print(page(), end="")
