@@ -1,6 +1,5 @@
-mod Fronts
+mod Took
 mod Apart
-mod Plain
 mod Alike
 mod Pieces
 mod Floats

@@ -6,7 +6,7 @@ use Rattle.std.proofs.lemmas.Bool.{cases_lt}
 use Rattle.std.proofs.lemmas.Grind.{div_ceil_times}
 use Rattle.std.proofs.lemmas.List.{length-drop, take_all, map-id}
 use Rattle.std.proofs.lemmas.List.FromFn.{map-range_with_len_more}
-use Rattle.history_diff.proofs.Fronts.{flat_more}
+use Rattle.history_view.proofs.Fronts.{flat_more}
 
 -- taking no fewer than there are takes all
 take_alike : (m n : ℕ) (xs : List ℕ) → length xs ≤ m → length xs ≤ n → take m xs ≡ take n xs

@@ -20,7 +20,7 @@ use Rattle.history_diff.specs.Differences.{AreAlike}
 use Rattle.history_diff.specs.Diffing.{ObjectDifference, IsPassed, AreLinesOf, AreAllLinesOf, IsDifferenceNext, AreDifferencesFrom, IsUnreadable, WritesAsked, has_any}
 use Rattle.history_diff.specs.private.Writing.{WritesBetween, WritesObject}
 use Rattle.history_diff.proofs.Alike.{same_are_alike}
-use Rattle.history_diff.proofs.Fronts.{IsFront, front_begun, front_more, front_whole}
+use Rattle.history_view.proofs.Fronts.{IsFront, front_begun, front_more, front_whole}
 
 -- ---- which moments can be read
 

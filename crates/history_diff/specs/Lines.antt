@@ -1,7 +1,7 @@
 -- The lines that people read.
 use Rattle.std.specs.Prelude.{ℕ, ◌++◌, List, [], ◌∷◌, Option, Some, None, codes, decimal}
 use Rattle.std.specs.List.{flat_map}
-use Rattle.history_text.specs.Lines.{column, attribute_text}
+use Rattle.history_text.specs.Lines.{column, printed_attribute}
 use Rattle.history_diff.specs.declared.ranges.ByteRange.{ByteRange}
 use Rattle.history_diff.specs.declared.differences.AttributePair.{AttributePair}
 use Rattle.history_diff.specs.declared.differences.DifferenceKind.{DifferenceKind}
@@ -26,7 +26,7 @@ ranges_text (range ∷ ranges) = codes "  bytes" ++ flat_map range_text (range �
 -- the attributes before and after; nothing where they are the same
 abbrev pub attributes_text : Option AttributePair → List ℕ
 attributes_text None = []
-attributes_text (Some pair) = codes "  " ++ (attribute_text pair.before ++ (codes " -> " ++ attribute_text pair.after))
+attributes_text (Some pair) = codes "  " ++ (printed_attribute pair.before ++ (codes " -> " ++ printed_attribute pair.after))
 
 -- the sizes before and after, in bytes
 abbrev pub sizes_text : Told → List ℕ

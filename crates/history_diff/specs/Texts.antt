@@ -17,13 +17,22 @@ version_line sign o moment style = sign ++ (codes " object-" ++ (decimal o ++ (c
 abbrev pub with_versions : ℕ → Comparison → List ℕ → List ℕ
 with_versions o c hunks = if length hunks == 0 then [] else version_line (codes "---") o c.before c.style ++ (version_line (codes "+++") o c.after c.style ++ hunks)
 
+-- Two lists of bytes are text, and these are the hunks of their unified difference.
+pub record AreHunks (old new hunks : List ℕ) : Type 0 where
+  pub old_text : IsUtf8 old
+  pub new_text : IsUtf8 new
+  pub unified : IsUnified (lines_of old) (lines_of new) hunks
+
+-- These are the hunks between two lists of bytes, or there are none, since one of them isn't text.
+abbrev pub AreHunksOf : (old new : List ℕ) → Option (List ℕ) → Type 0
+AreHunksOf old new None = IsUtf8 old → IsUtf8 new → ⊥
+AreHunksOf old new (Some hunks) = AreHunks old new hunks
+
 -- A text is the unified difference of the versions of an object at the two moments, of which these
 -- are the bytes.
 pub record IsUnifiedText (o : ℕ) (c : Comparison) (old new text : List ℕ) : Type 0 where
-  pub old_text : IsUtf8 old
-  pub new_text : IsUtf8 new
   pub hunks : List ℕ
-  pub unified : IsUnified (lines_of old) (lines_of new) hunks
+  pub are : AreHunks old new hunks
   pub text_is : text ≡ with_versions o c hunks
 
 -- This is the unified difference of two versions, or there is none, since one of them isn't text.

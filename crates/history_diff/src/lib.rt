@@ -10,7 +10,6 @@
 //! beyond a constant number of bytes for each byte of the two versions it looks at.
 #![tactic(auto)]
 
-mod attributes;
 mod differences;
 mod diffing;
 mod faults;
@@ -30,4 +29,4 @@ pub use json::difference_json;
 pub use lines::difference_line;
 pub use patches::{PATCH_LINE_BYTES, write_patch};
 pub use ranges::{ByteRange, ranges_of};
-pub use texts::{Detail, Shown};
+pub use texts::{Detail, Shown, hunks_between};

@@ -5,9 +5,9 @@ ghost use Rattle.history_text.specs.Lines.{column};
 ghost use Rattle.history_diff.specs.Differences.{told_of};
 ghost use Rattle.history_diff.specs.Lines.{kind_text, range_text, ranges_text, attributes_text, sizes_text, detail_text, difference_line};
 
-use crate::attributes::attribute_text;
 use crate::differences::{AttributePair, Difference, DifferenceKind};
 use crate::ranges::ByteRange;
+use history_text::printed_attribute;
 use s4_types::ObjectId;
 use std::alloc::{AllocError, Global};
 
@@ -70,8 +70,8 @@ fn attributes_text(alloc: Global, pair: &Option<AttributePair>) -> Result<String
     let Some(pair) = pair else {
         return Ok(String::new(alloc));
     };
-    let before = attribute_text(alloc, pair.before.as_slice())?;
-    let after = attribute_text(alloc, pair.after.as_slice())?;
+    let before = printed_attribute(alloc, pair.before.as_slice())?;
+    let after = printed_attribute(alloc, pair.after.as_slice())?;
     format!(in alloc; "  {before} -> {after}")
 }
 

@@ -1,6 +1,6 @@
 //! The lines that differ, where both versions are text.
 ghost use Rattle.std.specs.Prelude.{◌≡◌, IfOk, option_map, string_bytes};
-ghost use Rattle.history_diff.specs.Texts.{version_line, with_versions, IsTextOf, IsAskedText, detail_of, text_shown};
+ghost use Rattle.history_diff.specs.Texts.{AreHunksOf, version_line, with_versions, IsTextOf, IsAskedText, detail_of, text_shown};
 
 use crate::diffing::Comparison;
 use line_diff::unified;
@@ -73,6 +73,18 @@ fn unified_text(
 ) -> Result<Option<String>, AllocError>
     ensures { IfOk result (λ text. IsTextOf object comparison.now old.now new.now (option_map string_bytes text)) }
 {
+    let Some(hunks) = hunks_between(alloc, old, new)? else {
+        return Ok(None);
+    };
+    let text = with_versions(alloc, object, comparison, hunks)?;
+    Ok(Some(text))
+}
+
+/// The hunks of the unified difference of two lists of bytes. None where one of them isn't UTF-8
+/// text. They are empty where the two are the same.
+pub fn hunks_between(alloc: Global, old: &[u8], new: &[u8]) -> Result<Option<String>, AllocError>
+    ensures { IfOk result (λ hunks. AreHunksOf old.now new.now (option_map string_bytes hunks)) }
+{
     let Ok(old) = std::str::from_utf8(old) else {
         return Ok(None);
     };
@@ -80,8 +92,7 @@ fn unified_text(
         return Ok(None);
     };
     let hunks = unified(alloc, old, new)?;
-    let text = with_versions(alloc, object, comparison, hunks)?;
-    Ok(Some(text))
+    Ok(Some(hunks))
 }
 
 /// What is to be shown of two versions of an object at two moments.

@@ -20,7 +20,7 @@ use Rattle.history_export.specs.declared.checking.Checked.{Checked}
 use Rattle.history_export.specs.declared.checking.Reading.{Reading}
 use Rattle.history_export.specs.Versions.{begins, begun_behind, beginnings_of, seen_from, pairs_at, pairs_of, size_at, bytes_at, content_in, contents_at}
 use Rattle.history_export.specs.Checks.{ChecksAll, HasRead, HaveRowsFrom, capped, none_read, with_read}
-use Rattle.history_export.proofs.Fronts.{IsFront, front_begun, front_more, front_whole, flat_more}
+use Rattle.history_view.proofs.Fronts.{IsFront, front_begun, front_more, front_whole, flat_more}
 
 -- ---- counts
 

@@ -13,7 +13,7 @@ use Rattle.history_export.specs.declared.faults.ExportedFile.{ExportedFile}
 use Rattle.history_export.specs.Folders.{NamedFile, AreFiles, with_file}
 use Rattle.history_export.specs.Manifest.{manifest_name}
 use Rattle.history_export.specs.Exports.{HasExported, Explains, IsOfWriting, content_at, file_at, line_at, exported, with_object}
-use Rattle.history_export.proofs.Fronts.{IsFront, front_begun, front_more, front_whole, flat_more}
+use Rattle.history_view.proofs.Fronts.{IsFront, front_begun, front_more, front_whole, flat_more}
 
 -- ---- files that are known
 

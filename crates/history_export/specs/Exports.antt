@@ -30,9 +30,13 @@ line_at s t row = manifest_line row (content_at s t row)
 abbrev pub exported : State → ℕ → List Listed → List NamedFile
 exported s t rows = record { name = manifest_name; bytes = flat_map (line_at s t) rows } ∷ map (file_at s t) rows
 
+-- the files with one of this name and these bytes, and with a line at the end of the manifest
+abbrev pub with_named : List ℕ → List ℕ → List ℕ → List NamedFile → List NamedFile
+with_named name content line files = with_bytes manifest_name line (with_file name content files)
+
 -- the files with that of an object of these bytes, and with a line at the end of the manifest
 abbrev pub with_line : ℕ → List ℕ → List ℕ → List NamedFile → List NamedFile
-with_line o content line files = with_bytes manifest_name line (with_file (file_name o) content files)
+with_line o content line files = with_named (file_name o) content line files
 
 -- the files with that of a listed object of these bytes, and with its line at the end of the manifest
 abbrev pub with_object : Listed → List ℕ → List NamedFile → List NamedFile

@@ -5,7 +5,7 @@ use Rattle.hex.specs.Hex.{encode_lower}
 use Rattle.sha2.specs.Sha256.{sha256}
 use Rattle.serde_json.specs.Data.{Data, null, number, unsigned, string, object, member, no_members}
 use Rattle.history_view.specs.declared.listing.Listed.{Listed}
-use Rattle.history_text.specs.Json.{json_line}
+use Rattle.history_text.specs.Json.{json_line, text_data}
 
 -- the name of the manifest
 abbrev pub manifest_name : List ℕ
@@ -14,10 +14,6 @@ manifest_name = codes "manifest.jsonl"
 -- the name of an object's file
 abbrev pub file_name : ℕ → List ℕ
 file_name o = codes "object-" ++ decimal o
-
--- the text that bytes spell in UTF-8; null where they spell none
-abbrev pub text_data : List ℕ → Data
-text_data bytes = if is_utf8 bytes then string bytes else null
 
 -- An object of these bytes: its attribute in hex, and as text where it is text; its moments, its file, its number, the SHA-256 of its bytes
 -- in hex, and how many they are.

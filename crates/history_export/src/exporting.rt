@@ -7,7 +7,7 @@ ghost use Rattle.drive.specs.Fields.{state_in, store_of};
 ghost use Rattle.history_export.specs.Folders.{AreFiles, with_bytes, with_file};
 ghost use Rattle.history_export.specs.Manifest.{manifest_name};
 ghost use Rattle.history_export.specs.Versions.{content_of};
-ghost use Rattle.history_export.specs.Exports.{Exports, HasExported, Explains, IsOfWriting, exported, with_line, with_object};
+ghost use Rattle.history_export.specs.Exports.{Exports, HasExported, Explains, IsOfWriting, exported, with_line, with_named, with_object};
 
 use crate::faults::{ExportError, ExportedFile, reading, writing};
 use crate::folders::Folder;
@@ -164,6 +164,21 @@ pub fn add_object<F: Folder>(
     ensures refused { IfErr result IsOfWriting }
 {
     let name = file_name(alloc, object)?;
-    make_file(folder, ExportedFile::Object(object), name.as_str(), content)?;
+    add_named(folder, object, name.as_str(), content, line)
+}
+
+/// Writes an object of these bytes under a name, and adds its line to the manifest. An error is told of the object.
+pub fn add_named<F: Folder>(
+    folder: &mut F,
+    object: ObjectId,
+    name: &str,
+    content: &[u8],
+    line: &[u8],
+) -> Result<(), ExportError>
+    ensures files { OnOk result (F.files folder.new ≡ option_map (with_named name.now content.now line.now) (F.files folder.old)) }
+    ensures path { F.path folder.new ≡ F.path folder.old }
+    ensures refused { IfErr result IsOfWriting }
+{
+    make_file(folder, ExportedFile::Object(object), name, content)?;
     add_line(folder, line)
 }

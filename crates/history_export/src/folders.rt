@@ -20,7 +20,8 @@ pub trait Folder {
     fn is_empty(&self) -> io::Result<bool>
         ensures empty { IfOk result (λ is_empty. MatchBool is_empty (AreFiles (files self.now) []) (HasFiles (files self.now))) };
 
-    /// Makes a file of these bytes. An error where anything in the folder has the name.
+    /// Makes a file of these bytes, and the folder within this one that its name has in front of a `/`. An error where anything in the
+    /// folder has the name.
     fn make_file(&mut self, name: &str, bytes: &[u8]) -> io::Result<()>
         ensures made { OnOk result (files self.new ≡ option_map (with_file name.now bytes.now) (files self.old)) }
         ensures path { path self.new ≡ path self.old };
@@ -70,6 +71,12 @@ impl SystemFolder {
         Ok(path.into_string())
     }
 
+    // Makes a folder within this one, where it isn't there.
+    fn make_folder(&self, name: &str) -> io::Result<()> {
+        let path = self.path_of(name)?;
+        fs::create_dir_all(&self.rt, path.as_str())
+    }
+
     // A file of the folder, opened for what comes at its end.
     fn opened(&self, name: &str) -> io::Result<Grown> {
         let path = self.path_of(name)?;
@@ -99,6 +106,9 @@ impl Folder for SystemFolder {
     }
 
     fn make_file(&mut self, name: &str, bytes: &[u8]) -> io::Result<()> {
+        if let Some((folder, _)) = name.rsplit_once('/') {
+            self.make_folder(folder)?;
+        }
         let path = self.path_of(name)?;
         let mut file = File::create_new(&self.rt, path.as_str())?;
         file.write_all(bytes)

@@ -21,7 +21,7 @@ mod versions;
 
 pub use begun::beginnings;
 pub use checking::{CheckReport, Checked, Progress, Silent, check_all};
-pub use exporting::{add_line, add_object, begin_folder, export};
+pub use exporting::{add_line, add_named, add_object, begin_folder, export};
 pub use faults::{ExportError, ExportedFile};
 pub use folders::{Folder, SystemFolder};
-pub use manifest::{MANIFEST, file_name, line_of, text_value};
+pub use manifest::{MANIFEST, file_name};

@@ -2,15 +2,14 @@
 ghost use Rattle.std.specs.Prelude.{◌≡◌, IfOk, false, string_bytes};
 ghost use Rattle.serde_json.specs.View.{view};
 ghost use Rattle.serde_json.specs.Written.{has_float};
-ghost use Rattle.history_export.specs.Manifest.{file_name, text_data, manifest_data, manifest_line};
-ghost use Rattle.history_text.specs.Json.{json_line};
+ghost use Rattle.history_export.specs.Manifest.{file_name, manifest_data, manifest_line};
 
+use history_text::{json_line, text_value};
 use history_view::Listed;
 use s4_types::ObjectId;
 use serde_json::{Value, json};
 use sha2::{Digest, Sha256};
 use std::alloc::{AllocError, Global};
-use std::str;
 
 /// The name of the manifest.
 pub const MANIFEST: &str = "manifest.jsonl";
@@ -21,16 +20,6 @@ pub fn file_name(alloc: Global, object: ObjectId) -> Result<String, AllocError>
 {
     let number = object.number();
     format!(in alloc; "object-{number}")
-}
-
-/// The text that bytes spell; null where they spell none.
-pub fn text_value(alloc: Global, bytes: &[u8]) -> Result<Value, AllocError>
-    ensures { IfOk result (λ value. view value ≡ text_data bytes.now) }
-{
-    match str::from_utf8(bytes) {
-        Ok(text) => Ok(Value::from(String::from_str(alloc, text)?)),
-        Err(_) => Ok(Value::Null),
-    }
 }
 
 fn manifest_value(alloc: Global, row: &Listed, content: &[u8]) -> Result<Value, AllocError>
@@ -64,15 +53,5 @@ pub(crate) fn manifest_line(
     ensures { IfOk result (λ line. string_bytes line ≡ manifest_line row.now content.now) }
 {
     let value = manifest_value(alloc, row, content)?;
-    line_of(alloc, &value)
-}
-
-/// The line of a value.
-pub fn line_of(alloc: Global, value: &Value) -> Result<String, AllocError>
-    requires { has_float (view value.now) ≡ false }
-    ensures { IfOk result (λ line. string_bytes line ≡ json_line (view value.now)) }
-{
-    let mut line = value.to_string(alloc)?;
-    line.push_str("\n")?;
-    Ok(line)
+    json_line(alloc, &value)
 }

@@ -17,7 +17,7 @@ use Rattle.version_store.specs.Store.{StoreFields}
 use Rattle.version_store.specs.Versions.{inode_by, version_by}
 use Rattle.drive.specs.Keeping.{DecodesWhereVisible}
 use Rattle.history_diff.specs.Differences.{AreAlike, content_of, attribute_of}
-use Rattle.history_export.proofs.Fronts.{IsFront, front_begun, front_more, front_whole}
+use Rattle.history_view.proofs.Fronts.{IsFront, front_begun, front_more, front_whole}
 use Rattle.history_report.specs.Page.{page_text}
 use Rattle.history_report.specs.Differences.{ObjectDifference, IsPassed, IsDifferenceNext, AreDifferencesFrom, difference_of, has_any}
 use Rattle.history_report.specs.private.Sections.{WritesDifferences}
@@ -59,6 +59,7 @@ object_written s from until o before after true a b seen also is was wrote = rec
     before = wrote.old ∙ is ∙ ap (λ n. version_of s n from) (sym wrote.object);
     after = wrote.new ∙ was ∙ ap (λ n. version_of s n until) (sym wrote.object);
     here = wrote.here;
+    shown = wrote.shown;
   };
   wrote = wrote.wrote;
 }

@@ -4,3 +4,4 @@ mod Pages
 mod Rows
 mod Safe
 pub mod Markup
+mod OwnMarks

@@ -14,7 +14,7 @@ use Rattle.moment_words.specs.declared.printing.MomentStyle.{MomentStyle}
 use Rattle.history_view.specs.declared.listing.Listed.{Listed}
 use Rattle.history_view.specs.Listing.{AreListedFrom, IsListedNext, IsPassed}
 use Rattle.history_export.specs.Checks.{HaveRowsFrom}
-use Rattle.history_export.proofs.Fronts.{IsFront, front_begun, front_more, front_whole}
+use Rattle.history_view.proofs.Fronts.{IsFront, front_begun, front_more, front_whole}
 use Rattle.history_report.specs.declared.scale.Scale.{Scale}
 use Rattle.history_report.specs.Page.{page_text}
 use Rattle.history_report.specs.Timeline.{strip_of}

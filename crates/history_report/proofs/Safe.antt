@@ -1,5 +1,5 @@
 -- The data of a page is where it may be.
-use Rattle.std.proofs.Common.{◌+◌, ◌-◌, ◌++◌, ◌==◌, ℕ, Bool, true, false, List, [], ◌∷◌, Option, Some, None, filter, flat_map, decimal, refl, sym, subst, codes, min, ◌^◌}
+use Rattle.std.proofs.Common.{◌+◌, ◌-◌, ◌++◌, ℕ, Bool, true, false, List, [], ◌∷◌, filter, flat_map, decimal, refl, sym, subst, codes}
 use Rattle.s4_types.specs.declared.spans.Span.{Span}
 use Rattle.s4_model.specs.State.{State}
 use Rattle.version_store.specs.Store.{StoreFields}
@@ -7,15 +7,17 @@ use Rattle.moment_words.specs.declared.printing.MomentStyle.{MomentStyle}
 use Rattle.moment_words.specs.Texts.{moment_text, style_of}
 use Rattle.window.specs.Runs.{span_is_of}
 use Rattle.history_view.specs.declared.listing.Listed.{Listed}
-use Rattle.history_view.specs.Listing.{listed_at}
-use Rattle.history_export.specs.Versions.{beginnings_of}
+use Rattle.history_view.specs.Changes.{changes_between}
+use Rattle.history_view.specs.declared.changes.Kind.{Kind}
+use Rattle.history_view.specs.declared.changes.Kind.TheVariants.{Made, Deleted, Continued, Attribute, Cut, Written, Lengthened, Touched}
+use Rattle.history_view.specs.declared.changes.ObjectChange.{ObjectChange}
 use Rattle.history_report.specs.declared.scale.Scale.{Scale}
 use Rattle.history_report.specs.declared.texts.TheConstants.{TIMELINE_HEAD}
 use Rattle.history_report.specs.Page.{Part, Constant, Escaped}
-use Rattle.history_report.specs.Timeline.{scale_of, place_of, bar_head, bar_by, bar_at, run_bar, run_bars, strip_head, strip_end, strip_of}
+use Rattle.history_report.specs.Timeline.{scale_of, place_of, mark_head, mark_shape, done_text, mark_of, marks_by, change_marks, run_mark, run_marks, strip_head, strip_end, strip_by, strip_of}
 use Rattle.history_report.specs.Table.{row_of, state_cell}
 use Rattle.history_report.specs.Differences.{ObjectDifference, difference_end, difference_of, first_lines, has_any, has_more_lines, lines_of}
-use Rattle.history_report.specs.Report.{head_of, numbers_of, timeline_of, table_of, end_of, since_of}
+use Rattle.history_report.specs.Report.{head_of, numbers_of, axis_of, timeline_of, table_of, end_of, since_of}
 use Rattle.history_report.specs.Markup.{Mode, Text, read, AreSafe, PagesAreSafe}
 use Rattle.history_report.proofs.Markup.{in_text, in_value}
 
@@ -32,34 +34,54 @@ safe_each f each (x ∷ xs) = safe_two Text (f x) (flat_map f xs) (each x) (safe
 
 -- ---- the timeline
 
-bar_parts : (is_live is_made : Bool) (a b c d : List ℕ) → AreSafe Text
-    (Constant (bar_head is_live is_made) ∷ Escaped a ∷ Constant (codes "\" width=\"") ∷ Escaped b ∷ Constant (codes "\" height=\"10\"><title>from ") ∷ Escaped c ∷ Constant (codes ": ") ∷ Escaped d
-    ∷ Constant (codes " bytes</title></rect>\n") ∷ [])
-bar_parts true true a b c d = (refl, in_value a, (refl, in_value b, (tt, in_text c, (tt, in_text d, refl))))
-bar_parts true false a b c d = (refl, in_value a, (refl, in_value b, (tt, in_text c, (tt, in_text d, refl))))
-bar_parts false is_made a b c d = (refl, in_value a, (refl, in_value b, (tt, in_text c, (tt, in_text d, refl))))
+mark_parts : (kind : Kind) (a b c d e : List ℕ) → AreSafe Text
+    (Constant (mark_head kind) ∷ Escaped a ∷ Constant (mark_shape kind) ∷ Escaped b ∷ Constant (done_text kind) ∷ Escaped c ∷ Constant (codes ": ") ∷ Escaped d ∷ Constant (codes " to ") ∷ Escaped e ∷ Constant (codes " bytes</title></path>\n") ∷ [])
+mark_parts Made a b c d e = (refl, in_value a, (tt, in_text b, (tt, in_text c, (tt, in_text d, (tt, in_text e, refl)))))
+mark_parts Deleted a b c d e = (refl, in_value a, (tt, in_text b, (tt, in_text c, (tt, in_text d, (tt, in_text e, refl)))))
+mark_parts Continued a b c d e = (refl, in_value a, (tt, in_text b, (tt, in_text c, (tt, in_text d, (tt, in_text e, refl)))))
+mark_parts Attribute a b c d e = (refl, in_value a, (tt, in_text b, (tt, in_text c, (tt, in_text d, (tt, in_text e, refl)))))
+mark_parts Cut a b c d e = (refl, in_value a, (tt, in_text b, (tt, in_text c, (tt, in_text d, (tt, in_text e, refl)))))
+mark_parts Written a b c d e = (refl, in_value a, (tt, in_text b, (tt, in_text c, (tt, in_text d, (tt, in_text e, refl)))))
+mark_parts Lengthened a b c d e = (refl, in_value a, (tt, in_text b, (tt, in_text c, (tt, in_text d, (tt, in_text e, refl)))))
+mark_parts Touched a b c d e = (refl, in_value a, (tt, in_text b, (tt, in_text c, (tt, in_text d, (tt, in_text e, refl)))))
 
-bar_safe : (scale : Scale) (t : ℕ) (found : Option Listed) → AreSafe Text (bar_by scale t found)
-bar_safe scale t None = refl
-bar_safe scale t (Some row) = bar_parts row.is_live (row.created == t) (decimal (place_of scale t)) (decimal (scale.width - place_of scale t)) (moment_text t scale.style) (decimal row.size)
+marks_safe : (kind : Kind) (mark : List Part) → AreSafe Text mark → AreSafe Text (marks_by kind mark)
+marks_safe Made mark safe = safe
+marks_safe Deleted mark safe = safe
+marks_safe Continued mark safe = refl
+marks_safe Attribute mark safe = safe
+marks_safe Cut mark safe = safe
+marks_safe Written mark safe = safe
+marks_safe Lengthened mark safe = safe
+marks_safe Touched mark safe = safe
 
-run_safe : (scale : Scale) (run : Span) → AreSafe Text (run_bar scale run)
-run_safe scale run = (
+change_safe : (scale : Scale) (o : ℕ) (change : ObjectChange) → AreSafe Text (change_marks scale o change)
+change_safe scale o change =
+    marks_safe change.kind (mark_of scale o change)
+    (mark_parts change.kind (decimal (place_of scale change.moment)) (decimal o) (moment_text change.moment scale.style) (decimal change.size_before) (decimal change.size_after))
+
+run_safe : (scale : Scale) (o : ℕ) (run : Span) → AreSafe Text (run_mark scale o run)
+run_safe scale o run = (
   refl,
   in_value (decimal (place_of scale run.first)),
-  (refl, in_value (decimal (min (place_of scale run.last - place_of scale run.first + 1) (2 ^ 64 - 1))), (tt, in_text (moment_text run.first scale.style), (tt, in_text (moment_text run.last scale.style), refl))),
+  (refl, in_value (decimal (place_of scale run.last - place_of scale run.first + 3)), (tt, in_text (decimal o), (tt, in_text (moment_text run.first scale.style), (tt, in_text (moment_text run.last scale.style), refl)))),
 )
 
-head_safe : (scale : Scale) (o : ℕ) → AreSafe Text (strip_head scale o)
-head_safe scale o = (tt, in_text (decimal o), (refl, in_value (decimal scale.width), refl))
+head_safe : (o : ℕ) → AreSafe Text (strip_head o)
+head_safe o = (tt, in_text (decimal o), refl)
+
+by_safe : (scale : Scale) (runs : List Span) (o : ℕ) (changes : List ObjectChange) → AreSafe Text (strip_by scale runs o changes)
+by_safe scale runs o changes =
+    let all = run_marks scale o runs 0 in
+    let own = run_marks scale o runs o in
+    let marks = flat_map (change_marks scale o) changes in
+    let one = safe_two Text (strip_head o) all (head_safe o) (safe_each (run_mark scale o) (run_safe scale o) (filter (span_is_of 0) runs)) in
+    let two = safe_two Text (strip_head o ++ all) own one (safe_each (run_mark scale o) (run_safe scale o) (filter (span_is_of o) runs)) in
+    let three = safe_two Text ((strip_head o ++ all) ++ own) marks two (safe_each (change_marks scale o) (change_safe scale o) changes) in
+    safe_two Text (((strip_head o ++ all) ++ own) ++ marks) strip_end three refl
 
 strip_safe : (scale : Scale) (s : State) (store : StoreFields) (runs : List Span) (o : ℕ) → AreSafe Text (strip_of scale s store runs o)
-strip_safe scale s store runs o =
-    let bars = flat_map (bar_at scale s store o) (beginnings_of s store o) in
-    let one = safe_two Text (strip_head scale o) bars (head_safe scale o) (safe_each (bar_at scale s store o) (λ t. bar_safe scale t (listed_at s store true o t)) (beginnings_of s store o)) in
-    let two = safe_two Text (strip_head scale o ++ bars) (run_bars scale runs 0) one (safe_each (run_bar scale) (run_safe scale) (filter (span_is_of 0) runs)) in
-    let three = safe_two Text ((strip_head scale o ++ bars) ++ run_bars scale runs 0) (run_bars scale runs o) two (safe_each (run_bar scale) (run_safe scale) (filter (span_is_of o) runs)) in
-    safe_two Text (((strip_head scale o ++ bars) ++ run_bars scale runs 0) ++ run_bars scale runs o) strip_end three refl
+strip_safe scale s store runs o = by_safe scale runs o (changes_between s store o s.floor s.clock)
 
 -- ---- the table
 
@@ -91,8 +113,13 @@ numbers_safe s from =
     let style = style_of s.clock false in
     (tt, in_text (moment_text s.clock style), (tt, in_text (moment_text s.floor style), (tt, in_text (moment_text from style), refl)))
 
+axis_safe : (s : State) → AreSafe Text (axis_of s)
+axis_safe s =
+    let style = style_of s.clock false in
+    (tt, in_text (moment_text s.floor style), (tt, in_text (moment_text s.clock style), refl))
+
 page_head_safe : (s : State) (from : ℕ) → AreSafe Text (head_of s from)
-page_head_safe s from = safe_two Text (numbers_of s from) (Constant TIMELINE_HEAD.now ∷ []) (numbers_safe s from) refl
+page_head_safe s from = safe_two Text (numbers_of s from) (Constant TIMELINE_HEAD.now ∷ axis_of s) (numbers_safe s from) (axis_safe s)
 
 pub pages_are_safe : PagesAreSafe
 pages_are_safe s store runs from objects rows differences =

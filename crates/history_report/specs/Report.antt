@@ -29,9 +29,16 @@ numbers_by style s from =
 abbrev pub numbers_of : State → ℕ → List Part
 numbers_of s from = numbers_by (style_of s.clock false) s from
 
+-- the ends of the timeline: the floor and the clock
+abbrev pub axis_by : MomentStyle → State → List Part
+axis_by style s = Constant (codes "<div class=\"axis\"><span>") ∷ Escaped (moment_text s.floor style) ∷ Constant (codes "</span><span>") ∷ Escaped (moment_text s.clock style) ∷ Constant (codes "</span></div>\n") ∷ []
+
+abbrev pub axis_of : State → List Part
+axis_of s = axis_by (style_of s.clock false) s
+
 -- the beginning of a page
 abbrev pub head_of : State → ℕ → List Part
-head_of s from = Constant PAGE_HEAD.now ∷ (numbers_of s from ++ Constant TIMELINE_HEAD.now ∷ [])
+head_of s from = Constant PAGE_HEAD.now ∷ (numbers_of s from ++ Constant TIMELINE_HEAD.now ∷ axis_of s)
 
 -- that, and a strip for each object
 abbrev pub timeline_of : State → StoreFields → List Span → ℕ → List ℕ → List Part

@@ -3,15 +3,15 @@ ghost use Rattle.std.specs.Prelude.{◌≡◌, ◌++◌, ◌+◌, ◌^◌, ◌<�
 ghost use Rattle.std.specs.Io.KnownBytes.{Appends};
 ghost use Rattle.drive.specs.Fields.{state_in, store_of};
 ghost use Rattle.history_diff.specs.Differences.{content_of};
-ghost use Rattle.history_report.specs.Differences.{difference_by, difference_end, difference_of, first_lines, has_more_lines, lines_end, lines_of};
+ghost use Rattle.history_report.specs.Differences.{difference_by, difference_end, first_lines, has_more_lines, lines_end};
 ghost use Rattle.history_report.specs.Page.{page_text};
 ghost use Rattle.history_report.specs.private.Sections.{WritesDifferences};
-ghost use Rattle.history_report.specs.private.Writing.{AreVisible, WritesBetween, WritesObject, row_of};
+ghost use Rattle.history_report.specs.private.Writing.{AreLines, AreVisible, WritesBetween, WritesDetail, WritesObject, WritesShown};
 
 use crate::escaping::{data_text, number_text};
 use crate::output::write_out;
 use drive::{Drive, Session};
-use history_diff::{Difference, Stop, difference_line, difference_of, write_patch};
+use history_diff::{Difference, Stop, difference_line, difference_of, hunks_between, write_patch};
 use history_view::{is_visible, version_at};
 use s4_types::{Moment, ObjectId, Role, Version};
 use segment_word::Naming;
@@ -55,7 +55,7 @@ fn difference_end(is_cut: bool) -> &'static str
     ensures { result.now ≡ difference_end is_cut }
 {
     if is_cut {
-        "</pre>\n<p>Cut at 200 lines; s4 diff prints all.</p>\n"
+        "</pre>\n<p>Cut at 200 lines; s4 diff prints all with --text or --patch.</p>\n"
     } else {
         "</pre>\n"
     }
@@ -80,6 +80,25 @@ fn difference_text(alloc: Global, object: ObjectId, lines: &[u8]) -> Result<Stri
     format!(in alloc; "<h3>object {number}</h3>\n<pre>{shown}{end}")
 }
 
+// Writes the lines that differ where both versions are text, and else the bytes that differ in hex.
+fn write_detail<W: Sink>(
+    alloc: Global,
+    before: &Version,
+    after: &Version,
+    difference: &Difference,
+    writer: &mut W,
+) -> Result<(), Stop>
+    requires writer { W.failures writer.old + 1 < 2 ^ 64 }
+    ensures detail { OnOk result (WritesDetail before.now after.now difference.now (W.passed writer.old) (W.passed writer.new)) }
+{
+    let (old, new) = (content_of(before), content_of(after));
+    match hunks_between(alloc, old, new) {
+        Ok(Some(hunks)) => write_out(writer, hunks.as_bytes()),
+        Ok(None) => write_patch(alloc, old, new, difference.ranges.as_slice(), writer),
+        Err(_) => Err(Stop::NoMemory),
+    }
+}
+
 // The lines of what differs of an object.
 fn difference_lines(
     alloc: Global,
@@ -88,7 +107,7 @@ fn difference_lines(
     after: &Version,
     difference: &Difference,
 ) -> Result<MemorySink, Stop>
-    ensures { IfOk result (λ sink. sink.bytes.items ≡ lines_of (row_of object before.now after.now difference.now)) }
+    ensures { IfOk result (λ sink. AreLines object before.now after.now difference.now sink.bytes.items) }
 {
     let mut sink = MemorySink::new(alloc);
     let line = match difference_line(alloc, object, difference) {
@@ -96,8 +115,7 @@ fn difference_lines(
         Err(_) => return Err(Stop::NoMemory),
     };
     write_out(&mut sink, line.as_bytes())?;
-    let (old, new) = (content_of(before), content_of(after));
-    match write_patch(alloc, old, new, difference.ranges.as_slice(), &mut sink) {
+    match write_detail(alloc, before, after, difference, &mut sink) {
         Ok(()) => Ok(sink),
         Err(stop) => Err(stop),
     }
@@ -113,7 +131,7 @@ fn write_difference<W: Sink>(
     writer: &mut W,
 ) -> Result<(), Stop>
     requires writer { W.failures writer.old + 1 < 2 ^ 64 }
-    ensures lines { OnOk result (Appends (W.passed writer.old) (W.passed writer.new) (page_text (difference_of (row_of object before.now after.now difference.now)))) }
+    ensures lines { OnOk result (WritesShown object before.now after.now difference.now (W.passed writer.old) (W.passed writer.new)) }
     ensures failures { OnOk result (W.failures writer.new ≡ W.failures writer.old) }
 {
     let lines = match difference_lines(alloc, object, before, after, difference) {

@@ -10,11 +10,11 @@
 //! How a browser shows the page no clause says.
 #![tactic(auto)]
 
-mod bars;
 mod differences;
 mod escaping;
 mod faults;
 pub mod laws;
+mod marks;
 mod output;
 mod page;
 mod scale;

@@ -1,11 +1,11 @@
 //! The page about a drive.
-ghost use Rattle.std.specs.Prelude.{◌≡◌, ◌≢◌, ◌+◌, ◌^◌, ◌<◌, Some, IfOk, IfErr, OnOk, string_bytes};
+ghost use Rattle.std.specs.Prelude.{◌≡◌, ◌≢◌, ◌+◌, ◌^◌, ◌<◌, ◌∷◌, Some, IfOk, IfErr, OnOk, string_bytes};
 ghost use Rattle.std.specs.Io.KnownBytes.{Appends};
 ghost use Rattle.s4_model.specs.Visible.{IsVisible};
 ghost use Rattle.window.specs.Runs.{Ascend};
 ghost use Rattle.drive.specs.Fields.{state_in, store_of};
-ghost use Rattle.history_report.specs.Page.{page_text};
-ghost use Rattle.history_report.specs.Report.{IsFaultOf, IsSince, Reports, end_of, head_of, none_text, numbers_of};
+ghost use Rattle.history_report.specs.Page.{Constant, page_text};
+ghost use Rattle.history_report.specs.Report.{IsFaultOf, IsSince, Reports, axis_of, end_of, head_of, none_text, numbers_of};
 ghost use Rattle.history_report.specs.private.Sections.{WritesPage, WritesSince, WritesTable, WritesTimeline};
 
 use crate::differences::write_differences;
@@ -27,7 +27,8 @@ use segment_word::Naming;
 use serving::Sink;
 use std::alloc::{AllocError, Global};
 
-/// Writes the page about a drive: a strip of time for each object, a table of all that are live or
+/// Writes the page about a drive: a strip of time for each object with its changes and its hidden
+/// moments, a table of all that are live or
 /// were deleted, and for each object that differs what does since a moment, the earliest that can
 /// be read where none is given. A difference has `DIFFERENCE_LINES` lines at most, and says where
 /// it was cut.
@@ -110,6 +111,34 @@ fn numbers_text<J: Naming>(
     )
 }
 
+// The ends of the timeline: the floor and the clock.
+fn axis_text<J: Naming>(alloc: Global, drive: &Drive<J>) -> Result<String, AllocError>
+    ensures { IfOk result (λ text. string_bytes text ≡ page_text (axis_of (state_in drive.now))) }
+{
+    let style = style_of(drive.clock().number(), false);
+    let floor = moment_cell(alloc, drive.floor(), style)?;
+    let clock = moment_cell(alloc, drive.clock(), style)?;
+    format!(in alloc; "<div class=\"axis\"><span>{floor}</span><span>{clock}</span></div>\n")
+}
+
+// Writes what is above the strips.
+fn write_axis<J: Naming, W: Sink>(
+    alloc: Global,
+    drive: &Drive<J>,
+    writer: &mut W,
+) -> Result<(), Stop>
+    requires writer { W.failures writer.old + 1 < 2 ^ 64 }
+    ensures axis { OnOk result (Appends (W.passed writer.old) (W.passed writer.new) (page_text (Constant TIMELINE_HEAD.now ∷ axis_of (state_in drive.now)))) }
+    ensures failures { OnOk result (W.failures writer.new ≡ W.failures writer.old) }
+{
+    let axis = match axis_text(alloc, drive) {
+        Ok(axis) => axis,
+        Err(_) => return Err(Stop::NoMemory),
+    };
+    write_out(writer, TIMELINE_HEAD.as_bytes())?;
+    write_out(writer, axis.as_bytes())
+}
+
 // Writes the beginning of a page.
 fn write_head<J: Naming, W: Sink>(
     alloc: Global,
@@ -127,7 +156,7 @@ fn write_head<J: Naming, W: Sink>(
     };
     write_out(writer, PAGE_HEAD.as_bytes())?;
     write_out(writer, numbers.as_bytes())?;
-    write_out(writer, TIMELINE_HEAD.as_bytes())
+    write_axis(alloc, drive, writer)
 }
 
 // Writes the beginning of a page, and the strips.

@@ -1,5 +1,5 @@
 //! The scale of a timeline.
-ghost use Rattle.std.specs.Prelude.{◌≡◌, ◌-◌};
+ghost use Rattle.std.specs.Prelude.{◌≡◌, ◌-◌, ◌*◌, ◌≤◌};
 ghost use Rattle.drive.specs.Fields.{state_in};
 ghost use Rattle.history_report.specs.Timeline.{scale_between, scale_of, place_of};
 
@@ -8,18 +8,16 @@ use moment_words::{MomentStyle, style_of};
 use s4_types::Moment;
 use segment_word::Naming;
 
-/// How many units a picture has across, at most, but for one.
-const UNITS: u64 = 1000;
+/// How many units a picture has across.
+const UNITS: u128 = 1000;
 
-/// Where moments are on a picture: so many of them share a unit that it has about `UNITS` at most.
+/// Where moments are on a picture, from the first at the left end to the last at the right end.
 #[derive(Clone, Copy)]
 pub(crate) struct Scale {
     /// The moment at the left end.
     pub(crate) first: u64,
-    /// How many moments a unit has.
-    pub(crate) moments: u64,
-    /// How many units there are.
-    pub(crate) width: u64,
+    /// The moment at the right end.
+    pub(crate) last: u64,
     /// How moments are printed.
     pub(crate) style: MomentStyle,
 }
@@ -27,13 +25,9 @@ pub(crate) struct Scale {
 fn scale_between(first: u64, last: u64) -> Scale
     ensures { result ≡ scale_between first last }
 {
-    let count = last.saturating_sub(first);
-    let moments = count / UNITS + 1;
-    let width = (count / moments).saturating_add(1);
     Scale {
         first,
-        moments,
-        width,
+        last,
         style: style_of(last, false),
     }
 }
@@ -47,7 +41,10 @@ pub(crate) fn scale_of<J: Naming>(drive: &Drive<J>) -> Scale
 
 /// The unit that has a moment.
 pub(crate) fn place_of(scale: &Scale, moment: Moment) -> u64
-    ensures { result ≡ place_of scale.now moment }
+    ensures place { result ≡ place_of scale.now moment }
+    ensures within { result ≤ 1000 }
 {
-    moment.number().saturating_sub(scale.first) / scale.moments.max(1)
+    let gone = u128::from(moment.number().saturating_sub(scale.first));
+    let all = u128::from(scale.last.saturating_sub(scale.first)).max(1);
+    (gone * UNITS / all).min(UNITS) as u64
 }

@@ -3,19 +3,18 @@ ghost use Rattle.std.specs.Prelude.{◌≡◌, ◌++◌, ◌+◌, ◌^◌, ◌<�
 ghost use Rattle.std.specs.Io.KnownBytes.{Appends};
 ghost use Rattle.window.specs.Runs.{Ascend, span_is_of};
 ghost use Rattle.drive.specs.Fields.{state_in, store_of};
-ghost use Rattle.history_export.specs.Versions.{beginnings_of};
 ghost use Rattle.history_report.specs.Page.{page_text};
-ghost use Rattle.history_report.specs.Timeline.{run_bars, strip_end, strip_head, strip_of};
+ghost use Rattle.history_report.specs.Timeline.{strip_by, strip_head, strip_of};
 ghost use Rattle.history_report.specs.private.Sections.{WritesStrips};
 
-use crate::bars::{push_bars, push_runs};
 use crate::escaping::number_text;
+use crate::marks::{push_marks, push_runs};
 use crate::output::write_out;
 use crate::scale::Scale;
 use drive::Drive;
 use history_diff::Stop;
-use history_export::beginnings;
-use s4_types::{Moment, ObjectId, Refusal, Span};
+use history_view::{ObjectChange, changes_between};
+use s4_types::{ObjectId, Refusal, Span};
 use segment_word::Naming;
 use serving::Sink;
 use std::alloc::{AllocError, Global};
@@ -46,51 +45,37 @@ fn of_list(runs: &[Span], list: ObjectId) -> &[Span]
     up_to_list(from_list(runs, list), list)
 }
 
-fn strip_head(alloc: Global, scale: &Scale, object: ObjectId) -> Result<String, AllocError>
-    ensures { IfOk result (λ text. string_bytes text ≡ page_text (strip_head scale.now object)) }
+fn strip_head(alloc: Global, object: ObjectId) -> Result<String, AllocError>
+    ensures { IfOk result (λ text. string_bytes text ≡ page_text (strip_head object)) }
 {
     let number = number_text(alloc, object.number())?;
-    let width = number_text(alloc, scale.width)?;
     format!(in alloc;
-        "<div class=\"strip\"><span>object {number}</span>\
-        <svg viewBox=\"0 0 {width} 10\" preserveAspectRatio=\"none\">\n"
+        "<div class=\"strip\"><span>object {number}</span><svg viewBox=\"-8 0 1016 16\">\n"
     )
 }
 
-// Adds the bars of the hidden moments of all objects, those of this one, and the end of its strip.
-fn push_hidden(
+// The strip of an object that has these changes.
+fn strip_by(
     alloc: Global,
-    scale: &Scale,
-    runs: &[Span],
-    object: ObjectId,
-    text: &mut String,
-) -> Result<(), AllocError>
-    requires { Ascend runs.now }
-    ensures { OnOk result (string_bytes text.new ≡ ((string_bytes text.old ++ page_text (run_bars scale.now runs.now 0)) ++ page_text (run_bars scale.now runs.now object)) ++ page_text strip_end) }
-{
-    push_runs(alloc, scale, of_list(runs, ObjectId::new(0)), text)?;
-    push_runs(alloc, scale, of_list(runs, object), text)?;
-    text.push_str("</svg></div>\n")
-}
-
-// The strip of an object whose versions begin at these moments.
-fn strip_by<J: Naming>(
-    alloc: Global,
-    drive: &mut Drive<J>,
     object: ObjectId,
     scale: &Scale,
     runs: &[Span],
-    moments: &[Moment],
+    changes: &[ObjectChange],
 ) -> Result<String, AllocError>
-    requires ordered { Ascend runs.now }
-    requires moments { moments.now ≡ beginnings_of (state_in drive.old) (store_of drive.old) object }
-    ensures strip { IfOk result (λ text. string_bytes text ≡ page_text (strip_of scale.now (state_in drive.old) (store_of drive.old) runs.now object)) }
-    ensures ledger { drive.new.ledger ≡ drive.old.ledger }
-    ensures store { store_of drive.new ≡ store_of drive.old }
+    requires { Ascend runs.now }
+    ensures { IfOk result (λ text. string_bytes text ≡ page_text (strip_by scale.now runs.now object changes.now)) }
 {
-    let mut text = strip_head(alloc, scale, object)?;
-    push_bars(alloc, drive, object, scale, moments, &mut text)?;
-    push_hidden(alloc, scale, runs, object, &mut text)?;
+    let mut text = strip_head(alloc, object)?;
+    push_runs(
+        alloc,
+        scale,
+        object,
+        of_list(runs, ObjectId::new(0)),
+        &mut text,
+    )?;
+    push_runs(alloc, scale, object, of_list(runs, object), &mut text)?;
+    push_marks(alloc, scale, object, changes, &mut text)?;
+    text.push_str("</svg></div>\n")?;
     Ok(text)
 }
 
@@ -107,8 +92,9 @@ fn strip_text<J: Naming>(
     ensures ledger { drive.new.ledger ≡ drive.old.ledger }
     ensures store { store_of drive.new ≡ store_of drive.old }
 {
-    let moments = beginnings(alloc, drive, object)?;
-    match strip_by(alloc, drive, object, scale, runs, moments.as_slice()) {
+    let (floor, clock) = (drive.floor(), drive.clock());
+    let changes = changes_between(alloc, drive, object, floor, clock)?;
+    match strip_by(alloc, object, scale, runs, changes.as_slice()) {
         Ok(text) => Ok(text),
         Err(_) => Err(Refusal::NoMemory),
     }

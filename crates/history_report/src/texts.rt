@@ -13,15 +13,15 @@ script-src 'sha256-La5sLMGwAL1u1E/gkhVeVrbUabOr4Dy6DH3SQHDb1Mw='\">\n\
 <title>Report of a drive</title>\n\
 <style>\n\
 body { font: 14px system-ui, sans-serif; color: #1f2933; margin: 24px; }\n\
-.strip { display: flex; align-items: center; height: 20px; }\n\
+.strip { display: flex; align-items: center; margin-bottom: 4px; }\n\
 .strip span { flex: none; width: 120px; }\n\
-.strip svg { width: 100%; height: 16px; background: #f5f7fa; }\n\
-rect { stroke: #ffffff; stroke-width: 1px; vector-effect: non-scaling-stroke; }\n\
-.made { fill: #1a7f37; background: #1a7f37; }\n\
-.live { fill: #1f6feb; background: #1f6feb; }\n\
-.gone { fill: #cbd2d9; background: #cbd2d9; }\n\
-.hidden { fill: #e12d39; background: #e12d39; }\n\
-.legend b { display: inline-block; width: 14px; height: 14px; margin: 0 6px 0 18px; }\n\
+.strip svg { flex: auto; min-width: 0; background: #f5f7fa; }\n\
+.axis { display: flex; justify-content: space-between; margin-left: 120px; color: #52606d; }\n\
+.made { fill: #1a7f37; }\n\
+.changed { fill: none; stroke: #1f6feb; stroke-width: 4px; }\n\
+.deleted { fill: none; stroke: #52606d; stroke-width: 3px; }\n\
+.hidden { fill: #e12d39; fill-opacity: 0.4; }\n\
+.legend svg { width: 16px; height: 16px; margin: 0 6px 0 18px; vertical-align: text-bottom; }\n\
 input { font: inherit; padding: 4px; width: 320px; margin-bottom: 8px; }\n\
 table { border-collapse: collapse; }\n\
 th, td { border: 1px solid #cbd2d9; padding: 2px 8px; text-align: left; white-space: pre-wrap; }\n\
@@ -36,10 +36,15 @@ pre { background: #f5f7fa; padding: 8px; white-space: pre-wrap; overflow-wrap: a
 /// What is above the strips.
 pub(crate) const TIMELINE_HEAD: &str = "\
 <h2>Timeline</h2>\n\
-<p class=\"legend\"><b class=\"made\"></b>made <b class=\"live\"></b>changed \
-<b class=\"gone\"></b>deleted <b class=\"hidden\"></b>hidden by a flush</p>\n\
-<p>Each object has a strip from the floor at the left to the clock at the right. \
-A bar begins where a version does; a pointer over it shows its moment and its size.</p>\n\
+<p class=\"legend\">\
+<svg viewBox=\"0 0 16 16\"><path class=\"made\" d=\"M8 8m-5 0a5 5 0 1 0 10 0a5 5 0 1 0 -10 0\"></path></svg>made\
+<svg viewBox=\"0 0 16 16\"><path class=\"changed\" d=\"M8 2v12\"></path></svg>changed\
+<svg viewBox=\"0 0 16 16\"><path class=\"deleted\" d=\"M8 8m-5 -5l10 10m0 -10l-10 10\"></path></svg>deleted\
+<svg viewBox=\"0 0 16 16\"><rect class=\"hidden\" x=\"0\" width=\"16\" height=\"16\"></rect></svg>\
+hidden by a flush</p>\n\
+<p>Each object has a strip from the floor at the left to the clock at the right, with a mark for \
+each of its changes that can be read. A pointer over a mark shows its object, its moment and what \
+was done.</p>\n\
 ";
 
 /// What is between the strips and the rows of the table.

@@ -12,6 +12,7 @@ use Rattle.history_view.specs.declared.changes.ObjectChange.{ObjectChange}
 use Rattle.history_view.specs.declared.listing.Listed.{Listed}
 use Rattle.history_view.specs.declared.rows.LogRow.{LogRow}
 use Rattle.history_view.specs.declared.rows.LogRow.TheVariants.{Changed, Hidden}
+use Rattle.history_view.specs.declared.stats.KindCounts.{KindCounts}
 use Rattle.history_view.specs.declared.stats.ObjectStat.{ObjectStat}
 use Rattle.moment_words.specs.declared.printing.MomentStyle.{MomentStyle}
 use Rattle.moment_words.specs.declared.printing.MomentStyle.TheVariants.{Number, Date}
@@ -102,15 +103,27 @@ abbrev pub row_data : MomentStyle → LogRow → Data
 row_data style (Changed o change) = change_data style o change
 row_data style (Hidden run) = hidden_data style run
 
--- the changes of an object: how many they are, the moments of the first and the last, and the object
+-- how many changes are of each kind
+abbrev pub kinds_data : KindCounts → Data
+kinds_data kinds =
+    object (member (codes "attribute") (number (unsigned kinds.attribute))
+    (member (codes "cut") (number (unsigned kinds.cut))
+    (member (codes "deleted") (number (unsigned kinds.deleted))
+    (member (codes "lengthened") (number (unsigned kinds.lengthened))
+    (member (codes "made") (number (unsigned kinds.made))
+    (member (codes "touched") (number (unsigned kinds.touched))
+    (member (codes "written") (number (unsigned kinds.written)) no_members)))))))
+
+-- the changes of an object: how many they are, the moments of the first and the last, how many are of each kind, and the object
 abbrev pub stat_data : MomentStyle → ObjectStat → Data
 stat_data style stat =
     object (member (codes "changes") (number (unsigned stat.changes))
     (member (codes "first") (number (unsigned stat.first))
     (member (codes "first_time") (time_data style stat.first)
+    (member (codes "kinds") (kinds_data stat.kinds)
     (member (codes "last") (number (unsigned stat.last))
     (member (codes "last_time") (time_data style stat.last)
-    (member (codes "object") (number (unsigned stat.object)) no_members))))))
+    (member (codes "object") (number (unsigned stat.object)) no_members)))))))
 
 -- the clock and the floor as dates; null where moments are numbers
 abbrev pub times_data : MomentStyle → DriveNumbers → Data

@@ -12,24 +12,18 @@ use Rattle.history_view.specs.declared.changes.ObjectChange.{ObjectChange}
 use Rattle.history_view.specs.declared.listing.Listed.{Listed}
 use Rattle.history_view.specs.declared.rows.LogRow.{LogRow}
 use Rattle.history_view.specs.declared.rows.LogRow.TheVariants.{Changed, Hidden}
+use Rattle.history_view.specs.declared.stats.KindCounts.{KindCounts}
 use Rattle.history_view.specs.declared.stats.ObjectStat.{ObjectStat}
 use Rattle.moment_words.specs.declared.printing.MomentStyle.{MomentStyle}
 use Rattle.moment_words.specs.declared.printing.MomentStyle.TheVariants.{Number, Date}
 use Rattle.moment_words.specs.Texts.{moment_text}
 use Rattle.s4_types.specs.declared.spans.Span.{Span}
 use Rattle.history_text.specs.declared.numbers.DriveNumbers.{DriveNumbers}
+use Rattle.history_text.specs.Json.{kind_word}
 
 -- a number at the right of a column of this width
 abbrev pub column : ℕ → ℕ → List ℕ
 column width n = padded_integral (format_spec 32 0 0 width (2 ^ 64 - 1)) false [] (decimal n)
-
--- whether a byte stands for itself between quotation marks: a printable ASCII character that is neither one of these nor a backslash
-abbrev pub is_plain : ℕ → Bool
-is_plain b = nat_le 32 b && (nat_lt b 127 && (not (b == 34) && not (b == 92)))
-
--- bytes: between quotation marks where each of them stands for itself, and else in hex
-abbrev pub attribute_text : List ℕ → List ℕ
-attribute_text bytes = if list_all is_plain bytes then codes "\"" ++ (bytes ++ codes "\"") else encode_lower bytes
 
 -- whether a character can be shown between quotation marks: none of ASCII's or Unicode's controls, neither a quotation mark nor a
 -- backslash, no line or paragraph separator, and none that has no width or turns the direction of a line
@@ -128,13 +122,26 @@ log_line style (Hidden run) = hidden_line style run
 
 -- the line above what changes come to
 abbrev pub stat_head : MomentStyle → List ℕ
-stat_head Number = codes "    OBJECT     CHANGES       FIRST        LAST\n"
-stat_head Date = codes "    OBJECT     CHANGES  FIRST                        LAST\n"
+stat_head Number = codes "    OBJECT     CHANGES       FIRST        LAST  KINDS\n"
+stat_head Date = codes "    OBJECT     CHANGES  FIRST                        LAST                         KINDS\n"
 
--- the line of an object's changes: the object, how many they are, and the moments of the first and the last
+-- how many changes are of one kind, after its word; nothing where none is
+abbrev pub kind_count : Kind → ℕ → List ℕ
+kind_count kind count = if count == 0 then [] else codes "  " ++ (kind_word kind ++ (codes " " ++ decimal count))
+
+-- how many changes are of each kind between the one that makes an object and the one that deletes it
+abbrev pub between_text : KindCounts → List ℕ
+between_text kinds =
+    kind_count Written kinds.written ++ (kind_count Lengthened kinds.lengthened ++ (kind_count Cut kinds.cut ++ (kind_count Attribute kinds.attribute ++ kind_count Touched kinds.touched)))
+
+-- how many changes are of each kind
+abbrev pub kinds_text : KindCounts → List ℕ
+kinds_text kinds = kind_count Made kinds.made ++ (between_text kinds ++ kind_count Deleted kinds.deleted)
+
+-- the line of an object's changes: the object, how many they are, the moments of the first and the last, and how many are of each kind
 abbrev pub stat_line : MomentStyle → ObjectStat → List ℕ
 stat_line style stat =
-    column 10 stat.object ++ (codes "  " ++ (column 10 stat.changes ++ (codes "  " ++ (moment_column style stat.first ++ (codes "  " ++ (moment_column style stat.last ++ codes "\n"))))))
+    column 10 stat.object ++ (codes "  " ++ (column 10 stat.changes ++ (codes "  " ++ (moment_column style stat.first ++ (codes "  " ++ (moment_column style stat.last ++ (kinds_text stat.kinds ++ codes "\n")))))))
 
 -- what a drive has, each number after its name
 abbrev pub counts_text : DriveNumbers → List ℕ

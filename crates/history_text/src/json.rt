@@ -5,19 +5,19 @@ ghost use Rattle.hex.specs.Hex.{encode_lower};
 ghost use Rattle.serde_json.specs.Data.{string};
 ghost use Rattle.serde_json.specs.Written.{has_float};
 ghost use Rattle.moment_words.specs.declared.printing.MomentStyle.TheVariants.{Date};
-ghost use Rattle.history_text.specs.Json.{json_line, state_word, kind_word, text_data, time_data, listed_data, change_data, side_data, index_data, hidden_data, row_data, stat_data, times_data, counts_data, numbers_data};
+ghost use Rattle.history_text.specs.Json.{json_line, state_word, kind_word, text_data, time_data, listed_data, change_data, side_data, index_data, hidden_data, row_data, kinds_data, stat_data, times_data, counts_data, numbers_data};
 
 use crate::numbers::DriveNumbers;
 use codec::{Attribute, Pair};
-use history_view::{Blocks, Kind, Listed, LogRow, ObjectChange, ObjectStat};
+use history_view::{Blocks, Kind, KindCounts, Listed, LogRow, ObjectChange, ObjectStat};
 use moment_words::{MomentStyle, moment_text};
 use s4_types::{Moment, ObjectId, Span};
 use serde_json::{Value, json};
 use std::alloc::{AllocError, Global};
 use std::str;
 
-// The line of a value.
-fn line_of(alloc: Global, value: &Value) -> Result<String, AllocError>
+/// The line of a value.
+pub fn json_line(alloc: Global, value: &Value) -> Result<String, AllocError>
     requires { has_float (view value.now) ≡ false }
     ensures { IfOk result (λ line. string_bytes line ≡ json_line (view value.now)) }
 {
@@ -82,10 +82,11 @@ pub fn listed_json(alloc: Global, row: &Listed, style: MomentStyle) -> Result<St
     ensures { IfOk result (λ line. string_bytes line ≡ json_line (listed_data style row.now)) }
 {
     let value = listed_value(alloc, row, style)?;
-    line_of(alloc, &value)
+    json_line(alloc, &value)
 }
 
-fn kind_word(kind: Kind) -> &'static str
+/// The word for what was done.
+pub(crate) fn kind_word(kind: Kind) -> &'static str
     ensures { result.now ≡ kind_word kind }
 {
     match kind {
@@ -204,7 +205,24 @@ pub fn log_json(alloc: Global, row: &LogRow, style: MomentStyle) -> Result<Strin
     ensures { IfOk result (λ line. string_bytes line ≡ json_line (row_data style row.now)) }
 {
     let value = row_value(alloc, row, style)?;
-    line_of(alloc, &value)
+    json_line(alloc, &value)
+}
+
+fn kinds_value(alloc: Global, kinds: &KindCounts) -> Result<Value, AllocError>
+    ensures { IfOk result (λ value. view value ≡ kinds_data kinds.now) }
+{
+    let (made, deleted, attribute) = (kinds.made, kinds.deleted, kinds.attribute);
+    let (written, cut) = (kinds.written, kinds.cut);
+    let (lengthened, touched) = (kinds.lengthened, kinds.touched);
+    json!(in alloc; {
+        "made": made,
+        "deleted": deleted,
+        "attribute": attribute,
+        "written": written,
+        "cut": cut,
+        "lengthened": lengthened,
+        "touched": touched
+    })
 }
 
 fn stat_value(alloc: Global, stat: &ObjectStat, style: MomentStyle) -> Result<Value, AllocError>
@@ -214,9 +232,11 @@ fn stat_value(alloc: Global, stat: &ObjectStat, style: MomentStyle) -> Result<Va
     let (first, last) = (stat.first.number(), stat.last.number());
     let first_time = time_value(alloc, stat.first, style)?;
     let last_time = time_value(alloc, stat.last, style)?;
+    let kinds = kinds_value(alloc, &stat.kinds)?;
     json!(in alloc; {
         "object": object,
         "changes": changes,
+        "kinds": kinds,
         "first": first,
         "first_time": first_time,
         "last": last,
@@ -229,7 +249,7 @@ pub fn stat_json(alloc: Global, stat: &ObjectStat, style: MomentStyle) -> Result
     ensures { IfOk result (λ line. string_bytes line ≡ json_line (stat_data style stat.now)) }
 {
     let value = stat_value(alloc, stat, style)?;
-    line_of(alloc, &value)
+    json_line(alloc, &value)
 }
 
 fn times_value(
@@ -296,5 +316,5 @@ pub fn numbers_json(
     ensures { IfOk result (λ line. string_bytes line ≡ json_line (numbers_data style numbers.now)) }
 {
     let value = numbers_value(alloc, numbers, style)?;
-    line_of(alloc, &value)
+    json_line(alloc, &value)
 }

@@ -1,12 +1,13 @@
 //! The lines that people read.
 ghost use Rattle.std.specs.Prelude.{◌≡◌, IfOk, string_bytes};
 ghost use Rattle.moment_words.specs.Texts as texts;
-ghost use Rattle.history_text.specs.Lines.{column, moment_column, list_head, listed_line, state_text, kind_text, added_text, blocks_text, pair_text, sizes_text, detail_text, log_head, change_line, hidden_of, hidden_line, log_line, stat_head, stat_line, counts_text, moments_text, hidden_text, numbers_lines};
+ghost use Rattle.history_text.specs.Lines.{column, moment_column, list_head, listed_line, state_text, kind_text, added_text, blocks_text, pair_text, sizes_text, detail_text, log_head, change_line, hidden_of, hidden_line, log_line, stat_head, kind_count, between_text, kinds_text, stat_line, counts_text, moments_text, hidden_text, numbers_lines};
 
 use crate::attributes::printed_attribute;
+use crate::json::kind_word;
 use crate::numbers::DriveNumbers;
 use codec::Pair;
-use history_view::{Blocks, Kind, Listed, LogRow, ObjectChange, ObjectStat};
+use history_view::{Blocks, Kind, KindCounts, Listed, LogRow, ObjectChange, ObjectStat};
 use moment_words::{MomentStyle, moment_text};
 use s4_types::{Moment, ObjectId, Span};
 use std::alloc::{AllocError, Global};
@@ -197,9 +198,43 @@ pub fn stat_head(style: MomentStyle) -> &'static str
     ensures { result.now ≡ stat_head style }
 {
     match style {
-        MomentStyle::Number => "    OBJECT     CHANGES       FIRST        LAST\n",
-        MomentStyle::Date => "    OBJECT     CHANGES  FIRST                        LAST\n",
+        MomentStyle::Number => "    OBJECT     CHANGES       FIRST        LAST  KINDS\n",
+        MomentStyle::Date => {
+            "    OBJECT     CHANGES  FIRST                        LAST                         KINDS\n"
+        }
     }
+}
+
+// How many changes are of one kind, after its word; nothing where none is.
+fn kind_count(alloc: Global, kind: Kind, count: u64) -> Result<String, AllocError>
+    ensures { IfOk result (λ text. string_bytes text ≡ kind_count kind count) }
+{
+    if count == 0 {
+        return Ok(String::new(alloc));
+    }
+    let word = kind_word(kind);
+    format!(in alloc; "  {word} {count}")
+}
+
+// How many changes are of each kind between the one that makes an object and the one that deletes it.
+fn between_text(alloc: Global, kinds: &KindCounts) -> Result<String, AllocError>
+    ensures { IfOk result (λ text. string_bytes text ≡ between_text kinds.now) }
+{
+    let written = kind_count(alloc, Kind::Written, kinds.written)?;
+    let lengthened = kind_count(alloc, Kind::Lengthened, kinds.lengthened)?;
+    let cut = kind_count(alloc, Kind::Cut, kinds.cut)?;
+    let attribute = kind_count(alloc, Kind::Attribute, kinds.attribute)?;
+    let touched = kind_count(alloc, Kind::Touched, kinds.touched)?;
+    format!(in alloc; "{written}{lengthened}{cut}{attribute}{touched}")
+}
+
+fn kinds_text(alloc: Global, kinds: &KindCounts) -> Result<String, AllocError>
+    ensures { IfOk result (λ text. string_bytes text ≡ kinds_text kinds.now) }
+{
+    let made = kind_count(alloc, Kind::Made, kinds.made)?;
+    let between = between_text(alloc, kinds)?;
+    let deleted = kind_count(alloc, Kind::Deleted, kinds.deleted)?;
+    format!(in alloc; "{made}{between}{deleted}")
 }
 
 /// The line of what the changes of an object come to.
@@ -210,7 +245,8 @@ pub fn stat_line(alloc: Global, stat: &ObjectStat, style: MomentStyle) -> Result
     let changes = column(alloc, stat.changes)?;
     let first = moment_column(alloc, stat.first, style)?;
     let last = moment_column(alloc, stat.last, style)?;
-    format!(in alloc; "{object}  {changes}  {first}  {last}\n")
+    let kinds = kinds_text(alloc, &stat.kinds)?;
+    format!(in alloc; "{object}  {changes}  {first}  {last}{kinds}\n")
 }
 
 fn counts_text(alloc: Global, numbers: &DriveNumbers) -> Result<String, AllocError>

@@ -7,6 +7,7 @@ use Rattle.history_view.specs.declared.changes.Kind.TheVariants.{Made, Deleted, 
 use Rattle.history_view.specs.declared.rows.LogRow.{LogRow}
 use Rattle.history_view.specs.declared.rows.LogRow.TheVariants.{Changed, Hidden}
 use Rattle.history_view.specs.declared.rows.LogOrder.{LogOrder}
+use Rattle.history_view.specs.declared.stats.KindCounts.{KindCounts}
 use Rattle.history_view.specs.declared.stats.ObjectStat.{ObjectStat}
 
 -- the moment that a row begins at
@@ -97,6 +98,23 @@ abbrev pub begins : LogRow → Bool
 begins (Changed o change) = not (is_kind change.kind Continued)
 begins (Hidden run) = false
 
+-- whether a row is a change of this kind
+abbrev pub is_of : Kind → LogRow → Bool
+is_of kind (Changed o change) = is_kind kind change.kind
+is_of kind (Hidden run) = false
+
+-- how many of these rows are changes of each kind
+abbrev pub kinds_in : List LogRow → KindCounts
+kinds_in rows = record {
+  made = count_by (is_of Made) rows;
+  deleted = count_by (is_of Deleted) rows;
+  attribute = count_by (is_of Attribute) rows;
+  cut = count_by (is_of Cut) rows;
+  written = count_by (is_of Written) rows;
+  lengthened = count_by (is_of Lengthened) rows;
+  touched = count_by (is_of Touched) rows;
+}
+
 -- the moment of the last of these rows; the one given where there is none
 abbrev pub last_moment : ℕ → List LogRow → ℕ
 last_moment given [] = given
@@ -105,4 +123,4 @@ last_moment given (row ∷ rows) = last_moment (moment_of row) rows
 -- what these rows of an object come to; nothing where there are none
 abbrev pub stat_of : ℕ → List LogRow → Option ObjectStat
 stat_of o [] = None
-stat_of o (row ∷ rows) = Some (record { object = o; changes = count_by begins (row ∷ rows); first = moment_of row; last = last_moment (moment_of row) rows })
+stat_of o (row ∷ rows) = Some (record { object = o; changes = count_by begins (row ∷ rows); kinds = kinds_in (row ∷ rows); first = moment_of row; last = last_moment (moment_of row) rows })

@@ -6,7 +6,8 @@ use crate::changes::Kind;
 use crate::rows::LogRow;
 use std::alloc::{AllocError, Global};
 
-fn is_kind(asked: Kind, kind: Kind) -> bool
+/// Whether two kinds are one.
+pub(crate) fn is_kind(asked: Kind, kind: Kind) -> bool
     ensures { result ≡ is_kind asked kind }
 {
     asked == kind

@@ -26,5 +26,5 @@ pub use logs::{LogQuery, log_rows};
 pub use moments::{earliest, is_visible};
 pub use names::{NameRefusal, named_object};
 pub use rows::{LogOrder, LogRow};
-pub use stats::{ObjectStat, log_stats};
+pub use stats::{KindCounts, ObjectStat, log_stats};
 pub use versions::{moment_refusal, version_at};

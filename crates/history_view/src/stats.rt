@@ -3,11 +3,11 @@ ghost use Rattle.std.specs.Prelude.{◌≡◌, ◌++◌, count_by, IfOk, IfErr, 
 ghost use Rattle.std.specs.List.{flat_map};
 ghost use Rattle.s4_types.specs.declared.refusals.Refusal.TheVariants.{NoMemory};
 ghost use Rattle.drive.specs.Fields.{state_in, store_of};
-ghost use Rattle.history_view.specs.LogRows.{begins, stat_of};
+ghost use Rattle.history_view.specs.LogRows.{begins, is_of, kinds_in, stat_of};
 ghost use Rattle.history_view.specs.Logs.{ShowsStats, stat_in, turned, at_most};
 
 use crate::changes::{Kind, changes_between};
-use crate::filters::of_kind;
+use crate::filters::{is_kind, of_kind};
 use crate::logs::{LogQuery, objects_asked, push_changes};
 use crate::rows::LogRow;
 use drive::Drive;
@@ -15,12 +15,26 @@ use s4_types::{Moment, ObjectId, Refusal};
 use segment_word::Naming;
 use std::alloc::{AllocError, Global};
 
-/// How often an object was changed, and when.
+/// How many changes there are of each kind: one that is told in several rows counts once.
+#[derive(Clone, Copy, PartialEq, Eq)]
+pub struct KindCounts {
+    pub made: u64,
+    pub deleted: u64,
+    pub attribute: u64,
+    pub cut: u64,
+    pub written: u64,
+    pub lengthened: u64,
+    pub touched: u64,
+}
+
+/// How often an object was changed, in which ways, and when.
 #[derive(Clone, Copy, PartialEq, Eq)]
 pub struct ObjectStat {
     pub object: ObjectId,
     /// How many changes there are: one that is told in several rows counts once.
     pub changes: u64,
+    /// How many of them are of each kind.
+    pub kinds: KindCounts,
     /// The moment of the first of them.
     pub first: Moment,
     /// The moment of the last of them.
@@ -48,22 +62,60 @@ fn count_begun(rows: &[LogRow]) -> u64
     count
 }
 
+// Whether a row is a change of this kind.
+fn is_of(kind: Kind, row: &LogRow) -> bool
+    ensures { result ≡ is_of kind row.now }
+{
+    match row {
+        LogRow::Changed { change, .. } => is_kind(kind, change.kind),
+        LogRow::Hidden(_) => false,
+    }
+}
+
+fn count_of(rows: &[LogRow], kind: Kind) -> u64
+    ensures { result ≡ count_by (is_of kind) rows.now }
+{
+    let mut count = 0;
+    for row in rows {
+        if is_of(kind, row) {
+            count += 1;
+        }
+    }
+    count
+}
+
+fn kinds_in(rows: &[LogRow]) -> KindCounts
+    ensures { result ≡ kinds_in rows.now }
+{
+    KindCounts {
+        made: count_of(rows, Kind::Made),
+        deleted: count_of(rows, Kind::Deleted),
+        attribute: count_of(rows, Kind::Attribute),
+        cut: count_of(rows, Kind::Cut),
+        written: count_of(rows, Kind::Written),
+        lengthened: count_of(rows, Kind::Lengthened),
+        touched: count_of(rows, Kind::Touched),
+    }
+}
+
 // What rows of an object come to. Nothing where there are none.
 fn stat_of(object: ObjectId, rows: &[LogRow]) -> Option<ObjectStat>
     ensures { result ≡ stat_of object rows.now }
 {
-    let changes = count_begun(rows);
+    let (changes, kinds) = (count_begun(rows), kinds_in(rows));
     match rows {
         [] => None,
         [only] => Some(ObjectStat {
             object,
             changes,
+            kinds,
             first: only.moment(),
             last: only.moment(),
         }),
         [first, .., last] => Some(ObjectStat {
             object,
             changes,
+            kinds,
             first: first.moment(),
             last: last.moment(),
         }),

@@ -1,14 +1,16 @@
 //! How a moment is printed: as a number, or as a date.
-ghost use Rattle.std.specs.Prelude.{◌≡◌, ◌*◌, IfOk, pos, string_bytes};
-ghost use Rattle.std.specs.Fmt.{decimal};
+ghost use Rattle.std.specs.Prelude.{◌≡◌, ◌*◌, IfOk, Some, pos, string_bytes};
+ghost use Rattle.std.specs.Fmt.{DisplaysOnOk, decimal};
 ghost use Rattle.moment_words.specs.Texts as texts;
 ghost use Rattle.moment_words.specs.Printed.{IsPrinted};
 ghost use Rattle.moment_words.specs.Words.{IsMomentWord};
 ghost use Rattle.moment_words.specs.declared.words.MomentWord.TheVariants.{Moment};
 
+use arrayvec::ArrayString;
 use jiff_core::Timestamp;
 use jiff_fmt::temporal::DateTimePrinter;
 use std::alloc::{AllocError, Global};
+use std::fmt;
 
 /// A clock that is at least so high counts the microseconds of Unix time: this is
 /// 2001-09-09T01:46:40Z, and more requests than any drive serves.
@@ -27,6 +29,36 @@ pub enum MomentStyle {
     Number,
     /// As dates and times in UTC.
     Date,
+}
+
+/// A moment as it is printed. It displays as the text that `moment_text` gives, and takes no memory
+/// for it.
+#[derive(Clone, Copy, Debug, PartialEq, Eq)]
+pub struct ShownMoment {
+    pub moment: u64,
+    pub style: MomentStyle,
+}
+
+impl fmt::Display for ShownMoment {
+    ghost output = { λ shown. Some (texts.moment_text shown.moment shown.style) };
+
+    fn fmt<W: fmt::Write>(&self, f: &mut fmt::Formatter<W>) -> fmt::Result {
+        let moment = self.moment;
+        match self.style {
+            MomentStyle::Number => write!(f, "{moment}"),
+            MomentStyle::Date => write_date(moment, f),
+        }
+    }
+}
+
+// Writes the date of a moment, and its number where it is past the last that is a date.
+fn write_date<W: fmt::Write>(moment: u64, f: &mut fmt::Formatter<W>) -> fmt::Result
+    ensures { DisplaysOnOk W.write_str_gives f.old result (Some (texts.dated_text moment)) f.new }
+{
+    match Timestamp::from_nanosecond(nanosecond_of(moment)) {
+        Ok(instant) => f.write_str(printed(instant).as_str()),
+        Err(_) => write!(f, "{moment}"),
+    }
 }
 
 /// The style for the moments of a drive whose clock is there: dates where it is at least
@@ -77,11 +109,17 @@ fn nanosecond_of(moment: u64) -> i128
     moment as i128 * NANOS
 }
 
-// An instant in UTC, with the six places of its microseconds.
 fn instant_text(alloc: Global, instant: Timestamp) -> Result<String, AllocError>
     ensures { IfOk result (λ text. IsPrinted instant (string_bytes text)) }
 {
+    let text = printed(instant);
+    String::from_str(alloc, text.as_str())
+}
+
+// An instant in UTC, with the six places of its microseconds.
+fn printed(instant: Timestamp) -> ArrayString<33>
+    ensures { IsPrinted instant result.bytes }
+{
     let printer = DateTimePrinter::new().precision(Some(PLACES));
-    let printed = printer.timestamp_text(instant);
-    String::from_str(alloc, printed.as_str())
+    printer.timestamp_text(instant)
 }

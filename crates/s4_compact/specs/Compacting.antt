@@ -2,7 +2,7 @@
 use Rattle.std.specs.Prelude.{◌≡◌, ◌⊎◌, ℕ, ◌++◌, ◌==◌, if◌then◌else◌, Bool, true, false, List, Option, codes, decimal}
 use Rattle.std.specs.Io.KnownBytes.{Appends}
 use Rattle.serde_json.specs.Data.{Data, number, unsigned, string, object, member, no_members}
-use Rattle.serde_json.specs.Written.{compact_text}
+use Rattle.history_text.specs.Json.{json_line}
 use Rattle.s4_types.specs.declared.refusals.Refusal.TheVariants.{NoRoom}
 use Rattle.drive.specs.Fields.{DriveFields, state_in, store_of}
 use Rattle.drive.specs.Keeping.{KeepsVersions}
@@ -68,8 +68,9 @@ report_data r =
     (member (codes "room_before") (number (unsigned r.compaction.room_before))
     (member (codes "turns") (number (unsigned r.compaction.turns)) no_members))))))))))))
 
+-- the line of that object
 abbrev pub report_line : Report → List ℕ
-report_line r = compact_text (report_data r) ++ codes "\n"
+report_line r = json_line (report_data r)
 
 -- the lines that are asked for
 abbrev pub printed : Bool → Report → List ℕ

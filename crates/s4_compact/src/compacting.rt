@@ -24,7 +24,7 @@ use std::thread::Threads;
 /// first: where a drive would have less room with the cleaner than before, frames are emptied by
 /// moves alone. So no image has less room afterwards. Where anything fails all files are as they
 /// were.
-#[tactic(auto, using(crate::proofs::Kept::untouched))]
+#[tactic(auto, using(s4_images::proofs::Kept::untouched))]
 pub fn compact_image<T: Threads, F: Files, W: Sink>(
     rt: &T,
     alloc: Global,

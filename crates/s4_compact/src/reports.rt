@@ -7,6 +7,7 @@ ghost use Rattle.s4_compact.specs.Compacting.{work_text, end_text, report_text, 
 ghost use Rattle.s4_compact.specs.Compacting.{report_line, printed};
 
 use drive_compaction::{Compaction, Ending};
+use history_text::json_line;
 use serde_json::{Value, json};
 use std::alloc::{AllocError, Global};
 
@@ -130,9 +131,7 @@ fn report_line(alloc: Global, report: &Report) -> Result<String, AllocError>
     ensures { IfOk result (λ line. string_bytes line ≡ report_line report.now) }
 {
     let value = report_value(alloc, report)?;
-    let mut line = value.to_string(alloc)?;
-    line.push_str("\n")?;
-    Ok(line)
+    json_line(alloc, &value)
 }
 
 /// What is printed: lines for people, or with `json` one object.

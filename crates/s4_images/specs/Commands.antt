@@ -1,5 +1,5 @@
 -- What holds of the drive that an image tells.
-use Rattle.std.specs.Prelude.{ℕ, List, Option}
+use Rattle.std.specs.Prelude.{◌⊎◌, ℕ, List, Option}
 use Rattle.drive.specs.Fields.{DriveFields}
 use Rattle.drive.specs.Opened.{OpenedFields}
 use Rattle.verifier.specs.Images.{ImageFields}
@@ -7,6 +7,8 @@ use Rattle.verifier.specs.Opened.{IsOpenedOf, IsNamedOf}
 use Rattle.verifier.specs.Saved.{SpellsSaved}
 use Rattle.image_commands.specs.Files.{AreKnown}
 use Rattle.image_commands.specs.Verifying.{IsVerified}
+use Rattle.s4_images.specs.Failures.{HasNoMoments}
+use Rattle.s4_images.specs.declared.faults.Failure.{Failure}
 
 -- The drive that an image tells: one that is opened from an image which was read and verified, and to which nothing has come yet.
 pub record IsToldDrive (known : Option (List ℕ)) (d : DriveFields) : Type 0 where
@@ -27,6 +29,10 @@ pub record OverImage (known : Option (List ℕ)) (Holds : DriveFields → Type 0
   pub drive : DriveFields
   pub told : IsToldDrive known drive
   pub holds : Holds drive
+
+-- A failure is of an image that isn't read or opened, and has no moments; or this holds of it and of the drive that the image tells.
+abbrev pub FailsOver : (known : Option (List ℕ)) → (Fails : DriveFields → Failure → Type 0) → Failure → Type 0
+FailsOver known Fails failure = HasNoMoments failure ⊎ OverImage known (λ d. Fails d failure)
 
 -- A drive that was opened is changed, and saved as these bytes.
 pub record ChangesOpened (opened : OpenedFields) (bytes : List ℕ) (Changes : DriveFields → DriveFields → Type 0) : Type 0 where

@@ -1,12 +1,17 @@
 -- The moment and the object that a command asks for.
-use Rattle.std.specs.Prelude.{◌≡◌, ◌≢◌, ◌⊎◌, ℕ, List, Option, Some, None}
+use Rattle.std.specs.Prelude.{◌≡◌, ◌≢◌, ◌⊎◌, ℕ, ◌<◌, ◌≤◌, List, Option, Some, None}
 use Rattle.object_map.specs.Rows.{row_of}
 use Rattle.s4_model.specs.State.{State}
+use Rattle.s4_model.specs.Visible.{IsVisible}
 use Rattle.version_store.specs.Store.{StoreFields}
 use Rattle.history_view.specs.Names.{IsNameRefusal, IsOnlyNamed}
 use Rattle.history_view.specs.declared.names.NameRefusal.TheVariants.{NotNamed}
 use Rattle.moment_words.specs.Words.{moment_of}
 use Rattle.moment_words.specs.declared.words.MomentWord.{MomentWord}
+use Rattle.moment_words.specs.declared.printing.MomentStyle.TheVariants.{Number}
+use Rattle.s4_images.specs.Failures.{shown_by}
+use Rattle.s4_images.specs.declared.faults.Failure.{Failure}
+use Rattle.s4_images.specs.declared.faults.Failure.TheVariants.{Future, Unreadable}
 
 -- the moment that a word says, by the clock
 abbrev pub moment_said : State → MomentWord → ℕ
@@ -16,6 +21,23 @@ moment_said s word = moment_of word s.clock
 abbrev pub moment_asked : State → Option MomentWord → ℕ
 moment_asked s None = s.clock
 moment_asked s (Some word) = moment_said s word
+
+-- A failure tells that a moment isn't to be read since it is hidden or expired, and which one of the object is the first that can be read.
+pub record TellsEarliest (s : State) (o t : ℕ) (failure : Failure) : Type 0 where
+  pub earliest : ℕ
+  pub visible : IsVisible s o earliest
+  pub first : (u : ℕ) → u < earliest → IsVisible s o u → ⊥
+  pub is : failure ≡ Unreadable (shown_by Number t) (shown_by Number earliest)
+
+-- A failure tells why a moment of an object isn't to be read: it is to come, and the clock is there; or it is hidden or expired.
+pub record TellsUnreadable (s : State) (o t : ℕ) (failure : Failure) : Type 0 where
+  pub future : s.clock < t → failure ≡ Future (shown_by Number t) (shown_by Number s.clock)
+  pub past : t ≤ s.clock → TellsEarliest s o t failure
+
+-- A moment of an object can't be read, and a failure tells why.
+pub record IsUnreadable (s : State) (o t : ℕ) (failure : Failure) : Type 0 where
+  pub hidden : IsVisible s o t → ⊥
+  pub told : TellsUnreadable s o t failure
 
 -- The object that is asked for at a moment: the one of this number, which has a row, or else the one of this name then. None where neither
 -- is given.

@@ -1,13 +1,16 @@
 //! Why a command failed.
 ghost use Rattle.std.specs.Prelude.{◌≡◌};
-ghost use Rattle.s4_images.specs.Failures.{is_of_folder};
+ghost use Rattle.moment_words.specs.declared.printing.MomentStyle.TheVariants.{Number};
+ghost use Rattle.s4_images.specs.Failures.{HasNoMoments, IsInStyle, in_style, is_of_folder, restyled, shown_by};
 
 use history_export::{ExportError, ExportedFile};
 use image_commands::{Fault, Obstacle};
-use s4_types::Refusal;
+use moment_words::{MomentStyle, ShownMoment};
+use s4_types::{Moment, Refusal};
 use thiserror::Error;
 
-/// Why a command over an image failed. Each prints what is wrong and what can be done, on one line.
+/// Why a command over an image failed. Each prints what is wrong and what can be done, on one line. Its moments are numbers until
+/// `in_style` makes them what the command prints.
 #[derive(Debug, Drop, Error)]
 pub enum Failure {
     /// The file can't be read.
@@ -19,14 +22,14 @@ pub enum Failure {
     /// The moment is above the clock.
     #[error("moment {asked} is to come; the clock is at {clock}, the last moment that can be read")]
     Future {
-        asked: u64,
-        clock: u64,
+        asked: ShownMoment,
+        clock: ShownMoment,
     },
     /// The moment is below the floor, or hidden.
     #[error("moment {asked} is hidden or expired; the earliest that can be read is {earliest}")]
     Unreadable {
-        asked: u64,
-        earliest: u64,
+        asked: ShownMoment,
+        earliest: ShownMoment,
     },
     /// No object has the number.
     #[error("there is no object {object}; `s4 list --deleted` prints those that are")]
@@ -37,18 +40,18 @@ pub enum Failure {
     #[error("object {object} is not there at moment {moment}; `s4 log --object {object}` prints when it was")]
     NotThere {
         object: u64,
-        moment: u64,
+        moment: ShownMoment,
     },
     /// No object has the name at the moment.
     #[error("no object has this name at moment {moment}; `s4 list --at {moment}` prints the names")]
     NotNamed {
-        moment: u64,
+        moment: ShownMoment,
     },
     /// No object has the name at either of two moments.
     #[error("no object has this name at moment {first} or {second}; `s4 list --at {first}` prints the names")]
     NotNamedInEither {
-        first: u64,
-        second: u64,
+        first: ShownMoment,
+        second: ShownMoment,
     },
     /// No object is asked for, where one has to be.
     #[error("no object is asked for; give its number, or its name by --name")]
@@ -58,7 +61,7 @@ pub enum Failure {
     NamedTwice {
         first: u64,
         second: u64,
-        moment: u64,
+        moment: ShownMoment,
     },
     /// Standard output can't be written.
     #[error("cannot write standard output; give it room, or a reader that reads to the end")]
@@ -102,6 +105,8 @@ pub enum Failure {
 }
 
 impl From<Fault<'_>> for Failure {
+    ghost from_gives = { λ _ failure. HasNoMoments failure };
+
     fn from(fault: Fault<'_>) -> Failure {
         match fault {
             Fault::CannotRead(_) => Failure::CannotRead,
@@ -125,6 +130,8 @@ impl From<ExportError> for Failure {
 }
 
 impl From<Refusal> for Failure {
+    ghost from_gives = { λ _ failure. HasNoMoments failure };
+
     fn from(refusal: Refusal) -> Failure {
         Failure::Refused(refusal, advice(refusal))
     }
@@ -149,7 +156,64 @@ fn advice(refusal: Refusal) -> &'static str {
     }
 }
 
+/// A moment that is printed as a number.
+pub fn as_number(moment: Moment) -> ShownMoment
+    ensures { result ≡ shown_by Number moment }
+{
+    ShownMoment {
+        moment: moment.number(),
+        style: MomentStyle::Number,
+    }
+}
+
+fn restyled(shown: ShownMoment, style: MomentStyle) -> ShownMoment
+    ensures { result ≡ restyled style shown }
+{
+    ShownMoment {
+        moment: shown.moment,
+        style,
+    }
+}
+
 impl Failure {
+    /// The same failure, whose moments are printed in a style: as numbers, or as dates.
+    pub fn in_style(self, style: MomentStyle) -> Failure
+        ensures same { result ≡ in_style style self }
+        ensures style { IsInStyle style result }
+    {
+        match self {
+            Failure::Future { asked, clock } => Failure::Future {
+                asked: restyled(asked, style),
+                clock: restyled(clock, style),
+            },
+            Failure::Unreadable { asked, earliest } => Failure::Unreadable {
+                asked: restyled(asked, style),
+                earliest: restyled(earliest, style),
+            },
+            Failure::NotThere { object, moment } => Failure::NotThere {
+                object,
+                moment: restyled(moment, style),
+            },
+            Failure::NotNamed { moment } => Failure::NotNamed {
+                moment: restyled(moment, style),
+            },
+            Failure::NotNamedInEither { first, second } => Failure::NotNamedInEither {
+                first: restyled(first, style),
+                second: restyled(second, style),
+            },
+            Failure::NamedTwice {
+                first,
+                second,
+                moment,
+            } => Failure::NamedTwice {
+                first,
+                second,
+                moment: restyled(moment, style),
+            },
+            other => other,
+        }
+    }
+
     /// Whether what failed is the folder that is written into, and not the image.
     pub fn is_of_folder(&self) -> bool
         ensures { result ≡ is_of_folder self.now }

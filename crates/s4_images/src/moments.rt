@@ -4,10 +4,10 @@ ghost use Rattle.object_map.specs.Rows.{row_of};
 ghost use Rattle.s4_model.specs.Visible.{IsVisible};
 ghost use Rattle.drive.specs.Fields.{state_in, store_of};
 ghost use Rattle.history_view.specs.Names.{IsNameRefusal, IsOnlyNamed};
-ghost use Rattle.s4_images.specs.Moments.{IsNamedInEither, IsObjectAsked, IsObjectInEither};
+ghost use Rattle.s4_images.specs.Moments.{IsNamedInEither, IsObjectAsked, IsObjectInEither, IsUnreadable, TellsUnreadable};
 ghost use Rattle.s4_images.specs.Moments.{moment_asked, moment_said};
 
-use crate::faults::Failure;
+use crate::faults::{Failure, as_number};
 use drive::Drive;
 use history_view::{NameRefusal, earliest, is_visible, named_object};
 use moment_words::{MomentWord, moment_of};
@@ -40,6 +40,7 @@ pub fn moment_asked<J: Naming>(
 ) -> Result<Moment, Failure>
     ensures moment { IfOk result (λ moment. moment ≡ moment_asked (state_in drive.now) at) }
     ensures readable { OnOk result (IsVisible (state_in drive.now) object (moment_asked (state_in drive.now) at)) }
+    ensures refused { IfErr result (IsUnreadable (state_in drive.now) object (moment_asked (state_in drive.now) at)) }
 {
     let moment = moment_or_clock(drive, at);
     if is_visible(drive, object, moment) {
@@ -49,14 +50,19 @@ pub fn moment_asked<J: Naming>(
 }
 
 /// The failure of a moment that can't be read: it is to come, or hidden or expired, and then the failure has the first one that can be.
-pub fn unreadable<J: Naming>(drive: &Drive<J>, object: ObjectId, moment: Moment) -> Failure {
-    let (asked, clock) = (moment.number(), drive.clock().number());
-    if clock < asked {
-        return Failure::Future { asked, clock };
+pub fn unreadable<J: Naming>(drive: &Drive<J>, object: ObjectId, moment: Moment) -> Failure
+    ensures { TellsUnreadable (state_in drive.now) object moment result }
+{
+    let clock = drive.clock();
+    if clock < moment {
+        return Failure::Future {
+            asked: as_number(moment),
+            clock: as_number(clock),
+        };
     }
     Failure::Unreadable {
-        asked,
-        earliest: earliest(drive, object).number(),
+        asked: as_number(moment),
+        earliest: as_number(earliest(drive, object)),
     }
 }
 
@@ -160,8 +166,8 @@ fn named_at_last<J: Naming>(
     match named_at(drive, name, second)? {
         Ok(object) => Ok(object),
         Err(NameRefusal::NotNamed) => Err(Failure::NotNamedInEither {
-            first: first.number(),
-            second: second.number(),
+            first: as_number(first),
+            second: as_number(second),
         }),
         Err(refusal) => Err(unnamed(refusal, second)),
     }
@@ -187,7 +193,7 @@ fn named_at<J: Naming>(
 
 // The failure of a name that isn't that of one object.
 fn unnamed(refusal: NameRefusal, at: Moment) -> Failure {
-    let moment = at.number();
+    let moment = as_number(at);
     match refusal {
         NameRefusal::NotNamed => Failure::NotNamed { moment },
         NameRefusal::NamedTwice { first, second } => Failure::NamedTwice {

@@ -15,7 +15,7 @@ use Rattle.history_view.specs.Listing.{AreListedFrom, IsListedNext, IsPassed}
 use Rattle.moment_words.specs.declared.printing.MomentStyle.{MomentStyle}
 use Rattle.s4_reading.specs.Listing.{ListsRows, line_of_listed}
 use Rattle.s4_reading.specs.Telling.{CountsObjects, is_free_frame, objects_hidden}
-use Rattle.s4_images.proofs.Fronts.{IsFront, front_begun, front_more, front_whole, flat_more}
+use Rattle.history_view.proofs.Fronts.{IsFront, front_begun, front_more, front_whole, flat_more}
 
 -- ---- lists
 

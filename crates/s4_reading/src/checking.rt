@@ -2,7 +2,6 @@
 ghost use Rattle.std.specs.Prelude.{◌≡◌, ◌+◌, ◌^◌, ◌<◌, false, OnOk, IfOk, string_bytes};
 ghost use Rattle.std.specs.Io.KnownBytes.{Appends};
 ghost use Rattle.drive.specs.Fields.{state_in, store_of};
-ghost use Rattle.s4_images.specs.Commands.{OverImage};
 ghost use Rattle.serde_json.specs.View.{view};
 ghost use Rattle.serde_json.specs.Written.{has_float};
 ghost use Rattle.history_text.specs.Json.{json_line};
@@ -11,41 +10,40 @@ ghost use Rattle.s4_reading.specs.Checking.{Checks, ChecksVersions, counts_data,
 use crate::watching::Meter;
 use drive::Drive;
 use history_export::{CheckReport, Checked, check_all};
-use image_commands::{Files, write_out};
+use history_text::json_line;
+use image_commands::write_out;
 use s4_command::CheckAsked;
-use s4_images::{DriveCommand, Failure, Verdict, over_image};
+use s4_images::{DriveCommand, Failure, ImageCommand, Verdict};
 use s4_types::{Refusal, Role};
 use segment_word::Naming;
 use serde_json::{Value, json};
 use serving::Sink;
 use std::alloc::{AllocError, Global};
-use std::thread::Threads;
 
-/// Reads every version of the drive of an image that can be read, shows on the meter how far that has come, and prints how many these are
-/// and their digest.
-pub fn check_image<T: Threads, F: Files, M: Meter, W: Sink>(
-    rt: &T,
-    alloc: Global,
-    files: &F,
-    meter: &M,
-    asked: &CheckAsked<'_>,
-    writer: &mut W,
-) -> Result<Verdict, Failure>
-    requires writer { W.failures writer.old + 1 < 2 ^ 64 }
-    ensures checks { IfOk result (λ verdict. OverImage (F.contents files.now asked.now.image.now) (λ drive. Checks drive asked.now (W.passed writer.old) (W.passed writer.new))) }
-{
-    let watched = WatchedCheck { asked, meter };
-    over_image(rt, alloc, files, asked.image, &watched, writer)
-}
-
-/// What `check` asks for, and where it is shown how far that has come.
+/// `check`: reads every version of a drive that can be read, shows on the meter how far that has come, and prints how many these are and
+/// their digest.
 #[derive(Clone, Copy)]
-struct WatchedCheck<'a, M: Meter> {
-    asked: &'a CheckAsked<'a>,
-    meter: &'a M,
+pub struct Checking<'a, M: Meter> {
+    pub asked: &'a CheckAsked<'a>,
+    /// Where it is shown how far the check has come.
+    pub meter: &'a M,
 }
 
-impl<M: Meter> DriveCommand for WatchedCheck<'_, M> {
+impl<M: Meter> ImageCommand for Checking<'_, M> {
+    ghost file = { λ it. it.asked.now.image.now };
+
+    ghost as_numbers = { λ it. false };
+
+    fn image(&self) -> &str {
+        self.asked.image
+    }
+
+    fn has_numbers(&self) -> bool {
+        false
+    }
+}
+
+impl<M: Meter> DriveCommand for Checking<'_, M> {
     ghost shows = { λ it d verdict. Checks d it.asked.now };
 
     fn perform<J: Naming, W: Sink>(
@@ -127,7 +125,5 @@ fn counts_json(alloc: Global, checked: Checked, digits: &str) -> Result<String, 
     ensures { IfOk result (λ line. string_bytes line ≡ json_line (counts_data checked digits.now)) }
 {
     let value = counts_value(alloc, checked, digits)?;
-    let mut line = value.to_string(alloc)?;
-    line.push_str("\n")?;
-    Ok(line)
+    json_line(alloc, &value)
 }

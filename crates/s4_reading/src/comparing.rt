@@ -2,46 +2,41 @@
 ghost use Rattle.std.specs.Prelude.{◌≡◌, ◌+◌, ◌^◌, ◌<◌, IfOk};
 ghost use Rattle.drive.specs.Fields.{state_in};
 ghost use Rattle.history_diff.specs.Diffing.{TellsDifferences};
-ghost use Rattle.s4_images.specs.Commands.{OverImage};
 ghost use Rattle.s4_reading.specs.Comparing.{Compares, comparison_asked, detail_asked, differs_by, moment_given};
 
 use drive::Drive;
 use history_diff::{Detail, DiffFault, Stop, write_differences};
-use image_commands::Files;
 use moment_words::{MomentWord, style_of};
 use s4_command::DiffAsked;
 use s4_images::{
-    DriveCommand, Failure, Verdict, moment_or_clock, moment_said, object_in_either, over_image,
+    DriveCommand, Failure, ImageCommand, Verdict, moment_or_clock, moment_said, object_in_either,
     unreadable,
 };
 use s4_types::{Moment, ObjectId, Refusal};
 use segment_word::Naming;
 use serving::Sink;
 use std::alloc::Global;
-use std::thread::Threads;
 
-/// Prints what differs in the drive of an image between two moments. `Differs` where anything does.
-pub fn diff_image<T: Threads, F: Files, W: Sink>(
-    rt: &T,
-    alloc: Global,
-    files: &F,
-    asked: &DiffAsked<'_>,
-    writer: &mut W,
-) -> Result<Verdict, Failure>
-    requires writer { W.failures writer.old + 1 < 2 ^ 64 }
-    ensures compares { IfOk result (λ verdict. OverImage (F.contents files.now asked.now.image.now) (λ drive. Compares drive asked.now verdict (W.passed writer.old) (W.passed writer.new))) }
-{
-    over_image(rt, alloc, files, asked.image, &Comparing { asked }, writer)
-}
-
-/// What `diff` asks for.
+/// `diff`: prints what differs in a drive between two moments. `Differs` where anything does.
 #[derive(Clone, Copy)]
-struct Comparing<'a> {
-    asked: &'a DiffAsked<'a>,
+pub struct Comparing<'a>(pub &'a DiffAsked<'a>);
+
+impl ImageCommand for Comparing<'_> {
+    ghost file = { λ it. it.0.now.image.now };
+
+    ghost as_numbers = { λ it. it.0.now.moments };
+
+    fn image(&self) -> &str {
+        self.0.image
+    }
+
+    fn has_numbers(&self) -> bool {
+        self.0.moments
+    }
 }
 
 impl DriveCommand for Comparing<'_> {
-    ghost shows = { λ it d verdict. Compares d it.asked.now verdict };
+    ghost shows = { λ it d verdict. Compares d it.0.now verdict };
 
     fn perform<J: Naming, W: Sink>(
         &self,
@@ -49,7 +44,7 @@ impl DriveCommand for Comparing<'_> {
         drive: &mut Drive<J>,
         writer: &mut W,
     ) -> Result<Verdict, Failure> {
-        diff(alloc, drive, self.asked, writer)
+        diff(alloc, drive, self.0, writer)
     }
 }
 

@@ -4,44 +4,40 @@ ghost use Rattle.std.specs.List.{flat_map};
 ghost use Rattle.std.specs.Io.KnownBytes.{Appends};
 ghost use Rattle.drive.specs.Fields.{state_in, store_of};
 ghost use Rattle.moment_words.specs.Texts as styles;
-ghost use Rattle.s4_images.specs.Commands.{OverImage};
 ghost use Rattle.s4_reading.specs.Listing.{Lists, ListsObjects, ListsRows, head_of_list, line_of_listed};
 
 use drive::Drive;
 use history_text::{list_head, listed_json, listed_line};
 use history_view::{Listed, next_listed};
-use image_commands::{Files, write_out};
+use image_commands::write_out;
 use moment_words::{MomentStyle, style_of};
 use s4_command::ListAsked;
-use s4_images::{DriveCommand, Failure, Verdict, moment_asked, over_image};
+use s4_images::{DriveCommand, Failure, ImageCommand, Verdict, moment_asked};
 use s4_types::{Moment, ObjectId, Refusal};
 use segment_word::Naming;
 use serving::Sink;
 use std::alloc::{AllocError, Global};
-use std::thread::Threads;
 
-/// Prints the objects that the drive of an image has at the moment that is asked for.
-pub fn list_image<T: Threads, F: Files, W: Sink>(
-    rt: &T,
-    alloc: Global,
-    files: &F,
-    asked: &ListAsked<'_>,
-    writer: &mut W,
-) -> Result<Verdict, Failure>
-    requires writer { W.failures writer.old + 1 < 2 ^ 64 }
-    ensures lists { IfOk result (λ verdict. OverImage (F.contents files.now asked.now.image.now) (λ drive. Lists drive asked.now (W.passed writer.old) (W.passed writer.new))) }
-{
-    over_image(rt, alloc, files, asked.image, &Listing { asked }, writer)
-}
-
-/// What `list` asks for.
+/// `list`: prints the objects that a drive has at the moment that is asked for.
 #[derive(Clone, Copy)]
-struct Listing<'a> {
-    asked: &'a ListAsked<'a>,
+pub struct Listing<'a>(pub &'a ListAsked<'a>);
+
+impl ImageCommand for Listing<'_> {
+    ghost file = { λ it. it.0.now.image.now };
+
+    ghost as_numbers = { λ it. it.0.now.moments };
+
+    fn image(&self) -> &str {
+        self.0.image
+    }
+
+    fn has_numbers(&self) -> bool {
+        self.0.moments
+    }
 }
 
 impl DriveCommand for Listing<'_> {
-    ghost shows = { λ it d verdict. Lists d it.asked.now };
+    ghost shows = { λ it d verdict. Lists d it.0.now };
 
     fn perform<J: Naming, W: Sink>(
         &self,
@@ -49,7 +45,7 @@ impl DriveCommand for Listing<'_> {
         drive: &mut Drive<J>,
         writer: &mut W,
     ) -> Result<Verdict, Failure> {
-        list(alloc, drive, self.asked, writer)?;
+        list(alloc, drive, self.0, writer)?;
         Ok(Verdict::Fine)
     }
 }

@@ -3,45 +3,41 @@ ghost use Rattle.std.specs.Prelude.{◌≡◌, ◌+◌, ◌^◌, ◌<◌, IfNone
 ghost use Rattle.std.specs.List.{flat_map};
 ghost use Rattle.std.specs.Io.KnownBytes.{Appends};
 ghost use Rattle.drive.specs.Fields.{state_in, store_of};
-ghost use Rattle.s4_images.specs.Commands.{OverImage};
 ghost use Rattle.s4_images.specs.Moments.{moment_said};
 ghost use Rattle.s4_reading.specs.Logging.{Logs, LogsDrive, PrintsLog, PrintsStats, IsQuery, kind_asked, first_asked, last_asked, head_of_log, line_of_row, head_of_stats, line_of_stat};
 
 use drive::Drive;
 use history_text::{log_head, log_json, log_line, stat_head, stat_json, stat_line};
 use history_view::{Kind, LogOrder, LogQuery, LogRow, ObjectStat, log_rows, log_stats};
-use image_commands::{Files, write_out};
+use image_commands::write_out;
 use moment_words::{MomentStyle, MomentWord, style_of};
 use s4_command::{ChangeKind, LogAsked};
-use s4_images::{DriveCommand, Failure, Verdict, moment_said, object_asked, over_image};
+use s4_images::{DriveCommand, Failure, ImageCommand, Verdict, moment_said, object_asked};
 use s4_types::{Moment, Refusal};
 use segment_word::Naming;
 use serving::Sink;
 use std::alloc::{AllocError, Global};
-use std::thread::Threads;
 
-/// Prints what was changed in the drive of an image, and when.
-pub fn log_image<T: Threads, F: Files, W: Sink>(
-    rt: &T,
-    alloc: Global,
-    files: &F,
-    asked: &LogAsked<'_>,
-    writer: &mut W,
-) -> Result<Verdict, Failure>
-    requires writer { W.failures writer.old + 1 < 2 ^ 64 }
-    ensures logs { IfOk result (λ verdict. OverImage (F.contents files.now asked.now.image.now) (λ drive. Logs drive asked.now (W.passed writer.old) (W.passed writer.new))) }
-{
-    over_image(rt, alloc, files, asked.image, &Logging { asked }, writer)
-}
-
-/// What `log` asks for.
+/// `log`: prints what was changed in a drive between two moments, and when; or with `--stat` what that comes to, object by object.
 #[derive(Clone, Copy)]
-struct Logging<'a> {
-    asked: &'a LogAsked<'a>,
+pub struct Logging<'a>(pub &'a LogAsked<'a>);
+
+impl ImageCommand for Logging<'_> {
+    ghost file = { λ it. it.0.now.image.now };
+
+    ghost as_numbers = { λ it. it.0.now.moments };
+
+    fn image(&self) -> &str {
+        self.0.image
+    }
+
+    fn has_numbers(&self) -> bool {
+        self.0.moments
+    }
 }
 
 impl DriveCommand for Logging<'_> {
-    ghost shows = { λ it d verdict. Logs d it.asked.now };
+    ghost shows = { λ it d verdict. Logs d it.0.now };
 
     fn perform<J: Naming, W: Sink>(
         &self,
@@ -49,7 +45,7 @@ impl DriveCommand for Logging<'_> {
         drive: &mut Drive<J>,
         writer: &mut W,
     ) -> Result<Verdict, Failure> {
-        log(alloc, drive, self.asked, writer)?;
+        log(alloc, drive, self.0, writer)?;
         Ok(Verdict::Fine)
     }
 }

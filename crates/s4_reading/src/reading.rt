@@ -1,48 +1,45 @@
 //! `cat`: the bytes of an object at a moment.
-ghost use Rattle.std.specs.Prelude.{◌≡◌, ◌+◌, ◌^◌, ◌<◌, IfOk, OnOk};
+ghost use Rattle.std.specs.Prelude.{◌≡◌, ◌+◌, ◌^◌, ◌<◌, false, OnOk};
 ghost use Rattle.s4_model.specs.VersionAt.{version_of};
 ghost use Rattle.drive.specs.Fields.{state_in};
 ghost use Rattle.image_commands.specs.ReadingPast.{GivesVersion};
-ghost use Rattle.s4_images.specs.Commands.{OverImage};
 ghost use Rattle.s4_images.specs.Moments.{moment_asked};
 ghost use Rattle.s4_reading.specs.Reading.{Gives};
 
 use drive::Drive;
 use history_view::version_at;
-use image_commands::{Files, write_version};
+use image_commands::write_version;
 use moment_words::MomentWord;
 use s4_command::CatAsked;
 use s4_images::{
-    DriveCommand, Failure, Verdict, moment_asked, moment_or_clock, object_asked, over_image,
+    DriveCommand, Failure, ImageCommand, Verdict, as_number, moment_asked, moment_or_clock,
+    object_asked,
 };
 use s4_types::{Moment, ObjectId, Role, Version};
 use segment_word::Naming;
 use serving::Sink;
 use std::alloc::Global;
-use std::thread::Threads;
 
-/// Prints the bytes that an object of the drive of an image has at the moment that is asked for.
-pub fn cat_image<T: Threads, F: Files, W: Sink>(
-    rt: &T,
-    alloc: Global,
-    files: &F,
-    asked: &CatAsked<'_>,
-    writer: &mut W,
-) -> Result<Verdict, Failure>
-    requires writer { W.failures writer.old + 1 < 2 ^ 64 }
-    ensures gives { IfOk result (λ verdict. OverImage (F.contents files.now asked.now.image.now) (λ drive. Gives drive asked.now (W.passed writer.old) (W.passed writer.new))) }
-{
-    over_image(rt, alloc, files, asked.image, &Reading { asked }, writer)
-}
-
-/// What `cat` asks for.
+/// `cat`: prints the bytes that an object of a drive has at the moment that is asked for.
 #[derive(Clone, Copy)]
-struct Reading<'a> {
-    asked: &'a CatAsked<'a>,
+pub struct Reading<'a>(pub &'a CatAsked<'a>);
+
+impl ImageCommand for Reading<'_> {
+    ghost file = { λ it. it.0.now.image.now };
+
+    ghost as_numbers = { λ it. false };
+
+    fn image(&self) -> &str {
+        self.0.image
+    }
+
+    fn has_numbers(&self) -> bool {
+        false
+    }
 }
 
 impl DriveCommand for Reading<'_> {
-    ghost shows = { λ it d verdict. Gives d it.asked.now };
+    ghost shows = { λ it d verdict. Gives d it.0.now };
 
     fn perform<J: Naming, W: Sink>(
         &self,
@@ -50,7 +47,7 @@ impl DriveCommand for Reading<'_> {
         drive: &mut Drive<J>,
         writer: &mut W,
     ) -> Result<Verdict, Failure> {
-        cat(alloc, drive, self.asked, writer)?;
+        cat(alloc, drive, self.0, writer)?;
         Ok(Verdict::Fine)
     }
 }
@@ -100,6 +97,6 @@ fn write_object<J: Naming, W: Sink>(
 fn not_there(object: ObjectId, moment: Moment) -> Failure {
     Failure::NotThere {
         object: object.number(),
-        moment: moment.number(),
+        moment: as_number(moment),
     }
 }

@@ -2,46 +2,42 @@
 ghost use Rattle.std.specs.Prelude.{◌≡◌, ◌+◌, ◌^◌, ◌<◌, if◌then◌else◌, IfOk, OnOk, string_bytes, length, count_by};
 ghost use Rattle.std.specs.Io.KnownBytes.{Appends};
 ghost use Rattle.drive.specs.Fields.{state_in, store_of};
-ghost use Rattle.s4_images.specs.Commands.{OverImage};
 ghost use Rattle.moment_words.specs.Texts as styles;
 ghost use Rattle.s4_reading.specs.Telling.{CountsHidden, CountsObjects, Informs, IsNumbersOf, TellsNumbers, is_free_frame, is_of_all, objects_hidden, text_of_numbers};
 
 use drive::Drive;
 use history_text::{DriveNumbers, numbers_json, numbers_lines};
 use history_view::next_listed;
-use image_commands::{Files, write_out};
+use image_commands::write_out;
 use moment_words::{MomentStyle, style_of};
 use s4_command::InfoAsked;
-use s4_images::{DriveCommand, Failure, Verdict, over_image};
+use s4_images::{DriveCommand, Failure, ImageCommand, Verdict};
 use s4_types::{Moment, ObjectId, Refusal, Span};
 use segment_table::OverFrames;
 use segment_word::Naming;
 use serving::Sink;
 use std::alloc::{AllocError, Global};
-use std::thread::Threads;
 
-/// Prints the numbers of the drive of an image.
-pub fn info_image<T: Threads, F: Files, W: Sink>(
-    rt: &T,
-    alloc: Global,
-    files: &F,
-    asked: &InfoAsked<'_>,
-    writer: &mut W,
-) -> Result<Verdict, Failure>
-    requires writer { W.failures writer.old + 1 < 2 ^ 64 }
-    ensures informs { IfOk result (λ verdict. OverImage (F.contents files.now asked.now.image.now) (λ drive. Informs drive asked.now (W.passed writer.old) (W.passed writer.new))) }
-{
-    over_image(rt, alloc, files, asked.image, &Numbering { asked }, writer)
-}
-
-/// What `info` asks for.
+/// `info`: prints the numbers of a drive.
 #[derive(Clone, Copy)]
-struct Numbering<'a> {
-    asked: &'a InfoAsked<'a>,
+pub struct Numbering<'a>(pub &'a InfoAsked<'a>);
+
+impl ImageCommand for Numbering<'_> {
+    ghost file = { λ it. it.0.now.image.now };
+
+    ghost as_numbers = { λ it. it.0.now.moments };
+
+    fn image(&self) -> &str {
+        self.0.image
+    }
+
+    fn has_numbers(&self) -> bool {
+        self.0.moments
+    }
 }
 
 impl DriveCommand for Numbering<'_> {
-    ghost shows = { λ it d verdict. Informs d it.asked.now };
+    ghost shows = { λ it d verdict. Informs d it.0.now };
 
     fn perform<J: Naming, W: Sink>(
         &self,
@@ -49,7 +45,7 @@ impl DriveCommand for Numbering<'_> {
         drive: &mut Drive<J>,
         writer: &mut W,
     ) -> Result<Verdict, Failure> {
-        info(alloc, drive, self.asked, writer)?;
+        info(alloc, drive, self.0, writer)?;
         Ok(Verdict::Fine)
     }
 }

@@ -1,44 +1,39 @@
 //! `report`: a page about a drive.
-ghost use Rattle.std.specs.Prelude.{◌≡◌, ◌+◌, ◌^◌, ◌<◌, IfOk, OnOk};
+ghost use Rattle.std.specs.Prelude.{◌≡◌, ◌+◌, ◌^◌, ◌<◌, false, OnOk};
 ghost use Rattle.drive.specs.Fields.{state_in};
-ghost use Rattle.s4_images.specs.Commands.{OverImage};
 ghost use Rattle.s4_report.specs.Reporting.{ReportsDrive, since_asked};
 
 use drive::Drive;
 use history_diff::Stop;
 use history_report::{ReportFault, write_report};
-use image_commands::Files;
 use moment_words::MomentWord;
 use s4_command::ReportAsked;
-use s4_images::{DriveCommand, Failure, Verdict, moment_said, over_image, unreadable};
+use s4_images::{DriveCommand, Failure, ImageCommand, Verdict, moment_said, unreadable};
 use s4_types::{Moment, ObjectId, Refusal};
 use segment_word::Naming;
 use serving::Sink;
 use std::alloc::Global;
-use std::thread::Threads;
 
-/// Writes the page about the drive of an image.
-pub fn report_image<T: Threads, F: Files, W: Sink>(
-    rt: &T,
-    alloc: Global,
-    files: &F,
-    asked: &ReportAsked<'_>,
-    writer: &mut W,
-) -> Result<Verdict, Failure>
-    requires writer { W.failures writer.old + 1 < 2 ^ 64 }
-    ensures reports { IfOk result (λ verdict. OverImage (F.contents files.now asked.now.image.now) (λ drive. ReportsDrive drive asked.now (W.passed writer.old) (W.passed writer.new))) }
-{
-    over_image(rt, alloc, files, asked.image, &Reporting { asked }, writer)
-}
-
-/// What `report` asks for.
+/// `report`: writes the page about a drive.
 #[derive(Clone, Copy)]
-struct Reporting<'a> {
-    asked: &'a ReportAsked<'a>,
+pub struct Reporting<'a>(pub &'a ReportAsked<'a>);
+
+impl ImageCommand for Reporting<'_> {
+    ghost file = { λ it. it.0.now.image.now };
+
+    ghost as_numbers = { λ it. false };
+
+    fn image(&self) -> &str {
+        self.0.image
+    }
+
+    fn has_numbers(&self) -> bool {
+        false
+    }
 }
 
 impl DriveCommand for Reporting<'_> {
-    ghost shows = { λ it d verdict. ReportsDrive d it.asked.now };
+    ghost shows = { λ it d verdict. ReportsDrive d it.0.now };
 
     fn perform<J: Naming, W: Sink>(
         &self,
@@ -46,7 +41,7 @@ impl DriveCommand for Reporting<'_> {
         drive: &mut Drive<J>,
         writer: &mut W,
     ) -> Result<Verdict, Failure> {
-        report(alloc, drive, self.asked, writer)?;
+        report(alloc, drive, self.0, writer)?;
         Ok(Verdict::Fine)
     }
 }

@@ -3,7 +3,7 @@ use Rattle.std.proofs.lemmas.List.{get_or_default}
 use Rattle.serde_json.specs.View.{view}
 use Rattle.history_diff.specs.declared.ranges.ByteRange.{ByteRange}
 use Rattle.history_diff.specs.Json.{range_data}
-use Rattle.history_diff.proofs.Fronts.{seen_more}
+use Rattle.history_diff.proofs.Took.{seen_more}
 use Rattle.history_diff.proofs.json.ranges_value.Goals as goal
 
 pub loop-range-preserved : goal.loop-range-preserved

@@ -2,7 +2,7 @@ use Rattle.std.proofs.Common.{rules, ◌≡◌, ◌<◌, ◌++◌, length, get_o
 use Rattle.std.proofs.lemmas.List.{get_or_default}
 use Rattle.history_diff.specs.declared.ranges.ByteRange.{ByteRange}
 use Rattle.history_diff.specs.Lines.{range_text}
-use Rattle.history_diff.proofs.Fronts.{text_took}
+use Rattle.history_diff.proofs.Took.{text_took}
 use Rattle.history_diff.proofs.lines.push_ranges.Goals as goal
 
 pub loop-range-preserved : goal.loop-range-preserved

@@ -5,7 +5,7 @@ use Rattle.std.proofs.lemmas.List.{get_or_default}
 use Rattle.history_diff.specs.declared.ranges.ByteRange.{ByteRange}
 use Rattle.std.proofs.KnownBytes.{Appends-trans, Appends-nil}
 use Rattle.history_diff.specs.Patches.{range_lines}
-use Rattle.history_diff.proofs.Fronts.{flat_took}
+use Rattle.history_diff.proofs.Took.{flat_took}
 use Rattle.history_diff.proofs.patches.write_patch.Goals as goal
 
 pub loop-range-init : goal.loop-range-init

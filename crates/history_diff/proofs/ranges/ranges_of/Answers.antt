@@ -1,6 +1,6 @@
 use Rattle.std.proofs.Common.{rules, ◌≡◌, ◌+◌, ◌++◌, List, [], ◌∷◌, sym, subst}
 use Rattle.history_diff.specs.declared.ranges.ByteRange.{ByteRange}
-use Rattle.history_diff.proofs.Fronts.{IsFront, front_more, front_whole}
+use Rattle.history_view.proofs.Fronts.{IsFront, front_more, front_whole}
 use Rattle.history_diff.proofs.Apart.{AreRangesFrom, are_ranges}
 use Rattle.history_diff.proofs.ranges.ranges_of.Goals as goal
 

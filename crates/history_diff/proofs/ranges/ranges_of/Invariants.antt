@@ -1,5 +1,5 @@
 use Rattle.std.proofs.Common.{◌-◌, max, length}
-use Rattle.history_diff.proofs.Fronts.{IsFront}
+use Rattle.history_view.proofs.Fronts.{IsFront}
 use Rattle.history_diff.proofs.Apart.{AreRangesFrom}
 use Rattle.history_diff.proofs.ranges.ranges_of.Given as goal
 

@@ -1,4 +1,5 @@
-use Rattle.s4_images.proofs.Done.{if_ok}
+use Rattle.std.proofs.Common.{inr}
+use Rattle.s4_images.proofs.Done.{if_err, if_ok}
 use Rattle.s4_images.proofs.commands.over_image.Goals as goal
 
 pub returns : goal.returns
@@ -10,4 +11,11 @@ returns g c = record {
         holds = done.holds;
       })
       c.over_opened.ensures.shows;
+  fails = if_err c.over_opened.result
+      (λ failure done. inr (record {
+        drive = done.drive;
+        told = record { image = c.in_ok-image.image; verified = c.in_ok-image.ensures.verified; opened = c.in_ok-opened.opened; parts = c.in_ok-opened.ensures.opened; named = done.named };
+        holds = done.holds;
+      }))
+      c.over_opened.ensures.fails;
 }

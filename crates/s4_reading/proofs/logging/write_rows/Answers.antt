@@ -3,7 +3,7 @@ use Rattle.std.specs.List.{flat_map}
 use Rattle.std.specs.Io.KnownBytes.{Appends}
 use Rattle.std.proofs.KnownBytes.{Appends-trans, Appends-nil}
 use Rattle.std.proofs.lemmas.List.{take_more}
-use Rattle.s4_images.proofs.Fronts.{flat_more}
+use Rattle.history_view.proofs.Fronts.{flat_more}
 use Rattle.s4_reading.specs.Logging.{line_of_row}
 use Rattle.s4_reading.proofs.logging.write_rows.Goals as goal
 
