@@ -7,3 +7,7 @@ pub mod RowByRow
 pub mod Finding
 pub mod RowFinding
 pub mod NothingLost
+pub mod Generations
+pub mod Noting
+pub mod Heading
+pub mod Passing

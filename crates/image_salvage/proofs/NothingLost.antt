@@ -27,7 +27,9 @@ use Rattle.image_salvage.specs.declared.giving.Fate.{Fate}
 use Rattle.image_salvage.specs.declared.giving.Fate.TheVariants.{Given, Lost, Deleted}
 use Rattle.image_salvage.specs.Contents.{salvaged_bytes, blocks_gone}
 use Rattle.image_salvage.specs.Rows.{IsLost, IsPresentOf, IsSalvagedBy}
-use Rattle.image_salvage.specs.Giving.{capped, fate_by, fate_of, counted_by, counted, counted_all, with_fate, with_row, with_rows, with_frames, none_given, salvaged_files, GivesOut, is_whole}
+use Rattle.image_salvage.specs.declared.unlisted.Unlisted.{Unlisted}
+use Rattle.image_salvage.specs.Manifest.{unlisted_name}
+use Rattle.image_salvage.specs.Giving.{capped, fate_by, fate_of, counted_by, counted, counted_all, with_fate, with_row, with_rows, with_frames, none_given, with_unlisted, with_all_unlisted, salvaged_files, GivesOut, is_whole}
 use Rattle.image_salvage.specs.Salvaging.{SalvageFields, HasFault}
 use Rattle.image_salvage.specs.Wholeness.{HasNamed, HasFile, RowIsWhole, IsGivenWhole}
 use Rattle.image_salvage.specs.Laws.{AnUndamagedImageIsSalvagedWhole, IsSalvagedWhole, HasAll, WhatIsWholeIsAll}
@@ -135,6 +137,22 @@ each_whole used (part ∷ parts) (row ∷ rows) g files zero d all none inside =
     row_by used part row.object row.present g rows (counted used g row) files all.0.object all.0.present (nothing_before used rows (counted used g row) none)
 each_whole used (part ∷ parts) (row ∷ rows) g files (suc k) d all none inside = each_whole used parts rows (counted used g row) (with_row used g row files) k d all.1 none (omega (arith, inside))
 
+-- ---- the objects that no row leads to
+
+unlisted_keep : (used : Place → Option Stored) (key : ℕ) (unlisted : List Unlisted) (files : List NamedFile) (bytes : List ℕ) → HasNamed files (file_name key) bytes → HasNamed (with_all_unlisted used unlisted files) (file_name key) bytes
+unlisted_keep used key [] files bytes has = has
+unlisted_keep used key (u ∷ unlisted) files bytes has =
+    unlisted_keep used key unlisted (with_unlisted used u files) bytes
+    (has_line (with_file (unlisted_name u.object) (salvaged_bytes used u.object u.inode) files) manifest_name _ (file_name key) bytes (no_manifest key) (has_left files _ (file_name key) bytes has))
+
+whole_keeps : (used : Place → Option Stored) (part : RowPart) (unlisted : List Unlisted) (files : List NamedFile) → RowIsWhole used part (Some files) → RowIsWhole used part (Some (with_all_unlisted used unlisted files))
+whole_keeps used part unlisted files whole = record {
+  inode = whole.inode;
+  present = whole.present;
+  none_gone = whole.none_gone;
+  has = λ live. unlisted_keep used part.object unlisted files (salvaged_bytes used part.object whole.inode) (whole.has live);
+}
+
 -- ---- the image
 
 not_true : (b : Bool) → not b ≡ true → b ≡ false
@@ -166,7 +184,8 @@ given_whole s given files files' gives whole =
       sound = none_there s.fault first.0;
       intact = nil_from_length s.lost first.3;
       each = λ k part inside. known_whole used (get_or s.rows k part) files' (salvaged_files s gives.rows) gives.has
-          (each_whole used s.rows gives.rows (none_given s) (with_frames s.lost (with_file manifest_name [] [])) k part gives.are none inside);
+          (whole_keeps used (get_or s.rows k part) s.unlisted (with_rows used (none_given s) gives.rows (with_frames s.lost (with_file manifest_name [] [])))
+          (each_whole used s.rows gives.rows (none_given s) (with_frames s.lost (with_file manifest_name [] [])) k part gives.are none inside));
     }
 
 -- ---- what a drive has

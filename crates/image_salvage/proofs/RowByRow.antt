@@ -1,8 +1,8 @@
 -- What was given out so far, row by row.
-use Rattle.std.proofs.Common.{◌≡◌, ◌∙◌, ◌<◌, ◌≤◌, ◌++◌, ℕ, zero, suc, List, [], ◌∷◌, drop, length, slice_get, Option, Some, None, Result, Ok, Err, OnOk, IfErr, refl, sym, ap, subst, arith, append_assoc}
+use Rattle.std.proofs.Common.{◌≡◌, ◌∙◌, ◌+◌, ◌<◌, ◌≤◌, ◌++◌, ℕ, zero, suc, List, [], ◌∷◌, drop, length, get_or, slice_get, Option, Some, None, Result, Ok, Err, OnOk, IfErr, refl, sym, ap, subst, arith, append_assoc}
 use Rattle.std.specs.List.{AllZip}
 use Rattle.std.specs.Option.{option_map}
-use Rattle.std.proofs.lemmas.List.{append-nil, drop_all}
+use Rattle.std.proofs.lemmas.List.{append-nil, drop_all, drop_more}
 use Rattle.s4_types.specs.Pointer.{Place}
 use Rattle.block_log.specs.Log.{Stored}
 use Rattle.segment_table.specs.Used.{used_at}
@@ -15,7 +15,8 @@ use Rattle.history_export.specs.Exports.{Explains, IsOfWriting}
 use Rattle.image_salvage.specs.declared.rows.Salvaged.{Salvaged}
 use Rattle.image_salvage.specs.declared.giving.GivenOut.{GivenOut}
 use Rattle.image_salvage.specs.declared.giving.Fate.{Fate}
-use Rattle.image_salvage.specs.Giving.{fate_of, with_fate, with_row, with_rows, with_frames, counted, counted_all, none_given, GivesRows, GivesOut}
+use Rattle.image_salvage.specs.declared.unlisted.Unlisted.{Unlisted}
+use Rattle.image_salvage.specs.Giving.{fate_of, with_fate, with_row, with_rows, with_frames, with_unlisted, with_all_unlisted, counted, counted_all, none_given, GivesRows, GivesOut}
 use Rattle.image_salvage.specs.Rows.{IsSalvagedBy}
 use Rattle.image_salvage.specs.Salvaging.{SalvageFields}
 
@@ -108,16 +109,17 @@ all_given s n given files files' le before =
 
 -- ---- all of an image
 
--- the rows behind the lines of lost frames, in a folder that had nothing
-pub gives_out : (s : SalvageFields) (given : GivenOut) (first begun told files : Option (List NamedFile)) → AreFiles first [] → begun ≡ option_map (with_file manifest_name []) first → told ≡ option_map (with_frames s.lost) begun
-    → GivesRows s given told files → GivesOut s given first files
-gives_out s given first begun told files empty begins tells gives = record {
+-- the objects that no row leads to behind the rows, and these behind the lines of lost frames, in a folder that had nothing
+pub gives_out : (s : SalvageFields) (given : GivenOut) (first begun told files later : Option (List NamedFile)) → AreFiles first [] → begun ≡ option_map (with_file manifest_name []) first → told ≡ option_map (with_frames s.lost) begun
+    → GivesRows s given told files → later ≡ option_map (with_all_unlisted (used_at s.table) s.unlisted) files → GivesOut s given first later
+gives_out s given first begun told files later empty begins tells gives unlisted = record {
   empty = empty;
   rows = gives.rows;
   are = gives.are;
   counts = gives.counts;
-  has = files_become (with_rows (used_at s.table) (none_given s) gives.rows) told files (with_frames s.lost (with_file manifest_name [] []))
-      (files_become (with_frames s.lost) begun told (with_file manifest_name [] []) (files_become (with_file manifest_name []) first begun [] empty begins) tells) gives.becomes;
+  has = files_become (with_all_unlisted (used_at s.table) s.unlisted) files later (with_rows (used_at s.table) (none_given s) gives.rows (with_frames s.lost (with_file manifest_name [] [])))
+      (files_become (with_rows (used_at s.table) (none_given s) gives.rows) told files (with_frames s.lost (with_file manifest_name [] []))
+      (files_become (with_frames s.lost) begun told (with_file manifest_name [] []) (files_become (with_file manifest_name []) first begun [] empty begins) tells) gives.becomes) unlisted;
 }
 
 -- an error of what is written explains itself
@@ -135,3 +137,20 @@ for_ok (Err error) f fact = tt
 pub if_writing_explains : {A : Type 0} → (files : Option (List NamedFile)) (result : Result A ExportError) → IfErr result IsOfWriting → IfErr result (Explains files)
 if_writing_explains files (Ok value) of = tt
 if_writing_explains files (Err e) of = writing_explains files e of
+
+-- ---- the objects that no row leads to
+
+-- what is left to be given out of them gives all
+abbrev pub GivesLeft : (Place → Option Stored) → List Unlisted → ℕ → Option (List NamedFile) → Option (List NamedFile) → Type 0
+GivesLeft used unlisted n first files = option_map (with_all_unlisted used (drop n unlisted)) files ≡ option_map (with_all_unlisted used unlisted) first
+
+pub unlisted_on : (used : Place → Option Stored) (unlisted : List Unlisted) (n m : ℕ) (u : Unlisted) (first files later : Option (List NamedFile)) → n < length unlisted → u ≡ get_or unlisted n u → m ≡ n + 1 → GivesLeft used unlisted n first files
+    → later ≡ option_map (with_unlisted used u) files → GivesLeft used unlisted m first later
+unlisted_on used unlisted n m u first files later inside is next before gives =
+    let front : drop n unlisted ≡ u ∷ drop m unlisted = drop_more unlisted n u inside ∙ ap (λ (v : Unlisted). v ∷ drop (n + 1) unlisted) (sym is) ∙ ap (λ (k : ℕ). u ∷ drop k unlisted) (sym next) in
+    changes_join (with_unlisted used u) (with_all_unlisted used (drop m unlisted)) (with_all_unlisted used (drop n unlisted)) files later (option_map (with_all_unlisted used (drop m unlisted)) later) gives refl
+    (λ f. ap (λ (l : List Unlisted). with_all_unlisted used l f) (sym front)) ∙ before
+
+pub unlisted_all : (used : Place → Option Stored) (unlisted : List Unlisted) (n : ℕ) (first files : Option (List NamedFile)) → length unlisted ≤ n → GivesLeft used unlisted n first files → files ≡ option_map (with_all_unlisted used unlisted) first
+unlisted_all used unlisted n first files end before =
+    changes_none (with_all_unlisted used (drop n unlisted)) files (λ f. sym (ap (λ (l : List Unlisted). with_all_unlisted used l f) (drop_all n unlisted end))) ∙ before

@@ -11,7 +11,8 @@ given_data g =
     (member (codes "damaged") (boolean g.damaged)
     (member (codes "lost_frames") (number (unsigned g.lost_frames))
     (member (codes "lost_objects") (number (unsigned g.lost_objects))
-    (member (codes "objects") (number (unsigned g.objects)) no_members)))))
+    (member (codes "objects") (number (unsigned g.objects))
+    (member (codes "unlisted") (number (unsigned g.unlisted)) no_members))))))
 
 -- the line of it
 abbrev pub given_line : GivenOut → List ℕ

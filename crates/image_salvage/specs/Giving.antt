@@ -9,13 +9,14 @@ use Rattle.segment_table.specs.Used.{used_at}
 use Rattle.history_view.specs.Listing.{listed_of}
 use Rattle.history_export.specs.Folders.{NamedFile, AreFiles, with_file, with_bytes}
 use Rattle.history_export.specs.Manifest.{manifest_name}
-use Rattle.history_export.specs.Exports.{with_line}
+use Rattle.history_export.specs.Exports.{with_line, with_named}
 use Rattle.image_salvage.specs.declared.rows.Salvaged.{Salvaged}
 use Rattle.image_salvage.specs.declared.giving.GivenOut.{GivenOut}
 use Rattle.image_salvage.specs.declared.giving.Fate.{Fate}
 use Rattle.image_salvage.specs.declared.giving.Fate.TheVariants.{Given, Lost, Deleted}
 use Rattle.image_salvage.specs.Contents.{salvaged_bytes, blocks_gone}
-use Rattle.image_salvage.specs.Manifest.{salvaged_line, lost_frame_line, lost_object_line}
+use Rattle.image_salvage.specs.declared.unlisted.Unlisted.{Unlisted}
+use Rattle.image_salvage.specs.Manifest.{salvaged_line, unlisted_name, unlisted_line, lost_frame_line, lost_object_line}
 use Rattle.image_salvage.specs.Rows.{IsSalvagedBy}
 use Rattle.image_salvage.specs.Salvaging.{SalvageFields}
 
@@ -42,6 +43,7 @@ with_given o gone g = record {
   blocks_gone = capped (g.blocks_gone + gone);
   lost_objects = g.lost_objects;
   lost_frames = g.lost_frames;
+  unlisted = g.unlisted;
   damaged = g.damaged;
 }
 
@@ -53,6 +55,7 @@ with_lost g = record {
   blocks_gone = g.blocks_gone;
   lost_objects = capped (g.lost_objects + 1);
   lost_frames = g.lost_frames;
+  unlisted = g.unlisted;
   damaged = g.damaged;
 }
 
@@ -82,9 +85,9 @@ with_row used g row files = with_fate used row.object (fate_of g.last row) files
 
 -- ---- all of an image
 
--- nothing is given out yet: rows may be missing and frames lost, and the image may have a fault
+-- nothing is given out yet: rows may be missing and frames lost, objects may have no row, and the image may have a fault
 abbrev pub none_given : SalvageFields → GivenOut
-none_given s = record { last = 0; objects = 0; blocks_gone = 0; lost_objects = s.missing; lost_frames = length s.lost; damaged = is_some s.fault }
+none_given s = record { last = 0; objects = 0; blocks_gone = 0; lost_objects = s.missing; lost_frames = length s.lost; unlisted = length s.unlisted; damaged = is_some s.fault }
 
 -- the counts with these rows more
 abbrev pub counted_all : (Place → Option Stored) → GivenOut → List Salvaged → GivenOut
@@ -101,10 +104,20 @@ abbrev pub with_frames : List ℕ → List NamedFile → List NamedFile
 with_frames [] files = files
 with_frames (frame ∷ lost) files = with_frames lost (with_bytes manifest_name (lost_frame_line frame) files)
 
+-- the files with that of an object that no row leads to, and with its line at the end of the manifest
+abbrev pub with_unlisted : (Place → Option Stored) → Unlisted → List NamedFile → List NamedFile
+with_unlisted used u files =
+    with_named (unlisted_name u.object) (salvaged_bytes used u.object u.inode) (unlisted_line (listed_of u.object u.inode) (salvaged_bytes used u.object u.inode) (blocks_gone used u.object u.inode)) files
+
+-- the files with these objects more
+abbrev pub with_all_unlisted : (Place → Option Stored) → List Unlisted → List NamedFile → List NamedFile
+with_all_unlisted used [] files = files
+with_all_unlisted used (u ∷ unlisted) files = with_all_unlisted used unlisted (with_unlisted used u files)
+
 -- The files of a salvage whose rows give this: the manifest, which has a line for each lost frame, and then one for each object that is given
--- out or lost, in the order of the rows; and the file of each that is given out.
+-- out or lost, in the order of the rows, and one for each that no row leads to; and the file of each that is given out.
 abbrev pub salvaged_files : SalvageFields → List Salvaged → List NamedFile
-salvaged_files s rows = with_rows (used_at s.table) (none_given s) rows (with_frames s.lost (with_file manifest_name [] []))
+salvaged_files s rows = with_all_unlisted (used_at s.table) s.unlisted (with_rows (used_at s.table) (none_given s) rows (with_frames s.lost (with_file manifest_name [] [])))
 
 -- This is what the rows of an image give, one by one.
 abbrev pub AreGivenBy : SalvageFields → List Salvaged → Type 0

@@ -9,3 +9,7 @@ pub mod Manifest
 pub mod Giving
 pub mod Counts
 pub mod Wholeness
+pub mod Newest
+pub mod Heads
+pub mod Unlisted
+pub mod private

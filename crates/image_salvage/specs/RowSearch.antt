@@ -4,11 +4,9 @@ use Rattle.std.specs.List.{Contains}
 use Rattle.s4_types.specs.Pointer.{Place}
 use Rattle.block_log.specs.Log.{Stored}
 use Rattle.codec.specs.declared.inodes.Inode.{Inode}
-use Rattle.segment_table.specs.Table.{Table}
-use Rattle.segment_table.specs.Used.{used_at}
 use Rattle.image_parts.specs.Rows.{row_in}
 use Rattle.image_parts.specs.declared.rows.RowPart.{RowPart}
-use Rattle.image_salvage.specs.Searching.{IsWithin, AreFound, AreFoundTo, Finds}
+use Rattle.image_salvage.specs.Searching.{IsWithin, AreFound, AreFoundTo}
 use Rattle.image_salvage.specs.Rows.{IsPresentOf}
 
 -- what the bytes at a place are as a row
@@ -51,9 +49,3 @@ pub record FindsRowsTo (used : Place → Option Stored) (bytes : List ℕ) (n ne
   pub places : List ℕ
   pub are : AreRowsTo used bytes frames n places
   pub rows_are : rows ≡ map (row_from bytes) places
-
--- No row is found in bytes over the frames that are found in them.
-pub record HasNoRow (bytes : List ℕ) : Type 0 where
-  pub table : Table
-  pub finds : Finds bytes table
-  pub none : FindsRows (used_at table) bytes []

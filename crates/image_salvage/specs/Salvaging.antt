@@ -13,15 +13,18 @@ use Rattle.verifier.specs.Grammar.{SpellsDrive, FirstFault}
 use Rattle.image_salvage.specs.Frames.{Sees, AreLostOf}
 use Rattle.image_salvage.specs.Searching.{Finds}
 use Rattle.image_salvage.specs.RowSearch.{FindsRows}
+use Rattle.image_salvage.specs.Unlisted.{FindsUnlisted, FindsUnlistedBy}
+use Rattle.image_salvage.specs.declared.unlisted.Unlisted.{Unlisted}
 
--- the first fault of an image, if it has one; its rows; how many more its header counts; the table of the frames by which rows are read; and
--- the numbers of the frames that break a rule
+-- the first fault of an image, if it has one; its rows; how many more its header counts; the table of the frames by which rows are read; the
+-- numbers of the frames that break a rule; and the objects that no row leads to
 pub record SalvageFields : Type 0 where
   pub fault : Option Cause
   pub rows : List RowPart
   pub missing : ℕ
   pub table : Table
   pub lost : List ℕ
+  pub unlisted : List Unlisted
 
 -- How many rows the header counts of bytes that can't be split for this cause: that is known where the header is one, and their length alone is
 -- wrong.
@@ -64,4 +67,12 @@ pub record IsSalvageOfBytes (bytes : List ℕ) (s : SalvageFields) : Type 0 wher
 pub record IsSalvageOf (bytes : List ℕ) (s : SalvageFields) : Type 0 where
   pub has : HasFault bytes s.fault
   pub sees : SeesBy bytes s.table s.fault
+  pub unlisted_are : FindsUnlistedBy s.fault (used_at s.table) s.rows s.unlisted
   pub of : IsSalvageOfParts bytes s ⊎ IsSalvageOfBytes bytes s
+
+-- Neither a row is found in bytes, nor an object that no row leads to, over the frames that are found in them.
+pub record HasNothing (bytes : List ℕ) : Type 0 where
+  pub table : Table
+  pub finds : Finds bytes table
+  pub no_row : FindsRows (used_at table) bytes []
+  pub no_object : FindsUnlisted (used_at table) [] []

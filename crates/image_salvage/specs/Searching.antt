@@ -9,6 +9,7 @@ use Rattle.segment_word.specs.Layout.{frame_at, block_bytes}
 use Rattle.segment_table.specs.declared.slots.Slot.{Slot}
 use Rattle.segment_table.specs.Slots.{unheld}
 use Rattle.segment_table.specs.Table.{Table, slots_at}
+use Rattle.segment_table.specs.Used.{is_named}
 
 -- ---- places
 
@@ -84,3 +85,8 @@ pub record FindsTo (bytes : List ℕ) (n next : ℕ) (t : Table) (seen : List Bo
   pub slot_count : length t.slots ≡ MOST_FRAMES
   pub seen_count : length seen ≡ MOST_FRAMES
   pub each : (k : ℕ) → k < MOST_FRAMES → ((slice_index_or seen k false ≡ true) × IsTaken bytes places k (frame_at t.seat.frames k) (slots_at t.slots k)) ⊎ ((slice_index_or seen k false ≡ false) × IsMissing bytes places k (frame_at t.seat.frames k))
+
+-- These are the generations of the frames of a table that aren't free, as many as it has frames.
+pub record HasGenerations (t : Table) (generations : List ℕ) : Type 0 where
+  pub count : length generations ≡ length t.seat.frames
+  pub each : (k : ℕ) → is_named (frame_at t.seat.frames k) ≡ true → (frame_at t.seat.frames k).generation ≡ slice_index_or generations k 0

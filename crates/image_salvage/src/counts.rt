@@ -4,7 +4,7 @@ ghost use Rattle.serde_json.specs.View.{view};
 ghost use Rattle.image_salvage.specs.Counts.{given_data, given_line};
 
 use crate::giving::GivenOut;
-use history_export::line_of;
+use history_text::json_line;
 use serde_json::{Value, json};
 use std::alloc::{AllocError, Global};
 
@@ -12,12 +12,13 @@ fn given_value(alloc: Global, given: &GivenOut) -> Result<Value, AllocError>
     ensures { IfOk result (λ value. view value ≡ given_data given.now) }
 {
     let (objects, gone, damaged) = (given.objects, given.blocks_gone, given.damaged);
-    let (lost, frames) = (given.lost_objects, given.lost_frames);
+    let (lost, frames, unlisted) = (given.lost_objects, given.lost_frames, given.unlisted);
     json!(in alloc; {
         "objects": objects,
         "blocks_gone": gone,
         "lost_objects": lost,
         "lost_frames": frames,
+        "unlisted": unlisted,
         "damaged": damaged
     })
 }
@@ -27,5 +28,5 @@ pub fn given_json(alloc: Global, given: &GivenOut) -> Result<String, AllocError>
     ensures { IfOk result (λ line. string_bytes line ≡ given_line given.now) }
 {
     let value = given_value(alloc, given)?;
-    line_of(alloc, &value)
+    json_line(alloc, &value)
 }

@@ -7,14 +7,17 @@ ghost use Rattle.history_export.specs.Manifest.{manifest_name};
 ghost use Rattle.history_export.specs.Exports.{Explains, IsOfWriting};
 ghost use Rattle.image_salvage.specs.Contents.{blocks_gone};
 ghost use Rattle.image_salvage.specs.Manifest.{lost_object_line};
-ghost use Rattle.image_salvage.specs.Giving.{GivesOut, GivesRows, counted, fate_of, is_whole, none_given, with_frames, with_given, with_lost, with_row, with_salvaged};
+ghost use Rattle.image_salvage.specs.Giving.{GivesOut, GivesRows, counted, fate_of, is_whole, none_given, with_frames, with_given, with_lost, with_row, with_salvaged, with_unlisted, with_all_unlisted};
 ghost use Rattle.image_salvage.specs.Wholeness.{IsGivenWhole};
 
-use crate::manifest::{lost_frame_line, lost_object_line, salvaged_line};
+use crate::manifest::{
+    lost_frame_line, lost_object_line, salvaged_line, unlisted_line, unlisted_name,
+};
 use crate::rows::Salvaged;
 use crate::salvaging::SalvagedImage;
+use crate::unlisted::Unlisted;
 use codec::Inode;
-use history_export::{ExportError, Folder, add_line, add_object, begin_folder};
+use history_export::{ExportError, Folder, add_line, add_named, add_object, begin_folder};
 use history_view::listed_of;
 use s4_types::ObjectId;
 use std::alloc::Global;
@@ -32,6 +35,8 @@ pub struct GivenOut {
     pub lost_objects: u64,
     /// How many frames are lost.
     pub lost_frames: u64,
+    /// How many objects were given out beside these, to which no row leads. Their blocks that are gone aren't counted above.
+    pub unlisted: u64,
     /// Whether the bytes are no image.
     pub damaged: bool,
 }
@@ -55,6 +60,7 @@ impl GivenOut {
             blocks_gone: self.blocks_gone.saturating_add(gone),
             lost_objects: self.lost_objects,
             lost_frames: self.lost_frames,
+            unlisted: self.unlisted,
             damaged: self.damaged,
         }
     }
@@ -69,6 +75,7 @@ impl GivenOut {
             blocks_gone: self.blocks_gone,
             lost_objects: self.lost_objects.saturating_add(1),
             lost_frames: self.lost_frames,
+            unlisted: self.unlisted,
             damaged: self.damaged,
         }
     }
@@ -102,7 +109,7 @@ fn fate_of(last: ObjectId, row: &Salvaged) -> Fate
 
 /// Writes each object that was salvaged into an empty folder, as a file of its bytes, and what each file is into a manifest, one line of
 /// JSON for each, in the order of the rows. Lines in front tell of the frames that are lost, and lines between of the objects. An object
-/// that was deleted has neither.
+/// that was deleted has neither. Objects to which no row leads come last, in a folder of their own.
 ///
 /// Where what was given out is whole, each object of the image is in the folder, with all of its bytes, and none of its blocks is gone.
 ///
@@ -119,7 +126,9 @@ pub fn give_out<F: Folder>(
 {
     begin_folder(folder)?;
     tell_frames(alloc, image.lost_frames(), folder)?;
-    give_rows(alloc, image, folder)
+    let given = give_rows(alloc, image, folder)?;
+    give_all_unlisted(alloc, image, folder)?;
+    Ok(given)
 }
 
 // Adds the lines of lost frames to the manifest.
@@ -156,7 +165,8 @@ fn give_rows<F: Folder>(
     Ok(given)
 }
 
-// Nothing is given out of an image yet: what is known are its missing rows and lost frames, and whether it has a fault.
+// Nothing is given out of an image yet: what is known are its missing rows, its lost frames, the objects that no row leads to, and whether it
+// has a fault.
 fn none_given(image: &SalvagedImage) -> GivenOut
     ensures { result ≡ none_given image.now }
 {
@@ -166,6 +176,7 @@ fn none_given(image: &SalvagedImage) -> GivenOut
         blocks_gone: 0,
         lost_objects: image.missing_rows(),
         lost_frames: image.lost_frames().len() as u64,
+        unlisted: image.unlisted().len() as u64,
         damaged: image.fault().is_some(),
     }
 }
@@ -229,4 +240,47 @@ fn tell_lost<F: Folder>(
     add_line(folder, line.as_bytes())?;
     *given = given.with_lost();
     Ok(())
+}
+
+// Gives out the objects that no row leads to.
+fn give_all_unlisted<F: Folder>(
+    alloc: Global,
+    image: &SalvagedImage,
+    folder: &mut F,
+) -> Result<(), ExportError>
+    ensures files { OnOk result (F.files folder.new ≡ option_map (with_all_unlisted (used_at image.now.table) image.now.unlisted) (F.files folder.old)) }
+    ensures path { F.path folder.new ≡ F.path folder.old }
+    ensures refused { IfErr result IsOfWriting }
+{
+    let objects = image.unlisted();
+    for unlisted in objects {
+        give_unlisted(alloc, image, folder, unlisted)?;
+    }
+    Ok(())
+}
+
+// Writes an object that no row leads to, and tells it in the manifest.
+fn give_unlisted<F: Folder>(
+    alloc: Global,
+    image: &SalvagedImage,
+    folder: &mut F,
+    unlisted: &Unlisted,
+) -> Result<(), ExportError>
+    ensures files { OnOk result (F.files folder.new ≡ option_map (with_unlisted (used_at image.now.table) unlisted.now) (F.files folder.old)) }
+    ensures path { F.path folder.new ≡ F.path folder.old }
+    ensures refused { IfErr result IsOfWriting }
+{
+    let object = unlisted.object;
+    let content = image.content(alloc, object, &unlisted.inode)?;
+    let gone = image.gone(object, &unlisted.inode) as u64;
+    let row = listed_of(object, &unlisted.inode);
+    let line = unlisted_line(alloc, &row, content.as_slice(), gone)?;
+    let name = unlisted_name(alloc, object)?;
+    add_named(
+        folder,
+        object,
+        name.as_str(),
+        content.as_slice(),
+        line.as_bytes(),
+    )
 }

@@ -1,9 +1,10 @@
 //! The manifest of a salvage: what each of its files is, and what is lost.
 ghost use Rattle.std.specs.Prelude.{◌≡◌, IfOk, string_bytes};
 ghost use Rattle.serde_json.specs.View.{view};
-ghost use Rattle.image_salvage.specs.Manifest.{salvaged_data, salvaged_line, lost_frame_data, lost_frame_line, lost_object_data, lost_object_line};
+ghost use Rattle.image_salvage.specs.Manifest.{salvaged_data, salvaged_line, unlisted_data, unlisted_line, unlisted_name, lost_frame_data, lost_frame_line, lost_object_data, lost_object_line};
 
-use history_export::{file_name, line_of, text_value};
+use history_export::file_name;
+use history_text::{json_line, text_value};
 use history_view::Listed;
 use s4_types::ObjectId;
 use serde_json::{Value, json};
@@ -48,7 +49,56 @@ pub(crate) fn salvaged_line(
     ensures { IfOk result (λ line. string_bytes line ≡ salvaged_line row.now content.now gone) }
 {
     let value = salvaged_value(alloc, row, content, gone)?;
-    line_of(alloc, &value)
+    json_line(alloc, &value)
+}
+
+/// The name of the file of an object that no row leads to.
+pub(crate) fn unlisted_name(alloc: Global, object: ObjectId) -> Result<String, AllocError>
+    ensures { IfOk result (λ name. string_bytes name ≡ unlisted_name object) }
+{
+    let number = object.number();
+    format!(in alloc; "unlisted/object-{number}")
+}
+
+fn unlisted_value(
+    alloc: Global,
+    row: &Listed,
+    content: &[u8],
+    gone: u64,
+) -> Result<Value, AllocError>
+    ensures { IfOk result (λ value. view value ≡ unlisted_data row.now content.now gone) }
+{
+    let digest = Sha256::digest(content);
+    let digest = hex::encode(alloc, digest.as_slice())?;
+    let attribute = hex::encode(alloc, row.attribute.as_slice())?;
+    let attribute_text = text_value(alloc, row.attribute.as_slice())?;
+    let file = unlisted_name(alloc, row.object)?;
+    let (object, size) = (row.object.number(), content.len() as u64);
+    let (created, changed) = (row.created.number(), row.changed.number());
+    json!(in alloc; {
+        "unlisted_object": object,
+        "file": file,
+        "size": size,
+        "sha256": digest,
+        "attribute": attribute,
+        "attribute_text": attribute_text,
+        "created": created,
+        "changed": changed,
+        "blocks_gone": gone
+    })
+}
+
+/// The line of an object that no row leads to, of these bytes, of which so many blocks are gone.
+pub(crate) fn unlisted_line(
+    alloc: Global,
+    row: &Listed,
+    content: &[u8],
+    gone: u64,
+) -> Result<String, AllocError>
+    ensures { IfOk result (λ line. string_bytes line ≡ unlisted_line row.now content.now gone) }
+{
+    let value = unlisted_value(alloc, row, content, gone)?;
+    json_line(alloc, &value)
 }
 
 fn lost_frame_value(alloc: Global, frame: u16) -> Result<Value, AllocError>
@@ -63,7 +113,7 @@ pub(crate) fn lost_frame_line(alloc: Global, frame: u16) -> Result<String, Alloc
     ensures { IfOk result (λ line. string_bytes line ≡ lost_frame_line frame) }
 {
     let value = lost_frame_value(alloc, frame)?;
-    line_of(alloc, &value)
+    json_line(alloc, &value)
 }
 
 fn lost_object_value(alloc: Global, object: ObjectId) -> Result<Value, AllocError>
@@ -78,5 +128,5 @@ pub(crate) fn lost_object_line(alloc: Global, object: ObjectId) -> Result<String
     ensures { IfOk result (λ line. string_bytes line ≡ lost_object_line object) }
 {
     let value = lost_object_value(alloc, object)?;
-    line_of(alloc, &value)
+    json_line(alloc, &value)
 }

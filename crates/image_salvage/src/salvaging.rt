@@ -9,15 +9,17 @@ ghost use Rattle.image_parts.specs.declared.rows.RowPart.{RowPart as Part};
 ghost use Rattle.segment_table.specs.Used.{used_at};
 ghost use Rattle.image_salvage.specs.Contents.{salvaged_bytes, blocks_gone};
 ghost use Rattle.image_salvage.specs.Frames.{Sees};
-ghost use Rattle.image_salvage.specs.RowSearch.{HasNoRow};
 ghost use Rattle.image_salvage.specs.Rows.{IsSalvagedBy};
-ghost use Rattle.image_salvage.specs.Salvaging.{HasFault, IsSalvageOf, SeesBy, rows_counted};
+ghost use Rattle.image_salvage.specs.Salvaging.{HasFault, HasNothing, IsSalvageOf, SeesBy, rows_counted};
+ghost use Rattle.image_salvage.specs.Searching.{Finds};
+ghost use Rattle.image_salvage.specs.Unlisted.{FindsUnlisted, FindsUnlistedBy};
 
 use crate::contents::{content_of, count_gone};
 use crate::frames::{WholeFrames, whole_frames};
 use crate::row_search::find_rows;
 use crate::rows::{Salvaged, salvage_row};
-use crate::searching::find_frames;
+use crate::searching::{FoundFrames, find_frames};
+use crate::unlisted::{Unlisted, find_unlisted};
 use byteorder::{BigEndian, ByteOrder};
 use codec::Inode;
 use image_parts::{ImageParts, RowPart, split_parts};
@@ -34,7 +36,7 @@ const FRONT_BYTES: usize = 544;
 /// Where a header has the number of rows.
 const ROWS_AT: usize = 48;
 
-/// What was salvaged of an image: its first fault, its rows, and the blocks of its frames.
+/// What was salvaged of an image: its first fault, its rows, the blocks of its frames, and the objects that no row leads to.
 #[derive(Drop)]
 pub struct SalvagedImage {
     fault: Option<Cause>,
@@ -42,6 +44,7 @@ pub struct SalvagedImage {
     missing: u64,
     table: TableBuilder,
     lost: Vec<u16>,
+    unlisted: Vec<Unlisted>,
 }
 
 impl Model for SalvagedImage {
@@ -49,7 +52,7 @@ impl Model for SalvagedImage {
 
     ghost Value = { SalvageFields };
 
-    ghost view = { λ s. record { fault = s.fault; rows = s.rows.items; missing = s.missing; table = s.table; lost = s.lost.items } };
+    ghost view = { λ s. record { fault = s.fault; rows = s.rows.items; missing = s.missing; table = s.table; lost = s.lost.items; unlisted = s.unlisted.items } };
 }
 
 impl SalvagedImage {
@@ -93,6 +96,14 @@ impl SalvagedImage {
         ensures { result.now ≡ self.now.lost }
     {
         self.lost.as_slice()
+    }
+
+    /// The live objects to which no row leads, ascending, as their newest blocks have them. None is looked for in an image that isn't
+    /// damaged.
+    pub fn unlisted(&self) -> &[Unlisted]
+        ensures { result.now ≡ self.now.unlisted }
+    {
+        self.unlisted.as_slice()
     }
 
     /// The bytes of an inode of an object, cut to its size, as far as the frames have them: zeros are in holes, and for the blocks that are
@@ -141,21 +152,44 @@ fn rows_of(alloc: Global, parts: &ImageParts<'_>) -> Result<Vec<RowPart>, Refusa
     Ok(rows)
 }
 
+/// The blocks by which rows are read, and the objects to which no row leads.
+#[derive(Drop)]
+struct Seen {
+    table: TableBuilder,
+    unlisted: Vec<Unlisted>,
+}
+
+/// The frames that are found in bytes, and the objects to which none of these rows leads. NoMemory alone.
+fn search(alloc: Global, bytes: &[u8], rows: &[RowPart]) -> Result<Seen, Refusal>
+    ensures finds { IfOk result (λ seen. Finds bytes.now seen.table) }
+    ensures unlisted { IfOk result (λ seen. FindsUnlisted (used_at seen.table) rows.now seen.unlisted.items) }
+    ensures refusal { IfErr result (λ e. e ≡ NoMemory) }
+{
+    let FoundFrames { table, generations } = find_frames(alloc, bytes)?;
+    let unlisted = find_unlisted(alloc, &table, generations.as_slice(), rows)?;
+    Ok(Seen { table, unlisted })
+}
+
 /// The table by which an image's rows are read: that of the frames that are whole by their words, where it has no fault. Else words aren't
-/// believed, and it is that of all frames that are found. NoMemory alone.
-fn table_by(
+/// believed, and it is that of all frames that are found; then objects are looked for to which no row leads. NoMemory alone.
+fn seen_by(
     alloc: Global,
     bytes: &[u8],
     whole: TableBuilder,
     fault: Option<Cause>,
-) -> Result<TableBuilder, Refusal>
+    rows: &[RowPart],
+) -> Result<Seen, Refusal>
     requires sees { Sees (image_in bytes.now).frames whole }
-    ensures sees { IfOk result (λ table. SeesBy bytes.now table fault) }
+    ensures sees { IfOk result (λ seen. SeesBy bytes.now seen.table fault) }
+    ensures unlisted { IfOk result (λ seen. FindsUnlistedBy fault (used_at seen.table) rows.now seen.unlisted.items) }
     ensures refusal { IfErr result (λ e. e ≡ NoMemory) }
 {
     match fault {
-        None => Ok(whole),
-        Some(_) => find_frames(alloc, bytes),
+        None => Ok(Seen {
+            table: whole,
+            unlisted: Vec::new(alloc),
+        }),
+        Some(_) => search(alloc, bytes, rows),
     }
 }
 
@@ -175,13 +209,14 @@ fn salvage_parts(
 {
     let rows = rows_of(alloc, parts)?;
     let WholeFrames { table: whole, lost } = whole_frames(alloc, parts)?;
-    let table = table_by(alloc, bytes, whole, fault)?;
+    let Seen { table, unlisted } = seen_by(alloc, bytes, whole, fault, rows.as_slice())?;
     Ok(SalvagedImage {
         fault,
         rows,
         missing: 0,
         table,
         lost,
+        unlisted,
     })
 }
 
@@ -204,15 +239,16 @@ fn rows_missing(bytes: &[u8], cause: Cause, found: usize) -> u64
 }
 
 /// The salvage of bytes that can't be split into parts, for this cause: frames and rows are found by themselves. NoMemory, or Damaged with
-/// the cause where no row is found.
+/// the cause where neither a row is found nor an object without one.
 fn salvage_bytes(alloc: Global, bytes: &[u8], cause: Cause) -> Result<SalvagedImage, Refusal>
     requires split { FirstSplitCause bytes.now (Some cause) }
     ensures salvaged { IfOk result (IsSalvageOf bytes.now) }
-    ensures refusal { IfErr result (λ e. (e ≡ NoMemory) ⊎ ((e ≡ Damaged cause) × HasNoRow bytes.now)) }
+    ensures refusal { IfErr result (λ e. (e ≡ NoMemory) ⊎ ((e ≡ Damaged cause) × HasNothing bytes.now)) }
 {
-    let table = find_frames(alloc, bytes)?;
+    let FoundFrames { table, generations } = find_frames(alloc, bytes)?;
     let rows = find_rows(alloc, &table, bytes)?;
-    if rows.is_empty() {
+    let unlisted = find_unlisted(alloc, &table, generations.as_slice(), rows.as_slice())?;
+    if rows.is_empty() && unlisted.is_empty() {
         return Err(Refusal::Damaged(cause));
     }
     let missing = rows_missing(bytes, cause, rows.len());
@@ -222,6 +258,7 @@ fn salvage_bytes(alloc: Global, bytes: &[u8], cause: Cause) -> Result<SalvagedIm
         missing,
         table,
         lost: Vec::new(alloc),
+        unlisted,
     })
 }
 
@@ -230,12 +267,13 @@ fn salvage_bytes(alloc: Global, bytes: &[u8], cause: Cause) -> Result<SalvagedIm
 /// Where they have none, the blocks are those of the frames, and the rows are the image's. Else the blocks are those of all frames that are
 /// found: a frame's summary has a digest of its own, so that neither header nor words nor length are asked for where it is. The rows are the
 /// image's, where its header is one and the parts fill the bytes, and else all that are found. A row by itself is believed nothing: what it
-/// leads to must name its object and making.
+/// leads to must name its object and making. Then the objects are looked for to which no row leads.
 ///
-/// Damaged where the header is none, or the parts don't fill the bytes, and no row is found either. NoMemory where memory is refused.
+/// Damaged where the header is none, or the parts don't fill the bytes, and neither a row is found nor an object without one. NoMemory where
+/// memory is refused.
 pub fn salvage<R: Threads>(rt: &R, alloc: Global, bytes: &[u8]) -> Result<SalvagedImage, Refusal>
     ensures salvaged { IfOk result (IsSalvageOf bytes.now) }
-    ensures refusal { IfErr result (λ e. (e ≡ NoMemory) ⊎ ((cause : Found) × (e ≡ Damaged cause) × FirstSplitCause bytes.now (Some cause) × HasNoRow bytes.now)) }
+    ensures refusal { IfErr result (λ e. (e ≡ NoMemory) ⊎ ((cause : Found) × (e ≡ Damaged cause) × FirstSplitCause bytes.now (Some cause) × HasNothing bytes.now)) }
 {
     let parts = match split_parts(bytes) {
         Ok(parts) => parts,

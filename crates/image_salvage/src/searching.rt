@@ -1,12 +1,15 @@
 //! Frames that are found in bytes by themselves.
-ghost use Rattle.std.specs.Prelude.{◌≡◌, ℕ, ◌+◌, ◌<◌, ◌≤◌, List, [], length, take, drop, slice_index_or, slice_set, IfOk, IfErr, MatchOption};
+ghost use Rattle.std.specs.Prelude.{◌≡◌, ℕ, ◌+◌, ◌<◌, ◌≤◌, List, [], false, length, replicate, take, drop, slice_index_or, slice_set, IfOk, IfErr, MatchOption};
+ghost use Rattle.s4_types.specs.declared.limits.TheConstants.{MOST_FRAMES};
 ghost use Rattle.s4_types.specs.declared.refusals.Refusal.TheVariants.{NoMemory};
 ghost use Rattle.codec.specs.Summary.{SummaryFields as Summed, SpellsSummary};
 ghost use Rattle.image_parts.specs.Frames.{blocks_of};
 ghost use Rattle.segment_word.specs.Frames.Phase.{Free};
 ghost use Rattle.segment_word.specs.Layout.{frame_at};
 ghost use Rattle.segment_table.specs.Table.{slots_at};
-ghost use Rattle.image_salvage.specs.Searching.{Finds, FindsTo, HasBlocksAt, IsFrameAt, blocks_from};
+ghost use Rattle.segment_table.specs.Used.{used_at};
+ghost use Rattle.image_salvage.specs.Newest.{AreGenerations};
+ghost use Rattle.image_salvage.specs.Searching.{Finds, FindsTo, HasBlocksAt, HasGenerations, IsFrameAt, blocks_from};
 
 use block_log::Block;
 use codec::laws::one_summary_a_spelling;
@@ -78,6 +81,7 @@ fn set_found(table: &mut TableBuilder, number: u16, found: &FoundFrame<'_>)
     ensures frame { (bytes : List ℕ) (place : ℕ) → found.now.blocks.now ≡ blocks_from bytes place → IsFrameAt bytes place found.now.summary → HasBlocksAt bytes place number (frame_at table.new.seat.frames number) (slots_at table.new.slots number) }
     ensures frames { table.new.seat.frames ≡ slice_set table.old.seat.frames number (frame_at table.new.seat.frames number) }
     ensures slots { table.new.slots ≡ slice_set table.old.slots number (slots_at table.new.slots number) }
+    ensures generation { (frame_at table.new.seat.frames number).generation ≡ found.now.summary.generation }
 {
     table.set_used(number, FrameState::Sealed, &found.summary, found.blocks);
 }
@@ -88,12 +92,15 @@ fn set_found(table: &mut TableBuilder, number: u16, found: &FoundFrame<'_>)
 fn look_at(
     table: &mut TableBuilder,
     seen: &mut Vec<bool>,
+    generations: &mut Vec<u32>,
     bytes: &[u8],
     place: usize,
     next: usize,
 ) -> usize
     requires finds { FindsTo bytes.now place next table.old seen.old.items }
+    requires generations { HasGenerations table.old generations.old.items }
     ensures finds { FindsTo bytes.now (place + 1) result table.new seen.new.items }
+    ensures generations { HasGenerations table.new generations.new.items }
 {
     one_summary_a_spelling();
     if place < next {
@@ -108,23 +115,50 @@ fn look_at(
     }
     set_found(table, number, &found);
     seen[number as usize] = true;
+    generations[number as usize] = found.summary.generation();
     place + FRAME_BYTES
+}
+
+/// The frames that are found in bytes.
+#[derive(Drop)]
+pub(crate) struct FoundFrames {
+    /// All others are free in it.
+    pub(crate) table: TableBuilder,
+    /// Of each frame that is found that at which it has used blocks, 0 of the others.
+    pub(crate) generations: Vec<u32>,
+}
+
+/// No frame was seen yet. NoMemory alone.
+fn none_seen(alloc: Global) -> Result<Vec<bool>, Refusal>
+    ensures items { IfOk result (λ seen. seen.items ≡ replicate MOST_FRAMES false) }
+    ensures refusal { IfErr result (λ e. e ≡ NoMemory) }
+{
+    Ok(vec![in alloc; false; MOST_FRAMES]?)
+}
+
+/// The generations of frames of which none was found yet. NoMemory alone.
+fn none_at_first(alloc: Global) -> Result<Vec<u32>, Refusal>
+    ensures items { IfOk result (λ generations. generations.items ≡ replicate MOST_FRAMES 0) }
+    ensures refusal { IfErr result (λ e. e ≡ NoMemory) }
+{
+    Ok(vec![in alloc; 0; MOST_FRAMES]?)
 }
 
 /// The table of all frames that are found in bytes: at whatever place one begins, whose first block is the summary, with the right digest,
 /// of the others. Of several of one number it has the first. All others are free.
 ///
 /// NoMemory alone, where memory for the table is refused. Linear in the bytes: the bytes of a frame aren't searched again.
-#[tactic(auto, using(crate::proofs::Finding::none_found))]
-pub(crate) fn find_frames(alloc: Global, bytes: &[u8]) -> Result<TableBuilder, Refusal>
-    ensures finds { IfOk result (Finds bytes.now) }
+pub(crate) fn find_frames(alloc: Global, bytes: &[u8]) -> Result<FoundFrames, Refusal>
+    ensures finds { IfOk result (λ found. Finds bytes.now found.table) }
+    ensures generations { IfOk result (λ found. AreGenerations (used_at found.table) found.generations.items) }
     ensures refusal { IfErr result (λ e. e ≡ NoMemory) }
 {
     let mut table = TableBuilder::new(alloc, MOST_FRAMES)?;
-    let mut seen = vec![in alloc; false; MOST_FRAMES]?;
+    let mut seen = none_seen(alloc)?;
+    let mut generations = none_at_first(alloc)?;
     let mut next = 0;
     for place in 0..bytes.len() {
-        next = look_at(&mut table, &mut seen, bytes, place, next);
+        next = look_at(&mut table, &mut seen, &mut generations, bytes, place, next);
     }
-    Ok(table)
+    Ok(FoundFrames { table, generations })
 }

@@ -16,11 +16,19 @@ use Rattle.s4_images.specs.declared.commands.Verdict.TheVariants.{Fine, Differs}
 abbrev pub damage_count : GivenOut → ℕ
 damage_count g = if g.damaged then 1 else 0
 
+-- the counts of what is lost or uncertain, each after its name
+abbrev pub lost_text : GivenOut → ℕ → List ℕ
+lost_text g damaged =
+    codes "lost_objects " ++ (decimal g.lost_objects ++ (codes "\nlost_frames " ++ (decimal g.lost_frames
+    ++ (codes "\nunlisted " ++ (decimal g.unlisted ++ (codes "\ndamaged " ++ (decimal damaged ++ codes "\n")))))))
+
+-- the counts of what was written, each after its name
+abbrev pub written_text : GivenOut → List ℕ
+written_text g = codes "objects " ++ (decimal g.objects ++ (codes "\nblocks_gone " ++ (decimal g.blocks_gone ++ codes "\n")))
+
 -- the counts, each after its name
 abbrev pub counts_text : GivenOut → ℕ → List ℕ
-counts_text g damaged =
-    codes "objects " ++ (decimal g.objects ++ (codes "\nblocks_gone " ++ (decimal g.blocks_gone ++ (codes "\nlost_objects " ++ (decimal g.lost_objects
-    ++ (codes "\nlost_frames " ++ (decimal g.lost_frames ++ (codes "\ndamaged " ++ (decimal damaged ++ codes "\n")))))))))
+counts_text g damaged = written_text g ++ lost_text g damaged
 
 -- what is printed
 abbrev pub given_text : GivenOut → List ℕ

@@ -1,7 +1,7 @@
 //! `salvage`: what a damaged image still has of its objects, as files in a folder.
 ghost use Rattle.std.specs.Prelude.{◌≡◌, ◌+◌, ◌^◌, ◌<◌, IfOk, OnOk, string_bytes};
 ghost use Rattle.std.specs.Io.KnownBytes.{Appends};
-ghost use Rattle.s4_folders.specs.Salvaging.{SalvagesFile, SalvagesInto, counts_text, damage_count, given_text, given_words, verdict_of};
+ghost use Rattle.s4_folders.specs.Salvaging.{SalvagesFile, SalvagesInto, counts_text, damage_count, lost_text, given_text, given_words, verdict_of, written_text};
 
 use crate::exporting::Folders;
 use history_export::Folder;
@@ -105,15 +105,32 @@ fn damage_count(given: &GivenOut) -> u64
     if given.damaged { 1 } else { 0 }
 }
 
+// The counts of what is lost or uncertain, with the one that says whether the bytes are no image.
+fn lost_text(alloc: Global, given: &GivenOut, damaged: u64) -> Result<String, AllocError>
+    ensures { IfOk result (λ text. string_bytes text ≡ lost_text given.now damaged) }
+{
+    let (lost, frames, unlisted) = (given.lost_objects, given.lost_frames, given.unlisted);
+    format!(in alloc;
+        "lost_objects {lost}\nlost_frames {frames}\nunlisted {unlisted}\ndamaged {damaged}\n"
+    )
+}
+
+// The counts of what was written.
+fn written_text(alloc: Global, given: &GivenOut) -> Result<String, AllocError>
+    ensures { IfOk result (λ text. string_bytes text ≡ written_text given.now) }
+{
+    let (objects, gone) = (given.objects, given.blocks_gone);
+    format!(in alloc; "objects {objects}\nblocks_gone {gone}\n")
+}
+
 // The counts, with the one that says whether the bytes are no image.
 fn counts_text(alloc: Global, given: &GivenOut, damaged: u64) -> Result<String, AllocError>
     ensures { IfOk result (λ text. string_bytes text ≡ counts_text given.now damaged) }
 {
-    let (objects, gone) = (given.objects, given.blocks_gone);
-    let (lost, frames) = (given.lost_objects, given.lost_frames);
-    format!(in alloc;
-        "objects {objects}\nblocks_gone {gone}\nlost_objects {lost}\nlost_frames {frames}\ndamaged {damaged}\n"
-    )
+    let mut text = written_text(alloc, given)?;
+    let lost = lost_text(alloc, given, damaged)?;
+    text.push_str(&lost)?;
+    Ok(text)
 }
 
 fn given_text(alloc: Global, given: &GivenOut) -> Result<String, AllocError>

@@ -1,4 +1,7 @@
-use Rattle.std.proofs.Common.{inr, rules}
+use Rattle.std.proofs.Common.{inr, List, subst, rules}
+use Rattle.image_parts.specs.declared.rows.RowPart.{RowPart}
+use Rattle.segment_table.specs.Used.{used_at}
+use Rattle.image_salvage.specs.Unlisted.{FindsUnlisted}
 use Rattle.image_salvage.proofs.Whole.{split_fault}
 use Rattle.image_salvage.proofs.salvaging.salvage_bytes.Goals as goal
 
@@ -6,5 +9,6 @@ pub returns-clause-salvaged : goal.returns-clause-salvaged
 returns-clause-salvaged c = record {
   has = split_fault c.args.bytes.now c.args.cause c.requires.split;
   sees = c.in_ok-table.ensures.finds;
+  unlisted_are = subst (λ (l : List RowPart). FindsUnlisted (used_at c.in_ok-table.field-0.table) l c.in_ok-unlisted.unlisted.items) c.as_slice-2.ensures.value c.in_ok-unlisted.ensures.finds;
   of = inr (record { cause = c.args.cause; split = c.requires.split; rows_are = c.in_ok-rows.ensures.rows; missing_are = search rules; lost_are = c.new.ensures.items });
 }

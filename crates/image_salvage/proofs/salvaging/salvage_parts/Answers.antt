@@ -1,4 +1,7 @@
-use Rattle.std.proofs.Common.{◌∙◌, inl, refl, length, ap, subst}
+use Rattle.std.proofs.Common.{◌∙◌, List, inl, refl, length, ap, subst}
+use Rattle.image_parts.specs.declared.rows.RowPart.{RowPart}
+use Rattle.segment_table.specs.Used.{used_at}
+use Rattle.image_salvage.specs.Unlisted.{FindsUnlistedBy}
 use Rattle.image_parts.specs.Image.{Image}
 use Rattle.image_salvage.specs.Frames.{AreLostOf}
 use Rattle.image_salvage.proofs.salvaging.salvage_parts.Goals as goal
@@ -7,6 +10,7 @@ pub returns-clause-salvaged : goal.returns-clause-salvaged
 returns-clause-salvaged c = record {
   has = c.requires.has;
   sees = c.in_ok-table.ensures.sees;
+  unlisted_are = subst (λ (l : List RowPart). FindsUnlistedBy c.args.fault (used_at c.in_ok-table.field-0.table) l c.in_ok-table.field-0.unlisted.items) c.as_slice.ensures.value c.in_ok-table.ensures.unlisted;
   of = inl (record {
     split = c.requires.split;
     rows_are = c.in_ok-rows.ensures.rows ∙ ap (λ (p : Image). p.rows) c.requires.parts;

@@ -1,6 +1,7 @@
 use Rattle.std.proofs.Common.{◌≡◌, true, false, get_or, refl, sym, ◌∙◌, arith}
 use Rattle.std.proofs.lemmas.List.{get_or_read}
 use Rattle.image_salvage.proofs.Finding.{goes_on_again, goes_on_first}
+use Rattle.image_salvage.proofs.Generations.{generations_more}
 use Rattle.image_salvage.proofs.searching.look_at.Goals as goal
 
 pub returns-then-index : goal.returns-then-index
@@ -9,6 +10,7 @@ returns-then-index c =
     record {
       finds = goes_on_again c.one_summary_a_spelling.ensures c.args.bytes.now c.args.place c.args.next c.frame-number.result c.args.table.now c.args.seen.now.items c.in-Some.found.summary c.requires.finds (omega arith)
           c.in-Some.ensures.0 (sym c.frame-number.ensures) again;
+      generations = c.requires.generations;
     }
 
 pub returns : goal.returns
@@ -18,4 +20,6 @@ returns c =
       finds = goes_on_first c.one_summary_a_spelling.ensures c.args.bytes.now c.args.place c.args.next c.frame-number.result c.args.table.now c.set_found.new.table c.args.seen.now.items _ c.in-Some.found.summary c.requires.finds
           (omega arith) c.in-Some.ensures.0 (sym c.frame-number.ensures) new refl (c.set_found.ensures.frame c.args.bytes.now c.args.place c.in-Some.ensures.1 c.in-Some.ensures.0) c.set_found.ensures.frames
           c.set_found.ensures.slots;
+      generations = generations_more c.args.table.now c.set_found.new.table c.args.generations.now.items _ c.frame-number.result c.generation.result c.requires.generations
+          (omega (arith, c.in-Some.ensures.0.number, c.frame-number.ensures, c.requires.finds.frame_count)) c.set_found.ensures.frames (c.set_found.ensures.generation ∙ sym c.generation.ensures.generation) refl;
     }

@@ -1,0 +1,199 @@
+-- Objects that no row leads to, one by one.
+use Rattle.std.proofs.Common.{◌≡◌, ◌⊎◌, inl, inr, ℕ, ◌<◌, ◌≤◌, ◌++◌, if◌then◌else◌, Bool, true, false, List, [], ◌∷◌, Option, Some, None, refl, sym, ap, subst, ◌∙◌, arith}
+use Rattle.std.specs.List.{Contains}
+use Rattle.std.proofs.lemmas.Bool.{cases_eq, cases_lt, eq-eqb, ne_eqb, both_ways}
+use Rattle.std.proofs.lemmas.List.Elements.{Contains-push, Contains-push_cases, Contains-append_left}
+use Rattle.s4_types.specs.Pointer.{Place}
+use Rattle.block_log.specs.Log.{Stored}
+use Rattle.codec.specs.declared.inodes.Inode.{Inode}
+use Rattle.object_map.specs.Objects.{IsNextAbove, value_of, without_value}
+use Rattle.image_parts.specs.declared.rows.RowPart.{RowPart}
+use Rattle.image_salvage.specs.declared.newest.Note.{Note}
+use Rattle.image_salvage.specs.declared.unlisted.Unlisted.{Unlisted}
+use Rattle.image_salvage.specs.Rows.{IsThere, IsLost}
+use Rattle.image_salvage.specs.Newest.{AreNewest}
+use Rattle.image_salvage.specs.Heads.{LeadsOn, MakesByCheckpoint, MakesHead}
+use Rattle.image_salvage.specs.Unlisted.{unlisted_inode, IsFound, IsListed, ObjectsAscend, FindsUnlisted}
+use Rattle.image_salvage.specs.private.Passing.{IsLeft, AreLeft, AddsFound, AreFoundAll}
+
+-- ---- rows
+
+pub none_left_out : (used : Place → Option Stored) (heads : ℕ → Option Note) → AreLeft used [] heads heads
+none_left_out used heads o = inr ((λ listed. (let has : Contains [] listed.0 = listed.1 in absurd (let h : has.0 < 0 = has.1 in omega (arith, h)))), refl)
+
+listed_more : (used : Place → Option Stored) (rows : List RowPart) (part : RowPart) (o : ℕ) → IsListed used rows o → IsListed used (rows ++ part ∷ []) o
+listed_more used rows part o listed = (listed.0, Contains-append_left rows (part ∷ []) listed.0 listed.1, listed.2, listed.3)
+
+-- an object of rows and one more is of the rows, or of that one
+listed_by : (used : Place → Option Stored) (rows : List RowPart) (part : RowPart) (o : ℕ) → (IsListed used rows o → ⊥) → ((part.object ≡ o) → IsThere used part → ⊥) → IsListed used (rows ++ part ∷ []) o → ⊥
+listed_by used rows part o none other listed = elim (Contains-push_cases rows part listed.0 listed.1) [
+  | inl before ↦ none (listed.0, before, listed.2, listed.3)
+  | inr at ↦ other (ap (λ (p : RowPart). p.object) at ∙ listed.2) (subst (IsThere used) (sym at) listed.3)
+]
+
+lost_not_there : (used : Place → Option Stored) (part : RowPart) → IsLost used part → IsThere used part → ⊥
+lost_not_there used part lost there = (let is = there.1 in lost is.row is.spelled is.stands)
+
+without_same : (heads : ℕ → Option Note) (object o : ℕ) → object ≡ o → without_value heads object o ≡ None
+without_same heads object o is = ap (λ (b : Bool). if b then None else heads o) (eq-eqb object o is)
+
+without_other : (heads : ℕ → Option Note) (object o : ℕ) → (object ≡ o → ⊥) → without_value heads object o ≡ heads o
+without_other heads object o ne = ap (λ (b : Bool). if b then None else heads o) (ne_eqb object o ne)
+
+left_one : (used : Place → Option Stored) (rows : List RowPart) (part : RowPart) (heads left later : ℕ → Option Note) (o : ℕ) → (IsListed used rows o × (left o ≡ None)) ⊎ ((IsListed used rows o → ⊥) × (left o ≡ heads o)) → IsLeft used part left later
+    → (IsListed used (rows ++ part ∷ []) o × (later o ≡ None)) ⊎ ((IsListed used (rows ++ part ∷ []) o → ⊥) × (later o ≡ heads o))
+left_one used rows part heads left later o (inl before) (inl there) = elim (cases_eq part.object o) [
+  | inl at ↦ inl (listed_more used rows part o before.0, there.1 o ∙ without_same left part.object o at)
+  | inr ne ↦ inl (listed_more used rows part o before.0, there.1 o ∙ without_other left part.object o ne ∙ before.1)
+]
+left_one used rows part heads left later o (inl before) (inr lost) = inl (listed_more used rows part o before.0, lost.1 o ∙ before.1)
+left_one used rows part heads left later o (inr before) (inl there) = elim (cases_eq part.object o) [
+  | inl at ↦ inl ((part, Contains-push rows part, at, there.0), there.1 o ∙ without_same left part.object o at)
+  | inr ne ↦ inr (listed_by used rows part o before.0 (λ is row. ne is), there.1 o ∙ without_other left part.object o ne ∙ before.1)
+]
+left_one used rows part heads left later o (inr before) (inr lost) =
+    inr (listed_by used rows part o before.0 (λ is row. lost_not_there used part lost.0 row), lost.1 o ∙ before.1)
+
+-- one row more
+pub left_more : (used : Place → Option Stored) (rows more : List RowPart) (part : RowPart) (heads left later : ℕ → Option Note) → more ≡ rows ++ part ∷ [] → AreLeft used rows heads left → IsLeft used part left later → AreLeft used more heads later
+left_more used rows more part heads left later is before here o =
+    subst (λ (l : List RowPart). (IsListed used l o × (later o ≡ None)) ⊎ ((IsListed used l o → ⊥) × (later o ≡ heads o))) (sym is) (left_one used rows part heads left later o (before o) here)
+
+-- ---- objects, one by one
+
+-- objects ascend strictly, from above one number up to another
+abbrev pub AscendTo : ℕ → ℕ → List Unlisted → Type 0
+AscendTo low last [] = low ≤ last
+AscendTo low last (u ∷ found) = (low < u.object) × AscendTo u.object last found
+
+ascend_on : (low last next : ℕ) (found : List Unlisted) → last ≤ next → AscendTo low last found → AscendTo low next found
+ascend_on low last next [] later is = omega (arith, later, is)
+ascend_on low last next (u ∷ found) later is = (is.0, ascend_on u.object last next found later is.1)
+
+ascend_push : (low last : ℕ) (found : List Unlisted) (u : Unlisted) → last < u.object → AscendTo low last found → AscendTo low u.object (found ++ u ∷ [])
+ascend_push low last [] u above is = (omega (arith, above, is), omega arith)
+ascend_push low last (v ∷ found) u above is = (is.0, ascend_push v.object last found u above is.1)
+
+ascend_all : (low last : ℕ) (found : List Unlisted) → AscendTo low last found → ObjectsAscend low found
+ascend_all low last [] is = tt
+ascend_all low last (u ∷ found) is = (is.0, ascend_all u.object last found is.1)
+
+-- those up to a number were found
+pub record FoundTo (used : Place → Option Stored) (heads : ℕ → Option Note) (last : ℕ) (found : List Unlisted) : Type 0 where
+  pub only : (u : Unlisted) → Contains found u → (u.object ≤ last) × IsFound used heads u.object u.inode
+  pub each : (o : ℕ) (inode : Inode) → o ≤ last → IsFound used heads o inode → Contains found (record { object = o; inode = inode })
+  pub ascend : AscendTo 0 last found
+
+pub none_found_yet : (used : Place → Option Stored) (heads : ℕ → Option Note) (found : List Unlisted) → found ≡ [] → FoundTo used heads 0 found
+none_found_yet used heads found none = subst (FoundTo used heads 0) (sym none) (record {
+  only = λ u has. absurd (let h : has.0 < 0 = has.1 in omega (arith, h));
+  each = λ o inode low is. absurd (let h : 0 < o = is.numbered in omega (arith, low, h));
+  ascend = omega arith;
+})
+
+some_none : {A P : Type 0} (x : A) (found : Option A) → found ≡ Some x → found ≡ None → P
+some_none x found is none = absurd (let clash : ◌≡◌ {A = Option _} (Some x) None = sym is ∙ none in cc)
+
+one_of : {A : Type 0} (x y : A) (found : Option A) → found ≡ Some x → found ≡ Some y → y ≡ x
+one_of x y found is other = (let same : ◌≡◌ {A = Option _} (Some y) (Some x) = sym other ∙ is in cc)
+
+-- what is found of an object is one
+one_found : (used : Place → Option Stored) (heads : ℕ → Option Note) (o : ℕ) (inode other : Inode) → IsFound used heads o inode → IsFound used heads o other → other ≡ inode
+one_found used heads o inode other a b = b.inode_is ∙ ap (λ (n : Note). unlisted_inode used n.row) (one_of a.head b.head (heads o) a.is b.is) ∙ sym a.inode_is
+
+-- between the last number and the next one nothing is
+found_low : (entries : List (ℕ × Note)) (last next o : ℕ) (used : Place → Option Stored) (inode : Inode) → IsNextAbove entries last next → o ≤ next → IsFound used (value_of entries) o inode → (o ≤ last) ⊎ (o ≡ next)
+found_low entries last next o used inode is low found = elim (cases_eq o next) [
+  | inl at ↦ inr at
+  | inr ne ↦ (elim (cases_lt last o) [
+    | inl above ↦ some_none found.head (value_of entries o) found.is (is.least o above (omega (arith, low, ne)))
+    | inr past ↦ inl past
+  ])
+]
+
+pub found_next : (used : Place → Option Stored) (entries : List (ℕ × Note)) (last next : ℕ) (found later : List Unlisted) → FoundTo used (value_of entries) last found → IsNextAbove entries last next → AddsFound used (value_of entries) next found later
+    → FoundTo used (value_of entries) next later
+found_next used entries last next found later to is (inl adds) =
+    let u : Unlisted = record { object = next; inode = adds.0 } in
+    let above : last < next = is.above in
+    subst (FoundTo used (value_of entries) next) (sym adds.2) (record {
+      only = λ v has. elim (Contains-push_cases found u v has) [
+        | inl before ↦ (let was = to.only v before in (omega (arith, was.0, above), was.1))
+        | inr at ↦ subst (λ (w : Unlisted). (w.object ≤ next) × IsFound used (value_of entries) w.object w.inode) at (omega arith, adds.1)
+      ];
+      each = λ o inode low here. elim (found_low entries last next o used inode is low here) [
+        | inl past ↦ Contains-append_left found (u ∷ []) (record { object = o; inode = inode }) (to.each o inode past here)
+        | inr at ↦ (let same : inode ≡ adds.0 = one_found used (value_of entries) next adds.0 inode adds.1 (subst (λ (n : ℕ). IsFound used (value_of entries) n inode) at here) in
+            subst (Contains (found ++ u ∷ [])) (ap (λ (n : ℕ). record { object = n; inode = adds.0 }) (sym at) ∙ ap (λ (i : Inode). record { object = o; inode = i }) (sym same)) (Contains-push found u))
+      ];
+      ascend = ascend_push 0 last found u above to.ascend;
+    })
+found_next used entries last next found later to is (inr none) =
+    let above : last < next = is.above in
+    subst (FoundTo used (value_of entries) next) (sym none.1) (record {
+      only = λ v has. (let was = to.only v has in (omega (arith, was.0, above), was.1));
+      each = λ o inode low here. elim (found_low entries last next o used inode is low here) [
+        | inl past ↦ to.each o inode past here
+        | inr at ↦ absurd (none.0 inode (subst (λ (n : ℕ). IsFound used (value_of entries) n inode) at here))
+      ];
+      ascend = ascend_on 0 last next found (omega (arith, above)) to.ascend;
+    })
+
+-- none is above the last number
+pub found_all : (used : Place → Option Stored) (heads : ℕ → Option Note) (last : ℕ) (found : List Unlisted) → FoundTo used heads last found → ((o : ℕ) → last < o → heads o ≡ None) → AreFoundAll used heads found
+found_all used heads last found to none = record {
+  all = λ o inode. (
+    (λ has. (to.only (record { object = o; inode = inode }) has).1),
+    (λ is. elim (cases_lt last o) [
+      | inl above ↦ some_none is.head (heads o) is.is (none o above)
+      | inr low ↦ to.each o inode low is
+    ]),
+  );
+  ascend = ascend_all 0 last found to.ascend;
+}
+
+-- ---- one object
+
+pub nothing_there : (used : Place → Option Stored) (heads : ℕ → Option Note) (o : ℕ) (found : List Unlisted) → heads o ≡ None → AddsFound used heads o found found
+nothing_there used heads o found none = inr ((λ inode is. some_none is.head (heads o) is.is none), refl)
+
+pub leads_nowhere : (used : Place → Option Stored) (heads : ℕ → Option Note) (o : ℕ) (head : Note) (found : List Unlisted) → heads o ≡ Some head → (LeadsOn used head.row → ⊥) → AddsFound used heads o found found
+leads_nowhere used heads o head found has nowhere = inr ((λ inode is. nowhere (subst (λ (n : Note). LeadsOn used n.row) (one_of head is.head (heads o) has is.is) is.leads)), refl)
+
+pub is_deleted : (used : Place → Option Stored) (heads : ℕ → Option Note) (o : ℕ) (head : Note) (inode : Inode) (found : List Unlisted) → heads o ≡ Some head → inode ≡ unlisted_inode used head.row → inode.alive ≡ false → AddsFound used heads o found found
+is_deleted used heads o head inode found has same dead = inr (
+  (λ other is.
+      both_ways inode.alive dead
+      (ap (λ (i : Inode). i.alive) (same ∙ ap (λ (n : Note). unlisted_inode used n.row) (sym (one_of head is.head (heads o) has is.is)) ∙ sym is.inode_is) ∙ is.live)),
+  refl,
+)
+
+pub is_added : (used : Place → Option Stored) (heads : ℕ → Option Note) (o : ℕ) (head : Note) (inode : Inode) (found later : List Unlisted) → 0 < o → heads o ≡ Some head → LeadsOn used head.row → inode ≡ unlisted_inode used head.row → inode.alive ≡ true
+    → later ≡ found ++ record { object = o; inode = inode } ∷ [] → AddsFound used heads o found later
+is_added used heads o head inode found later above has leads same live more =
+    inl (inode, record { numbered = above; head = head; is = has; leads = leads; inode_is = same; live = live }, more)
+
+-- ---- all of an image
+
+found_left : (used : Place → Option Stored) (heads left : ℕ → Option Note) (o : ℕ) (inode : Inode) → left o ≡ heads o → IsFound used heads o inode → IsFound used left o inode
+found_left used heads left o inode same is = record { numbered = is.numbered; head = is.head; is = same ∙ is.is; leads = is.leads; inode_is = is.inode_is; live = is.live }
+
+pub finds_unlisted : (used : Place → Option Stored) (rows : List RowPart) (checkpoints heads left : ℕ → Option Note) (found : List Unlisted) → AreNewest (MakesByCheckpoint used) 16384 checkpoints → AreNewest (MakesHead used checkpoints) 16384 heads
+    → AreLeft used rows heads left → AreFoundAll used left found → FindsUnlisted used rows found
+finds_unlisted used rows checkpoints heads left found newest latest out are = record {
+  checkpoints = checkpoints;
+  newest_checkpoints = newest;
+  heads = heads;
+  newest_heads = latest;
+  all = λ o inode. (
+    (λ has. (let is = (are.all o inode).0 has in elim (out o) [
+      | inl listed ↦ some_none is.head (left o) is.is listed.1
+      | inr unlisted ↦ (unlisted.0, found_left used left heads o inode (sym unlisted.1) is)
+    ])),
+    (λ is. (are.all o inode).1 (elim (out o) [
+      | inl listed ↦ absurd (is.0 listed.0)
+      | inr unlisted ↦ found_left used heads left o inode unlisted.1 is.1
+    ])),
+  );
+  ascend = are.ascend;
+}
