@@ -13,7 +13,7 @@ _s4_read() {
             option=''
         elif [[ ! $is_ended && $word == -- ]]; then
             is_ended=1
-        elif [[ ! $is_ended && $word == --@(at|object|name|since|until|kind|limit) ]]; then
+        elif [[ ! $is_ended && $word == --@(at|object|name|map|since|until|kind|limit) ]]; then
             option=$word
         elif [[ ! $is_ended && $word == -* ]]; then
             continue
@@ -36,7 +36,7 @@ _s4_options() {
         info) echo --moments --json ;;
         diff) echo --object --name --patch --text --moments --json ;;
         export) echo --at ;;
-        restore) echo --at --object --name --dry-run --flush --skip --keep-newer --json ;;
+        restore) echo --at --object --name --map --dry-run --flush --skip --keep-newer --json ;;
         check | compact | salvage) echo --json ;;
         report) echo --since ;;
     esac
@@ -59,6 +59,8 @@ _s4() {
     _s4_read
     if [[ $option == --kind ]]; then
         _s4_words 'made deleted written cut lengthened attribute touched'
+    elif [[ $option == --map ]]; then
+        _s4_files -f
     elif [[ $option ]]; then
         return
     elif [[ $command == help ]]; then

@@ -1,5 +1,5 @@
--- All objects of a drive were restored.
-use Rattle.std.proofs.Common.{◌≡◌, ◌≢◌, ◌∙◌, ℕ, List, inl, inr, sym, ap, subst, arith}
+-- Objects that have no row.
+use Rattle.std.proofs.Common.{◌≡◌, ◌≢◌, ◌∙◌, ℕ, List, inl, inr, ap, arith}
 use Rattle.std.specs.List.{AllByRecursion}
 use Rattle.std.proofs.lemmas.Bool.{cases_eq}
 use Rattle.s4_types.specs.declared.versions.Version.TheVariants.{Absent}
@@ -10,12 +10,9 @@ use Rattle.s4_model.specs.Refusals.{present}
 use Rattle.s4_model.specs.Sound.{IsSound}
 use Rattle.version_store.specs.Store.{StoreFields}
 use Rattle.drive.specs.Keeping.{DecodesWhereVisible}
-use Rattle.drive.specs.Opened.{NoneFrom}
-use Rattle.history_restore.specs.declared.restoring.Restored.{Restored}
-use Rattle.history_restore.specs.Whole.{AreRowsFrom, AscendBelow, RestoresEach, RestoresAll, LeavesRest}
+use Rattle.history_restore.specs.Rows.{AreRowsFrom}
 use Rattle.history_restore.proofs.Readable.{clock_is_visible}
-use Rattle.history_restore.proofs.Rows.{rows_ascend, no_row, rowless_is_absent}
-use Rattle.history_restore.proofs.Each.{map_all}
+use Rattle.history_restore.proofs.Rows.{no_row, rowless_is_absent}
 
 -- an object that has no row isn't there at any moment that can be read; nor is number 0
 absent_where_rowless : (store : StoreFields) (s : State) (objects : List ℕ) (q t : ℕ) → DecodesWhereVisible store s → IsSound s → AreRowsFrom store 0 objects → AllByRecursion (λ (o : ℕ). q ≢ o) objects → IsVisible s q t → version_of s q t ≡ Absent
@@ -31,15 +28,3 @@ pub absent_now_and_then : (s later : State) (store : StoreFields) (rows : List �
 absent_now_and_then s later store rows q at decodes sound are apart left =
     let now : present s q ≡ Absent = absent_where_rowless store s rows q s.clock decodes sound are apart (clock_is_visible s q sound) in
     (left ∙ now, now, λ visible. absent_where_rowless store s rows q at decodes sound are apart visible)
-
-pub restores_all : (s later : State) (store : StoreFields) (at : ℕ) (objects : List ℕ) (all : List Restored) → DecodesWhereVisible store s → IsSound s → NoneFrom s.next store → AreRowsFrom store 0 objects
-    → RestoresEach s later at objects all → LeavesRest s later objects → RestoresAll s later at all
-restores_all s later store at objects all decodes sound unborn rows each rest =
-    record {
-      each = each.each;
-      ascend = subst (AscendBelow 0 s.next) (sym each.objects_are) (rows_ascend store s.next 0 objects unborn rows);
-      numbered = each.numbered;
-      rest = λ q lt apart.
-          let others : AllByRecursion (λ (o : ℕ). q ≢ o) objects = subst (AllByRecursion (λ (o : ℕ). q ≢ o)) each.objects_are (map_all (λ (o : ℕ). q ≢ o) (λ (r : Restored). r.object) all apart) in
-          absent_now_and_then s later store objects q at decodes sound rows others (rest q lt others);
-    }

@@ -13,9 +13,10 @@ pub mod Denying
 pub mod There
 pub mod AllBack
 pub mod Asked
-pub mod Chosen
 pub mod Storing
 pub mod Planned
 pub mod Counted
 pub mod Windows
 pub mod AllPlanned
+pub mod Aimed
+pub mod Again

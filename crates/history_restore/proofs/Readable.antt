@@ -34,23 +34,23 @@ clock_is_free s o sound =
     ∙ cond-false (is_hidden s o s.clock) (Some Flushed) None (none_hide o s.clock (spans_of s) sound.past)
 
 -- so what isn't read of the present isn't for its moment
-unread_now : (s middle : State) (o at : ℕ) (e : Refusal) → middle ≡ s → IsSound s → (moment_refusal middle o s.clock ≡ Some e) ⊎ ((e ≡ NoMemory) ⊎ (e ≡ Busy)) → IsUnread s o at e
-unread_now s middle o at e same sound (inl is) = absurd (none-some e (sym (clock_is_free s o sound) ∙ ap (λ (k : State). moment_refusal k o s.clock) (sym same) ∙ is))
-unread_now s middle o at e same sound (inr other) = inr other
+unread_now : (s middle : State) (o n at : ℕ) (e : Refusal) → middle ≡ s → IsSound s → (moment_refusal middle n s.clock ≡ Some e) ⊎ ((e ≡ NoMemory) ⊎ (e ≡ Busy)) → IsUnread s o at e
+unread_now s middle o n at e same sound (inl is) = absurd (none-some e (sym (clock_is_free s n sound) ∙ ap (λ (k : State). moment_refusal k n s.clock) (sym same) ∙ is))
+unread_now s middle o n at e same sound (inr other) = inr other
 
-pub unread_at : (s middle : State) (o at clock : ℕ) (e : Refusal) → clock ≡ s.clock → middle ≡ s → IsSound s → (moment_refusal middle o clock ≡ Some e) ⊎ ((e ≡ NoMemory) ⊎ (e ≡ Busy)) → IsUnread s o at e
-unread_at s middle o at clock e is same sound unread =
-    unread_now s middle o at e same sound (subst (λ (t : ℕ). (moment_refusal middle o t ≡ Some e) ⊎ ((e ≡ NoMemory) ⊎ (e ≡ Busy))) is unread)
+pub unread_at : (s middle : State) (o n at clock : ℕ) (e : Refusal) → clock ≡ s.clock → middle ≡ s → IsSound s → (moment_refusal middle n clock ≡ Some e) ⊎ ((e ≡ NoMemory) ⊎ (e ≡ Busy)) → IsUnread s o at e
+unread_at s middle o n at clock e is same sound unread =
+    unread_now s middle o n at e same sound (subst (λ (t : ℕ). (moment_refusal middle n t ≡ Some e) ⊎ ((e ≡ NoMemory) ⊎ (e ≡ Busy))) is unread)
 
 -- a moment is refused for three reasons
-flush_of_tests : (a b c : Bool) (o at : ℕ) (v : Version) (e : Refusal) → cond a (Some Future) (cond b (Some Expired) (cond c (Some Flushed) None)) ≡ Some e → flush_for o at v e ≡ None
-flush_of_tests true b c o at v e is = let same : e ≡ Future = cc in ap (flush_for o at v) same
-flush_of_tests false true c o at v e is = let same : e ≡ Expired = cc in ap (flush_for o at v) same
-flush_of_tests false false true o at v e is = let same : e ≡ Flushed = cc in ap (flush_for o at v) same
-flush_of_tests false false false o at v e is = absurd (none-some e is)
+flush_of_tests : (a b c : Bool) (n at : ℕ) (v : Version) (e : Refusal) → cond a (Some Future) (cond b (Some Expired) (cond c (Some Flushed) None)) ≡ Some e → flush_for n at v e ≡ None
+flush_of_tests true b c n at v e is = let same : e ≡ Future = cc in ap (flush_for n at v) same
+flush_of_tests false true c n at v e is = let same : e ≡ Expired = cc in ap (flush_for n at v) same
+flush_of_tests false false true n at v e is = let same : e ≡ Flushed = cc in ap (flush_for n at v) same
+flush_of_tests false false false n at v e is = absurd (none-some e is)
 
 -- none of what isn't read is for a full journal
-pub unread_has_no_flush : (s : State) (o at : ℕ) (v : Version) (e : Refusal) → IsUnread s o at e → flush_for o at v e ≡ None
-unread_has_no_flush s o at v e (inl is) = flush_of_tests (nat_lt s.clock at) (nat_lt at s.floor) (is_hidden s o at) o at v e is
-unread_has_no_flush s o at v e (inr (inl is)) = ap (flush_for o at v) is
-unread_has_no_flush s o at v e (inr (inr is)) = ap (flush_for o at v) is
+pub unread_has_no_flush : (s : State) (o n at : ℕ) (v : Version) (e : Refusal) → IsUnread s o at e → flush_for n at v e ≡ None
+unread_has_no_flush s o n at v e (inl is) = flush_of_tests (nat_lt s.clock at) (nat_lt at s.floor) (is_hidden s o at) n at v e is
+unread_has_no_flush s o n at v e (inr (inl is)) = ap (flush_for n at v) is
+unread_has_no_flush s o n at v e (inr (inr is)) = ap (flush_for n at v) is

@@ -15,7 +15,9 @@ use Rattle.version_store.specs.Store.{StoreFields}
 use Rattle.version_store.specs.Versions.{inode_by, version_by}
 use Rattle.drive.specs.Keeping.{DecodesWhereVisible}
 use Rattle.drive.specs.Opened.{NoneFrom}
-use Rattle.history_restore.specs.Whole.{AreRowsFrom, AscendBelow}
+use Rattle.history_restore.specs.declared.aims.Aim.{Aim}
+use Rattle.history_restore.specs.Aims.{targets_of}
+use Rattle.history_restore.specs.Rows.{AreRowsFrom, AscendBelow}
 
 -- with each list of the rows above a number, these are all rows
 abbrev pub AreFirst : StoreFields → List ℕ → ℕ → Type 0
@@ -56,35 +58,35 @@ rowless_is_absent store s q t decodes none visible = sym (decodes q t visible) �
 
 -- ---- numbers that ascend, one by one
 
-pub ascend_step : (low high i o d : ℕ) (objects : List ℕ) → i < length objects → o ≡ get_or objects i d → AscendBelow low high (drop i objects) → (low < o) × (o < high) × AscendBelow o high (drop (i + 1) objects)
+pub ascend_step : (low high i o : ℕ) (d : Aim) (aims : List Aim) → i < length aims → o ≡ (get_or aims i d).target → AscendBelow low high (targets_of (drop i aims)) → (low < o) × (o < high) × AscendBelow o high (targets_of (drop (i + 1) aims))
 ascend_step low high zero o d [] lt is ascend = absurd (omega arith)
 ascend_step low high (suc i) o d [] lt is ascend = absurd (omega arith)
-ascend_step low high zero o d (x ∷ objects) lt is ascend = subst (λ (y : ℕ). (low < y) × (y < high) × AscendBelow y high objects) (sym is) ascend
-ascend_step low high (suc i) o d (x ∷ objects) lt is ascend =
+ascend_step low high zero o d (x ∷ aims) lt is ascend = subst (λ (y : ℕ). (low < y) × (y < high) × AscendBelow y high (targets_of aims)) (sym is) ascend
+ascend_step low high (suc i) o d (x ∷ aims) lt is ascend =
     let next : suc (i + 1) ≡ suc i + 1 = omega arith in
-    subst (λ (n : ℕ). (low < o) × (o < high) × AscendBelow o high (drop n (x ∷ objects))) next (ascend_step low high i o d objects (omega arith) is ascend)
+    subst (λ (n : ℕ). (low < o) × (o < high) × AscendBelow o high (targets_of (drop n (x ∷ aims)))) next (ascend_step low high i o d aims (omega arith) is ascend)
 
-ascend_back : (low high i o d : ℕ) (objects : List ℕ) → i < length objects → o ≡ get_or objects i d → low < o → o < high → AscendBelow o high (drop (i + 1) objects) → AscendBelow low high (drop i objects)
+ascend_back : (low high i o : ℕ) (d : Aim) (aims : List Aim) → i < length aims → o ≡ (get_or aims i d).target → low < o → o < high → AscendBelow o high (targets_of (drop (i + 1) aims)) → AscendBelow low high (targets_of (drop i aims))
 ascend_back low high zero o d [] lt is above below ascend = absurd (omega arith)
 ascend_back low high (suc i) o d [] lt is above below ascend = absurd (omega arith)
-ascend_back low high zero o d (x ∷ objects) lt is above below ascend = subst (λ (y : ℕ). (low < y) × (y < high) × AscendBelow y high objects) is (above, below, ascend)
-ascend_back low high (suc i) o d (x ∷ objects) lt is above below ascend =
+ascend_back low high zero o d (x ∷ aims) lt is above below ascend = subst (λ (y : ℕ). (low < y) × (y < high) × AscendBelow y high (targets_of aims)) is (above, below, ascend)
+ascend_back low high (suc i) o d (x ∷ aims) lt is above below ascend =
     let next : suc i + 1 ≡ suc (i + 1) = omega arith in
-    ascend_back low high i o d objects (omega arith) is above below (subst (λ (n : ℕ). AscendBelow o high (drop n (x ∷ objects))) next ascend)
+    ascend_back low high i o d aims (omega arith) is above below (subst (λ (n : ℕ). AscendBelow o high (targets_of (drop n (x ∷ aims)))) next ascend)
 
 -- The numbers ascend if those that are left do from the last one on, and only then.
-pub record AscendOn (high last : ℕ) (objects left : List ℕ) : Type 0 where
-  pub whole : AscendBelow last high left → AscendBelow 0 high objects
-  pub rest : AscendBelow 0 high objects → AscendBelow last high left
+pub record AscendOn (high last : ℕ) (aims left : List Aim) : Type 0 where
+  pub whole : AscendBelow last high (targets_of left) → AscendBelow 0 high (targets_of aims)
+  pub rest : AscendBelow 0 high (targets_of aims) → AscendBelow last high (targets_of left)
 
-pub ascend_on : (high last i o d : ℕ) (objects : List ℕ) → i < length objects → o ≡ get_or objects i d → (last < o) × (o < high) → AscendOn high last objects (drop i objects) → AscendOn high o objects (drop (i + 1) objects)
-ascend_on high last i o d objects lt is between before = record {
-  whole = λ rest. before.whole (ascend_back last high i o d objects lt is between.0 between.1 rest);
-  rest = λ whole. (ascend_step last high i o d objects lt is (before.rest whole)).2;
+pub ascend_on : (high last i o : ℕ) (d : Aim) (aims : List Aim) → i < length aims → o ≡ (get_or aims i d).target → (last < o) × (o < high) → AscendOn high last aims (drop i aims) → AscendOn high o aims (drop (i + 1) aims)
+ascend_on high last i o d aims lt is between before = record {
+  whole = λ rest. before.whole (ascend_back last high i o d aims lt is between.0 between.1 rest);
+  rest = λ whole. (ascend_step last high i o d aims lt is (before.rest whole)).2;
 }
 
-pub ascend_ends : (high last i o d : ℕ) (objects : List ℕ) → i < length objects → o ≡ get_or objects i d → ((last < o) × (o < high) → ⊥) → AscendOn high last objects (drop i objects) → AscendBelow 0 high objects → ⊥
-ascend_ends high last i o d objects lt is apart before whole = let here = ascend_step last high i o d objects lt is (before.rest whole) in apart (here.0, here.1)
+pub ascend_ends : (high last i o : ℕ) (d : Aim) (aims : List Aim) → i < length aims → o ≡ (get_or aims i d).target → ((last < o) × (o < high) → ⊥) → AscendOn high last aims (drop i aims) → AscendBelow 0 high (targets_of aims) → ⊥
+ascend_ends high last i o d aims lt is apart before whole = let here = ascend_step last high i o d aims lt is (before.rest whole) in apart (here.0, here.1)
 
-pub ascend_whole : (high last i : ℕ) (objects : List ℕ) → length objects ≤ i → AscendOn high last objects (drop i objects) → AscendBelow 0 high objects
-ascend_whole high last i objects over before = before.whole (subst (AscendBelow last high) (sym (drop_all i objects over)) tt)
+pub ascend_whole : (high last i : ℕ) (aims : List Aim) → length aims ≤ i → AscendOn high last aims (drop i aims) → AscendBelow 0 high (targets_of aims)
+ascend_whole high last i aims over before = before.whole (subst (λ (l : List Aim). AscendBelow last high (targets_of l)) (sym (drop_all i aims over)) tt)

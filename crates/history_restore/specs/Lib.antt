@@ -2,6 +2,8 @@ pub mod Content
 pub mod Plans
 pub mod Keeping
 pub mod Asking
+pub mod Rows
+pub mod Aims
 pub mod Restoring
 pub mod Planning
 pub mod Whole

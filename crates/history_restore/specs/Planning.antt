@@ -5,6 +5,7 @@ use Rattle.s4_model.specs.State.{State}
 use Rattle.s4_model.specs.VersionAt.{version_of}
 use Rattle.s4_model.specs.Visible.{IsVisible}
 use Rattle.s4_model.specs.Refusals.{present}
+use Rattle.history_restore.specs.declared.aims.Aim.{Aim}
 use Rattle.history_restore.specs.declared.failures.Failure.{Failure}
 use Rattle.history_restore.specs.declared.planning.ObjectPlan.{ObjectPlan}
 use Rattle.history_restore.specs.declared.plans.Plan.{Plan}
@@ -14,21 +15,21 @@ use Rattle.history_restore.specs.Restoring.{IsUnread}
 
 -- An object has this plan, by what it was at a moment that can be read and what it is.
 pub record IsPlanned (s : State) (at : ℕ) (p : ObjectPlan) : Type 0 where
-  pub visible : IsVisible s p.object at
-  pub planned : IsPlan (version_of s p.object at) (present s p.object) p.plan
+  pub visible : IsVisible s p.aim.object at
+  pub planned : IsPlan (version_of s p.aim.object at) (present s p.aim.target) p.plan
 
--- the objects of plans
-abbrev pub objects_planned : List ObjectPlan → List ℕ
-objects_planned plans = map (λ (p : ObjectPlan). p.object) plans
+-- what plans are of
+abbrev pub aims_planned : List ObjectPlan → List Aim
+aims_planned plans = map (λ (p : ObjectPlan). p.aim) plans
 
--- These are the plans of these objects, in their order.
-pub record PlansEach (s : State) (at : ℕ) (objects : List ℕ) (plans : List ObjectPlan) : Type 0 where
-  pub objects_are : objects_planned plans ≡ objects
+-- These are the plans of these aims, in their order.
+pub record PlansEach (s : State) (at : ℕ) (aims : List Aim) (plans : List ObjectPlan) : Type 0 where
+  pub aims_are : aims_planned plans ≡ aims
   pub each : AllByRecursion (IsPlanned s at) plans
 
 -- Why plans weren't made: an object's versions weren't read.
 pub record IsUnplanned (s : State) (at : ℕ) (failure : Failure) : Type 0 where
-  pub why : IsUnread s failure.object at failure.refusal
+  pub why : IsUnread s failure.aim.object at failure.refusal
   pub flush : failure.flush ≡ None
 
 -- how many changes plans have together

@@ -11,6 +11,7 @@ use Rattle.s4_model.specs.VersionAt.{version_of}
 use Rattle.s4_model.specs.Visible.{IsVisible}
 use Rattle.s4_model.specs.Refusals.{present, moment_refusal, last_number}
 use Rattle.version_store.specs.Store.{StoreFields}
+use Rattle.history_restore.specs.declared.aims.Aim.{Aim}
 use Rattle.history_restore.specs.declared.plans.Plan.{Plan}
 use Rattle.history_restore.specs.declared.restoring.Restored.{Restored}
 use Rattle.history_restore.specs.declared.failures.Failure.{Failure}
@@ -18,24 +19,24 @@ use Rattle.history_restore.specs.Asking.{FindsFull, is_left}
 use Rattle.history_restore.specs.Content.{content_of, changed_in}
 use Rattle.history_restore.specs.Plans.{IsPlan, changes_by, next_by_plan}
 
--- the number that an object has after it was restored, by what it was and what it is: the next one where it isn't there any more
+-- the number that an object has after it was restored under one, by what it was and what is there: the next one where nothing is
 abbrev pub number_from : Version → Version → ℕ → ℕ → ℕ
 number_from (Live bytes attribute created changed) Absent next o = next
 number_from (Live bytes attribute created changed) (Live now attribute_now created_now changed_now) next o = o
 number_from Absent now next o = o
 
-abbrev pub number_after : State → ℕ → ℕ → ℕ
-number_after s o at = number_from (version_of s o at) (present s o) s.next o
+abbrev pub number_after : State → Aim → ℕ → ℕ
+number_after s aim at = number_from (version_of s aim.object at) (present s aim.target) s.next aim.target
 
 -- An object was restored: what was planned was done, and under its number it has now the bytes and the attribute that it had at the moment,
 -- or isn't there where it wasn't.
-pub record Restores (s later : State) (o at : ℕ) (restored : Restored) : Type 0 where
-  pub object : restored.object ≡ o
-  pub visible : IsVisible s o at
-  pub planned : IsPlan (version_of s o at) (present s o) restored.plan
-  pub number : restored.number ≡ number_after s o at
+pub record Restores (s later : State) (aim : Aim) (at : ℕ) (restored : Restored) : Type 0 where
+  pub aim_is : restored.aim ≡ aim
+  pub visible : IsVisible s aim.object at
+  pub planned : IsPlan (version_of s aim.object at) (present s aim.target) restored.plan
+  pub number : restored.number ≡ number_after s aim at
   pub next : later.next ≡ next_by_plan restored.plan s.next
-  pub content : content_of (present later restored.number) ≡ content_of (version_of s o at)
+  pub content : content_of (present later restored.number) ≡ content_of (version_of s aim.object at)
 
 -- Why an object's versions weren't read: its moment can't be, or for want of memory or of a pin.
 abbrev pub IsUnread : State → ℕ → ℕ → Refusal → Type 0
@@ -54,14 +55,14 @@ flush_for o at now _ = None
 -- Why an object wasn't restored, and what that leaves: its versions weren't read, and the state is what it was; or the moment can be read
 -- and a request was refused, which is for want of memory or room, for a full journal or at the clock's end, of a version within the limits.
 -- Where the journal is full, a flush is told.
-pub record IsStopped (s later : State) (o at : ℕ) (failure : Failure) : Type 0 where
-  pub object : failure.object ≡ o
-  pub why : (IsUnread s o at failure.refusal × (later ≡ s)) ⊎ (IsVisible s o at × (IsWithinLimits (version_of s o at) → is_left failure.refusal ≡ true))
-  pub flush : failure.flush ≡ flush_for o at (present s o) failure.refusal
+pub record IsStopped (s later : State) (aim : Aim) (at : ℕ) (failure : Failure) : Type 0 where
+  pub aim_is : failure.aim ≡ aim
+  pub why : (IsUnread s aim.object at failure.refusal × (later ≡ s)) ⊎ (IsVisible s aim.object at × (IsWithinLimits (version_of s aim.object at) → is_left failure.refusal ≡ true))
+  pub flush : failure.flush ≡ flush_for aim.target at (present s aim.target) failure.refusal
 
 -- What restoring an object asks for finds its journal too full: one of the changes of its plan would make the journal too long, once those
 -- in front of it are stored.
-pub record IsTooFull (s : State) (store : StoreFields) (o at : ℕ) : Type 0 where
+pub record IsTooFull (s : State) (store : StoreFields) (aim : Aim) (at : ℕ) : Type 0 where
   pub plan : Plan
-  pub planned : IsPlan (version_of s o at) (present s o) plan
-  pub full : FindsFull store (changes_by (version_of s o at) plan s.next o)
+  pub planned : IsPlan (version_of s aim.object at) (present s aim.target) plan
+  pub full : FindsFull store (changes_by (version_of s aim.object at) plan s.next aim.target)

@@ -1,49 +1,44 @@
 -- What restoring all objects of a drive comes to.
-use Rattle.std.specs.Prelude.{◌≡◌, ◌≢◌, ℕ, ◌+◌, ◌<◌, List, [], ◌∷◌, map, None, ◌==◌, ◌&&◌, ◌||◌, not, Bool, true, false}
-use Rattle.std.specs.List.{AllByRecursion, list_any, filter}
+use Rattle.std.specs.Prelude.{◌≡◌, ◌≢◌, ℕ, ◌+◌, ◌<◌, List, [], ◌∷◌, map, false, true, ◌&&◌, ◌||◌, not, Bool, None}
+use Rattle.std.specs.List.{AllByRecursion}
 use Rattle.s4_types.specs.declared.refusals.Refusal.TheVariants.{NoMemory}
 use Rattle.s4_types.specs.declared.versions.Version.TheVariants.{Absent}
 use Rattle.s4_model.specs.State.{State}
 use Rattle.s4_model.specs.VersionAt.{version_of}
 use Rattle.s4_model.specs.Visible.{IsVisible}
 use Rattle.s4_model.specs.Refusals.{present}
-use Rattle.object_map.specs.Objects.{IsNextAbove}
-use Rattle.object_map.specs.Rows.{row_of}
 use Rattle.version_store.specs.Store.{StoreFields}
+use Rattle.history_restore.specs.declared.aims.Aim.{Aim}
+use Rattle.history_restore.specs.declared.aims.StandIn.{StandIn}
 use Rattle.history_restore.specs.declared.failures.Failure.{Failure}
 use Rattle.history_restore.specs.declared.restoring.Restored.{Restored}
 use Rattle.history_restore.specs.Content.{content_of}
 use Rattle.history_restore.specs.Asking.{IsWithinChanges}
 use Rattle.history_restore.specs.declared.planning.ObjectPlan.{ObjectPlan}
+use Rattle.history_restore.specs.declared.plans.Plan.{Plan}
+use Rattle.history_restore.specs.declared.plans.Plan.TheVariants.{Keep}
+use Rattle.history_restore.specs.Aims.{AreAims, AreAskedAims, counting, has_stand_in, object_for, targets_of}
+use Rattle.history_restore.specs.Rows.{AscendBelow, is_among}
 use Rattle.history_restore.specs.Plans.{IsPlan, number_by, next_by_plan}
-use Rattle.history_restore.specs.Planning.{IsPlanned, changes_planned, is_older, objects_planned}
+use Rattle.history_restore.specs.Planning.{IsPlanned, aims_planned, changes_planned, is_older}
 use Rattle.history_restore.specs.Keeping.{LeavesPast}
 use Rattle.history_restore.specs.Restoring.{IsStopped}
 
--- These are all objects above one that have a row, by ascending number.
-abbrev pub AreRowsFrom : StoreFields → ℕ → List ℕ → Type 0
-AreRowsFrom store after [] = (o : ℕ) → after < o → row_of store.rows o ≡ None
-AreRowsFrom store after (o ∷ objects) = IsNextAbove store.rows after o × AreRowsFrom store o objects
-
--- numbers that ascend strictly, from above one, and are below another
-abbrev pub AscendBelow : ℕ → ℕ → List ℕ → Type 0
-AscendBelow low high [] = Unit {0}
-AscendBelow low high (o ∷ objects) = (low < o) × (o < high) × AscendBelow o high objects
-
 -- An object is now what it was at a moment, under its number; the plan was made of what it was then and when restoring began.
 pub record IsRestored (s later : State) (at : ℕ) (restored : Restored) : Type 0 where
-  pub visible : IsVisible s restored.object at
-  pub planned : IsPlan (version_of s restored.object at) (present s restored.object) restored.plan
-  pub content : content_of (present later restored.number) ≡ content_of (version_of s restored.object at)
+  pub visible : IsVisible s restored.aim.object at
+  pub planned : IsPlan (version_of s restored.aim.object at) (present s restored.aim.target) restored.plan
+  pub content : content_of (present later restored.number) ≡ content_of (version_of s restored.aim.object at)
 
--- Each object that was made anew has the next free number, in order, and each other has its own: so all numbers are different.
+-- Each object that was made anew has the next free number, in order, and each other has the one under which it was compared: so all numbers
+-- are different.
 abbrev pub AreNumbered : ℕ → List Restored → Type 0
 AreNumbered next [] = Unit {0}
-AreNumbered next (r ∷ all) = (r.number ≡ number_by r.plan next r.object) × AreNumbered (next_by_plan r.plan next) all
+AreNumbered next (r ∷ all) = (r.number ≡ number_by r.plan next r.aim.target) × AreNumbered (next_by_plan r.plan next) all
 
 -- what was planned for an object
 abbrev pub planned_of : Restored → ObjectPlan
-planned_of r = record { object = r.object; plan = r.plan }
+planned_of r = record { aim = r.aim; plan = r.plan }
 
 abbrev pub plans_of : List Restored → List ObjectPlan
 plans_of all = map planned_of all
@@ -63,71 +58,68 @@ pub record IsCounted (s later : State) (now : ℕ) (all : List Restored) : Type 
   pub next : later.next ≡ s.next + made_anew all
   pub clock : IsWithinChanges s now (changes_of_all all) later
 
--- the objects that these tell of
-abbrev pub objects_of : List Restored → List ℕ
-objects_of all = map (λ (r : Restored). r.object) all
+-- what these objects were restored under
+abbrev pub aims_of : List Restored → List Aim
+aims_of all = map (λ (r : Restored). r.aim) all
 
 -- Objects were restored, in order, and no other one was touched that was there or had been.
-pub record RestoresEach (s later : State) (at : ℕ) (objects : List ℕ) (all : List Restored) : Type 0 where
-  pub objects_are : objects_of all ≡ objects
+pub record RestoresEach (s later : State) (at : ℕ) (aims : List Aim) (all : List Restored) : Type 0 where
+  pub aims_are : aims_of all ≡ aims
   pub each : AllByRecursion (IsRestored s later at) all
   pub numbered : AreNumbered s.next all
 
--- Objects that aren't among these are what they were.
-abbrev pub LeavesRest : State → State → List ℕ → Type 0
-LeavesRest s later objects = (q : ℕ) → q < s.next → AllByRecursion (λ (o : ℕ). q ≢ o) objects → present later q ≡ present s q
+-- Objects that nothing is restored under are what they were.
+abbrev pub LeavesRest : State → State → List Aim → Type 0
+LeavesRest s later aims = (q : ℕ) → q < s.next → AllByRecursion (λ (a : Aim). q ≢ a.target) aims → present later q ≡ present s q
 
--- All objects of a drive were restored: those that are listed are now what they were at the moment, and any other isn't there, as it wasn't
--- then and before.
-pub record RestoresAll (s later : State) (at : ℕ) (all : List Restored) : Type 0 where
+-- All objects of a drive were restored: those that are listed are now what they were at the moment, and any other that has no stand-in isn't
+-- there, as it wasn't then and before.
+pub record RestoresAll (s later : State) (at : ℕ) (stand_ins : List StandIn) (all : List Restored) : Type 0 where
   pub each : AllByRecursion (IsRestored s later at) all
-  pub ascend : AscendBelow 0 s.next (objects_of all)
+  pub ascend : AscendBelow 0 s.next (targets_of (aims_of all))
   pub numbered : AreNumbered s.next all
-  pub rest : (q : ℕ) → q < s.next → AllByRecursion (λ (r : Restored). q ≢ r.object) all → (present later q ≡ Absent) × (present s q ≡ Absent) × (IsVisible s q at → version_of s q at ≡ Absent)
-
--- whether an object is among those that are asked for
-abbrev pub is_among : List ℕ → ℕ → Bool
-is_among asked o = list_any (λ (x : ℕ). x == o) asked
+  pub rest : (q : ℕ) → q < s.next → AllByRecursion (λ (a : Aim). q ≢ a.target) (aims_of all) → has_stand_in (counting s at stand_ins) q ≡ false
+      → (present later q ≡ Absent) × (present s q ≡ Absent) × (IsVisible s q at → version_of s q at ≡ Absent)
 
 -- whether a plan is carried out: of an object that isn't skipped, and wasn't made since where newer ones are kept
 abbrev pub is_chosen : Bool → List ℕ → ObjectPlan → Bool
-is_chosen keep_newer skipped p = (not keep_newer || is_older p.plan) && not (is_among skipped p.object)
+is_chosen keep_newer skipped p = (not keep_newer || is_older p.plan) && not (is_among skipped p.aim.target)
 
--- These are the objects that are asked for and have a row, by ascending number.
-pub record AreAskedRows (store : StoreFields) (asked objects : List ℕ) : Type 0 where
-  pub rows : List ℕ
-  pub all : AreRowsFrom store 0 rows
-  pub chosen : objects ≡ filter (is_among asked) rows
-
--- These are the plans of all objects of a drive that have a row, by ascending number.
-pub record PlansAll (s : State) (store : StoreFields) (at : ℕ) (plans : List ObjectPlan) : Type 0 where
-  pub rows : AreRowsFrom store 0 (objects_planned plans)
+-- These are the plans of all objects of a drive that have a row, by the ascending numbers under which they are restored.
+pub record PlansAll (s : State) (store : StoreFields) (at : ℕ) (stand_ins : List StandIn) (plans : List ObjectPlan) : Type 0 where
+  pub aims : AreAims s store at stand_ins (aims_planned plans)
   pub each : AllByRecursion (IsPlanned s at) plans
 
 -- These are the plans of those that are asked for.
-pub record PlansAsked (s : State) (store : StoreFields) (at : ℕ) (asked : List ℕ) (plans : List ObjectPlan) : Type 0 where
-  pub rows : AreAskedRows store asked (objects_planned plans)
+pub record PlansAsked (s : State) (store : StoreFields) (at : ℕ) (stand_ins : List StandIn) (asked : List ℕ) (plans : List ObjectPlan) : Type 0 where
+  pub aims : AreAskedAims s store at stand_ins asked (aims_planned plans)
   pub each : AllByRecursion (IsPlanned s at) plans
 
--- objects that aren't asked for are what they were
-abbrev pub LeavesUnasked : State → State → List ℕ → Type 0
-LeavesUnasked s later asked = (q : ℕ) → q < s.next → is_among asked q ≡ false → present later q ≡ present s q
+-- An object that isn't asked for is what it was, unless it is the stand-in of one that is.
+abbrev pub LeavesUnasked : State → State → ℕ → List StandIn → List ℕ → Type 0
+LeavesUnasked s later at stand_ins asked = (q : ℕ) → q < s.next → is_among asked (object_for (counting s at stand_ins) q) ≡ false → present later q ≡ present s q
 
 -- The objects that are asked for were restored: those that are listed are now what they were at the moment, and any other that is asked for
--- isn't there, as it wasn't then and before.
-pub record RestoresAsked (s later : State) (at : ℕ) (asked : List ℕ) (all : List Restored) : Type 0 where
+-- and has no stand-in isn't there, as it wasn't then and before.
+pub record RestoresAsked (s later : State) (at : ℕ) (stand_ins : List StandIn) (asked : List ℕ) (all : List Restored) : Type 0 where
   pub each : AllByRecursion (IsRestored s later at) all
-  pub among : AllByRecursion (λ (r : Restored). is_among asked r.object ≡ true) all
-  pub ascend : AscendBelow 0 s.next (objects_of all)
+  pub among : AllByRecursion (λ (r : Restored). is_among asked r.aim.object ≡ true) all
+  pub ascend : AscendBelow 0 s.next (targets_of (aims_of all))
   pub numbered : AreNumbered s.next all
-  pub rest : (q : ℕ) → q < s.next → is_among asked q ≡ true → AllByRecursion (λ (r : Restored). q ≢ r.object) all → (present later q ≡ Absent) × (present s q ≡ Absent) × (IsVisible s q at → version_of s q at ≡ Absent)
+  pub rest : (q : ℕ) → q < s.next → is_among asked (object_for (counting s at stand_ins) q) ≡ true → AllByRecursion (λ (a : Aim). q ≢ a.target) (aims_of all) → has_stand_in (counting s at stand_ins) q ≡ false
+      → (present later q ≡ Absent) × (present s q ≡ Absent) × (IsVisible s q at → version_of s q at ≡ Absent)
 
 -- Why not all objects were restored: one of them wasn't, over the drive as it was then, to which the objects before it had led; or there was no
 -- memory for a list.
 pub record StopsOver (s middle later : State) (at : ℕ) (failure : Failure) : Type 0 where
   pub before : LeavesPast s middle
-  pub stopped : IsStopped middle later failure.object at failure
+  pub stopped : IsStopped middle later failure.aim at failure
 
 pub data StopsAll (s later : State) (at : ℕ) (failure : Failure) : Type 0 where
   AtObject : (middle : State) → StopsOver s middle later at failure → StopsAll s later at failure
   ForMemory : failure.refusal ≡ NoMemory → failure.flush ≡ None → StopsAll s later at failure
+
+-- Once objects were restored, and nothing was changed since, each is what it was under its number: the only plan of it is to keep it.
+abbrev pub ASecondRestoreDoesNothing : Type 0
+ASecondRestoreDoesNothing = (s later : State) (at : ℕ) (all : List Restored) → LeavesPast s later → AllByRecursion (IsRestored s later at) all
+    → AllByRecursion (λ (r : Restored). (plan : Plan) → IsPlan (version_of later r.aim.object at) (present later r.number) plan → plan ≡ Keep) all

@@ -1,4 +1,4 @@
-//! What an object was at a moment, beside what it is.
+//! What an object was at a moment, beside what is there now under the number under which it is restored.
 ghost use Rattle.std.specs.Prelude.{◌≡◌, IfOk, IfErr, OnOk};
 ghost use Rattle.s4_model.specs.Refusals.{present};
 ghost use Rattle.s4_model.specs.VersionAt.{version_of};
@@ -6,39 +6,40 @@ ghost use Rattle.s4_model.specs.Visible.{IsVisible};
 ghost use Rattle.drive.specs.Fields.{state_in, store_of};
 ghost use Rattle.history_restore.specs.Restoring.{IsUnread};
 
+use crate::aims::Aim;
 use drive::{Drive, Session};
 use history_view::version_at;
-use s4_types::{Moment, ObjectId, Refusal, Version};
+use s4_types::{Moment, Refusal, Version};
 use segment_word::Naming;
 use std::alloc::Global;
 
-/// Two versions of an object.
+/// What an object was, and what it is compared with.
 #[derive(Drop)]
 pub(crate) struct Compared {
-    /// What it was at the moment.
+    /// What the object was at the moment.
     pub(crate) earlier: Version,
-    /// What it is.
+    /// What is there now.
     pub(crate) latest: Version,
 }
 
-/// What an object was at a moment that can be read, and what it is.
+/// What an object was at a moment that can be read, and what is there now under its number or that of its stand-in.
 pub(crate) fn compare<J: Naming>(
     alloc: Global,
     drive: &mut Drive<J>,
     session: &mut Session<J>,
-    object: ObjectId,
+    aim: &Aim,
     at: Moment,
 ) -> Result<Compared, Refusal>
-    ensures earlier { IfOk result (λ c. c.earlier ≡ version_of (state_in drive.old) object at) }
-    ensures latest { IfOk result (λ c. c.latest ≡ present (state_in drive.old) object) }
-    ensures visible { OnOk result (IsVisible (state_in drive.old) object at) }
-    ensures refused { IfErr result (IsUnread (state_in drive.old) object at) }
+    ensures earlier { IfOk result (λ c. c.earlier ≡ version_of (state_in drive.old) aim.now.object at) }
+    ensures latest { IfOk result (λ c. c.latest ≡ present (state_in drive.old) aim.now.target) }
+    ensures visible { OnOk result (IsVisible (state_in drive.old) aim.now.object at) }
+    ensures refused { IfErr result (IsUnread (state_in drive.old) aim.now.object at) }
     ensures state { state_in drive.new ≡ state_in drive.old }
     ensures store { store_of drive.new ≡ store_of drive.old }
 {
     drive.rules();
     let clock = drive.clock();
-    let earlier = version_at(alloc, drive, session, object, at)?;
-    let latest = version_at(alloc, drive, session, object, clock)?;
+    let earlier = version_at(alloc, drive, session, aim.object, at)?;
+    let latest = version_at(alloc, drive, session, aim.target, clock)?;
     Ok(Compared { earlier, latest })
 }

@@ -4,17 +4,19 @@ ghost use Rattle.s4_model.specs.Refusals.{last_number};
 ghost use Rattle.history_restore.specs.Content.{changed_in};
 ghost use Rattle.history_restore.specs.Restoring.{between, flush_for};
 
+use crate::aims::Aim;
 use s4_types::{Moment, ObjectId, Refusal, Span, Version};
 
 /// Why an object wasn't restored.
 #[derive(Clone, Copy, PartialEq, Eq)]
 pub struct Failure {
-    pub object: ObjectId,
+    /// The object, and the number under which it was to be restored.
+    pub aim: Aim,
     /// Future, Expired or Flushed where the moment can't be read, Expired also where the floor has passed it while other objects were
-    /// restored. ChainFull where the object's journal is full, NoSpace where there is too little room for blocks, ClockEnd where no later
+    /// restored. ChainFull where the journal of that number is full, NoSpace where there is too little room for blocks, ClockEnd where no later
     /// moment or no further number is left. NoMemory where memory was refused, Busy where a read would have needed a pin.
     pub refusal: Refusal,
-    /// Where the journal is full: the moments of the object whose flush may make room in it, if there are such.
+    /// Where the journal is full: the moments of that number whose flush may make room in it, if there are such.
     pub flush: Option<Span>,
 }
 
@@ -45,26 +47,26 @@ pub fn between(object: ObjectId, at: Moment, latest: &Version) -> Option<Span>
 }
 
 /// An object's versions weren't read.
-pub(crate) fn unread(object: ObjectId, refusal: Refusal) -> Failure
-    ensures { result ≡ record { object = object; refusal = refusal; flush = None } }
+pub(crate) fn unread(aim: &Aim, refusal: Refusal) -> Failure
+    ensures { result ≡ record { aim = aim.now; refusal = refusal; flush = None } }
 {
     Failure {
-        object,
+        aim: *aim,
         refusal,
         flush: None,
     }
 }
 
 /// A request was refused.
-pub(crate) fn stopped(object: ObjectId, refusal: Refusal, at: Moment, latest: &Version) -> Failure
-    ensures { result ≡ record { object = object; refusal = refusal; flush = flush_for object at latest.now refusal } }
+pub(crate) fn stopped(aim: &Aim, refusal: Refusal, at: Moment, latest: &Version) -> Failure
+    ensures { result ≡ record { aim = aim.now; refusal = refusal; flush = flush_for aim.now.target at latest.now refusal } }
 {
     let flush = match refusal {
-        Refusal::ChainFull => between(object, at, latest),
+        Refusal::ChainFull => between(aim.target, at, latest),
         _ => None,
     };
     Failure {
-        object,
+        aim: *aim,
         refusal,
         flush,
     }

@@ -8,12 +8,16 @@
 //! and then cleans that object's chain; `newest_versions` says which moments are those of its newest versions. A refusal for a full journal
 //! comes only where one of the plan's changes would make it too long.
 //!
+//! An object that an earlier restore made anew may be restored under the number that it got: then that is what is compared with what the
+//! object was, and turned back. `laws` says that a second restore has nothing to do, where nothing was changed since.
+//!
 //! `plan_all` and `plan_objects` say before anything is changed what these do to each object, and `count_changes` by how many changes.
 //! Each change moves the clock on, and the floor with it, so that the moment may fall below the floor while objects are restored; that is
 //! refused then, and what was done before stays. `widen_window` keeps it in reach until that many changes are made: `laws` says so. Whoever
 //! saves the drive saves it only where all was done.
 #![tactic(auto)]
 
+mod aims;
 mod asking;
 mod changing;
 mod comparing;
@@ -27,10 +31,9 @@ mod room;
 mod whole;
 mod widening;
 
+pub use aims::{Aim, StandIn, aim_at, own_aim};
 pub use failures::{Failure, between};
-pub use planning::{
-    ObjectPlan, chosen_plans, count_changes, plan_all, plan_objects, planned_objects,
-};
+pub use planning::{ObjectPlan, chosen_plans, count_changes, plan_all, plan_objects, planned_aims};
 pub use plans::{Changes, Patch, Plan, plan_of};
 pub use restoring::{Restored, plan_object, restore_object};
 pub use room::{make_room, newest_versions};

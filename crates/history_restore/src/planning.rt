@@ -3,13 +3,14 @@ ghost use Rattle.std.specs.Prelude.{◌≡◌, ◌+◌, ◌≤◌, if◌then◌e
 ghost use Rattle.s4_model.specs.Refusals.{last_number};
 ghost use Rattle.drive.specs.Fields.{state_in, store_of};
 ghost use Rattle.history_restore.specs.Plans.{change_count, count_of};
-ghost use Rattle.history_restore.specs.Planning.{IsPlanned, IsUnplanned, PlansEach, changes_planned, is_older, objects_planned};
+ghost use Rattle.history_restore.specs.Planning.{IsPlanned, IsUnplanned, PlansEach, aims_planned, changes_planned, is_older};
 ghost use Rattle.history_restore.specs.Whole.{PlansAll, PlansAsked, is_chosen};
 
+use crate::aims::{Aim, StandIn, all_aims, asked_aims};
 use crate::failures::{Failure, unread};
 use crate::plans::{Changes, Plan};
 use crate::restoring::plan_object;
-use crate::whole::{is_among, rows, rows_among};
+use crate::whole::is_among;
 use drive::{Drive, Session};
 use s4_types::{Moment, ObjectId, Refusal};
 use segment_word::Naming;
@@ -18,7 +19,8 @@ use std::alloc::{AllocError, Global};
 /// What would be done to an object.
 #[derive(Clone, Copy, PartialEq, Eq)]
 pub struct ObjectPlan {
-    pub object: ObjectId,
+    /// The object, and the number under which that is done.
+    pub aim: Aim,
     pub plan: Plan,
 }
 
@@ -26,49 +28,51 @@ fn plan_one<J: Naming>(
     alloc: Global,
     drive: &mut Drive<J>,
     session: &mut Session<J>,
-    object: ObjectId,
+    aim: &Aim,
     at: Moment,
 ) -> Result<ObjectPlan, Failure>
-    ensures object { IfOk result (λ planned. planned.object ≡ object) }
+    ensures aim { IfOk result (λ planned. planned.aim ≡ aim.now) }
     ensures planned { IfOk result (IsPlanned (state_in drive.old) at) }
     ensures unplanned { IfErr result (IsUnplanned (state_in drive.old) at) }
     ensures state { state_in drive.new ≡ state_in drive.old }
     ensures store { store_of drive.new ≡ store_of drive.old }
 {
-    match plan_object(alloc, drive, session, object, at) {
-        Ok(plan) => Ok(ObjectPlan { object, plan }),
-        Err(refusal) => Err(unread(object, refusal)),
+    match plan_object(alloc, drive, session, aim, at) {
+        Ok(plan) => Ok(ObjectPlan { aim: *aim, plan }),
+        Err(refusal) => Err(unread(aim, refusal)),
     }
 }
 
-/// What would be done to these objects, in their order.
+/// What would be done under these numbers, in their order.
 fn plan_each<J: Naming>(
     alloc: Global,
     drive: &mut Drive<J>,
     session: &mut Session<J>,
-    objects: &[ObjectId],
+    aims: &[Aim],
     at: Moment,
 ) -> Result<Vec<ObjectPlan>, Failure>
-    ensures planned { IfOk result (λ plans. PlansEach (state_in drive.old) at objects.now plans.items) }
+    ensures planned { IfOk result (λ plans. PlansEach (state_in drive.old) at aims.now plans.items) }
     ensures unplanned { IfErr result (IsUnplanned (state_in drive.old) at) }
     ensures state { state_in drive.new ≡ state_in drive.old }
     ensures store { store_of drive.new ≡ store_of drive.old }
 {
     let mut plans = Vec::new(alloc);
-    for object in objects {
-        let planned = match plan_one(alloc, drive, session, *object, at) {
+    for aim in aims {
+        let planned = match plan_one(alloc, drive, session, aim, at) {
             Ok(planned) => planned,
             Err(failure) => return Err(failure),
         };
         match plans.push(planned) {
             Ok(()) => {}
-            Err(_) => return Err(unread(*object, Refusal::NoMemory)),
+            Err(_) => return Err(unread(aim, Refusal::NoMemory)),
         }
     }
     Ok(plans)
 }
 
-/// What [`restore_objects`](crate::restore_objects) would do to the objects that are asked for. Nothing is done.
+/// What [`restore_objects`](crate::restore_objects) would do to the objects that are asked for. Nothing is done. An object that was made
+/// anew by an earlier restore is planned under the number of what was made, its stand-in, as long as that is there; a stand-in isn't
+/// planned by itself.
 ///
 /// Future, Expired or Flushed where the moment can't be read of one of them, with its number; NoMemory where memory was refused,
 /// Busy where a read would have needed a pin.
@@ -76,40 +80,43 @@ pub fn plan_objects<J: Naming>(
     alloc: Global,
     drive: &mut Drive<J>,
     session: &mut Session<J>,
+    stand_ins: &[StandIn],
     asked: &[ObjectId],
     at: Moment,
 ) -> Result<Vec<ObjectPlan>, Failure>
-    ensures planned { IfOk result (λ plans. PlansAsked (state_in drive.old) (store_of drive.old) at asked.now plans.items) }
+    ensures planned { IfOk result (λ plans. PlansAsked (state_in drive.old) (store_of drive.old) at stand_ins.now asked.now plans.items) }
     ensures unplanned { IfErr result (IsUnplanned (state_in drive.old) at) }
     ensures state { state_in drive.new ≡ state_in drive.old }
     ensures store { store_of drive.new ≡ store_of drive.old }
 {
-    let objects = match rows_among(alloc, drive, asked) {
-        Ok(objects) => objects,
-        Err(refusal) => return Err(unread(ObjectId::new(0), refusal)),
+    let aims = match asked_aims(alloc, drive, session, stand_ins, asked, at) {
+        Ok(aims) => aims,
+        Err(failure) => return Err(failure),
     };
-    plan_each(alloc, drive, session, objects.as_slice(), at)
+    plan_each(alloc, drive, session, aims.as_slice(), at)
 }
 
-/// What [`restore_all`](crate::restore_all) would do to each object that has a row. Nothing is done.
+/// What [`restore_all`](crate::restore_all) would do to each object that has a row, with stand-ins as [`plan_objects`] has them. Nothing is
+/// done.
 ///
 /// An error as of [`plan_objects`], of object 0 where there was no memory for a list of the rows.
 pub fn plan_all<J: Naming>(
     alloc: Global,
     drive: &mut Drive<J>,
     session: &mut Session<J>,
+    stand_ins: &[StandIn],
     at: Moment,
 ) -> Result<Vec<ObjectPlan>, Failure>
-    ensures planned { IfOk result (λ plans. PlansAll (state_in drive.old) (store_of drive.old) at plans.items) }
+    ensures planned { IfOk result (λ plans. PlansAll (state_in drive.old) (store_of drive.old) at stand_ins.now plans.items) }
     ensures unplanned { IfErr result (IsUnplanned (state_in drive.old) at) }
     ensures state { state_in drive.new ≡ state_in drive.old }
     ensures store { store_of drive.new ≡ store_of drive.old }
 {
-    let objects = match rows(alloc, drive) {
-        Ok(objects) => objects,
-        Err(refusal) => return Err(unread(ObjectId::new(0), refusal)),
+    let aims = match all_aims(alloc, drive, session, stand_ins, at) {
+        Ok(aims) => aims,
+        Err(failure) => return Err(failure),
     };
-    plan_each(alloc, drive, session, objects.as_slice(), at)
+    plan_each(alloc, drive, session, aims.as_slice(), at)
 }
 
 fn count_of<T: Copy>(part: Option<T>) -> u64
@@ -172,11 +179,11 @@ fn is_older(plan: &Plan) -> bool
 fn is_chosen(planned: &ObjectPlan, keep_newer: bool, skipped: &[ObjectId]) -> bool
     ensures { result ≡ is_chosen keep_newer skipped.now planned.now }
 {
-    (!keep_newer || is_older(&planned.plan)) && !is_among(skipped, planned.object)
+    (!keep_newer || is_older(&planned.plan)) && !is_among(skipped, planned.aim.target)
 }
 
-/// Of these plans those of objects that are to be restored: without those that are skipped, and where newer objects are kept without
-/// those that were made since the moment.
+/// Of these plans those of objects that are to be restored: without those of numbers that are skipped, and where newer objects are kept
+/// without those that were made since the moment.
 pub fn chosen_plans(
     alloc: Global,
     plans: &[ObjectPlan],
@@ -194,13 +201,13 @@ pub fn chosen_plans(
     Ok(chosen)
 }
 
-/// The objects that plans are of, in their order.
-pub fn planned_objects(alloc: Global, plans: &[ObjectPlan]) -> Result<Vec<ObjectId>, AllocError>
-    ensures { IfOk result (λ objects. objects.items ≡ objects_planned plans.now) }
+/// What plans are of, in their order.
+pub fn planned_aims(alloc: Global, plans: &[ObjectPlan]) -> Result<Vec<Aim>, AllocError>
+    ensures { IfOk result (λ aims. aims.items ≡ aims_planned plans.now) }
 {
-    let mut objects = Vec::new(alloc);
+    let mut aims = Vec::new(alloc);
     for planned in plans {
-        objects.push(planned.object)?;
+        aims.push(planned.aim)?;
     }
-    Ok(objects)
+    Ok(aims)
 }

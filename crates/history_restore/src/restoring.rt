@@ -10,6 +10,7 @@ ghost use Rattle.history_restore.specs.Plans.{IsPlan, change_count};
 ghost use Rattle.history_restore.specs.Keeping.{LeavesPast, LeavesOthers};
 ghost use Rattle.history_restore.specs.Restoring.{IsUnread, Restores, IsStopped, IsTooFull, number_after};
 
+use crate::aims::Aim;
 use crate::changing::perform;
 use crate::comparing::compare;
 use crate::failures::{Failure, stopped, unread};
@@ -23,63 +24,66 @@ use std::alloc::Global;
 /// What was done to an object.
 #[derive(Clone, Copy, PartialEq, Eq)]
 pub struct Restored {
-    pub object: ObjectId,
+    /// The object, and the number under which it was compared.
+    pub aim: Aim,
     /// The number that it has now: another one where it was made anew.
     pub number: ObjectId,
     pub plan: Plan,
 }
 
-/// What would be done to an object, so that it is what it was at a moment. Nothing is done.
+/// What would be done under a number, so that an object is what it was at a moment. Nothing is done.
 ///
 /// Future, Expired or Flushed where the moment can't be read; NoMemory where memory was refused; Busy alone else.
 pub fn plan_object<J: Naming>(
     alloc: Global,
     drive: &mut Drive<J>,
     session: &mut Session<J>,
-    object: ObjectId,
+    aim: &Aim,
     at: Moment,
 ) -> Result<Plan, Refusal>
-    ensures plan { IfOk result (IsPlan (version_of (state_in drive.old) object at) (present (state_in drive.old) object)) }
-    ensures visible { OnOk result (IsVisible (state_in drive.old) object at) }
-    ensures refused { IfErr result (IsUnread (state_in drive.old) object at) }
+    ensures plan { IfOk result (IsPlan (version_of (state_in drive.old) aim.now.object at) (present (state_in drive.old) aim.now.target)) }
+    ensures visible { OnOk result (IsVisible (state_in drive.old) aim.now.object at) }
+    ensures refused { IfErr result (IsUnread (state_in drive.old) aim.now.object at) }
     ensures state { state_in drive.new ≡ state_in drive.old }
     ensures store { store_of drive.new ≡ store_of drive.old }
 {
-    let compared = compare(alloc, drive, session, object, at)?;
+    let compared = compare(alloc, drive, session, aim, at)?;
     Ok(plan_of(&compared.earlier, &compared.latest))
 }
 
 /// Makes an object what it was at a moment, by requests at the moment `now` of the server's clock: exactly what [`plan_object`] plans.
-/// An object that was deleted since stays deleted, as numbers are given once; what it was is made anew under the next number.
+/// An object that was deleted since stays deleted, as numbers are given once; what it was is made anew under the next number. Where the
+/// number is that of a stand-in, this is what becomes what the object was.
 ///
 /// A refusal says why, as [`Failure`] tells. What was done before it stays.
 pub fn restore_object<J: Naming>(
     alloc: Global,
     drive: &mut Drive<J>,
     session: &mut Session<J>,
-    object: ObjectId,
+    aim: &Aim,
     at: Moment,
     now: Moment,
 ) -> Result<Restored, Failure>
-    ensures restored { IfOk result (Restores (state_in drive.old) (state_in drive.new) object at) }
-    ensures stopped { IfErr result (IsStopped (state_in drive.old) (state_in drive.new) object at) }
-    ensures full { IfErr result (λ failure. failure.refusal ≡ ChainFull → IsTooFull (state_in drive.old) (store_of drive.old) object at) }
+    ensures restored { IfOk result (Restores (state_in drive.old) (state_in drive.new) aim.now at) }
+    ensures stopped { IfErr result (IsStopped (state_in drive.old) (state_in drive.new) aim.now at) }
+    ensures full { IfErr result (λ failure. failure.refusal ≡ ChainFull → IsTooFull (state_in drive.old) (store_of drive.old) aim.now at) }
     ensures clock { IfOk result (λ restored. IsWithinChanges (state_in drive.old) now (change_count restored.plan) (state_in drive.new)) }
-    ensures others { LeavesOthers (number_after (state_in drive.old) object at) (state_in drive.old) (state_in drive.new) }
+    ensures others { LeavesOthers (number_after (state_in drive.old) aim.now at) (state_in drive.old) (state_in drive.new) }
     ensures past { LeavesPast (state_in drive.old) (state_in drive.new) }
 {
     a_plan_turns_back();
-    let compared = match compare(alloc, drive, session, object, at) {
+    let compared = match compare(alloc, drive, session, aim, at) {
         Ok(compared) => compared,
-        Err(refusal) => return Err(unread(object, refusal)),
+        Err(refusal) => return Err(unread(aim, refusal)),
     };
     let plan = plan_of(&compared.earlier, &compared.latest);
-    match perform(alloc, drive, session, object, &compared.earlier, plan, now) {
+    let target = aim.target;
+    match perform(alloc, drive, session, target, &compared.earlier, plan, now) {
         Ok(number) => Ok(Restored {
-            object,
+            aim: *aim,
             number,
             plan,
         }),
-        Err(refusal) => Err(stopped(object, refusal, at, &compared.latest)),
+        Err(refusal) => Err(stopped(aim, refusal, at, &compared.latest)),
     }
 }

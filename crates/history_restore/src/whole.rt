@@ -1,10 +1,13 @@
 //! All objects of a drive are made what they were at a moment.
-ghost use Rattle.std.specs.Prelude.{◌≡◌, ◌<◌, IfOk, IfErr, MatchBool, filter};
+ghost use Rattle.std.specs.Prelude.{◌≡◌, ◌<◌, IfOk, IfErr, MatchBool};
 ghost use Rattle.s4_types.specs.declared.refusals.Refusal.TheVariants.{NoMemory};
 ghost use Rattle.drive.specs.Fields.{state_in, store_of};
 ghost use Rattle.history_restore.specs.Keeping.{LeavesPast};
-ghost use Rattle.history_restore.specs.Whole.{AreRowsFrom, AreAskedRows, AscendBelow, RestoresEach, RestoresAsked, RestoresAll, StopsAll, IsCounted, LeavesRest, LeavesUnasked, PlansAll, PlansAsked, is_among, plans_of};
+ghost use Rattle.history_restore.specs.Aims.{targets_of};
+ghost use Rattle.history_restore.specs.Rows.{AreRowsFrom, AscendBelow, is_among};
+ghost use Rattle.history_restore.specs.Whole.{RestoresEach, RestoresAsked, RestoresAll, StopsAll, IsCounted, LeavesRest, LeavesUnasked, PlansAll, PlansAsked, plans_of};
 
+use crate::aims::{Aim, StandIn, all_aims, asked_aims, own_aim};
 use crate::failures::{Failure, unread};
 use crate::restoring::{Restored, restore_object};
 use drive::{Drive, Session};
@@ -33,55 +36,28 @@ pub(crate) fn is_among(asked: &[ObjectId], object: ObjectId) -> bool
     asked.iter().any(|one| *one == object)
 }
 
-/// Of these objects those that are asked for.
-fn choose(alloc: Global, objects: &[ObjectId], asked: &[ObjectId]) -> Result<Vec<ObjectId>, Refusal>
-    ensures chosen { IfOk result (λ chosen. chosen.items ≡ filter (is_among asked.now) objects.now) }
-    ensures refusal { IfErr result (λ e. e ≡ NoMemory) }
-{
-    let mut chosen = Vec::new(alloc);
-    for object in objects {
-        if is_among(asked, *object) {
-            chosen.push(*object)?;
-        }
-    }
-    Ok(chosen)
-}
-
-/// Those objects that are asked for and have a row, by ascending number.
-pub(crate) fn rows_among<J: Naming>(
-    alloc: Global,
-    drive: &Drive<J>,
-    asked: &[ObjectId],
-) -> Result<Vec<ObjectId>, Refusal>
-    ensures rows { IfOk result (λ rows. AreAskedRows (store_of drive.now) asked.now rows.items) }
-    ensures refusal { IfErr result (λ e. e ≡ NoMemory) }
-{
-    let all = rows(alloc, drive)?;
-    choose(alloc, all.as_slice(), asked)
-}
-
-/// Makes objects of ascending numbers what they were at a moment.
+/// Makes objects what they were at a moment, under ascending numbers.
 fn restore_each<J: Naming>(
     alloc: Global,
     drive: &mut Drive<J>,
     session: &mut Session<J>,
-    objects: &[ObjectId],
+    aims: &[Aim],
     at: Moment,
     now: Moment,
 ) -> Result<Vec<Restored>, Failure>
-    requires { AscendBelow 0 (state_in drive.old).next objects.now }
-    ensures each { IfOk result (λ all. RestoresEach (state_in drive.old) (state_in drive.new) at objects.now all.items) }
+    requires { AscendBelow 0 (state_in drive.old).next (targets_of aims.now) }
+    ensures each { IfOk result (λ all. RestoresEach (state_in drive.old) (state_in drive.new) at aims.now all.items) }
     ensures counted { IfOk result (λ all. IsCounted (state_in drive.old) (state_in drive.new) now all.items) }
     ensures stopped { IfErr result (StopsAll (state_in drive.old) (state_in drive.new) at) }
-    ensures rest { LeavesRest (state_in drive.old) (state_in drive.new) objects.now }
+    ensures rest { LeavesRest (state_in drive.old) (state_in drive.new) aims.now }
     ensures past { LeavesPast (state_in drive.old) (state_in drive.new) }
 {
     let mut all = Vec::new(alloc);
-    for object in objects {
-        let restored = restore_object(alloc, drive, session, *object, at, now)?;
+    for aim in aims {
+        let restored = restore_object(alloc, drive, session, aim, at, now)?;
         match all.push(restored) {
             Ok(()) => {}
-            Err(_) => return Err(unread(*object, Refusal::NoMemory)),
+            Err(_) => return Err(unread(aim, Refusal::NoMemory)),
         }
     }
     Ok(all)
@@ -94,14 +70,14 @@ fn is_between(low: u64, number: u64, high: u64) -> bool
     low < number && number < high
 }
 
-/// Whether these numbers ascend from 1 on and are below the next one.
+/// Whether the numbers under which objects are restored ascend from 1 on and are below the next one.
 #[tactic(auto, using(crate::proofs::Rows::ascend_ends, crate::proofs::Rows::ascend_whole))]
-fn ascends_below(objects: &[ObjectId], next: ObjectId) -> bool
-    ensures { MatchBool result (AscendBelow 0 next objects.now) (AscendBelow 0 next objects.now → ⊥) }
+fn ascends_below(aims: &[Aim], next: ObjectId) -> bool
+    ensures { MatchBool result (AscendBelow 0 next (targets_of aims.now)) (AscendBelow 0 next (targets_of aims.now) → ⊥) }
 {
     let mut last = 0;
-    for object in objects {
-        let number = object.number();
+    for aim in aims {
+        let number = aim.target.number();
         if !is_between(last, number, next.number()) {
             return false;
         }
@@ -110,8 +86,8 @@ fn ascends_below(objects: &[ObjectId], next: ObjectId) -> bool
     true
 }
 
-/// Makes these objects what they were at a moment, by requests at the moment `now` of the server's clock, and says of each what was done
-/// to it, in their order. Their numbers ascend, and were given.
+/// Makes these objects what they were at a moment, by requests at the moment `now` of the server's clock, and says of each what was done,
+/// in their order. The numbers under which they are restored ascend, and were given.
 ///
 /// A refusal says of which object and why, as [`restore_all`] does; NoObject of object 0 where the numbers aren't such, and then nothing
 /// was done.
@@ -119,48 +95,50 @@ pub fn restore_these<J: Naming>(
     alloc: Global,
     drive: &mut Drive<J>,
     session: &mut Session<J>,
-    objects: &[ObjectId],
+    aims: &[Aim],
     at: Moment,
     now: Moment,
 ) -> Result<Vec<Restored>, Failure>
-    ensures each { IfOk result (λ all. RestoresEach (state_in drive.old) (state_in drive.new) at objects.now all.items) }
+    ensures each { IfOk result (λ all. RestoresEach (state_in drive.old) (state_in drive.new) at aims.now all.items) }
     ensures counted { IfOk result (λ all. IsCounted (state_in drive.old) (state_in drive.new) now all.items) }
-    ensures stopped { AscendBelow 0 (state_in drive.old).next objects.now → IfErr result (StopsAll (state_in drive.old) (state_in drive.new) at) }
-    ensures rest { LeavesRest (state_in drive.old) (state_in drive.new) objects.now }
+    ensures stopped { AscendBelow 0 (state_in drive.old).next (targets_of aims.now) → IfErr result (StopsAll (state_in drive.old) (state_in drive.new) at) }
+    ensures rest { LeavesRest (state_in drive.old) (state_in drive.new) aims.now }
     ensures past { LeavesPast (state_in drive.old) (state_in drive.new) }
 {
-    if !ascends_below(objects, drive.next()) {
-        return Err(unread(ObjectId::new(0), Refusal::NoObject));
+    if !ascends_below(aims, drive.next()) {
+        let none = own_aim(ObjectId::new(0));
+        return Err(unread(&none, Refusal::NoObject));
     }
-    restore_each(alloc, drive, session, objects, at, now)
+    restore_each(alloc, drive, session, aims, at, now)
 }
 
 /// Makes the objects that are asked for what they were at a moment, by requests at the moment `now` of the server's clock, and tells of
-/// each that has a row what was done to it, by ascending number and once, in whatever order and how often it is asked for:
-/// exactly what [`plan_objects`](crate::plan_objects) plans.
+/// each that has a row what was done, by the ascending numbers under which they are restored and once, in whatever order and how often it
+/// is asked for: exactly what [`plan_objects`](crate::plan_objects) plans.
 ///
 /// A refusal says of which object and why, as [`restore_all`] does.
 pub fn restore_objects<J: Naming>(
     alloc: Global,
     drive: &mut Drive<J>,
     session: &mut Session<J>,
+    stand_ins: &[StandIn],
     asked: &[ObjectId],
     at: Moment,
     now: Moment,
 ) -> Result<Vec<Restored>, Failure>
-    ensures asked { IfOk result (λ all. RestoresAsked (state_in drive.old) (state_in drive.new) at asked.now all.items) }
-    ensures planned { IfOk result (λ all. PlansAsked (state_in drive.old) (store_of drive.old) at asked.now (plans_of all.items)) }
+    ensures asked { IfOk result (λ all. RestoresAsked (state_in drive.old) (state_in drive.new) at stand_ins.now asked.now all.items) }
+    ensures planned { IfOk result (λ all. PlansAsked (state_in drive.old) (store_of drive.old) at stand_ins.now asked.now (plans_of all.items)) }
     ensures counted { IfOk result (λ all. IsCounted (state_in drive.old) (state_in drive.new) now all.items) }
     ensures stopped { IfErr result (StopsAll (state_in drive.old) (state_in drive.new) at) }
-    ensures unasked { LeavesUnasked (state_in drive.old) (state_in drive.new) asked.now }
+    ensures unasked { LeavesUnasked (state_in drive.old) (state_in drive.new) at stand_ins.now asked.now }
     ensures past { LeavesPast (state_in drive.old) (state_in drive.new) }
 {
     drive.rules();
-    let objects = match rows_among(alloc, drive, asked) {
-        Ok(objects) => objects,
-        Err(refusal) => return Err(unread(ObjectId::new(0), refusal)),
+    let aims = match asked_aims(alloc, drive, session, stand_ins, asked, at) {
+        Ok(aims) => aims,
+        Err(failure) => return Err(failure),
     };
-    restore_each(alloc, drive, session, objects.as_slice(), at, now)
+    restore_each(alloc, drive, session, aims.as_slice(), at, now)
 }
 
 /// Makes all objects of a drive what they were at a moment, by requests at the moment `now` of the server's clock, and tells of each object
@@ -173,19 +151,20 @@ pub fn restore_all<J: Naming>(
     alloc: Global,
     drive: &mut Drive<J>,
     session: &mut Session<J>,
+    stand_ins: &[StandIn],
     at: Moment,
     now: Moment,
 ) -> Result<Vec<Restored>, Failure>
-    ensures all { IfOk result (λ all. RestoresAll (state_in drive.old) (state_in drive.new) at all.items) }
-    ensures planned { IfOk result (λ all. PlansAll (state_in drive.old) (store_of drive.old) at (plans_of all.items)) }
+    ensures all { IfOk result (λ all. RestoresAll (state_in drive.old) (state_in drive.new) at stand_ins.now all.items) }
+    ensures planned { IfOk result (λ all. PlansAll (state_in drive.old) (store_of drive.old) at stand_ins.now (plans_of all.items)) }
     ensures counted { IfOk result (λ all. IsCounted (state_in drive.old) (state_in drive.new) now all.items) }
     ensures stopped { IfErr result (StopsAll (state_in drive.old) (state_in drive.new) at) }
     ensures past { LeavesPast (state_in drive.old) (state_in drive.new) }
 {
     drive.rules();
-    let objects = match rows(alloc, drive) {
-        Ok(objects) => objects,
-        Err(refusal) => return Err(unread(ObjectId::new(0), refusal)),
+    let aims = match all_aims(alloc, drive, session, stand_ins, at) {
+        Ok(aims) => aims,
+        Err(failure) => return Err(failure),
     };
-    restore_each(alloc, drive, session, objects.as_slice(), at, now)
+    restore_each(alloc, drive, session, aims.as_slice(), at, now)
 }

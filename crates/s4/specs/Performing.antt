@@ -1,8 +1,8 @@
 -- What the status of a line of words says.
-use Rattle.std.specs.Prelude.{◌≡◌, ◌≢◌, ◌⊎◌, ⊤, ℕ, List, [], Option, None, true, MatchBool}
+use Rattle.std.specs.Prelude.{◌≡◌, ◌⊎◌, ⊤, ℕ, List, Option, None, true}
 use Rattle.std.specs.Io.KnownBytes.{Keeps}
 use Rattle.clap.specs.Faults.{fault_of}
-use Rattle.clap.specs.Kinds.{IsAmong, Kinds}
+use Rattle.clap.specs.Kinds.{IsAmong}
 use Rattle.clap.specs.Takes.{takes}
 use Rattle.clap.specs.Walk.{Text}
 use Rattle.clap.specs.Simple.{subcommand_of}
@@ -22,7 +22,7 @@ use Rattle.s4_reading.specs.Logging.{Logs}
 use Rattle.s4_reading.specs.Reading.{Gives}
 use Rattle.s4_reading.specs.Telling.{Informs}
 use Rattle.s4_report.specs.Reporting.{ReportsDrive}
-use Rattle.s4_restore.specs.Images.{RestoresImage, WouldRestoreImage}
+use Rattle.s4_restore.specs.Images.{PerformsRestore}
 use Rattle.s4_compact.specs.Compacting.{Compacts}
 
 -- A command is done, by what is known of the files before and after it, by what an export of a drive is and a salvage of a file's bytes, and by what
@@ -35,9 +35,7 @@ IsDoneOver files files' Exported Salvaged output output' (command.Info info) = O
 IsDoneOver files files' Exported Salvaged output output' (command.Diff diff) = OverImage (files diff.image.now) (λ d. Compares d diff Fine output output')
 IsDoneOver files files' Exported Salvaged output output' (command.Report report) = OverImage (files report.image.now) (λ d. ReportsDrive d report output output')
 IsDoneOver files files' Exported Salvaged output output' (command.Export export) = OverImage (files export.image.now) (λ d. Exported d export)
-IsDoneOver files files' Exported Salvaged output output' (command.Restore restore) = MatchBool restore.dry_run
-    (WouldRestoreImage (files restore.image.now) restore output output')
-    (RestoresImage (files restore.image.now) (files' restore.image.now) restore output output')
+IsDoneOver files files' Exported Salvaged output output' (command.Restore restore) = PerformsRestore files files' restore output output'
 IsDoneOver files files' Exported Salvaged output output' (command.Check check) = OverImage (files check.image.now) (λ d. Checks d check output output')
 IsDoneOver files files' Exported Salvaged output output' (command.Compact compact) = ChangesImage (files compact.image.now) (files' compact.image.now) (λ d later. Compacts d later compact output output')
 IsDoneOver files files' Exported Salvaged output output' (command.Salvage salvage) = Salvaged (files salvage.image.now) salvage output output'
@@ -54,16 +52,11 @@ unknown path = None
 abbrev pub IsUsage : List Text → Type 0
 IsUsage words = takes line words ≡ true → SpellsNone (subcommand_of line words)
 
--- one of these reasons is that help or the version is asked for
-pub record IsAsking (kinds : Kinds) : Type 0 where
-  pub kind : ErrorKind
-  pub among : IsAmong kind kinds
-  pub asked : is_asked_for kind ≡ true
-
--- The words spell no command, and the parser refuses them for no other reason than that they ask for help or the version.
+-- The parser refuses the words, and one of its reasons is that they ask for help or the version.
 pub record IsAskedFor (words : List Text) : Type 0 where
-  pub none : IsUsage words
-  pub asks : fault_of line words ≢ [] → IsAsking (fault_of line words)
+  pub kind : ErrorKind
+  pub among : IsAmong kind (fault_of line words)
+  pub asked : is_asked_for kind ≡ true
 
 -- The words spell a command, which is done; or they spell none, and ask for help or the version.
 abbrev pub IsDone : List Text → (files files' : List ℕ → Option (List ℕ)) → (Exported : DriveFields → ExportAsked → Type 0) → (Salvaged : Option (List ℕ) → SalvageAsked → (output output' : Option (List ℕ)) → Type 0) → (output output' : Option (List ℕ)) → Type 0

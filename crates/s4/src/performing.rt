@@ -1,17 +1,18 @@
 //! What a line of words asks for, and the status of the program.
 ghost use Rattle.std.specs.Prelude.{◌≡◌, ◌≢◌, ◌+◌, ◌^◌, ◌<◌, ◌≤◌, map, Ok, IsOk};
+ghost use Rattle.s4_images.specs.Commands.{OverImage};
 ghost use Rattle.s4_folders.specs.Exporting.{Exported};
 ghost use Rattle.s4_folders.specs.Salvaging.{SalvagesFile};
 ghost use Rattle.s4.specs.Performing.{DiffersOver, IsDiffering, IsDone, IsDoneOver, IsUndone};
 
 use image_commands::{Files, Obstacle, Placed};
-use s4_command::{Command, ExportAsked, NoCommand, SalvageAsked, command_of};
+use s4_command::{Command, ExportAsked, NoCommand, RestoreAsked, SalvageAsked, command_of};
 use s4_compact::compact_image;
 use s4_folders::{Folders, export_image, salvage_image};
-use s4_images::{Failure, Verdict};
-use s4_reading::{Screens, cat_image, check_image, diff_image, info_image, list_image, log_image};
-use s4_report::report_image;
-use s4_restore::{dry_run_image, restore_image};
+use s4_images::{DriveCommand, Failure, ImageCommand, Verdict, show_image};
+use s4_reading::{Checking, Comparing, Listing, Logging, Numbering, Reading, Screens};
+use s4_report::Reporting;
+use s4_restore::{MapFault, RestoreFailure, perform_restore};
 use s4_types::Refusal;
 use serving::Sink;
 use std::alloc::Global;
@@ -74,46 +75,28 @@ fn perform_command<T: Threads, F: Files, D: Folders + Screens, W: Sink, E: Write
     ensures differs { result ≡ 1 → DiffersOver (F.contents files.old) (W.passed writer.old) (W.passed writer.new) command.now }
 {
     match command {
-        Command::List(list) => shown(
-            list_image(rt, alloc, files, list, writer),
-            list.image,
-            errors,
-        ),
-        Command::Log(log) => shown(log_image(rt, alloc, files, log, writer), log.image, errors),
-        Command::Cat(cat) => shown(cat_image(rt, alloc, files, cat, writer), cat.image, errors),
-        Command::Info(info) => shown(
-            info_image(rt, alloc, files, info, writer),
-            info.image,
-            errors,
-        ),
+        Command::List(list) => show_over(rt, alloc, files, &Listing(list), writer, errors),
+        Command::Log(log) => show_over(rt, alloc, files, &Logging(log), writer, errors),
+        Command::Cat(cat) => show_over(rt, alloc, files, &Reading(cat), writer, errors),
+        Command::Info(info) => show_over(rt, alloc, files, &Numbering(info), writer, errors),
+        Command::Report(report) => show_over(rt, alloc, files, &Reporting(report), writer, errors),
         Command::Diff(diff) => compared(
-            diff_image(rt, alloc, files, diff, writer),
+            show_image(rt, alloc, files, &Comparing(diff), writer),
             diff.image,
             errors,
         ),
-        Command::Check(check) => shown(
-            check_image(rt, alloc, files, &folders.meter(), check, writer),
-            check.image,
-            errors,
-        ),
-        Command::Report(report) => shown(
-            report_image(rt, alloc, files, report, writer),
-            report.image,
-            errors,
-        ),
+        Command::Check(asked) => {
+            let meter = &folders.meter();
+            show_over(rt, alloc, files, &Checking { asked, meter }, writer, errors)
+        }
         Command::Export(export) => exported(
             export_image(rt, alloc, files, folders, export),
             export,
             errors,
         ),
-        Command::Restore(restore) if restore.dry_run => shown(
-            dry_run_image(rt, alloc, files, restore, writer),
-            restore.image,
-            errors,
-        ),
-        Command::Restore(restore) => changed(
-            restore_image(rt, alloc, files, restore, writer),
-            restore.image,
+        Command::Restore(restore) => restored(
+            perform_restore(rt, alloc, files, restore, writer),
+            restore,
             errors,
         ),
         Command::Compact(compact) => changed(
@@ -127,6 +110,49 @@ fn perform_command<T: Threads, F: Files, D: Folders + Screens, W: Sink, E: Write
             errors,
         ),
     }
+}
+
+// Performs a command that prints something of its image, and answers the status of that.
+fn show_over<T: Threads, F: Files, C: DriveCommand + ImageCommand, W: Sink, E: Write>(
+    rt: &T,
+    alloc: Global,
+    files: &F,
+    command: &C,
+    writer: &mut W,
+    errors: &mut E,
+) -> u8
+    requires writer { W.failures writer.old + 1 < 2 ^ 64 }
+    ensures status { result ≤ 1 }
+    ensures done { result ≡ 0 → OverImage (F.contents files.now (C.file command.now)) (λ d. C.shows command.now d Verdict.Fine (W.passed writer.old) (W.passed writer.new)) }
+{
+    let found = show_image(rt, alloc, files, command, writer);
+    shown(found, command.image(), errors)
+}
+
+// The status of a restore, with why it failed where it did.
+fn restored<E: Write>(
+    placed: Result<Placed, RestoreFailure>,
+    restore: &RestoreAsked<'_>,
+    errors: &mut E,
+) -> u8
+    ensures status { result ≤ 1 }
+    ensures done { result ≡ 0 → IsOk placed }
+{
+    match placed {
+        Ok(Placed::Lasting) => DONE,
+        Ok(Placed::NotLasting) => fail_to_last(errors, restore.image),
+        Err(RestoreFailure::OfMap(fault)) => fail_of_map(errors, restore, fault),
+        Err(RestoreFailure::OfImage(failure)) => fail_over(errors, restore.image, failure),
+    }
+}
+
+// Says why the file of what an earlier restore printed can't be taken.
+fn fail_of_map<E: Write>(errors: &mut E, restore: &RestoreAsked<'_>, why: MapFault) -> u8
+    ensures { result ≡ 1 }
+{
+    let path = restore.map.unwrap_or("");
+    let _ = writeln!(errors, "s4: {path}: {why}");
+    FAILED
 }
 
 // The status of a command that printed something, with why it failed where it did.

@@ -1,7 +1,40 @@
 -- What a refused line says of it.
 use Rattle.std.proofs.Common.{Result, Ok, Err, IfErr}
+use Rattle.clap.specs.Kinds.{Kinds}
+use Rattle.s4_command.specs.CommandLine.{IsAskedAmong, IsOwn, IsRefusedBy}
+use Rattle.s4_command.specs.declared.NoCommand.{NoCommand}
+use Rattle.s4_command.specs.declared.NoCommand.TheVariants as refusal
 
 -- what holds of a failure holds of it under one premise more
 pub under_premise : {A E : Type 0} (Q T : Type 0) → (r : Result A E) (P : E → Type 0) → IfErr r (λ e. P e → Q) → IfErr r (λ e. P e → T → Q)
 under_premise Q T (Ok a) P q = tt
 under_premise Q T (Err e) P q = λ p _. q p
+
+-- a refusal of the parser is one that was asked for only where that is among its kinds
+pub among_refused : (kinds : Kinds) (e : NoCommand) → IsRefusedBy kinds e → IsAskedAmong kinds e
+among_refused kinds (refusal.Asked error) h = h
+among_refused kinds (refusal.Refused error) h = tt
+among_refused kinds (refusal.NoNumber name word) h = tt
+among_refused kinds (refusal.NoMoment name word) h = tt
+among_refused kinds (refusal.NoKind word) h = tt
+among_refused kinds (refusal.Both one other) h = tt
+among_refused kinds (refusal.Neither one other) h = tt
+among_refused kinds refusal.Unspelled h = tt
+among_refused kinds refusal.NoMemory h = tt
+
+-- a refusal of the matches isn't one that was asked for
+pub among_own : (kinds : Kinds) (e : NoCommand) → IsOwn e → IsAskedAmong kinds e
+among_own kinds (refusal.Asked error) h = absurd h
+among_own kinds (refusal.Refused error) h = tt
+among_own kinds (refusal.NoNumber name word) h = tt
+among_own kinds (refusal.NoMoment name word) h = tt
+among_own kinds (refusal.NoKind word) h = tt
+among_own kinds (refusal.Both one other) h = tt
+among_own kinds (refusal.Neither one other) h = tt
+among_own kinds refusal.Unspelled h = tt
+among_own kinds refusal.NoMemory h = tt
+
+-- what holds of a failure holds of it in other words
+pub if_err : {A E : Type 0} {P Q : E → Type 0} → (r : Result A E) → ((e : E) → P e → Q e) → IfErr r P → IfErr r Q
+if_err (Ok a) on p = tt
+if_err (Err e) on p = on e p

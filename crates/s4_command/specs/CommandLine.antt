@@ -111,9 +111,10 @@ export_line = with_rule (with_rule (with_rule (new_app (codes "export"))
     (needed_rule (codes "image")))
     (needed_rule (codes "folder"))
 
--- `[--dry-run] [--flush] [--skip] [--keep-newer] [--json] IMAGE` after what is there
+-- `[--map FILE] [--dry-run] [--flush] [--skip] [--keep-newer] [--json] IMAGE` after what is there
 abbrev pub with_restore_rules : App → App
-with_restore_rules app = with_rule (with_rule (with_rule (with_rule (with_rule (with_rule app
+with_restore_rules app = with_rule (with_rule (with_rule (with_rule (with_rule (with_rule (with_rule app
+    (value_rule (codes "map")))
     (flag_rule (codes "dry-run")))
     (flag_rule (codes "flush")))
     (flag_rule (codes "skip")))
@@ -121,7 +122,7 @@ with_restore_rules app = with_rule (with_rule (with_rule (with_rule (with_rule (
     (flag_rule (codes "json")))
     (needed_rule (codes "image"))
 
--- `restore --at M [--object O].. [--name TEXT] [--dry-run] [--flush] [--skip] [--keep-newer] [--json] IMAGE`
+-- `restore --at M [--object O].. [--name TEXT] [--map FILE] [--dry-run] [--flush] [--skip] [--keep-newer] [--json] IMAGE`
 abbrev pub restore_line : App
 restore_line = with_restore_rules (with_rule (with_rule (with_rule (new_app (codes "restore"))
     (needed_value_rule (codes "at")))
@@ -285,6 +286,7 @@ pub record SpellsRestore (rows : List Row) (restore : RestoreAsked) : Type 0 whe
   pub at : IsMomentAsked (codes "at") rows (Some restore.at)
   pub objects : AreNumbers (texts_of (codes "object") rows) restore.objects.items
   pub name : IsTextAsked (codes "name") rows restore.name
+  pub map : IsTextAsked (codes "map") rows restore.map
   pub dry_run : (restore.dry_run ≡ true) ↔ IsGiven (codes "dry-run") rows
   pub flush : (restore.flush ≡ true) ↔ IsGiven (codes "flush") rows
   pub skip : (restore.skip ≡ true) ↔ IsGiven (codes "skip") rows
@@ -343,3 +345,14 @@ IsRefusedBy kinds (refusal.Asked error) = IsAmong (kind_of error) kinds × (is_a
 IsRefusedBy kinds (refusal.Refused error) = IsAmong (kind_of error) kinds × (is_asked_for (kind_of error) ≡ false)
 IsRefusedBy kinds refusal.NoMemory = Unit {0}
 IsRefusedBy kinds _ = ⊥
+
+-- A refusal is of the matches, and not the parser's.
+abbrev pub IsOwn : NoCommand → Type 0
+IsOwn (refusal.Asked error) = ⊥
+IsOwn (refusal.Refused error) = ⊥
+IsOwn _ = Unit {0}
+
+-- Help or the version comes as asked for only where the parser finds that asked for.
+abbrev pub IsAskedAmong : Kinds → NoCommand → Type 0
+IsAskedAmong kinds (refusal.Asked error) = IsAmong (kind_of error) kinds × (is_asked_for (kind_of error) ≡ true)
+IsAskedAmong kinds _ = Unit {0}

@@ -14,7 +14,8 @@ ghost use Rattle.clap.specs.Kinds.{Kinds, HasKind};
 ghost use Rattle.clap.specs.Values.{kind_of};
 ghost use Rattle.clap.specs.Matches.{found_of};
 ghost use Rattle.clap.specs.Simple.{subcommand_of, subcommand_rows_of};
-ghost use Rattle.s4_command.specs.CommandLine.{line, IsRefusedBy, Spells, SpellsNone};
+ghost use Rattle.s4_command.specs.CommandLine.{line, IsAskedAmong, IsOwn, IsRefusedBy};
+ghost use Rattle.s4_command.specs.CommandLine.{Spells, SpellsNone};
 
 mod arguments;
 mod changes;
@@ -133,6 +134,7 @@ pub fn command_of<'a, S: AsStr>(alloc: Global, words: &'a [S]) -> Result<Command
         → SpellsNone (subcommand_of line (map S.text words.entry.now))) }
     ensures refused { fault_of line (map S.text words.entry.now) ≢ []
         → IsErrAnd result (IsRefusedBy (fault_of line (map S.text words.entry.now))) }
+    ensures asked { IfErr result (IsAskedAmong (fault_of line (map S.text words.entry.now))) }
 {
     let parser = command_line(alloc)?;
     match parser.try_get_matches_from(words) {
@@ -157,10 +159,25 @@ fn command_in<'a>(alloc: Global, matches: &ArgMatches<'a>) -> Result<Command<'a>
     ensures spelled { IfOk result (Spells (subcommand_rows_of matches.now)) }
     ensures usage { IfErr result (λ e. e ≢ NoCommand.NoMemory
         → SpellsNone (subcommand_rows_of matches.now)) }
+    ensures own { IfErr result IsOwn }
 {
     match matches.subcommand() {
-        Some((name, found)) => named_command(alloc, name, found),
+        Some((name, found)) => match named_command(alloc, name, found) {
+            Ok(command) => Ok(command),
+            Err(refusal) => Err(own(refusal)),
+        },
         None => Err(NoCommand::Unspelled),
+    }
+}
+
+// A refusal of matches. The parser took their words, so that no error of its own is in it.
+fn own<'a>(refusal: NoCommand<'a>) -> NoCommand<'a>
+    ensures own { IsOwn result }
+    ensures memory { refusal.entry ≡ NoCommand.NoMemory → result ≡ NoCommand.NoMemory }
+{
+    match refusal {
+        NoCommand::Asked(_) | NoCommand::Refused(_) => NoCommand::Unspelled,
+        other => other,
     }
 }
 

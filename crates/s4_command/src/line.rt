@@ -174,9 +174,16 @@ fn with_restore_settings<'a>(
 ) -> Result<Command<'a>, AllocError>
     ensures { (app : App) → IsLine restore.entry app → IsLine result (with_restore_rules app) }
 {
-    let dry_run = with_flag(
+    let map = with_value(
         alloc,
         restore,
+        "map",
+        "FILE",
+        "What an earlier restore printed: objects that it made anew are taken for the old ones",
+    );
+    let dry_run = with_flag(
+        alloc,
+        map,
         "dry-run",
         "Prints what would be done, and does nothing",
     );

@@ -23,6 +23,8 @@ pub struct RestoreAsked<'a> {
     pub objects: Vec<u64>,
     /// The one object, by its attribute at the moment.
     pub name: Option<&'a str>,
+    /// The file that has what an earlier restore printed.
+    pub map: Option<&'a str>,
     /// Whether it is only printed what would be done.
     pub dry_run: bool,
     /// Whether moments between that one and the present are hidden where an object's journal is
@@ -66,6 +68,7 @@ fn restore_in<'a>(
         at,
         objects,
         name: text_in(matches, "name"),
+        map: text_in(matches, "map"),
         dry_run: is_given(matches, "dry-run"),
         flush: is_given(matches, "flush"),
         skip: is_given(matches, "skip"),

@@ -1,1 +1,3 @@
+pub mod Dry
 pub mod Rooms
+pub mod Said

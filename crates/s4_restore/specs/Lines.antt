@@ -34,7 +34,7 @@ abbrev pub planned_text : Bool → ℕ → ℕ → Plan → List ℕ
 planned_text json o n plan = if json then planned_json o n plan else planned_line o n plan
 
 abbrev pub restored_text : Bool → Restored → List ℕ
-restored_text json r = planned_text json r.object r.number r.plan
+restored_text json r = planned_text json r.aim.target r.number r.plan
 
 -- the line of an object that can't be restored
 abbrev pub skipped_text : Bool → ℕ → List ℕ

@@ -6,14 +6,15 @@ use Rattle.s4_types.specs.declared.spans.Span.{Span}
 use Rattle.version_store.specs.Versions.{entries_of_object}
 use Rattle.drive.specs.Fields.{DriveFields, state_in, store_of}
 use Rattle.history_cleaner.specs.Cleaning.{Cleans, IsClean}
+use Rattle.history_restore.specs.declared.aims.Aim.{Aim}
 use Rattle.history_restore.specs.Room.{HidesBetween, IsOfNewest, LeavesObjects, begun_after}
 use Rattle.s4_restore.specs.Lines.{hidden_text}
 use Rattle.s4_restore.specs.Restoring.{RestoresDrive}
 use Rattle.s4_restore.specs.declared.making_room.Room.{Room}
 
--- an object is among these
-abbrev pub IsAmong : List ℕ → ℕ → Type 0
-IsAmong objects o = list_any (λ (x : ℕ). x == o) objects ≡ true
+-- something is restored under a number
+abbrev pub IsAimedAt : List Aim → ℕ → Type 0
+IsAimedAt aims o = list_any (λ (a : Aim). a.target == o) aims ≡ true
 
 -- An object was cleaned.
 pub record IsCleaned (d : DriveFields) (o : ℕ) (later : DriveFields) : Type 0 where
@@ -41,20 +42,20 @@ pub record MakesRoom (d : DriveFields) (at : ℕ) (room : Room) (hidden : Option
   pub has : HasRoom cleaned at room hidden later
 
 -- Room is made for an object that is restored, and the output ends with the line of what is hidden.
-pub record Hides (d : DriveFields) (at : ℕ) (json : Bool) (objects : List ℕ) (room : Room) (later : DriveFields) (output output' : Option (List ℕ)) : Type 0 where
-  pub among : IsAmong objects room.object
+pub record Hides (d : DriveFields) (at : ℕ) (json : Bool) (aims : List Aim) (room : Room) (later : DriveFields) (output output' : Option (List ℕ)) : Type 0 where
+  pub among : IsAimedAt aims room.object
   pub hidden : Option Span
   pub made : MakesRoom d at room hidden later
   pub wrote : Appends output output' (hidden_text json hidden)
 
 -- It is for each of these, one after the other.
-abbrev pub HidesAll : DriveFields → ℕ → Bool → List ℕ → List Room → DriveFields → Option (List ℕ) → Option (List ℕ) → Type 0
-HidesAll d at json objects [] later output output' = (later ≡ d) × (output' ≡ output)
-HidesAll d at json objects (room ∷ full) later output output' = (middle : DriveFields) × (between : Option (List ℕ)) × Hides d at json objects room middle output between × HidesAll middle at json objects full later between output'
+abbrev pub HidesAll : DriveFields → ℕ → Bool → List Aim → List Room → DriveFields → Option (List ℕ) → Option (List ℕ) → Type 0
+HidesAll d at json aims [] later output output' = (later ≡ d) × (output' ≡ output)
+HidesAll d at json aims (room ∷ full) later output output' = (middle : DriveFields) × (between : Option (List ℕ)) × Hides d at json aims room middle output between × HidesAll middle at json aims full later between output'
 
 -- Room was made in journals, and then these objects were restored, and the output ends with the lines of that.
-pub record RestoresWithRoom (d later : DriveFields) (at : ℕ) (json : Bool) (objects : List ℕ) (full : List Room) (output output' : Option (List ℕ)) : Type 0 where
+pub record RestoresWithRoom (d later : DriveFields) (at : ℕ) (json : Bool) (aims : List Aim) (full : List Room) (output output' : Option (List ℕ)) : Type 0 where
   pub middle : DriveFields
   pub between : Option (List ℕ)
-  pub hides : HidesAll d at json objects full middle output between
-  pub restores : RestoresDrive (state_in middle) (state_in later) at json objects between output'
+  pub hides : HidesAll d at json aims full middle output between
+  pub restores : RestoresDrive (state_in middle) (state_in later) at json aims between output'

@@ -1,13 +1,15 @@
 -- How a moment is kept in reach until it is restored.
-use Rattle.std.specs.Prelude.{◌≡◌, ℕ, ◌+◌, min, filter, Bool, List, [], ◌∷◌, length, Option, None, Some, option_map}
+use Rattle.std.specs.Prelude.{◌≡◌, ℕ, ◌+◌, ◌<◌, min, filter, Bool, List, [], ◌∷◌, length, Option, None, Some, option_map}
 use Rattle.std.specs.Io.KnownBytes.{Appends}
+use Rattle.std.specs.List.{AllByRecursion}
 use Rattle.s4_model.specs.State.{State}
 use Rattle.s4_model.specs.Refusals.{last_number}
 use Rattle.version_store.specs.Store.{StoreFields}
 use Rattle.drive.specs.Fields.{DriveFields, state_in, store_of}
-use Rattle.history_restore.specs.Planning.{changes_planned, objects_planned}
+use Rattle.history_restore.specs.Planning.{aims_planned, changes_planned}
 use Rattle.history_restore.specs.Whole.{PlansAll, PlansAsked, is_chosen}
 use Rattle.history_restore.specs.Widening.{Widens}
+use Rattle.history_restore.specs.declared.aims.StandIn.{StandIn}
 use Rattle.history_restore.specs.declared.planning.ObjectPlan.{ObjectPlan}
 use Rattle.s4_images.specs.Moments.{IsObjectAsked, moment_said}
 use Rattle.s4_restore.specs.Lines.{window_text}
@@ -16,9 +18,13 @@ use Rattle.s4_restore.specs.declared.making_room.Room.{Room}
 use Rattle.s4_restore.specs.declared.orders.Order.{Order}
 
 -- These are the plans of the objects that are named, or of all that have a row where none is.
-abbrev pub ArePlans : State → StoreFields → ℕ → List ℕ → List ObjectPlan → Type 0
-ArePlans s store at [] plans = PlansAll s store at plans
-ArePlans s store at (o ∷ objects) plans = PlansAsked s store at (o ∷ objects) plans
+abbrev pub ArePlans : State → StoreFields → ℕ → List StandIn → List ℕ → List ObjectPlan → Type 0
+ArePlans s store at stand_ins [] plans = PlansAll s store at stand_ins plans
+ArePlans s store at stand_ins (o ∷ objects) plans = PlansAsked s store at stand_ins (o ∷ objects) plans
+
+-- the numbers of stand-ins were given
+abbrev pub AreGiven : State → List StandIn → Type 0
+AreGiven s stand_ins = AllByRecursion (λ (l : StandIn). (0 < l.number) × (l.number < s.next)) stand_ins
 
 -- the object that was found by its name, or else those of these numbers
 abbrev pub objects_or : Option ℕ → List ℕ → List ℕ
@@ -31,12 +37,14 @@ pub record AreAsked (s : State) (store : StoreFields) (order : Order) (at : ℕ)
   pub named : IsObjectAsked s store None (option_map (λ text. text.now) order.name) at found
   pub objects_are : objects ≡ objects_or found order.objects.now
 
--- These are the plans of the objects that an order restores: those that are skipped are left out, and newer ones where they are kept.
+-- These are the plans of the objects that an order restores, by stand-ins that were made: those that are skipped are left out, and newer
+-- ones where they are kept.
 pub record AreChosen (s : State) (store : StoreFields) (order : Order) (at : ℕ) (chosen : List ObjectPlan) : Type 0 where
+  pub given : AreGiven s order.stand_ins.now
   pub asked : List ℕ
   pub objects : AreAsked s store order at asked
   pub plans : List ObjectPlan
-  pub planned : ArePlans s store at asked plans
+  pub planned : ArePlans s store at order.stand_ins.now asked plans
   pub chosen_are : chosen ≡ filter (is_chosen order.keep_newer order.skipped.now) plans
 
 -- How many changes are ahead: those of the plans, and one for each journal that room is made in.
@@ -57,4 +65,4 @@ pub record RestoresInReach (d later : DriveFields) (order : Order) (output outpu
   pub wide : DriveFields
   pub between : Option (List ℕ)
   pub reaches : Reaches (state_in d) (store_of d) (moment_said (state_in d) order.at) (changes_ahead chosen order.full.now) order.json wide output between
-  pub restores : RestoresWithRoom wide later (moment_said (state_in d) order.at) order.json (objects_planned chosen) order.full.now between output'
+  pub restores : RestoresWithRoom wide later (moment_said (state_in d) order.at) order.json (aims_planned chosen) order.full.now between output'

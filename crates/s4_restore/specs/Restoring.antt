@@ -5,19 +5,20 @@ use Rattle.std.specs.Io.KnownBytes.{Appends}
 use Rattle.s4_model.specs.State.{State}
 use Rattle.history_restore.specs.Keeping.{LeavesPast}
 use Rattle.history_restore.specs.Whole.{IsCounted, LeavesRest, RestoresEach}
+use Rattle.history_restore.specs.declared.aims.Aim.{Aim}
 use Rattle.history_restore.specs.declared.restoring.Restored.{Restored}
 use Rattle.s4_restore.specs.Lines.{restored_text}
 
 -- These objects were restored, in their order; every other one is what it was, and the past stays. As many numbers were given as objects were
 -- made anew, and no more moments than there were changes.
-pub record AreRestored (s later : State) (at : ℕ) (objects : List ℕ) (all : List Restored) : Type 0 where
-  pub each : RestoresEach s later at objects all
-  pub rest : LeavesRest s later objects
+pub record AreRestored (s later : State) (at : ℕ) (aims : List Aim) (all : List Restored) : Type 0 where
+  pub each : RestoresEach s later at aims all
+  pub rest : LeavesRest s later aims
   pub past : LeavesPast s later
   pub counted : IsCounted s later 0 all
 
 -- So it was, and the output ends with the lines of that.
-pub record RestoresDrive (s later : State) (at : ℕ) (json : Bool) (objects : List ℕ) (output output' : Option (List ℕ)) : Type 0 where
+pub record RestoresDrive (s later : State) (at : ℕ) (json : Bool) (aims : List Aim) (output output' : Option (List ℕ)) : Type 0 where
   pub all : List Restored
-  pub restored : AreRestored s later at objects all
+  pub restored : AreRestored s later at aims all
   pub wrote : Appends output output' (flat_map (restored_text json) all)

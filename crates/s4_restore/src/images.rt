@@ -1,9 +1,11 @@
 //! `restore` over the image in a file.
 ghost use Rattle.std.specs.Prelude.{◌≡◌, ℕ, ◌+◌, ◌^◌, ◌<◌, List, IfOk, OnErr, OnOk};
 ghost use Rattle.std.specs.Io.KnownBytes.{Keeps};
-ghost use Rattle.s4_restore.specs.Images.{RestoresImage, WouldRestoreImage};
+ghost use Rattle.s4_restore.specs.Images.{PerformsRestore, RestoresImage, WouldRestoreImage};
 
+use crate::maps::{MapFault, read_map};
 use crate::preparing::{order_of, prepare_image};
+use history_restore::StandIn;
 use image_commands::{Files, Placed};
 use s4_command::RestoreAsked;
 use s4_images::{Failure, Verdict, change_image, over_image};
@@ -17,17 +19,19 @@ pub fn dry_run_image<T: Threads, F: Files, W: Sink>(
     alloc: Global,
     files: &F,
     asked: &RestoreAsked<'_>,
+    stand_ins: &[StandIn],
     writer: &mut W,
 ) -> Result<Verdict, Failure>
     requires writer { W.failures writer.old + 1 < 2 ^ 64 }
-    ensures would_restore { OnOk result (WouldRestoreImage (F.contents files.now asked.now.image.now) asked.now (W.passed writer.old) (W.passed writer.new)) }
+    ensures would_restore { OnOk result (WouldRestoreImage (F.contents files.now asked.now.image.now) asked.now stand_ins.now (W.passed writer.old) (W.passed writer.new)) }
 {
-    let made = prepare_image(rt, alloc, files, asked)?;
-    let order = order_of(files, asked, &made);
+    let made = prepare_image(rt, alloc, files, asked, stand_ins)?;
+    let order = order_of(files, asked, stand_ins, &made);
     over_image(rt, alloc, files, asked.image, &order, writer)
 }
 
-/// Restores the drive of an image, saves it there, and prints what was done to each object. What is needed for that is found before, by trials
+/// Restores the drive of an image, saves it there, and prints what was done to each object. What an earlier restore made anew is compared and
+/// turned back under the number that it got, where it is among these stand-ins and there. What is needed for that is found before, by trials
 /// that aren't saved: whether the window is widened, whether room is made as `compact` does, and where that is asked for how many versions are
 /// hidden of objects whose journals are full, as few as serve. Where anything fails all files are as they were.
 #[tactic(auto, using(s4_images::proofs::Kept::untouched))]
@@ -36,13 +40,53 @@ pub fn restore_image<T: Threads, F: Files, W: Sink>(
     alloc: Global,
     files: &mut F,
     asked: &RestoreAsked<'_>,
+    stand_ins: &[StandIn],
     writer: &mut W,
 ) -> Result<Placed, Failure>
     requires writer { W.failures writer.old + 1 < 2 ^ 64 }
-    ensures restores { OnOk result (RestoresImage (F.contents files.old asked.now.image.now) (F.contents files.new asked.now.image.now) asked.now (W.passed writer.old) (W.passed writer.new)) }
+    ensures restores { OnOk result (RestoresImage (F.contents files.old asked.now.image.now) (F.contents files.new asked.now.image.now) asked.now stand_ins.now (W.passed writer.old) (W.passed writer.new)) }
     ensures kept { OnErr result ((path : List ℕ) → Keeps (F.contents files.old path) (F.contents files.new path)) }
 {
-    let made = prepare_image(rt, alloc, files, asked)?;
-    let order = order_of(files, asked, &made);
+    let made = prepare_image(rt, alloc, files, asked, stand_ins)?;
+    let order = order_of(files, asked, stand_ins, &made);
     change_image(rt, alloc, files, asked.image, &order, writer)
+}
+
+/// Why a restore failed.
+#[derive(Debug, Drop)]
+pub enum RestoreFailure {
+    /// What an earlier restore printed can't be taken.
+    OfMap(MapFault),
+    /// The drive in the image can't be restored, or not saved.
+    OfImage(Failure),
+}
+
+/// Does what is asked for, by the stand-ins that the map has which is named: as [`dry_run_image`] where nothing is to be changed, else as
+/// [`restore_image`]. Where it fails all files are as they were.
+#[tactic(auto, using(s4_images::proofs::Kept::untouched))]
+pub fn perform_restore<T: Threads, F: Files, W: Sink>(
+    rt: &T,
+    alloc: Global,
+    files: &mut F,
+    asked: &RestoreAsked<'_>,
+    writer: &mut W,
+) -> Result<Placed, RestoreFailure>
+    requires writer { W.failures writer.old + 1 < 2 ^ 64 }
+    ensures performs { OnOk result (PerformsRestore (F.contents files.old) (F.contents files.new) asked.now (W.passed writer.old) (W.passed writer.new)) }
+    ensures kept { OnErr result ((path : List ℕ) → Keeps (F.contents files.old path) (F.contents files.new path)) }
+{
+    let stand_ins = match read_map(alloc, files, asked.map) {
+        Ok(stand_ins) => stand_ins,
+        Err(fault) => return Err(RestoreFailure::OfMap(fault)),
+    };
+    if asked.dry_run {
+        return match dry_run_image(rt, alloc, files, asked, stand_ins.as_slice(), writer) {
+            Ok(_) => Ok(Placed::Lasting),
+            Err(failure) => Err(RestoreFailure::OfImage(failure)),
+        };
+    }
+    match restore_image(rt, alloc, files, asked, stand_ins.as_slice(), writer) {
+        Ok(placed) => Ok(placed),
+        Err(failure) => Err(RestoreFailure::OfImage(failure)),
+    }
 }

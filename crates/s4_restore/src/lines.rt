@@ -37,7 +37,7 @@ fn done_json(alloc: Global, object: u64, done: &str) -> Result<String, AllocErro
     line_of(alloc, &value)
 }
 
-fn remade_value(alloc: Global, object: u64, number: u64) -> Result<Value, AllocError>
+pub(crate) fn remade_value(alloc: Global, object: u64, number: u64) -> Result<Value, AllocError>
     ensures { IfOk result (λ value. view value ≡ remade_data object number) }
 {
     json!(in alloc; {
@@ -91,7 +91,7 @@ fn planned_text(
     planned_line(alloc, object, number, plan)
 }
 
-/// The line of an object that was restored; none where it was what it had been.
+/// The line of what was restored under a number; none where nothing was to be done.
 pub(crate) fn restored_text(
     alloc: Global,
     json: bool,
@@ -99,8 +99,8 @@ pub(crate) fn restored_text(
 ) -> Result<String, AllocError>
     ensures { IfOk result (λ line. string_bytes line ≡ restored_text json restored.now) }
 {
-    let (object, number) = (restored.object.number(), restored.number.number());
-    planned_text(alloc, json, object, number, restored.plan)
+    let (under, number) = (restored.aim.target.number(), restored.number.number());
+    planned_text(alloc, json, under, number, restored.plan)
 }
 
 /// The line of an object that can't be restored.

@@ -1,13 +1,13 @@
 //! Moments are hidden where an object's journal has no room for what restores it, as few versions as serve.
-ghost use Rattle.std.specs.Prelude.{◌≡◌, ℕ, ◌+◌, ◌^◌, ◌<◌, IfOk, IfSome, OnOk};
+ghost use Rattle.std.specs.Prelude.{◌≡◌, ℕ, ◌+◌, ◌^◌, ◌<◌, IfOk, IfSome, IsTrue, OnOk};
 ghost use Rattle.drive.specs.Fields.{state_in, store_of};
-ghost use Rattle.s4_restore.specs.MakingRoom.{Hides, HidesAll, IsAmong, MakesRoom, RestoresWithRoom};
+ghost use Rattle.s4_restore.specs.MakingRoom.{Hides, HidesAll, IsAimedAt, MakesRoom, RestoresWithRoom};
 
 use crate::lines::hidden_text;
 use crate::restoring::restore;
 use drive::{Drive, Session};
 use history_cleaner::clean_object;
-use history_restore::{make_room, newest_versions};
+use history_restore::{Aim, make_room, newest_versions};
 use image_commands::write_out;
 use s4_images::Failure;
 use s4_types::{Moment, ObjectId, Refusal, Span};
@@ -22,23 +22,23 @@ pub struct Room {
     pub count: usize,
 }
 
-/// Makes room in journals, and then restores these objects of a drive. Prints what is hidden, and what was done to each object.
+/// Makes room in journals, and then restores objects of a drive under these numbers. Prints what is hidden, and what was done to each.
 pub(crate) fn restore_with_room<J: Naming, W: Sink>(
     alloc: Global,
     drive: &mut Drive<J>,
     session: &mut Session<J>,
     at: u64,
     json: bool,
-    objects: &[ObjectId],
+    aims: &[Aim],
     full: &[Room],
     writer: &mut W,
 ) -> Result<(), Failure>
     requires writer { W.failures writer.old + 1 < 2 ^ 64 }
-    ensures restores { OnOk result (RestoresWithRoom drive.old drive.new at json objects.now full.now (W.passed writer.old) (W.passed writer.new)) }
+    ensures restores { OnOk result (RestoresWithRoom drive.old drive.new at json aims.now full.now (W.passed writer.old) (W.passed writer.new)) }
     ensures failures { OnOk result (W.failures writer.new ≡ W.failures writer.old) }
 {
-    hide_all(alloc, drive, session, at, json, objects, full, writer)?;
-    restore(alloc, drive, session, at, json, objects, writer)
+    hide_all(alloc, drive, session, at, json, aims, full, writer)?;
+    restore(alloc, drive, session, at, json, aims, writer)
 }
 
 // Hides what has to be of each of these, one after the other, and makes room in their journals.
@@ -48,19 +48,19 @@ fn hide_all<J: Naming, W: Sink>(
     session: &mut Session<J>,
     at: u64,
     json: bool,
-    objects: &[ObjectId],
+    aims: &[Aim],
     full: &[Room],
     writer: &mut W,
 ) -> Result<(), Failure>
     requires writer { W.failures writer.old + 1 < 2 ^ 64 }
-    ensures hides { OnOk result (HidesAll drive.old at json objects.now full.now drive.new (W.passed writer.old) (W.passed writer.new)) }
+    ensures hides { OnOk result (HidesAll drive.old at json aims.now full.now drive.new (W.passed writer.old) (W.passed writer.new)) }
     ensures failures { OnOk result (W.failures writer.new ≡ W.failures writer.old) }
 {
     match full {
         [] => Ok(()),
         [room, rest @ ..] => {
-            hide(alloc, drive, session, at, json, objects, room, writer)?;
-            hide_all(alloc, drive, session, at, json, objects, rest, writer)
+            hide(alloc, drive, session, at, json, aims, room, writer)?;
+            hide_all(alloc, drive, session, at, json, aims, rest, writer)
         }
     }
 }
@@ -72,15 +72,15 @@ fn hide<J: Naming, W: Sink>(
     session: &mut Session<J>,
     at: u64,
     json: bool,
-    objects: &[ObjectId],
+    aims: &[Aim],
     room: &Room,
     writer: &mut W,
 ) -> Result<(), Failure>
     requires writer { W.failures writer.old + 1 < 2 ^ 64 }
-    ensures hides { OnOk result (Hides drive.old at json objects.now room.now drive.new (W.passed writer.old) (W.passed writer.new)) }
+    ensures hides { OnOk result (Hides drive.old at json aims.now room.now drive.new (W.passed writer.old) (W.passed writer.new)) }
     ensures failures { OnOk result (W.failures writer.new ≡ W.failures writer.old) }
 {
-    if !objects.contains(&room.object) {
+    if !is_aimed_at(aims, room.object) {
         return Err(full(room.object));
     }
     let made = prepare(alloc, drive, session, at, room)?;
@@ -93,6 +93,13 @@ fn hide<J: Naming, W: Sink>(
     };
     write_out(writer, line.as_bytes())?;
     Ok(())
+}
+
+// Whether something is restored under a number.
+fn is_aimed_at(aims: &[Aim], number: ObjectId) -> bool
+    ensures { IsTrue result → IsAimedAt aims.now number }
+{
+    aims.iter().any(|aim| aim.target == number)
 }
 
 // The failure of an object whose journal is full, and of which no more can be hidden.

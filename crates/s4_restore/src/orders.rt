@@ -7,6 +7,7 @@ use crate::reaching::restore_in_reach;
 use crate::restoring::write_skipped;
 use drive::{Drive, Session};
 use drive_compaction::compact;
+use history_restore::StandIn;
 use moment_words::MomentWord;
 use s4_images::{DriveChange, DriveCommand, Failure, Verdict};
 use s4_types::{ObjectId, Role};
@@ -23,15 +24,17 @@ pub struct Order<'a> {
     pub objects: &'a [u64],
     /// The one object, by its attribute at the moment.
     pub name: Option<&'a str>,
+    /// What was made anew by earlier restores, and of what.
+    pub stand_ins: &'a [StandIn],
     /// Whether objects that were made since stay.
     pub keep_newer: bool,
     /// Whether room is made first, as `compact` does.
     pub compacts: bool,
     /// Whether lines are for programs.
     pub json: bool,
-    /// The objects whose journals are full, in the order in which room is made in them.
+    /// The numbers whose journals are full, in the order in which room is made in them.
     pub full: &'a [Room],
-    /// The objects that can't be restored, and are left as they are.
+    /// The numbers under which nothing can be restored, and that are left as they are.
     pub skipped: &'a [ObjectId],
 }
 

@@ -7,6 +7,7 @@ ghost use Rattle.s4_restore.specs.declared.preparing.Step.TheVariants.{Hide};
 use crate::making_room::Room;
 use crate::orders::Order;
 use crate::trials::{fewest, serves};
+use history_restore::StandIn;
 use image_commands::Files;
 use s4_command::RestoreAsked;
 use s4_images::{Failure, over_image};
@@ -32,6 +33,7 @@ pub enum Lack {
 /// An object that can't be restored.
 #[derive(Clone, Copy, PartialEq, Eq)]
 pub struct Lacking {
+    /// The number under which it isn't.
     pub object: ObjectId,
     pub lack: Lack,
 }
@@ -68,14 +70,16 @@ pub enum Step {
 pub(crate) fn order_of<'a, F: Files>(
     _files: &F,
     asked: &'a RestoreAsked<'_>,
+    stand_ins: &'a [StandIn],
     made: &'a Preparation,
 ) -> Order<'a>
-    ensures { IsPrepared (F.contents _files.now asked.now.image.now) asked.now made.now → IsOrderOf (F.contents _files.now asked.now.image.now) asked.now result }
+    ensures { IsPrepared (F.contents _files.now asked.now.image.now) asked.now stand_ins.now made.now → IsOrderOf (F.contents _files.now asked.now.image.now) asked.now stand_ins.now result }
 {
     Order {
         at: asked.at,
         objects: asked.objects.as_slice(),
         name: asked.name,
+        stand_ins,
         keep_newer: asked.keep_newer,
         json: asked.json,
         compacts: made.compacts,
@@ -90,10 +94,11 @@ pub(crate) fn prepare_image<T: Threads, F: Files>(
     alloc: Global,
     files: &F,
     asked: &RestoreAsked<'_>,
+    stand_ins: &[StandIn],
 ) -> Result<Preparation, Failure>
-    ensures prepared { IfOk result (IsPrepared (F.contents files.now asked.now.image.now) asked.now) }
+    ensures prepared { IfOk result (IsPrepared (F.contents files.now asked.now.image.now) asked.now stand_ins.now) }
 {
-    let findings = find_needed(rt, alloc, files, asked)?;
+    let findings = find_needed(rt, alloc, files, asked, stand_ins)?;
     if findings.lacking.is_empty() {
         return Ok(Preparation {
             compacts: findings.compacts,
@@ -133,8 +138,9 @@ fn find_needed<T: Threads, F: Files>(
     alloc: Global,
     files: &F,
     asked: &RestoreAsked<'_>,
+    stand_ins: &[StandIn],
 ) -> Result<Findings, Failure>
-    ensures fewest { IfOk result (λ found. AreFewest (F.contents files.now asked.now.image.now) asked.now.at found.full.items) }
+    ensures fewest { IfOk result (λ found. AreFewest (F.contents files.now asked.now.image.now) asked.now.at stand_ins.now found.full.items) }
     ensures hidden { IfOk result (λ found. asked.now.flush ≡ false → found.full.items ≡ []) }
 {
     let mut compacts = false;
@@ -142,7 +148,9 @@ fn find_needed<T: Threads, F: Files>(
     let mut lacking = Vec::new(alloc);
     for _ in 0..MOST_STEPS {
         let so_far = (full.as_slice(), lacking.as_slice());
-        match next_step(rt, alloc, files, asked, compacts, so_far.0, so_far.1)? {
+        match next_step(
+            rt, alloc, files, asked, stand_ins, compacts, so_far.0, so_far.1,
+        )? {
             Step::Done => break,
             Step::Compact => compacts = true,
             Step::Hide(room) => push(&mut full, room)?,
@@ -171,14 +179,16 @@ fn next_step<T: Threads, F: Files>(
     alloc: Global,
     files: &F,
     asked: &RestoreAsked<'_>,
+    stand_ins: &[StandIn],
     compacts: bool,
     full: &[Room],
     lacking: &[Lacking],
 ) -> Result<Step, Failure>
-    ensures fewest { IfOk result (λ step. (room : _) → step ≡ Hide room → IsFewest (F.contents files.now asked.now.image.now) asked.now.at room) }
+    ensures fewest { IfOk result (λ step. (room : _) → step ≡ Hide room → IsFewest (F.contents files.now asked.now.image.now) asked.now.at stand_ins.now room) }
     ensures hidden { IfOk result (λ step. (room : _) → step ≡ Hide room → asked.now.flush ≡ true) }
 {
-    let Some(one) = first_lacking(rt, alloc, files, asked, compacts, full, lacking)? else {
+    let found = first_lacking(rt, alloc, files, asked, stand_ins, compacts, full, lacking)?;
+    let Some(one) = found else {
         return Ok(Step::Done);
     };
     if !compacts {
@@ -186,7 +196,7 @@ fn next_step<T: Threads, F: Files>(
     }
     let number = one.object.number();
     if asked.flush && !is_tried(full, &one) {
-        return hiding(rt, alloc, files, asked, number);
+        return hiding(rt, alloc, files, asked, stand_ins, number);
     }
     Ok(Step::Skip(one))
 }
@@ -205,17 +215,18 @@ fn hiding<T: Threads, F: Files>(
     alloc: Global,
     files: &F,
     asked: &RestoreAsked<'_>,
+    stand_ins: &[StandIn],
     number: u64,
 ) -> Result<Step, Failure>
-    ensures fewest { IfOk result (λ step. (room : _) → step ≡ Hide room → IsFewest (F.contents files.now asked.now.image.now) asked.now.at room) }
+    ensures fewest { IfOk result (λ step. (room : _) → step ≡ Hide room → IsFewest (F.contents files.now asked.now.image.now) asked.now.at stand_ins.now room) }
 {
     let object = ObjectId::new(number);
-    let room = match fewest(rt, alloc, files, asked.image, asked.at, object) {
+    let room = match fewest(rt, alloc, files, asked.image, asked.at, stand_ins, object) {
         Ok(room) => room,
         Err(Failure::TooManySpans { .. }) => return Ok(skip(number, Lack::Runs)),
         Err(failure) => return Err(failure),
     };
-    if serves(rt, alloc, files, asked.image, asked.at, &room)? {
+    if serves(rt, alloc, files, asked.image, asked.at, stand_ins, &room)? {
         return Ok(Step::Hide(room));
     }
     Ok(skip(number, Lack::Journal))
@@ -235,6 +246,7 @@ fn first_lacking<T: Threads, F: Files>(
     alloc: Global,
     files: &F,
     asked: &RestoreAsked<'_>,
+    stand_ins: &[StandIn],
     compacts: bool,
     full: &[Room],
     lacking: &[Lacking],
@@ -247,6 +259,7 @@ fn first_lacking<T: Threads, F: Files>(
         at: asked.at,
         objects: asked.objects.as_slice(),
         name: asked.name,
+        stand_ins,
         keep_newer: asked.keep_newer,
         json: asked.json,
         compacts,

@@ -1,7 +1,7 @@
 //! The moment that is restored is kept in reach until all is done.
-ghost use Rattle.std.specs.Prelude.{◌≡◌, ℕ, ◌+◌, ◌^◌, ◌<◌, IfOk, OnOk};
+ghost use Rattle.std.specs.Prelude.{◌≡◌, ℕ, ◌+◌, ◌^◌, ◌<◌, IfOk, MatchBool, OnOk};
 ghost use Rattle.drive.specs.Fields.{state_in, store_of};
-ghost use Rattle.s4_restore.specs.Reaching.{AreAsked, AreChosen, ArePlans, Reaches, RestoresInReach, changes_ahead, objects_or};
+ghost use Rattle.s4_restore.specs.Reaching.{AreAsked, AreChosen, AreGiven, ArePlans, Reaches, RestoresInReach, changes_ahead, objects_or};
 
 use crate::lines::window_text;
 use crate::making_room::{Room, restore_with_room};
@@ -9,7 +9,8 @@ use crate::orders::Order;
 use crate::restoring::{check_objects, failure_of, objects_of};
 use drive::{Drive, Session};
 use history_restore::{
-    ObjectPlan, chosen_plans, count_changes, plan_all, plan_objects, planned_objects, widen_window,
+    ObjectPlan, StandIn, chosen_plans, count_changes, plan_all, plan_objects, planned_aims,
+    widen_window,
 };
 use image_commands::write_out;
 use s4_images::{Failure, moment_said, object_asked};
@@ -35,8 +36,8 @@ pub(crate) fn restore_in_reach<J: Naming, W: Sink>(
     let chosen = chosen_by(alloc, drive, session, order, at)?;
     let changes = changes_ahead(chosen.as_slice(), order.full);
     reach(alloc, drive, session, at, changes, order.json, writer)?;
-    let objects = match planned_objects(alloc, chosen.as_slice()) {
-        Ok(objects) => objects,
+    let aims = match planned_aims(alloc, chosen.as_slice()) {
+        Ok(aims) => aims,
         Err(_) => return Err(Failure::from(Refusal::NoMemory)),
     };
     restore_with_room(
@@ -45,7 +46,7 @@ pub(crate) fn restore_in_reach<J: Naming, W: Sink>(
         session,
         at,
         order.json,
-        objects.as_slice(),
+        aims.as_slice(),
         order.full,
         writer,
     )
@@ -63,8 +64,16 @@ fn chosen_by<J: Naming>(
     ensures state { state_in drive.new ≡ state_in drive.old }
     ensures store { store_of drive.new ≡ store_of drive.old }
 {
+    check_given(drive, order.stand_ins)?;
     let objects = objects_by(alloc, drive, order, at)?;
-    let plans = plans_by(alloc, drive, session, at, objects.as_slice())?;
+    let plans = plans_by(
+        alloc,
+        drive,
+        session,
+        at,
+        order.stand_ins,
+        objects.as_slice(),
+    )?;
     match chosen_plans(alloc, plans.as_slice(), order.keep_newer, order.skipped) {
         Ok(chosen) => Ok(chosen),
         Err(_) => Err(Failure::from(Refusal::NoMemory)),
@@ -107,27 +116,49 @@ fn objects_or(
     }
 }
 
+// Whether a number is above 0 and below the next one.
+fn was_given(number: u64, next: u64) -> bool
+    ensures { MatchBool result ((0 < number) × (number < next)) ((0 < number) × (number < next) → ⊥) }
+{
+    0 < number && number < next
+}
+
+// An error where a stand-in's number was never given.
+fn check_given<J: Naming>(drive: &Drive<J>, stand_ins: &[StandIn]) -> Result<(), Failure>
+    ensures given { OnOk result (AreGiven (state_in drive.now) stand_ins.now) }
+{
+    let next = drive.next().number();
+    for stand_in in stand_ins {
+        let object = stand_in.number.number();
+        if !was_given(object, next) {
+            return Err(Failure::NoObject { object });
+        }
+    }
+    Ok(())
+}
+
 // The plans of the objects that are named, or of all where none is.
 fn plans_by<J: Naming>(
     alloc: Global,
     drive: &mut Drive<J>,
     session: &mut Session<J>,
     at: u64,
+    stand_ins: &[StandIn],
     objects: &[ObjectId],
 ) -> Result<Vec<ObjectPlan>, Failure>
-    ensures planned { IfOk result (λ plans. ArePlans (state_in drive.old) (store_of drive.old) at objects.now plans.items) }
+    ensures planned { IfOk result (λ plans. ArePlans (state_in drive.old) (store_of drive.old) at stand_ins.now objects.now plans.items) }
     ensures state { state_in drive.new ≡ state_in drive.old }
     ensures store { store_of drive.new ≡ store_of drive.old }
 {
     let at = Moment::new(at);
     if objects.is_empty() {
-        return match plan_all(alloc, drive, session, at) {
+        return match plan_all(alloc, drive, session, stand_ins, at) {
             Ok(plans) => Ok(plans),
             Err(failure) => Err(failure_of(drive, at, failure)),
         };
     }
     check_objects(drive, objects)?;
-    match plan_objects(alloc, drive, session, objects, at) {
+    match plan_objects(alloc, drive, session, stand_ins, objects, at) {
         Ok(plans) => Ok(plans),
         Err(failure) => Err(failure_of(drive, at, failure)),
     }

@@ -8,7 +8,7 @@ ghost use Rattle.s4_restore.specs.Restoring.{RestoresDrive, AreRestored};
 
 use crate::lines::{restored_text, skipped_text};
 use drive::{Drive, Session};
-use history_restore::{Restored, restore_these};
+use history_restore::{Aim, Restored, restore_these};
 use image_commands::write_out;
 use s4_images::{Failure, check_object, unreadable};
 use s4_types::{Moment, ObjectId, Refusal};
@@ -16,35 +16,35 @@ use segment_word::Naming;
 use serving::Sink;
 use std::alloc::{AllocError, Global};
 
-/// Restores these objects of a drive, and prints what was done to each.
+/// Restores objects of a drive under these numbers, and prints what was done to each.
 pub(crate) fn restore<J: Naming, W: Sink>(
     alloc: Global,
     drive: &mut Drive<J>,
     session: &mut Session<J>,
     at: u64,
     json: bool,
-    objects: &[ObjectId],
+    aims: &[Aim],
     writer: &mut W,
 ) -> Result<(), Failure>
     requires writer { W.failures writer.old + 1 < 2 ^ 64 }
-    ensures restores { OnOk result (RestoresDrive (state_in drive.old) (state_in drive.new) at json objects.now (W.passed writer.old) (W.passed writer.new)) }
+    ensures restores { OnOk result (RestoresDrive (state_in drive.old) (state_in drive.new) at json aims.now (W.passed writer.old) (W.passed writer.new)) }
     ensures failures { OnOk result (W.failures writer.new ≡ W.failures writer.old) }
 {
-    let all = restored(alloc, drive, session, Moment::new(at), objects)?;
+    let all = restored(alloc, drive, session, Moment::new(at), aims)?;
     write_restored(alloc, json, all.as_slice(), writer)
 }
 
-// Restores these objects.
+// Restores these.
 fn restored<J: Naming>(
     alloc: Global,
     drive: &mut Drive<J>,
     session: &mut Session<J>,
     at: Moment,
-    objects: &[ObjectId],
+    aims: &[Aim],
 ) -> Result<Vec<Restored>, Failure>
-    ensures restored { IfOk result (λ all. AreRestored (state_in drive.old) (state_in drive.new) at objects.now all.items) }
+    ensures restored { IfOk result (λ all. AreRestored (state_in drive.old) (state_in drive.new) at aims.now all.items) }
 {
-    match restore_these(alloc, drive, session, objects, at, Moment::new(0)) {
+    match restore_these(alloc, drive, session, aims, at, Moment::new(0)) {
         Ok(all) => Ok(all),
         Err(failure) => Err(failure_of(drive, at, failure)),
     }
@@ -72,16 +72,17 @@ pub(crate) fn check_objects<J: Naming>(
     Ok(())
 }
 
-/// The failure of an object that wasn't restored.
+/// The failure of an object that wasn't restored: where there is no room it names the number under which it was to be.
 pub(crate) fn failure_of<J: Naming>(
     drive: &Drive<J>,
     at: Moment,
     failure: history_restore::Failure,
 ) -> Failure {
-    let object = failure.object.number();
+    let aim = failure.aim;
+    let object = aim.target.number();
     match failure.refusal {
         Refusal::Future | Refusal::Expired | Refusal::Flushed => {
-            unreadable(drive, failure.object, at)
+            unreadable(drive, aim.object, at)
         }
         Refusal::ChainFull => Failure::JournalFull { object },
         Refusal::NoSpace => Failure::NoRoom { object },
@@ -125,7 +126,7 @@ fn write_line<W: Sink>(
     Ok(())
 }
 
-/// Writes the line of each object that can't be restored.
+/// Writes the line of each number under which nothing can be restored.
 pub(crate) fn write_skipped<W: Sink>(
     alloc: Global,
     json: bool,

@@ -1,13 +1,15 @@
 //! How many versions have to be hidden, by trials over an image that keep nothing.
 ghost use Rattle.std.specs.Prelude.{◌≡◌, ℕ, ◌+◌, ◌^◌, ◌<◌, IsTrue, IfOk};
 ghost use Rattle.drive.specs.Fields.{state_in, store_of};
+ghost use Rattle.history_restore.specs.Aims.{aim_by, counting};
 ghost use Rattle.s4_images.specs.Commands.{OverImage};
 ghost use Rattle.s4_images.specs.declared.commands.Verdict.TheVariants.{Differs};
 ghost use Rattle.s4_restore.specs.Trials.{IsFewest, IsRefused, IsRefusedAt, IsRefusedInReach};
 
 use crate::making_room::{Room, prepare};
+use crate::restoring::failure_of;
 use drive::{Drive, Session};
-use history_restore::{restore_object, widen_window};
+use history_restore::{Aim, StandIn, aim_at, restore_object, widen_window};
 use image_commands::Files;
 use moment_words::MomentWord;
 use s4_images::{DriveCommand, Failure, Verdict, moment_said, over_image};
@@ -23,15 +25,17 @@ const DOUBLINGS: u32 = 16;
 /// How many changes a trial makes at most: moments are hidden, and an object is cut, written and gets an attribute.
 pub const TRIAL_CHANGES: u64 = 4;
 
-/// A trial to restore one object alone, of which nothing is kept: `Differs` where its journal is too full, with this room in it.
+/// A trial to restore what is restored under one number alone, of which nothing is kept: `Differs` where its journal is too full, with this
+/// room in it.
 #[derive(Clone, Copy)]
-pub struct Trial {
+pub struct Trial<'a> {
     pub at: MomentWord,
+    pub stand_ins: &'a [StandIn],
     pub room: Room,
 }
 
-impl DriveCommand for Trial {
-    ghost shows = { λ trial d verdict output output'. verdict ≡ Differs → IsRefusedAt d trial.at trial.room.object trial.room.count };
+impl DriveCommand for Trial<'_> {
+    ghost shows = { λ trial d verdict output output'. verdict ≡ Differs → IsRefusedAt d trial.at trial.stand_ins.now trial.room.object trial.room.count };
 
     fn perform<J: Naming, W: Sink>(
         &self,
@@ -40,27 +44,73 @@ impl DriveCommand for Trial {
         _writer: &mut W,
     ) -> Result<Verdict, Failure> {
         let mut session = drive.session(Role::Admin)?;
-        let at = moment_said(drive, self.at).number();
-        if is_refused(alloc, drive, &mut session, at, &self.room)? {
+        let at = moment_said(drive, self.at);
+        let (made, room) = (self.stand_ins, &self.room);
+        let refused = is_refused_under(
+            alloc,
+            drive,
+            &mut session,
+            at,
+            made,
+            room.object,
+            room.count,
+        )?;
+        if refused {
             return Ok(Verdict::Differs);
         }
         Ok(Verdict::Fine)
     }
 }
 
-// Whether an object can't be restored since its journal is too full, with this room in it, once the moment is kept in reach.
+// What a number is restored as.
+fn aim_of<J: Naming>(
+    alloc: Global,
+    drive: &mut Drive<J>,
+    session: &mut Session<J>,
+    stand_ins: &[StandIn],
+    number: ObjectId,
+    at: Moment,
+) -> Result<Aim, Failure>
+    ensures aim { IfOk result (λ aim. aim ≡ aim_by (counting (state_in drive.old) at stand_ins.now) number) }
+    ensures state { state_in drive.new ≡ state_in drive.old }
+    ensures store { store_of drive.new ≡ store_of drive.old }
+{
+    match aim_at(alloc, drive, session, stand_ins, number, at) {
+        Ok(aim) => Ok(aim),
+        Err(failure) => Err(failure_of(drive, at, failure)),
+    }
+}
+
+// Whether what is restored under a number can't be since its journal is too full, with this many versions hidden.
+fn is_refused_under<J: Naming>(
+    alloc: Global,
+    drive: &mut Drive<J>,
+    session: &mut Session<J>,
+    at: Moment,
+    stand_ins: &[StandIn],
+    number: ObjectId,
+    count: usize,
+) -> Result<bool, Failure>
+    ensures { IfOk result (λ refused. IsTrue refused → IsRefused drive.old at (aim_by (counting (state_in drive.old) at stand_ins.now) number) count) }
+{
+    let aim = aim_of(alloc, drive, session, stand_ins, number, at)?;
+    is_refused(alloc, drive, session, at.number(), aim, count)
+}
+
+// Whether an object can't be restored since its journal is too full, with this many versions hidden, once the moment is kept in reach.
 fn is_refused<J: Naming>(
     alloc: Global,
     drive: &mut Drive<J>,
     session: &mut Session<J>,
     at: u64,
-    room: &Room,
+    aim: Aim,
+    count: usize,
 ) -> Result<bool, Failure>
-    ensures { IfOk result (λ refused. IsTrue refused → IsRefused drive.old at room.now.object room.now.count) }
+    ensures { IfOk result (λ refused. IsTrue refused → IsRefused drive.old at aim count) }
 {
     let now = Moment::new(0);
     let _widened = widen_window(drive, session, Moment::new(at), TRIAL_CHANGES, now)?;
-    is_refused_in_reach(alloc, drive, session, at, room)
+    is_refused_in_reach(alloc, drive, session, at, aim, count)
 }
 
 // The same where the moment is in reach. Where there are no more versions to be hidden it isn't.
@@ -69,16 +119,21 @@ fn is_refused_in_reach<J: Naming>(
     drive: &mut Drive<J>,
     session: &mut Session<J>,
     at: u64,
-    room: &Room,
+    aim: Aim,
+    count: usize,
 ) -> Result<bool, Failure>
-    ensures { IfOk result (λ refused. IsTrue refused → IsRefusedInReach drive.old at room.now.object room.now.count) }
+    ensures { IfOk result (λ refused. IsTrue refused → IsRefusedInReach drive.old at aim count) }
 {
-    let made = prepare(alloc, drive, session, at, room)?;
+    let room = Room {
+        object: aim.target,
+        count,
+    };
+    let made = prepare(alloc, drive, session, at, &room)?;
     let Some(_hidden) = made else {
         return Ok(false);
     };
     let now = Moment::new(0);
-    match restore_object(alloc, drive, session, room.object, Moment::new(at), now) {
+    match restore_object(alloc, drive, session, &aim, Moment::new(at), now) {
         Ok(_) => Ok(false),
         Err(failure) => match failure.refusal {
             Refusal::ChainFull => Ok(true),
@@ -94,16 +149,17 @@ pub(crate) fn fewest<T: Threads, F: Files>(
     files: &F,
     image: &str,
     at: MomentWord,
+    stand_ins: &[StandIn],
     object: ObjectId,
 ) -> Result<Room, Failure>
-    ensures fewest { IfOk result (IsFewest (F.contents files.now image.now) at) }
+    ensures fewest { IfOk result (IsFewest (F.contents files.now image.now) at stand_ins.now) }
     ensures object { IfOk result (λ room. room.object ≡ object) }
 {
-    if !is_too_little(rt, alloc, files, image, at, object, 0)? {
+    if !is_too_little(rt, alloc, files, image, at, stand_ins, object, 0)? {
         return Ok(Room { object, count: 0 });
     }
-    let (low, high) = doubled(rt, alloc, files, image, at, object)?;
-    let most = halved(rt, alloc, files, image, at, object, low, high)?;
+    let (low, high) = doubled(rt, alloc, files, image, at, stand_ins, object)?;
+    let most = halved(rt, alloc, files, image, at, stand_ins, object, low, high)?;
     Ok(Room {
         object,
         count: most as usize + 1,
@@ -117,14 +173,15 @@ fn doubled<T: Threads, F: Files>(
     files: &F,
     image: &str,
     at: MomentWord,
+    stand_ins: &[StandIn],
     object: ObjectId,
 ) -> Result<(u32, u32), Failure>
-    requires { OverImage (F.contents files.now image.now) (λ d. IsRefusedAt d at object 0) }
-    ensures { IfOk result (λ found. OverImage (F.contents files.now image.now) (λ d. IsRefusedAt d at object found.0)) }
+    requires { OverImage (F.contents files.now image.now) (λ d. IsRefusedAt d at stand_ins.now object 0) }
+    ensures { IfOk result (λ found. OverImage (F.contents files.now image.now) (λ d. IsRefusedAt d at stand_ins.now object found.0)) }
 {
     let (mut low, mut high) = (0, 1);
     for _ in 0..DOUBLINGS {
-        if !is_too_little(rt, alloc, files, image, at, object, high)? {
+        if !is_too_little(rt, alloc, files, image, at, stand_ins, object, high)? {
             break;
         }
         low = high;
@@ -140,17 +197,18 @@ fn halved<T: Threads, F: Files>(
     files: &F,
     image: &str,
     at: MomentWord,
+    stand_ins: &[StandIn],
     object: ObjectId,
     low: u32,
     high: u32,
 ) -> Result<u32, Failure>
-    requires { OverImage (F.contents files.now image.now) (λ d. IsRefusedAt d at object low) }
-    ensures { IfOk result (λ low. OverImage (F.contents files.now image.now) (λ d. IsRefusedAt d at object low)) }
+    requires { OverImage (F.contents files.now image.now) (λ d. IsRefusedAt d at stand_ins.now object low) }
+    ensures { IfOk result (λ low. OverImage (F.contents files.now image.now) (λ d. IsRefusedAt d at stand_ins.now object low)) }
 {
     let (mut low, mut high) = (low, high);
     while high.saturating_sub(low) > 1 {
         let middle = low + (high - low) / 2;
-        if is_too_little(rt, alloc, files, image, at, object, middle)? {
+        if is_too_little(rt, alloc, files, image, at, stand_ins, object, middle)? {
             low = middle;
         } else {
             high = middle;
@@ -166,14 +224,16 @@ fn is_too_little<T: Threads, F: Files>(
     files: &F,
     image: &str,
     at: MomentWord,
+    stand_ins: &[StandIn],
     object: ObjectId,
     count: u32,
 ) -> Result<bool, Failure>
-    ensures { IfOk result (λ refused. IsTrue refused → OverImage (F.contents files.now image.now) (λ d. IsRefusedAt d at object count)) }
+    ensures { IfOk result (λ refused. IsTrue refused → OverImage (F.contents files.now image.now) (λ d. IsRefusedAt d at stand_ins.now object count)) }
 {
     let count = count as usize;
     let trial = Trial {
         at,
+        stand_ins,
         room: Room { object, count },
     };
     let mut nobody = MemorySink::new(alloc);
@@ -185,12 +245,13 @@ fn is_too_little<T: Threads, F: Files>(
 
 /// A trial to restore one object alone, of which nothing is kept: `Differs` where it isn't restored with this room.
 #[derive(Clone, Copy)]
-struct ServingTrial {
+struct ServingTrial<'a> {
     at: MomentWord,
+    stand_ins: &'a [StandIn],
     room: Room,
 }
 
-impl DriveCommand for ServingTrial {
+impl DriveCommand for ServingTrial<'_> {
     ghost shows = { λ it d verdict output output'. Unit {0} };
 
     fn perform<J: Naming, W: Sink>(
@@ -201,12 +262,14 @@ impl DriveCommand for ServingTrial {
     ) -> Result<Verdict, Failure> {
         let mut session = drive.session(Role::Admin)?;
         let (at, now) = (moment_said(drive, self.at), Moment::new(0));
+        let object = self.room.object;
+        let aim = aim_of(alloc, drive, &mut session, self.stand_ins, object, at)?;
         let _widened = widen_window(drive, &mut session, at, TRIAL_CHANGES, now)?;
         let made = prepare(alloc, drive, &mut session, at.number(), &self.room)?;
         let Some(_hidden) = made else {
             return Ok(Verdict::Differs);
         };
-        match restore_object(alloc, drive, &mut session, self.room.object, at, now) {
+        match restore_object(alloc, drive, &mut session, &aim, at, now) {
             Ok(_) => Ok(Verdict::Fine),
             Err(_) => Ok(Verdict::Differs),
         }
@@ -220,13 +283,18 @@ pub(crate) fn serves<T: Threads, F: Files>(
     files: &F,
     image: &str,
     at: MomentWord,
+    stand_ins: &[StandIn],
     room: &Room,
 ) -> Result<bool, Failure> {
     let room = Room {
         object: room.object,
         count: room.count,
     };
-    let trial = ServingTrial { at, room };
+    let trial = ServingTrial {
+        at,
+        stand_ins,
+        room,
+    };
     let mut nobody = MemorySink::new(alloc);
     match over_image(rt, alloc, files, image, &trial, &mut nobody)? {
         Verdict::Fine => Ok(true),

@@ -4,7 +4,7 @@ use Rattle.clap.specs.Takes.{takes}
 use Rattle.clap.specs.Walk.{Row, Text}
 use Rattle.s4_command.specs.CommandLine.{line, Spells, SpellsNone}
 use Rattle.s4_command.specs.declared.NoCommand.TheVariants.{NoMemory}
-use Rattle.s4_command.proofs.Refusals.{under_premise}
+use Rattle.s4_command.proofs.Refusals.{among_own, among_refused, if_err, under_premise}
 use Rattle.s4_command.proofs.Simple.{no_fault, same_fault, same_subcommand}
 use Rattle.s4_command.proofs.command_of.Goals as goal
 
@@ -30,3 +30,9 @@ returns-in-Ok-clause-refused g c = λ faulty. absurd (faulty (no_fault _ (map g.
 
 pub returns-in-Err-clause-refused : goal.returns-in-Err-clause-refused
 returns-in-Err-clause-refused g c = λ _. c.refused.ensures.refused _ (same_fault _ (map g.S.AsStr.text c.args.words.now) c.in-Err.error c.in_ok-parser.ensures c.in-Err.ensures.kinds)
+
+pub returns-in-Ok-clause-asked : goal.returns-in-Ok-clause-asked
+returns-in-Ok-clause-asked g c = if_err c.command_in.result (among_own _) c.command_in.ensures.own
+
+pub returns-in-Err-clause-asked : goal.returns-in-Err-clause-asked
+returns-in-Err-clause-asked g c = among_refused _ _ (c.refused.ensures.refused _ (same_fault _ (map g.S.AsStr.text c.args.words.now) c.in-Err.error c.in_ok-parser.ensures c.in-Err.ensures.kinds))

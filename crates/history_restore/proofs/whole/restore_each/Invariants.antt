@@ -5,9 +5,9 @@ use Rattle.history_restore.proofs.Each.{StandsBy, GoesOn}
 use Rattle.history_restore.proofs.whole.restore_each.Given as goal
 
 -- the objects so far were restored, their changes and numbers counted, and the rest stands
-abbrev pub invariant-loop-object : goal.invariant-loop-object
-invariant-loop-object g l = record {
-  stands : StandsBy (state_in l.initial.drive) (state_in l.drive) (take l.object-index l.objects);
-  goes : GoesOn (state_in l.initial.drive) (state_in l.drive) l.at (take l.object-index l.objects) l.all.items;
+abbrev pub invariant-loop-aim : goal.invariant-loop-aim
+invariant-loop-aim g l = record {
+  stands : StandsBy (state_in l.initial.drive) (state_in l.drive) (take l.aim-index l.aims);
+  goes : GoesOn (state_in l.initial.drive) (state_in l.drive) l.at (take l.aim-index l.aims) l.all.items;
   counted : IsCounted (state_in l.initial.drive) (state_in l.drive) l.now l.all.items;
 }

@@ -1,7 +1,7 @@
 use Rattle.std.proofs.Common.{inl, inr, map, rules, subst}
 use Rattle.clap.specs.Faults.{fault_of}
 use Rattle.clap.specs.Values.{kind_of}
-use Rattle.s4_command.specs.CommandLine.{line, IsRefusedBy}
+use Rattle.s4_command.specs.CommandLine.{line, IsAskedAmong}
 use Rattle.s4.specs.Performing.{IsUsage}
 use Rattle.s4.proofs.Undone.{undone_on}
 use Rattle.s4.proofs.performing.perform.Goals as goal
@@ -17,14 +17,8 @@ returns-in-Ok-clause-differs g c = λ one. inl (c.in-Ok.command, c.in-Ok.ensures
 -- they spell none, and ask for help or the version
 pub returns-in-Err-Asked-clause-done : goal.returns-in-Err-Asked-clause-done
 returns-in-Err-Asked-clause-done g c = λ done.
-    let words = map g.S.AsStr.text c.args.words.now in
-    let none : IsUsage words = search rules in
-    inr (record {
-      none = none;
-      asks = λ faulty.
-          let why = subst (IsRefusedBy (fault_of line words)) c.in-Err-Asked.field-0-is (c.in-Err-Asked.ensures.refused faulty) in
-          record { kind = kind_of c.in-Err-Asked.help; among = why.0; asked = why.1 };
-    })
+    let why = subst (IsAskedAmong (fault_of line (map g.S.AsStr.text c.args.words.now))) c.in-Err-Asked.field-0-is c.in-Err-Asked.ensures.asked in
+    inr (record { kind = kind_of c.in-Err-Asked.help; among = why.0; asked = why.1 })
 
 pub returns-in-Err-Asked-clause-differs : goal.returns-in-Err-Asked-clause-differs
 returns-in-Err-Asked-clause-differs g c = λ one.

@@ -4,7 +4,7 @@ use Rattle.std.specs.Io.KnownBytes.{Appends}
 use Rattle.std.proofs.KnownBytes.{Appends-trans, Appends-nil}
 use Rattle.std.proofs.lemmas.List.{take_more}
 use Rattle.s4_restore.specs.Lines.{restored_text}
-use Rattle.s4_images.proofs.Fronts.{flat_more}
+use Rattle.history_view.proofs.Fronts.{flat_more}
 use Rattle.s4_restore.proofs.restoring.write_restored.Goals as goal
 
 pub loop-restored-init : goal.loop-restored-init

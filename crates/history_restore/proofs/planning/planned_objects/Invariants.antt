@@ -1,7 +1,0 @@
-use Rattle.std.proofs.Common.{◌≡◌, take}
-use Rattle.history_restore.specs.Planning.{objects_planned}
-use Rattle.history_restore.proofs.planning.planned_objects.Given as goal
-
--- those of the plans so far
-abbrev pub invariant-loop-planned : goal.invariant-loop-planned
-invariant-loop-planned l = l.objects.items ≡ objects_planned (take l.planned-index l.plans)
