@@ -9,7 +9,6 @@ empties each frame whose moves write fewer blocks than are freed, also in other 
 less room afterwards, by OLD and by S4, and how long S4 took for the largest.
 """
 import importlib.machinery
-import importlib.util
 import os
 import random
 import shutil
@@ -17,114 +16,30 @@ import subprocess
 import sys
 import tempfile
 import time
+import types
 
-PAST = os.path.join(os.path.dirname(os.path.abspath(__file__)), "..", "tests", "bin", "past")
-FRAME = 15  # blocks of a frame that hold something
-RESERVE = 60  # blocks that are kept back for cleaner and copier
+RECKONED = os.path.join(os.path.dirname(os.path.abspath(__file__)), "..", "tests", "bin", "reckoned")
 CREATE, DELETE, WRITE, APPEND, TRUNCATE, SET_ATTRIBUTE, SET_WINDOW, FLUSH, FLUSH_OBJECT = 1, 2, 4, 5, 6, 8, 9, 10, 11
 
 
 def reading():
-    """The plain reading of images."""
-    loader = importlib.machinery.SourceFileLoader("past", PAST)
-    module = importlib.util.module_from_spec(importlib.util.spec_from_loader("past", loader))
-    words, sys.argv, sys.dont_write_bytecode = sys.argv, [PAST], True
-    with open(os.devnull, "w", encoding="ascii") as nowhere:
-        out, sys.stdout = sys.stdout, nowhere
-        loader.exec_module(module)
-        sys.stdout = out
-    sys.argv = words
+    """The plain reading of images, with the model of moves."""
+    sys.dont_write_bytecode = True
+    loader = importlib.machinery.SourceFileLoader("reckoned", RECKONED)
+    module = types.ModuleType("reckoned")
+    module.__file__ = RECKONED
+    loader.exec_module(module)
     return module
 
 
-past = reading()
+reckoned = reading()
 
 
-class Drive:
-    """What an image holds, and what moves make of it."""
-
-    def __init__(self, path):
-        image = past.Image(path)
-        with open(path, "rb") as file:
-            data = file.read()
-        self.phases, at = [], past.BLOCK
-        for blocks in image.frames:
-            self.phases.append(past.number(data, at, 8) & 3)
-            at += 8 + len(blocks)
-        self.frames = [{} for _ in image.frames]  # of each frame its held blocks: the object, and whether it is of data
-        self.rewritten = {key: self.hold(image, key) for key in image.rows}
-        self.filling = next((f for f, phase in enumerate(self.phases) if phase == 1), None)
-        self.used = max(self.frames[self.filling], default=0) if self.filling is not None else FRAME
-        self.empty()
-
-    def hold(self, image, key):
-        """Holds an object's blocks, and tells how many of them are no data."""
-        row, others, pointers = image.rows[key], [], []
-        if any(row[16:24]):
-            others.append(row[16:24])
-            block = image.block(row[16:24])
-            pointers += [block[at:at + 8] for at in range(104, 488, 8)]
-        head = row[32:40]
-        while any(head):
-            others.append(head)
-            head = image.block(head)[16:24]
-        for entry in image.entries(key):
-            pointers += [side for pair in entry["pointers"].values() for side in pair]
-        for pointer, is_data in [(it, False) for it in others] + [(it, True) for it in pointers if any(it)]:
-            self.frames[past.number(pointer, 0, 2)][pointer[2]] = (key, is_data)
-        return len(others)
-
-    def ahead(self):
-        return FRAME * self.phases.count(0) + FRAME - self.used
-
-    def room(self):
-        return max(0, self.ahead() - RESERVE)
-
-    def empty(self):
-        """Frees the frames that hold nothing."""
-        self.phases = [0 if phase == 2 and not held else phase for phase, held in zip(self.phases, self.frames)]
-
-    def append(self, block):
-        if self.used == FRAME:
-            self.filling, self.used = self.phases.index(0), 0
-            self.phases[self.filling] = 1
-        self.used += 1
-        self.frames[self.filling][self.used] = block
-        if self.used == FRAME:
-            self.phases[self.filling] = 2
-
-    def gain(self, frame):
-        """How many more places are ahead once a frame is emptied."""
-        held = self.frames[frame].values()
-        keys = {key for key, _ in held}
-        written = sum(is_data for _, is_data in held) + sum(self.rewritten[key] for key in keys)
-        if written > self.ahead():
-            return 0
-        freed = [all(key in keys and not is_data for key, is_data in blocks.values()) for blocks in self.frames]
-        others = sum(phase == 2 and f != frame and is_freed for f, (phase, is_freed) in enumerate(zip(self.phases, freed)))
-        return FRAME * (1 + others) - written
-
-    def move_all(self, frame):
-        held, self.frames[frame] = self.frames[frame], {}
-        keys = {key for key, _ in held.values()}
-        for blocks in self.frames:
-            for block in [it for it, (key, is_data) in blocks.items() if key in keys and not is_data]:
-                del blocks[block]
-        for key in keys:
-            for block in [it for it in held.values() if it == (key, True)] + [(key, False)] * self.rewritten[key]:
-                self.append(block)
-        self.empty()
-
-    def compact(self):
-        """Empties frames until none gives more, and tells the room then."""
-        gains = True
-        while gains:
-            gains = False
-            for frame in sorted(range(len(self.frames)), key=lambda f: len(self.frames[f])):
-                if self.phases[frame] == 2 and self.gain(frame) > 0:
-                    self.move_all(frame)
-                    gains = True
-        return self.room()
+def moved(path):
+    """The room that moves give by the model."""
+    drive = reckoned.Drive(reckoned.Past(path))
+    drive.move()
+    return drive.room()
 
 
 def request(kind, *parts):
@@ -228,7 +143,7 @@ def measured(s4d, s4, old, folder, image):
     subprocess.run([s4d, "run", "--tick", "0", *ways, path, f"admin:{session}:{folder}/replies"], check=True)
     before = room(s4, path)
     once, repeated, new = compacted(old, s4, path, ""), compacted(old, s4, path, "+"), compacted(s4, s4, path, "")
-    models = [Drive(it).compact() for it in (path, repeated[1], new[1])]
+    models = [moved(it) for it in (path, repeated[1], new[1])]
     best = max(once[0], repeated[0], new[0], *models)
     return [it - before for it in (once[0], repeated[0], new[0], best)], new[2]
 
