@@ -18,11 +18,13 @@ run() {
     "$program" "$@"
 }
 
-# Serves one session of a role, with no upkeep and a tick of 0, so that only changes move the clock.
+# Makes a file of requests of a file in hex, which is shown. Serves it as one session of a role, with no upkeep and a tick of 0, so
+# that only changes move the clock, and shows the replies.
 session() {
+    echo "\$ examples/hex.py bytes examples/story_$2.hex > $2.in"
     python3 -B "$here/hex.py" bytes "$here/story_$2.hex" > "$2.in"
+    sed '/^#/d;/^$/d;s/^/  > /' "$here/story_$2.hex"
     run run --tick 0 --no-upkeep drive.image "$1:$2.in:$2.out"
-    sed 's/^/  > /' <(python3 -B "$here/hex.py" requests < "$2.in")
     sed 's/^/  < /' <(python3 -B "$here/hex.py" replies < "$2.out")
 }
 

@@ -1,4 +1,5 @@
-"""Tests of the repository's documents: links, lengths, the version and the man pages."""
+"""Tests of the repository's documents: links, names, lengths, the version and the man pages."""
+import importlib.util
 import pathlib
 import re
 import shutil
@@ -10,6 +11,20 @@ PAGES = sorted(page for folder in (".", "docs", "bench", "examples", "python", "
 MOST_WORDS, README_LINES, CELL_WORDS = 28_000, 120, 25
 
 
+def clauses_of_calls():
+    """The names of each function's clauses, by its name alone, after its type or trait, and after its crate."""
+    spec = importlib.util.spec_from_file_location("proved", TOP / "docs" / "proved.py")
+    proved = importlib.util.module_from_spec(spec)
+    spec.loader.exec_module(proved)
+    found = {}
+    for path in (TOP / "crates").glob("*/src/**/*.rt"):
+        crate = path.relative_to(TOP / "crates").parts[0]
+        for owner, _, name, clauses, _ in proved.functions(path):
+            for key in {name, f"{owner}::{name}", f"{crate}::{name}"}:
+                found.setdefault(key, set()).update(clauses)
+    return found
+
+
 class Documents(unittest.TestCase):
     def test_links(self):
         for page in PAGES:
@@ -18,7 +33,7 @@ class Documents(unittest.TestCase):
                     self.assertTrue("://" in target or (page.parent / target).exists())
 
     def test_files_that_are_named(self):
-        """A path in a document leads somewhere, from the top of the repository or from the page; changes may name what is gone."""
+        """A path in a document is there, from the top of the repository or from the page; changes may name what is gone."""
         folders = "docs|bench|examples|python|tests|crates"
         for page in PAGES:
             if page.name == "CHANGELOG.md":
@@ -27,6 +42,62 @@ class Documents(unittest.TestCase):
                 with self.subTest(page=page.name, path=path):
                     made = "/out/" in path or path.isupper() or re.search(r"\b(CRATE|NAME)\b", path)
                     self.assertTrue(made or (TOP / path).exists() or (page.parent / path).exists())
+
+    def test_files_of_additions(self):
+        """In the lists of files for an addition a name without a folder is in that of the file before it."""
+        text = (TOP / "CONTRIBUTING.md").read_text(encoding="utf-8")
+        for item in re.split(r"\n(?=\d+\. |\n)", text[text.index("## To add"):text.index("## Where a test")]):
+            folder = TOP
+            for path in re.findall(r"`([\w./-]+\.\w+)`", item):
+                with self.subTest(path):
+                    folder = (TOP / path).parent if "/" in path or (TOP / path).exists() else folder
+                    self.assertTrue((folder / pathlib.Path(path).name).exists())
+
+    def test_definitions(self):
+        """Each name in an item of the page of definitions is defined in the file that the item names last before it."""
+        page = TOP / "docs" / "DEFINITIONS.md"
+        for item in re.split(r"\n(?=- |\n)", page.read_text(encoding="utf-8")):
+            text = None
+            for target, name in re.findall(r"\]\(([^)]+\.antt)\)|`(\w+)`", item):
+                if target:
+                    text = (page.parent / target).read_text(encoding="utf-8")
+                elif text is not None:
+                    with self.subTest(name):
+                        self.assertRegex(text, rf"(?m)^\s*(abbrev pub|unfoldable pub|pub record|pub data|pub) {name}\b")
+
+    def test_promises(self):
+        """A promise names calls that are there, clauses that they have, and wrong bodies that are there."""
+        calls = clauses_of_calls()
+        defined = set(re.findall(r"`(\w+)`", (TOP / "docs" / "DEFINITIONS.md").read_text(encoding="utf-8")))
+        headline, promises = (TOP / "docs" / "PROMISES.md").read_text(encoding="utf-8").split("## All promises")
+        for name in re.findall(r"`(\w+)`", "".join(re.findall(r"(?m)^\|.*\|(.*)\|$", headline))):
+            with self.subTest(definition=name):
+                self.assertTrue(name in defined or name in ("cleans", "commits"))
+        for line in (headline + promises).splitlines():
+            cells = line.split("|")[1:-1]
+            if len(cells) != 3 or not cells[1].strip("- "):
+                continue
+            for call, said in re.findall(r"`([\w:]+)` \(([^)]*)\)", cells[1]):
+                with self.subTest(promise=cells[0], call=call):
+                    clauses = re.findall(r"`(\w+)`", re.split(r"\bby |: ", said)[0])
+                    self.assertTrue(call in calls)
+                    self.assertLessEqual(set(clauses), calls[call])
+            for bold, crate, name in re.findall(r"(\*\*)?`(\w+)/(\w+)`", cells[2]):
+                with self.subTest(crate=crate, edit=name):
+                    folder = "must-fail" if bold else "wrong-bodies"
+                    self.assertTrue((TOP / "crates" / crate / folder / f"{name}.edit").exists())
+
+    def test_ways_through_the_crates(self):
+        """ARCHITECTURE names each crate; a file of a crate that it names is there, and has the function named after it."""
+        text = (TOP / "docs" / "ARCHITECTURE.md").read_text(encoding="utf-8")
+        for crate in re.findall(r"(?m)^(\w+)[ :]", (TOP / "crates.txt").read_text(encoding="utf-8")):
+            with self.subTest(crate=crate):
+                self.assertTrue(crate.endswith("_tests") or f"`{crate}`" in text)
+        for path, name in re.findall(r"`(\w+/src/[\w/]+\.rt)(?::(?:\w+::)?(\w+))?`", text):
+            with self.subTest(path=path, name=name):
+                source = TOP / "crates" / path
+                self.assertTrue(source.exists())
+                self.assertRegex(source.read_text(encoding="utf-8"), rf"\bfn {name}\b" if name else ".")
 
     def test_lengths(self):
         pages = [page for page in PAGES if page.parent.name == "docs" or page == TOP / "README.md"]
@@ -42,6 +113,11 @@ class Documents(unittest.TestCase):
         """The page of what is proved is what its script makes of the sources."""
         made = subprocess.run([TOP / "docs" / "proved.py"], capture_output=True, text=True, check=True).stdout
         self.assertEqual(made, (TOP / "docs" / "PROVED.md").read_text(encoding="utf-8"))
+
+    def test_what_has_to_be_believed(self):
+        """The main theorems rest on no more lines of definitions than they may."""
+        ran = subprocess.run([TOP / "bench" / "believed.py"], capture_output=True, text=True, check=False)
+        self.assertEqual(ran.returncode, 0, ran.stdout + ran.stderr)
 
     def test_one_version(self):
         """The file VERSION has it; what can't read that file says the same."""

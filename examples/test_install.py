@@ -1,0 +1,108 @@
+"""Tests of install.sh over files that are put in the place of the built programs, and of README's first commands over the programs."""
+import os
+import pathlib
+import re
+import shutil
+import subprocess
+import tempfile
+import unittest
+
+TOP = pathlib.Path(__file__).resolve().parents[1]
+BUILT = {name.upper(): os.environ.get(name.upper(), f"{TOP}/crates/{name}/out/{name}") for name in ("s4d", "s4")}
+PUT = {"bin/s4d": 0o755, "bin/s4": 0o755, "share/man/man1/s4d.1": 0o644, "share/man/man1/s4.1": 0o644,
+       "share/bash-completion/completions/s4": 0o644}
+
+
+class Install(unittest.TestCase):
+    def setUp(self):
+        folder = tempfile.TemporaryDirectory()
+        self.addCleanup(folder.cleanup)
+        self.folder = pathlib.Path(folder.name)
+        for name in ("s4d", "s4"):
+            (self.folder / name).write_text(f"#!/bin/sh\necho {name}\n", encoding="utf-8")
+            (self.folder / name).chmod(0o755)
+
+    def install(self, *words):
+        env = {**os.environ, "S4D": f"{self.folder}/s4d", "S4": f"{self.folder}/s4"}
+        ran = subprocess.run([TOP / "install.sh", *words], env=env, cwd=self.folder, capture_output=True, text=True, check=False)
+        return ran.returncode, ran.stdout, ran.stderr
+
+    def files(self, prefix):
+        return {str(path.relative_to(prefix)) for path in prefix.rglob("*") if path.is_file()}
+
+    def test_all_is_put_in_place(self):
+        prefix = self.folder / "a prefix"
+        for _ in range(2):  # the second time over the first one's files
+            status, said, complaint = self.install("a prefix")
+            self.assertEqual((status, complaint), (0, ""))
+            self.assertEqual(said.splitlines(), [f"a prefix/{name}" for name in PUT])
+            self.assertEqual(self.files(prefix), set(PUT))
+        self.assertEqual({name: (prefix / name).stat().st_mode & 0o777 for name in PUT}, PUT)
+        for name in ("s4d", "s4"):
+            self.assertEqual(subprocess.run([prefix / "bin" / name], capture_output=True, text=True, check=True).stdout, f"{name}\n")
+        for name, source in (("share/man/man1/s4.1", "s4.1"), ("share/man/man1/s4d.1", "s4d.1"),
+                             ("share/bash-completion/completions/s4", "completions/s4.bash")):
+            self.assertEqual((prefix / name).read_bytes(), (TOP / source).read_bytes())
+
+    def test_a_program_that_is_not_built_is_named(self):
+        for missing in (["s4"], ["s4d"], ["s4d", "s4"]):
+            for name in missing:
+                (self.folder / name).rename(self.folder / f"{name}.away")
+            status, said, complaint = self.install("prefix")
+            self.assertEqual((status, said), (1, ""))
+            self.assertFalse((self.folder / "prefix").exists())
+            lines = complaint.splitlines()
+            self.assertEqual(len(lines), len(missing))
+            for name, line in zip(missing, lines):
+                self.assertTrue(line.startswith(f"install.sh: {self.folder}/{name} isn't built: (cd {TOP}/crates/{name} && rt run "))
+            for name in missing:
+                (self.folder / f"{name}.away").rename(self.folder / name)
+
+    def test_a_file_that_cannot_be_written(self):
+        (self.folder / "prefix").write_text("", encoding="utf-8")
+        status, said, complaint = self.install("prefix")
+        self.assertEqual((status, said), (1, ""))
+        self.assertNotEqual(complaint, "")
+
+    def test_usage(self):
+        for words in ((), ("",), ("one", "two")):
+            self.assertEqual(self.install(*words), (2, "", "usage: install.sh PREFIX\n"))
+        status, said, complaint = self.install("--help")
+        self.assertEqual((status, complaint), (0, ""))
+        self.assertIn("./install.sh PREFIX", said)
+
+
+@unittest.skipUnless(all(os.access(path, os.X_OK) for path in BUILT.values()), "a program isn't built")
+class Readme(unittest.TestCase):
+    def block(self):
+        """README's first commands, line by line, each with what it prints there."""
+        steps = []
+        for line in re.search(r"(?m)(^    .*\n)+", (TOP / "README.md").read_text(encoding="utf-8")).group().splitlines():
+            if line.startswith("    $ "):
+                steps.append((line[6:], []))
+            else:
+                steps[-1][1].append(line[4:])
+        return steps
+
+    def test_the_first_commands_run_as_they_are_typed(self):
+        steps = self.block()
+        self.assertGreater(len(steps), 8)
+        with tempfile.TemporaryDirectory() as folder:
+            for name in ("install.sh", "s4d.1", "s4.1"):
+                shutil.copy(TOP / name, folder)
+            for name in ("completions", "examples", "python"):
+                os.symlink(TOP / name, f"{folder}/{name}")
+            # One shell does all, as at a prompt; each command's output is in a file of its own.
+            typed = "".join(f"{{ {command}\n}} > said.{number} 2>&1\n" for number, (command, _) in enumerate(steps))
+            env = {**os.environ, **BUILT, "HOME": folder, "PYTHONDONTWRITEBYTECODE": "1"}
+            ran = subprocess.run(["bash", "-e"], input=typed, env=env, cwd=folder, capture_output=True, text=True, check=False)
+            self.assertEqual((ran.returncode, ran.stdout, ran.stderr), (0, "", ""))
+            for number, (command, lines) in enumerate(steps):
+                if "install.sh" not in command:
+                    with self.subTest(command):
+                        self.assertEqual(pathlib.Path(f"{folder}/said.{number}").read_text(encoding="utf-8").splitlines(), lines)
+            self.assertIn("<html", pathlib.Path(f"{folder}/report.html").read_text(encoding="utf-8").lower())
+
+
+if __name__ == "__main__":
+    unittest.main()

@@ -1,0 +1,45 @@
+#!/usr/bin/env bash
+# Puts the built programs s4d and s4, their manuals, and what lets bash complete the words of s4 below a folder:
+#     ./install.sh PREFIX      such as ~/.local or /usr/local: into PREFIX/bin, PREFIX/share/man/man1 and
+#                              PREFIX/share/bash-completion/completions
+# S4D and S4 in the environment name the programs; else they are those that rt left in crates/*/out. Nothing is built here. Status 1:
+# a program isn't built, and nothing is installed, or a file can't be written; 2: the call is wrong.
+set -euo pipefail
+top=$(cd "$(dirname "${BASH_SOURCE[0]}")" && pwd)
+
+case ${1:-} in -h | --help)
+    sed -n '2,${/^#/!q;s/^# \{0,1\}//;p}' "$0"
+    exit 0
+    ;;
+esac
+if [ $# != 1 ] || [ -z "$1" ]; then
+    echo "usage: install.sh PREFIX" >&2
+    exit 2
+fi
+prefix=$1
+s4d=${S4D:-$top/crates/s4d/out/s4d}
+s4=${S4:-$top/crates/s4/out/s4}
+
+# Says of a program that isn't there how it is built.
+is_built() {
+    [ -f "$1" ] && [ -x "$1" ] && return
+    echo "install.sh: $1 isn't built: $2" >&2
+    return 1
+}
+
+both=yes
+is_built "$s4d" "(cd $top/crates/s4d && rt run -- pipe client < /dev/null) builds it" || both=
+is_built "$s4" "(cd $top/crates/s4 && rt run -- --version) builds it" || both=
+[ "$both" ] || exit 1
+
+# Installs a file, and says where.
+put() {
+    install -D -m "$1" -- "$2" "$prefix/$3"
+    echo "$prefix/$3"
+}
+
+put 755 "$s4d" bin/s4d
+put 755 "$s4" bin/s4
+put 644 "$top/s4d.1" share/man/man1/s4d.1
+put 644 "$top/s4.1" share/man/man1/s4.1
+put 644 "$top/completions/s4.bash" share/bash-completion/completions/s4
