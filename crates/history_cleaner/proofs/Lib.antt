@@ -11,3 +11,4 @@ pub mod Sweeping
 pub mod Few
 pub mod Passing
 pub mod Rising
+mod Promised

@@ -31,6 +31,14 @@ pub record IsReached (s : StoreFields) (state : State) (o : ℕ) (p : Place) : T
   pub index : ℕ
   pub at : pointer_at inode index ≡ Some p
 
+-- At a moment an object's inode is live, and has a pointer to a place.
+pub record PointsTo (s : StoreFields) (o t : ℕ) (p : Place) : Type 0 where
+  pub inode : Inode
+  pub current : inode_in s o t ≡ Some inode
+  pub alive : inode.alive ≡ true
+  pub index : ℕ
+  pub at : pointer_at inode index ≡ Some p
+
 -- Of an object a data block is held at a place exactly where that is reached.
 abbrev pub HoldsWhatIsReached : StoreFields → State → ℕ → Type 0
 HoldsWhatIsReached s state o = (p : Place) → IsSome (of_kind Data o s.log.held p) ↔ IsReached s state o p

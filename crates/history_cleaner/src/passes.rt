@@ -1,12 +1,17 @@
 //! A pass over all objects, and then over all frames.
-ghost use Rattle.std.specs.Prelude.{◌≡◌, ◌⊎◌, ℕ, ◌+◌, ◌^◌, ◌<◌, if◌then◌else◌, IfSome, IfOk, IfErr, OnOk, OnErr};
+ghost use Rattle.std.specs.Prelude.{◌≡◌, ◌⊎◌, ℕ, ◌+◌, ◌^◌, ◌<◌, if◌then◌else◌, IfSome, IsSome, IfOk, IfErr, OnOk, OnErr};
 ghost use Rattle.s4_types.specs.declared.refusals.Refusal.TheVariants.{NoMemory, NoRoom};
+ghost use Rattle.s4_model.specs.Promise.{IsCleanedUp};
+ghost use Rattle.block_log.specs.declared.kinds.BlockKind.TheVariants.{Data};
+ghost use Rattle.block_log.specs.Log.{of_kind};
 ghost use Rattle.object_map.specs.Rows.{row_of};
-ghost use Rattle.drive.specs.Fields.{state_in, store_of};
+ghost use Rattle.version_store.specs.Versions.{version_in};
+ghost use Rattle.drive.specs.Fields.{history_of, state_in, store_of};
 ghost use Rattle.drive.specs.Keeping.{KeepsVersions};
 ghost use Rattle.history_cleaner.specs.Cleaning.{OthersStay, HasNoRoom};
 ghost use Rattle.history_cleaner.specs.Emptying.{AllVacated, frames_risen};
 ghost use Rattle.history_cleaner.specs.Passing.{is_other, is_gone, has_other_row, has_lost_row, IsCount, IsCleaned, StoppedAt, StoppedAtReader};
+ghost use Rattle.history_cleaner.specs.Reaching.{PointsTo};
 ghost use Rattle.history_cleaner.specs.private.Counting.{NamesPlaces};
 
 use crate::cleaning::clean_object;
@@ -153,6 +158,9 @@ fn clean_and_empty<J: Naming>(alloc: Global, drive: &mut Drive<J>) -> Result<Cle
 /// each frame. What was released is counted by the generations from before the pass: no contract of a cleaning tells of these.
 pub fn full_pass<J: Naming>(alloc: Global, drive: &mut Drive<J>) -> Result<PassReport, Refusal>
     ensures cleaned { OnOk result ((o : ℕ) → IsCleaned (store_of drive.old) (store_of drive.new) (state_in drive.old) o) }
+    // In the words of the model: the history and what can be read stay, and exactly the data blocks are held that this reaches.
+    ensures promise { OnOk result (IsCleanedUp (history_of drive.old) (history_of drive.new) (version_in (store_of drive.new))
+        (λ o p. IsSome (of_kind Data o (store_of drive.new).log.held p)) (PointsTo (store_of drive.new))) }
     ensures vacated { OnOk result (AllVacated drive.new.store.table) }
     ensures rewritten { IfOk result (λ report. IsCount (has_other_row drive.old.store.rows drive.new.store.rows) report.rewritten) }
     ensures removed { IfOk result (λ report. IsCount (has_lost_row drive.old.store.rows drive.new.store.rows) report.removed) }
@@ -161,6 +169,7 @@ pub fn full_pass<J: Naming>(alloc: Global, drive: &mut Drive<J>) -> Result<PassR
     ensures ledger { drive.new.ledger ≡ drive.old.ledger }
     ensures needed { KeepsVersions (state_in drive.old) (store_of drive.old) (store_of drive.new) }
 {
+    drive.rules();
     let before = note_generations(drive);
     let cleanings = clean_and_empty(alloc, drive)?;
     Ok(PassReport {

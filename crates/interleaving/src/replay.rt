@@ -1,6 +1,8 @@
 //! Runs: lists of steps, replayed.
-ghost use Rattle.std.specs.Prelude.{◌≡◌, map, IfOk, IfErr, OnErr};
+ghost use Rattle.std.specs.Prelude.{◌≡◌, All, map, IfOk, IfErr, OnOk, OnErr};
 ghost use Rattle.s4_types.specs.declared.refusals.Refusal.TheVariants.{NoMemory};
+ghost use Rattle.s4_types.specs.declared.requests.Role.TheVariants.{Client};
+ghost use Rattle.s4_model.specs.Promise.{KeepsThePast};
 ghost use Rattle.drive.specs.Fields.{history_of, state_in, store_of};
 ghost use Rattle.drive.specs.Keeping.{DecodesWhereVisible};
 ghost use Rattle.interleaving.specs.Running.{GoesAt, Goes, Run};
@@ -13,6 +15,7 @@ use crate::answers::{Answer, answer_to};
 use crate::moves::{Cleans, Moves};
 use crate::steps::{Step, copy_steps};
 use drive::Drive;
+use s4_model::laws::clients_keep_the_past;
 use s4_types::{ObjectId, Refusal};
 use segment_word::Naming;
 use std::alloc::Global;
@@ -84,11 +87,14 @@ pub fn run<J: Naming, C: Cleans<J>, M: Moves<J>>(
     // The same, told by the history alone: requests and reads that are resolved are the model's steps, a fetch gives the bytes
     // that its plan named when it was made, and all other steps leave the history.
     ensures model { IfOk result (λ answers. Replays (history_of drive.old) (map reader_of actors.old) steps.now answers.items (history_of drive.new) (map reader_of actors.new)) }
+    // Where all actors are clients, nothing was lost of the past but by age.
+    ensures past { OnOk result (All (λ actor. actor.session.role ≡ Client) actors.old → KeepsThePast (history_of drive.old) (history_of drive.new)) }
     ensures decodes { DecodesWhereVisible (store_of drive.new) (state_in drive.new) }
     ensures base { (history_of drive.new).base ≡ J.base }
     ensures refusal { IfErr result (λ e. e ≡ NoMemory) }
     ensures untouched { OnErr result ((drive.new ≡ drive.old) × (actors.new ≡ actors.old)) }
 {
+    clients_keep_the_past();
     drive.rules();
     let todo = copy_steps(alloc, steps)?;
     let mut answers = Vec::with_capacity(alloc, todo.len())?;

@@ -12,3 +12,4 @@ pub mod RunCounting
 pub mod Sound
 pub mod Exchanges
 pub mod Laws
+pub mod Promise

@@ -1,6 +1,7 @@
 ghost use Rattle.std.specs.Prelude.{◌≡◌, ℕ};
 ghost use Rattle.s4_types.specs.History.{History, Seen, Took};
 ghost use Rattle.s4_types.specs.declared.changes.Accepted.{Accepted};
+ghost use Rattle.s4_model.specs.Promise.{ClientsKeepThePast};
 ghost use Rattle.s4_model.specs.State.{state_of, grown, seen, took};
 ghost use Rattle.s4_model.specs.Laws.{ANewDriveIsSound, EveryStepKeepsSoundness, ExchangesKeepSoundness, NobodyWithAClientsRightsCanErase, AChangeActsAtItsMoment, TheClockNeverFalls, TheFloorNeverFalls, NoWindowLowersTheFloor, AnAcceptedMomentIsLater, AcceptedMomentsAscend, ThePresentClockIsVisible, AFlushHidesItsSpan, AFlushOfAnObjectHidesItsSpan, ACreateIsGivenTheNextNumber, ObjectNumbersAscend, ADeadObjectStaysAbsent, EachRequestHasAStep, StepsAgreeButForWant, AMomentIsToldOfAChangeAlone, TheAbsentStayAbsent, RunsAreMaximal, ListsHaveMaximalRuns, ListsHideAlike, NoListIsLeftOut, ClientsLeaveThePast, ClientsMoveTheFloorByTheWindow, AnAcceptedChangeKeepsTheLimits, ANewDriveKeepsTheRunLimits, EveryStepKeepsTheRunLimits, ExchangesKeepTheRunLimits};
 
@@ -26,6 +27,13 @@ pub fn nobody_with_a_clients_rights_can_erase()
     ensures past { ClientsLeaveThePast }
     ensures floor { ClientsMoveTheFloorByTheWindow }
 {}
+
+/// So nothing is lost of the past by what clients ask, but by age.
+pub fn clients_keep_the_past()
+    ensures { ClientsKeepThePast }
+{
+    nobody_with_a_clients_rights_can_erase();
+}
 
 /// An accepted change leaves the versions of earlier moments, acts on its object's present version, and
 /// leaves those of other objects.

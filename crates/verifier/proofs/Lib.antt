@@ -24,3 +24,4 @@ mod OneSpans
 mod OneRows
 mod OneFrames
 mod OneImage
+mod SavedTold

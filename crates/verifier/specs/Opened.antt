@@ -20,7 +20,8 @@ use Rattle.image_objects.specs.declared.rows.ImageRow.{ImageRow}
 use Rattle.image_objects.specs.Objects.{inode_used}
 use Rattle.verifier.specs.Tables.{IsTableOf}
 use Rattle.verifier.specs.Rows.{SpellRows}
-use Rattle.verifier.specs.Images.{ImageFields}
+use Rattle.verifier.specs.Grammar.{SpellsDrive}
+use Rattle.verifier.specs.Images.{ImageFields, IsImageOf}
 
 -- An opened drive has what an image has: its frames with what they are used for and hold, its rows, its spans and its numbers; and its last
 -- change was at the image's clock.
@@ -59,6 +60,22 @@ pub record IsToldBy (parts : Image) (base : Base) : Type 0 where
   pub spelled : SpellRows parts.rows rows
   pub versions : (o t : ℕ) → current_of (versions_of base.versions o) t ≡ version_of_rows (used_at table) rows o t
   pub listed : IsListed base.versions
+
+-- what a drive begins with that was opened
+abbrev pub begins_with : OpenedFields → Base
+begins_with d = base_of (fields_of log_of d.store) d.timeline d.next
+
+-- Bytes are the image of a drive, and this is what was read of them.
+pub record IsReadOf (bytes : List ℕ) (image : ImageFields) : Type 0 where
+  pub parts : Image
+  pub spelled : SpellsDrive bytes parts
+  pub told : IsImageOf parts image
+
+-- Bytes are the image of a drive, and they tell this base.
+pub record TellsBase (bytes : List ℕ) (base : Base) : Type 0 where
+  pub parts : Image
+  pub spelled : SpellsDrive bytes parts
+  pub told : IsToldBy parts base
 
 -- A drive is the opened one under a name: its history is just what that one begins with, and its objects are the same.
 pub record IsNamedOf (opened : OpenedFields) (d : DriveFields) : Type 0 where

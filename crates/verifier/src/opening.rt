@@ -7,7 +7,7 @@ ghost use Rattle.drive.specs.Opened.{base_of};
 ghost use Rattle.image_parts.specs.Image.{Image as ImageParts};
 ghost use Rattle.verifier.specs.Grammar.{SpellsDrive};
 ghost use Rattle.verifier.specs.Images.{IsImageOf};
-ghost use Rattle.verifier.specs.Opened.{IsOpenedOf, IsToldBy};
+ghost use Rattle.verifier.specs.Opened.{IsOpenedOf, IsReadOf, IsToldBy, TellsBase, begins_with};
 
 use crate::images::Image;
 use crate::opening_laws::an_opened_drive_begins_as_its_image_tells;
@@ -26,6 +26,8 @@ pub fn open(alloc: Global, image: Image) -> Result<OpenedDrive, Refusal>
     ensures opened { IfOk result (λ d. IsOpenedOf image d) }
     ensures base { IfOk result (λ d. (bytes : List ℕ) (parts : ImageParts) → SpellsDrive bytes parts → IsImageOf parts image
         → IsToldBy parts (base_of (fields_of log_of d.store) d.timeline d.next)) }
+    // It begins with what the bytes tell that the image was read of.
+    ensures promise { IfOk result (λ d. (bytes : List ℕ) → IsReadOf bytes image → TellsBase bytes (begins_with d)) }
     ensures refusal { IfErr result (λ e. (e ≡ NoMemory) ⊎ (e ≡ Busy)) }
 {
     an_opened_drive_begins_as_its_image_tells();

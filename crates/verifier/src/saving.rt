@@ -1,9 +1,13 @@
 //! The image of a drive, written.
 ghost use Rattle.std.specs.Prelude.{◌≡◌, ◌≤◌, ◌<◌, ◌^◌, [], length, IfOk, IfErr};
+ghost use Rattle.s4_types.specs.History.{Base};
+ghost use Rattle.s4_model.specs.Promise.{beginning, GoesOn};
 ghost use Rattle.s4_types.specs.declared.refusals.Refusal.TheVariants.{NoMemory};
-ghost use Rattle.drive.specs.Fields.{state_in};
+ghost use Rattle.drive.specs.Fields.{history_of, state_in};
+ghost use Rattle.verifier.specs.Opened.{TellsBase};
 ghost use Rattle.verifier.specs.Saved.{SpellsSaved};
 
+use crate::opening_laws::what_is_saved_goes_on;
 use crate::saved_frames::{frames_with_blocks, push_frames};
 use crate::saved_rows::{push_rows, push_spans, rows_saved};
 use checkpoint::laws::a_checkpoint_has_its_blocks;
@@ -62,11 +66,14 @@ fn room_for_image<J: Naming>(
 /// NoMemory alone, where the memory for it is refused.
 pub fn save<J: Naming>(alloc: Global, drive: &mut Drive<J>) -> Result<Vec<u8>, Refusal>
     ensures saved { IfOk result (λ bytes. SpellsSaved drive.old bytes.items) }
+    // In the words of the model: what begins with what the bytes tell goes on where this drive ended.
+    ensures promise { IfOk result (λ bytes. (base : Base) → TellsBase bytes.items base → GoesOn (history_of drive.old) (beginning base)) }
     ensures refusal { IfErr result (λ e. e ≡ NoMemory) }
     ensures same { drive.new ≡ drive.old }
 {
     a_store_stands_in_its_image();
     a_checkpoint_has_its_blocks();
+    what_is_saved_goes_on();
     drive.rules();
     let rows = rows_saved(alloc, drive)?;
     let spans = drive.spans()?;

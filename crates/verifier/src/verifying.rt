@@ -12,6 +12,7 @@ ghost use Rattle.verifier.specs.Rows.{ChainsStand};
 ghost use Rattle.verifier.specs.Grammar.{SpellsDrive, FirstFault};
 ghost use Rattle.verifier.specs.Reading.{AreRead};
 ghost use Rattle.verifier.specs.Images.{IsImageOf};
+ghost use Rattle.verifier.specs.Opened.{IsReadOf};
 ghost use Rattle.verifier.specs.private.Rest.{FirstRestCause};
 
 use crate::images::Image;
@@ -152,6 +153,8 @@ fn read_beside_digest<R: Threads>(
 pub fn verify<R: Threads>(rt: &R, alloc: Global, bytes: &[u8]) -> Result<Image, Refusal>
     ensures whole { IfOk result (λ image. SpellsDrive bytes.now (image_in bytes.now)) }
     ensures told { IfOk result (λ image. IsImageOf (image_in bytes.now) image) }
+    // In one word: what was read is of these bytes.
+    ensures promise { IfOk result (λ image. IsReadOf bytes.now image) }
     ensures damaged { IfErr result (λ e. (e ≡ NoMemory) ⊎ ((cause : Found) × (e ≡ Damaged cause) × FirstFault bytes.now (Some cause))) }
 {
     what_no_test_refuses_is_an_image();

@@ -8,6 +8,7 @@ use Rattle.interleaving.specs.declared.steps.Step.{Step}
 use Rattle.interleaving.specs.Running.{Run, Stands}
 use Rattle.interleaving.proofs.Runs.{run_on}
 use Rattle.interleaving.proofs.Retold.{told_whole}
+use Rattle.interleaving.proofs.Past.{kept_by_clients}
 use Rattle.interleaving.proofs.replay.run.Goals as goal
 
 pub loop-step-preserved : goal.loop-step-preserved
@@ -56,3 +57,7 @@ returns-clause-decodes g c = c.rules-2.ensures.decodes
 
 pub returns-clause-base : goal.returns-clause-base
 returns-clause-base g c = c.rules-2.ensures.base
+
+pub returns-clause-past : goal.returns-clause-past
+returns-clause-past g c =
+    kept_by_clients c.clients_keep_the_past.ensures c.args.steps.now c.loop-step.answers.items c.args.drive.now c.loop-step.drive c.args.actors.now c.loop-step.actors (returns-clause-model g c)

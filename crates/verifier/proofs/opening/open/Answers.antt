@@ -8,7 +8,7 @@ use Rattle.drive.specs.Opened.{base_of}
 use Rattle.image_parts.specs.Image.{Image}
 use Rattle.verifier.specs.Grammar.{SpellsDrive}
 use Rattle.verifier.specs.Images.{CanBeOpened, IsImageOf}
-use Rattle.verifier.specs.Opened.{IsOpenedOf, IsToldBy}
+use Rattle.verifier.specs.Opened.{IsOpenedOf, IsReadOf, IsToldBy, TellsBase, begins_with}
 use Rattle.verifier.proofs.opening.open.Goals as goal
 
 pub from_parts-requires-3-clause-few_in_each_list : goal.from_parts-requires-3-clause-few_in_each_list
@@ -21,3 +21,10 @@ returns-clause-base c =
     IfOk-weaker c.from_parts-4.result (λ d. IsOpenedOf c.args.image d)
     (λ d. (bytes : List ℕ) (parts : Image) → SpellsDrive bytes parts → IsImageOf parts c.args.image → IsToldBy parts (base_of (fields_of log_of d.store) d.timeline d.next))
     (λ d is bytes parts spells told. c.an_opened_drive_begins_as_its_image_tells.ensures bytes parts c.args.image d spells told (subst CanBeOpened c.image.view_is c.image.invariant) is) has
+
+pub returns-clause-promise : goal.returns-clause-promise
+returns-clause-promise c =
+    IfOk-weaker c.from_parts-4.result
+    (λ d. (bytes : List ℕ) (parts : Image) → SpellsDrive bytes parts → IsImageOf parts c.args.image → IsToldBy parts (base_of (fields_of log_of d.store) d.timeline d.next))
+    (λ d. (bytes : List ℕ) → IsReadOf bytes c.args.image → TellsBase bytes (begins_with d))
+    (λ d begins bytes is. record { parts = is.parts; spelled = is.spelled; told = begins bytes is.parts is.spelled is.told }) (returns-clause-base c)

@@ -48,3 +48,6 @@ returns-clause-saved g c =
     subst (SpellsSaved d) (sym c.in_ok-push_digest.ensures.items)
     (saves d rows spans h c.push_frames.new.out.items c.push_spans.new.out.items (record { held = c.a_checkpoint_has_its_blocks.ensures.held; first = c.a_checkpoint_has_its_blocks.ensures.first }) c.a_store_stands_in_its_image.ensures.stand c.a_store_stands_in_its_image.ensures.ascend
     shown c.in_ok-rows.ensures.saved seen written adds parts)
+
+pub returns-clause-promise : goal.returns-clause-promise
+returns-clause-promise g c = λ base tells. c.what_is_saved_goes_on.ensures c.args.drive.now _ base c.rules.ensures.store c.rules.ensures.frames.used c.rules.ensures.decodes (returns-clause-saved g c) tells

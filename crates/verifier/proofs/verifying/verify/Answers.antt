@@ -6,7 +6,9 @@ use Rattle.image_parts.specs.Image.{Image, image_in}
 use Rattle.image_parts.specs.Causes.{HasDigest}
 use Rattle.verifier.specs.Grammar.{SpellsDrive, FirstFault}
 use Rattle.verifier.specs.Images.{IsImageOf}
+use Rattle.verifier.specs.Opened.{IsReadOf}
 use Rattle.verifier.specs.private.Rest.{FirstRestCause}
+use Rattle.verifier.proofs.Ends.{both_ok}
 use Rattle.verifier.proofs.Faults.{rest_fault, spelled_where_none}
 use Rattle.verifier.proofs.verifying.verify.Goals as goal
 
@@ -38,3 +40,9 @@ returns-clause-damaged g c =
       | inr told ↦ inr (told.0, told.1, rest_fault bytes parts (Some told.0) c.in-Ok.ensures.whole c.in-Ok.ensures.read c.in-Ok.ensures.header digest told.2)
     ])
     c.read_beside_digest-has_digest.ensures.damaged
+
+pub returns-clause-promise : goal.returns-clause-promise
+returns-clause-promise g c =
+    let bytes = c.args.bytes.now in
+    both_ok (λ image. SpellsDrive bytes (image_in bytes)) (λ image. IsImageOf (image_in bytes) image) (IsReadOf bytes) c.read_beside_digest-has_digest.result.1
+    (λ image spelled told. record { parts = image_in bytes; spelled = spelled; told = told }) (returns-clause-whole g c) (returns-clause-told g c)
