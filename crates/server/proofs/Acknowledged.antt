@@ -1,6 +1,7 @@
 -- A session's own changes are those that its replies acknowledge.
-use Rattle.std.proofs.Common.{◌≡◌, ℕ, zero, suc, ◌+◌, ◌-◌, Bool, true, false, List, [], ◌∷◌, ◌++◌, length, if◌then◌else◌, refl, sym, ap, ◌∙◌, subst, arith, length-append, append_assoc, append-nil, Option, None, Some}
-use Rattle.std.specs.Prelude.{MatchBool}
+use Rattle.std.proofs.Common.{◌≡◌, ℕ, zero, suc, ◌+◌, ◌-◌, Bool, true, false, List, [], ◌∷◌, ◌++◌, length, if◌then◌else◌, cond, refl, sym, ap, ◌∙◌, subst, arith, length-append, append_assoc, append-nil, Option, None, Some}
+use Rattle.std.specs.Prelude.{MatchBool, count_by}
+use Rattle.std.proofs.lemmas.List.Sums.{sum_by-cons}
 use mathlib.Core.Option.{some, some-ne-none}
 use mathlib.Core.List.{IsPrefix}
 use lib.ListN.{get_elem?}
@@ -22,7 +23,9 @@ use Rattle.rpc.specs.declared.items.Item.TheVariants.{Whole, BadFrame}
 use Rattle.serving.specs.Answering.{Turn, Run}
 use Rattle.drive.specs.Fields.{SessionFields}
 use Rattle.drive.specs.Answering.{is_acceptance, told_after}
-use Rattle.server.specs.Drawing.{CountsTicks}
+use Rattle.server.specs.Drawing.{ClockFields, DrawsNothing, moment_at}
+use Rattle.server.specs.declared.clocks.Undrawn.{Undrawn}
+use Rattle.server.specs.Attending.{SeatFields, SeatSteps, is_request}
 use Rattle.server.specs.Sharing.{SharedStep, IsFresh}
 use Rattle.server.specs.Acknowledged.{Acknowledges, AreAcknowledged}
 
@@ -52,7 +55,7 @@ in_longer changes later item reply n grows a = record {
 
 -- ---- which replies accept
 
-change_accepts : (c : Change) (m : ℕ) → is_acceptance (reply_at c m) ≡ true
+pub change_accepts : (c : Change) (m : ℕ) → is_acceptance (reply_at c m) ≡ true
 change_accepts (change.Create o attribute) m = refl
 change_accepts (change.Delete o) m = refl
 change_accepts (change.Write o offset bytes) m = refl
@@ -63,7 +66,7 @@ change_accepts (change.Flush first last) m = refl
 change_accepts (change.FlushO o first last) m = refl
 
 -- whether there is a reply that accepts
-abbrev accepts : Option Reply → Bool
+abbrev pub accepts : Option Reply → Bool
 accepts None = false
 accepts (Some reply) = is_acceptance reply
 
@@ -75,7 +78,7 @@ attributes_accept_nothing : (v : Version) → accepts (attributes_of v) ≡ fals
 attributes_accept_nothing Absent = refl
 attributes_accept_nothing (Live content attribute created changed) = refl
 
-reads_accept_nothing : (s : State) (r : Request) → accepts (reply_to_read s r) ≡ false
+pub reads_accept_nothing : (s : State) (r : Request) → accepts (reply_to_read s r) ≡ false
 reads_accept_nothing s (request.Read o offset len at) = data_accepts_nothing _ offset len
 reads_accept_nothing s (request.GetAttr o at) = attributes_accept_nothing _
 reads_accept_nothing s (request.Create attribute) = refl
@@ -176,32 +179,54 @@ module _ (by_moments : (h : History) (now : ℕ) → state_of (grown h (Seen now
   by_step l l' role r now reply old new had (Serves rec free (Reads is rec_is) grows) told =
       none_gained l l' (Whole r) reply old new had (saw l.history l'.history now (grows ∙ ap (grown l.history) rec_is)) (sym (ap accepts is) ∙ reads_accept_nothing (judged l.history r now) r) told
 
-  by_turn : (base : Base) (item : Item Request) (moments : List ℕ) (reply : Reply) (old new : SessionFields) → Turn (SharedStep base) CountsTicks item moments reply old new → GainsOne item reply old.told new.told
-  by_turn base (Whole r) moments reply old new t =
-      let s : SharedStep base old r t.0 reply new = t.2 in
-      by_step s.before.ledger s.after.ledger old.role r t.0 reply old.told new.told s.had_seen.seen s.step (ap (λ (f : SessionFields). f.told) s.told)
-  by_turn base BadFrame moments reply old new t = record {
-    numbers = [];
-    mine = ap (λ (f : SessionFields). f.told.mine) t.2 ∙ sym (append-nil old.told.mine);
-    grows = subst (λ (f : SessionFields). IsPrefix old.told.seen f.told.seen) (sym t.2) ([], append-nil old.told.seen);
-    one = subst (λ (x : Reply). IsGain (is_acceptance x) new.told.seen BadFrame x []) (sym t.1) refl;
-  }
+  by_turn : (base : Base) (clock : ClockFields) (item : Item Request) (moments : List ℕ) (reply : Reply) (old new : SeatFields) → Turn (SeatSteps base clock) (DrawsNothing {C = Undrawn}) item moments reply old new
+      → GainsOne item reply old.session.told new.session.told × (new.requests ≡ old.requests + cond (is_request item) 1 0)
+  by_turn base clock (Whole r) moments reply old new t =
+      let a = t.2.answer in
+      let s : SharedStep base old.session r (moment_at clock a.count) reply new.session = a.step in (
+        by_step s.before.ledger s.after.ledger old.session.role r (moment_at clock a.count) reply old.session.told new.session.told s.had_seen.seen s.step (ap (λ (f : SessionFields). f.told) s.told),
+        t.2.counted,
+      )
+  by_turn base clock BadFrame moments reply old new t = (
+    record {
+      numbers = [];
+      mine = ap (λ (f : SeatFields). f.session.told.mine) t.2 ∙ sym (append-nil old.session.told.mine);
+      grows = subst (λ (f : SeatFields). IsPrefix old.session.told.seen f.session.told.seen) (sym t.2) ([], append-nil old.session.told.seen);
+      one = subst (λ (x : Reply). IsGain (is_acceptance x) new.session.told.seen BadFrame x []) (sym t.1) refl;
+    },
+    (let same : new.requests ≡ old.requests = ap (λ (f : SeatFields). f.requests) t.2 in omega (arith, same)),
+  )
 
-  all_gained : (base : Base) (items : List (Item Request)) (moments : List ℕ) (replies : List Reply) (old new : SessionFields) → Run (SharedStep base) CountsTicks items moments replies old new
-      → Gains items replies old.told new.told
-  all_gained base [] moments replies old new run = record {
-    numbers = [];
-    mine = ap (λ (f : SessionFields). f.told.mine) run.2 ∙ sym (append-nil old.told.mine);
-    grows = subst (λ (f : SessionFields). IsPrefix old.told.seen f.told.seen) (sym run.2) ([], append-nil old.told.seen);
-    own = refl;
-  }
-  all_gained base (item ∷ items) moments replies old new run =
-      subst (λ (l : List Reply). Gains (item ∷ items) l old.told new.told) (sym run.6)
-      (joined item items run.2 run.3 old.told run.4.told new.told (by_turn base item run.0 run.2 old run.4 run.7) (all_gained base items run.1 run.3 run.4 new run.8))
+  all_gained : (base : Base) (clock : ClockFields) (items : List (Item Request)) (moments : List ℕ) (replies : List Reply) (old new : SeatFields)
+      → Run (SeatSteps base clock) (DrawsNothing {C = Undrawn}) items moments replies old new → Gains items replies old.session.told new.session.told × (new.requests ≡ old.requests + count_by is_request items)
+  all_gained base clock [] moments replies old new run = (
+    record {
+      numbers = [];
+      mine = ap (λ (f : SeatFields). f.session.told.mine) run.2 ∙ sym (append-nil old.session.told.mine);
+      grows = subst (λ (f : SeatFields). IsPrefix old.session.told.seen f.session.told.seen) (sym run.2) ([], append-nil old.session.told.seen);
+      own = refl;
+    },
+    (let same : new.requests ≡ old.requests = ap (λ (f : SeatFields). f.requests) run.2 in omega (arith, same)),
+  )
+  all_gained base clock (item ∷ items) moments replies old new run =
+      let one = by_turn base clock item run.0 run.2 old run.4 run.7 in
+      let all = all_gained base clock items run.1 run.3 run.4 new run.8 in
+      let first : run.4.requests ≡ old.requests + cond (is_request item) 1 0 = one.1 in
+      let others : new.requests ≡ run.4.requests + count_by is_request items = all.1 in
+      let cons : count_by is_request (item ∷ items) ≡ cond (is_request item) 1 0 + count_by is_request items = sum_by-cons (λ x. cond (is_request x) 1 0) item items in (
+        subst (λ (l : List Reply). Gains (item ∷ items) l old.session.told new.session.told) (sym run.6)
+            (joined item items run.2 run.3 old.session.told run.4.session.told new.session.told one.0 all.0),
+        omega (arith, first, others, cons),
+      )
 
   -- of a session that was just had
-  pub all_own : (base : Base) (role : Role) (items : List (Item Request)) (moments : List ℕ) (replies : List Reply) (first last : SessionFields) → IsFresh base role first
-      → Run (SharedStep base) CountsTicks items moments replies first last → AreAcknowledged last.told.seen items replies last.told.mine
-  all_own base role items moments replies first last fresh run =
-      let g : Gains items replies first.told last.told = all_gained base items moments replies first last run in
-      subst (AreAcknowledged last.told.seen items replies) (sym (g.mine ∙ ap (λ (l : List ℕ). l ++ g.numbers) fresh.mine)) g.own
+  pub all_own : (base : Base) (clock : ClockFields) (role : Role) (items : List (Item Request)) (moments : List ℕ) (replies : List Reply) (first : SessionFields) (last : SeatFields) → IsFresh base role first
+      → Run (SeatSteps base clock) (DrawsNothing {C = Undrawn}) items moments replies (record { session = first; requests = 0 }) last
+      → AreAcknowledged last.session.told.seen items replies last.session.told.mine × (last.requests ≡ count_by is_request items)
+  all_own base clock role items moments replies first last fresh run =
+      let all = all_gained base clock items moments replies (record { session = first; requests = 0 }) last run in
+      let g : Gains items replies first.told last.session.told = all.0 in
+      let count : last.requests ≡ 0 + count_by is_request items = all.1 in (
+        subst (AreAcknowledged last.session.told.seen items replies) (sym (g.mine ∙ ap (λ (l : List ℕ). l ++ g.numbers) fresh.mine)) g.own,
+        omega (arith, count),
+      )

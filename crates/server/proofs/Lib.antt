@@ -1,4 +1,6 @@
 pub mod Acknowledged
+pub mod Sequence
+pub mod Summing
 pub mod Sharing
 pub mod Rounding
 pub mod Stepping

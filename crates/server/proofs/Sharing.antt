@@ -1,5 +1,5 @@
 -- What a session was told after a plan, and after one that couldn't be fetched.
-use Rattle.std.proofs.Common.{◌≡◌, ◌≤◌, ℕ, List, [], Option, None, Result, Ok, Err, inl, inr, refl, sym, ap, subst, ◌∙◌}
+use Rattle.std.proofs.Common.{◌≡◌, ◌≤◌, ℕ, false, List, [], Option, None, Result, Ok, Err, inl, inr, refl, sym, ap, subst, ◌∙◌}
 use Rattle.std.specs.Prelude.{IfOk}
 use Rattle.std.proofs.lemmas.Option.{none-some}
 use Rattle.atomic_table.specs.Seated.{TableId}
@@ -22,8 +22,9 @@ use Rattle.time_read.specs.Plans.{PlanFields, bytes_planned}
 use Rattle.drive.specs.Fields.{DriveFields, SessionFields, history_of, state_in, store_of}
 use Rattle.drive.specs.Keeping.{DecodesWhereVisible}
 use Rattle.drive.specs.Opened.{NoneFrom}
-use Rattle.drive.specs.Answering.{Leaves, told_after, owners_after, reply_planned}
-use Rattle.server.specs.Sharing.{IsSharedDrive, SharedStep, IsFetched, IsFresh}
+use Rattle.drive.specs.Answering.{Leaves, told_after, owners_after, is_acceptance, reply_planned}
+use Rattle.server.specs.Drawing.{ClockFields, moment_at}
+use Rattle.server.specs.Sharing.{IsSharedDrive, SharedStep, SharedAnswer, IsFetched, IsFresh}
 
 -- a plan accepts nothing
 pub planned_told : (planned : Result PlanFields Refusal) (l : Ledger) (t : Told) → told_after (reply_planned planned) l t ≡ caught_up l t
@@ -34,6 +35,11 @@ planned_told (Err refusal) l t = refl
 pub planned_owners : (planned : Result PlanFields Refusal) (seat : ℕ) (owners : List ℕ) → owners_after (reply_planned planned) seat owners ≡ owners
 planned_owners (Ok plan) seat owners = refl
 planned_owners (Err refusal) seat owners = refl
+
+-- nor is its reply an acceptance
+pub planned_accepts : (planned : Result PlanFields Refusal) → is_acceptance (reply_planned planned) ≡ false
+planned_accepts (Ok plan) = refl
+planned_accepts (Err refusal) = refl
 
 -- and it leaves all that is stored
 pub planned_leaves : (planned : Result PlanFields Refusal) (store after : StoreFields) (s : State) (request : Request) (now : ℕ) → after ≡ store → Leaves store s request now (reply_planned planned) after
@@ -102,3 +108,12 @@ pub shared_fresh : (base : Base) (role : Role) (d : DriveFields) (had : Result S
     → IfOk had (λ s. s.role ≡ role) → IfOk had (IsFresh base role)
 shared_fresh base role d (Ok session) begins seen mine role_is = record { ledger = d.ledger; begins = begins; seen = seen; mine = mine; role_is = role_is }
 shared_fresh base role d (Err refusal) begins seen mine role_is = tt
+
+-- the same of a session that draws its moment with the drive's lock
+pub answer_fetched : (base : Base) (clock : ClockFields) (old new : SessionFields) (o off len : ℕ) (at : Option ℕ) (planned : Result PlanFields Refusal) (reply : Reply)
+    → SharedAnswer base clock old (Read o off len at) (reply_planned planned) new → IsFetched planned reply → SharedAnswer base clock old (Read o off len at) reply new
+answer_fetched base clock old new o off len at planned reply a is = record {
+  count = a.count;
+  counted = a.counted;
+  step = shared_fetched base old new o off len (moment_at clock a.count) at planned reply a.step is;
+}

@@ -1,5 +1,7 @@
 pub mod Sharing
 pub mod Drawing
+pub mod Accounts
+pub mod Sequence
 pub mod Acknowledged
 pub mod Attending
 pub mod Upkeep

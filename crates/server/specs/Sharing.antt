@@ -1,5 +1,5 @@
 -- What a session is answered that shares its drive with others.
-use Rattle.std.specs.Prelude.{◌≡◌, ◌⊎◌, ℕ, ◌≤◌, [], Result, Ok, Err}
+use Rattle.std.specs.Prelude.{◌≡◌, ◌⊎◌, ℕ, ◌≤◌, ◌<◌, [], Result, Ok, Err}
 use Rattle.s4_types.specs.History.{Base, accepted}
 use Rattle.s4_types.specs.declared.requests.Role.{Role}
 use Rattle.s4_types.specs.declared.requests.Request.{Request}
@@ -19,6 +19,7 @@ use Rattle.drive.specs.Keeping.{DecodesWhereVisible}
 use Rattle.drive.specs.Opened.{NoneFrom}
 use Rattle.drive.specs.Refusing.{RefusesExactly, LacksMemoryInPlace}
 use Rattle.drive.specs.Answering.{Leaves, told_after, owners_after}
+use Rattle.server.specs.Drawing.{ClockFields, moment_at}
 
 -- A drive as others may have left it under the lock: its history has this base, and what always holds of a drive holds of it. So its
 -- blocks decode to the versions of its history at each moment that can be read, and its frames are in order.
@@ -46,6 +47,13 @@ pub record SharedStep (base : Base) (old : SessionFields) (request : Request) (n
   pub owners : after.ledger.owners ≡ owners_after reply old.told.seat before.ledger.owners
   pub told : new ≡ record old { told = told_after reply after.ledger old.told }
   pub has_seen : FitsLedger after.ledger new.told
+
+-- So it is answered at some moment of the clock that all sessions share: the drive's lock is held while that is drawn, and which one it
+-- is rests on the others.
+pub record SharedAnswer (base : Base) (clock : ClockFields) (old : SessionFields) (request : Request) (reply : Reply) (new : SessionFields) : Type 0 where
+  pub count : ℕ
+  pub counted : 0 < count
+  pub step : SharedStep base old request (moment_at clock count) reply new
 
 -- The session met the drive: it has seen all that was accepted in some history with this base, which begins with all that it
 -- had seen, and nothing else about it has changed.

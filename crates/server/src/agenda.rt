@@ -1,4 +1,6 @@
 //! Which objects the cleaner is to visit. Nothing that is answered rests on it.
+ghost use Rattle.std.specs.Prelude.{◌≡◌};
+
 use drive::Drive;
 use s4_types::limits::JOURNAL_ENTRY_BYTES;
 use s4_types::{Moment, ObjectId};
@@ -193,7 +195,9 @@ fn state_at<J: Naming>(
     object: ObjectId,
     at: u64,
     is_of_life: bool,
-) -> Option<State> {
+) -> Option<State>
+    ensures { drive.new.ledger ≡ drive.old.ledger }
+{
     let inode = drive.inode_at(object, Moment::new(at))?;
     Some(State {
         changed: if is_of_life {
@@ -207,7 +211,9 @@ fn state_at<J: Naming>(
 
 /// The first moment above the floor at which an object's state is another one than at the floor, or
 /// the clock. It is searched for by halves, which reads no block and takes no memory.
-fn first_change<J: Naming>(drive: &mut Drive<J>, object: ObjectId, is_of_life: bool) -> Moment {
+fn first_change<J: Naming>(drive: &mut Drive<J>, object: ObjectId, is_of_life: bool) -> Moment
+    ensures { drive.new.ledger ≡ drive.old.ledger }
+{
     let mut low = drive.floor().number();
     let mut high = drive.clock().number();
     let first = state_at(drive, object, low, is_of_life);
@@ -227,7 +233,9 @@ fn first_change<J: Naming>(drive: &mut Drive<J>, object: ObjectId, is_of_life: b
 }
 
 /// When an object was deleted, if it is.
-fn deletion<J: Naming>(drive: &mut Drive<J>, object: ObjectId) -> Option<Moment> {
+fn deletion<J: Naming>(drive: &mut Drive<J>, object: ObjectId) -> Option<Moment>
+    ensures { drive.new.ledger ≡ drive.old.ledger }
+{
     let clock = drive.clock().number();
     match state_at(drive, object, clock, true) {
         Some(state) if !state.is_alive => Some(first_change(drive, object, true)),
@@ -244,7 +252,9 @@ pub(crate) fn is_short<J: Naming>(drive: &Drive<J>, object: ObjectId) -> bool {
 }
 
 /// The history that an object has left which was cleaned, if it has any.
-pub(crate) fn history_left<J: Naming>(drive: &mut Drive<J>, object: ObjectId) -> Option<History> {
+pub(crate) fn history_left<J: Naming>(drive: &mut Drive<J>, object: ObjectId) -> Option<History>
+    ensures { drive.new.ledger ≡ drive.old.ledger }
+{
     let row = drive.row(object)?;
     if row.journal_bytes == 0 {
         return None;

@@ -1,9 +1,12 @@
 //! What the cleaner gathers within its reserve, where there is too little room for the copier.
+ghost use Rattle.std.specs.Prelude.{◌≡◌, true};
+
+use crate::accounts::Running;
 use crate::locked::{gather_next, release_frames};
 use crate::pace::Pace;
-use drive::{Drive, Session};
+use crate::shared::SharedDrive;
+use drive::Session;
 use s4_types::limits::{MOST_FRAMES, PAYLOAD_BLOCKS};
-use segment_word::Naming;
 use std::alloc::Global;
 use std::sync::{Mutex, Wait};
 
@@ -15,13 +18,15 @@ const MOST_STEPS: usize = MOST_FRAMES;
 
 /// Gathers where there is too little room for the copier, one object after another, if the cleaner has a seat for it. Frames that hold
 /// nothing are released before each step, so that it has their blocks.
-pub(crate) fn gather_all<J: Naming>(
+pub(crate) fn gather_all<J: Running>(
     rt: &impl Wait,
     alloc: Global,
-    drive: &Mutex<Drive<J>>,
+    drive: &Mutex<SharedDrive<J>>,
     pace: &Pace,
     seat: &mut Option<Session<J>>,
-) {
+)
+    requires { J.has_upkeep ≡ true }
+{
     let Some(session) = seat else {
         return;
     };
@@ -37,14 +42,16 @@ pub(crate) fn gather_all<J: Naming>(
 }
 
 /// The cleaner has taken so many turns of a round: after some of them it gathers.
-pub(crate) fn gather_between<J: Naming>(
+pub(crate) fn gather_between<J: Running>(
     rt: &impl Wait,
     alloc: Global,
-    drive: &Mutex<Drive<J>>,
+    drive: &Mutex<SharedDrive<J>>,
     pace: &Pace,
     seat: &mut Option<Session<J>>,
     turns: u64,
-) {
+)
+    requires { J.has_upkeep ≡ true }
+{
     if turns % TURNS_BETWEEN == 0 {
         gather_all(rt, alloc, drive, pace, seat);
     }

@@ -1,6 +1,8 @@
 //! How the drive's lock is had, by sessions and by upkeep.
+use crate::accounts::Running;
 use crate::effects::Effect;
 use crate::pace::Pace;
+use crate::shared::SharedDrive;
 use drive::Drive;
 use segment_word::Naming;
 use std::hint::spin_loop;
@@ -20,10 +22,10 @@ fn is_wanted(pace: Option<&Pace>) -> bool {
 
 /// The drive, where its lock is had without a sleep. While cleaner or copier waits for it, it is
 /// left to that one.
-fn try_hold<'a, J: Naming>(
-    drive: &'a Mutex<Drive<J>>,
+fn try_hold<'a, J: Running>(
+    drive: &'a Mutex<SharedDrive<J>>,
     pace: Option<&Pace>,
-) -> Option<MutexGuard<'a, Drive<J>>> {
+) -> Option<MutexGuard<'a, SharedDrive<J>>> {
     for _ in 0..LOOKS {
         if !is_wanted(pace) {
             if let Some(held) = drive.try_lock() {
@@ -36,11 +38,11 @@ fn try_hold<'a, J: Naming>(
 }
 
 /// The drive for a session, once the lock is had.
-pub(crate) fn hold<'a, J: Naming>(
+pub(crate) fn hold<'a, J: Running>(
     rt: &impl Wait,
-    drive: &'a Mutex<Drive<J>>,
+    drive: &'a Mutex<SharedDrive<J>>,
     pace: Option<&Pace>,
-) -> MutexGuard<'a, Drive<J>> {
+) -> MutexGuard<'a, SharedDrive<J>> {
     if let Some(held) = try_hold(drive, pace) {
         return held;
     }
@@ -54,11 +56,11 @@ pub(crate) fn hold<'a, J: Naming>(
 }
 
 /// The drive for cleaner or copier, once the lock is had. A session that waits for it has it first.
-pub(crate) fn hold_next<'a, J: Naming>(
+pub(crate) fn hold_next<'a, J: Running>(
     rt: &impl Wait,
-    drive: &'a Mutex<Drive<J>>,
+    drive: &'a Mutex<SharedDrive<J>>,
     pace: &Pace,
-) -> MutexGuard<'a, Drive<J>> {
+) -> MutexGuard<'a, SharedDrive<J>> {
     pace.want_drive(rt);
     let held = match try_hold(drive, None) {
         Some(held) => held,
@@ -78,17 +80,17 @@ fn is_pressed<J: Naming>(rt: &impl Wait, drive: &Drive<J>, pace: &Pace, effect: 
 
 /// The drive for a request, once the lock is had. A change for which there may be too little room,
 /// or whose object's chain is nearly full, lets the cleaner go a whole round first.
-pub(crate) fn hold_for<'a, J: Naming>(
+pub(crate) fn hold_for<'a, J: Running>(
     rt: &impl Wait,
-    drive: &'a Mutex<Drive<J>>,
+    drive: &'a Mutex<SharedDrive<J>>,
     pace: Option<&Pace>,
     effect: &Effect,
-) -> MutexGuard<'a, Drive<J>> {
+) -> MutexGuard<'a, SharedDrive<J>> {
     let held = hold(rt, drive, pace);
     let Some(waits) = pace else {
         return held;
     };
-    if !is_pressed(rt, &held, waits, effect) {
+    if !is_pressed(rt, &held.drive, waits, effect) {
         return held;
     }
     drop(held);

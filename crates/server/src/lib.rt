@@ -3,10 +3,16 @@
 //! The layer above may rely on this: each request is answered as [`drive::Drive::request`] answers it over a drive whose history begins
 //! with all that the session had seen before: by a step of the model, and with a refusal exactly where that drive has one. What was
 //! accepted in that history is what the session has seen afterwards. A read holds the lock while it is planned, and not
-//! while its bytes are fetched. [`run_with_upkeep`] has the history cleaner and the segment copier beside the sessions; the history
-//! and every version that can be read stay, whatever the two do. In which order sessions that told each other nothing come is not said here.
+//! while its bytes are fetched.
+//!
+//! The drive that all sessions leave is what their requests have made of the one before, and nobody else's: [`SharedDrive`] keeps
+//! books of them, whose parts the sessions have, and [`settle`] puts these together again. The k-th request that is answered has the
+//! moment `start + k * tick`. [`run_with_upkeep`] has the history cleaner and the segment copier beside the sessions; the history and
+//! every version that can be read stay, whatever the two do. Without upkeep neither takes a step. In which order sessions that told each
+//! other nothing come is not said here.
 #![tactic(auto)]
 
+mod accounts;
 mod agenda;
 mod clocks;
 mod effects;
@@ -20,12 +26,16 @@ mod pace;
 mod progress;
 mod running;
 mod settling;
+mod shared;
+mod tending;
 mod upkeep;
 
-pub use clocks::SharedClock;
+pub use accounts::{Asked, Blanks, Part, Running};
+pub use clocks::Undrawn;
 pub use gate::{Gate, Open, UpkeepStep};
 pub use locked::Locked;
 pub use moving::{MoveStep, Moves};
-pub use running::{Client, MOST_SESSIONS, Outcome, run_sessions};
+pub use running::{Client, MOST_SESSIONS, Outcome, give_parts, run_sessions};
 pub use settling::settle;
+pub use shared::SharedDrive;
 pub use upkeep::{Round, Upkeep, run_with_upkeep};

@@ -1,26 +1,26 @@
 //! A session with a drive under a lock.
-ghost use Rattle.std.specs.Prelude.{◌≡◌, IfOk, IfErr};
+ghost use Rattle.std.specs.Prelude.{◌≡◌, ◌<◌, [], false, true, IfOk, IfErr, length};
 ghost use Rattle.s4_types.specs.declared.refusals.Refusal.TheVariants.{Busy};
 ghost use Rattle.s4_types.specs.Sizes.{ReplyFits};
 ghost use Rattle.s4_types.specs.declared.requests.Request.TheVariants.{Read};
-ghost use Rattle.drive.specs.Answering.{reply_planned};
-ghost use Rattle.server.specs.Sharing.{SharedStep, HasMet, IsFresh, IsFetched};
+ghost use Rattle.drive.specs.Answering.{is_acceptance, reply_planned};
+ghost use Rattle.server.specs.Accounts.{counted, one_part};
+ghost use Rattle.server.specs.Sharing.{SharedAnswer, HasMet, IsFresh, IsFetched};
+ghost use Rattle.server.specs.Attending.{SeatAnswer};
 ghost use Rattle.server.specs.Upkeep.{SharedTurn, SharedVisit, SharedSweep};
 ghost use Rattle.server.specs.Moving.{SharedPlan, SharedCommit};
 ghost use Rattle.server.specs.Gathering.{SharedGather};
 
-use crate::agenda::history_left;
+use crate::accounts::{Part, Running};
 use crate::effects::{Effect, effect_of};
 use crate::gate::Gate;
 use crate::holding::{hold, hold_for, hold_next};
 use crate::pace::Pace;
+use crate::shared::SharedDrive;
 use drive::{Drive, Session};
-use history_cleaner::{Rounds, Turn, sweep, visit};
+use history_cleaner::{Rounds, Turn};
 use s4_types::{Bytes, Moment, ObjectId, Refusal, Reply, Request, Role};
-use segment_copier::{
-    Candidate, MovePlan, Moved, candidate, commit, free_frames, gather, plan_move,
-};
-use segment_word::Naming;
+use segment_copier::{Candidate, MovePlan, Moved};
 use serving::Backend;
 use std::alloc::Global;
 use std::marker::Model;
@@ -28,42 +28,40 @@ use std::sync::{Mutex, Wait};
 use time_read::ReadPlan;
 
 /// A session of a role.
-pub(crate) fn enter<J: Naming>(
+pub(crate) fn enter<J: Running>(
     rt: &impl Wait,
-    drive: &Mutex<Drive<J>>,
+    drive: &Mutex<SharedDrive<J>>,
     pace: Option<&Pace>,
     role: Role,
 ) -> Result<Session<J>, Refusal>
     ensures session { IfOk result (IsFresh J.base role) }
     ensures busy { IfErr result (λ e. e ≡ Busy) }
 {
-    let mut drive = hold(rt, drive, pace);
-    drive.rules();
-    drive.session(role)
+    hold(rt, drive, pace).session(role)
 }
 
 /// A plan of a Read, made under the lock.
-fn resolve<J: Naming>(
+fn resolve<J: Running>(
     rt: &impl Wait,
-    drive: &Mutex<Drive<J>>,
+    drive: &Mutex<SharedDrive<J>>,
     pace: Option<&Pace>,
     session: &mut Session<J>,
+    part: &mut Part<J>,
     object: ObjectId,
     offset: u64,
     length: u32,
     at: Option<Moment>,
-    now: Moment,
 ) -> Result<ReadPlan, Refusal>
-    ensures step { SharedStep J.base session.old (Read object offset length at) now (reply_planned result) session.new }
+    requires { 0 < part.old.parts }
+    ensures step { SharedAnswer J.base J.clock session.old (Read object offset length at) (reply_planned result) session.new }
+    ensures part { part.new ≡ counted part.old false }
     ensures fits { ReplyFits (reply_planned result) }
 {
-    let mut drive = hold(rt, drive, pace);
-    drive.rules();
-    drive.resolve(session, object, offset, length, at, now)
+    hold(rt, drive, pace).resolve(session, part, object, offset, length, at)
 }
 
 /// A request was answered, and the lock is still held.
-fn note<J: Naming>(
+fn note<J: Running>(
     rt: &impl Wait,
     drive: &Drive<J>,
     pace: Option<&Pace>,
@@ -76,179 +74,173 @@ fn note<J: Naming>(
 }
 
 /// The reply to a request, all of it under the lock.
-fn ask<J: Naming>(
+fn ask<J: Running>(
     rt: &impl Wait,
-    drive: &Mutex<Drive<J>>,
+    drive: &Mutex<SharedDrive<J>>,
     pace: Option<&Pace>,
     session: &mut Session<J>,
+    part: &mut Part<J>,
     request: Request,
-    now: Moment,
 ) -> Reply
-    ensures step { SharedStep J.base session.old request now result session.new }
+    requires { 0 < part.old.parts }
+    ensures step { SharedAnswer J.base J.clock session.old request result session.new }
+    ensures part { part.new ≡ counted part.old (is_acceptance result) }
     ensures fits { ReplyFits result }
 {
     let effect = effect_of(&request);
-    let mut drive = hold_for(rt, drive, pace, &effect);
-    drive.rules();
-    let reply = drive.request(session, request, now);
-    note(rt, &drive, pace, &effect, &reply);
+    let mut shared = hold_for(rt, drive, pace, &effect);
+    let reply = shared.answer(session, part, request);
+    note(rt, &shared.drive, pace, &effect, &reply);
     reply
 }
 
 /// A meeting of a session and the drive, under the lock.
-fn meet<J: Naming>(
+fn meet<J: Running>(
     rt: &impl Wait,
-    drive: &Mutex<Drive<J>>,
+    drive: &Mutex<SharedDrive<J>>,
     pace: Option<&Pace>,
     session: &mut Session<J>,
 )
     ensures met { HasMet J.base session.old session.new }
 {
-    let mut drive = hold(rt, drive, pace);
-    drive.rules();
-    drive.meet(session);
+    hold(rt, drive, pace).meet(session);
 }
 
 /// An object had its turn, and the lock is still held. One that could not be cleaned has another in the next round.
-fn settle<J: Naming>(
+fn settle<J: Running>(
     rt: &impl Wait,
-    drive: &mut Drive<J>,
+    shared: &mut SharedDrive<J>,
     pace: &Pace,
     object: ObjectId,
     is_cleaned: bool,
-) {
+)
+    requires { J.has_upkeep ≡ true }
+{
     if is_cleaned {
-        let left = history_left(drive, object);
-        pace.settle(rt, drive, object, left);
+        let left = shared.history_left(object);
+        pace.settle(rt, &shared.drive, object, left);
     } else {
-        pace.keep(rt, drive, object);
+        pace.keep(rt, &shared.drive, object);
     }
 }
 
 /// A turn of a round over all objects was taken, and the lock is still held. After the last round nothing is visited any more.
-fn settle_turn<J: Naming>(
+fn settle_turn<J: Running>(
     rt: &impl Wait,
-    drive: &mut Drive<J>,
+    shared: &mut SharedDrive<J>,
     pace: &Pace,
     turn: &Turn,
     is_last: bool,
-) {
+)
+    requires { J.has_upkeep ≡ true }
+{
     match turn {
-        _ if is_last => pace.look(rt, drive),
-        Turn::Cleaned(object) => settle(rt, drive, pace, *object, true),
-        Turn::PassedOver(object, _) => settle(rt, drive, pace, *object, false),
-        Turn::Ended => pace.look(rt, drive),
+        _ if is_last => pace.look(rt, &shared.drive),
+        Turn::Cleaned(object) => settle(rt, shared, pace, *object, true),
+        Turn::PassedOver(object, _) => settle(rt, shared, pace, *object, false),
+        Turn::Ended => pace.look(rt, &shared.drive),
     }
 }
 
 /// One turn of a round of the cleaner over all objects, maybe its last round, under the lock.
-pub(crate) fn take_turn<J: Naming>(
+pub(crate) fn take_turn<J: Running>(
     rt: &impl Wait,
     alloc: Global,
-    drive: &Mutex<Drive<J>>,
+    drive: &Mutex<SharedDrive<J>>,
     pace: &Pace,
     rounds: &mut Rounds,
     is_last: bool,
 ) -> Turn
+    requires { J.has_upkeep ≡ true }
     ensures { SharedTurn J.base rounds.old.passed result rounds.new.passed }
 {
-    let mut drive = hold_next(rt, drive, pace);
-    drive.rules();
-    let turn = rounds.turn(alloc, &mut drive);
-    settle_turn(rt, &mut drive, pace, &turn, is_last);
+    let mut shared = hold_next(rt, drive, pace);
+    let turn = shared.turn(alloc, rounds);
+    settle_turn(rt, &mut shared, pace, &turn, is_last);
     turn
 }
 
 /// The turn of one object, whichever it is, under the lock.
-pub(crate) fn take_visit<J: Naming>(
+pub(crate) fn take_visit<J: Running>(
     rt: &impl Wait,
     alloc: Global,
-    drive: &Mutex<Drive<J>>,
+    drive: &Mutex<SharedDrive<J>>,
     pace: &Pace,
     object: ObjectId,
 )
+    requires { J.has_upkeep ≡ true }
     ensures { SharedVisit J.base object }
 {
-    let mut drive = hold_next(rt, drive, pace);
-    drive.rules();
-    let done = visit(alloc, &mut drive, object);
-    settle(rt, &mut drive, pace, object, done.is_ok());
+    let mut shared = hold_next(rt, drive, pace);
+    let done = shared.visit(alloc, object);
+    settle(rt, &mut shared, pace, object, done.is_ok());
 }
 
 /// Frames are emptied, under the lock.
-pub(crate) fn take_sweep<J: Naming>(rt: &impl Wait, drive: &Mutex<Drive<J>>, pace: &Pace)
+pub(crate) fn take_sweep<J: Running>(rt: &impl Wait, drive: &Mutex<SharedDrive<J>>, pace: &Pace)
+    requires { J.has_upkeep ≡ true }
     ensures { SharedSweep J.base }
 {
-    let mut drive = hold_next(rt, drive, pace);
-    drive.rules();
-    sweep(&mut drive);
-    pace.look(rt, &drive);
+    let mut shared = hold_next(rt, drive, pace);
+    shared.sweep();
+    pace.look(rt, &shared.drive);
 }
 
 /// What the copier is to move next, and a plan of that, made under the lock, where there is something to be moved. Its session
 /// has met the drive before.
-pub(crate) fn plan_next<J: Naming>(
+pub(crate) fn plan_next<J: Running>(
     rt: &impl Wait,
     alloc: Global,
-    drive: &Mutex<Drive<J>>,
+    drive: &Mutex<SharedDrive<J>>,
     pace: &Pace,
     session: &mut Session<J>,
 ) -> Result<Option<(Candidate, MovePlan<J>)>, Refusal>
     ensures { SharedPlan J.base session.old result session.new }
 {
-    let mut drive = hold_next(rt, drive, pace);
-    drive.rules();
-    drive.meet(session);
-    let Some(next) = candidate(&mut drive)? else {
-        return Ok(None);
-    };
-    let plan = plan_move(alloc, &mut drive, session, next.frame, next.object)?;
-    Ok(Some((next, plan)))
+    hold_next(rt, drive, pace).plan(alloc, session)
 }
 
 /// Puts a copied move in place, under the lock. The copier's session has met the drive before.
-pub(crate) fn put_in_place<J: Naming>(
+pub(crate) fn put_in_place<J: Running>(
     rt: &impl Wait,
     alloc: Global,
-    drive: &Mutex<Drive<J>>,
+    drive: &Mutex<SharedDrive<J>>,
     pace: &Pace,
     session: &mut Session<J>,
     moved: Moved<J>,
 ) -> Result<(), Refusal>
+    requires { J.has_upkeep ≡ true }
     ensures { SharedCommit J.base session.old moved.what result session.new }
 {
-    let mut drive = hold_next(rt, drive, pace);
-    drive.rules();
-    drive.meet(session);
-    commit(alloc, &mut drive, moved)
+    hold_next(rt, drive, pace).put(alloc, session, moved)
 }
 
 /// One step of gathering, all of it under the lock.
-pub(crate) fn gather_next<J: Naming>(
+pub(crate) fn gather_next<J: Running>(
     rt: &impl Wait,
     alloc: Global,
-    drive: &Mutex<Drive<J>>,
+    drive: &Mutex<SharedDrive<J>>,
     pace: &Pace,
     session: &mut Session<J>,
 ) -> Result<Option<Candidate>, Refusal>
+    requires { J.has_upkeep ≡ true }
     ensures { SharedGather J.base result }
 {
-    let mut drive = hold_next(rt, drive, pace);
-    drive.rules();
-    let gathered = gather(alloc, &mut drive, session);
-    pace.look(rt, &drive);
+    let mut shared = hold_next(rt, drive, pace);
+    let gathered = shared.gather(alloc, session);
+    pace.look(rt, &shared.drive);
     gathered
 }
 
 /// The frames are emptied that can be, under the lock. How many frames are free then is noted.
-pub(crate) fn release_frames<J: Naming>(rt: &impl Wait, drive: &Mutex<Drive<J>>, pace: &Pace)
+pub(crate) fn release_frames<J: Running>(rt: &impl Wait, drive: &Mutex<SharedDrive<J>>, pace: &Pace)
+    requires { J.has_upkeep ≡ true }
     ensures { SharedSweep J.base }
 {
-    let mut drive = hold_next(rt, drive, pace);
-    drive.rules();
-    sweep(&mut drive);
-    let frames = free_frames(&mut drive);
-    pace.count_free(rt, &drive, frames);
+    let mut shared = hold_next(rt, drive, pace);
+    shared.sweep();
+    let frames = shared.free_frames();
+    pace.count_free(rt, &shared.drive, frames);
 }
 
 /// The reply to a Read that was planned so: the bytes that the plan names, where there is memory for them.
@@ -265,94 +257,101 @@ fn fetched(alloc: Global, planned: Result<ReadPlan, Refusal>) -> Reply
     }
 }
 
-/// A session with a drive that others share, under a lock. Contracts see the session.
+/// A session with a drive that others share, under a lock. Contracts see the session, and how many requests it was answered.
 #[derive(Drop)]
-pub struct Locked<'a, J: Naming, R: Wait, G: Gate> {
+pub struct Locked<'a, J: Running, R: Wait, G: Gate> {
     rt: &'a R,
     alloc: Global,
-    drive: &'a Mutex<Drive<J>>,
+    drive: &'a Mutex<SharedDrive<J>>,
     pace: Option<&'a Pace>,
     session: Session<J>,
+    /// Its part of the books.
+    part: Part<J>,
     gate: &'a G,
     number: usize,
     calls: u64,
 }
 
-impl<'a, J: Naming, R: Wait, G: Gate> Model for Locked<'a, J, R, G> {
-    ghost use Rattle.drive.specs.Fields.{SessionFields};
+impl<'a, J: Running, R: Wait, G: Gate> Model for Locked<'a, J, R, G> {
+    ghost use Rattle.std.specs.Prelude.{◌≡◌, length};
+    ghost use Rattle.server.specs.Attending.{SeatFields};
 
-    ghost Value = { SessionFields };
+    ghost Value = { SeatFields };
 
-    ghost view = { λ l. l.session };
+    ghost view = { λ l. record { session = l.session; requests = l.part.requests } };
+
+    ghost invariant = { λ l. (l.part.parts ≡ 1) × (l.part.changes ≡ length l.session.told.mine) };
 }
 
-impl<'a, J: Naming, R: Wait, G: Gate> Locked<'a, J, R, G> {
-    /// The session of that number, from 1 on, of a role. It has seen what was accepted in a history of the drive, and nothing is
-    /// its own yet. Busy where no seat is to be had.
+impl<'a, J: Running, R: Wait, G: Gate> Locked<'a, J, R, G> {
+    /// The session of that number, from 1 on, of a role, with a part of the books. It has seen what was accepted in a history of the
+    /// drive, and nothing is its own yet. Busy where no seat is to be had: the part is lost then.
     pub fn new(
         rt: &'a R,
         alloc: Global,
-        drive: &'a Mutex<Drive<J>>,
+        drive: &'a Mutex<SharedDrive<J>>,
         role: Role,
+        part: Part<J>,
         gate: &'a G,
         number: usize,
     ) -> Result<Self, Refusal>
-        ensures session { IfOk result (IsFresh J.base role) }
+        requires { part ≡ one_part }
+        ensures session { IfOk result (λ l. IsFresh J.base role l.session) }
+        ensures requests { IfOk result (λ l. l.requests ≡ 0) }
         ensures busy { IfErr result (λ e. e ≡ Busy) }
     {
-        Locked::beside(rt, alloc, drive, None, role, gate, number)
+        let session = enter(rt, drive, None, role)?;
+        Ok(Locked::beside(rt, alloc, drive, None, session, part, gate, number))
     }
 
-    /// The same, with upkeep beside it where there is its pace.
+    /// A session that was just had, with upkeep beside it where there is its pace.
     pub(crate) fn beside(
         rt: &'a R,
         alloc: Global,
-        drive: &'a Mutex<Drive<J>>,
+        drive: &'a Mutex<SharedDrive<J>>,
         pace: Option<&'a Pace>,
-        role: Role,
+        session: Session<J>,
+        part: Part<J>,
         gate: &'a G,
         number: usize,
-    ) -> Result<Self, Refusal>
-        ensures session { IfOk result (IsFresh J.base role) }
-        ensures busy { IfErr result (λ e. e ≡ Busy) }
+    ) -> Self
+        requires part { part ≡ one_part }
+        requires mine { session.told.mine ≡ [] }
+        ensures { result ≡ record { session = session; requests = 0 } }
     {
-        let session = enter(rt, drive, pace, role)?;
-        Ok(Locked {
+        Locked {
             rt,
             alloc,
             drive,
             pace,
             session,
+            part,
             gate,
             number,
             calls: 0,
-        })
+        }
     }
 
     /// Without a request the session sees what was accepted in a history of the drive that begins with what it had seen before.
     pub fn meet(&mut self)
-        ensures { HasMet J.base self.old self.new }
+        ensures session { HasMet J.base self.old.session self.new.session }
+        ensures requests { self.new.requests ≡ self.old.requests }
     {
         meet(self.rt, self.drive, self.pace, &mut self.session);
     }
 
-    /// The session itself, which is asked nothing more.
-    pub fn into_session(self) -> Session<J>
-        ensures { result ≡ self.entry }
+    /// The session itself, which is asked nothing more, and its part of the books: each request that it was answered is counted on it,
+    /// and each change of its own.
+    pub fn into_parts(self) -> (Session<J>, Part<J>)
+        ensures session { result.0 ≡ self.entry.session }
+        ensures part { result.1 ≡ record { parts = 1; requests = self.entry.requests; changes = length self.entry.session.told.mine } }
     {
-        self.session
+        (self.session, self.part)
     }
 
     /// The reply to a Read. The lock isn't held while its bytes are fetched.
-    fn read(
-        &mut self,
-        object: ObjectId,
-        offset: u64,
-        length: u32,
-        at: Option<Moment>,
-        now: Moment,
-    ) -> Reply
-        ensures step { SharedStep J.base self.old (Read object offset length at) now result self.new }
+    fn read(&mut self, object: ObjectId, offset: u64, length: u32, at: Option<Moment>) -> Reply
+        ensures step { SeatAnswer J.base J.clock self.old (Read object offset length at) result self.new }
         ensures fits { ReplyFits result }
     {
         let planned = resolve(
@@ -360,23 +359,23 @@ impl<'a, J: Naming, R: Wait, G: Gate> Locked<'a, J, R, G> {
             self.drive,
             self.pace,
             &mut self.session,
+            &mut self.part,
             object,
             offset,
             length,
             at,
-            now,
         );
         self.gate.between(self.number, self.calls);
         fetched(self.alloc, planned)
     }
 }
 
-impl<J: Naming, R: Wait, G: Gate> Backend for Locked<'_, J, R, G> {
-    ghost use Rattle.server.specs.Sharing.{SharedStep};
+impl<J: Running, R: Wait, G: Gate> Backend for Locked<'_, J, R, G> {
+    ghost use Rattle.server.specs.Attending.{SeatSteps};
 
-    ghost steps = { SharedStep J.base };
+    ghost steps = { SeatSteps J.base J.clock };
 
-    fn request(&mut self, request: Request, now: Moment) -> Reply {
+    fn request(&mut self, request: Request, _drawn: Moment) -> Reply {
         self.calls = self.calls.saturating_add(1);
         let reply = match request {
             Request::Read {
@@ -384,14 +383,14 @@ impl<J: Naming, R: Wait, G: Gate> Backend for Locked<'_, J, R, G> {
                 offset,
                 length,
                 at,
-            } => self.read(object, offset, length, at, now),
+            } => self.read(object, offset, length, at),
             other => ask(
                 self.rt,
                 self.drive,
                 self.pace,
                 &mut self.session,
+                &mut self.part,
                 other,
-                now,
             ),
         };
         self.gate.answered(self.number, self.calls);

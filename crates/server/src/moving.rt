@@ -1,15 +1,16 @@
 //! The segment copier beside sessions: it has the lock while a move is planned and while it is put in place, and copies without it.
-ghost use Rattle.std.specs.Prelude.{◌≡◌, ◌+◌, ◌^◌, ◌<◌, MatchResult, cond};
+ghost use Rattle.std.specs.Prelude.{◌≡◌, ◌+◌, ◌^◌, ◌<◌, MatchResult, cond, true};
 ghost use Rattle.s4_types.specs.declared.refusals.Refusal.TheVariants.{Busy};
 ghost use Rattle.server.specs.Moving.{SharedMove, IsMoving, is_planned, is_moved};
 
+use crate::accounts::Running;
 use crate::gate::{Gate, UpkeepStep};
 use crate::locked::{enter, plan_next, put_in_place};
 use crate::pace::Pace;
-use drive::{Drive, Session};
+use crate::shared::SharedDrive;
+use drive::Session;
 use s4_types::{Refusal, Role};
 use segment_copier::Candidate;
-use segment_word::Naming;
 use std::alloc::Global;
 use std::sync::{Mutex, Wait};
 
@@ -55,13 +56,14 @@ impl Moves {
 
 /// The move that is to be made next: planned under the lock, copied without it, which the plan's pin allows, and put in place
 /// under the lock. A refusal ends the step.
-fn move_next<J: Naming>(
+fn move_next<J: Running>(
     rt: &impl Wait,
     alloc: Global,
-    drive: &Mutex<Drive<J>>,
+    drive: &Mutex<SharedDrive<J>>,
     pace: &Pace,
     session: &mut Session<J>,
 ) -> MoveStep
+    requires { J.has_upkeep ≡ true }
     ensures { SharedMove J.base session.old result session.new }
 {
     let (next, plan) = match plan_next(rt, alloc, drive, pace, session) {
@@ -83,13 +85,14 @@ fn move_next<J: Naming>(
 /// ended. The step that is under way then is taken to its end. Busy where the drive has no seat for
 /// the copier's session: nothing is moved then.
 #[tactic(auto, using(crate::proofs::Stepping::moved_first, crate::proofs::Stepping::moved_more, crate::proofs::Stepping::moved_ends))]
-pub(crate) fn keep_moving<J: Naming, R: Wait, G: Gate>(
+pub(crate) fn keep_moving<J: Running, R: Wait, G: Gate>(
     rt: &R,
     alloc: Global,
-    drive: &Mutex<Drive<J>>,
+    drive: &Mutex<SharedDrive<J>>,
     pace: &Pace,
     gate: &G,
 ) -> Result<Moves, Refusal>
+    requires { J.has_upkeep ≡ true }
     ensures { MatchResult result (IsMoving J.base) (λ e. e ≡ Busy) }
 {
     let mut session = enter(rt, drive, Some(pace), Role::Client)?;

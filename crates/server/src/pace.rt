@@ -1,8 +1,10 @@
 //! The lock of what sessions, cleaner and copier wait for, and its one condition variable. Each
 //! method is one section of the lock. Nothing that is answered rests on it.
+use crate::accounts::Running;
 use crate::agenda::{History, is_short};
 use crate::effects::{Effect, is_nearly_full};
 use crate::progress::{Begun, Progress};
+use crate::shared::SharedDrive;
 use drive::Drive;
 use s4_types::{Moment, ObjectId, Reply};
 use segment_word::Naming;
@@ -27,10 +29,14 @@ pub(crate) struct Pace {
 
 impl Pace {
     /// Before the first round.
-    pub(crate) fn new<J: Naming>(rt: &impl Wait, alloc: Global, drive: &Mutex<Drive<J>>) -> Self {
-        let drive = drive.lock(rt);
+    pub(crate) fn new<J: Running>(
+        rt: &impl Wait,
+        alloc: Global,
+        drive: &Mutex<SharedDrive<J>>,
+    ) -> Self {
+        let shared = drive.lock(rt);
         Pace {
-            progress: Mutex::new(Progress::new(alloc, &drive)),
+            progress: Mutex::new(Progress::new(alloc, &shared.drive)),
             news: Condvar::new(),
             wanting: AtomicU64::new(0),
         }

@@ -1,10 +1,12 @@
 //! Sessions with the history cleaner and the segment copier beside them. The cleaner has the lock for one object at a time.
-ghost use Rattle.std.specs.Prelude.{◌≡◌, ℕ, ◌+◌, ◌^◌, ◌<◌, ◌≤◌, All, MatchResult, length, slice_index_or, true, vec_len};
+ghost use Rattle.std.specs.Prelude.{◌≡◌, ℕ, ◌+◌, ◌^◌, ◌<◌, ◌≤◌, All, MatchResult, Some, length, slice_index_or, true, vec_len};
 ghost use Rattle.s4_types.specs.declared.refusals.Refusal.TheVariants.{Busy};
+ghost use Rattle.server.specs.Accounts.{one_part};
 ghost use Rattle.server.specs.Attending.{IsAttendedClient};
 ghost use Rattle.server.specs.Moving.{IsMoving};
 ghost use Rattle.server.specs.Upkeep.{IsRound, IsLastRound, SharedVisit, SharedSweep, ends_round};
 
+use crate::accounts::Running;
 use crate::gate::{Gate, UpkeepStep};
 use crate::gathering::{gather_all, gather_between};
 use crate::locked::{enter, take_sweep, take_turn, take_visit};
@@ -12,11 +14,11 @@ use crate::moving::{Moves, keep_moving};
 use crate::pace::Pace;
 use crate::progress::Begun;
 use crate::running::{Client, STACK_BYTES, run_beside};
-use drive::{Drive, Session};
+use crate::shared::SharedDrive;
+use drive::Session;
 use history_cleaner::{Rounds, Turn};
 use own_stacks::join_with_stack;
-use s4_types::{Moment, ObjectId, Refusal, Role};
-use segment_word::Naming;
+use s4_types::{ObjectId, Refusal, Role};
 use serving::{Sink, Source};
 use std::alloc::Global;
 use std::sync::{Mutex, Wait};
@@ -51,14 +53,15 @@ fn is_end(turn: Turn) -> bool
 /// One whole round. Between its turns sessions may have the lock. Where the cleaner has a seat, it gathers between some turns, and
 /// after the last.
 #[tactic(auto, using(crate::proofs::Rounding::underway_first, crate::proofs::Rounding::underway_more, crate::proofs::Rounding::underway_rises, crate::proofs::Rounding::underway_ends))]
-fn go_round<J: Naming>(
+fn go_round<J: Running>(
     rt: &impl Wait,
     alloc: Global,
-    drive: &Mutex<Drive<J>>,
+    drive: &Mutex<SharedDrive<J>>,
     pace: &Pace,
     seat: &mut Option<Session<J>>,
     is_last: bool,
 ) -> Round
+    requires { J.has_upkeep ≡ true }
     ensures round { IsRound J.base result }
     ensures last { result.is_last ≡ is_last }
 {
@@ -73,14 +76,15 @@ fn go_round<J: Naming>(
 }
 
 /// A round over these objects alone, in the same way.
-fn go_over<J: Naming>(
+fn go_over<J: Running>(
     rt: &impl Wait,
     alloc: Global,
-    drive: &Mutex<Drive<J>>,
+    drive: &Mutex<SharedDrive<J>>,
     pace: &Pace,
     seat: &mut Option<Session<J>>,
     objects: &[ObjectId],
 )
+    requires { J.has_upkeep ≡ true }
     ensures visited { (i : ℕ) (d : _) → i < length objects.now → SharedVisit J.base (slice_index_or objects.now i d) }
     ensures swept { SharedSweep J.base }
 {
@@ -96,13 +100,14 @@ fn go_over<J: Naming>(
 
 /// Goes round again and again: over the objects of which a turn may free something where these are
 /// known, else over all. Ends with a whole round that began when all others had ended.
-fn keep_up<J: Naming, R: Wait, G: Gate>(
+fn keep_up<J: Running, R: Wait, G: Gate>(
     rt: &R,
     alloc: Global,
-    drive: &Mutex<Drive<J>>,
+    drive: &Mutex<SharedDrive<J>>,
     pace: &Pace,
     gate: &G,
 ) -> Round
+    requires { J.has_upkeep ≡ true }
     ensures { IsLastRound J.base result }
 {
     // Without a seat it cleans all the same.
@@ -134,20 +139,23 @@ fn keep_up<J: Naming, R: Wait, G: Gate>(
 
 /// The cleaner and the copier beside sessions. The copier ends once all sessions have ended, and the
 /// cleaner with a whole round after that.
-fn keep_beside<J: Naming + Send + Sync, R: Threads + Wait + Sync, G: Gate + Sync>(
+fn keep_beside<J: Running + Send + Sync, R: Threads + Wait + Sync, G: Gate + Sync>(
     rt: &R,
     alloc: Global,
-    drive: &Mutex<Drive<J>>,
+    drive: &Mutex<SharedDrive<J>>,
     pace: &Pace,
     gate: &G,
 ) -> Upkeep
+    requires { J.has_upkeep ≡ true }
     ensures round { IsLastRound J.base result.round }
     ensures moves { MatchResult result.moves (IsMoving J.base) (λ e. e ≡ Busy) }
 {
     let clean = || -> Round
+        requires { J.has_upkeep ≡ true }
         ensures { IsLastRound J.base result }
     { keep_up(rt, alloc, drive, pace, gate) };
     let copy = || -> Result<Moves, Refusal>
+        requires { J.has_upkeep ≡ true }
         ensures moves { MatchResult result (IsMoving J.base) (λ e. e ≡ Busy) }
     {
         let moves = keep_moving(rt, alloc, drive, pace, gate);
@@ -175,7 +183,7 @@ fn keep_beside<J: Naming + Send + Sync, R: Threads + Wait + Sync, G: Gate + Sync
 ///
 /// Answers the clients, the cleaner's last round, and what the copier did.
 pub fn run_with_upkeep<
-    J: Naming + Send + Sync,
+    J: Running + Send + Sync,
     R: Threads + Wait + Clock + Sync,
     G: Gate + Sync,
     S: Source + Send + Drop,
@@ -183,13 +191,13 @@ pub fn run_with_upkeep<
 >(
     rt: &R,
     alloc: Global,
-    drive: &Mutex<Drive<J>>,
+    drive: &Mutex<SharedDrive<J>>,
     gate: &G,
-    start: Moment,
-    tick: u64,
     clients: Vec<Client<J, S, W>>,
 ) -> (Vec<Client<J, S, W>>, Upkeep)
+    requires upkeep { J.has_upkeep ≡ true }
     requires count { vec_len clients ≤ 16 }
+    requires parts { All (λ c. c.part ≡ Some one_part) clients.items }
     requires readers { All (λ c. S.failures c.reader + 1 < 2 ^ 64) clients.items }
     requires writers { All (λ c. W.failures c.writer + 1 < 2 ^ 64) clients.items }
     ensures round { IsLastRound J.base result.1.round }
@@ -197,33 +205,26 @@ pub fn run_with_upkeep<
     ensures count { vec_len result.0 ≡ vec_len clients }
     // Each session was answered by steps of the shared drive, or the drive had no seat for it.
     ensures attended { (i : ℕ) (d : _) → i < vec_len clients
-        → IsAttendedClient S.remaining W.passed S.failures W.failures J.base (record { start = start; tick = tick }) (slice_index_or clients.items i d) (slice_index_or result.0.items i d) }
+        → IsAttendedClient S.remaining W.passed S.failures W.failures J.base J.clock (slice_index_or clients.items i d) (slice_index_or result.0.items i d) }
 {
     let pace = Pace::new(rt, alloc, drive);
     let keep = || -> Upkeep
+        requires { J.has_upkeep ≡ true }
         ensures round { IsLastRound J.base result.round }
         ensures moves { MatchResult result.moves (IsMoving J.base) (λ e. e ≡ Busy) }
     { keep_beside(rt, alloc, drive, &pace, gate) };
     let attend = || -> Vec<Client<J, S, W>>
         requires count { vec_len clients ≤ 16 }
+        requires parts { All (λ c. c.part ≡ Some one_part) clients.items }
         requires readers { All (λ c. S.failures c.reader + 1 < 2 ^ 64) clients.items }
         requires writers { All (λ c. W.failures c.writer + 1 < 2 ^ 64) clients.items }
         ensures count { vec_len result ≡ vec_len clients }
         ensures attended { (i : ℕ) (d : _) → i < vec_len clients
-            → IsAttendedClient S.remaining W.passed S.failures W.failures J.base (record { start = start; tick = tick }) (slice_index_or clients.items i d) (slice_index_or result.items i d) }
+            → IsAttendedClient S.remaining W.passed S.failures W.failures J.base J.clock (slice_index_or clients.items i d) (slice_index_or result.items i d) }
     {
         let mut clients = clients;
         pace.await_start(rt);
-        run_beside(
-            rt,
-            alloc,
-            drive,
-            Some(&pace),
-            gate,
-            start,
-            tick,
-            clients.as_mut_slice(),
-        );
+        run_beside(rt, alloc, drive, Some(&pace), gate, clients.as_mut_slice());
         gate.upkeep(UpkeepStep::SessionsEnd);
         pace.end_sessions(rt);
         gate.upkeep(UpkeepStep::SessionsReturn);

@@ -1,5 +1,5 @@
 //! Scenes with one new drive each, and what they have in common.
-ghost use Rattle.std.specs.Prelude.{◌≡◌};
+ghost use Rattle.std.specs.Prelude.{◌≡◌, true};
 ghost use Rattle.s4_model.specs.State.{new_base};
 
 /// A client that reads these bytes.
@@ -11,6 +11,7 @@ macro_rules! client {
             writer: MemorySink::new($alloc),
             outcome: Outcome::Waiting,
             session: None,
+            part: None,
         }
     };
 }
@@ -21,8 +22,8 @@ mod held;
 mod ordered;
 
 use drive::NewDrive;
-use segment_word::Naming;
-use server::{Client, Outcome, UpkeepStep};
+use s4_types::Moment;
+use server::{Blanks, Client, Outcome, Running, SharedDrive, UpkeepStep};
 use serving::{MemorySink, MemorySource, ServeEnd};
 use std::alloc::Global;
 use std::marker::Brand;
@@ -36,6 +37,8 @@ use std::time::Clock;
 /// What a test does with a new drive of 16 frames, with a window of 100 moments.
 #[derive(Clone, Copy)]
 enum Scene {
+    /// Two sessions in turn, over a clock with this start and tick.
+    Ticking(u64, u64),
     Held,
     Sixteen,
     Crowded,
@@ -47,25 +50,48 @@ enum Scene {
     Ordered(UpkeepStep, UpkeepStep),
 }
 
+/// Parts of a run's books that there are: each session has one.
+const PARTS: u64 = 100;
+
+/// The clock of a scene: its start and its tick.
+fn clock_of(scene: Scene) -> (u64, u64) {
+    match scene {
+        Scene::Ticking(start, tick) => (start, tick),
+        _ => (0, 1),
+    }
+}
+
 /// Plays a scene. The drive is let go here alone, since that is proved anew in each function that does so.
-fn play_named<J: Naming + Send + Sync, R: Abort + Threads + Wait + Clock + Sync>(
+fn play_named<J: Running + Send + Sync, R: Abort + Threads + Wait + Clock + Sync>(
     rt: &R,
     alloc: Global,
     made: NewDrive,
+    blanks: Blanks,
+    clock: (u64, u64),
     scene: Scene,
 ) -> Result<(), Fail>
     requires frames { made.store.table.seat.table ≡ J.frames }
     requires accepts { made.accepts ≡ J.accepts }
     requires base { new_base made.window ≡ J.base }
+    requires begins { (d : _) → J.begins d }
+    requires clock { J.clock ≡ record { start = clock.0; tick = clock.1 } }
+    requires upkeep { J.has_upkeep ≡ true }
+    requires ledgers { (blanks.requests ≡ J.asked) × (blanks.changes ≡ J.name) }
+    requires parts { (blanks.parts ≡ J.parts) × (J.parts ≡ 100) }
 {
-    let drive = Mutex::new(made.named::<J>());
+    let drive = made.named::<J>();
+    let (shared, mut rest) = SharedDrive::new(drive, Moment::new(clock.0), clock.1, blanks);
+    let drive = Mutex::new(shared);
     match scene {
-        Scene::Held => held::hold(rt, alloc, &drive),
-        Scene::Sixteen => held::gather(rt, alloc, &drive),
-        Scene::Crowded => held::crowd_out(rt, alloc, &drive),
-        Scene::FailsAbove(room) => failing::fail_above(rt, alloc, &drive, room),
-        Scene::FailsBelow(room) => failing::fail_below(rt, alloc, &drive, room),
-        Scene::Ordered(held, until) => ordered::run_ordered(rt, alloc, &drive, held, until),
+        Scene::Ticking(start, tick) => clocks::tick(rt, alloc, &drive, &mut rest, start, tick),
+        Scene::Held => held::hold(rt, alloc, &drive, &mut rest),
+        Scene::Sixteen => held::gather(rt, alloc, &drive, &mut rest),
+        Scene::Crowded => held::crowd_out(rt, alloc, &drive, &mut rest),
+        Scene::FailsAbove(room) => failing::fail_above(rt, alloc, &drive, &mut rest, room),
+        Scene::FailsBelow(room) => failing::fail_below(rt, alloc, &drive, &mut rest, room),
+        Scene::Ordered(held, until) => {
+            ordered::run_ordered(rt, alloc, &drive, &mut rest, held, until)
+        }
     }
 }
 
@@ -75,7 +101,8 @@ fn play<R: Abort + Threads + Wait + Clock + Sync>(
     scene: Scene,
 ) -> Result<(), Fail> {
     let made = NewDrive::new(alloc, 16, 100)?;
-    play_named::<Brand, R>(rt, alloc, made, scene)
+    let blanks = Blanks::new(PARTS);
+    play_named::<Brand, R>(rt, alloc, made, blanks, clock_of(scene), scene)
 }
 
 /// These parts, one behind the other.
@@ -88,7 +115,7 @@ fn joined(alloc: Global, parts: &[&[u8]]) -> Result<Vec<u8>, Fail> {
 }
 
 /// Whether a session ended well and wrote these bytes.
-fn has_written<J: Naming>(client: &Client<J, MemorySource<'_>, MemorySink>, bytes: &[u8]) -> bool {
+fn has_written<J: Running>(client: &Client<J, MemorySource<'_>, MemorySink>, bytes: &[u8]) -> bool {
     client.outcome == Outcome::Served(ServeEnd::Ended) && client.writer.as_slice() == bytes
 }
 

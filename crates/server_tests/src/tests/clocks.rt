@@ -1,16 +1,58 @@
 //! The clock that sessions share.
-use s4_types::Moment;
-use server::SharedClock;
-use serving::Clock;
-use std::sync::atomic::AtomicU64;
+ghost use Rattle.std.specs.Prelude.{◌<◌};
+
+use crate::tests::{Scene, play};
+use s4_types::{Moment, Reply, Request, Role};
+use server::{Locked, Open, Part, Running, SharedDrive};
+use serving::Backend;
+use std::alloc::Global;
+use std::process::Abort;
+use std::sync::{Mutex, Wait};
+use std::test::Fail;
+
+/// A change of a session that gives the moment at which it was accepted.
+fn moment_of<B: Backend>(session: &mut B) -> Option<Moment> {
+    match session.request(Request::SetWindow { window: 100 }, Moment::new(0)) {
+        Reply::Changed(moment) => Some(moment),
+        _ => None,
+    }
+}
+
+/// Two sessions draw from one count, which stops at the last moment: nothing is accepted behind that.
+pub(super) fn tick<J: Running, R: Abort + Wait>(
+    rt: &R,
+    alloc: Global,
+    drive: &Mutex<SharedDrive<J>>,
+    rest: &mut Part<J>,
+    start: u64,
+    tick: u64,
+) -> Result<(), Fail>
+    requires { 2 < rest.old.parts }
+{
+    let mut one = Locked::new(rt, alloc, drive, Role::Admin, rest.split(), &Open, 1)?;
+    let mut two = Locked::new(rt, alloc, drive, Role::Admin, rest.split(), &Open, 2)?;
+    let moments = [
+        moment_of(&mut one),
+        moment_of(&mut two),
+        moment_of(&mut two),
+        moment_of(&mut one),
+    ];
+    let mut last = start;
+    for moment in moments {
+        let next = last.saturating_add(tick);
+        let wanted = if next == last {
+            None
+        } else {
+            Some(Moment::new(next))
+        };
+        assert!(rt; moment == wanted);
+        last = next;
+    }
+    Ok(())
+}
 
 #[test]
-fn all_clocks_draw_from_one_count(rt: HostRuntime) {
-    let drawn = AtomicU64::new(0);
-    let mut one = SharedClock::new(&drawn, Moment::new(10), 5);
-    let mut two = SharedClock::new(&drawn, Moment::new(10), 5);
-    let moments = [one.draw(), two.draw(), two.draw(), one.draw()];
-    assert!(rt; moments == [15, 20, 25, 30].map(Moment::new));
-    let mut last = SharedClock::new(&drawn, Moment::new(u64::MAX - 1), 1);
-    assert!(rt; last.draw() == Moment::new(u64::MAX), "the last moment");
+fn all_sessions_draw_from_one_count(rt: HostRuntime) -> Result<(), Fail> {
+    play(&rt, rt.alloc(), Scene::Ticking(10, 5))?;
+    play(&rt, rt.alloc(), Scene::Ticking(u64::MAX - 1, 1))
 }

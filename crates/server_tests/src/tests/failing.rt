@@ -2,11 +2,9 @@
 ghost use Rattle.std.specs.Prelude.{◌≡◌, ◌+◌, ◌^◌, ◌<◌, ◌≤◌, None, length};
 
 use crate::tests::{Scene, joined, play};
-use drive::Drive;
 use s4_types::{Moment, ObjectId, Reply, Request, Role};
-use segment_word::Naming;
-use server::{Gate, Locked, UpkeepStep};
-use serving::{Backend, MemorySource, ServeEnd, Sink, StreamFailed, Ticking, WriteSink, serve};
+use server::{Gate, Locked, Part, Running, SharedDrive, Undrawn, UpkeepStep};
+use serving::{Backend, MemorySource, ServeEnd, Sink, StreamFailed, WriteSink, serve};
 use std::alloc::Global;
 use std::io::{self, ErrorKind, Write};
 use std::process::Abort;
@@ -109,23 +107,24 @@ impl Gate for Asked {
 
 /// Serves the four requests to a writer that takes `room` bytes of the replies, fewer than there are. Of each request that was
 /// asked a byte was still to be written, and the Write stays once it was asked.
-fn serve_failing<J: Naming, R: Abort + Wait, W: Sink>(
+fn serve_failing<J: Running, R: Abort + Wait, W: Sink>(
     rt: &R,
     alloc: Global,
-    drive: &Mutex<Drive<J>>,
+    drive: &Mutex<SharedDrive<J>>,
+    rest: &mut Part<J>,
     room: usize,
     writer: &mut W,
 ) -> Result<(), Fail>
-    requires { W.failures writer.old + 1 < 2 ^ 64 }
+    requires writer { W.failures writer.old + 1 < 2 ^ 64 }
+    requires part { 1 < rest.old.parts }
 {
     let input = joined(alloc, &[&CREATE, &WRITE, &READ, &READ_PAST])?;
     let asked = Asked {
         count: AtomicUsize::new(0),
     };
-    let mut session = Locked::new(rt, alloc, drive, Role::Client, &asked, 1)?;
+    let mut session = Locked::new(rt, alloc, drive, Role::Client, rest.split(), &asked, 1)?;
     let mut reader = MemorySource::new(input.as_slice(), 65_536);
-    let mut clock = Ticking::new(Moment::new(0), 1);
-    let end = serve(alloc, &mut reader, writer, &mut session, &mut clock);
+    let end = serve(alloc, &mut reader, writer, &mut session, &mut Undrawn);
     assert!(rt; end == ServeEnd::WriteFailed);
     let whole = ENDS.iter().filter(|end| **end <= room).count();
     assert!(rt;
@@ -139,7 +138,7 @@ fn serve_failing<J: Naming, R: Abort + Wait, W: Sink>(
         at: None,
     };
     let wanted: &[u8] = if whole == 0 { b"" } else { b"abc" };
-    match session.request(read, Moment::new(9)) {
+    match session.request(read, Moment::new(0)) {
         Reply::Data(bytes) => assert!(rt; bytes.as_slice() == wanted, "the Write stays"),
         _ => assert!(rt; false, "the object is there"),
     }
@@ -147,27 +146,33 @@ fn serve_failing<J: Naming, R: Abort + Wait, W: Sink>(
 }
 
 /// The writer is a sink of its own.
-pub(super) fn fail_above<J: Naming, R: Abort + Wait>(
+pub(super) fn fail_above<J: Running, R: Abort + Wait>(
     rt: &R,
     alloc: Global,
-    drive: &Mutex<Drive<J>>,
+    drive: &Mutex<SharedDrive<J>>,
+    rest: &mut Part<J>,
     room: usize,
-) -> Result<(), Fail> {
+) -> Result<(), Fail>
+    requires { 1 < rest.old.parts }
+{
     let mut writer = FailAfter::new(alloc, room);
-    serve_failing(rt, alloc, drive, room, &mut writer)?;
+    serve_failing(rt, alloc, drive, rest, room, &mut writer)?;
     assert!(rt; writer.taken.as_slice() == &REPLIES[..room.min(REPLIES.len())]);
     Ok(())
 }
 
 /// The program's sink is over it.
-pub(super) fn fail_below<J: Naming, R: Abort + Wait>(
+pub(super) fn fail_below<J: Running, R: Abort + Wait>(
     rt: &R,
     alloc: Global,
-    drive: &Mutex<Drive<J>>,
+    drive: &Mutex<SharedDrive<J>>,
+    rest: &mut Part<J>,
     room: usize,
-) -> Result<(), Fail> {
+) -> Result<(), Fail>
+    requires { 1 < rest.old.parts }
+{
     let mut writer = WriteSink::new(FailAfter::new(alloc, room));
-    serve_failing(rt, alloc, drive, room, &mut writer)?;
+    serve_failing(rt, alloc, drive, rest, room, &mut writer)?;
     assert!(rt; writer.writer().taken.as_slice() == &REPLIES[..room.min(REPLIES.len())]);
     Ok(())
 }

@@ -1,11 +1,14 @@
 //! Sessions on threads, held at a gate until others have come so far.
+ghost use Rattle.std.specs.Prelude.{◌≡◌, ◌+◌, ◌-◌, ◌^◌, ◌<◌, ◌≤◌, All, OnOk, length};
+
 use crate::tests::{Scene, TURNS, await_flag, has_written, joined, play};
-use drive::Drive;
 use s4_types::Refusal::Busy;
 use s4_types::{Bytes, Moment, ObjectId, Request, Role};
-use segment_word::Naming;
-use server::{Client, Gate, Locked, Open, Outcome, UpkeepStep, run_sessions};
-use serving::{Backend, MemorySink, MemorySource, ServeEnd};
+use server::{
+    Client, Gate, Locked, Open, Outcome, Part, Running, SharedDrive, UpkeepStep, give_parts,
+    run_sessions,
+};
+use serving::{Backend, MemorySink, MemorySource, ServeEnd, Sink, Source};
 use std::alloc::Global;
 use std::process::Abort;
 use std::sync::atomic::{AtomicBool, AtomicUsize, Ordering};
@@ -87,26 +90,62 @@ impl Gate for Crowd {
 }
 
 /// The sealed bytes are made, by a session at which nobody waits.
-fn fill<J: Naming, R: Wait>(rt: &R, alloc: Global, drive: &Mutex<Drive<J>>) -> Result<(), Fail> {
-    let mut writer = Locked::new(rt, alloc, drive, Role::Client, &Open, 1)?;
+fn fill<J: Running, R: Wait>(
+    rt: &R,
+    alloc: Global,
+    drive: &Mutex<SharedDrive<J>>,
+    rest: &mut Part<J>,
+) -> Result<(), Fail>
+    requires { 1 < rest.old.parts }
+    ensures { rest.new.parts + 1 ≡ rest.old.parts }
+{
+    let mut writer = Locked::new(rt, alloc, drive, Role::Client, rest.split(), &Open, 1)?;
     let attribute = Bytes::from_slice(alloc, b"")?;
-    writer.request(Request::Create { attribute }, Moment::new(1));
+    writer.request(Request::Create { attribute }, Moment::new(0));
     let write = Request::Write {
         object: ObjectId::new(1),
         offset: 0,
         bytes: Bytes::from_slice(alloc, &SEALED)?,
     };
-    writer.request(write, Moment::new(2));
+    writer.request(write, Moment::new(0));
     Ok(())
 }
 
-/// A read of sealed bytes is held until another session has changed them, and gives what was there.
-pub(super) fn hold<J: Naming + Send + Sync, R: Abort + Threads + Wait + Sync>(
+/// Serves sessions that have no part of the books yet.
+fn serve_all<
+    J: Running + Send + Sync,
+    R: Threads + Wait + Sync,
+    G: Gate + Sync,
+    S: Source + Send,
+    W: Sink + Send,
+>(
     rt: &R,
     alloc: Global,
-    drive: &Mutex<Drive<J>>,
-) -> Result<(), Fail> {
-    fill(rt, alloc, drive)?;
+    drive: &Mutex<SharedDrive<J>>,
+    rest: &mut Part<J>,
+    gate: &G,
+    clients: &mut [Client<J, S, W>],
+)
+    requires count { length clients.old ≤ 16 }
+    requires parts { length clients.old < rest.old.parts }
+    requires readers { All (λ c. S.failures c.reader + 1 < 2 ^ 64) clients.old }
+    requires writers { All (λ c. W.failures c.writer + 1 < 2 ^ 64) clients.old }
+    ensures rest { rest.new.parts + length clients.old ≡ rest.old.parts }
+{
+    give_parts(rest, clients);
+    run_sessions(rt, alloc, drive, gate, clients);
+}
+
+/// A read of sealed bytes is held until another session has changed them, and gives what was there.
+pub(super) fn hold<J: Running + Send + Sync, R: Abort + Threads + Wait + Sync>(
+    rt: &R,
+    alloc: Global,
+    drive: &Mutex<SharedDrive<J>>,
+    rest: &mut Part<J>,
+) -> Result<(), Fail>
+    requires { 90 < rest.old.parts }
+{
+    fill(rt, alloc, drive, rest)?;
     let turns = Turns {
         planned: AtomicBool::new(false),
         changed: AtomicBool::new(false),
@@ -116,7 +155,7 @@ pub(super) fn hold<J: Naming + Send + Sync, R: Abort + Threads + Wait + Sync>(
     let old = joined(alloc, &[&DATA, &SEALED])?;
     let old_and_changed = joined(alloc, &[&DATA, &SEALED, &CHANGED])?;
     let mut clients = [client!(alloc, &READ_ALL), client!(alloc, &both)];
-    run_sessions(rt, alloc, drive, &turns, Moment::new(2), 1, &mut clients);
+    serve_all(rt, alloc, drive, rest, &turns, &mut clients);
     assert!(rt; !turns.given_up.load(Ordering::SeqCst), "both came so far");
     assert!(rt; has_written(&clients[0], &old), "as it was planned");
     assert!(rt;
@@ -132,12 +171,15 @@ fn a_read_is_fetched_after_its_bytes_were_changed(rt: HostRuntime) -> Result<(),
 }
 
 /// 16 sessions at once, each held in its first read until all are there. Each is asked once.
-pub(super) fn gather<J: Naming + Send + Sync, R: Abort + Threads + Wait + Sync>(
+pub(super) fn gather<J: Running + Send + Sync, R: Abort + Threads + Wait + Sync>(
     rt: &R,
     alloc: Global,
-    drive: &Mutex<Drive<J>>,
-) -> Result<(), Fail> {
-    fill(rt, alloc, drive)?;
+    drive: &Mutex<SharedDrive<J>>,
+    rest: &mut Part<J>,
+) -> Result<(), Fail>
+    requires { 90 < rest.old.parts }
+{
+    fill(rt, alloc, drive, rest)?;
     let crowd = Crowd {
         there: AtomicUsize::new(0),
         answered: AtomicUsize::new(0),
@@ -162,7 +204,7 @@ pub(super) fn gather<J: Naming + Send + Sync, R: Abort + Threads + Wait + Sync>(
         client!(alloc, &READ_ALL),
         client!(alloc, &READ_ALL),
     ];
-    run_sessions(rt, alloc, drive, &crowd, Moment::new(2), 1, &mut clients);
+    serve_all(rt, alloc, drive, rest, &crowd, &mut clients);
     assert!(rt; !crowd.given_up.load(Ordering::SeqCst), "all came");
     assert!(rt;
         crowd.there.load(Ordering::SeqCst) == 16,
@@ -182,31 +224,40 @@ fn sixteen_sessions_are_held_at_once(rt: HostRuntime) -> Result<(), Fail> {
 }
 
 /// Sessions that keep all seats of a drive.
-fn all_seats<'a, J: Naming, R: Wait>(
+fn all_seats<'a, J: Running, R: Wait>(
     rt: &'a R,
     alloc: Global,
-    drive: &'a Mutex<Drive<J>>,
-) -> Result<Vec<Locked<'a, J, R, Open>>, Fail> {
+    drive: &'a Mutex<SharedDrive<J>>,
+    rest: &mut Part<J>,
+) -> Result<Vec<Locked<'a, J, R, Open>>, Fail>
+    requires { 90 < rest.old.parts }
+    ensures { OnOk result (rest.new.parts + 64 ≡ rest.old.parts) }
+{
     let mut seats = Vec::new(alloc);
-    for number in 1..=64 {
-        seats.push(Locked::new(rt, alloc, drive, Role::Client, &Open, number)?)?;
+    for number in 0..64 {
+        let part = rest.split();
+        seats.push(Locked::new(rt, alloc, drive, Role::Client, part, &Open, number + 1)?)?;
     }
     Ok(seats)
 }
 
 /// Two sessions that read all bytes, served at once.
-fn serve_two<J: Naming + Send + Sync, R: Threads + Wait + Sync>(
+fn serve_two<J: Running + Send + Sync, R: Threads + Wait + Sync>(
     rt: &R,
     alloc: Global,
-    drive: &Mutex<Drive<J>>,
-) -> [Client<J, MemorySource<'static>, MemorySink>; 2] {
+    drive: &Mutex<SharedDrive<J>>,
+    rest: &mut Part<J>,
+) -> [Client<J, MemorySource<'static>, MemorySink>; 2]
+    requires { 2 < rest.old.parts }
+    ensures { rest.new.parts + 2 ≡ rest.old.parts }
+{
     let mut clients = [client!(alloc, &READ_ALL), client!(alloc, &READ_ALL)];
-    run_sessions(rt, alloc, drive, &Open, Moment::new(2), 1, &mut clients);
+    serve_all(rt, alloc, drive, rest, &Open, &mut clients);
     clients
 }
 
 /// Whether each session was refused as Busy, and nothing was written to it.
-fn are_refused<J: Naming>(clients: &[Client<J, MemorySource<'_>, MemorySink>]) -> bool {
+fn are_refused<J: Running>(clients: &[Client<J, MemorySource<'_>, MemorySink>]) -> bool {
     for client in clients {
         if client.outcome != Outcome::Refused(Busy) || !client.writer.as_slice().is_empty() {
             return false;
@@ -216,7 +267,7 @@ fn are_refused<J: Naming>(clients: &[Client<J, MemorySource<'_>, MemorySink>]) -
 }
 
 /// Whether each session was served to its end.
-fn are_served<J: Naming>(clients: &[Client<J, MemorySource<'_>, MemorySink>]) -> bool {
+fn are_served<J: Running>(clients: &[Client<J, MemorySource<'_>, MemorySink>]) -> bool {
     for client in clients {
         if client.outcome != Outcome::Served(ServeEnd::Ended) {
             return false;
@@ -226,19 +277,22 @@ fn are_served<J: Naming>(clients: &[Client<J, MemorySource<'_>, MemorySink>]) ->
 }
 
 /// A session that the drive refuses is told so, and nothing of it is read or written.
-pub(super) fn crowd_out<J: Naming + Send + Sync, R: Abort + Threads + Wait + Sync>(
+pub(super) fn crowd_out<J: Running + Send + Sync, R: Abort + Threads + Wait + Sync>(
     rt: &R,
     alloc: Global,
-    drive: &Mutex<Drive<J>>,
-) -> Result<(), Fail> {
-    let seats = all_seats(rt, alloc, drive)?;
+    drive: &Mutex<SharedDrive<J>>,
+    rest: &mut Part<J>,
+) -> Result<(), Fail>
+    requires { 90 < rest.old.parts }
+{
+    let seats = all_seats(rt, alloc, drive, rest)?;
     assert!(rt;
-        are_refused(&serve_two(rt, alloc, drive)),
+        are_refused(&serve_two(rt, alloc, drive, rest)),
         "no seat is free"
     );
     drop(seats);
     assert!(rt;
-        are_served(&serve_two(rt, alloc, drive)),
+        are_served(&serve_two(rt, alloc, drive, rest)),
         "all seats are free"
     );
     Ok(())

@@ -1,10 +1,12 @@
 //! Cleaner, copier and sessions, each held before one of its steps until another has come to one of
 //! its own: every run ends, in whichever order they come.
+ghost use Rattle.std.specs.Prelude.{◌≡◌, ◌<◌, true};
+
 use crate::tests::{Scene, joined, play};
-use drive::Drive;
-use s4_types::{Moment, Role};
-use segment_word::Naming;
-use server::{Client, Gate, Outcome, UpkeepStep, run_with_upkeep};
+use s4_types::Role;
+use server::{
+    Client, Gate, Outcome, Part, Running, SharedDrive, UpkeepStep, give_parts, run_with_upkeep,
+};
 use serving::{MemorySink, MemorySource, ServeEnd};
 use std::alloc::Global;
 use std::process::Abort;
@@ -150,13 +152,17 @@ impl<R: Wait + Clock> Gate for Order<'_, R> {
 
 /// One session beside upkeep in this order: it is served to its end, and the order came unless it
 /// can't.
-pub(super) fn run_ordered<J: Naming + Send + Sync, R: Abort + Threads + Wait + Clock + Sync>(
+pub(super) fn run_ordered<J: Running + Send + Sync, R: Abort + Threads + Wait + Clock + Sync>(
     rt: &R,
     alloc: Global,
-    drive: &Mutex<Drive<J>>,
+    drive: &Mutex<SharedDrive<J>>,
+    rest: &mut Part<J>,
     held: UpkeepStep,
     until: UpkeepStep,
-) -> Result<(), Fail> {
+) -> Result<(), Fail>
+    requires upkeep { J.has_upkeep ≡ true }
+    requires part { 1 < rest.old.parts }
+{
     let gate = Order::new(rt, held, until);
     let asked = joined(alloc, &REQUESTS)?;
     let mut clients = Vec::new(alloc);
@@ -166,8 +172,10 @@ pub(super) fn run_ordered<J: Naming + Send + Sync, R: Abort + Threads + Wait + C
         writer: MemorySink::new(alloc),
         outcome: Outcome::Waiting,
         session: None,
+        part: None,
     })?;
-    let (clients, upkeep) = run_with_upkeep(rt, alloc, drive, &gate, Moment::new(0), 1, clients);
+    give_parts(rest, clients.as_mut_slice());
+    let (clients, upkeep) = run_with_upkeep(rt, alloc, drive, &gate, clients);
     let is_served = clients[0].outcome == Outcome::Served(ServeEnd::Ended);
     assert!(rt; is_served, "{held:?} until {until:?}: served to its end");
     assert!(rt;

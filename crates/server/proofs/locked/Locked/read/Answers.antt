@@ -1,13 +1,18 @@
-use Rattle.std.proofs.Common.{subst}
+use Rattle.std.proofs.Common.{ap, subst}
 use Rattle.s4_types.specs.declared.requests.Request.TheVariants.{Read}
-use Rattle.drive.specs.Fields.{SessionFields}
-use Rattle.drive.specs.Answering.{reply_planned}
-use Rattle.server.specs.Sharing.{SharedStep}
-use Rattle.server.proofs.Sharing.{shared_fetched}
+use Rattle.server.specs.Accounts.{PartFields}
+use Rattle.server.specs.Attending.{SeatFields, SeatAnswer}
+use Rattle.server.proofs.Sharing.{answer_fetched}
 use Rattle.server.proofs.locked.Locked.read.Goals as goal
 
 pub returns-clause-step : goal.returns-clause-step
 returns-clause-step g c =
-    let S : SessionFields → Type 0 = λ s. SharedStep g.J.Naming.base s (Read c.args.object c.args.offset c.args.length c.args.at) c.args.now (reply_planned c.resolve-planned.result) c.resolve-planned.new.session in
-    shared_fetched g.J.Naming.base c.args.self.now c.resolve-planned.new.session c.args.object c.args.offset c.args.length c.args.now c.args.at c.resolve-planned.result c.fetched.result
-    (subst S c.self.view_is c.resolve-planned.ensures.step) c.fetched.ensures
+    let base = g.J.Naming.base in
+    let clock = g.J.Running.clock in
+    let planned = c.resolve-planned in
+    let read = Read c.args.object c.args.offset c.args.length c.args.at in
+    let new : SeatFields = record { session = planned.new.session; requests = planned.new.part.requests } in
+    subst (λ (old : SeatFields). SeatAnswer base clock old read c.fetched.result new) c.self.view_is (record {
+      answer = answer_fetched base clock c.self.inside.session planned.new.session c.args.object c.args.offset c.args.length c.args.at planned.result c.fetched.result planned.ensures.step c.fetched.ensures;
+      counted = ap (λ (p : PartFields). p.requests) planned.ensures.part;
+    })

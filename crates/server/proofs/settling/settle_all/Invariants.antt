@@ -1,6 +1,6 @@
 use Rattle.std.proofs.Common.{◌≡◌, ℕ, ◌<◌, ◌≤◌, get_or}
 use Rattle.server.specs.Attending.{HasSettled}
-use Rattle.server.proofs.settling.settle.Given as goal
+use Rattle.server.proofs.settling.settle_all.Given as goal
 
 -- those that came have met the drive, which is as it was, and the others are as they were
 abbrev pub invariant-loop-client : goal.invariant-loop-client

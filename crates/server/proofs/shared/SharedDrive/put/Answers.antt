@@ -1,21 +1,29 @@
-use Rattle.std.proofs.Common.{◌≡◌, sym, ap, subst, ◌∙◌, rules}
+use Rattle.std.proofs.Common.{sym, ap, subst, ◌∙◌, rules}
 use Rattle.drive.specs.Fields.{DriveFields, history_of}
 use Rattle.segment_word.specs.AcceptRule.{FitsLedger}
 use Rattle.segment_word.specs.AcceptViews.{caught_up}
-use Rattle.server.proofs.locked.put_in_place.Goals as goal
+use Rattle.server.proofs.Sequence.{come_tended}
+use Rattle.server.proofs.shared.SharedDrive.put.Goals as goal
+
+-- a step of upkeep more
+pub invariant_of-self : goal.invariant_of-self
+invariant_of-self g c =
+    let held = c.self.invariant in
+    let ledger = c.commit.ensures.ledger ∙ ap (λ (d : DriveFields). d.ledger) c.meet.ensures.same in
+    (come_tended _ _ _ _ _ _ _ held.0 c.requires ledger, held.1, held.2, held.3)
 
 pub returns : goal.returns
 returns g c =
-    let before : DriveFields = c.deref_mut-2.result.now in
-    let met : before ≡ c.deref_mut.result.now = c.deref_mut-2.ensures.value ∙ c.meet.ensures.same in
+    let before : DriveFields = c.meet.new.self in
+    let met = c.meet.ensures.same in
     record {
       before = before;
       after = c.commit.new.drive;
       met = record {
-        begins = ap (λ (d : DriveFields). (history_of d).base) (met ∙ (c.deref_mut.ensures.value ∙ sym c.deref.ensures)) ∙ c.rules.ensures.base;
+        begins = ap (λ (d : DriveFields). (history_of d).base) met ∙ c.rules.ensures.base;
         had_seen = subst (λ (d : DriveFields). FitsLedger d.ledger c.args.session.now.told) (sym met) c.meet.ensures.before;
         told = c.meet.ensures.session ∙ ap (λ (d : DriveFields). record c.args.session.now { told = caught_up d.ledger c.args.session.now.told }) (sym met);
-        has_seen = subst (λ (d : DriveFields). FitsLedger d.ledger c.meet.new.session.told) (sym c.deref_mut-2.ensures.value) c.meet.ensures.after;
+        has_seen = c.meet.ensures.after;
       };
       puts = record {
         own = record { moved = search rules; room = c.commit.ensures.room; versions = c.commit.ensures.versions };
