@@ -12,6 +12,7 @@ use Rattle.s4_types.specs.declared.refusals.Refusal.TheVariants.{Damaged, NoMemo
 use Rattle.image_parts.specs.Causes.{FirstSplitCause}
 use Rattle.verifier.specs.Grammar.{FirstFault}
 use Rattle.image_commands.specs.Files.{AreKnown}
+use Rattle.image_commands.specs.Faults.{SaysDamaged}
 use Rattle.image_commands.specs.Verifying.{IsDamaged}
 
 -- a reader at its end gave all that is known of it
@@ -37,6 +38,12 @@ pub refused_truly : (known : Option (List ℕ)) (bytes : List ℕ) (e : Refusal)
 refused_truly known bytes e cause same (inl memory) is = absurd (not_memory cause (sym memory ∙ is))
 refused_truly known bytes e cause same (inr (found, told, fault)) is =
     known_damaged known bytes cause same (subst (λ (c : Cause). FirstFault bytes (Some c)) (one_cause found cause (sym told ∙ is)) fault)
+
+-- for want of memory, or as damaged for the first cause
+pub refused_so : (known : Option (List ℕ)) (bytes : List ℕ) (e : Refusal) → AreKnown known bytes
+    → ((e ≡ NoMemory) ⊎ ((found : Cause) × (e ≡ Damaged found) × FirstFault bytes (Some found))) → (e ≡ NoMemory) ⊎ SaysDamaged known e
+refused_so known bytes e same (inl memory) = inl memory
+refused_so known bytes e same (inr (found, told, fault)) = inr (subst (SaysDamaged known) (sym told) (known_damaged known bytes found same fault))
 
 -- bytes that can't be split into parts spell no drive, for the same cause
 split_fault : (bytes : List ℕ) (cause : Cause) → FirstSplitCause bytes (Some cause) → FirstFault bytes (Some cause)

@@ -1,7 +1,7 @@
 //! The files that the commands read and write.
-ghost use Rattle.std.specs.Prelude.{◌≡◌, ℕ, Bool, true, false, List, [], Option, None, IfErr, IfOk, IfSome, IsFalse, OnErr, OnOk, string_bytes};
+ghost use Rattle.std.specs.Prelude.{◌≡◌, ℕ, Bool, true, false, List, [], Option, None, IfErr, IfOk, IfSome, IsFalse, IsTrue, OnErr, OnOk, string_bytes};
 ghost use Rattle.std.specs.Io.KnownBytes.{Keeps};
-ghost use Rattle.image_commands.specs.Files.{AreKnown};
+ghost use Rattle.image_commands.specs.Files.{AreKnown, HasSome};
 
 use crate::obstacles::Obstacle;
 use std::alloc::Global;
@@ -27,10 +27,19 @@ pub trait Files {
     // Whether two paths never lead to one file: what is written to the one is never what the other has.
     ghost apart: { List ℕ → List ℕ → Type 0 };
 
+    // Whether a path leads to what was opened to be written.
+    ghost opens: { Self.Opened → List ℕ → Type 0 };
+
+    // Whether a path leads to what a writer writes.
+    ghost writes: { Self.Writer → List ℕ → Type 0 };
+
     /// What an opened file is read by.
     type Reader: Read + Send + Drop;
 
-    /// What a file that was made is written by.
+    /// A file that was opened to be written, and has all that it had.
+    type Opened: Drop;
+
+    /// What a file that was emptied is written by.
     type Writer: Write + Send + Drop;
 
     /// Where an image is, or will be. While this is kept no other program claims it.
@@ -46,9 +55,20 @@ pub trait Files {
     fn open(&self, path: &str) -> io::Result<Self::Reader>
         ensures bytes { IfOk result (λ r. Self.Reader.remaining r ≡ contents self.now path.now) };
 
-    /// Makes a file, or empties the one that is there.
-    fn make(&mut self, path: &str) -> io::Result<Self::Writer>
-        ensures empty { IfOk result (λ w. AreKnown (Self.Writer.contents w) []) }
+    /// Opens a file to be written, and makes it where nothing is there. What it has stays until it is emptied.
+    fn open_output(&mut self, path: &str) -> io::Result<Self::Opened>
+        ensures opened { IfOk result (λ o. opens o path.now) }
+        ensures kept { (other : List ℕ) → Keeps (contents self.old other) (contents self.new other) };
+
+    /// Empties a file that was opened to be written. Where the system doesn't, each write to it fails.
+    fn empty(&mut self, opened: Self::Opened) -> Self::Writer
+        ensures empty { AreKnown (Self.Writer.contents result) [] }
+        ensures same { (path : List ℕ) → opens opened path → writes result path }
+        ensures others { (path other : List ℕ) → opens opened path → apart other path → Keeps (contents self.old other) (contents self.new other) };
+
+    /// Whether a path still leads to what a writer wrote, or to a stream, when all is written: the file has what it took then.
+    fn finish(&mut self, path: &str, writer: &Self::Writer) -> bool
+        ensures written { IsTrue result → Keeps (Self.Writer.contents writer.now) (contents self.new path.now) }
         ensures others { (other : List ℕ) → apart other path.now → Keeps (contents self.old other) (contents self.new other) };
 
     /// Whether two paths lead to one file, or will where neither is there: then what is written to the one is what the other has. Never
@@ -63,7 +83,8 @@ pub trait Files {
 
     /// Whether what was claimed is a file that has bytes.
     fn has_bytes(&self, claim: &Self::Claim) -> io::Result<bool>
-        ensures empty { IfOk result (λ has. IsFalse has → (path : List ℕ) → leads claim.now path → AreKnown (contents self.now path) []) };
+        ensures empty { IfOk result (λ has. IsFalse has → (path : List ℕ) → leads claim.now path → AreKnown (contents self.now path) []) }
+        ensures some { IfOk result (λ has. IsTrue has → (path : List ℕ) → leads claim.now path → HasSome (contents self.now path)) };
 
     /// Whether a path leads to where a file beside a claimed image may be made, or was left.
     fn is_reserved(&self, claim: &Self::Claim, path: &str) -> io::Result<bool>
@@ -107,6 +128,7 @@ pub trait Files {
         bytes: &[u8],
     ) -> Result<Placed, NotReplaced>
         ensures replaced { OnOk result ((path : List ℕ) → leads claim path → AreKnown (contents self.new path) bytes.now) }
+        ensures elsewhere { OnOk result ((path other : List ℕ) → leads claim path → apart path other → is_beside beside other ≡ false → Keeps (contents self.old other) (contents self.new other)) }
         ensures others { OnErr result ((path : List ℕ) → is_beside beside path ≡ false → Keeps (contents self.old path) (contents self.new path)) }
         ensures kept { IfErr result (λ why. IfSome why.kept (λ path. AreKnown (contents self.new (string_bytes path)) bytes.now)) };
 }

@@ -77,6 +77,8 @@ pub enum Output {
     Named(File),
     Standard(Stdout),
     Error(Stderr),
+    /// A file that could not be emptied.
+    Full,
 }
 
 impl Write for Output {
@@ -85,6 +87,7 @@ impl Write for Output {
             Output::Named(file) => file.write(buffer),
             Output::Standard(output) => output.write(buffer),
             Output::Error(errors) => errors.write(buffer),
+            Output::Full => Err(io::Error::from(io::ErrorKind::Other)),
         }
     }
 
@@ -93,12 +96,15 @@ impl Write for Output {
             Output::Named(file) => file.flush(),
             Output::Standard(output) => output.flush(),
             Output::Error(errors) => errors.flush(),
+            Output::Full => Ok(()),
         }
     }
 }
 
 impl Files for HostRuntime {
     type Reader = Input;
+
+    type Opened = Output;
 
     type Writer = Output;
 
@@ -121,6 +127,10 @@ impl Files for HostRuntime {
 
     ghost apart = { λ _ _. ⊤ };
 
+    ghost opens = { λ _ _. ⊤ };
+
+    ghost writes = { λ _ _. ⊤ };
+
     fn open(&self, path: &str) -> io::Result<Input> {
         match standard_stream(path) {
             Some(Standard::Input) => Ok(Input::Standard(self.stdin())),
@@ -128,11 +138,31 @@ impl Files for HostRuntime {
         }
     }
 
-    fn make(&mut self, path: &str) -> io::Result<Output> {
+    fn open_output(&mut self, path: &str) -> io::Result<Output> {
         match standard_stream(path) {
             Some(Standard::Output) => Ok(Output::Standard(self.stdout())),
             Some(Standard::Error) => Ok(Output::Error(self.stderr())),
-            _ => Ok(Output::Named(File::create(self, path)?)),
+            _ => {
+                let file = OpenOptions::new()
+                    .write(true)
+                    .create(true)
+                    .open(self, path)?;
+                Ok(Output::Named(file))
+            }
+        }
+    }
+
+    fn empty(&mut self, opened: Output) -> Output {
+        match opened {
+            Output::Named(file) => emptied(file),
+            stream => stream,
+        }
+    }
+
+    fn finish(&mut self, path: &str, writer: &Output) -> bool {
+        match writer {
+            Output::Named(file) => is_still_at(self, file, path),
+            _ => true,
         }
     }
 
@@ -246,12 +276,40 @@ fn standard_stream(path: &str) -> Option<Standard> {
     }
 }
 
+// A file that was opened to be written, without the bytes that it had. What is no file, as a pipe, has none.
+fn emptied(file: File) -> Output {
+    match remove_bytes(&file) {
+        Ok(()) => Output::Named(file),
+        Err(_) => Output::Full,
+    }
+}
+
+// Removes the bytes of a file that can be written.
+fn remove_bytes(file: &File) -> io::Result<()> {
+    if file.metadata()?.is_file() {
+        file.set_len(0)?;
+    }
+    Ok(())
+}
+
+// Whether a path leads to this very file. What is no file, as a pipe, keeps nothing that is looked for at a path.
+fn is_still_at(rt: &HostRuntime, file: &File, path: &str) -> bool {
+    match (file.metadata(), found(rt, path)) {
+        (Ok(about), Some(now)) => !about.is_file() || are_one_file(&about, &now),
+        (Ok(about), None) => !about.is_file(),
+        (Err(_), _) => false,
+    }
+}
+
 // The image of this path, locked against other programs. An obstacle where it is no regular file, or nobody may write it, though who
 // runs this may do anything; where another program has it, or has just put another one in its place.
 fn locked(rt: &HostRuntime, path: &str) -> Result<File, Obstacle> {
     // A stream isn't opened: that could wait, or be seen at its other end.
-    let is_image = fs::metadata(rt, path)?.is_file();
-    if !is_image {
+    let about = fs::metadata(rt, path)?;
+    if about.is_dir() {
+        return Err(Obstacle::Folder);
+    }
+    if !about.is_file() {
         return Err(Obstacle::NoFile);
     }
     let image = OpenOptions::new().read(true).write(true).open(rt, path)?;

@@ -1,4 +1,4 @@
-//! Why a file can't be written.
+//! Why a file can't be read or written.
 ghost use Rattle.std.specs.Prelude.{◌≡◌, ◌≢◌};
 ghost use Rattle.std.specs.declared.io.ErrorKind.TheVariants.{OutOfMemory};
 
@@ -6,7 +6,7 @@ use std::alloc::AllocError;
 use std::io;
 use thiserror::Error;
 
-/// Why an image can't be put in its place, or a file can't be made. Each prints what is so, and what can be done.
+/// Why a file can't be read or made, or an image not be put in its place. Each prints what is so, and what can be done.
 #[derive(Clone, Copy, Debug, PartialEq, Eq, Error)]
 pub enum Obstacle {
     #[error("memory is short; try again with more")]
@@ -16,12 +16,22 @@ pub enum Obstacle {
     Served,
     #[error("it is no file, or a link that leads nowhere; give the path of a file")]
     NoFile,
+    #[error("it is a folder; give the path of a file")]
+    Folder,
+    /// Of what is to be read.
+    #[error("it is not there; give the path of a file that is")]
+    NotThere,
+    /// Of what is to be read.
+    #[error("its mode or a folder's lets nobody read it, or not you; change that")]
+    Unreadable,
     #[error("it has bytes, and a new drive would wipe them; name another file, or remove this one")]
     HasBytes,
     #[error("its folder is not there; make it, or name one that is")]
     NoFolder,
     #[error("its mode or its folder's lets nobody write, or not you; change that")]
     NotAllowed,
+    #[error("its file system is read-only; mount it for writing, or name a file on another one")]
+    ReadOnly,
     #[error("its mode and owner cannot be kept; be the owner")]
     NotKept,
     #[error("s4d.new and s4d.new.1 to s4d.new.99 are taken in its folder; see what these files are")]
@@ -34,15 +44,17 @@ pub enum Obstacle {
     Moved,
     #[error("its folder cannot be written to the disk; the new image is there, unless the machine fails")]
     NotLasting,
-    /// Of what a session writes: it is the image, is read or written by another session, or has the name of a file beside the image.
-    #[error("it is in use; name another file")]
+    /// Of a session's file: it is the image, is read or written by another session, or has the name of a file beside the image.
+    #[error("it is the image, another session's file, or one beside the image; name another file")]
     Shared,
+    #[error("another program has it in use; end that one, or name another file")]
+    InUse,
     #[error("the system refuses it")]
     Other,
 }
 
 impl Obstacle {
-    /// What an error of the system says.
+    /// What an error of the system says of a file that is to be written.
     pub fn of(kind: io::ErrorKind) -> Obstacle
         ensures memory { kind ≡ OutOfMemory → result ≡ Obstacle.NoMemory }
         ensures only { kind ≢ OutOfMemory → result ≢ Obstacle.NoMemory }
@@ -50,15 +62,30 @@ impl Obstacle {
         match kind {
             io::ErrorKind::OutOfMemory => Obstacle::NoMemory,
             io::ErrorKind::NotFound | io::ErrorKind::NotADirectory => Obstacle::NoFolder,
-            io::ErrorKind::PermissionDenied | io::ErrorKind::ReadOnlyFilesystem => {
-                Obstacle::NotAllowed
-            }
+            io::ErrorKind::IsADirectory => Obstacle::Folder,
+            io::ErrorKind::PermissionDenied => Obstacle::NotAllowed,
+            io::ErrorKind::ReadOnlyFilesystem => Obstacle::ReadOnly,
+            io::ErrorKind::ExecutableFileBusy => Obstacle::InUse,
             io::ErrorKind::StorageFull
             | io::ErrorKind::QuotaExceeded
             | io::ErrorKind::FileTooLarge => Obstacle::NoRoom,
             io::ErrorKind::WouldBlock => Obstacle::Served,
             // The second is what a rename over a file says that is mounted by itself.
             io::ErrorKind::CrossesDevices | io::ErrorKind::ResourceBusy => Obstacle::Mounted,
+            _ => Obstacle::Other,
+        }
+    }
+
+    /// What an error of the system says of a file that is to be read.
+    pub fn of_reading(kind: io::ErrorKind) -> Obstacle
+        ensures memory { kind ≡ OutOfMemory → result ≡ Obstacle.NoMemory }
+        ensures only { kind ≢ OutOfMemory → result ≢ Obstacle.NoMemory }
+    {
+        match kind {
+            io::ErrorKind::OutOfMemory => Obstacle::NoMemory,
+            io::ErrorKind::NotFound | io::ErrorKind::NotADirectory => Obstacle::NotThere,
+            io::ErrorKind::IsADirectory => Obstacle::Folder,
+            io::ErrorKind::PermissionDenied => Obstacle::Unreadable,
             _ => Obstacle::Other,
         }
     }

@@ -1,9 +1,12 @@
 //! `at`: what an object was at a moment.
-ghost use Rattle.std.specs.Prelude.{◌≡◌, ◌+◌, ◌^◌, ◌<◌, OnOk};
+ghost use Rattle.std.specs.Prelude.{◌≡◌, ◌⊎◌, ◌+◌, ◌^◌, ◌<◌, IfErr, OnOk};
 ghost use Rattle.segment_table.specs.Room.{log_of};
 ghost use Rattle.version_store.specs.Store.{fields_of};
 ghost use Rattle.drive.specs.Opened.{base_of};
-ghost use Rattle.image_commands.specs.ReadingPast.{GivesObject, GivesVersion, version_from};
+ghost use Rattle.s4_types.specs.declared.refusals.Refusal.TheVariants.{NoObject};
+ghost use Rattle.s4_types.specs.declared.versions.Version.TheVariants.{Absent};
+ghost use Rattle.image_commands.specs.Faults.{SaysUnwritten};
+ghost use Rattle.image_commands.specs.ReadingPast.{GivesObject, GivesVersion, RefusesVersion, SaysRefused, SaysUngiven, version_from};
 
 use crate::faults::Fault;
 use crate::files::Files;
@@ -29,6 +32,7 @@ pub fn write_object<'a, T: Threads, F: Files, W: Sink>(
 ) -> Result<(), Fault<'a>>
     requires writer { W.failures writer.old + 1 < 2 ^ 64 }
     ensures object { OnOk result (GivesObject (F.contents files.now asked.entry.image.now) asked.entry.object asked.entry.moment (W.passed writer.old) (W.passed writer.new)) }
+    ensures fault { IfErr result (SaysUngiven (F.contents files.now asked.entry.image.now) asked.entry.image.now asked.entry.object asked.entry.moment (W.failures writer.old) (W.failures writer.new)) }
 {
     let image = match read_image(rt, alloc, files, asked.image) {
         Ok(image) => image,
@@ -52,6 +56,7 @@ fn write_named<'a, J: Naming, W: Sink>(
     requires base { base_of (fields_of log_of opened.store) opened.timeline opened.next ≡ J.base }
     requires writer { W.failures writer.old + 1 < 2 ^ 64 }
     ensures version { OnOk result (GivesVersion (version_from J.base asked.entry.object asked.entry.moment) (W.passed writer.old) (W.passed writer.new)) }
+    ensures fault { IfErr result (λ fault. SaysRefused (RefusesVersion J.base asked.entry.object asked.entry.moment) fault ⊎ SaysUnwritten (W.failures writer.old) (W.failures writer.new) fault) }
 {
     let mut drive = opened.named::<J>();
     let mut session = match drive.session(Role::Client) {
@@ -70,6 +75,7 @@ fn write_named<'a, J: Naming, W: Sink>(
 pub fn write_version<'a, W: Sink>(version: &Version, writer: &mut W) -> Result<(), Fault<'a>>
     requires writer { W.failures writer.old + 1 < 2 ^ 64 }
     ensures version { OnOk result (GivesVersion version.now (W.passed writer.old) (W.passed writer.new)) }
+    ensures fault { IfErr result (λ fault. ((version.now ≡ Absent) × (fault ≡ Fault.Refused NoObject)) ⊎ SaysUnwritten (W.failures writer.old) (W.failures writer.new) fault) }
 {
     match version {
         Version::Live { bytes, .. } => write_out(writer, bytes.as_slice()),

@@ -2,10 +2,11 @@
 ghost use Rattle.std.specs.Prelude.{◌≡◌, ◌+◌, ◌*◌, ℕ, true, false, List, [], None, IfErr, IfOk, OnErr, OnOk};
 ghost use Rattle.std.specs.Io.KnownBytes.{Keeps};
 ghost use Rattle.s4_types.specs.Sizes.{IsFrameCount};
+ghost use Rattle.s4_types.specs.declared.refusals.Refusal.TheVariants.{NoMemory};
 ghost use Rattle.s4_types.specs.declared.limits.TheConstants.{PAYLOAD_BLOCKS, RUNS_IN_ALL};
 ghost use Rattle.s4_model.specs.State.{new_base};
 ghost use Rattle.image_commands.specs.Files.{AreKnown};
-ghost use Rattle.image_commands.specs.Faults.{KeepsNew};
+ghost use Rattle.image_commands.specs.Faults.{KeepsMade, KeepsNew, SaysUnmade, SaysUnplaced, SaysUnwritable};
 ghost use Rattle.image_commands.specs.Making.{HasNew, IsEmptyStore, SpellsNew};
 
 use crate::faults::{Fault, writing};
@@ -32,7 +33,10 @@ pub fn make_file<'a, F: Files>(
     ensures image { OnOk result (HasNew asked.entry.frames asked.entry.window (F.contents files.new asked.entry.image.now)) }
     // What has bytes is refused.
     ensures empty { OnOk result (AreKnown (F.contents files.old asked.entry.image.now) []) }
+    ensures others { OnOk result ((path : List ℕ) → F.apart asked.entry.image.now path → Keeps (F.contents files.old path) (F.contents files.new path)) }
     ensures kept { OnErr result ((path : List ℕ) → Keeps (F.contents files.old path) (F.contents files.new path)) }
+    ensures fault { IfErr result (SaysUnmade (F.contents files.old asked.entry.image.now) asked.entry.image.now) }
+    ensures named { IfErr result (KeepsMade asked.entry.frames asked.entry.window (F.contents files.new)) }
 {
     let made = match NewDrive::new(alloc, asked.frames as usize, asked.window) {
         Ok(made) => made,
@@ -59,6 +63,8 @@ fn empty_place<'a, F: Files>(
     ensures empty { OnOk result (AreKnown (F.contents files.old path.now) []) }
     ensures others { (other : List ℕ) → Keeps (F.contents files.old other) (F.contents files.new other) }
     ensures unknown { IfOk result (λ place. (other : List ℕ) → F.is_beside place.beside other ≡ true → F.contents files.old other ≡ None) }
+    ensures fault { IfErr result (SaysUnmade (F.contents files.old path.now) path.now) }
+    ensures named { IfErr result (λ fault. (frames window : ℕ) → KeepsMade frames window (F.contents files.new) fault) }
 {
     let claim = match files.claim(alloc, path) {
         Ok(claim) => claim,
@@ -66,7 +72,7 @@ fn empty_place<'a, F: Files>(
     };
     match files.has_bytes(&claim) {
         Ok(false) => Place::beside(alloc, files, path, claim, 0),
-        Ok(true) => Err(Fault::CannotWrite(path, Obstacle::HasBytes)),
+        Ok(true) => Err(Fault::HasBytes(path)),
         Err(error) => Err(writing(Obstacle::of(error.kind()), path)),
     }
 }
@@ -79,6 +85,7 @@ fn save_new<J: Naming>(alloc: Global, made: NewDrive, asked: New<'_>) -> Result<
     requires window { made.window ≡ asked.window }
     requires store { IsEmptyStore asked.frames made.store }
     ensures image { IfOk result (λ bytes. SpellsNew asked.entry.frames asked.entry.window bytes.items) }
+    ensures refusal { IfErr result (λ e. e ≡ NoMemory) }
 {
     let mut drive = made.named::<J>();
     save(alloc, &mut drive)
@@ -107,6 +114,7 @@ impl<'a, F: Files> Place<'a, F> {
         ensures others { (other : List ℕ) → Keeps (F.contents files.old other) (F.contents files.new other) }
         ensures reserved { IfOk result (λ place. (other : List ℕ) → F.is_beside place.beside other ≡ true → F.reserves claim other ≡ true) }
         ensures unknown { IfOk result (λ place. (other : List ℕ) → F.is_beside place.beside other ≡ true → F.contents files.old other ≡ None) }
+        ensures fault { IfErr result (SaysUnwritable path.now) }
     {
         match files.make_beside(alloc, &claim, length) {
             Ok(beside) => Ok(Place {
@@ -129,7 +137,9 @@ impl<'a, F: Files> Place<'a, F> {
     pub fn put(self, files: &mut F, bytes: &[u8]) -> Result<Placed, Fault<'a>>
         requires claimed { F.leads self.claim self.path.now }
         ensures image { OnOk result (AreKnown (F.contents files.new self.entry.path.now) bytes.now) }
+        ensures elsewhere { OnOk result ((other : List ℕ) → F.apart self.entry.path.now other → F.is_beside self.entry.beside other ≡ false → Keeps (F.contents files.old other) (F.contents files.new other)) }
         ensures others { OnErr result ((other : List ℕ) → F.is_beside self.entry.beside other ≡ false → Keeps (F.contents files.old other) (F.contents files.new other)) }
+        ensures fault { IfErr result (SaysUnplaced self.entry.path.now) }
         ensures kept { IfErr result (λ fault. KeepsNew (F.contents files.new) bytes.now fault) }
     {
         let Place {

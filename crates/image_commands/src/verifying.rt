@@ -2,8 +2,7 @@
 ghost use Rattle.std.specs.Prelude.{◌≡◌, ℕ, ◌+◌, ◌^◌, ◌<◌, List, Option, IfOk, IfSome, IfErr, IsTrue, OnOk, length, string_bytes};
 ghost use Rattle.std.specs.Io.{StartsWith};
 ghost use Rattle.std.specs.Io.KnownBytes.{Appends, Consumes, IsAtEnd};
-ghost use Rattle.s4_types.specs.declared.refusals.Cause.{Cause as Found};
-ghost use Rattle.s4_types.specs.declared.refusals.Refusal.TheVariants.{Damaged};
+ghost use Rattle.image_commands.specs.Faults.{SaysUnread, SaysUnverified, SaysUnwritten};
 ghost use Rattle.image_commands.specs.Files.{AreKnown};
 ghost use Rattle.image_commands.specs.Leaving.{IsNoImage};
 ghost use Rattle.image_commands.specs.Verifying.{number_line, image_line, IsDamaged, IsVerified, TellsImage};
@@ -35,7 +34,7 @@ pub fn read_image<'a, T: Threads, F: Files>(
     path: &'a str,
 ) -> Result<Image, Fault<'a>>
     ensures verified { IfOk result (IsVerified (F.contents files.now path.now)) }
-    ensures damaged { IfErr result (λ fault. (cause : Found) → fault ≡ Fault.Refused (Damaged cause) → IsDamaged (F.contents files.now path.now) cause) }
+    ensures fault { IfErr result (SaysUnread (F.contents files.now path.now) path.now) }
 {
     let bytes = match read_whole(alloc, files, path) {
         Ok(bytes) => bytes,
@@ -64,7 +63,7 @@ pub fn is_damaged<T: Threads, R: Read>(rt: &T, alloc: Global, reader: &mut R) ->
 // All bytes of a file, or why they are no image, as far as `read_bounded` finds it.
 fn read_whole<'a, F: Files>(alloc: Global, files: &F, path: &'a str) -> Result<Vec<u8>, Fault<'a>>
     ensures bytes { IfOk result (λ bytes. AreKnown (F.contents files.now path.now) bytes.items) }
-    ensures damaged { IfErr result (λ fault. (cause : Found) → fault ≡ Fault.Refused (Damaged cause) → IsDamaged (F.contents files.now path.now) cause) }
+    ensures fault { IfErr result (SaysUnread (F.contents files.now path.now) path.now) }
 {
     let mut reader = match files.open(path) {
         Ok(reader) => reader,
@@ -163,6 +162,7 @@ pub fn verify_file<'a, T: Threads, F: Files, W: Sink>(
 ) -> Result<(), Fault<'a>>
     requires writer { W.failures writer.old + 1 < 2 ^ 64 }
     ensures line { OnOk result (TellsImage (F.contents files.now asked.entry.image.now) (W.passed writer.old) (W.passed writer.new)) }
+    ensures fault { IfErr result (SaysUnverified (F.contents files.now asked.entry.image.now) asked.entry.image.now (W.failures writer.old) (W.failures writer.new)) }
 {
     let image = match read_image(rt, alloc, files, asked.image) {
         Ok(image) => image,
@@ -179,6 +179,7 @@ fn write_image_numbers<'a, W: Sink>(
 ) -> Result<(), Fault<'a>>
     requires writer { W.failures writer.old + 1 < 2 ^ 64 }
     ensures line { OnOk result (Appends (W.passed writer.old) (W.passed writer.new) (image_line image.now)) }
+    ensures fault { IfErr result (λ fault. (known : Option (List ℕ)) (path : List ℕ) → SaysUnverified known path (W.failures writer.old) (W.failures writer.new) fault) }
 {
     write_numbers(
         alloc,
@@ -204,6 +205,7 @@ fn write_numbers<'a, W: Sink>(
     requires writer { W.failures writer.old + 1 < 2 ^ 64 }
     ensures line { OnOk result (Appends (W.passed writer.old) (W.passed writer.new)
         (number_line frames objects clock window floor)) }
+    ensures fault { IfErr result (λ fault. (known : Option (List ℕ)) (path : List ℕ) → SaysUnverified known path (W.failures writer.old) (W.failures writer.new) fault) }
 {
     match number_line(alloc, frames, objects, clock, window, floor) {
         Ok(line) => write_out(writer, line.as_bytes()),
@@ -233,6 +235,7 @@ pub fn write_out<'a, W: Sink>(writer: &mut W, bytes: &[u8]) -> Result<(), Fault<
     requires writer { W.failures writer.old + 1 < 2 ^ 64 }
     ensures bytes { OnOk result (Appends (W.passed writer.old) (W.passed writer.new) bytes.now) }
     ensures failures { OnOk result (W.failures writer.new ≡ W.failures writer.old) }
+    ensures fault { IfErr result (SaysUnwritten (W.failures writer.old) (W.failures writer.new)) }
 {
     match writer.put(bytes) {
         Ok(()) => Ok(()),

@@ -13,9 +13,9 @@ use thiserror::Error;
 /// `in_style` makes them what the command prints.
 #[derive(Debug, Drop, Error)]
 pub enum Failure {
-    /// The file can't be read.
-    #[error("cannot be read; give the path of a file that you may read")]
-    CannotRead,
+    /// The file can't be read, and why.
+    #[error("cannot be read: {0}")]
+    CannotRead(Obstacle),
     /// The file has no image, or a damaged one; or memory or a count was full.
     #[error("{0}; {1}")]
     Refused(Refusal, &'static str),
@@ -109,10 +109,11 @@ impl From<Fault<'_>> for Failure {
 
     fn from(fault: Fault<'_>) -> Failure {
         match fault {
-            Fault::CannotRead(_) => Failure::CannotRead,
+            Fault::CannotRead(_, obstacle) => Failure::CannotRead(obstacle),
             Fault::Refused(refusal) => Failure::from(refusal),
             Fault::WriteFailed => Failure::WriteFailed,
             Fault::CannotWrite(_, obstacle) => Failure::CannotWrite(obstacle),
+            Fault::HasBytes(_) => Failure::CannotWrite(Obstacle::HasBytes),
             Fault::KeptIn(_, obstacle, kept) => Failure::KeptIn(obstacle, kept),
         }
     }

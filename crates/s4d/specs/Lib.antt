@@ -1,3 +1,5 @@
+pub mod Opening
 pub mod Performing
 pub mod Piping
+pub mod Promised
 pub mod Running

@@ -11,11 +11,13 @@
 ghost use Rattle.std.specs.Prelude.{◌≡◌, ◌≢◌, ◌+◌, ◌^◌, ◌<◌, ◌≤◌, ℕ, List, Option, map};
 ghost use Rattle.std.specs.Process.{exit_status};
 ghost use Rattle.std.specs.declared.io.ErrorKind.TheVariants.{OutOfMemory};
-ghost use Rattle.s4d.specs.Performing.{IsDone, IsUsage, unknown};
+ghost use Rattle.s4d.specs.Performing.{IsDone, IsUndone, IsUsage, any_writer, unknown};
 
+mod faults;
 mod performing;
 mod piping;
 mod running;
+mod session_files;
 mod session_thread;
 
 use image_commands::hold_standard_streams;
@@ -56,8 +58,10 @@ fn exit_of<
     requires writer { W.failures writer + 1 < 2 ^ 64 }
     ensures status { exit_status result ≤ 2 }
     ensures done { exit_status result ≡ 0 → (input output : Option (List ℕ))
-        × IsDone (map S.text words.items) unknown unknown (R.remaining reader) (W.passed writer) input output }
+        × IsDone (map S.text words.items) any_writer unknown unknown (R.remaining reader) (W.passed writer) input output }
     ensures usage { exit_status result ≡ 2 → IsUsage (map S.text words.items) }
+    ensures undone { exit_status result ≢ 0 → (input output : Option (List ℕ)) × (failures : ℕ)
+        × IsUndone any_writer unknown unknown (R.remaining reader) (W.passed writer) input output (W.failures writer) failures (map S.text words.items) (exit_status result) }
 {
     match perform_apart(threads, *rt, words, reader, writer, rt.stderr()) {
         Ok(run) => ExitCode::from(run.status),

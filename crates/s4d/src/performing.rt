@@ -1,16 +1,18 @@
 //! What a line of words asks for, and the status of the program.
-ghost use Rattle.std.specs.Prelude.{◌≡◌, ◌+◌, ◌^◌, ◌<◌, ◌≤◌, map, true, vec_len};
+ghost use Rattle.std.specs.Prelude.{◌≡◌, ◌≢◌, ◌⊎◌, ◌+◌, ◌^◌, ◌<◌, ◌≤◌, map, true, vec_len, IfErr, OnOk};
 ghost use Rattle.s4_types.specs.Sizes.{IsFrameCount};
-ghost use Rattle.s4d.specs.Performing.{IsDone, IsUsage};
+ghost use Rattle.s4d.specs.Opening.{HoldsAt};
+ghost use Rattle.s4d.specs.Performing.{IsDone, IsUndone, IsUsage, SaysNotGiven, SaysNotNew, SaysNotVerified, SaysRunUndone, SaysUndone, SaysUnpiped, status_of};
 ghost use Rattle.image_commands.specs.Making.{HasNew};
 ghost use Rattle.image_commands.specs.ReadingPast.{GivesObject};
 ghost use Rattle.image_commands.specs.Verifying.{TellsImage};
 ghost use Rattle.s4d.specs.Piping.{Pipes};
 ghost use Rattle.s4d.specs.Running.{RunsImage};
 
+use crate::faults::Undone;
 use crate::piping::serve_pipe;
 use crate::running::run_file;
-use image_commands::{Fault, Files, Obstacle, Placed, make_file, verify_file, write_object};
+use image_commands::{Files, Placed, make_file, verify_file, write_object};
 use s4d_command::{At, Command, CommandError, New, Pipe, Run, Verify, command_of};
 use serving::{ServeEnd, Sink, Source};
 use std::alloc::Global;
@@ -46,101 +48,132 @@ pub fn perform<T: Threads + Wait + Clock + Sync, F: Files, S: AsStr, R: Source, 
     requires reader { R.failures reader.old + 1 < 2 ^ 64 }
     requires writer { W.failures writer.old + 1 < 2 ^ 64 }
     ensures status { result ≤ 2 }
-    ensures done { result ≡ 0 → IsDone (map S.text words.now)
+    ensures done { result ≡ 0 → IsDone (map S.text words.now) (HoldsAt F.writes F.Writer.contents)
         (F.contents files.old) (F.contents files.new)
         (R.remaining reader.old) (W.passed writer.old)
         (R.remaining reader.new) (W.passed writer.new) }
     ensures usage { result ≡ 2 → IsUsage (map S.text words.now) }
+    ensures undone { result ≢ 0 → IsUndone (HoldsAt F.writes F.Writer.contents)
+        (F.contents files.old) (F.contents files.new)
+        (R.remaining reader.old) (W.passed writer.old)
+        (R.remaining reader.new) (W.passed writer.new)
+        (W.failures writer.old) (W.failures writer.new) (map S.text words.now) result }
+{
+    match perform_line(rt, alloc, files, words, reader, writer, errors) {
+        Ok(()) => DONE,
+        Err(why) => tell(errors, why),
+    }
+}
+
+// The same; or why it isn't done, which has no line yet but where sessions failed.
+fn perform_line<
+    'a,
+    T: Threads + Wait + Clock + Sync,
+    F: Files,
+    S: AsStr,
+    R: Source,
+    W: Sink,
+    E: Write,
+>(
+    rt: &T,
+    alloc: Global,
+    files: &mut F,
+    words: &'a [S],
+    reader: &mut R,
+    writer: &mut W,
+    errors: &mut E,
+) -> Result<(), Undone<'a>>
+    requires reader { R.failures reader.old + 1 < 2 ^ 64 }
+    requires writer { W.failures writer.old + 1 < 2 ^ 64 }
+    ensures done { OnOk result (IsDone (map S.text words.entry.now) (HoldsAt F.writes F.Writer.contents)
+        (F.contents files.old) (F.contents files.new)
+        (R.remaining reader.old) (W.passed writer.old)
+        (R.remaining reader.new) (W.passed writer.new)) }
+    ensures undone { IfErr result (SaysUndone (HoldsAt F.writes F.Writer.contents)
+        (F.contents files.old) (F.contents files.new)
+        (R.remaining reader.old) (W.passed writer.old)
+        (R.remaining reader.new) (W.passed writer.new)
+        (W.failures writer.old) (W.failures writer.new) (map S.text words.entry.now)) }
 {
     match command_of(alloc, words) {
-        Ok(Command::Pipe(pipe)) => perform_session(alloc, pipe, reader, writer, errors),
-        Ok(Command::New(new)) => perform_new(alloc, files, new, errors),
-        Ok(Command::Verify(asked)) => perform_verify(rt, alloc, files, asked, writer, errors),
-        Ok(Command::At(asked)) => perform_at(rt, alloc, files, asked, writer, errors),
+        Ok(Command::Pipe(pipe)) => perform_session(alloc, pipe, reader, writer),
+        Ok(Command::New(new)) => perform_new(alloc, files, new),
+        Ok(Command::Verify(asked)) => perform_verify(rt, alloc, files, asked, writer),
+        Ok(Command::At(asked)) => perform_at(rt, alloc, files, asked, writer),
         Ok(Command::Run(run)) => perform_run(rt, alloc, files, run, errors),
-        Err(CommandError::NoMemory) => fail(errors, CommandError::NoMemory),
-        Err(CommandError::Usage) => refuse(errors),
+        Err(CommandError::NoMemory) => Err(Undone::NoMemory),
+        Err(CommandError::Usage) => Err(Undone::Usage),
     }
 }
 
 // Serves a session of a new drive.
-fn perform_session<R: Source, W: Sink, E: Write>(
+fn perform_session<'a, R: Source, W: Sink>(
     alloc: Global,
     pipe: Pipe,
     reader: &mut R,
     writer: &mut W,
-    errors: &mut E,
-) -> u8
+) -> Result<(), Undone<'a>>
     requires frames { IsFrameCount pipe.frames }
     requires reader { R.failures reader.old + 1 < 2 ^ 64 }
     requires writer { W.failures writer.old + 1 < 2 ^ 64 }
-    ensures status { result ≤ 1 }
-    ensures done { result ≡ 0 → Pipes pipe ServeEnd.Ended
+    ensures done { OnOk result (Pipes pipe ServeEnd.Ended
         (R.remaining reader.old) (W.passed writer.old)
-        (R.remaining reader.new) (W.passed writer.new) }
+        (R.remaining reader.new) (W.passed writer.new)) }
+    ensures undone { IfErr result (SaysUnpiped (R.remaining reader.old) (W.passed writer.old) (R.remaining reader.new) (W.passed writer.new) pipe) }
 {
     match serve_pipe(alloc, pipe, reader, writer) {
-        Ok(ServeEnd::Ended) => DONE,
-        Ok(end) => fail(errors, end),
-        Err(refusal) => fail(errors, refusal),
+        Ok(ServeEnd::Ended) => Ok(()),
+        Ok(end) => Err(Undone::OtherEnd(end)),
+        Err(refusal) => Err(Undone::NoDrive(refusal)),
     }
 }
 
 // Writes the image of a new drive.
-fn perform_new<'a, F: Files, E: Write>(
-    alloc: Global,
-    files: &mut F,
-    new: New<'a>,
-    errors: &mut E,
-) -> u8
+fn perform_new<'a, F: Files>(alloc: Global, files: &mut F, new: New<'a>) -> Result<(), Undone<'a>>
     requires frames { IsFrameCount new.frames }
-    ensures status { result ≤ 1 }
-    ensures done { result ≡ 0 → HasNew new.entry.frames new.entry.window (F.contents files.new new.entry.image.now) }
+    ensures done { OnOk result (HasNew new.entry.frames new.entry.window (F.contents files.new new.entry.image.now)) }
+    ensures undone { IfErr result (SaysNotNew (F.contents files.old) (F.contents files.new) new.entry) }
 {
     match make_file(alloc, files, new) {
-        Ok(Placed::Lasting) => DONE,
-        Ok(Placed::NotLasting) => {
-            fail(errors, Fault::CannotWrite(new.image, Obstacle::NotLasting))
-        }
-        Err(fault) => fail(errors, fault),
+        Ok(Placed::Lasting) => Ok(()),
+        Ok(Placed::NotLasting) => Err(Undone::Unlasting(new.image)),
+        Err(fault) => Err(Undone::Failed(fault)),
     }
 }
 
 // Writes the line of an image's numbers.
-fn perform_verify<'a, T: Threads, F: Files, W: Sink, E: Write>(
+fn perform_verify<'a, T: Threads, F: Files, W: Sink>(
     rt: &T,
     alloc: Global,
     files: &F,
     asked: Verify<'a>,
     writer: &mut W,
-    errors: &mut E,
-) -> u8
+) -> Result<(), Undone<'a>>
     requires writer { W.failures writer.old + 1 < 2 ^ 64 }
-    ensures status { result ≤ 1 }
-    ensures done { result ≡ 0 → TellsImage (F.contents files.now asked.entry.image.now) (W.passed writer.old) (W.passed writer.new) }
+    ensures done { OnOk result (TellsImage (F.contents files.now asked.entry.image.now) (W.passed writer.old) (W.passed writer.new)) }
+    ensures undone { IfErr result (SaysNotVerified (F.contents files.now) (W.failures writer.old) (W.failures writer.new) asked.entry) }
 {
     match verify_file(rt, alloc, files, asked, writer) {
-        Ok(()) => DONE,
-        Err(fault) => fail(errors, fault),
+        Ok(()) => Ok(()),
+        Err(fault) => Err(Undone::Failed(fault)),
     }
 }
 
 // Writes what an object was.
-fn perform_at<'a, T: Threads, F: Files, W: Sink, E: Write>(
+fn perform_at<'a, T: Threads, F: Files, W: Sink>(
     rt: &T,
     alloc: Global,
     files: &F,
     asked: At<'a>,
     writer: &mut W,
-    errors: &mut E,
-) -> u8
+) -> Result<(), Undone<'a>>
     requires writer { W.failures writer.old + 1 < 2 ^ 64 }
-    ensures status { result ≤ 1 }
-    ensures done { result ≡ 0 → GivesObject (F.contents files.now asked.entry.image.now) asked.entry.object asked.entry.moment (W.passed writer.old) (W.passed writer.new) }
+    ensures done { OnOk result (GivesObject (F.contents files.now asked.entry.image.now) asked.entry.object asked.entry.moment (W.passed writer.old) (W.passed writer.new)) }
+    ensures undone { IfErr result (SaysNotGiven (F.contents files.now) (W.failures writer.old) (W.failures writer.new) asked.entry) }
 {
     match write_object(rt, alloc, files, asked, writer) {
-        Ok(()) => DONE,
-        Err(fault) => fail(errors, fault),
+        Ok(()) => Ok(()),
+        Err(fault) => Err(Undone::Failed(fault)),
     }
 }
 
@@ -151,15 +184,50 @@ fn perform_run<'a, T: Threads + Wait + Clock + Sync, F: Files, E: Write>(
     files: &mut F,
     run: Run<'a>,
     errors: &mut E,
-) -> u8
+) -> Result<(), Undone<'a>>
     requires sessions { vec_len run.sessions ≤ 16 }
-    ensures status { result ≤ 1 }
-    ensures done { result ≡ 0 → RunsImage run.entry (F.contents files.old) (F.contents files.new) true }
+    ensures done { OnOk result (RunsImage (HoldsAt F.writes F.Writer.contents) run.entry (F.contents files.old) (F.contents files.new) (F.contents files.new run.entry.image.now) true) }
+    ensures undone { IfErr result (SaysRunUndone (HoldsAt F.writes F.Writer.contents) (F.contents files.old) (F.contents files.new) run.entry) }
 {
+    let image = run.image;
     match run_file(rt, alloc, files, run, errors) {
-        Ok(true) => DONE,
-        Ok(false) => FAILED,
-        Err(fault) => fail(errors, fault),
+        Ok(ran) => match ran.placed {
+            Placed::NotLasting => Err(Undone::Unlasting(image)),
+            Placed::Lasting if ran.is_ended => Ok(()),
+            Placed::Lasting => Err(Undone::Unended),
+        },
+        Err(fault) => Err(Undone::NotRun(fault)),
+    }
+}
+
+// Says why a line of words isn't done, and answers the status of that.
+fn tell<E: Write>(errors: &mut E, why: Undone<'_>) -> u8
+    ensures { result ≡ status_of why.entry }
+{
+    let status = status_of(&why);
+    match why {
+        // Each session that failed has had its line.
+        Undone::Unended => {}
+        why => {
+            let _ = writeln!(errors, "s4d: {why}");
+        }
+    }
+    status
+}
+
+// The status of what isn't done.
+fn status_of(why: &Undone<'_>) -> u8
+    ensures { result ≡ status_of why.now }
+{
+    match why {
+        Undone::Usage => USAGE,
+        Undone::NoMemory
+        | Undone::NoDrive(_)
+        | Undone::OtherEnd(_)
+        | Undone::Failed(_)
+        | Undone::NotRun(_)
+        | Undone::Unlasting(_)
+        | Undone::Unended => FAILED,
     }
 }
 

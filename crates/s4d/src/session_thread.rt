@@ -1,6 +1,6 @@
 //! What the program's line asks for, on a thread of its own, so that its stack is had before anything is read.
-ghost use Rattle.std.specs.Prelude.{◌≡◌, ◌+◌, ◌^◌, ◌<◌, ◌≤◌, map, IfOk};
-ghost use Rattle.s4d.specs.Performing.{IsDone, IsUsage, unknown};
+ghost use Rattle.std.specs.Prelude.{◌≡◌, ◌≢◌, ◌+◌, ◌^◌, ◌<◌, ◌≤◌, map, IfOk};
+ghost use Rattle.s4d.specs.Performing.{IsDone, IsUndone, IsUsage, any_writer, unknown};
 
 use crate::performing::perform;
 use own_stacks::call_with_stack;
@@ -45,10 +45,14 @@ pub fn perform_apart<
     requires reader { R.failures reader + 1 < 2 ^ 64 }
     requires writer { W.failures writer + 1 < 2 ^ 64 }
     ensures status { IfOk result (λ run. run.status ≤ 2) }
-    ensures done { IfOk result (λ run. run.status ≡ 0 → IsDone (map S.text words.items) unknown unknown
+    ensures done { IfOk result (λ run. run.status ≡ 0 → IsDone (map S.text words.items) any_writer unknown unknown
         (R.remaining reader) (W.passed writer)
         (R.remaining run.reader) (W.passed run.writer)) }
     ensures usage { IfOk result (λ run. run.status ≡ 2 → IsUsage (map S.text words.items)) }
+    ensures undone { IfOk result (λ run. run.status ≢ 0 → IsUndone any_writer unknown unknown
+        (R.remaining reader) (W.passed writer)
+        (R.remaining run.reader) (W.passed run.writer)
+        (W.failures writer) (W.failures run.writer) (map S.text words.items) run.status) }
 {
     let own = *threads;
     call_with_stack(
@@ -58,10 +62,14 @@ pub fn perform_apart<
             requires reader { R.failures reader + 1 < 2 ^ 64 }
             requires writer { W.failures writer + 1 < 2 ^ 64 }
             ensures status { result.status ≤ 2 }
-            ensures done { result.status ≡ 0 → IsDone (map S.text words.items) unknown unknown
+            ensures done { result.status ≡ 0 → IsDone (map S.text words.items) any_writer unknown unknown
                 (R.remaining reader) (W.passed writer)
                 (R.remaining result.reader) (W.passed result.writer) }
             ensures usage { result.status ≡ 2 → IsUsage (map S.text words.items) }
+            ensures undone { result.status ≢ 0 → IsUndone any_writer unknown unknown
+                (R.remaining reader) (W.passed writer)
+                (R.remaining result.reader) (W.passed result.writer)
+                (W.failures writer) (W.failures result.writer) (map S.text words.items) result.status }
         { run(own, files, words, reader, writer, errors) },
     )
 }
@@ -77,10 +85,14 @@ fn run<
     requires reader { R.failures reader + 1 < 2 ^ 64 }
     requires writer { W.failures writer + 1 < 2 ^ 64 }
     ensures status { result.status ≤ 2 }
-    ensures done { result.status ≡ 0 → IsDone (map S.text words.items) unknown unknown
+    ensures done { result.status ≡ 0 → IsDone (map S.text words.items) any_writer unknown unknown
         (R.remaining reader) (W.passed writer)
         (R.remaining result.reader) (W.passed result.writer) }
     ensures usage { result.status ≡ 2 → IsUsage (map S.text words.items) }
+    ensures undone { result.status ≢ 0 → IsUndone any_writer unknown unknown
+        (R.remaining reader) (W.passed writer)
+        (R.remaining result.reader) (W.passed result.writer)
+        (W.failures writer) (W.failures result.writer) (map S.text words.items) result.status }
 {
     let alloc = files.alloc();
     let (mut files, mut reader, mut writer, mut errors) = (files, reader, writer, errors);

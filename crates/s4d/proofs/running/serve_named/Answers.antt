@@ -18,6 +18,6 @@ returns-clause-left g c =
         past = rules.past;
         unborn = rules.unborn;
       };
-      settled = c.serve_and_save-served.ensures.settled;
+      settled = c.serve_and_save-served.ensures.served;
       spelled = c.serve_and_save-served.ensures.saved;
     }

@@ -1,5 +1,5 @@
 use Rattle.std.proofs.Common.{ℕ, ◌<◌, get_or}
-use Rattle.s4d.proofs.running.is_one_read.Given as goal
+use Rattle.s4d.proofs.session_files.is_one_read.Given as goal
 
 -- none of the inputs so far is the output
 abbrev pub invariant-loop-session : goal.invariant-loop-session

@@ -1,0 +1,71 @@
+-- What a fault says, from what less of it says.
+use Rattle.std.proofs.Common.{◌≡◌, ◌⊎◌, ℕ, List, Option, inl, inr, subst}
+use Rattle.s4_types.specs.History.{Base}
+use Rattle.s4_types.specs.declared.refusals.Refusal.{Refusal}
+use Rattle.image_parts.specs.Image.{image_in}
+use Rattle.verifier.specs.Images.{ImageFields}
+use Rattle.verifier.specs.Opened.{IsToldBy}
+use Rattle.image_commands.specs.declared.faults.Fault.{Fault}
+use Rattle.image_commands.specs.declared.faults.Fault.TheVariants.{CannotRead, CannotWrite, HasBytes, KeptIn, Refused, WriteFailed}
+use Rattle.image_commands.specs.Faults.{KeepsMade, KeepsNew, SaysUnmade, SaysUnplaced, SaysUnread, SaysUnreadable, SaysUnwritable, SaysUnwritten}
+use Rattle.image_commands.specs.Making.{SpellsNew}
+use Rattle.image_commands.specs.ReadingPast.{RefusesObject, RefusesVersion, SaysRefused, SaysUngiven}
+use Rattle.image_commands.specs.Verifying.{IsVerified}
+
+-- an image that can't be read was not read
+pub unread : (known : Option (List ℕ)) (image : List ℕ) (fault : Fault) → SaysUnreadable image fault → SaysUnread known image fault
+unread known image (Refused refusal) is = inl is
+unread known image (CannotRead path obstacle) is = is
+unread known image (CannotWrite path obstacle) is = absurd is
+unread known image (HasBytes path) is = absurd is
+unread known image (KeptIn path obstacle kept) is = absurd is
+unread known image WriteFailed is = absurd is
+
+-- an image that can't be written was not made
+pub unmade : (known : Option (List ℕ)) (image : List ℕ) (fault : Fault) → SaysUnwritable image fault → SaysUnmade known image fault
+unmade known image (Refused refusal) is = inl is
+unmade known image (CannotRead path obstacle) is = absurd is
+unmade known image (CannotWrite path obstacle) is = is
+unmade known image (HasBytes path) is = absurd is
+unmade known image (KeptIn path obstacle kept) is = absurd is
+unmade known image WriteFailed is = absurd is
+
+-- nor is one that isn't in its place
+pub unmade_in_place : (known : Option (List ℕ)) (image : List ℕ) (fault : Fault) → SaysUnplaced image fault → SaysUnmade known image fault
+unmade_in_place known image (Refused refusal) is = inl is
+unmade_in_place known image (CannotRead path obstacle) is = absurd is
+unmade_in_place known image (CannotWrite path obstacle) is = is
+unmade_in_place known image (HasBytes path) is = absurd is
+unmade_in_place known image (KeptIn path obstacle kept) is = is
+unmade_in_place known image WriteFailed is = absurd is
+
+-- a fault of writing names no file that has an image
+pub names_none : (image : List ℕ) (frames window : ℕ) (files : List ℕ → Option (List ℕ)) (fault : Fault) → SaysUnwritable image fault → KeepsMade frames window files fault
+names_none image frames window files (Refused refusal) is = tt
+names_none image frames window files (CannotRead path obstacle) is = tt
+names_none image frames window files (CannotWrite path obstacle) is = tt
+names_none image frames window files (HasBytes path) is = tt
+names_none image frames window files (KeptIn path obstacle kept) is = absurd is
+names_none image frames window files WriteFailed is = tt
+
+-- the file that a fault names has the image of a new drive, where the bytes are one
+pub names_made : (frames window : ℕ) (files : List ℕ → Option (List ℕ)) (bytes : List ℕ) (fault : Fault) → SpellsNew frames window bytes → KeepsNew files bytes fault → KeepsMade frames window files fault
+names_made frames window files bytes (Refused refusal) spelled is = tt
+names_made frames window files bytes (CannotRead path obstacle) spelled is = tt
+names_made frames window files bytes (CannotWrite path obstacle) spelled is = tt
+names_made frames window files bytes (HasBytes path) spelled is = tt
+names_made frames window files bytes (KeptIn path obstacle kept) spelled is = record { bytes = bytes; spelled = spelled; kept = is }
+names_made frames window files bytes WriteFailed spelled is = tt
+
+-- what the drive that begins with what an image tells refuses is refused of the image
+pub refused_of : (known : Option (List ℕ)) (image : ImageFields) (verified : IsVerified known image) (base : Base) → IsToldBy (image_in verified.bytes) base → (o t : ℕ)
+    → (fault : Fault) → SaysRefused (RefusesVersion base o t) fault → SaysRefused (RefusesObject known o t) fault
+refused_of known image verified base told o t (Refused refusal) (inl memory) = inl memory
+refused_of known image verified base told o t (Refused refusal) (inr (inl busy)) = inr (inl busy)
+refused_of known image verified base told o t (Refused refusal) (inr (inr refused)) =
+    inr (inr (record { image = image; verified = verified; base = base; told = told; refused = refused }))
+refused_of known image verified base told o t (CannotRead path obstacle) is = absurd is
+refused_of known image verified base told o t (CannotWrite path obstacle) is = absurd is
+refused_of known image verified base told o t (HasBytes path) is = absurd is
+refused_of known image verified base told o t (KeptIn path obstacle kept) is = absurd is
+refused_of known image verified base told o t WriteFailed is = absurd is

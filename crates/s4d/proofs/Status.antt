@@ -1,0 +1,41 @@
+-- What the status of a line of words says that isn't done.
+use Rattle.std.proofs.Common.{◌≡◌, ◌⊎◌, ℕ, List, Option, arith, inl, inr, refl}
+use Rattle.clap.specs.Walk.{Text}
+use Rattle.s4d_command.specs.declared.Command.{Command}
+use Rattle.s4d_command.specs.declared.Command.TheVariants as command
+use Rattle.s4d.specs.declared.faults.Undone.{Undone}
+use Rattle.s4d.specs.declared.faults.Undone.TheVariants as undone
+use Rattle.s4d.specs.Performing.{IsUsage, SaysUndone, SaysUndoneOf, status_of}
+
+-- it is 1 or 2
+pub some_status : (why : Undone) → (status_of why ≡ 1) ⊎ (status_of why ≡ 2)
+some_status undone.Usage = inr refl
+some_status undone.NoMemory = inl refl
+some_status (undone.NoDrive refusal) = inl refl
+some_status (undone.OtherEnd end) = inl refl
+some_status (undone.Failed fault) = inl refl
+some_status (undone.NotRun fault) = inl refl
+some_status (undone.Unlasting path) = inl refl
+some_status undone.Unended = inl refl
+
+module _ (opens : List ℕ → Option (List ℕ) → Type 0) (files files' : List ℕ → Option (List ℕ)) (input output input' output' : Option (List ℕ)) (failures failures' : ℕ) where
+  -- no command is no command
+  not_usage : (c : Command) → SaysUndoneOf opens files files' input output input' output' failures failures' c undone.Usage → ⊥
+  not_usage (command.Pipe pipe) says = says
+  not_usage (command.New new) says = says
+  not_usage (command.Verify verify) says = says
+  not_usage (command.Run run) says = says
+  not_usage (command.At at) says = says
+
+  -- 2 is that of words which are none
+  pub usage_of : (words : List Text) (why : Undone) → SaysUndone opens files files' input output input' output' failures failures' words why → status_of why ≡ 2 → IsUsage words
+  usage_of words undone.Usage (inl usage) is = usage.1
+  usage_of words undone.Usage (inr (inl memory)) is = absurd cc
+  usage_of words undone.Usage (inr (inr command)) is = absurd (not_usage command.0 command.2)
+  usage_of words undone.NoMemory says is = absurd (omega (arith, is))
+  usage_of words (undone.NoDrive refusal) says is = absurd (omega (arith, is))
+  usage_of words (undone.OtherEnd end) says is = absurd (omega (arith, is))
+  usage_of words (undone.Failed fault) says is = absurd (omega (arith, is))
+  usage_of words (undone.NotRun fault) says is = absurd (omega (arith, is))
+  usage_of words (undone.Unlasting path) says is = absurd (omega (arith, is))
+  usage_of words undone.Unended says is = absurd (omega (arith, is))
