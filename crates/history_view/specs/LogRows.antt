@@ -1,5 +1,5 @@
 -- The rows of a log: changes of objects and runs of hidden moments, their order, and which of them are shown.
-use Rattle.std.specs.Prelude.{◌≡◌, ℕ, ◌-◌, ◌^◌, ◌==◌, if◌then◌else◌, MatchBool, Bool, true, false, not, List, [], ◌∷◌, Option, Some, None, count_by}
+use Rattle.std.specs.Prelude.{◌≡◌, ℕ, ◌-◌, ◌^◌, ◌==◌, ◌&&◌, if◌then◌else◌, MatchBool, Bool, true, false, not, List, [], ◌∷◌, Option, Some, None, count_by}
 use Rattle.std.specs.List.Sorted.{IsPermutation, IsNonDecreasingBy, IsStableByKey}
 use Rattle.std.specs.Ordering.{nat_cmp}
 use Rattle.history_view.specs.declared.changes.Kind.{Kind}
@@ -76,15 +76,20 @@ abbrev pub of_kind : Option Kind → Bool → List LogRow → List LogRow
 of_kind asked has_passed [] = []
 of_kind asked has_passed (row ∷ rows) = if passes asked has_passed row then row ∷ of_kind asked true rows else of_kind asked false rows
 
--- how many changes a row is
-abbrev pub changes_in : LogRow → ℕ
-changes_in (Changed o change) = 1
-changes_in (Hidden run) = 0
+-- whether a row begins a change, and doesn't go on with one
+abbrev pub begins : LogRow → Bool
+begins (Changed o change) = not (is_kind change.kind Continued)
+begins (Hidden run) = false
 
--- the first rows, up to so many changes
+-- whether a row goes on with the change before it
+abbrev pub goes_on : LogRow → Bool
+goes_on (Changed o change) = is_kind change.kind Continued
+goes_on (Hidden run) = false
+
+-- The first rows, up to so many changes, the last of them with all its rows.
 abbrev pub first_changes : ℕ → List LogRow → List LogRow
 first_changes left [] = []
-first_changes left (row ∷ rows) = if left == 0 then [] else row ∷ first_changes (left - changes_in row) rows
+first_changes left (row ∷ rows) = if (left == 0) && not (goes_on row) then [] else row ∷ first_changes (if begins row then left - 1 else left) rows
 
 -- the same where there is a limit, and else all rows
 abbrev pub limited : Option ℕ → List LogRow → List LogRow
@@ -92,11 +97,6 @@ limited None rows = rows
 limited (Some limit) rows = first_changes limit rows
 
 -- ---- what comes to an object
-
--- whether a row begins a change, and doesn't go on with one
-abbrev pub begins : LogRow → Bool
-begins (Changed o change) = not (is_kind change.kind Continued)
-begins (Hidden run) = false
 
 -- whether a row is a change of this kind
 abbrev pub is_of : Kind → LogRow → Bool

@@ -1,6 +1,6 @@
 //! Which rows of a log are shown.
 ghost use Rattle.std.specs.Prelude.{◌≡◌, false, take, IfOk};
-ghost use Rattle.history_view.specs.LogRows.{is_kind, passes_kind, passes, of_kind, changes_in, first_changes, limited};
+ghost use Rattle.history_view.specs.LogRows.{is_kind, passes_kind, passes, of_kind, begins, goes_on, first_changes, limited};
 
 use crate::changes::Kind;
 use crate::rows::LogRow;
@@ -52,31 +52,43 @@ pub(crate) fn of_kind(
     Ok(kept)
 }
 
-fn changes_in(row: &LogRow) -> u64
-    ensures { result ≡ changes_in row.now }
+/// Whether a row begins a change, and doesn't go on with one.
+pub(crate) fn begins(row: &LogRow) -> bool
+    ensures { result ≡ begins row.now }
 {
     match row {
-        LogRow::Changed { .. } => 1,
-        LogRow::Hidden(_) => 0,
+        LogRow::Changed { change, .. } => !is_kind(change.kind, Kind::Continued),
+        LogRow::Hidden(_) => false,
     }
 }
 
-// How many rows there are up to so many changes.
+fn goes_on(row: &LogRow) -> bool
+    ensures { result ≡ goes_on row.now }
+{
+    match row {
+        LogRow::Changed { change, .. } => is_kind(change.kind, Kind::Continued),
+        LogRow::Hidden(_) => false,
+    }
+}
+
+// How many rows there are up to so many changes, the last of them with all its rows.
 fn front(rows: &[LogRow], changes: u64) -> usize
     ensures { take result rows.now ≡ first_changes changes rows.now }
 {
     let (mut left, mut count) = (changes, 0);
     for row in rows {
-        if left == 0 {
+        if left == 0 && !goes_on(row) {
             return count;
         }
-        left = left.saturating_sub(changes_in(row));
+        if begins(row) {
+            left = left.saturating_sub(1);
+        }
         count += 1;
     }
     count
 }
 
-/// The first rows, up to so many changes where there is a limit. Runs of hidden moments don't count.
+/// The first rows, up to so many changes where there is a limit, the last of them with all its rows. Runs of hidden moments don't count.
 pub(crate) fn limited(rows: Vec<LogRow>, limit: Option<u64>) -> Vec<LogRow>
     ensures { result.items ≡ limited limit rows.items }
 {

@@ -7,7 +7,7 @@ ghost use Rattle.history_view.specs.LogRows.{begins, is_of, kinds_in, stat_of};
 ghost use Rattle.history_view.specs.Logs.{ShowsStats, stat_in, turned, at_most};
 
 use crate::changes::{Kind, changes_between};
-use crate::filters::{is_kind, of_kind};
+use crate::filters::{begins, is_kind, of_kind};
 use crate::logs::{LogQuery, objects_asked, push_changes};
 use crate::rows::LogRow;
 use drive::Drive;
@@ -39,15 +39,6 @@ pub struct ObjectStat {
     pub first: Moment,
     /// The moment of the last of them.
     pub last: Moment,
-}
-
-fn begins(row: &LogRow) -> bool
-    ensures { result ≡ begins row.now }
-{
-    match row {
-        LogRow::Changed { change, .. } => change.kind != Kind::Continued,
-        LogRow::Hidden(_) => false,
-    }
 }
 
 fn count_begun(rows: &[LogRow]) -> u64
