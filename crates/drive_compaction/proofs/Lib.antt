@@ -6,3 +6,5 @@ pub mod Freed
 pub mod Sweeping
 pub mod Turning
 pub mod Summing
+pub mod Taken
+pub mod Gained

@@ -29,6 +29,15 @@ sum_flat number f n (suc k) none =
     let last : number (f + (n + k)) ≡ 0 = none (f + (n + k)) (omega arith) (omega arith) in
     omega (arith, more, same, before, last)
 
+-- each of them is no more than the sum
+pub sum_at : (number : ℕ → ℕ) (f n k : ℕ) → k < n → number (f + k) ≤ sum_over number f n
+sum_at number f zero k h = absurd (omega (arith, h))
+sum_at number f (suc n) zero h = (let here : number (f + 0) ≡ number f = (let e : f + 0 ≡ f = omega arith in ap number e) in omega (arith, here))
+sum_at number f (suc n) (suc k) h =
+    let rest = sum_at number (f + 1) n k (omega (arith, h)) in
+    let here : number (f + suc k) ≡ number ((f + 1) + k) = (let e : f + suc k ≡ (f + 1) + k = omega arith in ap number e) in
+    omega (arith, rest, here)
+
 -- ---- over objects
 
 no_blocks : (s : StoreFields) (t o : ℕ) → row_of s.rows o ≡ None → present_blocks s t o ≡ 0

@@ -1,8 +1,8 @@
 -- Which frames are freed.
-use Rattle.std.specs.Prelude.{◌≡◌, ℕ, ◌+◌, ◌<◌, ◌≤◌, ◌==◌, min, Bool, if◌then◌else◌, unwrap_or, List, [], ◌∷◌, ◌++◌, Option, Some, None}
-use Rattle.std.specs.List.{list_any}
+use Rattle.std.specs.Prelude.{◌≡◌, ℕ, ◌+◌, ◌*◌, ◌^◌, ◌<◌, ◌≤◌, ◌==◌, nat_lt, min, Bool, true, ◌&&◌, not, if◌then◌else◌, unwrap_or, List, [], ◌∷◌, ◌++◌, length, Option, Some, None}
+use Rattle.std.specs.List.{list_any, list_all}
 use Rattle.s4_types.specs.Pointer.{Place}
-use Rattle.s4_types.specs.declared.limits.TheConstants.{PAYLOAD_BLOCKS}
+use Rattle.s4_types.specs.declared.limits.TheConstants.{MOVE_BLOCKS, PAYLOAD_BLOCKS}
 use Rattle.block_log.specs.Log.{Stored, same_kind}
 use Rattle.block_log.specs.declared.kinds.BlockKind.{BlockKind}
 use Rattle.block_log.specs.declared.kinds.BlockKind.TheVariants.{Data}
@@ -10,10 +10,10 @@ use Rattle.object_map.specs.declared.map.Row.{Row}
 use Rattle.object_map.specs.Objects.{value_of}
 use Rattle.object_map.specs.Rows.{row_of}
 use Rattle.row_changes.specs.Moving.{row_blocks}
-use Rattle.segment_word.specs.Frames.{Sealed}
+use Rattle.segment_word.specs.Frames.{Sealed, is_sealed}
 use Rattle.segment_word.specs.Layout.{frame_at}
 use Rattle.segment_table.specs.Table.{Table, held_at}
-use Rattle.segment_table.specs.Room.{whole_of}
+use Rattle.segment_table.specs.Room.{whole_of, sum_over}
 use Rattle.segment_table.specs.Counts.{held_count}
 use Rattle.version_store.specs.Store.{StoreFields}
 use Rattle.drive.specs.Fields.{DriveFields}
@@ -44,9 +44,9 @@ abbrev pub is_among : ℕ → List ℕ → Bool
 is_among o objects = list_any (λ one. one == o) objects
 
 -- How many blocks are written for a held block of this kind: itself where it is of data; and what is written of its object, where
--- none of the objects before it is the same. Of one object no more are counted than a frame has.
+-- none of the objects before it is the same. Of one object no more are counted than a move has at most.
 abbrev pub blocks_added : List (ℕ × ℕ) → List ℕ → BlockKind → ℕ → ℕ
-blocks_added counts before kind o = (if same_kind Data kind then 1 else 0) + (if is_among o before then 0 else min PAYLOAD_BLOCKS (count_in counts o))
+blocks_added counts before kind o = (if same_kind Data kind then 1 else 0) + (if is_among o before then 0 else min MOVE_BLOCKS (count_in counts o))
 
 -- the same of what is held at a place, and the objects up to there
 abbrev pub added_at : List (ℕ × ℕ) → List ℕ → Option Stored → ℕ
@@ -66,14 +66,49 @@ blocks_to_move counts t before (p ∷ places) = added_at counts before (held_at 
 abbrev pub blocks_to_empty : List (ℕ × ℕ) → Table → ℕ → ℕ
 blocks_to_empty counts t f = blocks_to_move counts t [] (whole_of t f)
 
--- A frame can be freed at a gain: it is sealed and holds something, the moves out of it write fewer blocks than it has, and a frame
--- is free, which has room for these.
+-- ---- which frames that empties
+
+-- the objects of what is held at these places, after these ones, in the order of their blocks
+abbrev pub objects_after : Table → List ℕ → List Place → List ℕ
+objects_after t before [] = before
+objects_after t before (p ∷ places) = objects_after t (objects_at before (held_at t p)) places
+
+-- the object of each block that a frame holds
+abbrev pub objects_in : Table → ℕ → List ℕ
+objects_in t f = objects_after t [] (whole_of t f)
+
+-- Whether moves of these objects take what is held at a place, whichever frame they leave: a journal block or a checkpoint of one of
+-- them, since a move writes an object's whole journal and its checkpoint anew; or nothing.
+abbrev pub is_taken : List ℕ → Option Stored → Bool
+is_taken objects None = true
+is_taken objects (Some block) = not (same_kind Data block.kind) && is_among block.object objects
+
+-- whether pointers can have a generation
+abbrev pub is_life : ℕ → Bool
+is_life g = nat_lt 0 g && nat_lt (g + 1) (2 ^ 32)
+
+-- whether moves of these objects take all that frame g holds, whichever frame they leave
+abbrev pub are_all_taken : Table → List ℕ → ℕ → Bool
+are_all_taken t objects g = is_life (frame_at t.seat.frames g).generation && list_all (λ p. is_taken objects (held_at t p)) (whole_of t g)
+
+-- whether frame g holds nothing any more, and can be freed, once these objects left frame f
+abbrev pub is_emptied : Table → List ℕ → ℕ → ℕ → Bool
+is_emptied t objects f g = if g == f then true else (is_sealed (frame_at t.seat.frames g).phase && are_all_taken t objects g)
+
+-- how many frames hold nothing then, frame f among them
+abbrev pub frames_emptied : Table → List ℕ → ℕ → ℕ
+frames_emptied t objects f = sum_over (λ g. if is_emptied t objects f g then 1 else 0) 0 (length t.seat.frames)
+
+-- ---- at a gain
+
+-- A frame can be freed at a gain: it is sealed and holds something, the moves out of it write fewer blocks than the frames have that
+-- they empty, and no more than the free frames have.
 pub record CanBeFreed (counts : List (ℕ × ℕ)) (d : DriveFields) (f : ℕ) : Type 0 where
   pub sealed : (frame_at d.store.table.seat.frames f).phase ≡ Sealed
   pub life : IsLife (frame_at d.store.table.seat.frames f).generation
   pub some : 1 ≤ held_count d.store.table f
-  pub few : blocks_to_empty counts d.store.table f < PAYLOAD_BLOCKS
-  pub free : 0 < free_count d.store.table
+  pub few : blocks_to_empty counts d.store.table f < PAYLOAD_BLOCKS * frames_emptied d.store.table (objects_in d.store.table f) f
+  pub free : blocks_to_empty counts d.store.table f ≤ PAYLOAD_BLOCKS * free_count d.store.table
 
 abbrev pub NoneCanBeFreed : List (ℕ × ℕ) → DriveFields → Type 0
 NoneCanBeFreed counts d = (f : ℕ) → CanBeFreed counts d f → ⊥

@@ -1,31 +1,23 @@
 //! Which frames can be freed at a gain.
-ghost use Rattle.std.specs.Prelude.{◌≡◌, ◌+◌, ◌<◌, ◌≤◌, min, if◌then◌else◌, MatchBool, IfSome};
-ghost use Rattle.std.specs.Prelude.{IfNone, [], ◌∷◌, ◌++◌, length};
-ghost use Rattle.s4_types.specs.declared.limits.TheConstants.{PAYLOAD_BLOCKS};
+ghost use Rattle.std.specs.Prelude.{◌≡◌, ◌+◌, ◌*◌, ◌<◌, ◌≤◌, min, if◌then◌else◌, MatchBool};
+ghost use Rattle.std.specs.Prelude.{IfSome, IfNone, nat_lt, [], ◌∷◌, ◌++◌, length};
+ghost use Rattle.s4_types.specs.declared.limits.TheConstants.{MOVE_BLOCKS, PAYLOAD_BLOCKS};
 ghost use Rattle.block_log.specs.Log.{same_kind};
 ghost use Rattle.block_log.specs.declared.kinds.BlockKind.TheVariants.{Data};
-ghost use Rattle.segment_word.specs.Frames.{is_sealed};
-ghost use Rattle.segment_word.specs.Layout.{frame_at};
-ghost use Rattle.segment_copier.specs.Choosing.{IsLife};
-ghost use Rattle.drive_compaction.specs.Choosing.{count_in, is_among, blocks_added, CanBeFreed};
-ghost use Rattle.drive_compaction.specs.private.Counting.{IsCounted, IsLittle};
+ghost use Rattle.drive_compaction.specs.Choosing.{count_in, blocks_added, frames_emptied};
+ghost use Rattle.drive_compaction.specs.Choosing.{CanBeFreed};
+ghost use Rattle.drive_compaction.specs.private.Counting.{IsCounted, Fits};
 
+use crate::frames::{frames_emptied, is_among, is_of_data, is_sealed_now};
 use arrayvec::ArrayVec;
-use block_log::BlockKind;
 use codec::BlockRole;
 use drive::Drive;
 use object_map::ObjectMap;
-use s4_types::limits::PAYLOAD_BLOCKS;
+use s4_types::limits::{MOVE_BLOCKS, PAYLOAD_BLOCKS};
 use s4_types::{ObjectId, Ptr};
 use segment_copier::free_frames;
 use segment_table::OverFrames;
 use segment_word::Naming;
-
-/// How many states a frame's word has in its low bits.
-const STATES: u64 = 4;
-
-/// The state of a sealed frame.
-const SEALED: u64 = 2;
 
 /// What was counted of the blocks of a frame that were looked at.
 #[derive(Drop)]
@@ -38,21 +30,6 @@ struct Counted {
     objects: ArrayVec<u64, PAYLOAD_BLOCKS>,
 }
 
-/// Whether an object is one of these.
-fn is_among(objects: &[u64], object: ObjectId) -> bool
-    ensures { result ≡ is_among object objects.now }
-{
-    let number = object.number();
-    objects.iter().any(|one| *one == number)
-}
-
-/// Whether a block is of data.
-fn is_of_data(role: &BlockRole) -> bool
-    ensures { result ≡ same_kind Data role.now.kind }
-{
-    matches!(role.kind, BlockKind::Data)
-}
-
 /// 1 for a data block, which is copied; else 0.
 fn copies_of(role: &BlockRole) -> usize
     ensures copies { result ≡ (if same_kind Data role.now.kind then 1 else 0) }
@@ -61,14 +38,14 @@ fn copies_of(role: &BlockRole) -> usize
     if is_of_data(role) { 1 } else { 0 }
 }
 
-/// How many blocks are written of an object, as it was counted; no more than a frame has are
+/// How many blocks are written of an object, as it was counted; no more than a move has are
 /// answered.
 fn count_in(counts: &ObjectMap<usize>, object: ObjectId) -> usize
-    ensures count { result ≡ min PAYLOAD_BLOCKS (count_in counts.now.values object) }
-    ensures few { result ≤ PAYLOAD_BLOCKS }
+    ensures count { result ≡ min MOVE_BLOCKS (count_in counts.now.values object) }
+    ensures few { result ≤ MOVE_BLOCKS }
 {
     match counts.get(object) {
-        Some(kept) => kept.value.min(PAYLOAD_BLOCKS),
+        Some(kept) => kept.value.min(MOVE_BLOCKS),
         None => 0,
     }
 }
@@ -78,7 +55,7 @@ fn count_in(counts: &ObjectMap<usize>, object: ObjectId) -> usize
 fn added_by(counts: &ObjectMap<usize>, before: &[u64], role: &BlockRole) -> usize
     ensures added { result ≡ blocks_added counts.now.values before.now role.now.kind
         role.now.object }
-    ensures few { result ≤ 16 }
+    ensures few { result ≤ 64 }
 {
     let copies = copies_of(role);
     if is_among(before, role.object) {
@@ -89,14 +66,14 @@ fn added_by(counts: &ObjectMap<usize>, before: &[u64], role: &BlockRole) -> usiz
 
 /// With one held block more.
 fn with_held(counts: &ObjectMap<usize>, so_far: Counted, role: &BlockRole) -> Counted
-    requires few { so_far.blocks ≤ 240 }
+    requires few { so_far.blocks ≤ 960 }
     requires some { so_far.held < 15 }
     requires objects { length so_far.objects.items ≡ so_far.held }
     ensures held { result.held ≡ so_far.held + 1 }
     ensures blocks { result.blocks ≡ so_far.blocks + blocks_added counts.now.values
         so_far.objects.items role.now.kind role.now.object }
     ensures objects { result.objects.items ≡ so_far.objects.items ++ role.now.object ∷ [] }
-    ensures few { result.blocks ≤ so_far.blocks + 16 }
+    ensures few { result.blocks ≤ so_far.blocks + 64 }
 {
     let Counted {
         held,
@@ -138,28 +115,36 @@ fn count_of<J: Naming>(
     Some(so_far)
 }
 
-/// Whether a frame is sealed; one that isn't there is not.
-fn is_sealed_now<J: Naming>(drive: &mut Drive<J>, frame: u16) -> bool
-    ensures sealed { result ≡ is_sealed (frame_at drive.old.store.table.seat.frames frame).phase }
+/// Whether all that is counted of a frame fits in the frames that are free, and something is held.
+fn fits<J: Naming>(drive: &mut Drive<J>, counted: &Counted) -> bool
+    ensures fits { MatchBool result (Fits drive.old counted.now)
+        (Fits drive.old counted.now → ⊥) }
     ensures same { drive.new ≡ drive.old }
 {
-    if frame >= drive.frame_count() {
+    if counted.held == 0 {
         return false;
     }
-    drive.saved_word(frame) % STATES == SEALED
+    counted.blocks <= PAYLOAD_BLOCKS * free_frames(drive) as usize
 }
 
-/// Whether so much is counted of a frame as of one that is worth emptying: something is held, and
-/// its moves write fewer blocks than a frame has.
-fn is_little(counted: &Counted) -> bool
-    ensures { MatchBool result (IsLittle counted.now) (IsLittle counted.now → ⊥) }
+/// Whether the moves out of a frame, of which this is counted, write fewer blocks than they free.
+#[tactic(auto, using(crate::proofs::Taken::one_emptied))]
+fn gains<J: Naming>(drive: &mut Drive<J>, counted: &Counted, frame: u16) -> bool
+    requires inside { frame < length drive.old.store.table.seat.frames }
+    ensures gains { result ≡ nat_lt counted.now.blocks (PAYLOAD_BLOCKS * frames_emptied
+        drive.old.store.table counted.now.objects.items frame) }
+    ensures same { drive.new ≡ drive.old }
 {
-    counted.held >= 1 && counted.blocks < PAYLOAD_BLOCKS
+    // that frame alone gives more, so that the others needn't be looked at
+    if counted.blocks < PAYLOAD_BLOCKS {
+        return true;
+    }
+    counted.blocks < PAYLOAD_BLOCKS * frames_emptied(drive, counted.objects.as_slice(), frame)
 }
 
 /// Whether a frame can be freed at a gain: it is sealed and holds something, the moves out of it
-/// write fewer blocks than it has, by these counts of objects, and some frame is free. The drive is
-/// as before.
+/// write fewer blocks than the frames have that they empty, by these counts of objects, and no more
+/// than the free frames have. The drive is as before.
 pub(crate) fn can_be_freed<J: Naming>(
     drive: &mut Drive<J>,
     counts: &ObjectMap<usize>,
@@ -169,11 +154,14 @@ pub(crate) fn can_be_freed<J: Naming>(
         (CanBeFreed counts.now.values drive.old frame → ⊥) }
     ensures same { drive.new ≡ drive.old }
 {
+    if !is_sealed_now(drive, frame) {
+        return false;
+    }
     let Some(counted) = count_of(drive, counts, frame) else {
         return false;
     };
-    if !is_little(&counted) {
+    if !fits(drive, &counted) {
         return false;
     }
-    is_sealed_now(drive, frame) && free_frames(drive) > 0
+    gains(drive, &counted, frame)
 }

@@ -2,12 +2,13 @@
 //!
 //! The layers above may rely on this: whatever [`compact`] answers, the history and every version
 //! that can be read stay. It takes turns of the cleaner and of moves, until a whole one frees
-//! nothing: all objects are cleaned, and then each frame is emptied and freed that is by fewer
-//! blocks than it has. So each leaves more places ahead than there were. Unlike the copier it needs
-//! no room beyond the reserve, and counts exactly what a move writes. Where it succeeds, a drive
-//! has no less room than before; where the cleaner wrote more than could be freed it is refused,
-//! and [`compact_by_moves`] makes the room that moves alone give. The report has what all turns
-//! did, and how they ended. [`past_blocks`] says whether hiding moments would give more.
+//! nothing: all objects are cleaned, and then each frame is emptied whose moves write fewer blocks
+//! than the frames have that hold nothing then, and these are freed. So each leaves more places
+//! ahead than there were. Unlike the copier it needs no room beyond the reserve, and counts exactly
+//! what a move writes. Where it succeeds, a drive has no less room than before; where the cleaner
+//! wrote more than could be freed it is refused. [`compact_by_moves`] makes the room that moves
+//! alone give, which may be more. The report has what all turns did, and how they ended.
+//! [`past_blocks`] says whether hiding moments would give more.
 #![tactic(auto)]
 
 mod choices;
@@ -15,6 +16,7 @@ mod cleaning;
 mod compacting;
 mod counts;
 mod emptying;
+mod frames;
 mod freeing;
 mod past;
 mod turns;

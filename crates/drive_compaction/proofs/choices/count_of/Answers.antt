@@ -1,4 +1,4 @@
-use Rattle.std.proofs.Common.{◌≡◌, ◌+◌, ℕ, List, refl, sym, ap, subst, ◌∙◌, arith}
+use Rattle.std.proofs.Common.{◌≡◌, ◌+◌, ◌<◌, ℕ, List, length, refl, sym, ap, subst, ◌∙◌, arith}
 use Rattle.std.specs.Prelude.{option_map}
 use Rattle.segment_word.specs.Layout.{frame_at}
 use Rattle.segment_table.specs.Table.{Table, held_at, role_of}
@@ -6,7 +6,7 @@ use Rattle.drive.specs.Fields.{DriveFields}
 use Rattle.segment_copier.specs.Choosing.{IsLife}
 use Rattle.drive_compaction.specs.declared.choices.Counted.{Counted}
 use Rattle.drive_compaction.specs.private.Counting.{IsCounted}
-use Rattle.drive_compaction.proofs.Counting.{CountsTo, counted_with, counted_without, held_counted, blocks_counted}
+use Rattle.drive_compaction.proofs.Counting.{CountsTo, counted_with, counted_without, held_counted, blocks_counted, few_counted, objects_counted}
 use Rattle.drive_compaction.proofs.choices.count_of.Goals as goal
 use Rattle.drive_compaction.proofs.choices.count_of.Goals.{in-Some, in_default}
 
@@ -41,8 +41,11 @@ returns-clause-some g c =
     let generation : c.in_ok-generation.generation ≡ (frame_at d.store.table.seat.frames c.args.frame).generation =
     subst (λ (e : DriveFields). c.in_ok-generation.generation ≡ (frame_at e.store.table.seat.frames c.args.frame).generation) (sym c.generation.ensures.same) c.in_ok-generation.ensures.generation in
     let counted : IsCounted counts d c.args.frame c.loop-index.so_far = record {
+      inside = subst (λ (e : DriveFields). c.args.frame < length e.store.table.seat.frames) (sym c.generation.ensures.same) c.in_ok-generation.ensures.inside;
       life = subst (λ (x : ℕ). IsLife x) generation (c.loop-index.invariant.life (omega arith));
       held = held_counted counts d.store.table c.args.frame n c.loop-index.so_far (omega arith) c.loop-index.invariant.counts;
       blocks = blocks_counted counts d.store.table c.args.frame n c.loop-index.so_far (omega arith) c.loop-index.invariant.counts;
+      few = few_counted counts d.store.table c.args.frame n c.loop-index.so_far (omega arith) c.loop-index.invariant.counts;
+      objects = objects_counted counts d.store.table c.args.frame n c.loop-index.so_far (omega arith) c.loop-index.invariant.counts;
     } in
     subst (λ (e : DriveFields). IsCounted counts e c.args.frame c.loop-index.so_far) c.generation.ensures.same counted
