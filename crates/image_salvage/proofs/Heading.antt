@@ -14,7 +14,7 @@ use Rattle.journal_chain.specs.Chain.{journal_of, journal_held}
 use Rattle.checkpoint.specs.Held.{spelled_checkpoint, checkpoint_in, checkpoint_held}
 use Rattle.image_objects.specs.declared.rows.ImageRow.{ImageRow}
 use Rattle.image_salvage.specs.declared.newest.Note.{Note}
-use Rattle.image_salvage.specs.Heads.{checkpoint_note, MakesByCheckpoint, row_behind, row_alone, LeadsOn, blocks_kept, Keeps, MakesRow, head_note, last_of, MakesByJournal, MakesHead}
+use Rattle.image_salvage.specs.Heads.{checkpoint_note, MakesByCheckpoint, row_from, row_alone, LeadsOn, blocks_kept, CountsKept, MakesRow, head_note, last_of, MakesByJournal, MakesHead}
 
 one_of : {A : Type 0} (x y : A) (found : Option A) → found ≡ Some x → found ≡ Some y → y ≡ x
 one_of x y found is other = (let same : ◌≡◌ {A = Option _} (Some y) (Some x) = sym other ∙ is in cc)
@@ -55,16 +55,16 @@ makes_checkpoint used p object block found note held of decodes is = record {
 
 -- ---- the rows of journal blocks
 
-keeps_once : (used : Place → Option Stored) (row : ImageRow) (kept other : ℕ) → Keeps used row kept → Keeps used row other → other ≡ kept
+keeps_once : (used : Place → Option Stored) (row : ImageRow) (kept other : ℕ) → CountsKept used row kept → CountsKept used row other → other ≡ kept
 keeps_once used row kept other (inl a) (inl b) = b.1 ∙ sym a.1
 keeps_once used row kept other (inl a) (inr b) = absurd (b.0 a.0)
 keeps_once used row kept other (inr a) (inl b) = absurd (a.0 b.0)
 keeps_once used row kept other (inr a) (inr b) = b.1 ∙ sym a.1
 
-alone_once : (used : Place → Option Stored) (o : ℕ) (p : Place) (row later : ImageRow) (kept other : ℕ) → (row ≡ row_alone o p) × Keeps used row kept → (later ≡ row_alone o p) × Keeps used later other → (later ≡ row) × (other ≡ kept)
+alone_once : (used : Place → Option Stored) (o : ℕ) (p : Place) (row later : ImageRow) (kept other : ℕ) → (row ≡ row_alone o p) × CountsKept used row kept → (later ≡ row_alone o p) × CountsKept used later other → (later ≡ row) × (other ≡ kept)
 alone_once used o p row later kept other a b =
     let same : later ≡ row = b.0 ∙ sym a.0 in
-    (same, keeps_once used row kept other a.1 (subst (λ (r : ImageRow). Keeps used r other) same b.1))
+    (same, keeps_once used row kept other a.1 (subst (λ (r : ImageRow). CountsKept used r other) same b.1))
 
 made_once : (used : Place → Option Stored) (checkpoint : Option Note) (o : ℕ) (p : Place) (row later : ImageRow) (kept other : ℕ) → MakesRow used checkpoint o p row kept → MakesRow used checkpoint o p later other → (later ≡ row) × (other ≡ kept)
 made_once used None o p row later kept other a b = alone_once used o p row later kept other a b
@@ -76,20 +76,20 @@ made_once used (Some c) o p row later kept other (inr a) (inl b) = absurd (a.0 (
 made_once used (Some c) o p row later kept other (inr a) (inr b) = alone_once used o p row later kept other (a.1, a.2) (b.1, b.2)
 
 -- without a checkpoint
-pub made_alone : (used : Place → Option Stored) (checkpoint : Option Note) (o : ℕ) (p : Place) (row : ImageRow) (kept : ℕ) → checkpoint ≡ None → row ≡ row_alone o p → Keeps used row kept → MakesRow used checkpoint o p row kept
+pub made_alone : (used : Place → Option Stored) (checkpoint : Option Note) (o : ℕ) (p : Place) (row : ImageRow) (kept : ℕ) → checkpoint ≡ None → row ≡ row_alone o p → CountsKept used row kept → MakesRow used checkpoint o p row kept
 made_alone used None o p row kept none is keeps = (is, keeps)
 made_alone used (Some c) o p row kept none is keeps = absurd (cc)
 
--- with one whose row leads to none
-pub made_lost : (used : Place → Option Stored) (checkpoint : Option Note) (c : Note) (o : ℕ) (p : Place) (first row : ImageRow) (kept : ℕ) → checkpoint ≡ Some c → first ≡ row_behind c.row p → (LeadsOn used first → ⊥) → row ≡ row_alone o p
-    → Keeps used row kept → MakesRow used checkpoint o p row kept
+-- with one whose row gives none
+pub made_lost : (used : Place → Option Stored) (checkpoint : Option Note) (c : Note) (o : ℕ) (p : Place) (first row : ImageRow) (kept : ℕ) → checkpoint ≡ Some c → first ≡ row_from c.row p → (LeadsOn used first → ⊥) → row ≡ row_alone o p
+    → CountsKept used row kept → MakesRow used checkpoint o p row kept
 made_lost used checkpoint c o p first row kept has of lost is keeps =
     subst (λ (found : Option Note). MakesRow used found o p row kept) (sym has) (inr ((λ leads. lost (subst (LeadsOn used) (sym of) leads)), is, keeps))
 
--- with one whose row leads to an inode
-pub made_behind : (used : Place → Option Stored) (checkpoint : Option Note) (c : Note) (o : ℕ) (p : Place) (row : ImageRow) (kept : ℕ) → checkpoint ≡ Some c → row ≡ row_behind c.row p → LeadsOn used row → kept ≡ blocks_kept used row
+-- with one whose row gives an inode
+pub made_from : (used : Place → Option Stored) (checkpoint : Option Note) (c : Note) (o : ℕ) (p : Place) (row : ImageRow) (kept : ℕ) → checkpoint ≡ Some c → row ≡ row_from c.row p → LeadsOn used row → kept ≡ blocks_kept used row
     → MakesRow used checkpoint o p row kept
-made_behind used checkpoint c o p row kept has of leads keeps = subst (λ (found : Option Note). MakesRow used found o p row kept) (sym has) (inl (of, leads, keeps))
+made_from used checkpoint c o p row kept has of leads keeps = subst (λ (found : Option Note). MakesRow used found o p row kept) (sym has) (inl (of, leads, keeps))
 
 -- ---- journal blocks
 

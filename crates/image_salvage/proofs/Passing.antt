@@ -1,5 +1,5 @@
--- Objects that no row leads to, one by one.
-use Rattle.std.proofs.Common.{◌≡◌, ◌⊎◌, inl, inr, ℕ, ◌<◌, ◌≤◌, ◌++◌, if◌then◌else◌, Bool, true, false, List, [], ◌∷◌, Option, Some, None, refl, sym, ap, subst, ◌∙◌, arith}
+-- Objects that no row gives, one by one.
+use Rattle.std.proofs.Common.{◌≡◌, ◌⊎◌, inl, inr, ℕ, ◌<◌, ◌≤◌, ◌++◌, if◌then◌else◌, Bool, true, false, List, [], ◌∷◌, Option, Some, None, is_some, refl, sym, ap, subst, ◌∙◌, arith}
 use Rattle.std.specs.List.{Contains}
 use Rattle.std.proofs.lemmas.Bool.{cases_eq, cases_lt, eq-eqb, ne_eqb, both_ways}
 use Rattle.std.proofs.lemmas.List.Elements.{Contains-push, Contains-push_cases, Contains-append_left}
@@ -11,6 +11,7 @@ use Rattle.image_parts.specs.declared.rows.RowPart.{RowPart}
 use Rattle.image_salvage.specs.declared.newest.Note.{Note}
 use Rattle.image_salvage.specs.declared.unlisted.Unlisted.{Unlisted}
 use Rattle.image_salvage.specs.Rows.{IsThere, IsLost}
+use Rattle.image_salvage.specs.LeftOut.{cut_moment}
 use Rattle.image_salvage.specs.Newest.{AreNewest}
 use Rattle.image_salvage.specs.Heads.{LeadsOn, MakesByCheckpoint, MakesHead}
 use Rattle.image_salvage.specs.Unlisted.{unlisted_inode, IsFound, IsListed, ObjectsAscend, FindsUnlisted}
@@ -80,14 +81,14 @@ ascend_all low last (u ∷ found) is = (is.0, ascend_all u.object last found is.
 
 -- those up to a number were found
 pub record FoundTo (used : Place → Option Stored) (heads : ℕ → Option Note) (last : ℕ) (found : List Unlisted) : Type 0 where
-  pub only : (u : Unlisted) → Contains found u → (u.object ≤ last) × IsFound used heads u.object u.inode
-  pub each : (o : ℕ) (inode : Inode) → o ≤ last → IsFound used heads o inode → Contains found (record { object = o; inode = inode })
+  pub only : (u : Unlisted) → Contains found u → (u.object ≤ last) × IsFound used heads u
+  pub each : (u : Unlisted) → u.object ≤ last → IsFound used heads u → Contains found u
   pub ascend : AscendTo 0 last found
 
 pub none_found_yet : (used : Place → Option Stored) (heads : ℕ → Option Note) (found : List Unlisted) → found ≡ [] → FoundTo used heads 0 found
 none_found_yet used heads found none = subst (FoundTo used heads 0) (sym none) (record {
   only = λ u has. absurd (let h : has.0 < 0 = has.1 in omega (arith, h));
-  each = λ o inode low is. absurd (let h : 0 < o = is.numbered in omega (arith, low, h));
+  each = λ u low is. absurd (let h : 0 < u.object = is.numbered in omega (arith, low, h));
   ascend = omega arith;
 })
 
@@ -98,15 +99,24 @@ one_of : {A : Type 0} (x y : A) (found : Option A) → found ≡ Some x → foun
 one_of x y found is other = (let same : ◌≡◌ {A = Option _} (Some y) (Some x) = sym other ∙ is in cc)
 
 -- what is found of an object is one
-one_found : (used : Place → Option Stored) (heads : ℕ → Option Note) (o : ℕ) (inode other : Inode) → IsFound used heads o inode → IsFound used heads o other → other ≡ inode
-one_found used heads o inode other a b = b.inode_is ∙ ap (λ (n : Note). unlisted_inode used n.row) (one_of a.head b.head (heads o) a.is b.is) ∙ sym a.inode_is
+same_head : (used : Place → Option Stored) (heads : ℕ → Option Note) (u v : Unlisted) → v.object ≡ u.object → (a : IsFound used heads u) (b : IsFound used heads v) → b.head ≡ a.head
+same_head used heads u v object a b = one_of a.head b.head (heads u.object) a.is (subst (λ (o : ℕ). heads o ≡ Some b.head) object b.is)
+
+one_found : (used : Place → Option Stored) (heads : ℕ → Option Note) (u v : Unlisted) → v.object ≡ u.object → IsFound used heads u → IsFound used heads v → v ≡ u
+one_found used heads u v object a b =
+    let head : b.head ≡ a.head = same_head used heads u v object a b in
+    let inode : v.inode ≡ u.inode = b.inode_is ∙ ap (λ (n : Note). unlisted_inode used n.row) head ∙ sym a.inode_is in
+    let left_out : v.left_out ≡ u.left_out = b.left_out_is ∙ ap (λ (n : Note). is_some (cut_moment used n.row)) head ∙ sym a.left_out_is in
+    ap (λ (o : ℕ). record { object = o; inode = v.inode; left_out = v.left_out }) object
+    ∙ ap (λ (i : Inode). record { object = u.object; inode = i; left_out = v.left_out }) inode
+    ∙ ap (λ (b : Bool). record { object = u.object; inode = u.inode; left_out = b }) left_out
 
 -- between the last number and the next one nothing is
-found_low : (entries : List (ℕ × Note)) (last next o : ℕ) (used : Place → Option Stored) (inode : Inode) → IsNextAbove entries last next → o ≤ next → IsFound used (value_of entries) o inode → (o ≤ last) ⊎ (o ≡ next)
-found_low entries last next o used inode is low found = elim (cases_eq o next) [
+found_low : (entries : List (ℕ × Note)) (last next : ℕ) (used : Place → Option Stored) (u : Unlisted) → IsNextAbove entries last next → u.object ≤ next → IsFound used (value_of entries) u → (u.object ≤ last) ⊎ (u.object ≡ next)
+found_low entries last next used u is low found = elim (cases_eq u.object next) [
   | inl at ↦ inr at
-  | inr ne ↦ (elim (cases_lt last o) [
-    | inl above ↦ some_none found.head (value_of entries o) found.is (is.least o above (omega (arith, low, ne)))
+  | inr ne ↦ (elim (cases_lt last u.object) [
+    | inl above ↦ some_none found.head (value_of entries u.object) found.is (is.least u.object above (omega (arith, low, ne)))
     | inr past ↦ inl past
   ])
 ]
@@ -114,27 +124,27 @@ found_low entries last next o used inode is low found = elim (cases_eq o next) [
 pub found_next : (used : Place → Option Stored) (entries : List (ℕ × Note)) (last next : ℕ) (found later : List Unlisted) → FoundTo used (value_of entries) last found → IsNextAbove entries last next → AddsFound used (value_of entries) next found later
     → FoundTo used (value_of entries) next later
 found_next used entries last next found later to is (inl adds) =
-    let u : Unlisted = record { object = next; inode = adds.0 } in
+    let u : Unlisted = adds.0 in
+    let at : u.object ≡ next = adds.1 in
     let above : last < next = is.above in
-    subst (FoundTo used (value_of entries) next) (sym adds.2) (record {
+    subst (FoundTo used (value_of entries) next) (sym adds.3) (record {
       only = λ v has. elim (Contains-push_cases found u v has) [
         | inl before ↦ (let was = to.only v before in (omega (arith, was.0, above), was.1))
-        | inr at ↦ subst (λ (w : Unlisted). (w.object ≤ next) × IsFound used (value_of entries) w.object w.inode) at (omega arith, adds.1)
+        | inr same ↦ subst (λ (w : Unlisted). (w.object ≤ next) × IsFound used (value_of entries) w) same (omega (arith, at), adds.2)
       ];
-      each = λ o inode low here. elim (found_low entries last next o used inode is low here) [
-        | inl past ↦ Contains-append_left found (u ∷ []) (record { object = o; inode = inode }) (to.each o inode past here)
-        | inr at ↦ (let same : inode ≡ adds.0 = one_found used (value_of entries) next adds.0 inode adds.1 (subst (λ (n : ℕ). IsFound used (value_of entries) n inode) at here) in
-            subst (Contains (found ++ u ∷ [])) (ap (λ (n : ℕ). record { object = n; inode = adds.0 }) (sym at) ∙ ap (λ (i : Inode). record { object = o; inode = i }) (sym same)) (Contains-push found u))
+      each = λ v low here. elim (found_low entries last next used v is low here) [
+        | inl past ↦ Contains-append_left found (u ∷ []) v (to.each v past here)
+        | inr there ↦ subst (Contains (found ++ u ∷ [])) (sym (one_found used (value_of entries) u v (there ∙ sym at) adds.2 here)) (Contains-push found u)
       ];
-      ascend = ascend_push 0 last found u above to.ascend;
+      ascend = subst (λ (n : ℕ). AscendTo 0 n (found ++ u ∷ [])) at (ascend_push 0 last found u (omega (arith, above, at)) to.ascend);
     })
 found_next used entries last next found later to is (inr none) =
     let above : last < next = is.above in
     subst (FoundTo used (value_of entries) next) (sym none.1) (record {
       only = λ v has. (let was = to.only v has in (omega (arith, was.0, above), was.1));
-      each = λ o inode low here. elim (found_low entries last next o used inode is low here) [
-        | inl past ↦ to.each o inode past here
-        | inr at ↦ absurd (none.0 inode (subst (λ (n : ℕ). IsFound used (value_of entries) n inode) at here))
+      each = λ v low here. elim (found_low entries last next used v is low here) [
+        | inl past ↦ to.each v past here
+        | inr at ↦ absurd (none.0 v at here)
       ];
       ascend = ascend_on 0 last next found (omega (arith, above)) to.ascend;
     })
@@ -142,11 +152,11 @@ found_next used entries last next found later to is (inr none) =
 -- none is above the last number
 pub found_all : (used : Place → Option Stored) (heads : ℕ → Option Note) (last : ℕ) (found : List Unlisted) → FoundTo used heads last found → ((o : ℕ) → last < o → heads o ≡ None) → AreFoundAll used heads found
 found_all used heads last found to none = record {
-  all = λ o inode. (
-    (λ has. (to.only (record { object = o; inode = inode }) has).1),
-    (λ is. elim (cases_lt last o) [
-      | inl above ↦ some_none is.head (heads o) is.is (none o above)
-      | inr low ↦ to.each o inode low is
+  all = λ u. (
+    (λ has. (to.only u has).1),
+    (λ is. elim (cases_lt last u.object) [
+      | inl above ↦ some_none is.head (heads u.object) is.is (none u.object above)
+      | inr low ↦ to.each u low is
     ]),
   );
   ascend = ascend_all 0 last found to.ascend;
@@ -154,29 +164,44 @@ found_all used heads last found to none = record {
 
 -- ---- one object
 
-pub nothing_there : (used : Place → Option Stored) (heads : ℕ → Option Note) (o : ℕ) (found : List Unlisted) → heads o ≡ None → AddsFound used heads o found found
-nothing_there used heads o found none = inr ((λ inode is. some_none is.head (heads o) is.is none), refl)
+head_at : (used : Place → Option Stored) (heads : ℕ → Option Note) (o : ℕ) (head : Note) (u : Unlisted) → heads o ≡ Some head → u.object ≡ o → (is : IsFound used heads u) → is.head ≡ head
+head_at used heads o head u has object is = one_of head is.head (heads o) has (subst (λ (n : ℕ). heads n ≡ Some is.head) object is.is)
 
-pub leads_nowhere : (used : Place → Option Stored) (heads : ℕ → Option Note) (o : ℕ) (head : Note) (found : List Unlisted) → heads o ≡ Some head → (LeadsOn used head.row → ⊥) → AddsFound used heads o found found
-leads_nowhere used heads o head found has nowhere = inr ((λ inode is. nowhere (subst (λ (n : Note). LeadsOn used n.row) (one_of head is.head (heads o) has is.is) is.leads)), refl)
+pub nothing_there : (used : Place → Option Stored) (heads : ℕ → Option Note) (o : ℕ) (found : List Unlisted) → heads o ≡ None → AddsFound used heads o found found
+nothing_there used heads o found none = inr ((λ u object is. some_none is.head (heads o) (subst (λ (n : ℕ). heads n ≡ Some is.head) object is.is) none), refl)
+
+pub gives_none : (used : Place → Option Stored) (heads : ℕ → Option Note) (o : ℕ) (head : Note) (found : List Unlisted) → heads o ≡ Some head → (LeadsOn used head.row → ⊥) → AddsFound used heads o found found
+gives_none used heads o head found has nowhere = inr ((λ u object is. nowhere (subst (λ (n : Note). LeadsOn used n.row) (head_at used heads o head u has object is) is.leads)), refl)
 
 pub is_deleted : (used : Place → Option Stored) (heads : ℕ → Option Note) (o : ℕ) (head : Note) (inode : Inode) (found : List Unlisted) → heads o ≡ Some head → inode ≡ unlisted_inode used head.row → inode.alive ≡ false → AddsFound used heads o found found
 is_deleted used heads o head inode found has same dead = inr (
-  (λ other is.
+  (λ u object is.
       both_ways inode.alive dead
-      (ap (λ (i : Inode). i.alive) (same ∙ ap (λ (n : Note). unlisted_inode used n.row) (sym (one_of head is.head (heads o) has is.is)) ∙ sym is.inode_is) ∙ is.live)),
+      (ap (λ (i : Inode). i.alive) (same ∙ ap (λ (n : Note). unlisted_inode used n.row) (sym (head_at used heads o head u has object is)) ∙ sym is.inode_is) ∙ is.live)),
   refl,
 )
 
-pub is_added : (used : Place → Option Stored) (heads : ℕ → Option Note) (o : ℕ) (head : Note) (inode : Inode) (found later : List Unlisted) → 0 < o → heads o ≡ Some head → LeadsOn used head.row → inode ≡ unlisted_inode used head.row → inode.alive ≡ true
-    → later ≡ found ++ record { object = o; inode = inode } ∷ [] → AddsFound used heads o found later
-is_added used heads o head inode found later above has leads same live more =
-    inl (inode, record { numbered = above; head = head; is = has; leads = leads; inode_is = same; live = live }, more)
+pub is_added : (used : Place → Option Stored) (heads : ℕ → Option Note) (o : ℕ) (head : Note) (u : Unlisted) (found later : List Unlisted) → 0 < o → u.object ≡ o → heads o ≡ Some head → LeadsOn used head.row → u.inode ≡ unlisted_inode used head.row
+    → u.left_out ≡ is_some (cut_moment used head.row) → u.inode.alive ≡ true → later ≡ found ++ u ∷ [] → AddsFound used heads o found later
+is_added used heads o head u found later above object has leads same left_out live more = inl (
+  u,
+  object,
+  record {
+    numbered = omega (arith, above, object);
+    head = head;
+    is = subst (λ (n : ℕ). heads n ≡ Some head) (sym object) has;
+    leads = leads;
+    inode_is = same;
+    left_out_is = left_out;
+    live = live;
+  },
+  more,
+)
 
 -- ---- all of an image
 
-found_left : (used : Place → Option Stored) (heads left : ℕ → Option Note) (o : ℕ) (inode : Inode) → left o ≡ heads o → IsFound used heads o inode → IsFound used left o inode
-found_left used heads left o inode same is = record { numbered = is.numbered; head = is.head; is = same ∙ is.is; leads = is.leads; inode_is = is.inode_is; live = is.live }
+found_left : (used : Place → Option Stored) (heads left : ℕ → Option Note) (u : Unlisted) → left u.object ≡ heads u.object → IsFound used heads u → IsFound used left u
+found_left used heads left u same is = record { numbered = is.numbered; head = is.head; is = same ∙ is.is; leads = is.leads; inode_is = is.inode_is; left_out_is = is.left_out_is; live = is.live }
 
 pub finds_unlisted : (used : Place → Option Stored) (rows : List RowPart) (checkpoints heads left : ℕ → Option Note) (found : List Unlisted) → AreNewest (MakesByCheckpoint used) 16384 checkpoints → AreNewest (MakesHead used checkpoints) 16384 heads
     → AreLeft used rows heads left → AreFoundAll used left found → FindsUnlisted used rows found
@@ -185,14 +210,14 @@ finds_unlisted used rows checkpoints heads left found newest latest out are = re
   newest_checkpoints = newest;
   heads = heads;
   newest_heads = latest;
-  all = λ o inode. (
-    (λ has. (let is = (are.all o inode).0 has in elim (out o) [
-      | inl listed ↦ some_none is.head (left o) is.is listed.1
-      | inr unlisted ↦ (unlisted.0, found_left used left heads o inode (sym unlisted.1) is)
+  all = λ u. (
+    (λ has. (let is = (are.all u).0 has in elim (out u.object) [
+      | inl listed ↦ some_none is.head (left u.object) is.is listed.1
+      | inr unlisted ↦ (unlisted.0, found_left used left heads u (sym unlisted.1) is)
     ])),
-    (λ is. (are.all o inode).1 (elim (out o) [
+    (λ is. (are.all u).1 (elim (out u.object) [
       | inl listed ↦ absurd (is.0 listed.0)
-      | inr unlisted ↦ found_left used heads left o inode unlisted.1 is.1
+      | inr unlisted ↦ found_left used heads left u unlisted.1 is.1
     ])),
   );
   ascend = are.ascend;

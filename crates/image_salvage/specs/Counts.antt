@@ -9,10 +9,11 @@ abbrev pub given_data : GivenOut → Data
 given_data g =
     object (member (codes "blocks_gone") (number (unsigned g.blocks_gone))
     (member (codes "damaged") (boolean g.damaged)
+    (member (codes "left_out") (number (unsigned g.left_out))
     (member (codes "lost_frames") (number (unsigned g.lost_frames))
     (member (codes "lost_objects") (number (unsigned g.lost_objects))
     (member (codes "objects") (number (unsigned g.objects))
-    (member (codes "unlisted") (number (unsigned g.unlisted)) no_members))))))
+    (member (codes "unlisted") (number (unsigned g.unlisted)) no_members)))))))
 
 -- the line of it
 abbrev pub given_line : GivenOut → List ℕ

@@ -1,6 +1,6 @@
 -- What is given out of a salvaged image: the files of a folder, and the counts.
 use Rattle.std.specs.Prelude.{◌≡◌, ℕ, ◌+◌, ◌-◌, ◌^◌, ◌==◌, ◌&&◌, not, min, nat_lt, is_some, if◌then◌else◌, Bool, List, [], ◌∷◌, length, Option, Some, None}
-use Rattle.std.specs.List.{AllZip}
+use Rattle.std.specs.List.{AllZip, count_by}
 use Rattle.std.specs.Option.{option_map}
 use Rattle.s4_types.specs.Pointer.{Place}
 use Rattle.block_log.specs.Log.{Stored}
@@ -22,7 +22,7 @@ use Rattle.image_salvage.specs.Salvaging.{SalvageFields}
 
 -- ---- one row
 
--- What becomes of a row, behind the object that was given out last. A deleted object has no file. A row that leads to no inode is lost, and
+-- What becomes of a row, behind the object that was given out last. A deleted object has no file. A row that gives no inode is lost, and
 -- so is one of an object that isn't above that last one: it tells again of one that was given out, or is out of order.
 abbrev pub fate_by : ℕ → ℕ → Option Inode → Fate
 fate_by last o None = Lost
@@ -44,6 +44,7 @@ with_given o gone g = record {
   lost_objects = g.lost_objects;
   lost_frames = g.lost_frames;
   unlisted = g.unlisted;
+  left_out = g.left_out;
   damaged = g.damaged;
 }
 
@@ -56,6 +57,7 @@ with_lost g = record {
   lost_objects = capped (g.lost_objects + 1);
   lost_frames = g.lost_frames;
   unlisted = g.unlisted;
+  left_out = g.left_out;
   damaged = g.damaged;
 }
 
@@ -85,9 +87,23 @@ with_row used g row files = with_fate used row.object (fate_of g.last row) files
 
 -- ---- all of an image
 
--- nothing is given out yet: rows may be missing and frames lost, objects may have no row, and the image may have a fault
+-- how many objects of these have a newer change that was left out
+abbrev pub left_out_of : List Unlisted → ℕ
+left_out_of unlisted = count_by (λ u. u.left_out) unlisted
+
+-- Nothing is given out yet: rows may be missing and frames lost, objects may have no row, and have changes that are left out, and the image
+-- may have a fault.
 abbrev pub none_given : SalvageFields → GivenOut
-none_given s = record { last = 0; objects = 0; blocks_gone = 0; lost_objects = s.missing; lost_frames = length s.lost; unlisted = length s.unlisted; damaged = is_some s.fault }
+none_given s = record {
+  last = 0;
+  objects = 0;
+  blocks_gone = 0;
+  lost_objects = s.missing;
+  lost_frames = length s.lost;
+  unlisted = length s.unlisted;
+  left_out = left_out_of s.unlisted;
+  damaged = is_some s.fault;
+}
 
 -- the counts with these rows more
 abbrev pub counted_all : (Place → Option Stored) → GivenOut → List Salvaged → GivenOut
@@ -104,10 +120,10 @@ abbrev pub with_frames : List ℕ → List NamedFile → List NamedFile
 with_frames [] files = files
 with_frames (frame ∷ lost) files = with_frames lost (with_bytes manifest_name (lost_frame_line frame) files)
 
--- the files with that of an object that no row leads to, and with its line at the end of the manifest
+-- the files with that of an object that no row gives, and with its line at the end of the manifest
 abbrev pub with_unlisted : (Place → Option Stored) → Unlisted → List NamedFile → List NamedFile
 with_unlisted used u files =
-    with_named (unlisted_name u.object) (salvaged_bytes used u.object u.inode) (unlisted_line (listed_of u.object u.inode) (salvaged_bytes used u.object u.inode) (blocks_gone used u.object u.inode)) files
+    with_named (unlisted_name u.object) (salvaged_bytes used u.object u.inode) (unlisted_line (listed_of u.object u.inode) (salvaged_bytes used u.object u.inode) (blocks_gone used u.object u.inode) u.left_out) files
 
 -- the files with these objects more
 abbrev pub with_all_unlisted : (Place → Option Stored) → List Unlisted → List NamedFile → List NamedFile
@@ -115,7 +131,7 @@ with_all_unlisted used [] files = files
 with_all_unlisted used (u ∷ unlisted) files = with_all_unlisted used unlisted (with_unlisted used u files)
 
 -- The files of a salvage whose rows give this: the manifest, which has a line for each lost frame, and then one for each object that is given
--- out or lost, in the order of the rows, and one for each that no row leads to; and the file of each that is given out.
+-- out or lost, in the order of the rows, and one for each that no row gives; and the file of each that is given out.
 abbrev pub salvaged_files : SalvageFields → List Salvaged → List NamedFile
 salvaged_files s rows = with_all_unlisted (used_at s.table) s.unlisted (with_rows (used_at s.table) (none_given s) rows (with_frames s.lost (with_file manifest_name [] [])))
 

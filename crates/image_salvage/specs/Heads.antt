@@ -22,7 +22,7 @@ use Rattle.image_salvage.specs.Rows.{last_moment}
 abbrev pub checkpoint_row : ℕ → Place → CheckpointFields → ImageRow
 checkpoint_row o p c = record { object = o; created = c.inode.created; checkpoint = Some p; checkpoint_moment = c.moment; head = None }
 
--- That row, with what puts it before others: the moment, and how few blocks of the inode are gone. A checkpoint is behind all entries of its
+-- That row, with what puts it before others: the moment, and how few blocks of the inode are gone. A checkpoint comes after all entries of its
 -- moment.
 abbrev pub checkpoint_note : (Place → Option Stored) → ℕ → Place → CheckpointFields → Note
 checkpoint_note used o p c = record { row = checkpoint_row o p c; moment = c.moment; step = OBJECT_BLOCKS + 1; kept = OBJECT_BLOCKS - blocks_gone used o c.inode; order = order_of p }
@@ -39,13 +39,13 @@ pub record MakesByCheckpoint (used : Place → Option Stored) (p : Place) (note 
 
 -- The rows of an object whose newest journal block is at a place: one with the checkpoint of another row, and one with none. When the object
 -- was made isn't known of the latter.
-abbrev pub row_behind : ImageRow → Place → ImageRow
-row_behind row p = record { object = row.object; created = row.created; checkpoint = row.checkpoint; checkpoint_moment = row.checkpoint_moment; head = Some p }
+abbrev pub row_from : ImageRow → Place → ImageRow
+row_from row p = record { object = row.object; created = row.created; checkpoint = row.checkpoint; checkpoint_moment = row.checkpoint_moment; head = Some p }
 
 abbrev pub row_alone : ℕ → Place → ImageRow
 row_alone o p = record { object = o; created = 0; checkpoint = None; checkpoint_moment = 0; head = Some p }
 
--- a row leads to an inode over these used blocks
+-- a row gives an inode over these used blocks: its journal is there, back to its checkpoint or to the making of its object
 abbrev pub LeadsOn : (Place → Option Stored) → ImageRow → Type 0
 LeadsOn used row = VersionChainStands used row last_moment
 
@@ -53,16 +53,16 @@ LeadsOn used row = VersionChainStands used row last_moment
 abbrev pub blocks_kept : (Place → Option Stored) → ImageRow → ℕ
 blocks_kept used row = 1 + (OBJECT_BLOCKS - blocks_gone used row.object (present_used used row))
 
--- the same where the row leads to an inode, and else 0
-abbrev pub Keeps : (Place → Option Stored) → ImageRow → ℕ → Type 0
-Keeps used row kept = (LeadsOn used row × (kept ≡ blocks_kept used row)) ⊎ ((LeadsOn used row → ⊥) × (kept ≡ 0))
+-- the same where the row gives an inode, and else 0
+abbrev pub CountsKept : (Place → Option Stored) → ImageRow → ℕ → Type 0
+CountsKept used row kept = (LeadsOn used row × (kept ≡ blocks_kept used row)) ⊎ ((LeadsOn used row → ⊥) × (kept ≡ 0))
 
--- The row that a journal block makes: with the object's newest checkpoint where that row leads to an inode, and else with none.
+-- The row that a journal block makes: with the object's newest checkpoint where that row gives an inode, and else with none.
 abbrev pub MakesRow : (Place → Option Stored) → Option Note → ℕ → Place → ImageRow → ℕ → Type 0
-MakesRow used None o p row kept = (row ≡ row_alone o p) × Keeps used row kept
+MakesRow used None o p row kept = (row ≡ row_alone o p) × CountsKept used row kept
 MakesRow used (Some checkpoint) o p row kept =
-    ((row ≡ row_behind checkpoint.row p) × LeadsOn used row × (kept ≡ blocks_kept used row))
-    ⊎ ((LeadsOn used (row_behind checkpoint.row p) → ⊥) × (row ≡ row_alone o p) × Keeps used row kept)
+    ((row ≡ row_from checkpoint.row p) × LeadsOn used row × (kept ≡ blocks_kept used row))
+    ⊎ ((LeadsOn used (row_from checkpoint.row p) → ⊥) × (row ≡ row_alone o p) × CountsKept used row kept)
 
 -- how far an entry is in its change: one more than the first index of its pointers, 0 where it has none
 abbrev pub step_by : List Triple → ℕ

@@ -11,5 +11,6 @@ pub mod Counts
 pub mod Wholeness
 pub mod Newest
 pub mod Heads
+pub mod LeftOut
 pub mod Unlisted
 pub mod private

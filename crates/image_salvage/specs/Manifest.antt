@@ -1,9 +1,9 @@
 -- The manifest of a salvage: one JSON object a line for each object that was given out, with a row or without, and for each frame and object
 -- that is lost.
-use Rattle.std.specs.Prelude.{ℕ, ◌++◌, List, length, codes, decimal}
+use Rattle.std.specs.Prelude.{ℕ, ◌++◌, Bool, List, length, codes, decimal}
 use Rattle.hex.specs.Hex.{encode_lower}
 use Rattle.sha2.specs.Sha256.{sha256}
-use Rattle.serde_json.specs.Data.{Data, number, unsigned, string, object, member, no_members}
+use Rattle.serde_json.specs.Data.{Data, boolean, number, unsigned, string, object, member, no_members}
 use Rattle.history_view.specs.declared.listing.Listed.{Listed}
 use Rattle.history_text.specs.Json.{json_line, text_data}
 use Rattle.history_export.specs.Manifest.{file_name}
@@ -25,26 +25,27 @@ salvaged_data row content gone =
 abbrev pub salvaged_line : Listed → List ℕ → ℕ → List ℕ
 salvaged_line row content gone = json_line (salvaged_data row content gone)
 
--- the name of the file of an object that no row leads to, in a folder of such files
+-- the name of the file of an object that no row gives, in a folder of such files
 abbrev pub unlisted_name : ℕ → List ℕ
 unlisted_name o = codes "unlisted/object-" ++ decimal o
 
--- an object that no row leads to, of these bytes
-abbrev pub unlisted_data : Listed → List ℕ → ℕ → Data
-unlisted_data row content gone =
+-- an object that no row gives, of these bytes, and whether a newer change of it was left out
+abbrev pub unlisted_data : Listed → List ℕ → ℕ → Bool → Data
+unlisted_data row content gone left_out =
     object (member (codes "attribute") (string (encode_lower row.attribute))
     (member (codes "attribute_text") (text_data row.attribute)
     (member (codes "blocks_gone") (number (unsigned gone))
     (member (codes "changed") (number (unsigned row.changed))
     (member (codes "created") (number (unsigned row.created))
     (member (codes "file") (string (unlisted_name row.object))
+    (member (codes "left_out") (boolean left_out)
     (member (codes "sha256") (string (encode_lower (sha256 content)))
     (member (codes "size") (number (unsigned (length content)))
-    (member (codes "unlisted_object") (number (unsigned row.object)) no_members)))))))))
+    (member (codes "unlisted_object") (number (unsigned row.object)) no_members))))))))))
 
 -- its line
-abbrev pub unlisted_line : Listed → List ℕ → ℕ → List ℕ
-unlisted_line row content gone = json_line (unlisted_data row content gone)
+abbrev pub unlisted_line : Listed → List ℕ → ℕ → Bool → List ℕ
+unlisted_line row content gone left_out = json_line (unlisted_data row content gone left_out)
 
 -- a frame that is lost: its number
 abbrev pub lost_frame_data : ℕ → Data

@@ -34,7 +34,7 @@ pub record AreRowsTo (used : Place → Option Stored) (bytes : List ℕ) (frames
   pub all : (p : ℕ) → Contains places p ↔ ((p < n) × IsRowAt used bytes frames p)
   pub ascend : AscendBelow 0 n places
 
--- These are all rows that are found in bytes, in their order: at whatever place outside of the frames that are found one leads to its object.
+-- These are all rows that are found in bytes, in their order: at whatever place outside of the frames that are found one gives its object.
 pub record FindsRows (used : Place → Option Stored) (bytes : List ℕ) (rows : List RowPart) : Type 0 where
   pub frames : List ℕ
   pub found : AreFound bytes frames

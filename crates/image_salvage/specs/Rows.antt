@@ -20,7 +20,7 @@ pub record IsPresentOf (used : Place → Option Stored) (part : RowPart) (inode 
   pub stands : VersionChainStands used row last_moment
   pub present : inode ≡ present_used used row
 
--- it leads to one
+-- it gives one
 abbrev pub IsThere : (Place → Option Stored) → RowPart → Type 0
 IsThere used part = (inode : Inode) × IsPresentOf used part inode
 

@@ -17,7 +17,7 @@ use Rattle.image_salvage.specs.Unlisted.{FindsUnlisted, FindsUnlistedBy}
 use Rattle.image_salvage.specs.declared.unlisted.Unlisted.{Unlisted}
 
 -- the first fault of an image, if it has one; its rows; how many more its header counts; the table of the frames by which rows are read; the
--- numbers of the frames that break a rule; and the objects that no row leads to
+-- numbers of the frames that break a rule; and the objects that no row gives
 pub record SalvageFields : Type 0 where
   pub fault : Option Cause
   pub rows : List RowPart
@@ -70,7 +70,7 @@ pub record IsSalvageOf (bytes : List ℕ) (s : SalvageFields) : Type 0 where
   pub unlisted_are : FindsUnlistedBy s.fault (used_at s.table) s.rows s.unlisted
   pub of : IsSalvageOfParts bytes s ⊎ IsSalvageOfBytes bytes s
 
--- Neither a row is found in bytes, nor an object that no row leads to, over the frames that are found in them.
+-- Neither a row is found in bytes, nor an object that no row gives, over the frames that are found in them.
 pub record HasNothing (bytes : List ℕ) : Type 0 where
   pub table : Table
   pub finds : Finds bytes table

@@ -12,13 +12,15 @@ fn given_value(alloc: Global, given: &GivenOut) -> Result<Value, AllocError>
     ensures { IfOk result (λ value. view value ≡ given_data given.now) }
 {
     let (objects, gone, damaged) = (given.objects, given.blocks_gone, given.damaged);
-    let (lost, frames, unlisted) = (given.lost_objects, given.lost_frames, given.unlisted);
+    let (lost, frames) = (given.lost_objects, given.lost_frames);
+    let (unlisted, left_out) = (given.unlisted, given.left_out);
     json!(in alloc; {
         "objects": objects,
         "blocks_gone": gone,
         "lost_objects": lost,
         "lost_frames": frames,
         "unlisted": unlisted,
+        "left_out": left_out,
         "damaged": damaged
     })
 }

@@ -7,7 +7,7 @@ ghost use Rattle.history_export.specs.Manifest.{manifest_name};
 ghost use Rattle.history_export.specs.Exports.{Explains, IsOfWriting};
 ghost use Rattle.image_salvage.specs.Contents.{blocks_gone};
 ghost use Rattle.image_salvage.specs.Manifest.{lost_object_line};
-ghost use Rattle.image_salvage.specs.Giving.{GivesOut, GivesRows, counted, fate_of, is_whole, none_given, with_frames, with_given, with_lost, with_row, with_salvaged, with_unlisted, with_all_unlisted};
+ghost use Rattle.image_salvage.specs.Giving.{GivesOut, GivesRows, counted, fate_of, is_whole, left_out_of, none_given, with_frames, with_given, with_lost, with_row, with_salvaged, with_unlisted, with_all_unlisted};
 ghost use Rattle.image_salvage.specs.Wholeness.{IsGivenWhole};
 
 use crate::manifest::{
@@ -31,12 +31,14 @@ pub struct GivenOut {
     pub objects: u64,
     /// How many blocks of these are gone, for which zeros stand.
     pub blocks_gone: u64,
-    /// How many rows gave no object: they lead to none, or name one again or out of order, or aren't found though the header counts them.
+    /// How many rows gave no object: they give none, or name one again or out of order, or aren't found though the header counts them.
     pub lost_objects: u64,
     /// How many frames are lost.
     pub lost_frames: u64,
-    /// How many objects were given out beside these, to which no row leads. Their blocks that are gone aren't counted above.
+    /// How many objects were given out beside these that no row gives. Their blocks that are gone aren't counted above.
     pub unlisted: u64,
+    /// Of how many of these a newer change was left out, since it may not be there whole.
+    pub left_out: u64,
     /// Whether the bytes are no image.
     pub damaged: bool,
 }
@@ -61,6 +63,7 @@ impl GivenOut {
             lost_objects: self.lost_objects,
             lost_frames: self.lost_frames,
             unlisted: self.unlisted,
+            left_out: self.left_out,
             damaged: self.damaged,
         }
     }
@@ -76,6 +79,7 @@ impl GivenOut {
             lost_objects: self.lost_objects.saturating_add(1),
             lost_frames: self.lost_frames,
             unlisted: self.unlisted,
+            left_out: self.left_out,
             damaged: self.damaged,
         }
     }
@@ -109,7 +113,7 @@ fn fate_of(last: ObjectId, row: &Salvaged) -> Fate
 
 /// Writes each object that was salvaged into an empty folder, as a file of its bytes, and what each file is into a manifest, one line of
 /// JSON for each, in the order of the rows. Lines in front tell of the frames that are lost, and lines between of the objects. An object
-/// that was deleted has neither. Objects to which no row leads come last, in a folder of their own.
+/// that was deleted has neither. Objects that no row gives come last, in a folder of their own.
 ///
 /// Where what was given out is whole, each object of the image is in the folder, with all of its bytes, and none of its blocks is gone.
 ///
@@ -165,8 +169,15 @@ fn give_rows<F: Folder>(
     Ok(given)
 }
 
-// Nothing is given out of an image yet: what is known are its missing rows, its lost frames, the objects that no row leads to, and whether it
-// has a fault.
+// How many objects of these have a newer change that was left out.
+fn left_out_of(unlisted: &[Unlisted]) -> u64
+    ensures { result ≡ left_out_of unlisted.now }
+{
+    unlisted.iter().filter(|it| it.left_out).count() as u64
+}
+
+// Nothing is given out of an image yet: what is known are its missing rows, its lost frames, the objects that no row gives, how many changes of
+// these were left out, and whether it has a fault.
 fn none_given(image: &SalvagedImage) -> GivenOut
     ensures { result ≡ none_given image.now }
 {
@@ -177,6 +188,7 @@ fn none_given(image: &SalvagedImage) -> GivenOut
         lost_objects: image.missing_rows(),
         lost_frames: image.lost_frames().len() as u64,
         unlisted: image.unlisted().len() as u64,
+        left_out: left_out_of(image.unlisted()),
         damaged: image.fault().is_some(),
     }
 }
@@ -242,7 +254,7 @@ fn tell_lost<F: Folder>(
     Ok(())
 }
 
-// Gives out the objects that no row leads to.
+// Gives out the objects that no row gives.
 fn give_all_unlisted<F: Folder>(
     alloc: Global,
     image: &SalvagedImage,
@@ -259,7 +271,7 @@ fn give_all_unlisted<F: Folder>(
     Ok(())
 }
 
-// Writes an object that no row leads to, and tells it in the manifest.
+// Writes an object that no row gives, and names it in the manifest.
 fn give_unlisted<F: Folder>(
     alloc: Global,
     image: &SalvagedImage,
@@ -274,7 +286,7 @@ fn give_unlisted<F: Folder>(
     let content = image.content(alloc, object, &unlisted.inode)?;
     let gone = image.gone(object, &unlisted.inode) as u64;
     let row = listed_of(object, &unlisted.inode);
-    let line = unlisted_line(alloc, &row, content.as_slice(), gone)?;
+    let line = unlisted_line(alloc, &row, content.as_slice(), gone, unlisted.left_out)?;
     let name = unlisted_name(alloc, object)?;
     add_named(
         folder,

@@ -8,7 +8,7 @@ ghost use Rattle.object_map.specs.Objects.{value_of};
 ghost use Rattle.segment_table.specs.Used.{used_at};
 ghost use Rattle.image_salvage.specs.declared.newest.Note.{Note as Noted};
 ghost use Rattle.image_salvage.specs.Newest.{AreGenerations, AreNewest, order_of};
-ghost use Rattle.image_salvage.specs.Heads.{Keeps, LeadsOn, MakesByCheckpoint, MakesByJournal, MakesHead, MakesRow, blocks_kept, checkpoint_note, last_of, row_alone, row_behind, step_by};
+ghost use Rattle.image_salvage.specs.Heads.{CountsKept, LeadsOn, MakesByCheckpoint, MakesByJournal, MakesHead, MakesRow, blocks_kept, checkpoint_note, last_of, row_alone, row_from, step_by};
 
 use crate::contents::count_gone;
 use crate::newest::{Note, offer, place_at};
@@ -110,7 +110,7 @@ pub(crate) fn newest_checkpoints(
     Ok(notes)
 }
 
-/// How many blocks of a row's inode aren't gone, and one more. None where it leads to none. NoMemory alone.
+/// How many blocks of a row's inode aren't gone, and one more. None where it gives none. NoMemory alone.
 fn kept_by(alloc: Global, table: &TableBuilder, row: &ImageRow) -> Result<Option<usize>, Refusal>
     ensures found { IfOk result (λ found. MatchOption found (LeadsOn (used_at table.now) row.now → ⊥) (λ kept. LeadsOn (used_at table.now) row.now × (kept ≡ blocks_kept (used_at table.now) row.now))) }
     ensures refusal { IfErr result (λ e. e ≡ NoMemory) }
@@ -137,7 +137,7 @@ fn head_alone(
     object: ObjectId,
     place: Ptr,
 ) -> Result<Head, Refusal>
-    ensures made { IfOk result (λ head. (head.row ≡ row_alone object place) × Keeps (used_at table.now) head.row head.kept) }
+    ensures made { IfOk result (λ head. (head.row ≡ row_alone object place) × CountsKept (used_at table.now) head.row head.kept) }
     ensures refusal { IfErr result (λ e. e ≡ NoMemory) }
 {
     let row = ImageRow {
@@ -154,8 +154,8 @@ fn head_alone(
 }
 
 /// The row of an object with the journal block at a place as its newest, and its newest checkpoint. None where it has none.
-fn row_behind(checkpoints: &BTreeMap<u64, Note>, object: ObjectId, place: Ptr) -> Option<ImageRow>
-    ensures { MatchOption result (value_of checkpoints.now.entries object ≡ None) (λ row. (note : Noted) × (value_of checkpoints.now.entries object ≡ Some note) × (row ≡ row_behind note.row place)) }
+fn row_from(checkpoints: &BTreeMap<u64, Note>, object: ObjectId, place: Ptr) -> Option<ImageRow>
+    ensures { MatchOption result (value_of checkpoints.now.entries object ≡ None) (λ row. (note : Noted) × (value_of checkpoints.now.entries object ≡ Some note) × (row ≡ row_from note.row place)) }
 {
     let note = checkpoints.get(&object.number())?;
     Some(ImageRow {
@@ -164,8 +164,8 @@ fn row_behind(checkpoints: &BTreeMap<u64, Note>, object: ObjectId, place: Ptr) -
     })
 }
 
-/// The row that the journal block of an object at a place makes: with its newest checkpoint where that row leads to an inode, and else
-/// with none. NoMemory alone.
+/// The row that the journal block of an object at a place makes: with its newest checkpoint where that row gives an inode, and else with
+/// none. NoMemory alone.
 fn head_of(
     alloc: Global,
     table: &TableBuilder,
@@ -176,7 +176,7 @@ fn head_of(
     ensures made { IfOk result (λ head. MakesRow (used_at table.now) (value_of checkpoints.now.entries object) object place head.row head.kept) }
     ensures refusal { IfErr result (λ e. e ≡ NoMemory) }
 {
-    let Some(row) = row_behind(checkpoints, object, place) else {
+    let Some(row) = row_from(checkpoints, object, place) else {
         return head_alone(alloc, table, object, place);
     };
     let Some(kept) = kept_by(alloc, table, &row)? else {

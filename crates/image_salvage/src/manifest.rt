@@ -52,7 +52,7 @@ pub(crate) fn salvaged_line(
     json_line(alloc, &value)
 }
 
-/// The name of the file of an object that no row leads to.
+/// The name of the file of an object that no row gives.
 pub(crate) fn unlisted_name(alloc: Global, object: ObjectId) -> Result<String, AllocError>
     ensures { IfOk result (λ name. string_bytes name ≡ unlisted_name object) }
 {
@@ -65,8 +65,9 @@ fn unlisted_value(
     row: &Listed,
     content: &[u8],
     gone: u64,
+    left_out: bool,
 ) -> Result<Value, AllocError>
-    ensures { IfOk result (λ value. view value ≡ unlisted_data row.now content.now gone) }
+    ensures { IfOk result (λ value. view value ≡ unlisted_data row.now content.now gone left_out) }
 {
     let digest = Sha256::digest(content);
     let digest = hex::encode(alloc, digest.as_slice())?;
@@ -84,20 +85,22 @@ fn unlisted_value(
         "attribute_text": attribute_text,
         "created": created,
         "changed": changed,
-        "blocks_gone": gone
+        "blocks_gone": gone,
+        "left_out": left_out
     })
 }
 
-/// The line of an object that no row leads to, of these bytes, of which so many blocks are gone.
+/// The line of an object that no row gives, of these bytes, of which so many blocks are gone, and whether a newer change of it was left out.
 pub(crate) fn unlisted_line(
     alloc: Global,
     row: &Listed,
     content: &[u8],
     gone: u64,
+    left_out: bool,
 ) -> Result<String, AllocError>
-    ensures { IfOk result (λ line. string_bytes line ≡ unlisted_line row.now content.now gone) }
+    ensures { IfOk result (λ line. string_bytes line ≡ unlisted_line row.now content.now gone left_out) }
 {
-    let value = unlisted_value(alloc, row, content, gone)?;
+    let value = unlisted_value(alloc, row, content, gone, left_out)?;
     json_line(alloc, &value)
 }
 

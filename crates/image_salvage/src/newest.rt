@@ -16,10 +16,10 @@ pub(crate) struct Note {
     pub(crate) row: ImageRow,
     /// That of the checkpoint, or of the journal block's newest entry.
     pub(crate) moment: Moment,
-    /// How far that entry is in the change of its moment: one more than the first index of its pointers, 0 where it has none. A checkpoint is
-    /// behind all entries of its moment.
+    /// How far that entry is in the change of its moment: one more than the first index of its pointers, 0 where it has none. A checkpoint
+    /// comes after all entries of its moment.
     pub(crate) step: usize,
-    /// The more blocks the row's inode still has, the more; 0 where the row leads to none.
+    /// The more blocks the row's inode still has, the more; 0 where the row gives none.
     pub(crate) kept: usize,
     /// Where the block is, in the order of frames and blocks.
     pub(crate) order: usize,

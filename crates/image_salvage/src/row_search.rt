@@ -53,7 +53,7 @@ fn row_at(bytes: &[u8], place: usize) -> Option<RowPart>
     Some(first_row(rest))
 }
 
-/// The row at a place, where it leads to its object. NoMemory alone.
+/// The row at a place, where it gives its object. NoMemory alone.
 #[tactic(auto, using(crate::proofs::RowFinding::lost_nowhere, crate::proofs::RowFinding::present_leads))]
 fn leading_row(
     alloc: Global,
@@ -73,7 +73,7 @@ fn leading_row(
     Ok(Some(part))
 }
 
-/// Looks at a place: for a frame that begins there, whose bytes are passed over, and else for a row that leads to its object, which is
+/// Looks at a place: for a frame that begins there, whose bytes are passed over, and else for a row that gives its object, which is
 /// noted. The place up to which the bytes are those of frames.
 #[tactic(auto, using(crate::proofs::RowFinding::searched_skipped, crate::proofs::RowFinding::searched_without, crate::proofs::RowFinding::searched_row))]
 fn look_at(

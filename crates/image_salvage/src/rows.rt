@@ -1,4 +1,4 @@
-//! The object that a row leads to.
+//! The object that a row gives.
 ghost use Rattle.std.specs.Prelude.{◌≡◌, IfSome, IfOk, IfErr, MatchBool, MatchOption};
 ghost use Rattle.s4_types.specs.declared.refusals.Refusal.TheVariants.{NoMemory};
 ghost use Rattle.segment_table.specs.Used.{used_at};
@@ -69,7 +69,7 @@ pub(crate) fn salvage_row(
     })
 }
 
-/// Whether a row leads to its object. NoMemory alone.
+/// Whether a row gives its object. NoMemory alone.
 #[tactic(auto, using(crate::proofs::RowFinding::stands_there))]
 pub(crate) fn leads(alloc: Global, table: &TableBuilder, part: &RowPart) -> Result<bool, Refusal>
     ensures found { IfOk result (λ leads. MatchBool leads (IsThere (used_at table.now) part.now) (IsLost (used_at table.now) part.now)) }

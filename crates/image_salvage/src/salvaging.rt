@@ -36,7 +36,7 @@ const FRONT_BYTES: usize = 544;
 /// Where a header has the number of rows.
 const ROWS_AT: usize = 48;
 
-/// What was salvaged of an image: its first fault, its rows, the blocks of its frames, and the objects that no row leads to.
+/// What was salvaged of an image: its first fault, its rows, the blocks of its frames, and the objects that no row gives.
 #[derive(Drop)]
 pub struct SalvagedImage {
     fault: Option<Cause>,
@@ -98,8 +98,8 @@ impl SalvagedImage {
         self.lost.as_slice()
     }
 
-    /// The live objects to which no row leads, ascending, as their newest blocks have them. None is looked for in an image that isn't
-    /// damaged.
+    /// The live objects that no row gives, ascending, as their newest blocks have them after the last change that is whole. None is looked
+    /// for in an image that isn't damaged.
     pub fn unlisted(&self) -> &[Unlisted]
         ensures { result.now ≡ self.now.unlisted }
     {
@@ -152,14 +152,14 @@ fn rows_of(alloc: Global, parts: &ImageParts<'_>) -> Result<Vec<RowPart>, Refusa
     Ok(rows)
 }
 
-/// The blocks by which rows are read, and the objects to which no row leads.
+/// The blocks by which rows are read, and the objects that no row gives.
 #[derive(Drop)]
 struct Seen {
     table: TableBuilder,
     unlisted: Vec<Unlisted>,
 }
 
-/// The frames that are found in bytes, and the objects to which none of these rows leads. NoMemory alone.
+/// The frames that are found in bytes, and the objects that none of these rows gives. NoMemory alone.
 fn search(alloc: Global, bytes: &[u8], rows: &[RowPart]) -> Result<Seen, Refusal>
     ensures finds { IfOk result (λ seen. Finds bytes.now seen.table) }
     ensures unlisted { IfOk result (λ seen. FindsUnlisted (used_at seen.table) rows.now seen.unlisted.items) }
@@ -171,7 +171,7 @@ fn search(alloc: Global, bytes: &[u8], rows: &[RowPart]) -> Result<Seen, Refusal
 }
 
 /// The table by which an image's rows are read: that of the frames that are whole by their words, where it has no fault. Else words aren't
-/// believed, and it is that of all frames that are found; then objects are looked for to which no row leads. NoMemory alone.
+/// believed, and it is that of all frames that are found; then objects are looked for that no row gives. NoMemory alone.
 fn seen_by(
     alloc: Global,
     bytes: &[u8],
@@ -267,7 +267,7 @@ fn salvage_bytes(alloc: Global, bytes: &[u8], cause: Cause) -> Result<SalvagedIm
 /// Where they have none, the blocks are those of the frames, and the rows are the image's. Else the blocks are those of all frames that are
 /// found: a frame's summary has a digest of its own, so that neither header nor words nor length are asked for where it is. The rows are the
 /// image's, where its header is one and the parts fill the bytes, and else all that are found. A row by itself is believed nothing: what it
-/// leads to must name its object and making. Then the objects are looked for to which no row leads.
+/// leads to must name its object and making. Then the objects are looked for that no row gives.
 ///
 /// Damaged where the header is none, or the parts don't fill the bytes, and neither a row is found nor an object without one. NoMemory where
 /// memory is refused.

@@ -1,18 +1,23 @@
-//! The objects that no row leads to.
-ghost use Rattle.std.specs.Prelude.{◌≡◌, ℕ, ◌<◌, ◌++◌, [], ◌∷◌, None, IfSome, IfNone, IfOk, IfErr, OnOk, option_copied};
+//! The objects that no row gives.
+ghost use Rattle.std.specs.Prelude.{◌≡◌, ℕ, ◌<◌, ◌++◌, [], ◌∷◌, None, IfSome, IfNone, IfOk, IfErr, OnOk, is_some, option_copied};
 ghost use Rattle.s4_types.specs.declared.refusals.Refusal.TheVariants.{NoMemory};
 ghost use Rattle.object_map.specs.Objects.{IsNextAbove, value_of, without_value};
 ghost use Rattle.segment_table.specs.Used.{used_at};
+ghost use Rattle.image_objects.specs.Chains.{entries_used};
+ghost use Rattle.image_objects.specs.Inodes.{first_used};
+ghost use Rattle.image_objects.specs.VersionChain.{present_used};
+ghost use Rattle.image_salvage.specs.LeftOut.{cut_moment};
 ghost use Rattle.image_salvage.specs.Newest.{AreGenerations};
-ghost use Rattle.image_salvage.specs.Unlisted.{FindsUnlisted, first_moment, inode_made};
+ghost use Rattle.image_salvage.specs.Unlisted.{FindsUnlisted, first_moment, inode_made, unlisted_inode};
 ghost use Rattle.image_salvage.specs.private.Passing.{AddsFound, AreFoundAll, AreLeft, IsLeft};
 
 use crate::heads::{newest_checkpoints, newest_heads};
+use crate::left_out::{cut_moment, inode_before};
 use crate::newest::Note;
 use crate::rows::leads;
 use crate::used::TableBlocks;
 use codec::{Entry, Inode};
-use image_objects::{ImageRow, read_version_chain};
+use image_objects::{ImageRow, VersionChain, read_version_chain};
 use image_parts::RowPart;
 use s4_types::{Moment, ObjectId, Refusal};
 use segment_table::TableBuilder;
@@ -20,12 +25,14 @@ use std::alloc::Global;
 use std::collections::BTreeMap;
 use std::ops::Bound;
 
-/// A live object that no row leads to, as its newest block has it. It may have been deleted or hidden since.
+/// A live object that no row gives, as it is after the last change that its newest block has whole. It may have been deleted or hidden since.
 #[derive(Clone, Copy)]
 pub struct Unlisted {
     pub object: ObjectId,
-    /// Where no checkpoint tells when the object was made, that is the moment of the first entry of its journal.
+    /// Where no checkpoint says when the object was made, that is the moment of the first entry of its journal.
     pub inode: Inode,
+    /// Whether the newest change was left out: its last entry that is found may have others after it, in a frame that is lost.
+    pub left_out: bool,
 }
 
 /// Adds an item at the end. NoMemory alone.
@@ -54,7 +61,7 @@ fn next_key<V: Drop>(map: &BTreeMap<u64, V>, key: u64) -> Option<u64>
     Some(*next)
 }
 
-/// Leaves the object of a row out, where the row leads to it. NoMemory alone.
+/// Leaves the object of a row out, where the row gives it. NoMemory alone.
 fn pass_row(
     alloc: Global,
     table: &TableBuilder,
@@ -71,7 +78,7 @@ fn pass_row(
     Ok(())
 }
 
-/// Leaves the objects out to which rows lead. NoMemory alone.
+/// Leaves the objects out that rows give. NoMemory alone.
 fn pass_rows(
     alloc: Global,
     table: &TableBuilder,
@@ -97,7 +104,7 @@ fn first_moment(entries: &[Entry]) -> Moment
     }
 }
 
-/// The inode of a row that was made of blocks, by the present one and the moment of the first entry.
+/// The inode that a row gives that was made of blocks, by the one after its entries and the moment of the first.
 fn inode_made(row: &ImageRow, first: Moment, present: &Inode) -> Inode
     ensures { result ≡ inode_made row.now.checkpoint first present.now }
 {
@@ -116,7 +123,32 @@ fn note_at(heads: &BTreeMap<u64, Note>, object: u64) -> Option<&Note>
     heads.get(&object)
 }
 
-/// Adds an object, where the newest row that blocks make of it leads to a live inode. NoMemory alone.
+/// What a row gives that was made of blocks of an object, by its version chain.
+fn unlisted_by(
+    table: &TableBuilder,
+    object: ObjectId,
+    row: &ImageRow,
+    versions: &VersionChain,
+) -> Unlisted
+    requires entries { versions.now.chain.entries.items ≡ entries_used (used_at table.now) row.now }
+    requires first { versions.now.first ≡ first_used (used_at table.now) row.now }
+    requires present { versions.now.present ≡ present_used (used_at table.now) row.now }
+    ensures object { result.object ≡ object }
+    ensures inode { result.inode ≡ unlisted_inode (used_at table.now) row.now }
+    ensures left_out { result.left_out ≡ is_some (cut_moment (used_at table.now) row.now) }
+{
+    let entries = versions.chain.entries.as_slice();
+    let cut = cut_moment(table, row, entries);
+    let whole = inode_before(table, row, versions, cut);
+    let inode = inode_made(row, first_moment(entries), &whole);
+    Unlisted {
+        object,
+        inode,
+        left_out: cut.is_some(),
+    }
+}
+
+/// Adds an object, where the newest row that blocks make of it gives a live inode. NoMemory alone.
 fn add_found(
     alloc: Global,
     table: &TableBuilder,
@@ -136,16 +168,14 @@ fn add_found(
     let Some(versions) = read else {
         return Ok(());
     };
-    let first = first_moment(versions.chain.entries.as_slice());
-    let inode = inode_made(&note.row, first, &versions.present);
-    if !inode.alive {
+    let unlisted = unlisted_by(table, ObjectId::new(object), &note.row, &versions);
+    if !unlisted.inode.alive {
         return Ok(());
     }
-    let object = ObjectId::new(object);
-    push(found, &Unlisted { object, inode })
+    push(found, &unlisted)
 }
 
-/// The objects of which the newest rows that blocks make lead to live inodes, ascending. NoMemory alone.
+/// The objects of which the newest rows that blocks make give live inodes, ascending. NoMemory alone.
 fn all_found(
     alloc: Global,
     table: &TableBuilder,
@@ -163,7 +193,7 @@ fn all_found(
     Ok(found)
 }
 
-/// The live objects that none of these rows leads to, ascending, as far as whole frames have their checkpoints and journals.
+/// The live objects that none of these rows gives, ascending, as far as whole frames have their checkpoints and journals.
 ///
 /// NoMemory alone, where memory for them is refused. Of each journal block one chain is read, and of each row: linear in the image.
 pub(crate) fn find_unlisted(

@@ -20,7 +20,7 @@ damage_count g = if g.damaged then 1 else 0
 abbrev pub lost_text : GivenOut → ℕ → List ℕ
 lost_text g damaged =
     codes "lost_objects " ++ (decimal g.lost_objects ++ (codes "\nlost_frames " ++ (decimal g.lost_frames
-    ++ (codes "\nunlisted " ++ (decimal g.unlisted ++ (codes "\ndamaged " ++ (decimal damaged ++ codes "\n")))))))
+    ++ (codes "\nunlisted " ++ (decimal g.unlisted ++ (codes "\nleft_out " ++ (decimal g.left_out ++ (codes "\ndamaged " ++ (decimal damaged ++ codes "\n")))))))))
 
 -- the counts of what was written, each after its name
 abbrev pub written_text : GivenOut → List ℕ

@@ -109,9 +109,10 @@ fn damage_count(given: &GivenOut) -> u64
 fn lost_text(alloc: Global, given: &GivenOut, damaged: u64) -> Result<String, AllocError>
     ensures { IfOk result (λ text. string_bytes text ≡ lost_text given.now damaged) }
 {
-    let (lost, frames, unlisted) = (given.lost_objects, given.lost_frames, given.unlisted);
+    let (lost, frames) = (given.lost_objects, given.lost_frames);
+    let (unlisted, left_out) = (given.unlisted, given.left_out);
     format!(in alloc;
-        "lost_objects {lost}\nlost_frames {frames}\nunlisted {unlisted}\ndamaged {damaged}\n"
+        "lost_objects {lost}\nlost_frames {frames}\nunlisted {unlisted}\nleft_out {left_out}\ndamaged {damaged}\n"
     )
 }
 

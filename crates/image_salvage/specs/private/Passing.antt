@@ -1,9 +1,8 @@
--- The objects to which rows lead are left out, and the others found one by one.
+-- The objects that rows give are left out, and the others found one by one.
 use Rattle.std.specs.Prelude.{◌≡◌, ◌⊎◌, ◌↔◌, ℕ, ◌++◌, List, [], ◌∷◌, Option, None}
 use Rattle.std.specs.List.{Contains}
 use Rattle.s4_types.specs.Pointer.{Place}
 use Rattle.block_log.specs.Log.{Stored}
-use Rattle.codec.specs.declared.inodes.Inode.{Inode}
 use Rattle.object_map.specs.Objects.{without_value}
 use Rattle.image_parts.specs.declared.rows.RowPart.{RowPart}
 use Rattle.image_salvage.specs.declared.newest.Note.{Note}
@@ -11,7 +10,7 @@ use Rattle.image_salvage.specs.declared.unlisted.Unlisted.{Unlisted}
 use Rattle.image_salvage.specs.Rows.{IsThere, IsLost}
 use Rattle.image_salvage.specs.Unlisted.{IsFound, IsListed, ObjectsAscend}
 
--- the object of a row is left out where the row leads to it
+-- the object of a row is left out where the row gives it
 abbrev pub IsLeft : (Place → Option Stored) → RowPart → (ℕ → Option Note) → (ℕ → Option Note) → Type 0
 IsLeft used part heads left = (IsThere used part × ((o : ℕ) → left o ≡ without_value heads part.object o)) ⊎ (IsLost used part × ((o : ℕ) → left o ≡ heads o))
 
@@ -22,10 +21,10 @@ AreLeft used rows heads left = (o : ℕ) → (IsListed used rows o × (left o �
 -- an object is added where it is found
 abbrev pub AddsFound : (Place → Option Stored) → (ℕ → Option Note) → ℕ → List Unlisted → List Unlisted → Type 0
 AddsFound used heads o found later =
-    ((inode : Inode) × IsFound used heads o inode × (later ≡ found ++ record { object = o; inode = inode } ∷ []))
-    ⊎ (((inode : Inode) → IsFound used heads o inode → ⊥) × (later ≡ found))
+    ((u : Unlisted) × (u.object ≡ o) × IsFound used heads u × (later ≡ found ++ u ∷ []))
+    ⊎ (((u : Unlisted) → u.object ≡ o → IsFound used heads u → ⊥) × (later ≡ found))
 
 -- these are all that are found
 pub record AreFoundAll (used : Place → Option Stored) (heads : ℕ → Option Note) (found : List Unlisted) : Type 0 where
-  pub all : (o : ℕ) (inode : Inode) → Contains found (record { object = o; inode = inode }) ↔ IsFound used heads o inode
+  pub all : (u : Unlisted) → Contains found u ↔ IsFound used heads u
   pub ascend : ObjectsAscend 0 found

@@ -18,9 +18,9 @@ returns-clause-files g c =
     let name : c.as_str.result.now ≡ unlisted_name o = c.as_str.ensures.value ∙ c.in_ok-name.ensures in
     let content : c.as_slice-2.result.now ≡ salvaged_bytes used o i = c.as_slice-2.ensures.value ∙ c.in_ok-content.ensures.bytes in
     let hashed : c.as_slice.result.now ≡ salvaged_bytes used o i = c.as_slice.ensures.value ∙ c.in_ok-content.ensures.bytes in
-    let line : c.as_bytes.result.now ≡ unlisted_line (listed_of o i) (salvaged_bytes used o i) (blocks_gone used o i) =
-    c.as_bytes.ensures.value ∙ c.in_ok-line.ensures ∙ ap (λ (row : Listed). unlisted_line row c.as_slice.result.now c.gone-gone.result) c.listed_of-row.ensures
-    ∙ ap (λ (bytes : List ℕ). unlisted_line (listed_of o i) bytes c.gone-gone.result) hashed ∙ ap (λ (n : ℕ). unlisted_line (listed_of o i) (salvaged_bytes used o i) n) c.gone-gone.ensures in
+    let line : c.as_bytes.result.now ≡ unlisted_line (listed_of o i) (salvaged_bytes used o i) (blocks_gone used o i) c.args.unlisted.now.left_out =
+    c.as_bytes.ensures.value ∙ c.in_ok-line.ensures ∙ ap (λ (row : Listed). unlisted_line row c.as_slice.result.now c.gone-gone.result c.args.unlisted.now.left_out) c.listed_of-row.ensures
+    ∙ ap (λ (bytes : List ℕ). unlisted_line (listed_of o i) bytes c.gone-gone.result c.args.unlisted.now.left_out) hashed ∙ ap (λ (n : ℕ). unlisted_line (listed_of o i) (salvaged_bytes used o i) n c.args.unlisted.now.left_out) c.gone-gone.ensures in
     for_ok c.add_named.result
     (λ grown. grown ∙ ap (λ (bytes : List ℕ). option_map (with_named bytes c.as_slice-2.result.now c.as_bytes.result.now) first) name
     ∙ ap (λ (bytes : List ℕ). option_map (with_named (unlisted_name o) bytes c.as_bytes.result.now) first) content
