@@ -20,7 +20,7 @@ What the clauses say is in the contract, under `crates/CRATE/src`, in the terms 
 which of them carry a promise, [PROMISES](PROMISES.md). What is only tested, and what is open: [TESTING](TESTING.md).
 """
 WIDTH = 130
-FUNCTION = re.compile(r"\s*(pub )?(?:const |unsafe |final )*fn (\w+)(.*)")
+FUNCTION = re.compile(r"\s*(?:(pub) |pub\([^)]*\) )?(?:const |unsafe |final )*fn (\w+)(.*)")
 OWNER = re.compile(r"(?:pub )?(?:unsafe )?(impl|trait)\b(.*)")
 CLAUSE = re.compile(r"\s*ensures\s*(\w*)\s*\{")
 
@@ -46,10 +46,13 @@ def owner_of(line):
 
 
 def contract(lines, at):
-    """The names of the clauses that the function at this line ensures; '' for one without a name."""
+    """The names of the clauses that the function at this line ensures; '' for one without a name. Its body has none of them."""
     names = []
-    for line in lines[at + 1:]:
+    margin = re.match(" *", lines[at]).group(0)
+    for line in lines[at + 1:] if not lines[at].endswith("{") else []:
         if FUNCTION.match(line) or OWNER.match(line) or line.startswith("}"):
+            break
+        if re.match(margin + r"\S", line) and line.endswith(("{", "{}")):
             break
         clause = CLAUSE.match(line)
         if clause:

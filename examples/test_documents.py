@@ -87,6 +87,16 @@ class Documents(unittest.TestCase):
                     folder = "must-fail" if bold else "wrong-bodies"
                     self.assertTrue((TOP / "crates" / crate / folder / f"{name}.edit").exists())
 
+    def test_quoted_definitions(self):
+        """What PROMISES quotes is what the definitions say."""
+        text = (TOP / "docs" / "PROMISES.md").read_text(encoding="utf-8")
+        page = (TOP / "crates" / "s4_model" / "specs" / "Promise.antt").read_text(encoding="utf-8")
+        quoted = re.findall(r"(?m)(?:^    .*\n)+", text)
+        self.assertTrue(quoted)
+        for block in quoted:
+            with self.subTest(block.splitlines()[0]):
+                self.assertIn(re.sub(r"(?m)^    ", "", block), page)
+
     def test_ways_through_the_crates(self):
         """ARCHITECTURE names each crate; a file of a crate that it names is there, and has the function named after it."""
         text = (TOP / "docs" / "ARCHITECTURE.md").read_text(encoding="utf-8")
