@@ -64,3 +64,7 @@ pub record AreAskedAims (s : State) (store : StoreFields) (at : ℕ) (stand_ins 
   pub whole : List Aim
   pub all : AreAims s store at stand_ins whole
   pub chosen : aims ≡ filter (is_asked asked) whole
+
+-- whether an aim is restored under a number that isn't skipped
+abbrev pub is_not_skipped : List ℕ → Aim → Bool
+is_not_skipped skipped a = not (is_among skipped a.target)

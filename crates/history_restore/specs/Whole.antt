@@ -1,5 +1,5 @@
 -- What restoring all objects of a drive comes to.
-use Rattle.std.specs.Prelude.{◌≡◌, ◌≢◌, ℕ, ◌+◌, ◌<◌, List, [], ◌∷◌, map, false, true, ◌&&◌, ◌||◌, not, Bool, None}
+use Rattle.std.specs.Prelude.{◌≡◌, ◌≢◌, ℕ, ◌+◌, ◌<◌, List, [], ◌∷◌, map, false, true, ◌||◌, not, Bool, None}
 use Rattle.std.specs.List.{AllByRecursion}
 use Rattle.s4_types.specs.declared.refusals.Refusal.TheVariants.{NoMemory}
 use Rattle.s4_types.specs.declared.versions.Version.TheVariants.{Absent}
@@ -81,9 +81,9 @@ pub record RestoresAll (s later : State) (at : ℕ) (stand_ins : List StandIn) (
   pub rest : (q : ℕ) → q < s.next → AllByRecursion (λ (a : Aim). q ≢ a.target) (aims_of all) → has_stand_in (counting s at stand_ins) q ≡ false
       → (present later q ≡ Absent) × (present s q ≡ Absent) × (IsVisible s q at → version_of s q at ≡ Absent)
 
--- whether a plan is carried out: of an object that isn't skipped, and wasn't made since where newer ones are kept
-abbrev pub is_chosen : Bool → List ℕ → ObjectPlan → Bool
-is_chosen keep_newer skipped p = (not keep_newer || is_older p.plan) && not (is_among skipped p.aim.target)
+-- whether a plan is carried out: where newer objects are kept, of one that wasn't made since
+abbrev pub is_chosen : Bool → ObjectPlan → Bool
+is_chosen keep_newer p = not keep_newer || is_older p.plan
 
 -- These are the plans of all objects of a drive that have a row, by the ascending numbers under which they are restored.
 pub record PlansAll (s : State) (store : StoreFields) (at : ℕ) (stand_ins : List StandIn) (plans : List ObjectPlan) : Type 0 where

@@ -2,7 +2,7 @@
 ghost use Rattle.std.specs.Prelude.{◌≡◌, filter, not, IfOk, IfErr};
 ghost use Rattle.s4_model.specs.Refusals.{is_absent};
 ghost use Rattle.drive.specs.Fields.{state_in, store_of};
-ghost use Rattle.history_restore.specs.Aims.{AreAims, AreAskedAims, aim_by, aims_by, counting, counts, has_stand_in, is_asked, object_for, own_aim};
+ghost use Rattle.history_restore.specs.Aims.{AreAims, AreAskedAims, aim_by, aims_by, counting, counts, has_stand_in, is_asked, is_not_skipped, object_for, own_aim};
 ghost use Rattle.history_restore.specs.Planning.{IsUnplanned};
 ghost use Rattle.history_restore.specs.Restoring.{IsUnread};
 
@@ -210,8 +210,29 @@ fn asked_among(alloc: Global, aims: &[Aim], asked: &[ObjectId]) -> Result<Vec<Ai
     Ok(chosen)
 }
 
-/// The aims of all objects that have a row, by the ascending numbers under which they are restored.
-pub(crate) fn all_aims<J: Naming>(
+/// Of these aims those that are restored under numbers which aren't skipped, in their order.
+pub fn aims_without(
+    alloc: Global,
+    aims: &[Aim],
+    skipped: &[ObjectId],
+) -> Result<Vec<Aim>, AllocError>
+    ensures { IfOk result (λ left. left.items ≡ filter (is_not_skipped skipped.now) aims.now) }
+{
+    let mut left = Vec::new(alloc);
+    for aim in aims {
+        if !is_among(skipped, aim.target) {
+            left.push(*aim)?;
+        }
+    }
+    Ok(left)
+}
+
+/// The aims of all objects that have a row, by the ascending numbers under which they are restored. An object that was made anew by an
+/// earlier restore has the number of what was made, its stand-in, as long as that is there; a stand-in has no aim by itself.
+///
+/// Future, Expired or Flushed where the moment can't be read of the object of a stand-in; NoMemory where memory was refused, of object 0
+/// where that was for a list of all; Busy where a read would have needed a pin.
+pub fn all_aims<J: Naming>(
     alloc: Global,
     drive: &mut Drive<J>,
     session: &mut Session<J>,
@@ -239,7 +260,9 @@ pub(crate) fn all_aims<J: Naming>(
 }
 
 /// The aims of those objects that are asked for and have a row, by the ascending numbers under which they are restored.
-pub(crate) fn asked_aims<J: Naming>(
+///
+/// An error as of [`all_aims`].
+pub fn asked_aims<J: Naming>(
     alloc: Global,
     drive: &mut Drive<J>,
     session: &mut Session<J>,

@@ -12,6 +12,7 @@
 //! object was, and turned back. `laws` says that a second restore has nothing to do, where nothing was changed since.
 //!
 //! `plan_all` and `plan_objects` say before anything is changed what these do to each object, and `count_changes` by how many changes.
+//! They are put together of `all_aims` or `asked_aims` and of `plan_each`; `aims_without` leaves numbers out between these.
 //! Each change moves the clock on, and the floor with it, so that the moment may fall below the floor while objects are restored; that is
 //! refused then, and what was done before stays. `widen_window` keeps it in reach until that many changes are made: `laws` says so. Whoever
 //! saves the drive saves it only where all was done.
@@ -31,9 +32,11 @@ mod room;
 mod whole;
 mod widening;
 
-pub use aims::{Aim, StandIn, aim_at, own_aim};
+pub use aims::{Aim, StandIn, aim_at, aims_without, all_aims, asked_aims, own_aim};
 pub use failures::{Failure, between};
-pub use planning::{ObjectPlan, chosen_plans, count_changes, plan_all, plan_objects, planned_aims};
+pub use planning::{
+    ObjectPlan, chosen_plans, count_changes, plan_all, plan_each, plan_objects, planned_aims,
+};
 pub use plans::{Changes, Patch, Plan, plan_of};
 pub use restoring::{Restored, plan_object, restore_object};
 pub use room::{make_room, newest_versions};

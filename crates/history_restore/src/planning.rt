@@ -10,7 +10,6 @@ use crate::aims::{Aim, StandIn, all_aims, asked_aims};
 use crate::failures::{Failure, unread};
 use crate::plans::{Changes, Plan};
 use crate::restoring::plan_object;
-use crate::whole::is_among;
 use drive::{Drive, Session};
 use s4_types::{Moment, ObjectId, Refusal};
 use segment_word::Naming;
@@ -43,8 +42,10 @@ fn plan_one<J: Naming>(
     }
 }
 
-/// What would be done under these numbers, in their order.
-fn plan_each<J: Naming>(
+/// What would be done under these numbers, in their order. Nothing is done.
+///
+/// An error as of [`plan_objects`].
+pub fn plan_each<J: Naming>(
     alloc: Global,
     drive: &mut Drive<J>,
     session: &mut Session<J>,
@@ -175,26 +176,24 @@ fn is_older(plan: &Plan) -> bool
     }
 }
 
-/// Whether an object is to be restored: it isn't among those that are skipped, nor made since where newer ones are kept.
-fn is_chosen(planned: &ObjectPlan, keep_newer: bool, skipped: &[ObjectId]) -> bool
-    ensures { result ≡ is_chosen keep_newer skipped.now planned.now }
+/// Whether an object is to be restored: where newer ones are kept, one that wasn't made since.
+fn is_chosen(planned: &ObjectPlan, keep_newer: bool) -> bool
+    ensures { result ≡ is_chosen keep_newer planned.now }
 {
-    (!keep_newer || is_older(&planned.plan)) && !is_among(skipped, planned.aim.target)
+    !keep_newer || is_older(&planned.plan)
 }
 
-/// Of these plans those of objects that are to be restored: without those of numbers that are skipped, and where newer objects are kept
-/// without those that were made since the moment.
+/// Of these plans those of objects that are to be restored: where newer objects are kept without those that were made since the moment.
 pub fn chosen_plans(
     alloc: Global,
     plans: &[ObjectPlan],
     keep_newer: bool,
-    skipped: &[ObjectId],
 ) -> Result<Vec<ObjectPlan>, AllocError>
-    ensures { IfOk result (λ chosen. chosen.items ≡ filter (is_chosen keep_newer skipped.now) plans.now) }
+    ensures { IfOk result (λ chosen. chosen.items ≡ filter (is_chosen keep_newer) plans.now) }
 {
     let mut chosen = Vec::new(alloc);
     for planned in plans {
-        if is_chosen(planned, keep_newer, skipped) {
+        if is_chosen(planned, keep_newer) {
             chosen.push(*planned)?;
         }
     }

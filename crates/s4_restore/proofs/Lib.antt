@@ -1,3 +1,4 @@
 pub mod Dry
-pub mod Rooms
+pub mod Finding
+pub mod Learning
 pub mod Said

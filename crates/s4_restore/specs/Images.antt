@@ -7,29 +7,27 @@ use Rattle.verifier.specs.Saved.{SpellsSaved}
 use Rattle.image_commands.specs.Files.{AreKnown}
 use Rattle.s4_images.specs.Commands.{ChangesImage, IsToldDrive, OverImage}
 use Rattle.s4_restore.specs.Maps.{IsMapIn}
-use Rattle.s4_restore.specs.Orders.{RestoresBy, WouldRestoreBy}
-use Rattle.s4_restore.specs.Trials.{AreFewest}
-use Rattle.s4_restore.specs.declared.orders.Order.{Order}
-use Rattle.s4_restore.specs.declared.preparing.Preparation.{Preparation}
+use Rattle.restore_orders.specs.Orders.{RestoresBy, WouldRestoreBy}
+use Rattle.s4_restore.specs.Searching.{AreFewest, AreLeft, DoNotServe, HidesNothing, IsAskedBy, IsServed, means_tried}
+use Rattle.restore_search.specs.declared.rooms.Room.{Room}
+use Rattle.restore_orders.specs.declared.means.Means.{Means}
+use Rattle.restore_orders.specs.declared.orders.Order.{Order}
 
--- What is needed to restore the drive in an image was found: moments are hidden only where that is asked for, of no more versions than it
--- takes, and objects are left out only where that is.
-pub record IsPrepared (known : Option (List ℕ)) (restore : RestoreAsked) (stand_ins : List StandIn) (made : Preparation) : Type 0 where
-  pub fewest : AreFewest known restore.at stand_ins made.full.items
-  pub hidden : restore.flush ≡ false → made.full.items ≡ []
-  pub skipped : restore.skip ≡ false → made.skipped.items ≡ []
+-- What is needed to restore the drive in an image was found by trials: it serves, the means were taken after those that don't serve alone, moments are
+-- hidden only where that is asked for and of no more versions than it takes, and objects are left out only where that is asked for and a trial
+-- found them lacking.
+pub record IsPrepared (known : Option (List ℕ)) (restore : RestoreAsked) (stand_ins : List StandIn) (means : Means) (full : List Room) (skipped : List ℕ) : Type 0 where
+  pub served : IsServed known restore stand_ins means full skipped
+  pub before : DoNotServe known restore stand_ins (means_tried means full skipped)
+  pub fewest : AreFewest known restore stand_ins means full
+  pub hidden : restore.flush ≡ false → HidesNothing full
+  pub left : AreLeft known restore stand_ins means skipped
+  pub all : restore.skip ≡ false → skipped ≡ []
 
 -- The order has what is asked for, these stand-ins, and what was found so.
 pub record IsOrderOf (known : Option (List ℕ)) (restore : RestoreAsked) (stand_ins : List StandIn) (order : Order) : Type 0 where
-  pub at : order.at ≡ restore.at
-  pub objects : order.objects.now ≡ restore.objects.items
-  pub name : order.name ≡ restore.name
-  pub stand_ins_are : order.stand_ins.now ≡ stand_ins
-  pub newer : order.keep_newer ≡ restore.keep_newer
-  pub json : order.json ≡ restore.json
-  pub fewest : AreFewest known restore.at stand_ins order.full.now
-  pub hidden : restore.flush ≡ false → order.full.now ≡ []
-  pub skipped : restore.skip ≡ false → order.skipped.now ≡ []
+  pub asks : IsAskedBy restore stand_ins order
+  pub prepared : IsPrepared known restore stand_ins order.means order.full.now order.skipped.now
 
 -- The drive in an image is restored and saved.
 pub record RestoresImage (known known' : Option (List ℕ)) (restore : RestoreAsked) (stand_ins : List StandIn) (output output' : Option (List ℕ)) : Type 0 where

@@ -8,7 +8,7 @@ use Rattle.history_text.specs.Lines.{column}
 use Rattle.history_restore.specs.declared.aims.StandIn.{StandIn}
 use Rattle.history_restore.specs.Aims.{has_stand_in}
 use Rattle.image_commands.specs.Files.{AreKnown}
-use Rattle.s4_restore.specs.Lines.{remade_data}
+use Rattle.restore_orders.specs.Lines.{remade_data}
 
 -- the lines of a text, without the newlines between them
 abbrev pub lines_of : List ℕ → List (List ℕ)

@@ -1,6 +1,12 @@
 //! `restore` over the image in a file.
-ghost use Rattle.std.specs.Prelude.{◌≡◌, ℕ, ◌+◌, ◌^◌, ◌<◌, List, IfOk, OnErr, OnOk};
+ghost use Rattle.std.specs.Prelude.{◌≡◌, ℕ, ◌+◌, ◌^◌, ◌<◌, false, true, List, IfErr, IfOk, OnErr, OnOk};
 ghost use Rattle.std.specs.Io.KnownBytes.{Keeps};
+ghost use Rattle.drive.specs.Fields.{state_in};
+ghost use Rattle.image_commands.specs.declared.files.Placed.TheVariants.{Lasting};
+ghost use Rattle.moment_words.specs.Texts as styles;
+ghost use Rattle.s4_images.specs.Commands.{FailsOver};
+ghost use Rattle.s4_images.specs.Failures.{IsInStyle};
+ghost use Rattle.s4_images.specs.declared.commands.Verdict.TheVariants.{Fine};
 ghost use Rattle.s4_restore.specs.Images.{PerformsRestore, RestoresImage, WouldRestoreImage};
 
 use crate::maps::{MapFault, read_map};
@@ -13,7 +19,8 @@ use serving::Sink;
 use std::alloc::Global;
 use std::thread::Threads;
 
-/// Prints what [`restore_image`] does, and leaves the image as it is; or fails as that does.
+/// Prints what [`restore_image`] does, and leaves the image as it is; or fails as that does. The moments of a failure are dates where the
+/// drive's clock counts microseconds of Unix time.
 pub fn dry_run_image<T: Threads, F: Files, W: Sink>(
     rt: &T,
     alloc: Global,
@@ -23,6 +30,8 @@ pub fn dry_run_image<T: Threads, F: Files, W: Sink>(
     writer: &mut W,
 ) -> Result<Verdict, Failure>
     requires writer { W.failures writer.old + 1 < 2 ^ 64 }
+    ensures verdict { IfOk result (λ verdict. verdict ≡ Fine) }
+    ensures style { IfErr result (FailsOver (F.contents files.now asked.now.image.now) (λ d. IsInStyle (styles.style_of (state_in d).clock false))) }
     ensures would_restore { OnOk result (WouldRestoreImage (F.contents files.now asked.now.image.now) asked.now stand_ins.now (W.passed writer.old) (W.passed writer.new)) }
 {
     let made = prepare_image(rt, alloc, files, asked, stand_ins)?;
@@ -32,8 +41,11 @@ pub fn dry_run_image<T: Threads, F: Files, W: Sink>(
 
 /// Restores the drive of an image, saves it there, and prints what was done to each object. What an earlier restore made anew is compared and
 /// turned back under the number that it got, where it is among these stand-ins and there. What is needed for that is found before, by trials
-/// that aren't saved: whether the window is widened, whether room is made as `compact` does, and where that is asked for how many versions are
-/// hidden of objects whose journals are full, as few as serve. Where anything fails all files are as they were.
+/// that aren't saved: by which means room is made, if it has to be, and where that is asked for how many versions are hidden of objects whose
+/// journals are full, as few as serve, and what is left out. The window is widened where the moment would expire on the way.
+///
+/// An error where the moment can't be read, where an object that is named has no row, where a stand-in's number was never given, or where
+/// something can't be restored and isn't to be left out: then it names all of that. Where anything fails all files are as they were.
 #[tactic(auto, using(s4_images::proofs::Kept::untouched))]
 pub fn restore_image<T: Threads, F: Files, W: Sink>(
     rt: &T,
@@ -72,6 +84,7 @@ pub fn perform_restore<T: Threads, F: Files, W: Sink>(
     writer: &mut W,
 ) -> Result<Placed, RestoreFailure>
     requires writer { W.failures writer.old + 1 < 2 ^ 64 }
+    ensures dry { IfOk result (λ placed. asked.now.dry_run ≡ true → placed ≡ Lasting) }
     ensures performs { OnOk result (PerformsRestore (F.contents files.old) (F.contents files.new) asked.now (W.passed writer.old) (W.passed writer.new)) }
     ensures kept { OnErr result ((path : List ℕ) → Keeps (F.contents files.old path) (F.contents files.new path)) }
 {

@@ -2,12 +2,12 @@
 ghost use Rattle.std.specs.Prelude.{◌≡◌, ◌≢◌, ◌++◌, ◌∷◌, [], false, codes, string_bytes, IfOk, IsTrue, OnOk};
 ghost use Rattle.serde_json.specs.View.{view};
 ghost use Rattle.history_restore.specs.Aims.{has_stand_in};
-ghost use Rattle.s4_restore.specs.Lines.{remade_data};
+ghost use Rattle.restore_orders.specs.Lines.{remade_data};
 ghost use Rattle.s4_restore.specs.Maps.{AreApart, AreSaid, IsMapIn, IsMapOf, IsMapText, IsSaidBy, Takes, anew_json, anew_line, is_given_to, last_said, lines_of};
 
-use crate::lines::remade_value;
 use history_restore::StandIn;
 use image_commands::{Fault, Files, read_bytes};
+use restore_orders::remade_value;
 use s4_types::{ObjectId, Refusal};
 use std::alloc::{AllocError, Global};
 use std::str;

@@ -4,4 +4,4 @@ use Rattle.history_restore.proofs.planning.chosen_plans.Given as goal
 
 -- those of the plans so far
 abbrev pub invariant-loop-planned : goal.invariant-loop-planned
-invariant-loop-planned l = l.chosen.items ≡ filter (is_chosen l.keep_newer l.skipped) (take l.planned-index l.plans)
+invariant-loop-planned l = l.chosen.items ≡ filter (is_chosen l.keep_newer) (take l.planned-index l.plans)

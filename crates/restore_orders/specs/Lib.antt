@@ -1,0 +1,7 @@
+pub mod Choosing
+pub mod Lines
+pub mod MakingRoom
+pub mod Means
+pub mod Orders
+pub mod Reaching
+pub mod Restoring

@@ -1,0 +1,201 @@
+//! The lines of what was done, for people and for programs.
+ghost use Rattle.std.specs.Prelude.{◌≡◌, IfOk, false, string_bytes};
+ghost use Rattle.serde_json.specs.View.{view};
+ghost use Rattle.serde_json.specs.Written.{has_float};
+ghost use Rattle.history_text.specs.Json.{json_line};
+ghost use Rattle.restore_orders.specs.Lines.{done_data, hidden_data, hidden_json, hidden_line, hidden_text, planned_json, planned_line, planned_text, remade_data, restored_text, skipped_text, window_data, window_json, window_line, window_text};
+
+use history_restore::{Plan, Restored};
+use s4_types::Span;
+use serde_json::{Value, json};
+use std::alloc::{AllocError, Global};
+
+fn line_of(alloc: Global, value: &Value) -> Result<String, AllocError>
+    requires { has_float (view value.now) ≡ false }
+    ensures { IfOk result (λ line. string_bytes line ≡ json_line (view value.now)) }
+{
+    let mut line = value.to_string(alloc)?;
+    line.push_str("\n")?;
+    Ok(line)
+}
+
+// ---- objects that were restored
+
+fn done_value(alloc: Global, object: u64, done: &str) -> Result<Value, AllocError>
+    ensures { IfOk result (λ value. view value ≡ done_data object done.now) }
+{
+    json!(in alloc; {
+        "object": object,
+        "done": done
+    })
+}
+
+fn done_json(alloc: Global, object: u64, done: &str) -> Result<String, AllocError>
+    ensures { IfOk result (λ line. string_bytes line ≡ json_line (done_data object done.now)) }
+{
+    let value = done_value(alloc, object, done)?;
+    line_of(alloc, &value)
+}
+
+/// What a line for programs has of an object that was made anew.
+pub fn remade_value(alloc: Global, object: u64, number: u64) -> Result<Value, AllocError>
+    ensures { IfOk result (λ value. view value ≡ remade_data object number) }
+{
+    json!(in alloc; {
+        "object": object,
+        "done": "made anew",
+        "number": number
+    })
+}
+
+fn remade_json(alloc: Global, object: u64, number: u64) -> Result<String, AllocError>
+    ensures { IfOk result (λ line. string_bytes line ≡ json_line (remade_data object number)) }
+{
+    let value = remade_value(alloc, object, number)?;
+    line_of(alloc, &value)
+}
+
+fn planned_json(alloc: Global, object: u64, number: u64, plan: Plan) -> Result<String, AllocError>
+    ensures { IfOk result (λ line. string_bytes line ≡ planned_json object number plan) }
+{
+    match plan {
+        Plan::Keep => Ok(String::new(alloc)),
+        Plan::Delete => done_json(alloc, object, "deleted"),
+        Plan::Remake(_) => remade_json(alloc, object, number),
+        Plan::Change(_) => done_json(alloc, object, "changed"),
+    }
+}
+
+fn planned_line(alloc: Global, object: u64, number: u64, plan: Plan) -> Result<String, AllocError>
+    ensures { IfOk result (λ line. string_bytes line ≡ planned_line object number plan) }
+{
+    match plan {
+        Plan::Keep => Ok(String::new(alloc)),
+        Plan::Delete => format!(in alloc; "{object:10}  deleted\n"),
+        Plan::Remake(_) => format!(in alloc; "{object:10}  made anew as {number}\n"),
+        Plan::Change(_) => format!(in alloc; "{object:10}  changed\n"),
+    }
+}
+
+fn planned_text(
+    alloc: Global,
+    json: bool,
+    object: u64,
+    number: u64,
+    plan: Plan,
+) -> Result<String, AllocError>
+    ensures { IfOk result (λ line. string_bytes line ≡ planned_text json object number plan) }
+{
+    if json {
+        return planned_json(alloc, object, number, plan);
+    }
+    planned_line(alloc, object, number, plan)
+}
+
+/// The line of what was restored under a number; none where nothing was to be done.
+pub(crate) fn restored_text(
+    alloc: Global,
+    json: bool,
+    restored: &Restored,
+) -> Result<String, AllocError>
+    ensures { IfOk result (λ line. string_bytes line ≡ restored_text json restored.now) }
+{
+    let (under, number) = (restored.aim.target.number(), restored.number.number());
+    planned_text(alloc, json, under, number, restored.plan)
+}
+
+/// The line of an object that can't be restored.
+pub(crate) fn skipped_text(alloc: Global, json: bool, object: u64) -> Result<String, AllocError>
+    ensures { IfOk result (λ line. string_bytes line ≡ skipped_text json object) }
+{
+    if json {
+        return done_json(alloc, object, "not restored");
+    }
+    format!(in alloc; "{object:10}  not restored\n")
+}
+
+// ---- moments that are hidden
+
+fn hidden_value(alloc: Global, span: Span) -> Result<Value, AllocError>
+    ensures { IfOk result (λ value. view value ≡ hidden_data span) }
+{
+    let object = span.object.number();
+    let (first, last) = (span.first.number(), span.last.number());
+    json!(in alloc; {
+        "object": object,
+        "done": "hidden",
+        "first": first,
+        "last": last
+    })
+}
+
+fn hidden_json(alloc: Global, span: Span) -> Result<String, AllocError>
+    ensures { IfOk result (λ line. string_bytes line ≡ hidden_json span) }
+{
+    let value = hidden_value(alloc, span)?;
+    line_of(alloc, &value)
+}
+
+fn hidden_line(alloc: Global, span: Span) -> Result<String, AllocError>
+    ensures { IfOk result (λ line. string_bytes line ≡ hidden_line span) }
+{
+    let object = span.object.number();
+    let (first, last) = (span.first.number(), span.last.number());
+    format!(in alloc; "{object:10}  hidden {first}-{last}\n")
+}
+
+/// The line of the moments that are hidden, if there are any.
+pub(crate) fn hidden_text(
+    alloc: Global,
+    json: bool,
+    hidden: Option<Span>,
+) -> Result<String, AllocError>
+    ensures { IfOk result (λ line. string_bytes line ≡ hidden_text json hidden) }
+{
+    match hidden {
+        None => Ok(String::new(alloc)),
+        Some(span) if json => hidden_json(alloc, span),
+        Some(span) => hidden_line(alloc, span),
+    }
+}
+
+// ---- the window
+
+fn window_value(alloc: Global, before: u64, window: u64) -> Result<Value, AllocError>
+    ensures { IfOk result (λ value. view value ≡ window_data before window) }
+{
+    json!(in alloc; {
+        "done": "widened",
+        "from": before,
+        "to": window
+    })
+}
+
+fn window_json(alloc: Global, before: u64, window: u64) -> Result<String, AllocError>
+    ensures { IfOk result (λ line. string_bytes line ≡ window_json before window) }
+{
+    let value = window_value(alloc, before, window)?;
+    line_of(alloc, &value)
+}
+
+fn window_line(alloc: Global, before: u64, window: u64) -> Result<String, AllocError>
+    ensures { IfOk result (λ line. string_bytes line ≡ window_line before window) }
+{
+    format!(in alloc; "window {before} widened to {window}; SetWindow {before} puts it back\n")
+}
+
+/// The line of a window that was widened, if it was.
+pub(crate) fn window_text(
+    alloc: Global,
+    json: bool,
+    before: u64,
+    widened: Option<u64>,
+) -> Result<String, AllocError>
+    ensures { IfOk result (λ line. string_bytes line ≡ window_text json before widened) }
+{
+    match widened {
+        None => Ok(String::new(alloc)),
+        Some(window) if json => window_json(alloc, before, window),
+        Some(window) => window_line(alloc, before, window),
+    }
+}

@@ -1,0 +1,4 @@
+mod Carrying
+mod Finding
+mod Making
+mod Serving

@@ -1,0 +1,98 @@
+-- What trials to restore by an order find, of which nothing is kept.
+use Rattle.std.specs.Prelude.{◌≡◌, ◌⊎◌, ⊤, ℕ, List, [], ◌∷◌, Option, None, Some}
+use Rattle.std.specs.List.{AllByRecursion}
+use Rattle.s4_types.specs.declared.spans.Span.{Span}
+use Rattle.s4_model.specs.State.{State}
+use Rattle.s4_model.specs.Visible.{IsVisible}
+use Rattle.drive.specs.Fields.{DriveFields, state_in, store_of}
+use Rattle.history_restore.specs.Planning.{IsPlanned}
+use Rattle.history_restore.specs.Widening.{Widens}
+use Rattle.history_restore.specs.declared.aims.Aim.{Aim}
+use Rattle.history_restore.specs.declared.planning.ObjectPlan.{ObjectPlan}
+use Rattle.s4_images.specs.Moments.{moment_said}
+use Rattle.restore_orders.specs.Choosing.{AreChosen}
+use Rattle.restore_orders.specs.MakingRoom.{MakesRoom}
+use Rattle.restore_orders.specs.Means.{HasNoMeans, IsCompactedBy, IsSameDrive}
+use Rattle.restore_orders.specs.Reaching.{changes_ahead}
+use Rattle.restore_search.specs.Searching.{IsFine}
+use Rattle.restore_search.specs.declared.rooms.Room.{Room}
+use Rattle.restore_orders.specs.declared.means.Means.{Means}
+use Rattle.restore_orders.specs.declared.orders.Order.{Order}
+use Rattle.restore_search.specs.declared.surveys.Lack.TheVariants.{Version}
+use Rattle.restore_search.specs.declared.surveys.Lacking.{Lacking}
+use Rattle.restore_search.specs.declared.surveys.Survey.{Survey}
+use Rattle.restore_trials.specs.Trying.{IsRefusedAfter, IsRestoredAfter}
+
+-- Room was made in these journals, one after the other.
+abbrev pub AreMade : DriveFields → ℕ → List Room → DriveFields → Type 0
+AreMade d at [] later = later ≡ d
+AreMade d at (room ∷ full) later = (hidden : Option Span) × (middle : DriveFields) × MakesRoom d at room hidden middle × AreMade middle at full later
+
+-- A moment of an object can't be read.
+pub record IsHiddenAlone (s : State) (at : ℕ) (one : Lacking) : Type 0 where
+  pub aim : Aim
+  pub number : aim.target ≡ one.object
+  pub lacks : one.lack ≡ Version
+  pub hidden : IsVisible s aim.object at → ⊥
+
+-- An object was refused over a drive in which room was made by an order's means: once the moment was brought in reach for the changes of
+-- these plans, room was made in all journals that the order has, and others were tried.
+pub record IsRefusedFrom (d : DriveFields) (order : Order) (at : ℕ) (chosen : List ObjectPlan) (one : Lacking) : Type 0 where
+  pub widened : Option ℕ
+  pub wide : DriveFields
+  pub widens : Widens (state_in d) 0 at (changes_ahead chosen order.full.now) widened (state_in wide)
+  pub store_stays : store_of wide ≡ store_of d
+  pub ready : DriveFields
+  pub made : AreMade wide at order.full.now ready
+  pub refused : IsRefusedAfter ready at one
+
+-- A trial by an order refused an object, once room was made by the order's means.
+pub record IsRefusedBy (d : DriveFields) (order : Order) (at : ℕ) (one : Lacking) : Type 0 where
+  pub seen : DriveFields
+  pub same : IsSameDrive d seen
+  pub cleared : DriveFields
+  pub compacted : IsCompactedBy order.means seen cleared
+  pub chosen : List ObjectPlan
+  pub planned : AllByRecursion (IsPlanned (state_in d) at) chosen
+  pub refused : IsRefusedFrom cleared order at chosen one
+
+-- An object can't be restored by an order, as a trial found: its moment is hidden, or it was refused.
+abbrev pub IsLackingBy : DriveFields → Order → Lacking → Type 0
+IsLackingBy d order one = IsHiddenAlone (state_in d) (moment_said (state_in d) order.at) one ⊎ IsRefusedBy d order (moment_said (state_in d) order.at) one
+
+-- Some means leave less room than there was over a drive that has this one's state and objects.
+pub record LacksMeans (means : Means) (d : DriveFields) : Type 0 where
+  pub seen : DriveFields
+  pub same : IsSameDrive d seen
+  pub none : HasNoMeans means seen
+
+-- What a trial by an order found: no room can be made by its means; or these are lacking.
+abbrev pub Finds : DriveFields → Order → Option Survey → Type 0
+Finds d order None = LacksMeans order.means d
+Finds d order (Some survey) = AllByRecursion (IsLackingBy d order) survey.hidden.items × AllByRecursion (IsLackingBy d order) survey.refused.items
+
+-- What these plans are of was restored over a drive in which room was made by an order's means: once the moment was brought in reach for their
+-- changes, and room was made in all journals that the order has.
+pub record IsServedFrom (d : DriveFields) (order : Order) (at : ℕ) (chosen : List ObjectPlan) : Type 0 where
+  pub widened : Option ℕ
+  pub wide : DriveFields
+  pub widens : Widens (state_in d) 0 at (changes_ahead chosen order.full.now) widened (state_in wide)
+  pub store_stays : store_of wide ≡ store_of d
+  pub ready : DriveFields
+  pub made : AreMade wide at order.full.now ready
+  pub restored : AllByRecursion (λ (p : ObjectPlan). IsRestoredAfter ready at p.aim) chosen
+
+-- An order serves at a moment: all that it chooses was restored in a trial, once room was made by its means.
+pub record IsServedAt (d : DriveFields) (order : Order) (at : ℕ) : Type 0 where
+  pub seen : DriveFields
+  pub same : IsSameDrive d seen
+  pub cleared : DriveFields
+  pub compacted : IsCompactedBy order.means seen cleared
+  pub chosen : List ObjectPlan
+  pub choice : AreChosen (state_in d) (store_of d) order at chosen
+  pub serves : IsServedFrom cleared order at chosen
+
+-- So it is where a trial found nothing lacking.
+abbrev pub Serves : DriveFields → Order → Option Survey → Type 0
+Serves d order None = ⊤
+Serves d order (Some survey) = IsFine survey → IsServedAt d order (moment_said (state_in d) order.at)

@@ -1,8 +1,0 @@
-use Rattle.std.proofs.Common.{◌≡◌, take}
-use Rattle.s4_restore.proofs.restoring.objects_of.Given as goal
-
--- the numbers so far were taken
-abbrev pub invariant-loop-number : goal.invariant-loop-number
-invariant-loop-number l = record {
-  taken : l.objects.items ≡ take l.number-index l.numbers;
-}

@@ -1,0 +1,6 @@
+use Rattle.s4_restore.specs.Searching.{Knows}
+use Rattle.s4_restore.proofs.searching.found_by.Given as goal
+
+-- what is known so far
+abbrev pub invariant-loop : goal.invariant-loop
+invariant-loop g l = Knows (g.F.Files.contents l.files l.asked.image.now) l.asked l.stand_ins l.means l.search

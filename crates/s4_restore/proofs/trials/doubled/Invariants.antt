@@ -1,8 +1,0 @@
-use Rattle.drive.specs.Fields.{DriveFields}
-use Rattle.s4_images.specs.Commands.{OverImage}
-use Rattle.s4_restore.specs.Trials.{IsRefusedAt}
-use Rattle.s4_restore.proofs.trials.doubled.Given as goal
-
--- the lower number is refused
-abbrev pub invariant-loop : goal.invariant-loop
-invariant-loop g l = OverImage (g.F.Files.contents l.files l.image) (λ (d : DriveFields). IsRefusedAt d l.at l.stand_ins l.object l.low)
