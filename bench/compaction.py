@@ -1,12 +1,14 @@
 #!/usr/bin/env python3
-"""How much room `s4 compact` makes, beside an older one, the same called again and again, and what moves could still give.
+"""How much room `s4 compact` makes, beside a plain loop of the library's calls, and what moves could still give.
 
-    compaction.py S4D S4 OLD [IMAGES [FIRST]]     programs; 100 random images by seeds from 0 on where these aren't given
+    compaction.py S4D S4 REPLAY [IMAGES [FIRST]]     programs; 100 random images by seeds from 0 on where these aren't given
 
-For each kind of image: how many blocks of room are gained by OLD once, by OLD until it gains no more, by S4 once, and the most that is
-known to be possible: the best of these, and of a model of moves that begins with the image and with what each of them left. The model
-empties each frame whose moves write fewer blocks than are freed, also in other frames, until there is none. Last, how many images have
-less room afterwards, by OLD and by S4, and how long S4 took for the largest.
+For each kind of image: how many blocks of room are gained by the loop, by S4, and the most that is known to be possible: the best of
+these, and of a model of moves that begins with the image and with what S4 left. The loop is played by REPLAY: a pass of the cleaner, and
+then every object is moved out of one frame after another, those with the fewest held blocks first, until a turn gives no more room; the
+most that it had after any turn counts. The model empties each frame whose moves write fewer blocks than are freed, also in other frames,
+until there is none. Last, the image of which S4 made the least share of the loop's room, how many have less room afterwards, and how long
+S4 took for the largest.
 """
 import importlib.machinery
 import os
@@ -18,6 +20,7 @@ import tempfile
 import time
 import types
 
+PIECE = 8192  # how many bytes of an image a line has
 RECKONED = os.path.join(os.path.dirname(os.path.abspath(__file__)), "..", "tests", "bin", "reckoned")
 CREATE, DELETE, WRITE, APPEND, TRUNCATE, SET_ATTRIBUTE, SET_WINDOW, FLUSH, FLUSH_OBJECT = 1, 2, 4, 5, 6, 8, 9, 10, 11
 
@@ -63,7 +66,7 @@ def flooded(objects, changes, flood):
 
 
 def thrown(dice, frames):
-    """Requests that look thrown, and a window that they may end with."""
+    """Random requests, and a window that they may end with."""
     most, made = dice.randrange(1, 40), 0
     for step in range(dice.randrange(30, 25 * frames)):
         if made == 0 or made < most and dice.random() < 0.15:
@@ -116,22 +119,53 @@ def room(program, path):
     return int(told.split("room ")[1].split()[0])
 
 
-def compacted(program, info, path, again):
-    """The room of a copy that is compacted, once or until it gains no more; the copy; and the seconds of the first time."""
-    copy = f"{path}.{os.path.basename(program)}{again}"
+def compacted(s4, path):
+    """A copy that is compacted, and the seconds that this took."""
+    copy, began = f"{path}.compacted", time.monotonic()
     shutil.copy(path, copy)
-    began, gained = time.monotonic(), room(info, copy)
-    before = gained
-    subprocess.run([program, "compact", copy], stdout=subprocess.DEVNULL, check=True)
-    seconds, gained = time.monotonic() - began, room(info, copy)
-    while again and gained > before:
-        before = gained
-        subprocess.run([program, "compact", copy], stdout=subprocess.DEVNULL, check=True)
-        gained = room(info, copy)
-    return gained, copy, seconds
+    subprocess.run([s4, "compact", copy], stdout=subprocess.DEVNULL, check=True)
+    return copy, time.monotonic() - began
 
 
-def measured(s4d, s4, old, folder, image):
+class Loop:
+    """A plain loop of the library's calls over an image."""
+
+    def __init__(self, replay, path):
+        image = reckoned.Past(path)
+        with open(path, "rb") as file:
+            data = file.read()
+        self.replay, self.frames, self.objects = replay, range(len(image.frames)), list(image.rows)
+        self.lines = [f"image {len(data)}"]
+        self.lines += [f"put {at} {data[at:at + PIECE].hex()}" for at in range(0, len(data), PIECE)]
+        self.lines.append("open")
+
+    def answers(self, *questions):
+        """Plays all lines so far and these, and gives their answers."""
+        script = "\n".join([*self.lines, *questions, ""])
+        told = subprocess.run([self.replay, "--print"], input=script, capture_output=True, text=True, check=True).stdout
+        return [int(it.split(" -> ")[1]) for it in told.splitlines()[-1 - len(questions):-1]]
+
+    def turn(self):
+        """Takes a turn, and gives the room after it."""
+        self.lines += ["pass -> any", "empty -> any"]
+        held = self.answers(*(f"held_count {frame}" for frame in self.frames))
+        for frame in sorted((it for it in self.frames if held[it] > 0), key=lambda it: held[it]):
+            for key in self.objects:
+                self.lines.append(f"client Plan {frame} {key} -> any ; client Copy -> any ; client Commit -> any")
+            self.lines.append("empty -> any")
+        return self.answers("room")[0]
+
+    def room(self):
+        """The most room that it makes."""
+        most, room = self.answers("room")[0], self.turn()
+        while room > most:
+            most, room = room, self.turn()
+        return most
+
+
+def measured(programs, folder, image):
+    """The blocks of room that are gained by the loop, by `s4 compact` and at most; and the seconds of `s4 compact`."""
+    s4d, s4, replay = programs
     frames, window, upkeep, requests = image
     path, session = os.path.join(folder, "image"), os.path.join(folder, "session")
     for name in os.listdir(folder):
@@ -141,11 +175,11 @@ def measured(s4d, s4, old, folder, image):
     subprocess.run([s4d, "new", "--window", str(window), path, str(frames)], check=True)
     ways = [] if upkeep else ["--no-upkeep"]
     subprocess.run([s4d, "run", "--tick", "0", *ways, path, f"admin:{session}:{folder}/replies"], check=True)
-    before = room(s4, path)
-    once, repeated, new = compacted(old, s4, path, ""), compacted(old, s4, path, "+"), compacted(s4, s4, path, "")
-    models = [moved(it) for it in (path, repeated[1], new[1])]
-    best = max(once[0], repeated[0], new[0], *models)
-    return [it - before for it in (once[0], repeated[0], new[0], best)], new[2]
+    before, loop = room(s4, path), Loop(replay, path).room()
+    copy, seconds = compacted(s4, path)
+    after = room(s4, copy)
+    best = max(loop, after, moved(path), moved(copy))
+    return [it - before for it in (loop, after, best)], seconds
 
 
 def main(words):
@@ -154,21 +188,23 @@ def main(words):
         return
     if len(words) not in (3, 4, 5):
         sys.exit(__doc__)
-    s4d, s4, old = map(os.path.abspath, words[:3])
+    programs = list(map(os.path.abspath, words[:3]))
     count, first = [int(it) for it in words[3:]] + [100, 0][len(words) - 3:]
-    print(f"{'blocks of room gained':40}{'old':>8}{'repeated':>10}{'new':>8}{'possible':>10}{'new of it':>11}")
-    less, slowest = [0, 0], 0.0
+    print(f"{'blocks of room gained':40}{'loop':>8}{'compact':>9}{'possible':>10}{'compact of it':>15}")
+    less, slowest, shares = 0, 0.0, []
     with tempfile.TemporaryDirectory() as folder:
         for name, images in loads(count, first):
-            sums = [0, 0, 0, 0]
-            for image in images:
-                gains, seconds = measured(s4d, s4, old, folder, image)
+            sums = [0, 0, 0]
+            for number, image in enumerate(images):
+                gains, seconds = measured(programs, folder, image)
                 sums = [it + max(gain, 0) for it, gain in zip(sums, gains)]
-                less = [it + (gain < 0) for it, gain in zip(less, (gains[0], gains[2]))]
-                slowest = max(slowest, seconds)
-            share = f"{sums[2] / sums[3]:11.3f}" if sums[3] else f"{'-':>11}"
-            print(f"{name:40}{sums[0]:8}{sums[1]:10}{sums[2]:8}{sums[3]:10}{share}")
-    print(f"images with less room: old {less[0]}, new {less[1]}; the slowest of new: {slowest:.2f} s")
+                less, slowest = less + (gains[1] < 0), max(slowest, seconds)
+                if gains[0] > 0:
+                    shares.append((gains[1] / gains[0], f"{name}, number {number}: {gains[1]} of {gains[0]}"))
+            share = f"{sums[1] / sums[2]:15.3f}" if sums[2] else f"{'-':>15}"
+            print(f"{name:40}{sums[0]:8}{sums[1]:9}{sums[2]:10}{share}", flush=True)
+    print(f"the least share of the loop's room: {'%.3f, %s' % min(shares)}; below 0.9: {sum(it < 0.9 for it, _ in shares)} of {len(shares)}")
+    print(f"images with less room: {less}; the slowest: {slowest:.2f} s")
 
 
 main(sys.argv[1:])

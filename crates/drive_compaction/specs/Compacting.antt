@@ -1,11 +1,13 @@
 -- What a compaction comes to.
-use Rattle.std.specs.Prelude.{◌≡◌, ◌≤◌, ◌<◌, Bool}
+use Rattle.std.specs.Prelude.{◌≡◌, ℕ, ◌≤◌, ◌<◌, Bool}
 use Rattle.s4_types.specs.declared.refusals.Refusal.{Refusal}
 use Rattle.s4_types.specs.declared.refusals.Refusal.TheVariants.{NoRoom}
 use Rattle.version_store.specs.Costs.{room}
 use Rattle.drive.specs.Fields.{DriveFields, store_of}
 use Rattle.segment_copier.specs.Gathering.{free_count}
 use Rattle.drive_compaction.specs.declared.compacting.Compaction.{Compaction}
+use Rattle.drive_compaction.specs.declared.turns.Ending.{Ending}
+use Rattle.drive_compaction.specs.declared.turns.Work.{Work}
 use Rattle.drive_compaction.specs.Turns.{Runs}
 
 -- A drive was compacted, with or without the cleaner: turns were taken, and it has no less room than before.
@@ -17,7 +19,11 @@ pub record IsCompacted (cleans : Bool) (d later : DriveFields) (report : Compact
   pub more : room (store_of d) ≤ room (store_of later)
   pub runs : Runs cleans d report.turns report.work report.ending later
 
--- What the turns did left less room than before.
-pub record LosesRoom (d later : DriveFields) (e : Refusal) : Type 0 where
+-- Turns were taken, with or without the cleaner, and there is less room than before.
+pub record LosesRoom (cleans : Bool) (d later : DriveFields) (e : Refusal) : Type 0 where
   pub refusal : e ≡ NoRoom
+  pub turns : ℕ
+  pub work : Work
+  pub ending : Ending
+  pub runs : Runs cleans d turns work ending later
   pub less : room (store_of later) < room (store_of d)

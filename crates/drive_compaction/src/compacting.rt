@@ -41,7 +41,7 @@ fn compact_by<J: Naming>(
 ) -> Result<Compaction, Refusal>
     ensures compacted { IfOk result (IsCompacted cleans drive.old drive.new) }
     ensures refusal { IfErr result (λ e. (e ≡ NoMemory) ⊎
-        ((e ≡ Busy) ⊎ (LosesRoom drive.old drive.new e ⊎ FindsReader drive.old drive.new e))) }
+        ((e ≡ Busy) ⊎ (LosesRoom cleans drive.old drive.new e ⊎ FindsReader drive.old drive.new e))) }
     ensures ledger { drive.new.ledger ≡ drive.old.ledger }
     ensures needed { KeepsVersions (state_in drive.old) (store_of drive.old) (store_of drive.new) }
 {
@@ -86,7 +86,7 @@ pub fn compact<J: Naming>(
 ) -> Result<Compaction, Refusal>
     ensures compacted { IfOk result (IsCompacted true drive.old drive.new) }
     ensures refusal { IfErr result (λ e. (e ≡ NoMemory) ⊎
-        ((e ≡ Busy) ⊎ (LosesRoom drive.old drive.new e ⊎ FindsReader drive.old drive.new e))) }
+        ((e ≡ Busy) ⊎ (LosesRoom true drive.old drive.new e ⊎ FindsReader drive.old drive.new e))) }
     ensures ledger { drive.new.ledger ≡ drive.old.ledger }
     ensures needed { KeepsVersions (state_in drive.old) (store_of drive.old) (store_of drive.new) }
 {
@@ -102,7 +102,7 @@ pub fn compact_by_moves<J: Naming>(
 ) -> Result<Compaction, Refusal>
     ensures compacted { IfOk result (IsCompacted false drive.old drive.new) }
     ensures refusal { IfErr result (λ e. (e ≡ NoMemory) ⊎
-        ((e ≡ Busy) ⊎ (LosesRoom drive.old drive.new e ⊎ FindsReader drive.old drive.new e))) }
+        ((e ≡ Busy) ⊎ (LosesRoom false drive.old drive.new e ⊎ FindsReader drive.old drive.new e))) }
     ensures ledger { drive.new.ledger ≡ drive.old.ledger }
     ensures needed { KeepsVersions (state_in drive.old) (store_of drive.old) (store_of drive.new) }
 {

@@ -1,19 +1,15 @@
 -- What `compact` prints, and what it leaves.
-use Rattle.std.specs.Prelude.{◌≡◌, ◌⊎◌, ℕ, ◌++◌, ◌==◌, if◌then◌else◌, Bool, true, false, List, Option, codes, decimal}
+use Rattle.std.specs.Prelude.{◌≡◌, ℕ, ◌++◌, ◌==◌, if◌then◌else◌, Bool, true, false, List, Option, codes, decimal}
 use Rattle.std.specs.Io.KnownBytes.{Appends}
 use Rattle.serde_json.specs.Data.{Data, number, unsigned, string, object, member, no_members}
 use Rattle.history_text.specs.Json.{json_line}
-use Rattle.s4_types.specs.declared.refusals.Refusal.TheVariants.{NoRoom}
 use Rattle.drive.specs.Fields.{DriveFields, state_in, store_of}
 use Rattle.drive.specs.Keeping.{KeepsVersions}
-use Rattle.drive_compaction.specs.Compacting.{IsCompacted, LosesRoom}
+use Rattle.drive_compaction.specs.Compacting.{IsCompacted}
 use Rattle.drive_compaction.specs.Past.{IsPast}
 use Rattle.drive_compaction.specs.declared.turns.Ending.{Ending}
 use Rattle.drive_compaction.specs.declared.turns.Ending.TheVariants.{Done, OutOfRoom, Limit}
 use Rattle.s4_command.specs.declared.whole.CompactAsked.{CompactAsked}
-use Rattle.s4_images.specs.Commands.{OverImage, ChangesImage}
-use Rattle.s4_images.specs.declared.commands.Verdict.{Verdict}
-use Rattle.s4_images.specs.declared.commands.Verdict.TheVariants.{Fine, Differs}
 use Rattle.s4_compact.specs.declared.reports.Report.{Report}
 
 -- ---- what is printed
@@ -95,19 +91,3 @@ pub record CompactsBy (cleans : Bool) (d later : DriveFields) (compact : Compact
 pub record Compacts (d later : DriveFields) (compact : CompactAsked) (output output' : Option (List ℕ)) : Type 0 where
   pub cleans : Bool
   pub compacts : CompactsBy cleans d later compact output output'
-
--- With the cleaner a drive would have less room than before.
-pub record LosesByCleaning (d : DriveFields) : Type 0 where
-  pub later : DriveFields
-  pub loses : LosesRoom d later NoRoom
-
--- what a trial found of a drive: whether it has no less room with the cleaner
-abbrev pub Tries : DriveFields → Verdict → Type 0
-Tries d Fine = Unit {0}
-Tries d Differs = LosesByCleaning d
-
--- The drive of an image was compacted with the cleaner; or without it, where it would have less room with it.
-abbrev pub CompactsImage : (known known' : Option (List ℕ)) → CompactAsked → (output output' : Option (List ℕ)) → Type 0
-CompactsImage known known' compact output output' =
-    ChangesImage known known' (λ d later. CompactsBy true d later compact output output')
-    ⊎ (OverImage known LosesByCleaning × ChangesImage known known' (λ d later. CompactsBy false d later compact output output'))

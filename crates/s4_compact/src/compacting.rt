@@ -1,29 +1,27 @@
 //! `compact`: room is made in a drive.
-ghost use Rattle.std.specs.Prelude.{◌≡◌, ℕ, ◌+◌, ◌^◌, ◌<◌, true, List, IfOk, OnErr, OnOk};
+ghost use Rattle.std.specs.Prelude.{◌≡◌, ℕ, ◌+◌, ◌^◌, ◌<◌, List, OnErr, OnOk};
 ghost use Rattle.std.specs.Io.KnownBytes.{Appends, Keeps};
-ghost use Rattle.drive.specs.Fields.{state_in, store_of};
-ghost use Rattle.drive.specs.Keeping.{KeepsVersions};
-ghost use Rattle.drive_compaction.specs.Compacting.{IsCompacted};
-ghost use Rattle.s4_images.specs.Commands.{OverImage, ChangesImage};
-ghost use Rattle.s4_compact.specs.Compacting.{printed, CompactsBy, Compacts, Tries};
-ghost use Rattle.s4_compact.specs.Compacting.{LosesByCleaning, CompactsImage};
+ghost use Rattle.s4_images.specs.Commands.{ChangesImage};
+ghost use Rattle.s4_compact.specs.Compacting.{printed, Compacts};
+ghost use Rattle.s4_compact.specs.Trying.{cleans_best, is_enough, CompactsBest, CompactsImage};
 
 use crate::reports::{Report, printed};
+use crate::trying::{compact_drive, try_image};
 use drive::Drive;
-use drive_compaction::{Compaction, compact, compact_by_moves, past_blocks};
+use drive_compaction::past_blocks;
 use image_commands::{Files, Placed, write_out};
 use s4_command::CompactAsked;
-use s4_images::{DriveChange, DriveCommand, Failure, Verdict, change_image, over_image};
-use s4_types::{Refusal, Role};
+use s4_images::{DriveChange, Failure, change_image};
+use s4_types::Refusal;
 use segment_word::Naming;
-use serving::{MemorySink, Sink};
+use serving::Sink;
 use std::alloc::Global;
 use std::thread::Threads;
 
-/// Compacts the drive of an image, saves it there, and prints what that came to. A trial comes
-/// first: where a drive would have less room with the cleaner than before, frames are emptied by
-/// moves alone. So no image has less room afterwards. Where anything fails all files are as they
-/// were.
+/// Compacts the drive of an image, saves it there, and prints what that came to. Two trials come
+/// first, of which nothing is kept: with the cleaner, and by moves alone. What leaves more room is
+/// made, and with the cleaner where both leave the same. So no image has less room afterwards. Where
+/// anything fails all files are as they were.
 #[tactic(auto, using(s4_images::proofs::Kept::untouched))]
 pub fn compact_image<T: Threads, F: Files, W: Sink>(
     rt: &T,
@@ -42,27 +40,50 @@ pub fn compact_image<T: Threads, F: Files, W: Sink>(
     ensures kept { OnErr result ((path : List ℕ) → Keeps (F.contents files.old path)
         (F.contents files.new path)) }
 {
-    let mut nowhere = MemorySink::new(alloc);
-    match over_image(rt, alloc, files, asked.image, &Trial, &mut nowhere)? {
-        Verdict::Fine => compact_by(rt, alloc, files, asked, true, writer),
-        Verdict::Differs => compact_by(rt, alloc, files, asked, false, writer),
+    let cleaned = try_image(rt, alloc, files, asked.image, true)?;
+    let moved = try_image(rt, alloc, files, asked.image, false)?;
+    if cleans_best(cleaned, moved) {
+        return compact_by(rt, alloc, files, asked, true, moved, writer);
+    }
+    compact_by(rt, alloc, files, asked, false, cleaned, writer)
+}
+
+// Whether the cleaner's trial left no less room than that of moves alone.
+fn cleans_best(cleaned: Option<usize>, moved: Option<usize>) -> bool
+    ensures { result ≡ cleans_best cleaned moved }
+{
+    match cleaned {
+        Some(room) => is_enough(true, moved, room),
+        None => moved.is_none(),
+    }
+}
+
+// Whether the other way, whose trial found this, isn't better than one that leaves this much room.
+fn is_enough(cleans: bool, other: Option<usize>, room: usize) -> bool
+    ensures { result ≡ is_enough cleans other room }
+{
+    match other {
+        None => true,
+        Some(other) if cleans => other <= room,
+        Some(other) => other < room,
     }
 }
 
 // Compacts the drive of an image with the cleaner or without it, saves it there, and prints what
-// that came to.
+// that came to. NoRoom where it leaves less room than the other way's trial did.
 fn compact_by<T: Threads, F: Files, W: Sink>(
     rt: &T,
     alloc: Global,
     files: &mut F,
     asked: &CompactAsked<'_>,
     cleans: bool,
+    other: Option<usize>,
     writer: &mut W,
 ) -> Result<Placed, Failure>
     requires writer { W.failures writer.old + 1 < 2 ^ 64 }
     ensures by { OnOk result (ChangesImage (F.contents files.old asked.now.image.now)
-        (F.contents files.new asked.now.image.now) (λ drive later. CompactsBy cleans drive later
-        asked.now (W.passed writer.old) (W.passed writer.new))) }
+        (F.contents files.new asked.now.image.now) (λ drive later. CompactsBest cleans other drive
+        later asked.now (W.passed writer.old) (W.passed writer.new))) }
     ensures compacts { OnOk result (ChangesImage (F.contents files.old asked.now.image.now)
         (F.contents files.new asked.now.image.now) (λ drive later. Compacts drive later asked.now
         (W.passed writer.old) (W.passed writer.new))) }
@@ -74,30 +95,13 @@ fn compact_by<T: Threads, F: Files, W: Sink>(
         alloc,
         files,
         asked.image,
-        &Compacting { asked, cleans },
+        &Compacting {
+            asked,
+            cleans,
+            other,
+        },
         writer,
     )
-}
-
-/// Whether a drive has no less room once it is compacted with the cleaner. Nothing is printed.
-struct Trial;
-
-impl DriveCommand for Trial {
-    ghost shows = { λ it d verdict output output'. Tries d verdict };
-
-    fn perform<J: Naming, W: Sink>(
-        &self,
-        alloc: Global,
-        drive: &mut Drive<J>,
-        _writer: &mut W,
-    ) -> Result<Verdict, Failure> {
-        let mut session = drive.session(Role::Client)?;
-        match compact(alloc, drive, &mut session) {
-            Ok(_) => Ok(Verdict::Fine),
-            Err(Refusal::NoRoom) => Ok(Verdict::Differs),
-            Err(refusal) => Err(Failure::from(refusal)),
-        }
-    }
 }
 
 /// What `compact` asks for, with the cleaner or without it.
@@ -105,10 +109,12 @@ impl DriveCommand for Trial {
 struct Compacting<'a> {
     asked: &'a CompactAsked<'a>,
     cleans: bool,
+    /// How much room the other way leaves; none where that is less than before.
+    other: Option<usize>,
 }
 
 impl DriveChange for Compacting<'_> {
-    ghost changes = { λ it d later. CompactsBy it.cleans d later it.asked.now };
+    ghost changes = { λ it d later. CompactsBest it.cleans it.other d later it.asked.now };
 
     fn make<J: Naming, W: Sink>(
         &self,
@@ -117,6 +123,9 @@ impl DriveChange for Compacting<'_> {
         writer: &mut W,
     ) -> Result<(), Failure> {
         let compaction = compact_drive(alloc, drive, self.cleans)?;
+        if !is_enough(self.cleans, self.other, compaction.room_after) {
+            return Err(Failure::from(Refusal::NoRoom));
+        }
         let report = Report {
             cleans: self.cleans,
             compaction,
@@ -124,25 +133,6 @@ impl DriveChange for Compacting<'_> {
         };
         write_report(alloc, &report, self.asked.json, writer)
     }
-}
-
-// Compacts a drive, with the cleaner or without it.
-fn compact_drive<J: Naming>(
-    alloc: Global,
-    drive: &mut Drive<J>,
-    cleans: bool,
-) -> Result<Compaction, Failure>
-    ensures compacted { IfOk result (IsCompacted cleans drive.old drive.new) }
-    ensures ledger { drive.new.ledger ≡ drive.old.ledger }
-    ensures needed { KeepsVersions (state_in drive.old) (store_of drive.old) (store_of drive.new) }
-{
-    let mut session = drive.session(Role::Client)?;
-    let compaction = if cleans {
-        compact(alloc, drive, &mut session)?
-    } else {
-        compact_by_moves(alloc, drive, &mut session)?
-    };
-    Ok(compaction)
 }
 
 // Writes what a compaction came to.

@@ -1,0 +1,15 @@
+use Rattle.image_commands.proofs.Done.{for_ok}
+use Rattle.s4_compact.proofs.compacting.compact_by.Goals as goal
+
+pub returns-clause-compacts : goal.returns-clause-compacts
+returns-clause-compacts g c = for_ok c.change_image.result
+    (λ done. record {
+      drive = done.drive;
+      told = done.told;
+      later = done.later;
+      changes = record { cleans = c.args.cleans; compacts = done.changes.by };
+      bytes = done.bytes;
+      saved = done.saved;
+      kept = done.kept;
+    })
+    c.change_image.ensures.changed
