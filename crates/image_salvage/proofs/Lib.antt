@@ -12,3 +12,4 @@ pub mod Noting
 pub mod Heading
 pub mod Passing
 pub mod Redoing
+pub mod Believing

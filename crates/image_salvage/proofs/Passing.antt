@@ -13,6 +13,7 @@ use Rattle.image_salvage.specs.declared.unlisted.Unlisted.{Unlisted}
 use Rattle.image_salvage.specs.Rows.{IsThere, IsLost}
 use Rattle.image_salvage.specs.LeftOut.{cut_moment}
 use Rattle.image_salvage.specs.Newest.{AreNewest}
+use Rattle.image_salvage.specs.Outdated.{AreBelieved}
 use Rattle.image_salvage.specs.Heads.{LeadsOn, MakesByCheckpoint, MakesHead}
 use Rattle.image_salvage.specs.Unlisted.{unlisted_inode, IsFound, IsListed, ObjectsAscend, FindsUnlisted}
 use Rattle.image_salvage.specs.private.Passing.{IsLeft, AreLeft, AddsFound, AreFoundAll}
@@ -203,13 +204,14 @@ is_added used heads o head u found later above object has leads same left_out li
 found_left : (used : Place → Option Stored) (heads left : ℕ → Option Note) (u : Unlisted) → left u.object ≡ heads u.object → IsFound used heads u → IsFound used left u
 found_left used heads left u same is = record { numbered = is.numbered; head = is.head; is = same ∙ is.is; leads = is.leads; inode_is = is.inode_is; left_out_is = is.left_out_is; live = is.live }
 
-pub finds_unlisted : (used : Place → Option Stored) (rows : List RowPart) (checkpoints heads left : ℕ → Option Note) (found : List Unlisted) → AreNewest (MakesByCheckpoint used) 16384 checkpoints → AreNewest (MakesHead used checkpoints) 16384 heads
-    → AreLeft used rows heads left → AreFoundAll used left found → FindsUnlisted used rows found
-finds_unlisted used rows checkpoints heads left found newest latest out are = record {
+pub finds_unlisted : (used : Place → Option Stored) (there rows : List RowPart) (checkpoints heads left : ℕ → Option Note) (found : List Unlisted) → AreNewest (MakesByCheckpoint used) 16384 checkpoints → AreNewest (MakesHead used checkpoints) 16384 heads
+    → AreBelieved used heads there rows → AreLeft used rows heads left → AreFoundAll used left found → FindsUnlisted used there rows found
+finds_unlisted used there rows checkpoints heads left found newest latest believed out are = record {
   checkpoints = checkpoints;
   newest_checkpoints = newest;
   heads = heads;
   newest_heads = latest;
+  believed = believed;
   all = λ u. (
     (λ has. (let is = (are.all u).0 has in elim (out u.object) [
       | inl listed ↦ some_none is.head (left u.object) is.is listed.1

@@ -33,6 +33,8 @@ use Rattle.segment_table.specs.Table.{Table}
 use Rattle.image_parts.specs.Causes.{FirstSplitCause}
 use Rattle.image_salvage.specs.Frames.{Sees, AreLostOf}
 use Rattle.image_salvage.specs.Salvaging.{SalvageFields, HasFault, SeesBy, IsSalvageOfParts, IsSalvageOfBytes, IsSalvageOf}
+use Rattle.image_salvage.specs.declared.unlisted.Unlisted.{Unlisted}
+use Rattle.image_salvage.specs.Unlisted.{FindsUnlistedBy}
 use Rattle.image_salvage.specs.Laws.{salvaged_version, IsSalvagedWhole, HasAll}
 use Rattle.image_salvage.proofs.Seeing.{OneSummaryASpelling}
 use Rattle.image_salvage.proofs.Alike.{RulesOfASummary, used_alike, none_lost_of}
@@ -147,6 +149,10 @@ parts_by : NoFaultIsThere → (bytes : List ℕ) (image : Image) (s : SalvageFie
 parts_by no_fault bytes image s spells (inl parts) = parts
 parts_by no_fault bytes image s spells (inr other) = absurd (no_fault bytes other.cause image (split_fault bytes other.cause other.split) spells)
 
+rows_by : (fault : Option Cause) (used : Place → Option Stored) (there rows : List RowPart) (found : List Unlisted) → fault ≡ None → FindsUnlistedBy fault used there rows found → rows ≡ there
+rows_by None used there rows found sound finds = finds.0
+rows_by (Some cause) used there rows found sound finds = absurd (cc)
+
 pub has_all : RulesOfASummary → OneSummaryASpelling → OnePointerASpelling → AllEntriesAreDone → InodesUsedPointToWhatRowsLeadTo → OnlyItsBlocksMatter → NoFaultIsThere → ImageIsRead
     → (bytes : List ℕ) (image : Image) (s : SalvageFields) → SpellsDrive bytes image → IsSalvageOf bytes s → HasAll image s
 has_all rules_of one_summary one_pointer done points only no_fault read bytes image s spells salvages =
@@ -160,7 +166,7 @@ has_all rules_of one_summary one_pointer done points only no_fault read bytes im
     let clock : image.clock < 2 ^ 64 = spells.parts.is.clock in
     record {
       sound = sound_by no_fault bytes image s.fault spells salvages.has;
-      same = parts.rows_are ∙ ap (λ (i : Image). i.rows) is;
+      same = rows_by s.fault (used_at s.table) (image_in bytes).rows s.rows s.unlisted (sound_by no_fault bytes image s.fault spells salvages.has) parts.unlisted_are ∙ ap (λ (i : Image). i.rows) is;
       table = chains.table;
       frames = chains.frames;
       rows = chains.rows;

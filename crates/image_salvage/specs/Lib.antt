@@ -12,5 +12,6 @@ pub mod Wholeness
 pub mod Newest
 pub mod Heads
 pub mod LeftOut
+pub mod Outdated
 pub mod Unlisted
 pub mod private

@@ -1,5 +1,5 @@
 -- What is salvaged of the bytes of an image, damaged or not.
-use Rattle.std.specs.Prelude.{◌≡◌, ◌⊎◌, ℕ, ◌-◌, nat_le, if◌then◌else◌, List, [], length, drop, Option, Some, None}
+use Rattle.std.specs.Prelude.{◌≡◌, ◌⊎◌, ℕ, ◌-◌, max, nat_le, if◌then◌else◌, List, [], length, drop, Option, Some, None}
 use Rattle.std.specs.Int.{w32}
 use Rattle.s4_types.specs.declared.refusals.Cause.{Cause}
 use Rattle.s4_types.specs.declared.refusals.Cause.TheVariants.{Header, Length, Digest, Frame, Span, Row, Chain}
@@ -16,8 +16,8 @@ use Rattle.image_salvage.specs.RowSearch.{FindsRows}
 use Rattle.image_salvage.specs.Unlisted.{FindsUnlisted, FindsUnlistedBy}
 use Rattle.image_salvage.specs.declared.unlisted.Unlisted.{Unlisted}
 
--- the first fault of an image, if it has one; its rows; how many more its header counts; the table of the frames by which rows are read; the
--- numbers of the frames that break a rule; and the objects that no row gives
+-- the first fault of an image, if it has one; its rows that aren't outdated; how many more there are, or its header counts; the table of the
+-- frames by which rows are read; the numbers of the frames that break a rule; and the objects that no row gives
 pub record SalvageFields : Type 0 where
   pub fault : Option Cause
   pub rows : List RowPart
@@ -47,27 +47,29 @@ abbrev pub SeesBy : List ℕ → Table → Option Cause → Type 0
 SeesBy bytes t None = Sees (image_in bytes).frames t
 SeesBy bytes t (Some cause) = Finds bytes t
 
--- The header is one, and the parts that it tells fill the bytes: the rows are the image's, and the frames that break a rule are known.
+-- The header is one, and the parts that it tells fill the bytes: the rows are the image's, outdated ones of a damaged image aside, and the
+-- frames that break a rule are known.
 pub record IsSalvageOfParts (bytes : List ℕ) (s : SalvageFields) : Type 0 where
   pub split : FirstSplitCause bytes None
-  pub rows_are : s.rows ≡ (image_in bytes).rows
-  pub missing_are : s.missing ≡ 0
+  pub unlisted_are : FindsUnlistedBy s.fault (used_at s.table) (image_in bytes).rows s.rows s.unlisted
+  pub missing_are : s.missing ≡ length (image_in bytes).rows - length s.rows
   pub lost_are : AreLostOf (image_in bytes).frames (length (image_in bytes).frames) s.lost
 
--- No header, or one that the bytes don't fit: the rows are those that are found, and those that the header counts beyond
--- them are missing. Of the words of frames nothing is known.
+-- No header, or one that the bytes don't fit: the rows are those that are found and aren't outdated. The others that are found are missing,
+-- or as many as the header counts, if that is more. Of the words of frames nothing is known.
 pub record IsSalvageOfBytes (bytes : List ℕ) (s : SalvageFields) : Type 0 where
   pub cause : Cause
   pub split : FirstSplitCause bytes (Some cause)
-  pub rows_are : FindsRows (used_at s.table) bytes s.rows
-  pub missing_are : s.missing ≡ rows_counted bytes cause - length s.rows
+  pub found : List RowPart
+  pub found_are : FindsRows (used_at s.table) bytes found
+  pub unlisted_are : FindsUnlisted (used_at s.table) found s.rows s.unlisted
+  pub missing_are : s.missing ≡ max (rows_counted bytes cause) (length found) - length s.rows
   pub lost_are : s.lost ≡ []
 
 -- It is salvaged of these bytes.
 pub record IsSalvageOf (bytes : List ℕ) (s : SalvageFields) : Type 0 where
   pub has : HasFault bytes s.fault
   pub sees : SeesBy bytes s.table s.fault
-  pub unlisted_are : FindsUnlistedBy s.fault (used_at s.table) s.rows s.unlisted
   pub of : IsSalvageOfParts bytes s ⊎ IsSalvageOfBytes bytes s
 
 -- Neither a row is found in bytes, nor an object that no row gives, over the frames that are found in them.
@@ -75,4 +77,4 @@ pub record HasNothing (bytes : List ℕ) : Type 0 where
   pub table : Table
   pub finds : Finds bytes table
   pub no_row : FindsRows (used_at table) bytes []
-  pub no_object : FindsUnlisted (used_at table) [] []
+  pub no_object : FindsUnlisted (used_at table) [] [] []

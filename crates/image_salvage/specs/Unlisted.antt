@@ -15,6 +15,7 @@ use Rattle.image_salvage.specs.declared.unlisted.Unlisted.{Unlisted}
 use Rattle.image_salvage.specs.Heads.{LeadsOn, MakesByCheckpoint, MakesHead}
 use Rattle.image_salvage.specs.LeftOut.{cut_moment, whole_inode}
 use Rattle.image_salvage.specs.Newest.{AreNewest}
+use Rattle.image_salvage.specs.Outdated.{AreBelieved}
 use Rattle.image_salvage.specs.Rows.{IsThere}
 
 -- the moment of the first of entries
@@ -50,17 +51,18 @@ abbrev pub ObjectsAscend : ℕ → List Unlisted → Type 0
 ObjectsAscend low [] = ⊤
 ObjectsAscend low (u ∷ found) = (low < u.object) × ObjectsAscend u.object found
 
--- These are the live objects that none of the rows gives, with the inode of each, ascending: by the newest checkpoint of each object, and
--- by the newest row that its blocks make, of all frames that a drive can have.
-pub record FindsUnlisted (used : Place → Option Stored) (rows : List RowPart) (found : List Unlisted) : Type 0 where
+-- These are the rows that aren't outdated, and the live objects that none of them gives, with the inode of each, ascending: by the newest
+-- checkpoint of each object, and by the newest row that its blocks make, of all frames that a drive can have.
+pub record FindsUnlisted (used : Place → Option Stored) (there rows : List RowPart) (found : List Unlisted) : Type 0 where
   pub checkpoints : ℕ → Option Note
   pub newest_checkpoints : AreNewest (MakesByCheckpoint used) (16 * MOST_FRAMES) checkpoints
   pub heads : ℕ → Option Note
   pub newest_heads : AreNewest (MakesHead used checkpoints) (16 * MOST_FRAMES) heads
+  pub believed : AreBelieved used heads there rows
   pub all : (u : Unlisted) → Contains found u ↔ ((IsListed used rows u.object → ⊥) × IsFound used heads u)
   pub ascend : ObjectsAscend 0 found
 
--- In an image without a fault no such objects are looked for.
-abbrev pub FindsUnlistedBy : Option Cause → (Place → Option Stored) → List RowPart → List Unlisted → Type 0
-FindsUnlistedBy None used rows found = found ≡ []
-FindsUnlistedBy (Some cause) used rows found = FindsUnlisted used rows found
+-- In an image without a fault all rows are believed, and no such objects are looked for.
+abbrev pub FindsUnlistedBy : Option Cause → (Place → Option Stored) → List RowPart → List RowPart → List Unlisted → Type 0
+FindsUnlistedBy None used there rows found = (rows ≡ there) × (found ≡ [])
+FindsUnlistedBy (Some cause) used there rows found = FindsUnlisted used there rows found

@@ -31,7 +31,8 @@ pub struct GivenOut {
     pub objects: u64,
     /// How many blocks of these are gone, for which zeros stand.
     pub blocks_gone: u64,
-    /// How many rows gave no object: they give none, or name one again or out of order, or aren't found though the header counts them.
+    /// How many rows gave no object: they give none, or name one again or out of order, or an older block of it than there is, or aren't found
+    /// though the header counts them.
     pub lost_objects: u64,
     /// How many frames are lost.
     pub lost_frames: u64,

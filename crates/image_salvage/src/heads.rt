@@ -186,7 +186,7 @@ fn head_of(
 }
 
 /// The newest entry of a journal block.
-fn newest_entry(block: EntryReader) -> Option<Entry>
+pub(crate) fn newest_entry(block: EntryReader) -> Option<Entry>
     ensures { result ≡ last_of block.entries }
 {
     let mut rest = block;
@@ -194,7 +194,7 @@ fn newest_entry(block: EntryReader) -> Option<Entry>
 }
 
 /// How far an entry is in the change of its moment.
-fn step_of(entry: &Entry) -> usize
+pub(crate) fn step_of(entry: &Entry) -> usize
     ensures { result ≡ step_by entry.now.triples }
 {
     match entry.triples() {

@@ -6,9 +6,9 @@
 //! present version the bytes are given that those frames have, with zeros for the blocks that are gone, and how many these are.
 //!
 //! In an image with a fault frames are found wherever they begin, whatever header, words and length say. Rows are those of the image where
-//! its header is one and the parts fill the bytes, and else all that are found outside of frames and give their object. An object that none of
-//! these rows gives is found by its newest journal block and its newest checkpoint, as it was after its last change that is whole: a change
-//! that may go on in a lost frame is left out.
+//! its header is one and the parts fill the bytes, and else all that are found outside of frames and give their object; one that names an
+//! older block of its object than there is counts as missing. An object that none of the others gives is found by its newest journal block and
+//! its newest checkpoint, as it was after its last change that is whole: a change that may go on in a lost frame is left out.
 //!
 //! `give_out` writes these into an empty folder, one file for each object that is there, and a manifest of them and of what is lost. It says
 //! that nothing is lost only where `verify` finds no fault and each live object was written whole (`laws::what_is_whole_is_all`).
@@ -23,6 +23,7 @@ pub mod laws;
 mod left_out;
 mod manifest;
 mod newest;
+mod outdated;
 mod row_search;
 mod rows;
 mod salvaging;

@@ -1,5 +1,5 @@
 //! The salvage of an image.
-ghost use Rattle.std.specs.Prelude.{◌≡◌, ◌⊎◌, ◌-◌, ◌<◌, length, slice_get, Option, Some, None, IfOk, IfErr};
+ghost use Rattle.std.specs.Prelude.{◌≡◌, ◌⊎◌, ◌-◌, ◌<◌, max, length, slice_get, Option, Some, None, IfOk, IfErr};
 ghost use Rattle.s4_types.specs.Sizes.{IsFrameCount};
 ghost use Rattle.s4_types.specs.declared.refusals.Cause.{Cause as Found};
 ghost use Rattle.s4_types.specs.declared.refusals.Refusal.TheVariants.{NoMemory, Damaged};
@@ -19,7 +19,7 @@ use crate::frames::{WholeFrames, whole_frames};
 use crate::row_search::find_rows;
 use crate::rows::{Salvaged, salvage_row};
 use crate::searching::{FoundFrames, find_frames};
-use crate::unlisted::{Unlisted, find_unlisted};
+use crate::unlisted::{FoundObjects, Unlisted, find_unlisted};
 use byteorder::{BigEndian, ByteOrder};
 use codec::Inode;
 use image_parts::{ImageParts, RowPart, split_parts};
@@ -63,14 +63,15 @@ impl SalvagedImage {
         self.fault
     }
 
-    /// How many rows there are.
+    /// How many rows there are. In a damaged image those don't count that name an older block of their object than there is: a damaged row may
+    /// do so, and would give an older version, or one that never was.
     pub fn rows(&self) -> usize
         ensures { result ≡ length self.now.rows }
     {
         self.rows.len()
     }
 
-    /// How many more rows the header counts, where it is one and the parts don't fill the bytes.
+    /// How many more rows there are, or the header counts, where it is one and the parts don't fill the bytes.
     pub fn missing_rows(&self) -> u64
         ensures { result ≡ self.now.missing }
     {
@@ -152,44 +153,56 @@ fn rows_of(alloc: Global, parts: &ImageParts<'_>) -> Result<Vec<RowPart>, Refusa
     Ok(rows)
 }
 
-/// The blocks by which rows are read, and the objects that no row gives.
+/// The blocks by which rows are read, the rows that aren't outdated, and the objects that none of them gives.
 #[derive(Drop)]
 struct Seen {
     table: TableBuilder,
+    rows: Vec<RowPart>,
     unlisted: Vec<Unlisted>,
 }
 
-/// The frames that are found in bytes, and the objects that none of these rows gives. NoMemory alone.
-fn search(alloc: Global, bytes: &[u8], rows: &[RowPart]) -> Result<Seen, Refusal>
+/// The frames that are found in bytes, those of these rows that aren't outdated, and the objects that none of them gives. NoMemory alone.
+fn search(alloc: Global, bytes: &[u8], there: &[RowPart]) -> Result<Seen, Refusal>
     ensures finds { IfOk result (λ seen. Finds bytes.now seen.table) }
-    ensures unlisted { IfOk result (λ seen. FindsUnlisted (used_at seen.table) rows.now seen.unlisted.items) }
+    ensures unlisted { IfOk result (λ seen. FindsUnlisted (used_at seen.table) there.now seen.rows.items seen.unlisted.items) }
     ensures refusal { IfErr result (λ e. e ≡ NoMemory) }
 {
     let FoundFrames { table, generations } = find_frames(alloc, bytes)?;
-    let unlisted = find_unlisted(alloc, &table, generations.as_slice(), rows)?;
-    Ok(Seen { table, unlisted })
+    let FoundObjects { rows, unlisted } = find_unlisted(
+        alloc,
+        &table,
+        generations.as_slice(),
+        there,
+    )?;
+    Ok(Seen {
+        table,
+        rows,
+        unlisted,
+    })
 }
 
 /// The table by which an image's rows are read: that of the frames that are whole by their words, where it has no fault. Else words aren't
-/// believed, and it is that of all frames that are found; then objects are looked for that no row gives. NoMemory alone.
+/// believed, and it is that of all frames that are found; nor are outdated rows, and objects are looked for that no other gives. NoMemory
+/// alone.
 fn seen_by(
     alloc: Global,
     bytes: &[u8],
     whole: TableBuilder,
     fault: Option<Cause>,
-    rows: &[RowPart],
+    there: Vec<RowPart>,
 ) -> Result<Seen, Refusal>
     requires sees { Sees (image_in bytes.now).frames whole }
     ensures sees { IfOk result (λ seen. SeesBy bytes.now seen.table fault) }
-    ensures unlisted { IfOk result (λ seen. FindsUnlistedBy fault (used_at seen.table) rows.now seen.unlisted.items) }
+    ensures unlisted { IfOk result (λ seen. FindsUnlistedBy fault (used_at seen.table) there.items seen.rows.items seen.unlisted.items) }
     ensures refusal { IfErr result (λ e. e ≡ NoMemory) }
 {
     match fault {
         None => Ok(Seen {
             table: whole,
+            rows: there,
             unlisted: Vec::new(alloc),
         }),
-        Some(_) => search(alloc, bytes, rows),
+        Some(_) => search(alloc, bytes, there.as_slice()),
     }
 }
 
@@ -207,13 +220,19 @@ fn salvage_parts(
     ensures salvaged { IfOk result (IsSalvageOf bytes.now) }
     ensures refusal { IfErr result (λ e. e ≡ NoMemory) }
 {
-    let rows = rows_of(alloc, parts)?;
+    let there = rows_of(alloc, parts)?;
+    let count = there.len();
     let WholeFrames { table: whole, lost } = whole_frames(alloc, parts)?;
-    let Seen { table, unlisted } = seen_by(alloc, bytes, whole, fault, rows.as_slice())?;
+    let Seen {
+        table,
+        rows,
+        unlisted,
+    } = seen_by(alloc, bytes, whole, fault, there)?;
+    let outdated = count.saturating_sub(rows.len()) as u64;
     Ok(SalvagedImage {
         fault,
         rows,
-        missing: 0,
+        missing: outdated,
         table,
         lost,
         unlisted,
@@ -231,11 +250,13 @@ fn rows_counted(bytes: &[u8], cause: Cause) -> u32
     }
 }
 
-/// How many rows are missing of those that the header counts, where so many are found.
-fn rows_missing(bytes: &[u8], cause: Cause, found: usize) -> u64
-    ensures { result ≡ rows_counted bytes.now cause - found }
+/// How many rows are missing of those that are found, or of as many as the header counts, if that is more, where so many are believed.
+fn rows_missing(bytes: &[u8], cause: Cause, found: usize, believed: usize) -> u64
+    ensures { result ≡ max (rows_counted bytes.now cause) found - believed }
 {
-    u64::from(rows_counted(bytes, cause)).saturating_sub(found as u64)
+    let counted = u64::from(rows_counted(bytes, cause));
+    let all = counted.max(found as u64);
+    all.saturating_sub(believed as u64)
 }
 
 /// The salvage of bytes that can't be split into parts, for this cause: frames and rows are found by themselves. NoMemory, or Damaged with
@@ -246,12 +267,17 @@ fn salvage_bytes(alloc: Global, bytes: &[u8], cause: Cause) -> Result<SalvagedIm
     ensures refusal { IfErr result (λ e. (e ≡ NoMemory) ⊎ ((e ≡ Damaged cause) × HasNothing bytes.now)) }
 {
     let FoundFrames { table, generations } = find_frames(alloc, bytes)?;
-    let rows = find_rows(alloc, &table, bytes)?;
-    let unlisted = find_unlisted(alloc, &table, generations.as_slice(), rows.as_slice())?;
-    if rows.is_empty() && unlisted.is_empty() {
+    let found = find_rows(alloc, &table, bytes)?;
+    let FoundObjects { rows, unlisted } = find_unlisted(
+        alloc,
+        &table,
+        generations.as_slice(),
+        found.as_slice(),
+    )?;
+    if found.is_empty() && unlisted.is_empty() {
         return Err(Refusal::Damaged(cause));
     }
-    let missing = rows_missing(bytes, cause, rows.len());
+    let missing = rows_missing(bytes, cause, found.len(), rows.len());
     Ok(SalvagedImage {
         fault: Some(cause),
         rows,
@@ -267,7 +293,8 @@ fn salvage_bytes(alloc: Global, bytes: &[u8], cause: Cause) -> Result<SalvagedIm
 /// Where they have none, the blocks are those of the frames, and the rows are the image's. Else the blocks are those of all frames that are
 /// found: a frame's summary has a digest of its own, so that neither header nor words nor length are asked for where it is. The rows are the
 /// image's, where its header is one and the parts fill the bytes, and else all that are found. A row by itself is believed nothing: what it
-/// leads to must name its object and making. Then the objects are looked for that no row gives.
+/// leads to must name its object and making, and be no older than the newest block of its object. Then the objects are looked for that no
+/// row gives.
 ///
 /// Damaged where the header is none, or the parts don't fill the bytes, and neither a row is found nor an object without one. NoMemory where
 /// memory is refused.

@@ -14,6 +14,7 @@ ghost use Rattle.image_salvage.specs.private.Passing.{AddsFound, AreFoundAll, Ar
 use crate::heads::{newest_checkpoints, newest_heads};
 use crate::left_out::{cut_moment, inode_before};
 use crate::newest::Note;
+use crate::outdated::believed_rows;
 use crate::rows::leads;
 use crate::used::TableBlocks;
 use codec::{Entry, Inode};
@@ -36,7 +37,7 @@ pub struct Unlisted {
 }
 
 /// Adds an item at the end. NoMemory alone.
-fn push<T: Copy>(items: &mut Vec<T>, item: &T) -> Result<(), Refusal>
+pub(crate) fn push<T: Copy>(items: &mut Vec<T>, item: &T) -> Result<(), Refusal>
     ensures items { OnOk result (items.new.items ≡ items.old.items ++ item.now ∷ []) }
     ensures refusal { IfErr result (λ e. e ≡ NoMemory) }
 {
@@ -193,21 +194,31 @@ fn all_found(
     Ok(found)
 }
 
-/// The live objects that none of these rows gives, ascending, as far as whole frames have their checkpoints and journals.
+/// The rows of a damaged image that aren't outdated, and the objects that none of them gives.
+#[derive(Drop)]
+pub(crate) struct FoundObjects {
+    pub(crate) rows: Vec<RowPart>,
+    pub(crate) unlisted: Vec<Unlisted>,
+}
+
+/// Those of these rows that aren't outdated, and the live objects that none of them gives, ascending, as far as whole frames have their
+/// checkpoints and journals.
 ///
 /// NoMemory alone, where memory for them is refused. Of each journal block one chain is read, and of each row: linear in the image.
 pub(crate) fn find_unlisted(
     alloc: Global,
     table: &TableBuilder,
     generations: &[u32],
-    rows: &[RowPart],
-) -> Result<Vec<Unlisted>, Refusal>
+    there: &[RowPart],
+) -> Result<FoundObjects, Refusal>
     requires generations { AreGenerations (used_at table.now) generations.now }
-    ensures finds { IfOk result (λ found. FindsUnlisted (used_at table.now) rows.now found.items) }
+    ensures finds { IfOk result (λ found. FindsUnlisted (used_at table.now) there.now found.rows.items found.unlisted.items) }
     ensures refusal { IfErr result (λ e. e ≡ NoMemory) }
 {
     let checkpoints = newest_checkpoints(alloc, table, generations)?;
     let mut heads = newest_heads(alloc, table, generations, &checkpoints)?;
-    pass_rows(alloc, table, rows, &mut heads)?;
-    all_found(alloc, table, &heads)
+    let rows = believed_rows(alloc, table, there, &heads)?;
+    pass_rows(alloc, table, rows.as_slice(), &mut heads)?;
+    let unlisted = all_found(alloc, table, &heads)?;
+    Ok(FoundObjects { rows, unlisted })
 }

@@ -1,4 +1,4 @@
--- The objects that rows give are left out, and the others found one by one.
+-- Rows that aren't outdated are gathered, the objects that they give left out, and the others found one by one.
 use Rattle.std.specs.Prelude.{◌≡◌, ◌⊎◌, ◌↔◌, ℕ, ◌++◌, List, [], ◌∷◌, Option, None}
 use Rattle.std.specs.List.{Contains}
 use Rattle.s4_types.specs.Pointer.{Place}
@@ -7,8 +7,13 @@ use Rattle.object_map.specs.Objects.{without_value}
 use Rattle.image_parts.specs.declared.rows.RowPart.{RowPart}
 use Rattle.image_salvage.specs.declared.newest.Note.{Note}
 use Rattle.image_salvage.specs.declared.unlisted.Unlisted.{Unlisted}
+use Rattle.image_salvage.specs.Outdated.{IsOutdated}
 use Rattle.image_salvage.specs.Rows.{IsThere, IsLost}
 use Rattle.image_salvage.specs.Unlisted.{IsFound, IsListed, ObjectsAscend}
+
+-- a row is added where it isn't outdated
+abbrev pub Believes : (Place → Option Stored) → (ℕ → Option Note) → RowPart → List RowPart → List RowPart → Type 0
+Believes used heads part believed later = (IsOutdated used heads part × (later ≡ believed)) ⊎ ((IsOutdated used heads part → ⊥) × (later ≡ believed ++ part ∷ []))
 
 -- the object of a row is left out where the row gives it
 abbrev pub IsLeft : (Place → Option Stored) → RowPart → (ℕ → Option Note) → (ℕ → Option Note) → Type 0

@@ -9,6 +9,13 @@ pub returns-clause-salvaged : goal.returns-clause-salvaged
 returns-clause-salvaged c = record {
   has = split_fault c.args.bytes.now c.args.cause c.requires.split;
   sees = c.in_ok-table.ensures.finds;
-  unlisted_are = subst (λ (l : List RowPart). FindsUnlisted (used_at c.in_ok-table.field-0.table) l c.in_ok-unlisted.unlisted.items) c.as_slice-2.ensures.value c.in_ok-unlisted.ensures.finds;
-  of = inr (record { cause = c.args.cause; split = c.requires.split; rows_are = c.in_ok-rows.ensures.rows; missing_are = search rules; lost_are = c.new.ensures.items });
+  of = inr (record {
+    cause = c.args.cause;
+    split = c.requires.split;
+    found = c.in_ok-found.found.items;
+    found_are = c.in_ok-found.ensures.rows;
+    unlisted_are = subst (λ (l : List RowPart). FindsUnlisted (used_at c.in_ok-table.field-0.table) l c.in_ok-rows.field-0.rows.items c.in_ok-rows.field-0.unlisted.items) c.as_slice-2.ensures.value c.in_ok-rows.ensures.finds;
+    missing_are = search rules;
+    lost_are = c.new.ensures.items;
+  });
 }
