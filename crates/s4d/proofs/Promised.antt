@@ -37,7 +37,7 @@ use Rattle.verifier.specs.Saved.{SpellsSaved}
 use Rattle.s4d_command.specs.declared.Run.{Run}
 use Rattle.s4d_command.specs.declared.sessions.RunSession.{RunSession}
 use Rattle.s4d.specs.Running.{Came, RunsImage, RunsSession}
-use Rattle.s4d.specs.Promised.{AnswersBeside, ComesTo, HaveMoments, IsSessionOf, KeepsItsPromise}
+use Rattle.s4d.specs.Promised.{AnswersBeside, ComesTo, Counted, HaveMoments, IsSessionOf, KeepsItsPromise}
 
 -- ---- a backend seen as another
 
@@ -80,8 +80,8 @@ abbrev seen_of : SessionFields → Session
 seen_of s = record { role = s.role; seen = s.told.seen }
 
 -- a session with what is counted of it, seen so
-abbrev seat_seen : SeatFields → Session
-seat_seen seat = seen_of seat.session
+abbrev seat_seen : SeatFields → Counted
+seat_seen seat = record { session = seen_of seat.session; requests = seat.requests }
 
 told_seen : (accepts : Bool) (l : Ledger) (t : Told) → (if accepts then credited l t else caught_up l t).seen ≡ accepted l.history
 told_seen true l t = refl
@@ -101,8 +101,9 @@ answers_beside : (base : Base) (clock : ClockFields) (old new : SeatFields) (req
     → AnswersBeside base clock (seat_seen old) request given reply (seat_seen new)
 answers_beside base clock old new request given reply is = record {
   count = is.answer.count;
-  counted = is.answer.counted;
+  late = is.answer.late;
   step = steps_beside base old.session new.session request (moment_at clock is.answer.count) reply is.answer.step;
+  counted = is.counted;
 }
 
 -- ---- how many changes replies accept

@@ -26,12 +26,19 @@ use Rattle.s4d_command.specs.declared.sessions.RunSession.{RunSession}
 use Rattle.image_commands.specs.Files.{AreKnown}
 use Rattle.s4d.specs.Running.{Came, HasFiles}
 
--- A request of a session is answered by a step of the model beside others, at a moment of the clock that all sessions share. Which one it
--- is rests on the others; the moment that the session is given by itself says nothing.
-pub record AnswersBeside (base : Base) (clock : ClockFields) (old : Session) (request : Request) (given : ℕ) (reply : Reply) (new : Session) : Type 0 where
+-- a session, and how many requests it was answered
+pub record Counted : Type 0 where
+  pub session : Session
+  pub requests : ℕ
+
+-- A request of a session is answered by a step of the model beside others, at a moment of the clock that all sessions share: one after the
+-- moments of at least as many requests as the session was answered. Which one it is rests on the others; the moment that the session is given
+-- by itself says nothing.
+pub record AnswersBeside (base : Base) (clock : ClockFields) (old : Counted) (request : Request) (given : ℕ) (reply : Reply) (new : Counted) : Type 0 where
   pub count : ℕ
-  pub counted : 0 < count
-  pub step : StepsBeside base old request (moment_at clock count) reply new
+  pub late : old.requests < count
+  pub step : StepsBeside base old.session request (moment_at clock count) reply new.session
+  pub counted : new.requests ≡ old.requests + 1
 
 -- A session of a role is served until this end: its requests are answered in order, so many of them, and so many changes of it are
 -- accepted; and the accepted changes that it has seen at the end begin those of the history that is left.
@@ -41,7 +48,7 @@ pub record IsServedBeside (base : Base) (left : History) (clock : ClockFields) (
   pub last : Session
   pub before : Undrawn
   pub after : Undrawn
-  pub serves : Serves (AnswersBeside base clock) DrawsNothing [] end first before input output last after input' output'
+  pub serves : Serves (AnswersBeside base clock) DrawsNothing [] end (record { session = first; requests = 0 }) before input output (record { session = last; requests = requests }) after input' output'
   pub asked : requests ≡ count_by is_request serves.finishes.items
   pub taken : changes ≡ count_by is_acceptance serves.finishes.replies
   pub seen : IsPrefix last.seen (accepted left)

@@ -110,10 +110,10 @@ shared_fresh base role d (Ok session) begins seen mine role_is = record { ledger
 shared_fresh base role d (Err refusal) begins seen mine role_is = tt
 
 -- the same of a session that draws its moment with the drive's lock
-pub answer_fetched : (base : Base) (clock : ClockFields) (old new : SessionFields) (o off len : ℕ) (at : Option ℕ) (planned : Result PlanFields Refusal) (reply : Reply)
-    → SharedAnswer base clock old (Read o off len at) (reply_planned planned) new → IsFetched planned reply → SharedAnswer base clock old (Read o off len at) reply new
-answer_fetched base clock old new o off len at planned reply a is = record {
+pub answer_fetched : (base : Base) (clock : ClockFields) (own : ℕ) (old new : SessionFields) (o off len : ℕ) (at : Option ℕ) (planned : Result PlanFields Refusal) (reply : Reply)
+    → SharedAnswer base clock own old (Read o off len at) (reply_planned planned) new → IsFetched planned reply → SharedAnswer base clock own old (Read o off len at) reply new
+answer_fetched base clock own old new o off len at planned reply a is = record {
   count = a.count;
-  counted = a.counted;
+  late = a.late;
   step = shared_fetched base old new o off len (moment_at clock a.count) at planned reply a.step is;
 }

@@ -29,7 +29,7 @@ pub record SeatFields : Type 0 where
 
 -- a request of it is answered, and counts as one
 pub record SeatAnswer (base : Base) (clock : ClockFields) (old : SeatFields) (request : Request) (reply : Reply) (new : SeatFields) : Type 0 where
-  pub answer : SharedAnswer base clock old.session request reply new.session
+  pub answer : SharedAnswer base clock old.requests old.session request reply new.session
   pub counted : new.requests ≡ old.requests + 1
 
 -- the same as a step of `serve`, which is given no moment that says anything

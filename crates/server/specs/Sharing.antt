@@ -48,11 +48,11 @@ pub record SharedStep (base : Base) (old : SessionFields) (request : Request) (n
   pub told : new ≡ record old { told = told_after reply after.ledger old.told }
   pub has_seen : FitsLedger after.ledger new.told
 
--- So it is answered at some moment of the clock that all sessions share: the drive's lock is held while that is drawn, and which one it
--- is rests on the others.
-pub record SharedAnswer (base : Base) (clock : ClockFields) (old : SessionFields) (request : Request) (reply : Reply) (new : SessionFields) : Type 0 where
+-- So a request is answered to a session that was answered `own` requests before, at a moment of the clock that all sessions share: the drive's
+-- lock is held while that is drawn. It comes after the moments of at least as many requests; how many more there are rests on the others.
+pub record SharedAnswer (base : Base) (clock : ClockFields) (own : ℕ) (old : SessionFields) (request : Request) (reply : Reply) (new : SessionFields) : Type 0 where
   pub count : ℕ
-  pub counted : 0 < count
+  pub late : own < count
   pub step : SharedStep base old request (moment_at clock count) reply new
 
 -- The session met the drive: it has seen all that was accepted in some history with this base, which begins with all that it

@@ -1,7 +1,7 @@
 //! The books of a run, in proofs alone: how many requests were answered, and how many changes accepted. The sessions of a run have a
 //! part of them each, and only with a part is a request answered. So what the drive has come to is what its sessions asked, once all
 //! parts are together again.
-ghost use Rattle.std.specs.Prelude.{◌≡◌, ℕ, ◌+◌, ◌-◌, ◌<◌, Bool, cond};
+ghost use Rattle.std.specs.Prelude.{◌≡◌, ℕ, ◌+◌, ◌-◌, ◌<◌, ◌≤◌, Bool, cond};
 ghost use Rattle.server.specs.Accounts.{one_part, counted};
 
 use segment_word::Naming;
@@ -125,7 +125,9 @@ impl<J: Running> Books<J> {
         requires { 0 < part.old.parts }
         ensures books { self.new ≡ record { requests = self.old.requests + 1; changes = self.old.changes + cond is_accepted 1 0 } }
         ensures part { part.new ≡ counted part.old is_accepted }
+        ensures bound { part.old.requests ≤ self.old.requests }
     {
+        self.requests.audit(&mut part.requests);
         self.requests.add(&mut part.requests, 1);
         self.changes.add(&mut part.changes, is_accepted as u64);
     }

@@ -53,7 +53,7 @@ fn resolve<J: Running>(
     at: Option<Moment>,
 ) -> Result<ReadPlan, Refusal>
     requires { 0 < part.old.parts }
-    ensures step { SharedAnswer J.base J.clock session.old (Read object offset length at) (reply_planned result) session.new }
+    ensures step { SharedAnswer J.base J.clock part.old.requests session.old (Read object offset length at) (reply_planned result) session.new }
     ensures part { part.new ≡ counted part.old false }
     ensures fits { ReplyFits (reply_planned result) }
 {
@@ -83,7 +83,7 @@ fn ask<J: Running>(
     request: Request,
 ) -> Reply
     requires { 0 < part.old.parts }
-    ensures step { SharedAnswer J.base J.clock session.old request result session.new }
+    ensures step { SharedAnswer J.base J.clock part.old.requests session.old request result session.new }
     ensures part { part.new ≡ counted part.old (is_acceptance result) }
     ensures fits { ReplyFits result }
 {
@@ -368,6 +368,21 @@ impl<'a, J: Running, R: Wait, G: Gate> Locked<'a, J, R, G> {
         self.gate.between(self.number, self.calls);
         fetched(self.alloc, planned)
     }
+
+    /// The reply to another request, all of it under the lock.
+    fn change(&mut self, request: Request) -> Reply
+        ensures step { SeatAnswer J.base J.clock self.old request result self.new }
+        ensures fits { ReplyFits result }
+    {
+        ask(
+            self.rt,
+            self.drive,
+            self.pace,
+            &mut self.session,
+            &mut self.part,
+            request,
+        )
+    }
 }
 
 impl<J: Running, R: Wait, G: Gate> Backend for Locked<'_, J, R, G> {
@@ -384,14 +399,7 @@ impl<J: Running, R: Wait, G: Gate> Backend for Locked<'_, J, R, G> {
                 length,
                 at,
             } => self.read(object, offset, length, at),
-            other => ask(
-                self.rt,
-                self.drive,
-                self.pace,
-                &mut self.session,
-                &mut self.part,
-                other,
-            ),
+            other => self.change(other),
         };
         self.gate.answered(self.number, self.calls);
         reply

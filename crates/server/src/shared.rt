@@ -120,7 +120,7 @@ impl<J: Running> SharedDrive<J> {
         request: Request,
     ) -> Reply
         requires { 0 < part.old.parts }
-        ensures step { SharedAnswer J.base J.clock session.old request result session.new }
+        ensures step { SharedAnswer J.base J.clock part.old.requests session.old request result session.new }
         ensures part { part.new ≡ counted part.old (is_acceptance result) }
         ensures fits { ReplyFits result }
     {
@@ -143,7 +143,7 @@ impl<J: Running> SharedDrive<J> {
         at: Option<Moment>,
     ) -> Result<ReadPlan, Refusal>
         requires { 0 < part.old.parts }
-        ensures step { SharedAnswer J.base J.clock session.old (Read object offset length at) (reply_planned result) session.new }
+        ensures step { SharedAnswer J.base J.clock part.old.requests session.old (Read object offset length at) (reply_planned result) session.new }
         ensures part { part.new ≡ counted part.old false }
         ensures fits { ReplyFits (reply_planned result) }
     {

@@ -13,6 +13,6 @@ returns-clause-step g c =
     let read = Read c.args.object c.args.offset c.args.length c.args.at in
     let new : SeatFields = record { session = planned.new.session; requests = planned.new.part.requests } in
     subst (λ (old : SeatFields). SeatAnswer base clock old read c.fetched.result new) c.self.view_is (record {
-      answer = answer_fetched base clock c.self.inside.session planned.new.session c.args.object c.args.offset c.args.length c.args.at planned.result c.fetched.result planned.ensures.step c.fetched.ensures;
+      answer = answer_fetched base clock c.self.inside.part.requests c.self.inside.session planned.new.session c.args.object c.args.offset c.args.length c.args.at planned.result c.fetched.result planned.ensures.step c.fetched.ensures;
       counted = ap (λ (p : PartFields). p.requests) planned.ensures.part;
     })

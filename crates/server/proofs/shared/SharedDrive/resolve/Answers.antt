@@ -50,7 +50,7 @@ returns-clause-step g c =
     let now = stopped_moment g.J.Running.clock inside.start inside.tick n c.saturating_add-self-inside.result c.moment_after-now.result inside.answered held.1 held.2 held.3 c.saturating_add-self-inside.ensures c.moment_after-now.ensures in
     record {
       count = n + 1;
-      counted = omega arith;
+      late = omega (arith, c.count.ensures.bound);
       step = subst (λ (m : ℕ). SharedStep g.J.Naming.base session read m (reply_planned asked.result) asked.new.session) now (record {
         before = inside.drive;
         after = asked.new.self;
