@@ -6,15 +6,15 @@
     seed     its proof once more, which    rattle  and by Rattle's own compiler
              two or more edits begin with
 
-    bench/gate.py                      at the top of the repository: runs `rt ci`, prints each of its lines behind the time of day, and
-                                       the table behind them. Ends with the gate's own status
+    bench/gate.py                      at the top of the repository: runs `rt ci`, prints each of its lines after the time of day, and
+                                       then the table. Ends with the gate's own status
     bench/gate.py run COMMAND ..       the same of another command, as `rt must-fail codec` or `rt check`
     bench/gate.py read LOG [EARLIER]   the table of a run whose output was kept, `bench/gate.py > LOG`, and what each row took more or
-                                       less than in an earlier one. A log without a table, which `rt ci` alone wrote behind times of
+                                       less than in an earlier one. A log without a table, which `rt ci` alone wrote after times of
                                        day: when each crate's proof and tests ended, in seconds after its first line
 
-`rt ci` tells no times. So this looks twice a second at all `rattle` processes below it, and adds up what each had taken when it
-was last seen. What processes take behind that, and what `rt` takes itself and the built tests do, is in the line `elsewhere`; the total
+`rt ci` prints no times. So this looks twice a second at all `rattle` processes below it, and adds up what each had taken when it
+was last seen. What processes take after that, and what `rt` takes itself and the built tests do, is in the line `elsewhere`; the total
 is what the system says of all of them, so it is exact. Nothing here changes how `rt ci` runs."""
 import os
 import re

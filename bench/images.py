@@ -1,12 +1,12 @@
 #!/usr/bin/env python3
 """Measures `s4d` over a full image of 1,024 frames, in seconds by the clock of a whole process and in the memory that it has at most:
 verify; at, which verifies, opens and reads; and run with no request, which verifies, opens and saves, and has to save the same bytes.
-Between them goes one SHA-256 of the image's bytes by Python's hashlib, the digest. Of seven rounds the median stands with the least and
-the most.
+Between them goes one SHA-256 of the image's bytes by Python's hashlib, the digest. Of seven rounds the median is printed with the least
+and the most.
 
     images.py [PROGRAM [OTHER]]      crates/s4d/out/s4d where it isn't given; build it by `rt run` there
 
-OTHER is the program of another commit, which runs between over the same image: then its figures stand there too.
+OTHER is the program of another commit, which runs between over the same image: then its figures are printed too.
 """
 import hashlib
 import os

@@ -30,7 +30,7 @@ def asked(objects, count):
 
 
 def made(program, folder, frames, window, objects):
-    """An image with so many objects."""
+    """An image with this number of objects."""
     image, creates = os.path.join(folder, "image"), os.path.join(folder, "creates")
     subprocess.run([program, "new", "--window", str(window), image, str(frames)], check=True)
     with open(creates, "wb") as file:

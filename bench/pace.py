@@ -2,12 +2,12 @@
 """Whether upkeep keeps pace with a session that never pauses: how many of its small Writes are taken, and in what time.
 
 One session of `s4d run` writes 100 bytes at the same place of each of 16 objects in turn, a million times, over a new image with a
-window of 100 moments; each request takes one. For each number of frames a line tells how many Writes were taken, how many refused as
+window of 100 moments; each request takes one. For each number of frames a line says how many Writes were taken, how many refused as
 NoSpace and as ChainFull, and the seconds by the clock of the run without those of a run whose session asks nothing. The figures
 depend on what else the machine does.
 
 With `--many` it is one of 15,000 objects on 1,024 frames that is written, 100,000 times; the others have no history left then. So the
-seconds tell what rounds cost that have one object to clean.
+seconds are what rounds cost that have one object to clean.
 
 Beside it: what a million Writes would take that need no upkeep, by the time of 3,600 Writes (all that 1,024 frames take) of a run
 without upkeep, the shortest of some trials; and a million Reads of 100 bytes without upkeep and with it.

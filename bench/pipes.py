@@ -4,11 +4,11 @@ meanwhile, and one that waits for each reply before it writes the next request.
 
 How many a second of the program's processor, the system's work for it counted, without what a run takes that is asked nothing; and
 how many a second by the clock, with the client's work, which is this process's, and with all waiting. Of each round the best of some
-trials counts, each over a new drive; of three rounds the median stands with the least and the most.
+trials counts, each over a new drive; of three rounds the median is printed with the least and the most.
 
     pipes.py [PROGRAM [OTHER]]      crates/s4d/out/s4d where it isn't given
 
-OTHER is the program of another commit, which runs between: then its figures stand there too, and PROGRAM's as a multiple of them.
+OTHER is the program of another commit, which runs between: then its figures are printed too, and PROGRAM's as a multiple of them.
 """
 import os
 import subprocess
@@ -29,7 +29,7 @@ CREATED_BYTES, CHANGED_BYTES = 21, 13
 
 
 def read_whole(source, count):
-    """So many bytes."""
+    """This number of bytes."""
     parts = []
     while count:
         part = os.read(source, count)

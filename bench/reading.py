@@ -15,7 +15,7 @@ import wire
 
 S4 = os.path.join(wire.HERE, "..", "crates", "s4", "out", "s4")
 FRAMES, OBJECTS = 1_024, 15_300
-JOURNALS, CHANGES = 33, 231  # objects, and so many changes that their journals are full
+JOURNALS, CHANGES = 33, 231  # objects, and changes that fill the journal of each
 TEXTS = 155  # objects of the longest texts, each written twice
 RUNS = 3
 MEMORY = "/dev/shm"

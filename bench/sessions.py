@@ -5,13 +5,13 @@ segment copier beside them, and how many times as many that is as one session is
 Each session has an object of its own, of 16 of a drive of 1,024 frames, which was written whole, and reads its requests from a file:
 Reads of all 24,576 bytes, or rounds of a Write of 64 bytes and 999 Reads of 64 bytes. Its replies go to /dev/null. The seconds
 by the clock are those of a run without the ones of a run whose sessions ask nothing, which verifies, opens and saves the image, too.
-With upkeep they end behind the copier's last step and the cleaner's last round. The image is the same before each run. Of some trials the
-shortest counts; of three rounds the median stands with the least and the most. First each number of sessions is asked once with the
+With upkeep they end after the copier's last step and the cleaner's last round. The image is the same before each run. Of some trials the
+shortest counts; of three rounds the median is printed with the least and the most. First each number of sessions is asked once with the
 replies looked at.
 
     sessions.py [PROGRAM [OTHER]]      crates/s4d/out/s4d where it isn't given
 
-OTHER is the program of another commit, which runs between: then its figures stand there too, and PROGRAM's as a multiple of them.
+OTHER is the program of another commit, which runs between: then its figures are printed too, and PROGRAM's as a multiple of them.
 """
 import os
 import shutil
@@ -53,7 +53,7 @@ def small_round(o):
 
 LOADS = (
     Load("Reads of 24,576 bytes", whole_read, 1, 5 + WHOLE, 10_000),
-    # The object's journal has room for so many Writes.
+    # The object's journal has room for this number of Writes.
     Load("a Write and 999 Reads of 64 bytes", small_round, 1 + READS_A_WRITE, 13 + READS_A_WRITE * (5 + PART), 200),
 )
 

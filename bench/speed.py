@@ -4,7 +4,7 @@
 `s4d pipe` reads its requests from a file, and its replies go to /dev/null, so that no client takes a part of the figures. What
 requests cost is what the processor did for a run that prepares a drive and is asked, without what it did for one that prepares it
 alone. Nothing waits, so other work on the machine slows both down but isn't counted. Of each run and of each pass over the table the
-shortest of some trials counts; of three rounds the median stands with the least and the most. First each kind is asked once with its
+shortest of some trials counts; of three rounds the median is printed with the least and the most. First each kind is asked once with its
 replies looked at. sqlite3 is asked from Python in this process, which takes a part of its figures; the table keeps each version
 whole, in memory, in one transaction, so that a small Write to a large object copies all of it.
 
@@ -12,7 +12,7 @@ whole, in memory, in one transaction, so that a small Write to a large object co
     speed.py --count [PROGRAM [OTHER]]      instructions of each request in place of seconds, by valgrind, without sqlite3: these
                                             don't swing
 
-OTHER is the program of another commit, which runs between: then its figures stand there too, and PROGRAM's as a multiple of them.
+OTHER is the program of another commit, which runs between: then its figures are printed too, and PROGRAM's as a multiple of them.
 """
 import os
 import re
@@ -40,7 +40,7 @@ BYTES = bytes(k % 251 for k in range(WHOLE))
 
 
 class Load(NamedTuple):
-    """Requests, each a call's name and its words: `wire` spells them for the drive, and the table has such calls."""
+    """Requests, each a call's name and its words: `wire` encodes them for the drive, and the table has such calls."""
     name: str
     made: list  # what comes before
     asked: list  # a pass
@@ -171,7 +171,7 @@ def look(program, load):
 
 
 def put(load, folder, passes):
-    """Two files of requests: what comes before, and that with so many passes behind it."""
+    """Two files of requests: what comes before, and that with this number of passes after it."""
     paths = os.path.join(folder, "before"), os.path.join(folder, "all")
     made, asked = spelled(load.made), spelled(load.asked)
     for path, data in zip(paths, (made, made + asked * passes)):

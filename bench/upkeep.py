@@ -5,7 +5,7 @@
 
 `replay` plays a script that prepares the drive, and one that does the step too: a figure is the difference of the instructions that
 `valgrind --tool=callgrind` counts, the same each time whatever else the machine does. The drive has no plain one beside it. OTHER is the
-program of another commit, which plays the same scripts: then its figures stand there too, and how often REPLAY's go into them.
+program of another commit, which plays the same scripts: then its figures are printed too, and how often REPLAY's go into them.
 """
 import os
 import re
@@ -34,7 +34,7 @@ def filled(objects, writes, size):
 
 
 def led(lines, clock):
-    """The same, with the clock led on by a request that is refused."""
+    """The same, with the clock moved by a request that is refused."""
     return lines + [f"admin GetAttr 0 now {clock} -> Refused NoObject"]
 
 

@@ -1,15 +1,15 @@
 #!/usr/bin/env python3
-"""How many of some thrown loads leave a drive wedged: with room for no change, also once all history has left the window.
+"""How many of some random loads leave a drive wedged: with room for no change, also once all history has left the window.
 
-A load is thrown by its seed: 1, 2 or 16 sessions ask small Writes, Appends, Creates and Deletes of some objects, with the default window
+A load is random, by its seed: 1, 2 or 16 sessions ask small Writes, Appends, Creates and Deletes of some objects, with the default window
 and tick, over a new drive of 16, 64 or 1,024 frames. Once all have ended, and the cleaner's last round with them, as many Reads as the
 window has moments age all history, and the drive is served twice more without a request. It is wedged where each of some
 changes, a Create and small Writes, is then refused as NoSpace. Why is read from the image: `full` where the blocks that are held would
 leave no room however they lay, `spread` where they are few and lie in too many frames.
 
-For each number of frames and sessions a line tells how many of the loads ended wedged, and why. With `--wedged N` the loads of 16 frames
-are thrown, one number of sessions after the other, until N ended wedged, and these again with OTHER; for each that is wedged then, too, a
-line tells its seed and why. With `--flush` an administrator hides all history in place of the Reads. What sessions, cleaner and copier do
+For each number of frames and sessions a line says how many of the loads ended wedged, and why. With `--wedged N` the loads of 16 frames
+are made, one number of sessions after the other, until N ended wedged, and these again with OTHER; for each that is wedged then, too, a
+line has its seed and why. With `--flush` an administrator hides all history in place of the Reads. What sessions, cleaner and copier do
 at once is no part of a seed, so a load may end otherwise each time.
 
     wedged.py [--flush] [--loads N] [PROGRAM]                N loads of each kind in place of 40
@@ -80,7 +80,7 @@ class Blocks:
             self.at += BLOCKS * BLOCK
 
     def taken(self, pointer):
-        """The block that a pointer leads to, which is held, or nothing where it is a hole."""
+        """The block that a pointer refers to, which is held, or nothing where it is a hole."""
         frame, block = number(pointer, 0, 2), pointer[2]
         if block == 0:
             return None
@@ -214,7 +214,7 @@ def ended(program, load, flushes):
         return looked_at("image", is_wedged)
 
 
-# ---- what is told
+# ---- what is printed
 
 def told(load, end):
     return (f"  {load.frames} frames, {load.sessions} sessions, seed {load.seed}: {end.why(load.frames)}: {end.held} of "
@@ -229,7 +229,7 @@ def print_kind(program, frames, sessions, loads, flushes):
 
 
 def wedged_loads(program, wanted, flushes):
-    """So many loads that a program ends wedged, and how many were thrown for them."""
+    """This number of loads that a program ends wedged, and how many were made for them."""
     found, seed = [], 0
     while len(found) < wanted:
         load = Load(FRAMES[0], SESSIONS[seed % len(SESSIONS)], seed)

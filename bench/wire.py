@@ -1,4 +1,4 @@
-"""What the scripts here ask `s4d`, as bytes, how they find the program, and how they tell figures."""
+"""What the scripts here ask `s4d`, as bytes, how they find the program, and how they print figures."""
 import os
 import statistics
 import subprocess
@@ -87,7 +87,7 @@ def programs(words):
 
 
 def memory(words, **how):
-    """The most memory of a run, in KiB. A process is told the memory of the one that started it where that is more, so a small one
+    """The most memory of a run, in KiB. A process counts the memory of the one that started it where that is more, so a small one
     starts it, of some 10,000 KiB."""
     watched = [sys.executable, "-S", "-E", "-c", WATCHER, *words]
     ran = subprocess.run(watched, stdout=subprocess.DEVNULL, stderr=subprocess.PIPE, text=True, check=True, **how)

@@ -46,7 +46,7 @@ def copy_repository(clone, tried):
 
 
 def crates_with_any():
-    """The crates that have wrong bodies beside the gate, those that stand on the fewest others first."""
+    """The crates that have wrong bodies beside the gate, those that use the fewest others first."""
     with open("crates.txt", encoding="utf-8") as file:
         lines = [line.partition(":") for line in file if not line.startswith("#")]
     named = sorted((len(below.split()), front.split()[0]) for front, _, below in lines if front.strip())

@@ -2,7 +2,7 @@
 """Turns commented hex text into bytes, and bytes of a session back into commented hex text.
 
     hex.py bytes FILE.hex > requests.bin     '#' starts a comment; spaces and line ends don't count
-    hex.py requests < requests.bin           one frame a line, with what it says behind a '#'
+    hex.py requests < requests.bin           one frame a line, with what it says after a '#'
     hex.py replies < replies.bin             the same for replies
     hex.py session FILE.hex PROGRAM [WORD..]    runs the program, and shows each request, its comment and its reply
 
@@ -17,7 +17,7 @@ import sys
 sys.path.insert(0, os.path.join(os.path.dirname(os.path.abspath(__file__)), "..", "python"))
 from s4d import BODY_BYTES, OBJECT_BYTES, REFUSALS  # noqa: E402: from this repository, also where it isn't installed
 
-MOST_SHOWN = 24  # bytes of a frame that are shown, behind the first of its body
+MOST_SHOWN = 24  # bytes of a frame that are shown, after the first of its body
 
 
 class Fault(Exception):
@@ -29,7 +29,7 @@ class Fault(Exception):
 
 
 class NoSuch(Exception):
-    """The bytes spell no request or no reply; the text says why."""
+    """The bytes are no request or no reply; the text says why."""
 
 
 class Fields:
@@ -98,7 +98,7 @@ REQUESTS = {
 
 
 def tell_request(body):
-    """What a whole body says; NoSuch where it spells no request."""
+    """What a whole body says; NoSuch where it is no request."""
     if not body:
         raise NoSuch("is empty")
     if body[0] not in REQUESTS:
@@ -136,7 +136,7 @@ REPLIES = {
 
 
 def tell_reply(body):
-    """What a whole body says; NoSuch where it spells no reply."""
+    """What a whole body says; NoSuch where it is no reply."""
     if not body or body[0] not in REPLIES:
         raise NoSuch(f"begins with {body[0]:02x}" if body else "is empty")
     if body[0] == 3 and len(body) > OBJECT_BYTES + 1:
@@ -171,7 +171,7 @@ def tell(head, body, whole, kind):
     if len(head) < 4:
         return f"cut: {count_of(len(head), 'byte')} of a length's 4"
     if length > BODY_BYTES:
-        return f"too long: {length:,} bytes; nothing behind it is read"
+        return f"too long: {length:,} bytes; nothing after it is read"
     if not whole:
         return f"cut: {len(body):,} of {count_of(length, 'byte')}"
     try:

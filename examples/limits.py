@@ -2,8 +2,8 @@
 """Runs `s4d` and `s4` under ever higher limits of stack and of address space.
 
 `s4d pipe client` answers an example, with a Write of 48 blocks and an Append after it. Each run ends with status 0, or with status 1
-and one line on standard error. What it wrote is a beginning of the full output, or differs from it first by a reply that tells want of
-memory; from there on each reply is of the kind of the full one's, or a refusal. Limits of address space begin where the program can be
+and one line on standard error. What it wrote is a beginning of the full output, or differs from it first by a reply of
+NoMemory; from there on each reply is of the kind of the full one's, or a refusal. Limits of address space begin where the program can be
 loaded at all, and end where all is answered.
 
 Then each command of both programs is run under ever higher limits of stack, from the least one under which `/bin/true` runs: `run` with
@@ -30,7 +30,7 @@ SPACE_STEP = 2
 SPACE_BEYOND = 1024  # how far to go on by small steps once all is answered
 SPACE_LARGE_STEP = 1024
 SPACE_MOST = 192 * 1024
-LOADED_MOST = 64 * 1024  # a program that isn't loaded by then is not at fault for want of a limit
+LOADED_MOST = 64 * 1024  # a program that isn't loaded by then lacks something else
 NO_MEMORY = bytes.fromhex("00000002000a")
 OBJECT = (1).to_bytes(8, "big")
 LARGE_WRITE = b"\x04" + OBJECT + bytes(8) + bytes(range(256)) * 96  # 24,576 bytes from the first on
@@ -43,7 +43,7 @@ def frame(body):
 
 
 def run(program, words, data, flag, limit):
-    """The status, negative for a signal, and what stands on standard output and on standard error."""
+    """The status, negative for a signal, and what is on standard output and on standard error."""
     line = f'ulimit -c 0; ulimit {flag} {limit} || exit 125; exec "$@"' if flag else 'exec "$@"'
     ran = subprocess.run(["sh", "-c", line, "sh", program, *words], input=data, capture_output=True)
     return ran.returncode, ran.stdout, ran.stderr
@@ -71,7 +71,7 @@ def replies_of(output):
 
 
 def is_beginning(output, full):
-    """Whether the replies are a beginning of the full ones, or are so up to one that tells want of memory."""
+    """Whether the replies are a beginning of the full ones, or are so up to one of NoMemory."""
     ours, wanted, short = replies_of(output), replies_of(full), False
     if len(ours) > len(wanted):
         return False

@@ -3,11 +3,11 @@
 
     timeline.py PROGRAM                               plays a small story on a new drive, as an administrator, and draws it
     timeline.py PROGRAM --image IMAGE --object 1      draws objects of an image's file, which stays as it is
-    timeline.py --connect ADDRESS --object 1          draws objects of a drive behind a socket (host:port or a path)
+    timeline.py --connect ADDRESS --object 1          draws objects of a drive that a socket serves (host:port or a path)
     timeline.py --log FILE                            draws what `s4 log --json` printed into a file, `-` for standard input
 
 PROGRAM is a built s4d. An image is copied, and the copy is served with a tick of 0 and without upkeep, so nothing ages by
-being looked at. Behind a socket each request moves the drive's clock by its tick: a drive with a small window forgets then. A log
+being looked at. Over a socket each request moves the drive's clock by its tick: a drive with a small window forgets then. A log
 says nothing of the moments after its last change, nor why moments before an object's first change are missing, and its
 hidden moments aren't drawn.
 """
@@ -80,7 +80,7 @@ def story(drive):
 
 
 def histories_of(changes, objects):
-    """The spans of objects, of all where none is named, as the lines of `s4 log --json` tell them."""
+    """The spans of objects, of all where none is named, as the lines of `s4 log --json` have them."""
     last = max((change["moment"] for change in changes), default=0)
     histories = {object: [] for object in objects or sorted({change["object"] for change in changes})}
     for change in changes:

@@ -38,7 +38,7 @@ REQUESTS = bytes.fromhex("00000002 01 00" "00000014 04 0000000000000001 00000000
                          "0000001e 03 0000000000000001 0000000000000000 00000003 01 0000000000000001")
 REPLIES = bytes.fromhex("00000011 02 0000000000000001 0000000000000001" "00000009 01 0000000000000002" "00000004 03 616263" "00000001 03")
 
-# Stands before the C library, and refuses the allocation that REFUSE numbers from 1. Without headers, which not each machine has.
+# Is loaded before the C library, and refuses the allocation that REFUSE numbers from 1. Without headers, which not each machine has.
 ALLOCATOR = f"""
 typedef __SIZE_TYPE__ size_t;
 

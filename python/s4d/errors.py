@@ -141,7 +141,7 @@ class Busy(Refused):
 
 
 class BadFrame(Refused):
-    """The bytes spell no request."""
+    """The bytes are no request."""
 
     number = 15
 

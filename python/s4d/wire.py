@@ -1,4 +1,4 @@
-"""The spelling of requests and the reading of replies, by docs/FORMATS.md. Nothing here reads or writes a stream."""
+"""The encoding of requests and the reading of replies, by docs/FORMATS.md. Nothing here reads or writes a stream."""
 from __future__ import annotations
 
 from dataclasses import dataclass

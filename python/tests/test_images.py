@@ -111,7 +111,7 @@ class Images(unittest.TestCase):
         self.assertEqual(self.image.restore(self.before), [])
 
     def test_what_can_not_be_restored(self):
-        for ask, line in ((lambda: self.image.restore(2, objects=[1]), "moment 2 is hidden or expired"),
+        for ask, line in ((lambda: self.image.restore(2, objects=[1]), r"cannot restore 1 \(its moment is hidden\)"),
                           (lambda: self.image.restore(1, objects=[9]), "there is no object 9")):
             with self.assertRaisesRegex(s4d.ProgramFailed, line) as caught:
                 ask()
