@@ -11,15 +11,19 @@ TOP = pathlib.Path(__file__).resolve().parents[1]
 HEAD = """# What is proved, crate by crate
 
 Made by `docs/proved.py` from the sources. "Proved" means: for every input, the function meets the contract beside it in the
-source, is safe (no overflow, no index out of range, no use after free), and returns. Only what waits for a lock isn't shown
-to return: the calls of `server`. Where memory is short the answer is `NoMemory`, and nothing changes but what the contract says.
+source, is safe (no overflow, no index out of range, no use after free), and returns. That the calls of `server`, which wait for
+a lock, return isn't shown. Where memory is short the answer is `NoMemory`, and nothing changes but what the contract says.
 
-Each crate has here what it is, and its public calls that have a contract, with the names of its clauses in brackets; a call
-with one clause without a name has none here. A **law** is a theorem: a function without arguments, whose contract is all of it.
-What the clauses say is in the contract, under `crates/CRATE/src`, in the terms of [DEFINITIONS](DEFINITIONS.md);
-which of them carry a promise, [PROMISES](PROMISES.md). What is only tested, and what is open: [TESTING](TESTING.md).
+Here are the public calls that have a contract, with the names of its clauses in brackets, where they have names. Left out after a
+first one are the usual `same` and `unchanged` (what stays, always or where the call is refused), `ledger`, `state` and `store`
+(history and objects stay) and `refusal` (which there can be).
+A **law** is a theorem: a function without arguments, whose contract is all of it. What each crate is:
+[ARCHITECTURE](ARCHITECTURE.md). What the clauses say is in the contract, under `crates/CRATE/src`, in the terms of
+[DEFINITIONS](DEFINITIONS.md); which of them carry a promise, [PROMISES](PROMISES.md).
 """
 WIDTH = 130
+USUAL = {"same", "unchanged", "refusal", "ledger"}
+HISTORY = {"ledger", "state"}
 FUNCTION = re.compile(r"\s*(?:(pub) |pub\([^)]*\) )?(?:const |unsafe |final )*fn (\w+)(.*)")
 OWNER = re.compile(r"(?:pub )?(?:unsafe )?(impl|trait)\b(.*)")
 CLAUSE = re.compile(r"\s*ensures\s*(\w*)\s*\{")
@@ -83,12 +87,12 @@ def exported(root):
     return names, set(re.findall(r"^pub mod (\w+);", text, re.M))
 
 
-def first_sentence(root):
-    """The first sentence of a crate's own documentation, up to a colon if more than a name is before it."""
-    lines = [line[3:].strip() for line in root.read_text(encoding="utf-8").splitlines() if line.startswith("//!")]
-    sentence = re.split(r"(?<=\.)\s", " ".join(lines), maxsplit=1)[0]
-    short = sentence.split(": ", 1)[0]
-    return sentence if len(short.split()) < 3 else short.rstrip(".") + "."
+def shown(clauses):
+    """The clauses of a call that are named on the page."""
+    named = [clause for clause in clauses if clause]
+    # Beside each other a history and a store are what stays; alone a state or a store is what is made.
+    both = "store" in named[1:] and HISTORY & set(named[1:])
+    return named[:1] + [clause for clause in named[1:] if clause not in (USUAL | {"state", "store"} if both else USUAL)]
 
 
 def calls_of(source):
@@ -102,10 +106,11 @@ def calls_of(source):
         for owner, public, name, clauses, is_law in functions(path):
             is_free = not owner and (name in names or path.stem in modules or path == root)
             if public and clauses and (is_free or owner in names or is_program):
-                said = ", ".join(clause for clause in clauses if clause)
+                law = is_law and not owner
+                said = ", ".join(filter(None, clauses) if law else shown(clauses))
                 row = f"`{name}`" + (f" ({said})" if said else "")
-                calls.setdefault("Laws" if is_law and not owner else owner, []).append(row)
-    return first_sentence(root), calls
+                calls.setdefault("Laws" if law else owner, []).append(row)
+    return calls
 
 
 def page():
@@ -115,12 +120,12 @@ def page():
         if not line or line.startswith("#") or "tests_may" in line:
             continue
         crate = re.match(r"\w+", line).group(0)
-        sentence, calls = calls_of(TOP / "crates" / crate / "src")
-        parts.append(f"\n## `{crate}`\n\n" + textwrap.fill(sentence, WIDTH) + "\n")
+        calls = calls_of(TOP / "crates" / crate / "src")
         rows = [("" if not owner else f"{owner}: " if owner == "Laws" else f"`{owner}`: ") + "; ".join(calls[owner])
                 for owner in sorted(calls, key=lambda it: (it == "Laws", it != "", it))]
         if rows:
-            parts.append("\n" + "".join(textwrap.fill(f"- {row}.", WIDTH, subsequent_indent="  ", break_on_hyphens=False) + "\n" for row in rows))
+            filled = (textwrap.fill(f"- {row}.", WIDTH, subsequent_indent="  ", break_on_hyphens=False) for row in rows)
+            parts.append(f"\n## `{crate}`\n\n" + "".join(f"{row}\n" for row in filled))
     return "".join(parts)
 
 
