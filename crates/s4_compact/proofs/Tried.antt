@@ -1,10 +1,28 @@
 -- What a trial found holds of what is made then.
-use Rattle.std.proofs.Common.{◌≡◌, ℕ, Bool, true, Option, sym, subst}
+use Rattle.std.proofs.Common.{◌≡◌, ◌∙◌, ℕ, true, ap, sym, subst}
 use Rattle.version_store.specs.Costs.{room}
 use Rattle.version_store.specs.Store.{StoreFields}
+use Rattle.drive.specs.Fields.{DriveFields, store_of}
+use Rattle.drive_compaction.specs.declared.compacting.Compaction.{Compaction}
 use Rattle.s4_compact.specs.Trying.{is_enough}
+use Rattle.s4_compact.specs.Ways.{IsCompactedBy}
+use Rattle.s4_compact.specs.declared.trying.Found.{Found}
+use Rattle.s4_compact.specs.declared.ways.Way.{Way}
+use Rattle.s4_compact.specs.declared.ways.Way.TheVariants.{Cleaning, Moves, MovesFirst}
 
 -- what is enough by the report is so in the end
-pub enough : (cleans : Bool) (other : Option ℕ) (n : ℕ) (between later : StoreFields) → is_enough cleans other n ≡ true → n ≡ room between → later ≡ between → is_enough cleans other (room later) ≡ true
-enough cleans other n between later is counted same =
-    subst (λ (s : StoreFields). is_enough cleans other (room s) ≡ true) (sym same) (subst (λ (m : ℕ). is_enough cleans other m ≡ true) counted is)
+pub enough : (way : Way) (found : Found) (n : ℕ) (between later : StoreFields) → is_enough way found n ≡ true → n ≡ room between → later ≡ between → is_enough way found (room later) ≡ true
+enough way found n between later is counted same =
+    subst (λ (s : StoreFields). is_enough way found (room s) ≡ true) (sym same) (subst (λ (m : ℕ). is_enough way found m ≡ true) counted is)
+
+-- the room of a report is that of the drive that is left
+pub room_left : (way : Way) (d later : DriveFields) (report : Compaction) → IsCompactedBy way d later report → report.room_after ≡ room (store_of later)
+room_left Cleaning d later report is = is.room_after
+room_left Moves d later report is = is.room_after
+room_left MovesFirst d later report is = ap (λ (c : Compaction). c.room_after) is.report_is ∙ is.cleaned.room_after
+
+-- what holds of each way holds of all
+pub by_ways : (P : Way → Type 0) → P Cleaning → P Moves → P MovesFirst → (way : Way) → P way
+by_ways P cleaning moves first Cleaning = cleaning
+by_ways P cleaning moves first Moves = moves
+by_ways P cleaning moves first MovesFirst = first

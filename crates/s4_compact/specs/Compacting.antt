@@ -5,12 +5,13 @@ use Rattle.serde_json.specs.Data.{Data, number, unsigned, string, object, member
 use Rattle.history_text.specs.Json.{json_line}
 use Rattle.drive.specs.Fields.{DriveFields, state_in, store_of}
 use Rattle.drive.specs.Keeping.{KeepsVersions}
-use Rattle.drive_compaction.specs.Compacting.{IsCompacted}
 use Rattle.drive_compaction.specs.Past.{IsPast}
 use Rattle.drive_compaction.specs.declared.turns.Ending.{Ending}
 use Rattle.drive_compaction.specs.declared.turns.Ending.TheVariants.{Done, OutOfRoom, Limit}
 use Rattle.s4_command.specs.declared.whole.CompactAsked.{CompactAsked}
+use Rattle.s4_compact.specs.Ways.{IsCompactedBy, cleans_by}
 use Rattle.s4_compact.specs.declared.reports.Report.{Report}
+use Rattle.s4_compact.specs.declared.ways.Way.{Way}
 
 -- ---- what is printed
 
@@ -75,12 +76,12 @@ printed false r = report_text r
 
 -- ---- what is left
 
--- A drive was compacted, with the cleaner or without it, and the output has the lines of that. History and versions stay.
-pub record CompactsBy (cleans : Bool) (d later : DriveFields) (compact : CompactAsked) (output output' : Option (List ℕ)) : Type 0 where
+-- A drive was compacted this way, and the output has the lines of that. History and versions stay.
+pub record CompactsBy (way : Way) (d later : DriveFields) (compact : CompactAsked) (output output' : Option (List ℕ)) : Type 0 where
   pub report : Report
-  pub way : report.cleans ≡ cleans
+  pub cleans : report.cleans ≡ cleans_by way
   pub between : DriveFields
-  pub is : IsCompacted cleans d between report.compaction
+  pub is : IsCompactedBy way d between report.compaction
   pub past : IsPast between report.past
   pub same : store_of later ≡ store_of between
   pub ledger : later.ledger ≡ d.ledger
@@ -89,5 +90,5 @@ pub record CompactsBy (cleans : Bool) (d later : DriveFields) (compact : Compact
 
 -- What `compact` asks for was done to a drive.
 pub record Compacts (d later : DriveFields) (compact : CompactAsked) (output output' : Option (List ℕ)) : Type 0 where
-  pub cleans : Bool
-  pub compacts : CompactsBy cleans d later compact output output'
+  pub way : Way
+  pub compacts : CompactsBy way d later compact output output'

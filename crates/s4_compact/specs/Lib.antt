@@ -1,2 +1,3 @@
 pub mod Compacting
 pub mod Trying
+pub mod Ways

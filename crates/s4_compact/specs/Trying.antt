@@ -1,52 +1,72 @@
--- How much room each of the two ways of compacting leaves: with the cleaner, and by moves alone.
-use Rattle.std.specs.Prelude.{◌≡◌, ℕ, Bool, true, false, not, List, Option, Some, None, is_none, nat_le, nat_lt}
-use Rattle.s4_types.specs.declared.refusals.Refusal.TheVariants.{NoRoom}
+-- How much room each way of compacting leaves, and which is made.
+use Rattle.std.specs.Prelude.{◌≡◌, ℕ, ◌&&◌, if◌then◌else◌, Bool, true, false, List, Option, Some, None, nat_le, nat_lt}
 use Rattle.version_store.specs.Costs.{room}
 use Rattle.drive.specs.Fields.{DriveFields, store_of}
-use Rattle.drive_compaction.specs.Compacting.{IsCompacted, LosesRoom}
 use Rattle.drive_compaction.specs.declared.compacting.Compaction.{Compaction}
 use Rattle.s4_command.specs.declared.whole.CompactAsked.{CompactAsked}
 use Rattle.s4_images.specs.Commands.{OverImage, ChangesImage}
 use Rattle.s4_compact.specs.Compacting.{CompactsBy}
+use Rattle.s4_compact.specs.Ways.{IsCompactedBy, Loses}
+use Rattle.s4_compact.specs.declared.trying.Found.{Found}
+use Rattle.s4_compact.specs.declared.ways.Way.{Way}
+use Rattle.s4_compact.specs.declared.ways.Way.TheVariants.{Cleaning, Moves, MovesFirst}
 
--- A drive would have less room than before, once it was compacted, with the cleaner or without it.
-pub record Loses (cleans : Bool) (d : DriveFields) : Type 0 where
-  pub later : DriveFields
-  pub loses : LosesRoom cleans d later NoRoom
-
--- A drive has this much room once it is compacted, with the cleaner or without it.
-pub record LeavesRoom (cleans : Bool) (d : DriveFields) (n : ℕ) : Type 0 where
+-- A drive has this much room once it is compacted this way.
+pub record LeavesRoom (way : Way) (d : DriveFields) (n : ℕ) : Type 0 where
   pub later : DriveFields
   pub report : Compaction
-  pub is : IsCompacted cleans d later report
+  pub is : IsCompactedBy way d later report
   pub room : n ≡ room (store_of later)
 
--- what a trial of one way found: how much room there is then, or none where it would be less than before
-abbrev pub Leaves : Bool → DriveFields → Option ℕ → Type 0
-Leaves cleans d None = Loses cleans d
-Leaves cleans d (Some n) = LeavesRoom cleans d n
+-- what a trial of one way found: how much room there is then, or none where a step of it leaves less than there was before
+abbrev pub Leaves : Way → DriveFields → Option ℕ → Type 0
+Leaves way d None = Loses way d
+Leaves way d (Some n) = LeavesRoom way d n
 
--- Whether the other way, whose trial found this, isn't better than one that leaves n blocks of room: with the cleaner n is no less, and
--- without it n is more.
-abbrev pub is_enough : Bool → Option ℕ → ℕ → Bool
-is_enough cleans None n = true
-is_enough true (Some other) n = nat_le other n
-is_enough false (Some other) n = nat_lt other n
+-- what the trial of this way found
+abbrev pub found_of : Found → Way → Option ℕ
+found_of found Cleaning = found.cleaned
+found_of found Moves = found.moved
+found_of found MovesFirst = found.moved_first
 
--- whether the way with the cleaner is made, by what both trials found; so where none is better
-abbrev pub cleans_best : (cleaned moved : Option ℕ) → Bool
-cleans_best None moved = is_none moved
-cleans_best (Some n) moved = is_enough true moved n
+-- Each way was tried over the drive of an image.
+abbrev pub AreTried : Option (List ℕ) → Found → Type 0
+AreTried known found = (way : Way) → OverImage known (λ d. Leaves way d (found_of found way))
 
--- A drive was compacted one way, and the other isn't better by what its trial found.
-pub record CompactsBest (cleans : Bool) (other : Option ℕ) (d later : DriveFields) (compact : CompactAsked) (output output' : Option (List ℕ)) : Type 0 where
-  pub by : CompactsBy cleans d later compact output output'
-  pub enough : is_enough cleans other (room (store_of later)) ≡ true
+-- whether a trial found no more room than this, or less
+abbrev pub is_no_more : Option ℕ → ℕ → Bool
+is_no_more None n = true
+is_no_more (Some other) n = nat_le other n
 
--- The drive of an image was compacted one way, and the other, which was tried on the same image, doesn't leave more room; nor as much,
--- where moves alone were made.
+abbrev pub is_less : Option ℕ → ℕ → Bool
+is_less None n = true
+is_less (Some other) n = nat_lt other n
+
+-- Whether no other way, by what was found, is better than this one, which leaves n blocks of room. Of ways that leave the same the earlier in
+-- this order is made.
+abbrev pub is_enough : Way → Found → ℕ → Bool
+is_enough Cleaning found n = is_no_more found.moved n && is_no_more found.moved_first n
+is_enough Moves found n = is_less found.cleaned n && is_no_more found.moved_first n
+is_enough MovesFirst found n = is_less found.cleaned n && is_less found.moved n
+
+-- whether this way serves best by what was found, where it found room
+abbrev pub serves_by : Way → Found → Option ℕ → Bool
+serves_by way found None = false
+serves_by way found (Some n) = is_enough way found n
+
+-- the way that serves best; the one with the cleaner where none leaves room
+abbrev pub best_way : Found → Way
+best_way found = if serves_by Moves found found.moved then Moves else (if serves_by MovesFirst found found.moved_first then MovesFirst else Cleaning)
+
+-- A drive was compacted one way, and no other is better by what trials found.
+pub record CompactsBest (way : Way) (found : Found) (d later : DriveFields) (compact : CompactAsked) (output output' : Option (List ℕ)) : Type 0 where
+  pub by : CompactsBy way d later compact output output'
+  pub enough : is_enough way found (room (store_of later)) ≡ true
+
+-- The drive of an image was compacted one way, and no other, each of which was tried on the same image, leaves more room; nor as much, where
+-- that one comes before it.
 pub record CompactsImage (known known' : Option (List ℕ)) (compact : CompactAsked) (output output' : Option (List ℕ)) : Type 0 where
-  pub cleans : Bool
-  pub other : Option ℕ
-  pub tried : OverImage known (λ d. Leaves (not cleans) d other)
-  pub compacts : ChangesImage known known' (λ d later. CompactsBest cleans other d later compact output output')
+  pub way : Way
+  pub found : Found
+  pub tried : AreTried known found
+  pub compacts : ChangesImage known known' (λ d later. CompactsBest way found d later compact output output')

@@ -3,10 +3,11 @@ ghost use Rattle.std.specs.Prelude.{◌≡◌, ℕ, ◌+◌, ◌^◌, ◌<◌, L
 ghost use Rattle.std.specs.Io.KnownBytes.{Appends, Keeps};
 ghost use Rattle.s4_images.specs.Commands.{ChangesImage};
 ghost use Rattle.s4_compact.specs.Compacting.{printed, Compacts};
-ghost use Rattle.s4_compact.specs.Trying.{cleans_best, is_enough, CompactsBest, CompactsImage};
+ghost use Rattle.s4_compact.specs.Trying.{CompactsBest, CompactsImage};
 
 use crate::reports::{Report, printed};
-use crate::trying::{compact_drive, try_image};
+use crate::trying::{Found, best_way, is_enough, try_ways};
+use crate::ways::{Way, compact_drive};
 use drive::Drive;
 use drive_compaction::past_blocks;
 use image_commands::{Files, Placed, write_out};
@@ -18,10 +19,10 @@ use serving::Sink;
 use std::alloc::Global;
 use std::thread::Threads;
 
-/// Compacts the drive of an image, saves it there, and prints what that came to. Two trials come
-/// first, of which nothing is kept: with the cleaner, and by moves alone. What leaves more room is
-/// made, and with the cleaner where both leave the same. So no image has less room afterwards. Where
-/// anything fails all files are as they were.
+/// Compacts the drive of an image, saves it there, and prints what that came to. Three trials come
+/// first, of which nothing is kept: with the cleaner, by moves alone, and with the cleaner after
+/// moves alone. What leaves the most room is made, with the cleaner where that is the same. So no
+/// image has less room afterwards. Where anything fails all files are as they were.
 #[tactic(auto, using(s4_images::proofs::Kept::untouched))]
 pub fn compact_image<T: Threads, F: Files, W: Sink>(
     rt: &T,
@@ -40,49 +41,24 @@ pub fn compact_image<T: Threads, F: Files, W: Sink>(
     ensures kept { OnErr result ((path : List ℕ) → Keeps (F.contents files.old path)
         (F.contents files.new path)) }
 {
-    let cleaned = try_image(rt, alloc, files, asked.image, true)?;
-    let moved = try_image(rt, alloc, files, asked.image, false)?;
-    if cleans_best(cleaned, moved) {
-        return compact_by(rt, alloc, files, asked, true, moved, writer);
-    }
-    compact_by(rt, alloc, files, asked, false, cleaned, writer)
+    let found = try_ways(rt, alloc, files, asked.image)?;
+    compact_by(rt, alloc, files, asked, best_way(&found), &found, writer)
 }
 
-// Whether the cleaner's trial left no less room than that of moves alone.
-fn cleans_best(cleaned: Option<usize>, moved: Option<usize>) -> bool
-    ensures { result ≡ cleans_best cleaned moved }
-{
-    match cleaned {
-        Some(room) => is_enough(true, moved, room),
-        None => moved.is_none(),
-    }
-}
-
-// Whether the other way, whose trial found this, isn't better than one that leaves this much room.
-fn is_enough(cleans: bool, other: Option<usize>, room: usize) -> bool
-    ensures { result ≡ is_enough cleans other room }
-{
-    match other {
-        None => true,
-        Some(other) if cleans => other <= room,
-        Some(other) => other < room,
-    }
-}
-
-// Compacts the drive of an image with the cleaner or without it, saves it there, and prints what
-// that came to. NoRoom where it leaves less room than the other way's trial did.
+// Compacts the drive of an image this way, saves it there, and prints what that came to. NoRoom where
+// another way's trial left more room.
 fn compact_by<T: Threads, F: Files, W: Sink>(
     rt: &T,
     alloc: Global,
     files: &mut F,
     asked: &CompactAsked<'_>,
-    cleans: bool,
-    other: Option<usize>,
+    way: Way,
+    found: &Found,
     writer: &mut W,
 ) -> Result<Placed, Failure>
     requires writer { W.failures writer.old + 1 < 2 ^ 64 }
     ensures by { OnOk result (ChangesImage (F.contents files.old asked.now.image.now)
-        (F.contents files.new asked.now.image.now) (λ drive later. CompactsBest cleans other drive
+        (F.contents files.new asked.now.image.now) (λ drive later. CompactsBest way found.now drive
         later asked.now (W.passed writer.old) (W.passed writer.new))) }
     ensures compacts { OnOk result (ChangesImage (F.contents files.old asked.now.image.now)
         (F.contents files.new asked.now.image.now) (λ drive later. Compacts drive later asked.now
@@ -95,26 +71,21 @@ fn compact_by<T: Threads, F: Files, W: Sink>(
         alloc,
         files,
         asked.image,
-        &Compacting {
-            asked,
-            cleans,
-            other,
-        },
+        &Compacting { asked, way, found },
         writer,
     )
 }
 
-/// What `compact` asks for, with the cleaner or without it.
+/// What `compact` asks for, by the way that serves best.
 #[derive(Clone, Copy)]
 struct Compacting<'a> {
     asked: &'a CompactAsked<'a>,
-    cleans: bool,
-    /// How much room the other way leaves; none where that is less than before.
-    other: Option<usize>,
+    way: Way,
+    found: &'a Found,
 }
 
 impl DriveChange for Compacting<'_> {
-    ghost changes = { λ it d later. CompactsBest it.cleans it.other d later it.asked.now };
+    ghost changes = { λ it d later. CompactsBest it.way it.found.now d later it.asked.now };
 
     fn make<J: Naming, W: Sink>(
         &self,
@@ -122,12 +93,12 @@ impl DriveChange for Compacting<'_> {
         drive: &mut Drive<J>,
         writer: &mut W,
     ) -> Result<(), Failure> {
-        let compaction = compact_drive(alloc, drive, self.cleans)?;
-        if !is_enough(self.cleans, self.other, compaction.room_after) {
+        let compaction = compact_drive(alloc, drive, self.way)?;
+        if !is_enough(self.way, self.found, compaction.room_after) {
             return Err(Failure::from(Refusal::NoRoom));
         }
         let report = Report {
-            cleans: self.cleans,
+            cleans: self.way.cleans(),
             compaction,
             past: past_blocks(drive),
         };
